@@ -16,7 +16,7 @@ use Rattle.age_stream.specs.declared.step.Status.TheVariants.{Open, LastSeen, Do
 use Rattle.age_stream.specs.Segment.{Segment, outcome, failed, with_piece, with_end}
 use Rattle.age_stream.proofs.PublicLaws.{closed_stays}
 use Rattle.age_c.specs.declared.reader.Reader.{Reader}
-use Rattle.age_c.specs.Calls.{answer_of, failed_at, misused, status_of}
+use Rattle.age_c.specs.Calls.{answer_of, failed_at, misused, reader_status}
 use Rattle.age_c.specs.Readers.{Call, IsCall, AreCalls, after_block, after_end, segment_from}
 use Rattle.age_c.specs.CallsWritten.{StaysRefused}
 use Rattle.age_c.specs.inner.Keys.{opens}
@@ -46,23 +46,23 @@ fault_from n some = fault_by n (nat_le 17 n && nat_le n 22) refl some
 
 -- so the numbers are those of a refusal
 abbrev IsRefused : ℕ → ℕ → Type 0
-IsRefused n chunk = (f : StreamFault) × (status_of n chunk ≡ Some (Failed f))
+IsRefused n chunk = (f : StreamFault) × (reader_status n chunk ≡ Some (Failed f))
 
 refused_last : (n chunk : ℕ) → (n ≡ 20) ⊎ ((n ≡ 21) ⊎ (n ≡ 22)) → IsRefused n chunk
 refused_last n chunk (inl is) =
-    (record { kind = Truncated; chunk = chunk }, ap (λ (m : ℕ). status_of m chunk) is)
+    (record { kind = Truncated; chunk = chunk }, ap (λ (m : ℕ). reader_status m chunk) is)
 refused_last n chunk (inr (inl is)) =
-    (record { kind = Trailing; chunk = chunk }, ap (λ (m : ℕ). status_of m chunk) is)
+    (record { kind = Trailing; chunk = chunk }, ap (λ (m : ℕ). reader_status m chunk) is)
 refused_last n chunk (inr (inr is)) =
-    (record { kind = TooManyChunks; chunk = chunk }, ap (λ (m : ℕ). status_of m chunk) is)
+    (record { kind = TooManyChunks; chunk = chunk }, ap (λ (m : ℕ). reader_status m chunk) is)
 
 refused_first : (n chunk : ℕ) → (n ≡ 17) ⊎ ((n ≡ 18) ⊎ (n ≡ 19)) → IsRefused n chunk
 refused_first n chunk (inl is) =
-    (record { kind = ChunkDamaged; chunk = chunk }, ap (λ (m : ℕ). status_of m chunk) is)
+    (record { kind = ChunkDamaged; chunk = chunk }, ap (λ (m : ℕ). reader_status m chunk) is)
 refused_first n chunk (inr (inl is)) =
-    (record { kind = ChunkCut; chunk = chunk }, ap (λ (m : ℕ). status_of m chunk) is)
+    (record { kind = ChunkCut; chunk = chunk }, ap (λ (m : ℕ). reader_status m chunk) is)
 refused_first n chunk (inr (inr is)) =
-    (record { kind = EmptyLast; chunk = chunk }, ap (λ (m : ℕ). status_of m chunk) is)
+    (record { kind = EmptyLast; chunk = chunk }, ap (λ (m : ℕ). reader_status m chunk) is)
 
 three : (n k : ℕ) → k ≤ n → n ≤ k + 2 → (n ≡ k) ⊎ ((n ≡ k + 1) ⊎ (n ≡ k + 2))
 three n k least most =
@@ -85,7 +85,7 @@ refused_of n chunk some =
 
 -- numbers of no refusal are answered by 0
 unfailed_by : (n chunk : ℕ) (status : Status) → ((f : StreamFault) → status ≢ Failed f)
-    → status_of n chunk ≡ Some status
+    → reader_status n chunk ≡ Some status
     → ((answer_of n == 0) ≡ true) × (answer_of n ≡ 0)
     ⊎ ((answer_of n == 0) ≡ false) × (answer_of n ≢ 0) → answer_of n ≡ 0
 unfailed_by n chunk status fine is (inl zero) = zero.1
@@ -94,7 +94,7 @@ unfailed_by n chunk status fine is (inr some) =
     absurd (fine refused.0 (some_is (sym is ∙ refused.1)))
 
 pub unfailed : (n chunk : ℕ) (status : Status) → ((f : StreamFault) → status ≢ Failed f)
-    → status_of n chunk ≡ Some status → answer_of n ≡ 0
+    → reader_status n chunk ≡ Some status → answer_of n ≡ 0
 unfailed n chunk status fine is =
     unfailed_by n chunk status fine is (eqb_tells (answer_of n) 0)
 
@@ -140,7 +140,7 @@ damaged_by false false false false false false false false true chunk i is =
     absurd (other_kind TooManyChunks chunk i (λ e. cc) is)
 damaged_by false false false false false false false false false chunk i is = cc
 
-pub damaged_is : (n chunk i : ℕ) → status_of n chunk ≡ Some (failed ChunkDamaged i)
+pub damaged_is : (n chunk i : ℕ) → reader_status n chunk ≡ Some (failed ChunkDamaged i)
     → (n ≡ 17) × (chunk ≡ i)
 damaged_is n chunk i is =
     let both = damaged_by (n == 1) (n == 2) (n == 3) (n == 17) (n == 18) (n == 19) (n == 20)
@@ -215,7 +215,7 @@ answer_by r c (inr taken) other = taken.1.answer_is
 -- what is known of each call: its answer, and that its fault is that of all calls
 pub record IsKnown (k : List ℕ) (whole : Segment) (c : Call) : Type 0 where
   pub answer : c.answer ≢ misused → c.answer ≡ answer_of c.after.state
-  pub fault : (f : StreamFault) → status_of c.after.state c.after.fault_chunk ≡ Some (Failed f)
+  pub fault : (f : StreamFault) → reader_status c.after.state c.after.fault_chunk ≡ Some (Failed f)
       → (outcome (opens k) chunk_length whole).status ≡ Failed f
 
 pub all_known : (k : List ℕ) (calls : List Call) (r : Reader) (s : Segment) → StandsAt k r s

@@ -8,9 +8,10 @@ use Rattle.std.proofs.lemmas.Bool.Decides.{eqb_tells}
 use Rattle.age_chunk.specs.Payload.{chunk_length}
 use Rattle.age_stream.specs.Segment.{Segment, outcome, released, with_piece}
 use Rattle.age_stream.specs.declared.step.Status.TheVariants.{Done}
-use Rattle.age_c.specs.Calls.{Answers, status_of, misused}
+use Rattle.age_c.specs.Calls.{Answers, reader_status, misused}
 use Rattle.age_c.specs.declared.reader.Reader.{Reader}
-use Rattle.age_c.specs.Readers.{IsAt, text_of, Takes, AnswersAreCalls, call_of, Call, IsCall}
+use Rattle.age_c.specs.Readers.{IsAt, reader_text, TakesBlock, AnswersAreCalls, call_of, Call}
+use Rattle.age_c.specs.Readers.{IsCall}
 use Rattle.age_c.specs.Readers.{AreCalls, after_block, after_end, given_by, last_reader}
 use Rattle.age_c.specs.Readers.{segment_from, texts_of}
 use Rattle.age_c.specs.inner.Keys.{key_of_reader as key_of, opens}
@@ -43,7 +44,7 @@ pub record After (r : Reader) (s next : Segment) (text : List ℕ) (last : Reade
   pub at : IsAt last next
   pub key : key_of last ≡ key_of r
   pub start : next.start ≡ s.start
-  pub text_is : text_of r next ≡ text_of r s ++ text
+  pub text_is : reader_text r next ≡ reader_text r s ++ text
 
 pub one : (r : Reader) (c : Call) (s : Segment) → IsAt r s → IsCall r c
     → After r s (next c s) c.text c.after
@@ -54,8 +55,8 @@ one r c s h (inl idle) =
           (subst (λ (r : Reader). IsAt r s) (sym idle.1) h);
       key = ap key_of idle.1;
       start = ap (λ (s : Segment). s.start) is;
-      text_is = ap (text_of r) is ∙ (sym (append-nil (text_of r s))
-          ∙ ap (λ (t : List ℕ). text_of r s ++ t) (sym idle.2));
+      text_is = ap (reader_text r) is ∙ (sym (append-nil (reader_text r s))
+          ∙ ap (λ (t : List ℕ). reader_text r s ++ t) (sym idle.2));
     }
 one r c s h (inr taken) =
     let is = taken_next c s taken.0 in
@@ -64,7 +65,7 @@ one r c s h (inr taken) =
       at = subst (λ (t : Segment). IsAt c.after t) (sym is) (takes.at s h);
       key = key_same r c.after takes.same;
       start = ap (λ (s : Segment). s.start) is ∙ start_given c.is_end c.bytes s;
-      text_is = ap (text_of r) is ∙ takes.released s h;
+      text_is = ap (reader_text r) is ∙ takes.released s h;
     }
 
 both : (r : Reader) (c : Call) (s : Segment) (calls : List Call)
@@ -74,7 +75,7 @@ both : (r : Reader) (c : Call) (s : Segment) (calls : List Call)
     → After r s (segment_from (next c s) calls) (c.text ++ texts_of calls)
     (last_reader c.after calls)
 both r c s calls first others =
-    let there : text_of r (segment_from (next c s) calls) ≡ text_of r (next c s) ++ texts_of calls =
+    let there : reader_text r (segment_from (next c s) calls) ≡ reader_text r (next c s) ++ texts_of calls =
     subst (λ (k : List ℕ). released (opens k) chunk_length (segment_from (next c s) calls)
     ≡ released (opens k) chunk_length (next c s) ++ texts_of calls)
     first.key others.text_is in
@@ -83,7 +84,7 @@ both r c s calls first others =
       key = others.key ∙ first.key;
       start = others.start ∙ first.start;
       text_is = there ∙ (ap (λ (t : List ℕ). t ++ texts_of calls) first.text_is
-          ∙ append_assoc (text_of r s) c.text (texts_of calls));
+          ∙ append_assoc (reader_text r s) c.text (texts_of calls));
     }
 
 pub all_calls : (calls : List Call) (r : Reader) (s : Segment) → IsAt r s → AreCalls r calls
@@ -92,7 +93,7 @@ all_calls [] r s h are = record {
   at = h;
   key = refl;
   start = refl;
-  text_is = sym (append-nil (text_of r s));
+  text_is = sym (append-nil (reader_text r s));
 }
 all_calls (c ∷ calls) r s h are =
     let first = one r c s h are.0 in
@@ -109,8 +110,8 @@ one_more k r c s stands is =
     let after = one r c s stands.at is in record { at = after.at; key = after.key ∙ stands.key }
 
 pub status_at : (k : List ℕ) (r : Reader) (s : Segment) → StandsAt k r s
-    → status_of r.state r.fault_chunk ≡ Some (outcome (opens k) chunk_length s).status
-status_at k r s stands = subst (λ (k : List ℕ). status_of r.state r.fault_chunk
+    → reader_status r.state r.fault_chunk ≡ Some (outcome (opens k) chunk_length s).status
+status_at k r s stands = subst (λ (k : List ℕ). reader_status r.state r.fault_chunk
     ≡ Some (outcome (opens k) chunk_length s).status) stands.key stands.at.status
 
 -- the last of some calls
@@ -128,7 +129,7 @@ done_after r c (inr taken) is_end zero = taken.2 is_end zero
 
 pub done_status : (r : Reader) (s : Segment) → IsAt r s → r.state ≡ 3
     → (outcome (opens (key_of r)) chunk_length s).status ≡ Done
-done_status r s h three = some_is (sym h.status ∙ ap (λ (n : ℕ). status_of n r.fault_chunk) three)
+done_status r s h three = some_is (sym h.status ∙ ap (λ (n : ℕ). reader_status n r.fault_chunk) three)
 
 -- ---- answers are calls
 
@@ -136,7 +137,7 @@ a_call : (old new : Reader) (is_end : Bool) (bytes before after : List ℕ) (ans
     (Fits : Type 0) (Does : ℕ → List ℕ → Reader → Type 0)
     → Answers Fits Does old new answer written before after
     → (Does answer (take written after) new
-    → Takes (given_by (call_of is_end bytes answer written after new)) old answer
+    → TakesBlock (given_by (call_of is_end bytes answer written after new)) old answer
     (take written after) new × (is_end ≡ true → answer ≡ 0 → new.state ≡ 3))
     → ((answer == misused) ≡ true) × (answer ≡ misused)
     ⊎ ((answer == misused) ≡ false) × (answer ≢ misused)

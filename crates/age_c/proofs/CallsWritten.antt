@@ -19,10 +19,10 @@ use Rattle.age_stream.specs.declared.step.Status.TheVariants.{Done, Failed}
 use Rattle.age_stream.proofs.Fresh.{fresh_outcome}
 use Rattle.age_stream.proofs.PublicLaws.{released_is_written, rest_is_authentic}
 use Rattle.age_c.specs.declared.reader.Reader.{Reader}
-use Rattle.age_c.specs.Calls.{answer_of, misused, status_of}
-use Rattle.age_c.specs.Readers.{IsAt, SameFile, text_of, Call, IsCall, AreCalls, last_reader}
+use Rattle.age_c.specs.Calls.{answer_of, misused, reader_status}
+use Rattle.age_c.specs.Readers.{IsAt, SameFile, reader_text, Call, IsCall, AreCalls, last_reader}
 use Rattle.age_c.specs.Readers.{segment_from, texts_of, after_block, after_end}
-use Rattle.age_c.specs.CallsWritten.{given, AllAnswer, AreAuthentic, AreRight, AreUndamaged}
+use Rattle.age_c.specs.CallsWritten.{given_by, AllAnswer, AreCallsAuthentic, AreRight, AreUndamaged}
 use Rattle.age_c.specs.CallsWritten.{AreParts, CallsAreWritten, GiveBlocks, GivesWrong, IsRefusedAt}
 use Rattle.age_c.specs.CallsWritten.{Part, PartsAreWritten}
 use Rattle.age_c.specs.inner.Keys.{key_of_reader as key_of, opens, seals}
@@ -85,7 +85,7 @@ module _ (r : Reader) (start : ℕ) (h : IsAt r (fresh start)) (limit : start < 
   k = key_of r
 
   abbrev s : Segment
-  s = given start calls
+  s = given_by start calls
 
   abbrev status : Status
   status = (outcome (opens k) chunk_length s).status
@@ -98,26 +98,26 @@ module _ (r : Reader) (start : ℕ) (h : IsAt r (fresh start)) (limit : start < 
 
   abbrev Right : Type 0
   Right = IsRight (seals k) (opens k) chunk_length text (IsRest (seals k) (opens k) chunk_length text s) s
-      (take (s.start * chunk_length) text ++ text_of r s) status
+      (take (s.start * chunk_length) text ++ reader_text r s) status
 
-  right : AreAuthentic r text start calls → Right
+  right : AreCallsAuthentic r text start calls → Right
   right authentic =
       let positive : 0 < chunk_length = omega arith in
       released_is_written (seals k) (opens k) (box_valid k) chunk_length positive s text few
       (omega (arith, after.start, limit)) authentic
 
   -- what was released, after the text before that chunk
-  written : take (s.start * chunk_length) text ++ text_of r s
+  written : take (s.start * chunk_length) text ++ reader_text r s
       ≡ take (start * chunk_length) text ++ texts_of calls
   written =
-      let nothing : text_of r (fresh start) ≡ [] =
+      let nothing : reader_text r (fresh start) ≡ [] =
       ap (λ (o : Outcome). flat_map (λ (t : List ℕ). t) o.texts)
       (fresh_outcome (opens k) chunk_length start) in
-      ap (λ (n : ℕ). take (n * chunk_length) text ++ text_of r s) after.start
+      ap (λ (n : ℕ). take (n * chunk_length) text ++ reader_text r s) after.start
       ∙ ap (λ (t : List ℕ). take (start * chunk_length) text ++ t)
       (after.text_is ∙ ap (λ (t : List ℕ). t ++ texts_of calls) nothing)
 
-  begins : AreAuthentic r text start calls → IsPrefixOf (texts_of calls) there
+  begins : AreCallsAuthentic r text start calls → IsPrefixOf (texts_of calls) there
   begins authentic =
       let prefix = (right authentic).prefix in
       rest_prefix (start * chunk_length) text (texts_of calls)
@@ -130,7 +130,7 @@ module _ (r : Reader) (start : ℕ) (h : IsAt r (fresh start)) (limit : start < 
       subst (λ (n : ℕ). n * chunk_length ≤ length text) after.start (right.within done) in
       (rest_all (start * chunk_length) text (texts_of calls) (sym written ∙ right.done done) within, within)
 
-  all_written : AreAuthentic r text start calls → (before : List Call) (last : Call)
+  all_written : AreCallsAuthentic r text start calls → (before : List Call) (last : Call)
       → calls ≡ before ++ last ∷ [] → last.is_end ≡ true → last.answer ≡ 0
       → (texts_of calls ≡ there) × (start * chunk_length ≤ length text)
   all_written authentic before last parts is_end zero =
@@ -182,26 +182,26 @@ module _ (r : Reader) (start : ℕ) (h : IsAt r (fresh start)) (limit : start < 
 
   -- ---- what refusals say
 
-  damaged_at : AreAuthentic r text start calls → (c : Call) → IsKnown k s c → c.answer ≡ 17
+  damaged_at : AreCallsAuthentic r text start calls → (c : Call) → IsKnown k s c → c.answer ≡ 17
       → IsFirstWrong (seals k) chunk_length text s c.after.fault_chunk
   damaged_at authentic c is seventeen =
       let state = known_state k s c is (λ e. omega (arith, e, seventeen))
       (λ e. omega (arith, e, seventeen)) ∙ seventeen in
       (right authentic).place.damaged c.after.fault_chunk
       (is.fault (record { kind = ChunkDamaged; chunk = c.after.fault_chunk })
-      (ap (λ (n : ℕ). status_of n c.after.fault_chunk) state))
+      (ap (λ (n : ℕ). reader_status n c.after.fault_chunk) state))
 
-  never_many : AreAuthentic r text start calls → (c : Call) → IsKnown k s c → c.answer ≢ 22
+  never_many : AreCallsAuthentic r text start calls → (c : Call) → IsKnown k s c → c.answer ≢ 22
   never_many authentic c is many =
       let state = known_state k s c is (λ e. omega (arith, e, many)) (λ e. omega (arith, e, many))
       ∙ many in
       (right authentic).place.few c.after.fault_chunk
       (is.fault (record { kind = TooManyChunks; chunk = c.after.fault_chunk })
-      (ap (λ (n : ℕ). status_of n c.after.fault_chunk) state))
+      (ap (λ (n : ℕ). reader_status n c.after.fault_chunk) state))
 
   -- ---- the first wrong block
 
-  module _ (authentic : AreAuthentic r text start calls) (i : ℕ) (before : List Call) (wrong : Call)
+  module _ (authentic : AreCallsAuthentic r text start calls) (i : ℕ) (before : List Call) (wrong : Call)
       (later : List Call) (parts : calls ≡ before ++ wrong ∷ later)
       (blocks : GiveBlocks r text start before i) (bad : GivesWrong r text i wrong) where
     here : AreCalls r before × IsCall (last_reader r before) wrong × AreCalls wrong.after later
@@ -265,10 +265,10 @@ calls_are_written r start h limit calls are text few = record {
   done = all_written r start h limit calls are text few;
   whole = undamaged r start h limit calls are text few;
   refused = first_refused r start h limit calls are text few;
-  damaged = λ authentic. all_map (IsKnown (key_of r) (given start calls)) _
+  damaged = λ authentic. all_map (IsKnown (key_of r) (given_by start calls)) _
       (damaged_at r start h limit calls are text few authentic) calls
       (known r start h limit calls are text few);
-  few = λ authentic. all_map (IsKnown (key_of r) (given start calls)) _
+  few = λ authentic. all_map (IsKnown (key_of r) (given_by start calls)) _
       (never_many r start h limit calls are text few authentic) calls
       (known r start h limit calls are text few);
 }

@@ -12,7 +12,7 @@ use Rattle.age_stream.specs.Opener.{chunk_bytes, OpenerView, Stands, chunk_texts
 use Rattle.age_stream.specs.declared.step.Status.{Status}
 use Rattle.age_stream.specs.declared.step.Status.TheVariants.{Open}
 use Rattle.age_c.specs.declared.reader.Reader.{Reader}
-use Rattle.age_c.specs.Calls.{status_of}
+use Rattle.age_c.specs.Calls.{reader_status}
 use Rattle.age_c.specs.Readers.{IsAt, SameFile}
 use Rattle.age_c.specs.inner.Keys.{key_of_reader as key_of, opens}
 use Rattle.age_chunk.specs.Payload.{chunk_length, block_length}
@@ -25,7 +25,7 @@ abbrev pub opener_of : Reader → Status → OpenerView (List ℕ)
 opener_of r status = record { key = key_of r; held = []; index = r.chunk; status = status }
 
 pub stands_of : (r : Reader) (status : Status) (s : Segment)
-    → status_of r.state r.fault_chunk ≡ Some status → IsAt r s
+    → reader_status r.state r.fault_chunk ≡ Some status → IsAt r s
     → Stands opens chunk_length (opener_of r status) s
 stands_of r status s e h =
     let same : status ≡ (outcome (opens (key_of r)) chunk_length s).status =
@@ -38,7 +38,7 @@ stands_of r status s e h =
     }
 
 pub at_of : (r : Reader) (o : OpenerView (List ℕ)) (s : Segment) → o.key ≡ key_of r
-    → o.index ≡ r.chunk → status_of r.state r.fault_chunk ≡ Some o.status
+    → o.index ≡ r.chunk → reader_status r.state r.fault_chunk ≡ Some o.status
     → (o.status ≡ Open → rest_bytes chunk_length s.bytes ≡ []) → Stands opens chunk_length o s
     → IsAt r s
 at_of r o s key index status whole h =
@@ -81,9 +81,9 @@ whole_piece s = whole_parts s.start s.bytes s.ended s.late
 -- a reader that was given a whole block more
 pub block_at : (r r' : Reader) (status : Status) (o o' : OpenerView (List ℕ)) (s : Segment)
     (block : List ℕ) → o ≡ opener_of r status → SameFile r r'
-    → o'.key ≡ o.key → o'.index ≡ r'.chunk → status_of r'.state r'.fault_chunk ≡ Some o'.status
+    → o'.key ≡ o.key → o'.index ≡ r'.chunk → reader_status r'.state r'.fault_chunk ≡ Some o'.status
     → (o'.status ≡ Open → o.status ≡ Open)
-    → status_of r.state r.fault_chunk ≡ Some status → length block ≡ block_length
+    → reader_status r.state r.fault_chunk ≡ Some status → length block ≡ block_length
     → (Stands opens chunk_length o s → Stands opens chunk_length o' (with_piece s block))
     → IsAt r s → IsAt r' (with_piece s block)
 block_at r r' status o o' s block view same key index code was_open old_code len stands h =
@@ -99,8 +99,8 @@ block_at r r' status o o' s block view same key index code was_open old_code len
 -- one that is open to no more, and was given bytes
 pub rest_at : (r r' : Reader) (status : Status) (o o' : OpenerView (List ℕ)) (s : Segment)
     (rest : List ℕ) → o ≡ opener_of r status → SameFile r r'
-    → o'.key ≡ o.key → o'.index ≡ r'.chunk → status_of r'.state r'.fault_chunk ≡ Some o'.status
-    → o'.status ≢ Open → status_of r.state r.fault_chunk ≡ Some status
+    → o'.key ≡ o.key → o'.index ≡ r'.chunk → reader_status r'.state r'.fault_chunk ≡ Some o'.status
+    → o'.status ≢ Open → reader_status r.state r.fault_chunk ≡ Some status
     → (Stands opens chunk_length o s → Stands opens chunk_length o' (with_piece s rest))
     → IsAt r s → IsAt r' (with_piece s rest)
 rest_at r r' status o o' s rest view same key index code shut old_code stands h =
@@ -149,7 +149,7 @@ block_text op s next chunk text e is =
 -- what an opener released, of its reader
 pub text_at : (r : Reader) (status : Status) (o : OpenerView (List ℕ)) (s next : Segment)
     (text : List ℕ) → o ≡ opener_of r status
-    → status_of r.state r.fault_chunk ≡ Some status
+    → reader_status r.state r.fault_chunk ≡ Some status
     → (Stands opens chunk_length o s
     → released (opens o.key) chunk_length next ≡ released (opens o.key) chunk_length s ++ text)
     → IsAt r s → released (opens (key_of r)) chunk_length next
@@ -164,8 +164,8 @@ text_at r status o s next text view code gives h =
 pub end_at : (r r' : Reader) (status : Status) (o between after : OpenerView (List ℕ)) (s : Segment)
     (rest : List ℕ) → o ≡ opener_of r status
     → SameFile r r' → between.key ≡ o.key → after.key ≡ between.key → after.index ≡ r'.chunk
-    → status_of r'.state r'.fault_chunk ≡ Some after.status
-    → after.status ≢ Open → status_of r.state r.fault_chunk ≡ Some status
+    → reader_status r'.state r'.fault_chunk ≡ Some after.status
+    → after.status ≢ Open → reader_status r.state r.fault_chunk ≡ Some status
     → (Stands opens chunk_length o s → Stands opens chunk_length between (with_piece s rest))
     → (Stands opens chunk_length between (with_piece s rest)
     → Stands opens chunk_length after (with_end (with_piece s rest)))
@@ -184,7 +184,7 @@ end_at r r' status o between after s rest view same key last_key index code shut
 -- no text came of what was left before the end
 pub end_text : (r : Reader) (status : Status) (o between : OpenerView (List ℕ)) (s : Segment)
     (rest text : List ℕ) → o ≡ opener_of r status
-    → status_of r.state r.fault_chunk ≡ Some status → between.key ≡ o.key
+    → reader_status r.state r.fault_chunk ≡ Some status → between.key ≡ o.key
     → (Stands opens chunk_length o s → Stands opens chunk_length between (with_piece s rest))
     → (Stands opens chunk_length o s → released (opens o.key) chunk_length (with_piece s rest)
     ≡ released (opens o.key) chunk_length s)

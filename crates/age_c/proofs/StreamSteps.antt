@@ -14,9 +14,10 @@ use Rattle.age_stream.proofs.Going.{going, going_part}
 use Rattle.age_stream.proofs.PublicLaws.{pieces_join}
 use Rattle.age_c.specs.declared.reader.Reader.{Reader}
 use Rattle.age_c.specs.declared.stream.Stream.{Stream}
-use Rattle.age_c.specs.Calls.{answer_of, status_of}
-use Rattle.age_c.specs.Readers.{Takes, TakesEnd, after_block, IsAt, SameFile, outcome_of, text_of}
-use Rattle.age_c.specs.Streams.{Feeds, Finishes, StreamIsAt, held_of}
+use Rattle.age_c.specs.Calls.{answer_of, reader_status}
+use Rattle.age_c.specs.Readers.{TakesBlock, TakesEnd, after_block, IsAt, SameFile, reader_outcome}
+use Rattle.age_c.specs.Readers.{reader_text}
+use Rattle.age_c.specs.Streams.{FeedsStream, FinishesStream, StreamIsAt, held_of}
 use Rattle.age_c.proofs.ReaderSteps.{some_is}
 
 nil_by : (start : ℕ) (bytes : List ℕ) (ended late : Bool)
@@ -33,8 +34,8 @@ piece_nil s = nil_by s.start s.bytes s.ended s.late
 
 -- a part of a block releases nothing
 part_same : (r : Reader) (blocks : Segment) (part : List ℕ) → IsAt r blocks
-    → (0 < length part → (outcome_of r blocks).status ≡ Open) → length part < block_length
-    → outcome_of r (with_piece blocks part) ≡ outcome_of r blocks
+    → (0 < length part → (reader_outcome r blocks).status ≡ Open) → length part < block_length
+    → reader_outcome r (with_piece blocks part) ≡ reader_outcome r blocks
 part_same r blocks part at when short =
     elim (cases_lt 0 (length part)) [
       | inl some ↦
@@ -44,7 +45,7 @@ part_same r blocks part at when short =
           (omega (arith, short, ap length (at.whole is)))).same)
       | inr none ↦
           (let nil : part ≡ [] = nil_from_length part (omega (arith, none)) in
-          ap (λ (p : List ℕ). outcome_of r (with_piece blocks p)) nil ∙ ap (outcome_of r) (piece_nil blocks))
+          ap (λ (p : List ℕ). reader_outcome r (with_piece blocks p)) nil ∙ ap (reader_outcome r) (piece_nil blocks))
     ]
 
 -- the text that an outcome released
@@ -53,10 +54,10 @@ released_of o = flat_map (λ (t : List ℕ). t) o.texts
 
 -- what is held releases nothing
 stream_same : (st : Stream) (s : Segment) → (h : StreamIsAt st s) → st.held < block_length
-    → outcome_of st.reader s ≡ outcome_of st.reader h.blocks
+    → reader_outcome st.reader s ≡ reader_outcome st.reader h.blocks
 stream_same st s h short =
     let size = length-take st.held st.block in
-    ap (outcome_of st.reader) h.given
+    ap (reader_outcome st.reader) h.given
     ∙ part_same st.reader h.blocks (held_of st) h.at (λ some. h.is_open (omega (arith, some, size)))
     (omega (arith, short, size))
 
@@ -79,8 +80,8 @@ nothing_held st s zero at = record {
   given = sym (ap (λ (n : ℕ). with_piece s (take n st.block)) zero ∙ piece_nil s);
 }
 
-opened : (r : Reader) (s : Segment) → IsAt r s → status_of r.state r.fault_chunk ≡ Some Open
-    → (outcome_of r s).status ≡ Open
+opened : (r : Reader) (s : Segment) → IsAt r s → reader_status r.state r.fault_chunk ≡ Some Open
+    → (reader_outcome r s).status ≡ Open
 opened r s at is = some_is (sym at.status ∙ is)
 
 -- ---- bytes that leave the block open
@@ -88,22 +89,22 @@ opened r s at is = some_is (sym at.status ∙ is)
 pub feeds_part : (piece : List ℕ) (count : ℕ) (old new : Stream) → new.reader ≡ old.reader
     → held_of new ≡ held_of old ++ take count piece → new.held < block_length
     → count ≡ min (length piece) (block_length - old.held) → old.held < block_length
-    → status_of old.reader.state old.reader.fault_chunk ≡ Some Open
-    → Feeds piece old (answer_of new.reader.state) count [] new
+    → reader_status old.reader.state old.reader.fault_chunk ≡ Some Open
+    → FeedsStream piece old (answer_of new.reader.state) count [] new
 feeds_part piece count old new same held fits count_is short is = record {
   moves = record {
     at = λ s h. record {
       blocks = h.blocks;
       at = subst (λ (r : Reader). IsAt r h.blocks) (sym same) h.at;
-      is_open = λ _. ap (λ (r : Reader). (outcome_of r h.blocks).status) same ∙ opened old.reader h.blocks h.at is;
+      is_open = λ _. ap (λ (r : Reader). (reader_outcome r h.blocks).status) same ∙ opened old.reader h.blocks h.at is;
       given = given_more old s h (take count piece) (held_of new) (sym held);
     };
     released = λ s h.
-        let all : outcome_of old.reader (with_piece s (take count piece)) ≡ outcome_of old.reader h.blocks =
-        ap (outcome_of old.reader) (given_more old s h (take count piece) (held_of new) (sym held))
+        let all : reader_outcome old.reader (with_piece s (take count piece)) ≡ reader_outcome old.reader h.blocks =
+        ap (reader_outcome old.reader) (given_more old s h (take count piece) (held_of new) (sym held))
         ∙ part_same old.reader h.blocks (held_of new) h.at (λ _. opened old.reader h.blocks h.at is)
         (omega (arith, fits, length-take new.held new.block)) in
-        ap released_of (all ∙ sym (stream_same old s h short)) ∙ sym (append-nil (text_of old.reader s));
+        ap released_of (all ∙ sym (stream_same old s h short)) ∙ sym (append-nil (reader_text old.reader s));
     same = subst (SameFile old.reader) (sym same) (unchanged old.reader);
     answer_is = refl;
     nothing = λ _. refl;
@@ -115,16 +116,16 @@ feeds_part piece count old new same held fits count_is short is = record {
 -- ---- bytes that fill the block
 
 pub feeds_whole : (piece : List ℕ) (count answer : ℕ) (block text : List ℕ) (old new : Stream)
-    → Takes (after_block block) old.reader answer text new.reader → new.held ≡ 0
+    → TakesBlock (after_block block) old.reader answer text new.reader → new.held ≡ 0
     → held_of old ++ take count piece ≡ block
     → count ≡ min (length piece) (block_length - old.held) → old.held < block_length
-    → Feeds piece old answer count text new
+    → FeedsStream piece old answer count text new
 feeds_whole piece count answer block text old new takes zero is count_is short = record {
   moves = record {
     at = λ s h. subst (StreamIsAt new) (sym (given_more old s h (take count piece) block is))
         (nothing_held new (with_piece h.blocks block) zero (takes.at h.blocks h.at));
     released = λ s h.
-        ap (text_of old.reader) (given_more old s h (take count piece) block is)
+        ap (reader_text old.reader) (given_more old s h (take count piece) block is)
         ∙ (takes.released h.blocks h.at
         ∙ ap (λ (o : Outcome). released_of o ++ text) (sym (stream_same old s h short)));
     same = takes.same;
@@ -138,10 +139,10 @@ feeds_whole piece count answer block text old new takes zero is count_is short =
 -- ---- bytes after the last block, or after a fault
 
 pub feeds_closed : (piece : List ℕ) (count answer : ℕ) (text : List ℕ) (old new : Stream)
-    → Takes (λ (s : Segment). with_piece s (take count piece)) old.reader answer text new.reader
+    → TakesBlock (λ (s : Segment). with_piece s (take count piece)) old.reader answer text new.reader
     → new.held ≡ 0 → count ≡ min (length piece) 1
-    → (status_of old.reader.state old.reader.fault_chunk ≢ Some Open)
-    → Feeds piece old answer count text new
+    → (reader_status old.reader.state old.reader.fault_chunk ≢ Some Open)
+    → FeedsStream piece old answer count text new
 feeds_closed piece count answer text old new takes zero count_is shut =
     let none : (s : Segment) → (h : StreamIsAt old s) → s ≡ h.blocks = λ s h.
     elim (cases_lt 0 old.held) [
@@ -169,7 +170,7 @@ feeds_closed piece count answer text old new takes zero count_is shut =
 
 pub finishes : (answer : ℕ) (text : List ℕ) (old new : Stream)
     → TakesEnd (held_of old) old.reader answer text new.reader → new.held ≡ 0
-    → old.held < block_length → Finishes old answer text new
+    → old.held < block_length → FinishesStream old answer text new
 finishes answer text old new ends zero short =
     let takes = ends.takes in
     record {
@@ -177,7 +178,7 @@ finishes answer text old new ends zero short =
         at = λ s h. nothing_held new (with_end s) zero
             (subst (λ (t : Segment). IsAt new.reader (with_end t)) (sym h.given) (takes.at h.blocks h.at));
         released = λ s h.
-            ap (λ (t : Segment). text_of old.reader (with_end t)) h.given
+            ap (λ (t : Segment). reader_text old.reader (with_end t)) h.given
             ∙ (takes.released h.blocks h.at
             ∙ ap (λ (o : Outcome). released_of o ++ text) (sym (stream_same old s h short)));
         same = takes.same;

@@ -8,7 +8,7 @@ use Rattle.age_chunk.specs.declared.fault.StreamKind.TheVariants.{ChunkDamaged, 
 use Rattle.age_chunk.specs.declared.fault.StreamKind.TheVariants.{Truncated, Trailing}
 use Rattle.age_chunk.specs.declared.fault.StreamKind.TheVariants.{TooManyChunks}
 use Rattle.age_chunk.specs.ChunkBoxes.{tag_length}
-use Rattle.age_chunk.specs.FaultNumbers.{number_of}
+use Rattle.age_chunk.specs.FaultNumbers.{stream_fault_number}
 use Rattle.age_chunk.specs.Payload.{block_length}
 use Rattle.age_stream.specs.Laws.{IsTextLength, chunks_for}
 
@@ -26,8 +26,8 @@ abbrev pub failed_at : StreamKind → ℕ → Option Status
 failed_at kind chunk = Some (Failed (record { kind = kind; chunk = chunk }))
 
 -- the status that a reader's numbers stand for
-abbrev pub status_of : ℕ → ℕ → Option Status
-status_of state chunk =
+abbrev pub reader_status : ℕ → ℕ → Option Status
+reader_status state chunk =
     if state == 1 then Some Open
     else if state == 2 then Some LastSeen
     else if state == 3 then Some Done
@@ -89,4 +89,4 @@ pub record Measures (size answer text_len last_chunk : ℕ) : Type 0 where
       → IsTextLength size text_len × (last_chunk + 1 ≡ chunks_for text_len)
   -- any other answer says that no text has one, and how the payload ends
   pub none : answer ≢ 0 → ((len : ℕ) → ¬ IsTextLength size len)
-      × (answer ≡ number_of (ends_as size)) × (text_len ≡ 0) × (last_chunk ≡ 0)
+      × (answer ≡ stream_fault_number (ends_as size)) × (text_len ≡ 0) × (last_chunk ≡ 0)

@@ -15,8 +15,8 @@ use Rattle.age_c.specs.Readers.{Call, AreCalls, GoesTo, last_reader, segment_fro
 use Rattle.age_c.specs.Readers.{SameFile}
 
 -- what calls gave to a reader that was at this chunk and was given nothing before
-abbrev pub given : ℕ → List Call → Segment
-given start calls = segment_from (fresh start) calls
+abbrev pub given_by : ℕ → List Call → Segment
+given_by start calls = segment_from (fresh start) calls
 
 -- each of the calls that wasn't misused has this answer
 abbrev pub AllAnswer : ℕ → List Call → Type 0
@@ -72,15 +72,15 @@ module _ (r : Reader) (text : List ℕ) (start : ℕ) where
   text_there = drop (start * chunk_length) text
 
   -- no block that the calls gave opens except as the writer of the text sealed it
-  abbrev pub AreAuthentic : List Call → Type 0
-  AreAuthentic calls =
+  abbrev pub AreCallsAuthentic : List Call → Type 0
+  AreCallsAuthentic calls =
       IsAuthentic (box r.file_key r.nonce) (unbox r.file_key r.nonce) chunk_length text
-      (given start calls)
+      (given_by start calls)
 
   -- the calls gave the payload of the text from that chunk on, as the writer sealed it, and its
   -- end, and no more; calls may be misused in between
   abbrev pub AreUndamaged : List Call → Type 0
-  AreUndamaged calls = given start calls ≡ record {
+  AreUndamaged calls = given_by start calls ≡ record {
     start = start;
     bytes = drop (start * block_length) (payload (box r.file_key r.nonce) chunk_length text);
     ended = true;
@@ -90,10 +90,10 @@ module _ (r : Reader) (text : List ℕ) (start : ℕ) where
   -- what a caller may rely on
   pub record AreRight (calls : List Call) : Type 0 where
     -- what was written is the beginning of the text from that chunk on
-    pub prefix : AreAuthentic calls → IsPrefixOf (texts_of calls) text_there
+    pub prefix : AreCallsAuthentic calls → IsPrefixOf (texts_of calls) text_there
     -- where the last call is an end that answered 0, it is all of that, and the chunk begins
     -- within the text: so then the length of the text is known
-    pub done : AreAuthentic calls → (before : List Call) (last : Call)
+    pub done : AreCallsAuthentic calls → (before : List Call) (last : Call)
         → calls ≡ before ++ last ∷ [] → last.is_end ≡ true → last.answer ≡ 0
         → (texts_of calls ≡ text_there) × (start * chunk_length ≤ length text)
     -- an undamaged payload gives all of it, and 0 each time
@@ -101,16 +101,16 @@ module _ (r : Reader) (text : List ℕ) (start : ℕ) where
         → start < chunk_count chunk_length text → AreUndamaged calls
         → (texts_of calls ≡ text_there) × AllAnswer 0 calls
     -- the first block that isn't the writer's is refused with 17
-    pub refused : AreAuthentic calls → (i : ℕ) (before : List Call) (wrong : Call)
+    pub refused : AreCallsAuthentic calls → (i : ℕ) (before : List Call) (wrong : Call)
         (later : List Call) → calls ≡ before ++ wrong ∷ later → GiveBlocks r text start before i
         → GivesWrong r text i wrong → IsRefusedAt i before wrong later
     -- 17 says that a block isn't the writer's, the one whose number the reader has, and that
     -- those before it are
-    pub damaged : AreAuthentic calls → AllByRecursion (λ (c : Call). c.answer ≡ 17
-        → IsFirstWrong (box r.file_key r.nonce) chunk_length text (given start calls)
+    pub damaged : AreCallsAuthentic calls → AllByRecursion (λ (c : Call). c.answer ≡ 17
+        → IsFirstWrong (box r.file_key r.nonce) chunk_length text (given_by start calls)
         c.after.fault_chunk) calls
     -- 22 never comes
-    pub few : AreAuthentic calls → AllByRecursion (λ (c : Call). c.answer ≢ 22) calls
+    pub few : AreCallsAuthentic calls → AllByRecursion (λ (c : Call). c.answer ≢ 22) calls
 
 -- the headline for a caller: so it is after any calls on a reader that is at a chunk and was given
 -- nothing, as one that was just begun is at chunk 0, for every text of at most 2^48 chunks

@@ -7,12 +7,12 @@ use Rattle.age_stream.specs.Segment.{Segment, Outcome, outcome, released, rest_b
 use Rattle.age_stream.specs.Segment.{with_piece, with_end}
 use Rattle.age_chunk.specs.Payload.{chunk_limit, chunk_length, block_length}
 use Rattle.age_c.specs.declared.reader.Reader.{Reader}
-use Rattle.age_c.specs.Calls.{status_of, more, Answers, answer_of, misused}
+use Rattle.age_c.specs.Calls.{reader_status, more, Answers, answer_of, misused}
 use Rattle.age_stanza.specs.declared.header.Header.{Header}
 use Rattle.age_stanza.specs.Grammar.{HeadText, header_limit}
 use Rattle.age_stanza.specs.Parsing.{HasHeader, NoFault, IsFault, memory_fault}
-use Rattle.age_stanza.specs.Parsing.{number_of as number_of_head}
-use Rattle.age_keys.specs.Keys.{Opens, Refuses, number_of as number_of_key}
+use Rattle.age_stanza.specs.Parsing.{head_fault_number}
+use Rattle.age_keys.specs.Keys.{Opens, Refuses, key_fault_number}
 use Rattle.age_keys.specs.declared.fault.KeyFault.{KeyFault}
 use Rattle.age_c.specs.declared.start.StartFault.{StartFault}
 use Rattle.age_c.specs.declared.start.StartFault.TheVariants.{More, Head, Key}
@@ -21,20 +21,20 @@ use Rattle.std.specs.List.{flat_map}
 -- ---- What a reader's numbers stand for.
 
 -- what a segment gives under the reader's keys
-abbrev pub outcome_of : Reader → Segment → Outcome
-outcome_of r s = outcome (unbox r.file_key r.nonce) chunk_length s
+abbrev pub reader_outcome : Reader → Segment → Outcome
+reader_outcome r s = outcome (unbox r.file_key r.nonce) chunk_length s
 
 -- the reader was given this segment: it stands where the outcome says, and was given whole blocks
 -- while it is open
 pub record IsAt (r : Reader) (s : Segment) : Type 0 where
-  pub status : status_of r.state r.fault_chunk ≡ Some (outcome_of r s).status
-  pub index : r.chunk ≡ (outcome_of r s).index
-  pub whole : (outcome_of r s).status ≡ Open → rest_bytes chunk_length s.bytes ≡ []
+  pub status : reader_status r.state r.fault_chunk ≡ Some (reader_outcome r s).status
+  pub index : r.chunk ≡ (reader_outcome r s).index
+  pub whole : (reader_outcome r s).status ≡ Open → rest_bytes chunk_length s.bytes ≡ []
   pub timely : s.ended ≡ false → s.late ≡ false
 
 -- the text that a reader of a segment releases
-abbrev pub text_of : Reader → Segment → List ℕ
-text_of r s = released (unbox r.file_key r.nonce) chunk_length s
+abbrev pub reader_text : Reader → Segment → List ℕ
+reader_text r s = released (unbox r.file_key r.nonce) chunk_length s
 
 -- the file and its keys are the same
 pub record SameFile (was now : Reader) : Type 0 where
@@ -44,7 +44,7 @@ pub record SameFile (was now : Reader) : Type 0 where
 
 -- the numbers are those of a status, at a chunk that a payload may have
 pub record CanBeUsed (r : Reader) : Type 0 where
-  pub status : IsSome (status_of r.state r.fault_chunk)
+  pub status : IsSome (reader_status r.state r.fault_chunk)
   pub chunk : r.chunk < chunk_limit
 
 -- ---- How a file is begun: its header is opened, and the payload's nonce is read.
@@ -90,15 +90,15 @@ StartRefuses Allows Refused front (Key fault) = (header : Header) × (len : ℕ)
 StartRefuses Allows Refused front fault = HeadRefuses front fault
 
 -- the number that is answered
-abbrev pub number_of : StartFault → ℕ
-number_of More = more
-number_of (Head fault) = number_of_head fault.kind
-number_of (Key fault) = number_of_key fault
+abbrev pub start_fault_number : StartFault → ℕ
+start_fault_number More = more
+start_fault_number (Head fault) = head_fault_number fault.kind
+start_fault_number (Key fault) = key_fault_number fault
 
 -- the answer is a refusal's
-abbrev pub IsRefusal : (Header → List ℕ → Type 0) → (Header → KeyFault → Type 0) → List ℕ
+abbrev pub IsStartRefusal : (Header → List ℕ → Type 0) → (Header → KeyFault → Type 0) → List ℕ
     → ℕ → Type 0
-IsRefusal Allows Refused front answer = (fault : StartFault) × (answer ≡ number_of fault)
+IsStartRefusal Allows Refused front answer = (fault : StartFault) × (answer ≡ start_fault_number fault)
     × StartRefuses Allows Refused front fault
 
 -- ---- What one call does to a reader, and what a list of calls does.
@@ -112,10 +112,10 @@ after_end rest s = with_end (with_piece s rest)
 
 -- a reader of any segment is then one of what comes after it, and the call wrote what that released
 -- more; the answer is its fault, or 0, and with a fault nothing was written
-pub record Takes (after : Segment → Segment) (old : Reader) (answer : ℕ) (text : List ℕ)
+pub record TakesBlock (after : Segment → Segment) (old : Reader) (answer : ℕ) (text : List ℕ)
     (new : Reader) : Type 0 where
   pub at : (s : Segment) → IsAt old s → IsAt new (after s)
-  pub released : (s : Segment) → IsAt old s → text_of old (after s) ≡ text_of old s ++ text
+  pub released : (s : Segment) → IsAt old s → reader_text old (after s) ≡ reader_text old s ++ text
   pub same : SameFile old new
   pub answer_is : answer ≡ answer_of new.state
   pub nothing : answer ≢ 0 → text ≡ []
@@ -123,7 +123,7 @@ pub record Takes (after : Segment → Segment) (old : Reader) (answer : ℕ) (te
 -- an end answers 0 only once the last chunk was opened
 pub record TakesEnd (rest : List ℕ) (old : Reader) (answer : ℕ) (text : List ℕ)
     (new : Reader) : Type 0 where
-  pub takes : Takes (after_end rest) old answer text new
+  pub takes : TakesBlock (after_end rest) old answer text new
   pub done : answer ≡ 0 → new.state ≡ 3
 
 -- the reader is at a chunk as if it had been given nothing: what it was given before, a fault and an
@@ -163,7 +163,7 @@ given_by c s = if c.is_end then after_end c.bytes s else after_block c.bytes s
 abbrev pub IsCall : Reader → Call → Type 0
 IsCall r c =
     ((c.answer ≡ misused) × (c.after ≡ r) × (c.text ≡ []))
-    ⊎ ((c.answer ≢ misused) × Takes (given_by c) r c.answer c.text c.after
+    ⊎ ((c.answer ≢ misused) × TakesBlock (given_by c) r c.answer c.text c.after
     × (c.is_end ≡ true → c.answer ≡ 0 → c.after.state ≡ 3))
 
 -- the calls were made one after the other, and nothing else changed the reader
@@ -201,7 +201,7 @@ call_of is_end bytes answer written out after = record {
 -- contracts) makes each of them a call on the reader: so a law about lists of calls holds of them
 abbrev pub AnswersAreCalls : Type 0
 AnswersAreCalls = (old new : Reader) (bytes before after : List ℕ) (answer written : ℕ)
-    → (Answers (IsBlockCall old bytes before) (Takes (after_block bytes) old) old new answer written
+    → (Answers (IsBlockCall old bytes before) (TakesBlock (after_block bytes) old) old new answer written
     before after → IsCall old (call_of false bytes answer written after new))
     × (Answers (IsEndCall old bytes before) (TakesEnd bytes old) old new answer written before after
     → IsCall old (call_of true bytes answer written after new))

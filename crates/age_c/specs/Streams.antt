@@ -5,7 +5,7 @@ use Rattle.age_stream.specs.Segment.{with_end, with_piece, Segment}
 use Rattle.age_stream.specs.declared.step.Status.TheVariants.{Open}
 use Rattle.age_c.specs.declared.stream.Stream.{Stream}
 use Rattle.age_c.specs.Calls.{answer_of}
-use Rattle.age_c.specs.Readers.{CanBeUsed, IsAt, SameFile, outcome_of, text_of}
+use Rattle.age_c.specs.Readers.{CanBeUsed, IsAt, SameFile, reader_outcome, reader_text}
 
 -- the bytes of the block that is open
 abbrev pub held_of : Stream → List ℕ
@@ -16,7 +16,7 @@ held_of s = take s.held s.block
 pub record StreamIsAt (s : Stream) (segment : Segment) : Type 0 where
   pub blocks : Segment
   pub at : IsAt s.reader blocks
-  pub is_open : 0 < s.held → (outcome_of s.reader blocks).status ≡ Open
+  pub is_open : 0 < s.held → (reader_outcome s.reader blocks).status ≡ Open
   pub given : segment ≡ with_piece blocks (held_of s)
 
 -- a stream of any segment is then one of the next, and the call wrote what that released more; the
@@ -25,21 +25,21 @@ pub record Moves (next : Segment → Segment) (old : Stream) (answer : ℕ) (tex
     (new : Stream) : Type 0 where
   pub at : (segment : Segment) → StreamIsAt old segment → StreamIsAt new (next segment)
   pub released : (segment : Segment) → StreamIsAt old segment
-      → text_of old.reader (next segment) ≡ text_of old.reader segment ++ text
+      → reader_text old.reader (next segment) ≡ reader_text old.reader segment ++ text
   pub same : SameFile old.reader new.reader
   pub answer_is : answer ≡ answer_of new.reader.state
   pub nothing : answer ≢ 0 → text ≡ []
 
 -- bytes are taken from the front of a piece: none are passed over, and some of a piece that isn't
 -- empty
-pub record Feeds (piece : List ℕ) (old : Stream) (answer taken : ℕ) (text : List ℕ)
+pub record FeedsStream (piece : List ℕ) (old : Stream) (answer taken : ℕ) (text : List ℕ)
     (new : Stream) : Type 0 where
   pub moves : Moves (λ (s : Segment). with_piece s (take taken piece)) old answer text new
   pub most : taken ≤ length piece
   pub some : 0 < length piece → 0 < taken
 
 -- an end answers 0 only once the last chunk was opened
-pub record Finishes (old : Stream) (answer : ℕ) (text : List ℕ) (new : Stream) : Type 0 where
+pub record FinishesStream (old : Stream) (answer : ℕ) (text : List ℕ) (new : Stream) : Type 0 where
   pub moves : Moves with_end old answer text new
   pub done : answer ≡ 0 → new.reader.state ≡ 3
 

@@ -90,16 +90,16 @@ abbrev pub nonce_in : List ℕ → List ℕ
 nonce_in random = take 16 (drop 32 random)
 
 -- the bytes are what stands before the payload: the header's text and the payload's nonce
-pub record IsFront (pass : List ℕ) (work : ℕ) (key salt nonce bytes : List ℕ) : Type 0 where
+pub record IsFileFront (pass : List ℕ) (work : ℕ) (key salt nonce bytes : List ℕ) : Type 0 where
   pub front : List ℕ
   pub head : HeadText (scrypt_head pass work salt key) front
   pub parts : bytes ≡ front ++ nonce
   pub size : length nonce ≡ 16
 
 -- so are these, of the random bytes, and the writer was given no text
-pub record BeginsFile (pass : List ℕ) (work : ℕ) (random bytes : List ℕ) (w : Writer)
+pub record BeginsFileFrom (pass : List ℕ) (work : ℕ) (random bytes : List ℕ) (w : Writer)
     : Type 0 where
-  pub front : IsFront pass work (key_in random) (salt_in random) (nonce_in random) bytes
+  pub front : IsFileFront pass work (key_in random) (salt_in random) (nonce_in random) bytes
   pub key : w.file_key ≡ key_in random
   pub nonce : w.nonce ≡ nonce_in random
   pub start : HasSealed w []
@@ -185,7 +185,7 @@ AnswersAreSealCalls = (old new : Writer) (text before after : List ℕ) (answer 
 -- and the text has as few chunks as the law of readers asks for
 abbrev pub FilesAreWhole : Type 0
 FilesAreWhole = (pass : List ℕ) (work : ℕ) (random front : List ℕ) (w : Writer)
-    → BeginsFile pass work random front w → (calls : List SealCall) → AreSealCalls w calls
+    → BeginsFileFrom pass work random front w → (calls : List SealCall) → AreSealCalls w calls
     → (last : SealCall) → IsSealCall (writer_after w calls) last → last.is_end ≡ true
     → last.answer ≡ 0
     → FileOf (scrypt_head pass work (salt_in random) (key_in random)) (key_in random)

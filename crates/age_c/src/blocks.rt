@@ -4,8 +4,8 @@ ghost use Rattle.std.specs.Prelude.{◌≡◌, ◌≢◌, ◌+◌, ◌<◌, ◌�
 ghost use Rattle.std.specs.Prelude.{IfSome, IfNone, Some, false};
 ghost use Rattle.age_stream.specs.Segment.{with_piece, with_end};
 ghost use Rattle.age_stream.specs.Opener.{chunk_bytes, has_failed};
-ghost use Rattle.age_c.specs.Calls.{PutsFront, answer_of, status_of};
-ghost use Rattle.age_c.specs.Readers.{IsBlockCall, IsEndCall, Takes, TakesEnd, after_block};
+ghost use Rattle.age_c.specs.Calls.{PutsFront, answer_of, reader_status};
+ghost use Rattle.age_c.specs.Readers.{IsBlockCall, IsEndCall, TakesBlock, TakesEnd, after_block};
 ghost use Rattle.age_c.specs.Readers.{CanBeUsed};
 ghost use Rattle.age_c.specs.inner.Blocks.{Keeps, PassesOn};
 ghost use Rattle.age_c.specs.inner.Keys.{key_of_reader};
@@ -24,7 +24,7 @@ type PayloadOpener<'a> = Opener<'a, PayloadKey, BLOCK_LEN>;
 /// The status of a reader, if it is at a chunk that a payload may have.
 pub(crate) fn status_at(reader: &Reader) -> Option<Status>
     ensures status { IfSome result
-        (λ status. status_of reader.now.state reader.now.fault_chunk ≡ Some status) }
+        (λ status. reader_status reader.now.state reader.now.fault_chunk ≡ Some status) }
     ensures usable { IfSome result (λ _. CanBeUsed reader.now) }
     ensures none { IfNone result (¬ CanBeUsed reader.now) }
 {
@@ -126,9 +126,9 @@ fn end_opener(opener: &mut PayloadOpener<'_>, out: &mut [u8]) -> usize
 #[inline(never)]
 pub(crate) fn refuse_more(reader: &mut Reader, status: Status, piece: &[u8]) -> usize
     requires usable { CanBeUsed reader.old }
-    requires status { status_of reader.old.state reader.old.fault_chunk ≡ Some status }
+    requires status { reader_status reader.old.state reader.old.fault_chunk ≡ Some status }
     requires shut { status ≢ Status.Open }
-    ensures takes { Takes (λ s. with_piece s (take result piece.now)) reader.old
+    ensures takes { TakesBlock (λ s. with_piece s (take result piece.now)) reader.old
         (answer_of reader.new.state) [] reader.new }
     ensures count { result ≡ min (length piece.now) 1 }
 {
@@ -143,8 +143,8 @@ pub(crate) fn refuse_more(reader: &mut Reader, status: Status, piece: &[u8]) -> 
 /// Opens a whole block, and returns how many bytes of text it put into `out`.
 pub(crate) fn open_block(reader: &mut Reader, status: Status, block: &[u8], out: &mut [u8]) -> usize
     requires call { IsBlockCall reader.old block.now out.old }
-    requires status { status_of reader.old.state reader.old.fault_chunk ≡ Some status }
-    ensures takes { Takes (after_block block.now) reader.old (answer_of reader.new.state)
+    requires status { reader_status reader.old.state reader.old.fault_chunk ≡ Some status }
+    ensures takes { TakesBlock (after_block block.now) reader.old (answer_of reader.new.state)
         (take result out.new) reader.new }
     ensures put { PutsFront result out.old out.new }
 {
@@ -159,7 +159,7 @@ pub(crate) fn open_block(reader: &mut Reader, status: Status, block: &[u8], out:
 /// text it put into `out`.
 pub(crate) fn open_last(reader: &mut Reader, status: Status, rest: &[u8], out: &mut [u8]) -> usize
     requires call { IsEndCall reader.old rest.now out.old }
-    requires status { status_of reader.old.state reader.old.fault_chunk ≡ Some status }
+    requires status { reader_status reader.old.state reader.old.fault_chunk ≡ Some status }
     ensures takes { TakesEnd rest.now reader.old (answer_of reader.new.state)
         (take result out.new) reader.new }
     ensures put { PutsFront result out.old out.new }

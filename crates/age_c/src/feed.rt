@@ -2,10 +2,10 @@
 
 ghost use Rattle.std.specs.Prelude.{◌≡◌, ◌<◌, ◌≤◌, IfNone, IfSome, Some, take};
 ghost use Rattle.age_chunk.specs.Payload.{chunk_length, block_length};
-ghost use Rattle.age_c.specs.Calls.{Answers, PutsFront, answer_of, misused, status_of};
+ghost use Rattle.age_c.specs.Calls.{Answers, PutsFront, answer_of, misused, reader_status};
 ghost use Rattle.age_c.specs.Readers.{CanBeUsed};
-ghost use Rattle.age_c.specs.Streams.{Feeds, Finishes, IsStreamCall};
-ghost use Rattle.age_c.specs.inner.Holding.{Holds};
+ghost use Rattle.age_c.specs.Streams.{FeedsStream, FinishesStream, IsStreamCall};
+ghost use Rattle.age_c.specs.inner.Holding.{HoldsPiece};
 
 use crate::MISUSED;
 use crate::blocks::{open_block, open_last, refuse_more, status_at};
@@ -18,7 +18,7 @@ use age_stream::Status;
 /// many.
 fn hold(stream: &mut Stream, piece: &[u8]) -> usize
     requires { stream.old.held < block_length }
-    ensures { Holds piece.now result stream.old stream.new }
+    ensures { HoldsPiece piece.now result stream.old stream.new }
 {
     let held = stream.held as usize;
     let count = piece.len().min(BLOCK_LEN - held);
@@ -30,9 +30,9 @@ fn hold(stream: &mut Stream, piece: &[u8]) -> usize
 /// many bytes of text were put into `out`.
 fn feed_open(stream: &mut Stream, piece: &[u8], out: &mut [u8]) -> (usize, usize)
     requires call { IsStreamCall stream.old out.old }
-    requires open { status_of stream.old.reader.state stream.old.reader.fault_chunk
+    requires open { reader_status stream.old.reader.state stream.old.reader.fault_chunk
         ≡ Some Status.Open }
-    ensures feeds { Feeds piece.now stream.old (answer_of stream.new.reader.state) result.0
+    ensures feeds { FeedsStream piece.now stream.old (answer_of stream.new.reader.state) result.0
         (take result.1 out.new) stream.new }
     ensures put { PutsFront result.1 out.old out.new }
 {
@@ -50,9 +50,9 @@ fn feed_open(stream: &mut Stream, piece: &[u8], out: &mut [u8]) -> (usize, usize
 /// Takes bytes of a piece. Returns how many, and how many bytes of text were put into `out`.
 fn feed(stream: &mut Stream, status: Status, piece: &[u8], out: &mut [u8]) -> (usize, usize)
     requires call { IsStreamCall stream.old out.old }
-    requires status { status_of stream.old.reader.state stream.old.reader.fault_chunk
+    requires status { reader_status stream.old.reader.state stream.old.reader.fault_chunk
         ≡ Some status }
-    ensures feeds { Feeds piece.now stream.old (answer_of stream.new.reader.state) result.0
+    ensures feeds { FeedsStream piece.now stream.old (answer_of stream.new.reader.state) result.0
         (take result.1 out.new) stream.new }
     ensures put { PutsFront result.1 out.old out.new }
 {
@@ -68,9 +68,9 @@ fn feed(stream: &mut Stream, status: Status, piece: &[u8], out: &mut [u8]) -> (u
 /// Ends, and returns how many bytes of text were put into `out`.
 fn finish(stream: &mut Stream, status: Status, out: &mut [u8]) -> usize
     requires call { IsStreamCall stream.old out.old }
-    requires status { status_of stream.old.reader.state stream.old.reader.fault_chunk
+    requires status { reader_status stream.old.reader.state stream.old.reader.fault_chunk
         ≡ Some status }
-    ensures finishes { Finishes stream.old (answer_of stream.new.reader.state)
+    ensures finishes { FinishesStream stream.old (answer_of stream.new.reader.state)
         (take result out.new) stream.new }
     ensures put { PutsFront result out.old out.new }
 {
@@ -82,7 +82,7 @@ fn finish(stream: &mut Stream, status: Status, out: &mut [u8]) -> usize
 /// The status of a stream that can be used, with so much room for text.
 fn stream_status(stream: &Stream, room: usize) -> Option<Status>
     ensures status { IfSome result (λ status.
-        status_of stream.now.reader.state stream.now.reader.fault_chunk ≡ Some status) }
+        reader_status stream.now.reader.state stream.now.reader.fault_chunk ≡ Some status) }
     ensures usable { IfSome result (λ _. (CanBeUsed stream.now.reader)
         × (stream.now.held < block_length) × (chunk_length ≤ room)) }
     ensures none { IfNone result (CanBeUsed stream.now.reader → stream.now.held < block_length
@@ -107,7 +107,7 @@ pub extern "C" fn age_c_feed(
     written: &mut usize,
 ) -> u32
     ensures answers { Answers (IsStreamCall stream.old out.old)
-        (λ answer text new. Feeds piece.now stream.old answer taken.new text new)
+        (λ answer text new. FeedsStream piece.now stream.old answer taken.new text new)
         stream.old stream.new result written.new out.old out.new }
     ensures none { result ≡ misused → taken.new ≡ 0 }
 {
@@ -124,7 +124,7 @@ pub extern "C" fn age_c_feed(
 /// or more. The text is whole only if the answer is 0.
 #[unsafe(no_mangle)]
 pub extern "C" fn age_c_finish(stream: &mut Stream, out: &mut [u8], written: &mut usize) -> u32
-    ensures { Answers (IsStreamCall stream.old out.old) (Finishes stream.old)
+    ensures { Answers (IsStreamCall stream.old out.old) (FinishesStream stream.old)
         stream.old stream.new result written.new out.old out.new }
 {
     *written = 0;

@@ -2,7 +2,7 @@
 
 ghost use Rattle.std.specs.Prelude.{◌≡◌, ◌≢◌, Some, true, false};
 ghost use Rattle.age_stream.specs.Opener.{has_failed};
-ghost use Rattle.age_c.specs.Calls.{answer_of, failed_at, status_of};
+ghost use Rattle.age_c.specs.Calls.{answer_of, failed_at, reader_status};
 
 use age_chunk::{StreamFault, StreamKind};
 use age_stream::Status;
@@ -16,7 +16,7 @@ fn failed_at(kind: StreamKind, chunk: u64) -> Option<Status>
 
 /// The status of these numbers; `None` where they are those of no status.
 pub(crate) fn status_of(state: u32, fault_chunk: u64) -> Option<Status>
-    ensures { result ≡ status_of state fault_chunk }
+    ensures { result ≡ reader_status state fault_chunk }
 {
     match state {
         1 => Some(Status::Open),
@@ -34,7 +34,7 @@ pub(crate) fn status_of(state: u32, fault_chunk: u64) -> Option<Status>
 
 /// The numbers of a status.
 pub(crate) fn numbers_of(status: Status) -> (u32, u64)
-    ensures status { status_of result.0 result.1 ≡ Some status }
+    ensures status { reader_status result.0 result.1 ≡ Some status }
     ensures unfailed { has_failed status ≡ false → answer_of result.0 ≡ 0 }
     ensures failed { has_failed status ≡ true → answer_of result.0 ≢ 0 }
     ensures done { status ≡ Status.Done → result.0 ≡ 3 }

@@ -3,11 +3,11 @@
 ghost use Rattle.std.specs.Prelude.{◌≡◌, ◌≢◌, length};
 ghost use Rattle.age_keys.specs.Scrypt.{IsAllowed, IsPassphraseKey, PassphraseRefuses};
 ghost use Rattle.age_keys.specs.X25519.{IsSharedKey, SharedRefuses};
-ghost use Rattle.age_c.specs.Readers.{IsStarted, IsRefusal};
+ghost use Rattle.age_c.specs.Readers.{IsStarted, IsStartRefusal};
 
 use crate::MISUSED;
 use crate::reader::Reader;
-use crate::start::{settle, start};
+use crate::start::{keep_started, start};
 use age_keys::{KnownKey, Passphrase, SharedSecret, Steps};
 use std::alloc::Global;
 
@@ -31,7 +31,7 @@ pub extern "C" fn age_c_open_passphrase(
 ) -> u32
     ensures started { result ≡ 0 → IsStarted
         (IsPassphraseKey (record { pass = pass.now; max_log = max_work })) front.now reader.new }
-    ensures refused { result ≢ 0 → result ≢ 255 → IsRefusal
+    ensures refused { result ≢ 0 → result ≢ 255 → IsStartRefusal
         (IsPassphraseKey (record { pass = pass.now; max_log = max_work }))
         (PassphraseRefuses (record { pass = pass.now; max_log = max_work })) front.now result }
     ensures same { result ≢ 0 → reader.new ≡ reader.old }
@@ -41,7 +41,7 @@ pub extern "C" fn age_c_open_passphrase(
     let Some(unlock) = Passphrase::new(pass, max_work) else {
         return MISUSED;
     };
-    settle(start(alloc, &unlock, front, &mut Steps::new()), reader)
+    keep_started(start(alloc, &unlock, front, &mut Steps::new()), reader)
 }
 
 /// Opens the header that `front` begins with by the file's own key, 16 bytes.
@@ -55,7 +55,7 @@ pub extern "C" fn age_c_open_key(
     ensures started { result ≡ 0
         → IsStarted (λ _ key. key ≡ file_key.now) front.now reader.new }
     ensures refused { result ≢ 0 → result ≢ 255
-        → IsRefusal (λ _ key. key ≡ file_key.now) (λ _ _. ⊥) front.now result }
+        → IsStartRefusal (λ _ key. key ≡ file_key.now) (λ _ _. ⊥) front.now result }
     ensures same { result ≢ 0 → reader.new ≡ reader.old }
     ensures fits { length file_key.now ≡ 16 → result ≢ 255 }
     ensures meant { result ≢ 255 → length file_key.now ≡ 16 }
@@ -64,7 +64,7 @@ pub extern "C" fn age_c_open_key(
         return MISUSED;
     };
     let unlock = KnownKey::new(*key);
-    settle(start(alloc, &unlock, front, &mut Steps::new()), reader)
+    keep_started(start(alloc, &unlock, front, &mut Steps::new()), reader)
 }
 
 /// Opens the header that `front` begins with by an X25519 shared secret and the recipient that it
@@ -80,7 +80,7 @@ pub extern "C" fn age_c_open_shared(
     ensures started { result ≡ 0 → IsStarted
         (IsSharedKey (record { secret = secret.now; recipient = recipient.now })) front.now
         reader.new }
-    ensures refused { result ≢ 0 → result ≢ 255 → IsRefusal
+    ensures refused { result ≢ 0 → result ≢ 255 → IsStartRefusal
         (IsSharedKey (record { secret = secret.now; recipient = recipient.now }))
         (SharedRefuses (record { secret = secret.now; recipient = recipient.now })) front.now
         result }
@@ -95,5 +95,5 @@ pub extern "C" fn age_c_open_shared(
         return MISUSED;
     };
     let unlock = SharedSecret::new(secret, recipient);
-    settle(start(alloc, &unlock, front, &mut Steps::new()), reader)
+    keep_started(start(alloc, &unlock, front, &mut Steps::new()), reader)
 }

@@ -1,7 +1,7 @@
 //! The functions by which C reads a payload.
 
 ghost use Rattle.age_c.specs.Calls.{Answers};
-ghost use Rattle.age_c.specs.Readers.{IsBlockCall, IsEndCall, Takes, TakesEnd, after_block};
+ghost use Rattle.age_c.specs.Readers.{IsBlockCall, IsEndCall, TakesBlock, TakesEnd, after_block};
 
 use crate::MISUSED;
 use crate::blocks::{open_block, open_last, status_at};
@@ -20,7 +20,7 @@ pub extern "C" fn age_c_block(
     written: &mut usize,
 ) -> u32
     ensures { Answers (IsBlockCall reader.old block.now out.old)
-        (Takes (after_block block.now) reader.old)
+        (TakesBlock (after_block block.now) reader.old)
         reader.old reader.new result written.new out.old out.new }
 {
     *written = 0;

@@ -4,7 +4,7 @@ ghost use Rattle.std.specs.Prelude.{◌≡◌, ◌+◌, ◌↔◌, IsTrue};
 ghost use Rattle.age_chunk.specs.Payload.{chunk_limit};
 ghost use Rattle.age_c.specs.Calls.{Answers};
 ghost use Rattle.age_c.specs.Writers.{CanSeal, IsStartCall, IsChunkCall, IsLastCall};
-ghost use Rattle.age_c.specs.Writers.{WritesOrRefuses, BeginsFile, SealsChunk, SealsLast};
+ghost use Rattle.age_c.specs.Writers.{WritesOrRefuses, BeginsFileFrom, SealsChunk, SealsLast};
 
 use crate::MISUSED;
 use crate::blocks::put;
@@ -41,7 +41,7 @@ pub extern "C" fn age_c_seal_passphrase(
     writer: &mut Writer,
 ) -> u32
     ensures { Answers (IsStartCall pass.now work random.now out.old)
-        (WritesOrRefuses (BeginsFile pass.now work random.now) (λ answer. answer ≡ 28) writer.old)
+        (WritesOrRefuses (BeginsFileFrom pass.now work random.now) (λ answer. answer ≡ 28) writer.old)
         writer.old writer.new result written.new out.old out.new }
 {
     *written = 0;

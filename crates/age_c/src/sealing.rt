@@ -4,9 +4,9 @@ ghost use Rattle.std.specs.Prelude.{◌≡◌, ◌+◌, ◌<◌, ◌≤◌, [], 
 ghost use Rattle.age_cipher.specs.Aead.{sealing as sealing_with};
 ghost use Rattle.age_chunk.specs.Payload.{chunk_limit, nonce_bytes, chunk_length};
 ghost use Rattle.age_keys.specs.Scrypt.{IsAllowed};
-ghost use Rattle.age_c.specs.Readers.{number_of};
+ghost use Rattle.age_c.specs.Readers.{start_fault_number};
 ghost use Rattle.age_c.specs.Calls.{PutsFront};
-ghost use Rattle.age_c.specs.Writers.{IsChunkCall, IsFront, IsLastCall, SealsChunk, SealsLast};
+ghost use Rattle.age_c.specs.Writers.{IsChunkCall, IsFileFront, IsLastCall, SealsChunk, SealsLast};
 ghost use Rattle.age_c.specs.Writers.{key_in, nonce_in, salt_in};
 ghost use Rattle.age_c.specs.inner.Keys.{key_of_writer};
 ghost use Rattle.age_chunk.specs.ChunkBoxes.{tag_length};
@@ -63,10 +63,10 @@ impl Random {
     /// memory is refused.
     pub(crate) fn front(&self, alloc: Global, pass: &[u8], work: u32) -> Result<Vec<u8>, StartFault>
         requires { IsAllowed pass.now work }
-        ensures front { IfOk result (λ front. IsFront pass.now work self.now.file_key
+        ensures front { IfOk result (λ front. IsFileFront pass.now work self.now.file_key
             self.now.salt self.now.nonce front.items) }
         ensures size { IfOk result (λ front. length front.items ≤ 256) }
-        ensures memory { IfErr result (λ fault. number_of fault ≡ 28) }
+        ensures memory { IfErr result (λ fault. start_fault_number fault ≡ 28) }
     {
         let key = FileKey::new(self.file_key);
         let header = match scrypt_header(alloc, pass, work, &self.salt, &key) {

@@ -3,7 +3,7 @@
 ghost use Rattle.std.specs.Prelude.{◌≡◌, ◌≢◌, ◌+◌, ◌≤◌, length, take, drop, IfOk, IfErr};
 ghost use Rattle.age_stream.specs.Segment.{fresh};
 ghost use Rattle.age_c.specs.Readers.{IsAt, HasFront, HeadRefuses, IsStarted, StartRefuses};
-ghost use Rattle.age_c.specs.Readers.{number_of};
+ghost use Rattle.age_c.specs.Readers.{start_fault_number};
 ghost use Rattle.age_c.specs.inner.Counts.{StartCounts};
 
 use crate::MORE;
@@ -26,7 +26,7 @@ pub(crate) enum StartFault {
 impl StartFault {
     /// The number that is answered: [`MORE`](crate::MORE), or the fault's own.
     pub(crate) fn number(&self) -> u32
-        ensures number { result ≡ number_of self.now }
+        ensures number { result ≡ start_fault_number self.now }
         ensures some { result ≢ 0 }
         ensures meant { result ≢ 255 }
     {
@@ -108,10 +108,10 @@ pub(crate) fn start<U: Unlock>(
 }
 
 /// Keeps a reader that was begun, and answers 0; else the fault's number.
-pub(crate) fn settle(started: Result<Reader, StartFault>, reader: &mut Reader) -> u32
+pub(crate) fn keep_started(started: Result<Reader, StartFault>, reader: &mut Reader) -> u32
     ensures kept { IfOk started (λ it. (result ≡ 0) × (reader.new ≡ it)) }
     ensures refused { IfErr started
-        (λ fault. (result ≡ number_of fault) × (reader.new ≡ reader.old)) }
+        (λ fault. (result ≡ start_fault_number fault) × (reader.new ≡ reader.old)) }
     ensures some { IfErr started (λ _. result ≢ 0) }
     ensures meant { result ≢ 255 }
 {

@@ -8,7 +8,7 @@ use Rattle.std.proofs.lemmas.List.{length-append, length-replicate, take_at}
 use Rattle.std.proofs.lemmas.List.Folds.{list_all-append}
 use Rattle.std.proofs.lemmas.Bool.{le-leb, leb-true, and_parts}
 use Rattle.std.proofs.lemmas.Option.{cond_some}
-use Rattle.age_chunk.specs.ChunkBoxes.{Seals, Opens, IsChunkBox, tag_length, text_length}
+use Rattle.age_chunk.specs.ChunkBoxes.{Seals, OpensBlock, IsChunkBox, tag_length, text_length}
 use Rattle.age_chunk.specs.Payload.{chunk_length, block_length}
 use Rattle.age_chunk.specs.inner.Beyond.{are_bytes, is_text, is_block, IsChunkBoxOnBytes, no_tag}
 use Rattle.age_chunk.specs.inner.Beyond.{sealing_beyond, opening_beyond}
@@ -37,7 +37,7 @@ marked nonce block =
     let front = take (text_length (length block)) block in
     if not (is_text nonce front) && bytes_eq (front ++ no_tag) block then Some front else None
 
-module _ (sealing : Seals) (opening : Opens) (valid : IsChunkBoxOnBytes sealing opening) where
+module _ (sealing : Seals) (opening : OpensBlock) (valid : IsChunkBoxOnBytes sealing opening) where
   seals : (nonce text : List ℕ) (b : Bool) → is_text nonce text ≡ b
       → sealing_beyond sealing nonce text ≡ cond b (sealing nonce text) (text ++ no_tag)
   seals nonce text b e = ap (λ (x : Bool). cond x (sealing nonce text) (text ++ no_tag)) e

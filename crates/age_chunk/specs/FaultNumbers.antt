@@ -5,10 +5,10 @@ use Rattle.age_chunk.specs.declared.fault.StreamKind.TheVariants.{ChunkDamaged, 
 use Rattle.age_chunk.specs.declared.fault.StreamKind.TheVariants.{EmptyLast, Truncated, Trailing}
 use Rattle.age_chunk.specs.declared.fault.StreamKind.TheVariants.{TooManyChunks}
 
-abbrev pub number_of : StreamKind → ℕ
-number_of ChunkDamaged = 17
-number_of ChunkCut = 18
-number_of EmptyLast = 19
-number_of Truncated = 20
-number_of Trailing = 21
-number_of TooManyChunks = 22
+abbrev pub stream_fault_number : StreamKind → ℕ
+stream_fault_number ChunkDamaged = 17
+stream_fault_number ChunkCut = 18
+stream_fault_number EmptyLast = 19
+stream_fault_number Truncated = 20
+stream_fault_number Trailing = 21
+stream_fault_number TooManyChunks = 22

@@ -1,7 +1,7 @@
 //! The refusals of a stream.
 
 ghost use Rattle.std.specs.Prelude.{◌≡◌, Some, None};
-ghost use Rattle.age_chunk.specs.FaultNumbers.{number_of};
+ghost use Rattle.age_chunk.specs.FaultNumbers.{stream_fault_number};
 
 use thiserror::Error;
 
@@ -33,7 +33,7 @@ impl StreamKind {
     /// The kind's number in the list of all faults: 17 to 22 in the order of
     /// the variants.
     pub fn number(&self) -> u8
-        ensures { result ≡ number_of self.now }
+        ensures { result ≡ stream_fault_number self.now }
     {
         match self {
             StreamKind::ChunkDamaged => 17,
@@ -60,7 +60,7 @@ impl StreamFault {
     /// The fault's number: 17 to 22 in the order of the variants of
     /// [`StreamKind`].
     pub fn number(&self) -> u8
-        ensures { result ≡ number_of self.now.kind }
+        ensures { result ≡ stream_fault_number self.now.kind }
     {
         self.kind.number()
     }

@@ -6,7 +6,7 @@ use Rattle.std.specs.Prelude.{IsErr, IsErrAnd}
 use Rattle.age_io.specs.Io.{Adds, Ends, IsOver, Shown as ShownOne}
 use Rattle.age_file.specs.Runs.{Ports}
 use Rattle.age_fileset.specs.FileSet.{Event, FilesView}
-use Rattle.age_cli_args.specs.Requests.{text_of}
+use Rattle.age_cli_args.specs.Requests.{option_text}
 use Rattle.age_cli_args.specs.declared.request.ProgressOption.TheVariants.{Shown, Silent}
 use Rattle.age_cli_args.specs.declared.request.Request.{Request}
 use Rattle.age_cli_args.specs.declared.request.Request.TheVariants.{Inspect, Decrypt, Resume}
@@ -15,8 +15,8 @@ use Rattle.age_cli_common.specs.Orders.{Follows, replacing, NamesTwice, order_as
 use Rattle.age_cli_common.specs.Files.{Files}
 use Rattle.age_cli_common.specs.Endings.{HasReason, is_usage}
 use Rattle.age_cli_common.specs.declared.ending.Ending.{Ending}
-use Rattle.age_cli.specs.Acts.{Acts, EndsBefore, GivesNone, HasEnded, OfEngine, OfSomeEngine}
-use Rattle.age_cli.specs.Acts.{Spares, progress_of, IsUsage, Stops, Writes}
+use Rattle.age_cli.specs.Acts.{Acts, EndsBefore, GivesNone, HasEngineEnded, OfEngine, OfSomeEngine}
+use Rattle.age_cli.specs.Acts.{Spares, progress_of, IsUsage, LeavesOut, WritesOut}
 use Rattle.age_cli.proofs.CommandSteps.{not_well, this_error, just_error}
 use Rattle.age_cli_common.proofs.EventSteps.{longer}
 use Rattle.std.proofs.lemmas.Result.{IfErr-weaker}
@@ -32,8 +32,8 @@ spares_kept (Drill d) old new kept = λ q to save. ap (λ (f : Files). f q) kept
 -- what begins the order of a success begins the whole order
 pub whole_of : (asked : Request) (old new : List Event) → Follows (order_asked asked).done old new → Follows (order_asked asked).whole old new
 whole_of (Encrypt e) old new f = longer _ (replacing None e.durability) old new f
-whole_of (Decrypt d) old new f = longer _ (replacing (text_of d.save) d.durability) old new f
-whole_of (Resume r) old new f = longer _ (replacing (text_of r.decrypting.save) r.decrypting.durability) old new f
+whole_of (Decrypt d) old new f = longer _ (replacing (option_text d.save) d.durability) old new f
+whole_of (Resume r) old new f = longer _ (replacing (option_text r.decrypting.save) r.decrypting.durability) old new f
 whole_of (Inspect file) old new f = f
 whole_of (Drill d) old new f = f
 
@@ -66,8 +66,8 @@ module _ (IsPorts : Ports → Type 0) (shows : Bool) (asked : Request) (before a
   }
 
   -- a command ended once its engine had run
-  pub acts_concluded : OnOk r (shows ≡ true → OfEngine IsPorts asked before.entries (λ engine paths. Writes IsPorts engine paths before.entries after.entries))
-      → OnOk r (OfSomeEngine IsPorts asked (HasEnded IsPorts)) → (shows ≡ true → IfErr r (λ e. OfEngine IsPorts asked before.entries (λ engine paths. Stops IsPorts engine paths before.entries after.entries e)))
+  pub acts_concluded : OnOk r (shows ≡ true → OfEngine IsPorts asked before.entries (λ engine paths. WritesOut IsPorts engine paths before.entries after.entries))
+      → OnOk r (OfSomeEngine IsPorts asked (HasEngineEnded IsPorts)) → (shows ≡ true → IfErr r (λ e. OfEngine IsPorts asked before.entries (λ engine paths. LeavesOut IsPorts engine paths before.entries after.entries e)))
       → IfErr r (λ e. is_usage e ≡ false) → (shows ≡ true → Spares asked before.entries after.entries)
       → Follows (order_asked asked).whole before.events after.events → OnOk r (after.events ≡ before.events ++ (order_asked asked).done)
       → (NamesTwice (order_asked asked).apart → ⊥) → (progress_of asked ≡ Silent → Unshown) × (Unshown ⊎ Over) → Acted

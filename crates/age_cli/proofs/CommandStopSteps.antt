@@ -16,7 +16,7 @@ use Rattle.age_io.specs.Io.{SinkView}
 use Rattle.std.proofs.KnownBytes.{Appends-nil}
 use Rattle.age_file.specs.Resumes.{BeginsWith, ResumePorts, WritesOld, IsFrom, ResumeStops}
 use Rattle.age_file.specs.declared.position.Position.{Position}
-use Rattle.age_file.specs.declared.position.Positions.{Positions}
+use Rattle.age_file.specs.declared.position.PositionPolicy.{PositionPolicy}
 use Rattle.age_fault.specs.declared.fault.FileFault.{FileFault}
 use Rattle.age_fault.specs.declared.fault.FileFault.TheVariants as fault
 use Rattle.age_cli_common.specs.Files.{Files}
@@ -62,7 +62,7 @@ the_run None h = absurd h
 the_run (Some r) h = (r, h)
 
 -- what a decryption wrote before it stopped; it begins the text of which each run is authentic
-module _ (keep : Positions) (A : Header → List ℕ → Type 0) (R : Header → KeyFault → Type 0) (old new : Ports) (stopped : Stopped) where
+module _ (keep : PositionPolicy) (A : Header → List ℕ → Type 0) (R : Header → KeyFault → Type 0) (old new : Ports) (stopped : Stopped) where
   abbrev pub Begins : List ℕ → Type 0
   Begins out = (text : List ℕ) → ((r : Run) → IsFromStart r → IsRun A old new stopped.written r → IsAuthenticRun r text) → IsPrefixOf out text
 
@@ -75,7 +75,7 @@ module _ (keep : Positions) (A : Header → List ℕ → Type 0) (R : Header →
 
 -- what a resumed decryption wrote before it stopped; it begins the text of whose first chunks the old text is, and of which
 -- each run is authentic
-module _ (keep : Positions) (A : Header → List ℕ → Type 0) (p : Position) (R : Header → KeyFault → Type 0) (old new : ResumePorts) (stopped : Stopped) where
+module _ (keep : PositionPolicy) (A : Header → List ℕ → Type 0) (p : Position) (R : Header → KeyFault → Type 0) (old new : ResumePorts) (stopped : Stopped) where
   abbrev pub RewriteBegins : List ℕ → Type 0
   RewriteBegins out = (text : List ℕ) → BeginsWith p old.old.remaining text
       → ((r : Run) → IsFrom p old.old new.old r → IsRun A old.main new.main stopped.written r → IsAuthenticRun r text) → IsPrefixOf out text

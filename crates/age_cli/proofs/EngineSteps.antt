@@ -14,7 +14,7 @@ use Rattle.age_file.specs.declared.encryption.Written.{Written}
 use Rattle.age_file.specs.declared.decryption.Done.{Done}
 use Rattle.age_file.specs.declared.decryption.Stopped.{Stopped}
 use Rattle.age_file.specs.declared.position.Position.{Position}
-use Rattle.age_file.specs.declared.position.Positions.{Positions}
+use Rattle.age_file.specs.declared.position.PositionPolicy.{PositionPolicy}
 use Rattle.age_fault.specs.declared.fault.FileFault.{FileFault}
 use Rattle.age_fault.specs.declared.fault.FileFault.TheVariants as fault
 use Rattle.age_fileset.specs.FileSet.{FilesView}
@@ -22,16 +22,17 @@ use Rattle.age_cli_common.specs.Files.{Files, SparesBoth}
 use Rattle.age_cli_common.specs.declared.ending.Ending.{Ending}
 use Rattle.age_cli_common.specs.declared.identity.Identity.{Identity}
 use Rattle.age_cli_common.specs.Identities.{allows_by, refuses_by}
-use Rattle.age_cli.specs.Acts.{Engine, Ran, sealing, opening, resuming, Paths, Writes, Stops}
+use Rattle.age_cli.specs.Acts.{Engine, Ran, encrypt_engine, decrypt_engine, resume_engine, Paths}
+use Rattle.age_cli.specs.Acts.{WritesOut, LeavesOut}
 use Rattle.age_cli.specs.Acts.{IsLeft, IsUnclosed, EndsOf}
-use Rattle.age_cli.specs.declared.stop.Stop.{Stop}
+use Rattle.age_cli.specs.declared.interruption.Interruption.{Interruption}
 use Rattle.age_cli.specs.inner.Endings.{is_memory, sealing_end, opening_end, IsFaithful, Left}
 use Rattle.age_cli.specs.inner.Endings.{Concludes}
 use Rattle.age_cli.proofs.CommandStopSteps.{stop_wrote, resume_wrote, sealed_nothing, the_run}
 use Rattle.age_cli.proofs.CommandStopSteps.{holds_nothing, holds_something}
 
 -- an engine's promise, of how it ended
-pub record Kept (engine : Engine) (before after : Ports) (end : Result (Unit {0}) Stop) : Type 0 where
+pub record Kept (engine : Engine) (before after : Ports) (end : Result (Unit {0}) Interruption) : Type 0 where
   pub ends : OnOk end (engine.ends before after)
   pub stops : IfErr end (λ s. engine.stops s.position s.fault before after)
   pub touches : IfErr end (λ s. s.is_untouched ≡ false → engine.touches s.fault after.sink.taken)
@@ -43,13 +44,13 @@ pub left_as : (untouched : Bool) (taken old new : Option (List ℕ)) → (untouc
 left_as true taken old new kept left = inl (kept refl)
 left_as false taken old new kept left = ⊎_elim (λ same. inl same) (λ put. inr (put, refl)) (left refl)
 
-pub ends_so : {P : Type 0} (end : Result (Unit {0}) Stop) → OnOk end P → IsOk end → P
+pub ends_so : {P : Type 0} (end : Result (Unit {0}) Interruption) → OnOk end P → IsOk end → P
 ends_so (Ok done) ends ok = ends
 ends_so (Err stop) ends ok = absurd (true≢false (sym ok))
 
 -- the end of a command, whose source and sink were these once IN and OUT were open, and are these after the engine ran
 module _ (IsPorts : Ports → Type 0) (engine : Engine) (shows : Bool) (p : Paths) (durability : Durability) (old opened new : FilesView) (before after : Ports)
-    (before_is : IsPorts before) (after_is : IsPorts after) (end : Result (Unit {0}) Stop) (r : Result (Unit {0}) Ending)
+    (before_is : IsPorts before) (after_is : IsPorts after) (end : Result (Unit {0}) Interruption) (r : Result (Unit {0}) Ending)
     (kept : opened.entries ≡ old.entries)
     (found : shows ≡ true → (is_some (old.entries p.from) ≡ true) × (before.source.remaining ≡ old.entries p.from) × (before.sink.taken ≡ Some [])
     × (before.sink.label ≡ p.to))
@@ -73,12 +74,12 @@ module _ (IsPorts : Ports → Type 0) (engine : Engine) (shows : Bool) (p : Path
     }
 
     -- how OUT is left, by how the engine ended
-    left_out : (e : Result (Unit {0}) Stop) → Kept engine before after e → (out_old out_new : Option (List ℕ)) (s : Stop)
+    left_out : (e : Result (Unit {0}) Interruption) → Kept engine before after e → (out_old out_new : Option (List ℕ)) (s : Interruption)
         → Left e after.sink.taken out_old out_new s
         → IsLeft IsPorts engine s.position s.fault (old.entries p.from) out_old out_new
         ⊎ IsUnclosed IsPorts engine s.position s.fault (old.entries p.from) out_old out_new
     left_out (Err cause) k out_old out_new s (is, left) =
-        subst (λ (t : Stop). IsLeft IsPorts engine t.position t.fault (old.entries p.from) out_old out_new
+        subst (λ (t : Interruption). IsLeft IsPorts engine t.position t.fault (old.entries p.from) out_old out_new
         ⊎ IsUnclosed IsPorts engine t.position t.fault (old.entries p.from) out_old out_new) (sym is)
         (inl (
           after.sink.taken,
@@ -89,11 +90,11 @@ module _ (IsPorts : Ports → Type 0) (engine : Engine) (shows : Bool) (p : Path
       after.sink.taken,
       ran engine.ends k.ends after.sink.taken refl,
       left,
-      ap (λ (t : Stop). t.position) is,
-      ap (λ (t : Stop). t.fault) is,
+      ap (λ (t : Interruption). t.position) is,
+      ap (λ (t : Interruption). t.fault) is,
     )
 
-  pub wrote_out : OnOk r (shows ≡ true → Writes IsPorts engine p old.entries new.entries)
+  pub wrote_out : OnOk r (shows ≡ true → WritesOut IsPorts engine p old.entries new.entries)
   wrote_out = on_ok_weaker r (λ done shown.
       let put = done.1 shown in
       record {
@@ -103,7 +104,7 @@ module _ (IsPorts : Ports → Type 0) (engine : Engine) (shows : Bool) (p : Path
         others = λ q other. put.1 q (λ e. other (e ∙ label shown)) ∙ ap (λ (f : Files). f q) kept;
       }) concludes.done
 
-  pub stopped_out : (p.save ≡ Some p.to → ⊥) → shows ≡ true → IfErr r (λ e. Stops IsPorts engine p old.entries new.entries e)
+  pub stopped_out : (p.save ≡ Some p.to → ⊥) → shows ≡ true → IfErr r (λ e. LeavesOut IsPorts engine p old.entries new.entries e)
   stopped_out apart shown = IfErr-weaker r _ _ (λ e stops.
       let k = promise shown (found shown).2 in
       let s = stops shown (λ same. apart (same ∙ ap Some (label shown))) k.faithful in
@@ -125,9 +126,9 @@ module _ (IsPorts : Ports → Type 0) (engine : Engine) (shows : Bool) (p : Path
 zero_of : (n : ℕ) → (n == 0) ≡ true → n ≡ 0
 zero_of n test = search rules
 
-pub kept_opening : (keep : Positions) (i : Identity) (before after : Ports) (run : Option Run) (r : Result Done Stopped)
+pub kept_opening : (keep : PositionPolicy) (i : Identity) (before after : Ports) (run : Option Run) (r : Result Done Stopped)
     → IfOk r (λ done. IsSomeAnd run (DecryptEnds (allows_by i) before after done)) → IfErr r (DecryptStops keep (allows_by i) (refuses_by i) before after run)
-    → before.sink.taken ≡ Some [] → Kept (opening keep i) before after (opening_end r)
+    → before.sink.taken ≡ Some [] → Kept (decrypt_engine keep i) before after (opening_end r)
 kept_opening keep i before after run (Ok done) ends stops empty =
     let of = the_run run ends in
     record { ends = (done, of.0, of.1); stops = tt; touches = tt; faithful = tt }
@@ -140,12 +141,12 @@ kept_opening keep i before after run (Err s) ends stops empty =
       faithful = λ none. holds_nothing before.sink.taken after.sink.taken s.written w.0 empty w.1 (zero_of s.written none);
     }
 
-pub kept_resuming : (IsPorts : Ports → Type 0) (keep : Positions) (i : Identity) (from : Position) (old_text : Option (List ℕ)) (before after : Ports)
+pub kept_resuming : (IsPorts : Ports → Type 0) (keep : PositionPolicy) (i : Identity) (from : Position) (old_text : Option (List ℕ)) (before after : Ports)
     (first last : SourceView) (run : Option Run) (r : Result Done Stopped) → IsPorts (ports first before.sink) → IsPorts (ports last after.sink)
     → old_text ≡ first.remaining
     → IfOk r (λ done. IsSomeAnd run (ResumeEnds (allows_by i) from (resume_ports before first) (resume_ports after last) done))
     → IfErr r (ResumeStops (allows_by i) from (resume_ports before first) (resume_ports after last) keep (refuses_by i) run) → before.sink.taken ≡ Some []
-    → Kept (resuming IsPorts keep i from old_text) before after (opening_end r)
+    → Kept (resume_engine IsPorts keep i from old_text) before after (opening_end r)
 kept_resuming IsPorts keep i from old_text before after first last run (Ok done) first_is last_is coming ends stops empty =
     let of = the_run run ends in
     record { ends = (first, last, first_is, last_is, coming, (done, of.0, of.1)); stops = tt; touches = tt; faithful = tt }
@@ -174,7 +175,7 @@ memory_of fault.PositionForged is = absurd (true≢false (sym is))
 memory_of fault.OldTextDiffers is = absurd (true≢false (sym is))
 
 pub kept_sealing : (secret : SecretView) (before after : Ports) (r : Result Written FileFault) → IfOk r (Encrypts secret before after)
-    → IfErr r (EncryptFails secret before after) → before.sink.taken ≡ Some [] → Kept (sealing secret) before after (sealing_end r)
+    → IfErr r (EncryptFails secret before after) → before.sink.taken ≡ Some [] → Kept (encrypt_engine secret) before after (sealing_end r)
 kept_sealing secret before after (Ok written) ends fails empty = record { ends = (written, ends); stops = tt; touches = tt; faithful = tt }
 kept_sealing secret before after (Err f) ends fails empty = record {
   ends = tt;

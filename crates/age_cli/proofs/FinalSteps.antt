@@ -13,10 +13,10 @@ use Rattle.age_file.specs.declared.encryption.Written.{Written}
 use Rattle.age_file.specs.declared.decryption.Done.{Done}
 use Rattle.age_file.specs.declared.decryption.Stopped.{Stopped}
 use Rattle.age_file.specs.declared.position.Position.{Position}
-use Rattle.age_file.specs.declared.position.Positions.{Positions}
+use Rattle.age_file.specs.declared.position.PositionPolicy.{PositionPolicy}
 use Rattle.age_fault.specs.declared.fault.FileFault.{FileFault}
 use Rattle.age_fileset.specs.FileSet.{Event, Opened, Created, FilesView}
-use Rattle.age_cli_args.specs.Requests.{text_of}
+use Rattle.age_cli_args.specs.Requests.{option_text}
 use Rattle.age_cli_args.specs.declared.request.ProgressOption.TheVariants.{Silent}
 use Rattle.age_cli_args.specs.declared.request.Encrypting.{Encrypting}
 use Rattle.age_cli_args.specs.declared.request.Decrypting.{Decrypting}
@@ -29,11 +29,12 @@ use Rattle.age_cli_common.specs.Files.{Files, SparesBoth}
 use Rattle.age_cli_common.specs.Identities.{OpensBy, allows_by, refuses_by}
 use Rattle.age_cli_common.specs.declared.ending.Ending.{Ending}
 use Rattle.age_cli_common.specs.declared.identity.Identity.{Identity}
-use Rattle.age_cli.specs.Acts.{Acts, HasEnded, OfEngine, OfSomeEngine, Spares, paths_of}
-use Rattle.age_cli.specs.Acts.{progress_of, Engine, sealing, opening, resuming, Paths, Stops}
-use Rattle.age_cli.specs.Acts.{Writes, kept_for}
+use Rattle.age_cli.specs.Acts.{Acts, HasEngineEnded, OfEngine, OfSomeEngine, Spares, paths_of}
+use Rattle.age_cli.specs.Acts.{progress_of, Engine, encrypt_engine, decrypt_engine, resume_engine}
+use Rattle.age_cli.specs.Acts.{Paths, LeavesOut}
+use Rattle.age_cli.specs.Acts.{WritesOut, kept_for}
 use Rattle.age_cli.specs.Commands.{MakesSecret, IsPositionIn, old_for}
-use Rattle.age_cli.specs.declared.stop.Stop.{Stop}
+use Rattle.age_cli.specs.declared.interruption.Interruption.{Interruption}
 use Rattle.age_cli.specs.inner.Endings.{Concludes, sealing_end, opening_end}
 use Rattle.age_cli.specs.inner.Rereadings.{DecryptsOpened, HoldsInput}
 use Rattle.age_cli.proofs.ActSteps.{acts_concluded}
@@ -61,11 +62,11 @@ WasEarlier a from old first = IsPositionIn (old a.position.now) from × (is_some
     × (first.remaining ≡ old_for from (old a.old.now))
 
 module _ (IsPorts : Ports → Type 0) (shows : Bool) (asked : Request) (old opened new : FilesView) (Failed Unshown Over : Type 0) (engine : Engine) (p : Paths)
-    (durability : Durability) (before after : Ports) (end : Result (Unit {0}) Stop) (r : Result (Unit {0}) Ending) (xs ys : List Event) where
+    (durability : Durability) (before after : Ports) (end : Result (Unit {0}) Interruption) (r : Result (Unit {0}) Ending) (xs ys : List Event) where
   acts_of_engine : IsPorts before → IsPorts after → (order_asked asked).done ≡ xs ++ (ys ++ making (Some p.to) durability)
       → (order_asked asked).whole ≡ (xs ++ (ys ++ making (Some p.to) durability)) ++ replacing p.save durability
       → (shows ≡ true → (P : Engine → Paths → Type 0) → P engine p → OfEngine IsPorts asked old.entries P)
-      → OnOk end (OfSomeEngine IsPorts asked (HasEnded IsPorts))
+      → OnOk end (OfSomeEngine IsPorts asked (HasEngineEnded IsPorts))
       → (SparesBoth (Some p.to) p.save old.entries new.entries → Spares asked old.entries new.entries)
       → opened.entries ≡ old.entries → (shows ≡ true → Found p old.entries before) → after.sink.label ≡ before.sink.label
       → (shows ≡ true → before.sink.taken ≡ Some [] → Kept engine before after end) → Concludes shows p.save durability after.sink end opened new r
@@ -73,10 +74,10 @@ module _ (IsPorts : Ports → Type 0) (shows : Bool) (asked : Request) (old open
       → (progress_of asked ≡ Silent → Unshown) × (Unshown ⊎ Over) → Acts IsPorts shows asked old new Failed Unshown Over r
   acts_of_engine before_is after_is done_is whole_is of ran spares kept found named promise concludes noted apart unsaved silent =
       acts_concluded IsPorts shows asked old new Failed Unshown Over r
-      (on_ok_weaker r (λ wrote shown. of shown (λ e q. Writes IsPorts e q old.entries new.entries) (wrote shown))
+      (on_ok_weaker r (λ wrote shown. of shown (λ e q. WritesOut IsPorts e q old.entries new.entries) (wrote shown))
       (wrote_out IsPorts engine shows p durability old opened new before after before_is after_is end r kept found named promise concludes))
       (on_ok_weaker r (λ done. ends_so end ran done.0) concludes.done)
-      (λ shown. IfErr-weaker r _ _ (λ e stops. of shown (λ n q. Stops IsPorts n q old.entries new.entries e) stops)
+      (λ shown. IfErr-weaker r _ _ (λ e stops. of shown (λ n q. LeavesOut IsPorts n q old.entries new.entries e) stops)
       (stopped_out IsPorts engine shows p durability old opened new before after before_is after_is end r kept found named promise concludes unsaved shown))
       concludes.fault
       (λ shown. spares
@@ -88,53 +89,53 @@ module _ (IsPorts : Ports → Type 0) (shows : Bool) (asked : Request) (old open
       apart silent
 
 module _ (IsPorts : Ports → Type 0) (shows : Bool) (old opened new : FilesView) (Failed Unshown Over : Type 0) (before after : Ports) (before_is : IsPorts before)
-    (after_is : IsPorts after) (end : Result (Unit {0}) Stop) (r : Result (Unit {0}) Ending) (kept : opened.entries ≡ old.entries) where
+    (after_is : IsPorts after) (end : Result (Unit {0}) Interruption) (r : Result (Unit {0}) Ending) (kept : opened.entries ≡ old.entries) where
   pub encrypt_acts : (e : Encrypting) (secret : SecretView) (sealed : Result Written FileFault) → (shows ≡ true → MakesSecret e old.entries secret)
       → (shows ≡ true → Found (record { from = e.from.now; to = e.to.now; save = None }) old.entries before) → end ≡ sealing_end sealed
       → IfOk sealed (Encrypts secret before after) → IfErr sealed (EncryptFails secret before after) → after.sink.label ≡ before.sink.label
       → Concludes shows None e.durability after.sink end opened new r
       → opened.events ≡ old.events
-      ++ ((Opened e.pass.now ∷ Opened (random_name (text_of e.random)) ∷ []) ++ (Opened e.from.now ∷ Created e.to.now ∷ []))
+      ++ ((Opened e.pass.now ∷ Opened (random_name (option_text e.random)) ∷ []) ++ (Opened e.from.now ∷ Created e.to.now ∷ []))
       → (NamesTwice (order_asked (Encrypt e)).apart → ⊥) → (e.progress ≡ Silent → Unshown) × (Unshown ⊎ Over)
       → Acts IsPorts shows (Encrypt e) old new Failed Unshown Over r
   encrypt_acts e secret sealed made found is ends fails named concludes noted apart silent =
-      acts_of_engine IsPorts shows (Encrypt e) old opened new Failed Unshown Over (sealing secret) (record { from = e.from.now; to = e.to.now; save = None }) e.durability
-      before after end r (Opened e.pass.now ∷ Opened (random_name (text_of e.random)) ∷ []) (Opened e.from.now ∷ []) before_is after_is refl
+      acts_of_engine IsPorts shows (Encrypt e) old opened new Failed Unshown Over (encrypt_engine secret) (record { from = e.from.now; to = e.to.now; save = None }) e.durability
+      before after end r (Opened e.pass.now ∷ Opened (random_name (option_text e.random)) ∷ []) (Opened e.from.now ∷ []) before_is after_is refl
       refl
       (λ shown P holds. (secret, made shown, holds))
-      (subst (λ (n : Result (Unit {0}) Stop). OnOk n (OfSomeEngine IsPorts (Encrypt e) (HasEnded IsPorts))) (sym is)
+      (subst (λ (n : Result (Unit {0}) Interruption). OnOk n (OfSomeEngine IsPorts (Encrypt e) (HasEngineEnded IsPorts))) (sym is)
       (sealing_ran sealed (λ written sealed_so. (secret, (before, after, before_is, after_is, (written, sealed_so)))) ends)) (λ spared. spared) kept found named
-      (λ shown empty. subst (λ (n : Result (Unit {0}) Stop). Kept (sealing secret) before after n) (sym is) (kept_sealing secret before after sealed ends fails empty))
+      (λ shown empty. subst (λ (n : Result (Unit {0}) Interruption). Kept (encrypt_engine secret) before after n) (sym is) (kept_sealing secret before after sealed ends fails empty))
       concludes noted apart (λ same. cc) silent
 
-  pub resume_acts : (a : Resuming) (keep : Positions) (identity : Identity) (from : Position) (first last : SourceView) (resumed : Result Done Stopped)
+  pub resume_acts : (a : Resuming) (keep : PositionPolicy) (identity : Identity) (from : Position) (first last : SourceView) (resumed : Result Done Stopped)
       → ((files : Files) × OpensBy files a.decrypting.identity identity)
       → (shows ≡ true → OpensBy old.entries a.decrypting.identity identity)
       → (shows ≡ true → WasEarlier a from old.entries first)
       → IsPorts (ports first before.sink) → IsPorts (ports last after.sink)
       → (shows ≡ true → Found (paths_of a.decrypting) old.entries before)
-      → keep ≡ kept_for (text_of a.decrypting.save) → end ≡ opening_end resumed
+      → keep ≡ kept_for (option_text a.decrypting.save) → end ≡ opening_end resumed
       → ResumesText keep (allows_by identity) (refuses_by identity) from (resume_ports before first) (resume_ports after last) resumed
-      → Concludes shows (text_of a.decrypting.save) a.decrypting.durability after.sink end opened new r
-      → opened.events ≡ old.events ++ (identity_order (text_of a.decrypting.identity.pass) (text_of a.decrypting.identity.shared)
-      ++ ((Opened a.position.now ∷ Opened a.old.now ∷ Opened a.decrypting.from.now ∷ preparing (text_of a.decrypting.save)) ++ Created a.decrypting.to.now ∷ []))
+      → Concludes shows (option_text a.decrypting.save) a.decrypting.durability after.sink end opened new r
+      → opened.events ≡ old.events ++ (identity_order (option_text a.decrypting.identity.pass) (option_text a.decrypting.identity.shared)
+      ++ ((Opened a.position.now ∷ Opened a.old.now ∷ Opened a.decrypting.from.now ∷ preparing (option_text a.decrypting.save)) ++ Created a.decrypting.to.now ∷ []))
       → (NamesTwice (order_asked (Resume a)).apart → ⊥) → (a.decrypting.progress ≡ Silent → Unshown) × (Unshown ⊎ Over)
       → Acts IsPorts shows (Resume a) old new Failed Unshown Over r
   resume_acts a keep identity from first last resumed by opens earlier first_is last_is found keep_is is promise concludes noted apart silent =
       let d = a.decrypting in
-      let k = kept_for (text_of d.save) in
-      let engine = resuming IsPorts k identity from (old_for from (old.entries a.old.now)) in
-      let did = subst (λ (x : Positions). ResumesText x (allows_by identity) (refuses_by identity) from (resume_ports before first) (resume_ports after last)
+      let k = kept_for (option_text d.save) in
+      let engine = resume_engine IsPorts k identity from (old_for from (old.entries a.old.now)) in
+      let did = subst (λ (x : PositionPolicy). ResumesText x (allows_by identity) (refuses_by identity) from (resume_ports before first) (resume_ports after last)
       resumed) keep_is promise in
       acts_of_engine IsPorts shows (Resume a) old opened new Failed Unshown Over engine (paths_of d) d.durability before after end r
-      (identity_order (text_of d.identity.pass) (text_of d.identity.shared))
-      (Opened a.position.now ∷ Opened a.old.now ∷ Opened d.from.now ∷ preparing (text_of d.save)) before_is after_is refl refl
+      (identity_order (option_text d.identity.pass) (option_text d.identity.shared))
+      (Opened a.position.now ∷ Opened a.old.now ∷ Opened d.from.now ∷ preparing (option_text d.save)) before_is after_is refl refl
       (λ shown P holds. (identity, opens shown, from, (earlier shown).0, (earlier shown).1, holds))
-      (subst (λ (n : Result (Unit {0}) Stop). OnOk n (OfSomeEngine IsPorts (Resume a) (HasEnded IsPorts))) (sym is)
+      (subst (λ (n : Result (Unit {0}) Interruption). OnOk n (OfSomeEngine IsPorts (Resume a) (HasEngineEnded IsPorts))) (sym is)
       (opening_ran resumed (λ done so. let of = the_run did.run so in
       (identity, by, from, first.remaining, (before, after, before_is, after_is, (first, last, first_is, last_is, refl, (done, of.0, of.1)))))
       did.done)) (λ spared. spared) kept found did.named
-      (λ shown empty. subst (λ (n : Result (Unit {0}) Stop). Kept engine before after n) (sym is)
+      (λ shown empty. subst (λ (n : Result (Unit {0}) Interruption). Kept engine before after n) (sym is)
       (kept_resuming IsPorts k identity from (old_for from (old.entries a.old.now)) before after first last did.run resumed first_is last_is (sym (earlier shown).2)
       did.done did.stopped empty)) concludes noted apart
       (λ same. apart (inr (inl (inl (d.to.now, same, refl))))) silent
@@ -144,19 +145,19 @@ module _ (IsPorts : Ports → Type 0) (shows : Bool) (old opened new : FilesView
   pub decrypt_acts : (d : Decrypting) (identity : Identity) → ((files : Files) × OpensBy files d.identity identity)
       → (shows ≡ true → OpensBy old.entries d.identity identity) → (shows ≡ true → Found (paths_of d) old.entries before)
       → DecryptsOpened IsPorts shows d identity before opened new Unshown Over r
-      → opened.events ≡ old.events ++ (identity_order (text_of d.identity.pass) (text_of d.identity.shared)
-      ++ ((Opened d.from.now ∷ preparing (text_of d.save)) ++ Created d.to.now ∷ []))
+      → opened.events ≡ old.events ++ (identity_order (option_text d.identity.pass) (option_text d.identity.shared)
+      ++ ((Opened d.from.now ∷ preparing (option_text d.save)) ++ Created d.to.now ∷ []))
       → (NamesTwice (order_asked (Decrypt d)).apart → ⊥) → Acts IsPorts shows (Decrypt d) old new Failed Unshown Over r
   decrypt_acts d identity by opens found did noted apart =
-      let k = kept_for (text_of d.save) in
+      let k = kept_for (option_text d.save) in
       let holds : shows ≡ true → HoldsInput d before opened =
       λ shown. let f = found shown in record {
         there = subst (λ (files : Files). is_some (files d.from.now) ≡ true) (sym kept) f.0;
         gives = f.1 ∙ ap (λ (files : Files). files d.from.now) (sym kept);
         other = λ e. apart (inl (inr (inl (d.to.now, refl, ap Some (e ∙ f.3)))));
       } in
-      acts_of_engine IsPorts shows (Decrypt d) old opened new Failed Unshown Over (opening k identity) (paths_of d) d.durability before did.after
-      (opening_end did.decrypted) r (identity_order (text_of d.identity.pass) (text_of d.identity.shared)) (Opened d.from.now ∷ preparing (text_of d.save))
+      acts_of_engine IsPorts shows (Decrypt d) old opened new Failed Unshown Over (decrypt_engine k identity) (paths_of d) d.durability before did.after
+      (opening_end did.decrypted) r (identity_order (option_text d.identity.pass) (option_text d.identity.shared)) (Opened d.from.now ∷ preparing (option_text d.save))
       before_is did.after_is refl refl (λ shown P holds. (identity, opens shown, holds))
       (opening_ran did.decrypted (λ done so. let of = the_run did.run so in
       (identity, by, (before, did.after, before_is, did.after_is, (done, of.0, of.1)))) did.done) (λ spared. spared) kept found did.named

@@ -15,12 +15,12 @@ use Rattle.age_stream.specs.Headline.{IsPrefixOf}
 use Rattle.age_file.specs.Resumes.{BeginsWith, ResumePorts, resume_ports, IsFrom}
 use Rattle.age_file.specs.Runs.{Ports, Run, IsFromStart, held, IsRun, IsTexts, IsAuthenticRun}
 use Rattle.age_file.specs.declared.decryption.Stopped.{Stopped}
-use Rattle.age_file.specs.declared.position.Positions.{Positions}
+use Rattle.age_file.specs.declared.position.PositionPolicy.{PositionPolicy}
 use Rattle.age_file.specs.declared.position.Position.{Position}
 use Rattle.age_fileset.specs.FileSet.{FilesView}
 use Rattle.age_fault.specs.declared.fault.FileFault.{FileFault}
 use Rattle.age_cli_args.specs.Requests.{Asks, IsForHelp, refusals, IsIdentityOptions, IsDecrypting}
-use Rattle.age_cli_args.specs.Requests.{IsResuming, Requests, text_of}
+use Rattle.age_cli_args.specs.Requests.{IsResuming, Requests, option_text}
 use Rattle.age_cli_args.specs.declared.request.IdentityOptions.{IdentityOptions}
 use Rattle.age_cli_args.specs.declared.request.Decrypting.{Decrypting}
 use Rattle.age_cli_args.specs.declared.request.Resuming.{Resuming}
@@ -33,9 +33,10 @@ use Rattle.age_cli_common.specs.Files.{Files}
 use Rattle.age_cli_common.specs.declared.identity.Identity.{Identity}
 use Rattle.age_cli_common.specs.Identities.{IsIdentity, OpensBy, allows_by, refuses_by}
 use Rattle.age_cli_common.specs.declared.ending.Ending.{Ending}
-use Rattle.age_cli.specs.Acts.{Acts, EndsBefore, OfEngine, opening, resuming, Ran, IsLeft}
-use Rattle.age_cli.specs.Acts.{IsUnclosed, Stops, Writes, kept_for}
-use Rattle.age_cli.specs.Runs.{Around, Obeys, Prints}
+use Rattle.age_cli.specs.Acts.{Acts, EndsBefore, OfEngine, decrypt_engine, resume_engine, Ran}
+use Rattle.age_cli.specs.Acts.{IsLeft}
+use Rattle.age_cli.specs.Acts.{IsUnclosed, LeavesOut, WritesOut, kept_for}
+use Rattle.age_cli.specs.Runs.{World, Obeys, Prints}
 use Rattle.age_cli_common.specs.Endings.{HasReason}
 use Rattle.age_cli.specs.Commands.{IsPositionIn, old_for}
 use Rattle.age_cli.proofs.CommandStopSteps.{stop_wrote, resume_wrote}
@@ -74,8 +75,8 @@ abbrev HoldsNoMore : Option (List ℕ) → Option (List ℕ) → List ℕ → Ty
 HoldsNoMore old new text = (new ≡ old) ⊎ ((bytes : List ℕ) × (new ≡ Some bytes) × IsPrefixOf bytes text)
 
 -- OUT where it is whole
-whole_out : (IsPorts : Ports → Type 0) (keep : Positions) (identity : Identity) (input new : Option (List ℕ)) (text : List ℕ) → is_some input ≡ true
-    → ((r : Run) → IsFromStart r → IsRead identity input r → IsAuthenticRun r text) → Ran IsPorts (opening keep identity).ends input new → new ≡ Some text
+whole_out : (IsPorts : Ports → Type 0) (keep : PositionPolicy) (identity : Identity) (input new : Option (List ℕ)) (text : List ℕ) → is_some input ≡ true
+    → ((r : Run) → IsFromStart r → IsRead identity input r → IsAuthenticRun r text) → Ran IsPorts (decrypt_engine keep identity).ends input new → new ≡ Some text
 whole_out IsPorts keep identity input new text there auth o =
     let done = o.promise.0 in
     let r = o.promise.1 in
@@ -86,10 +87,10 @@ whole_out IsPorts keep identity input new text there auth o =
     o.took ∙ (appended o.before.sink.taken o.after.sink.taken (held r) o.empty is.wrote ∙ ap Some all)
 
 -- OUT where it stopped
-held_stop : (IsPorts : Ports → Type 0) (keep : Positions) (identity : Identity) (input old new : Option (List ℕ)) (position : Option Position)
+held_stop : (IsPorts : Ports → Type 0) (keep : PositionPolicy) (identity : Identity) (input old new : Option (List ℕ)) (position : Option Position)
     (fault : FileFault) (text : List ℕ)
     → is_some input ≡ true → ((r : Run) → IsFromStart r → IsRead identity input r → IsAuthenticRun r text)
-    → IsLeft IsPorts (opening keep identity) position fault input old new ⊎ IsUnclosed IsPorts (opening keep identity) position fault input old new
+    → IsLeft IsPorts (decrypt_engine keep identity) position fault input old new ⊎ IsUnclosed IsPorts (decrypt_engine keep identity) position fault input old new
     → HoldsNoMore old new text
 held_stop IsPorts keep identity input old new position fault text there auth (inl (taken, s, left)) =
     let written = s.promise.0 in
@@ -159,7 +160,7 @@ module _ (identity : Identity) (p : Position) (input old_text : Option (List ℕ
       }
 
   -- OUT where it is whole
-  whole_resumed : (IsPorts : Ports → Type 0) (keep : Positions) (new : Option (List ℕ)) → Ran IsPorts (resuming IsPorts keep identity p old_text).ends input new
+  whole_resumed : (IsPorts : Ports → Type 0) (keep : PositionPolicy) (new : Option (List ℕ)) → Ran IsPorts (resume_engine IsPorts keep identity p old_text).ends input new
       → new ≡ Some text
   whole_resumed IsPorts keep new o =
       let first = o.promise.0 in
@@ -173,9 +174,9 @@ module _ (identity : Identity) (p : Position) (input old_text : Option (List ℕ
       o.took ∙ (appended o.before.sink.taken o.after.sink.taken (held r) o.empty is.wrote ∙ ap Some all)
 
   -- OUT where it stopped
-  resumed_stop : (IsPorts : Ports → Type 0) (keep : Positions) (old new : Option (List ℕ)) (position : Option Position) (fault : FileFault)
-      → IsLeft IsPorts (resuming IsPorts keep identity p old_text) position fault input old new
-      ⊎ IsUnclosed IsPorts (resuming IsPorts keep identity p old_text) position fault input old new
+  resumed_stop : (IsPorts : Ports → Type 0) (keep : PositionPolicy) (old new : Option (List ℕ)) (position : Option Position) (fault : FileFault)
+      → IsLeft IsPorts (resume_engine IsPorts keep identity p old_text) position fault input old new
+      ⊎ IsUnclosed IsPorts (resume_engine IsPorts keep identity p old_text) position fault input old new
       → HoldsNoMore old new text
   resumed_stop IsPorts keep old new position fault (inl (taken, s, left)) =
       let before = resume_ports s.before s.promise.0 in
@@ -210,10 +211,10 @@ same_text a b o p q = ap (λ (x : Option Text). option_map_or (λ t. t) x []) (p
 same_opens : (rows : List Row) (u v : IdentityOptions) → IsIdentityOptions rows u → IsIdentityOptions rows v → (old : Files) (identity : Identity)
     → OpensBy old u identity → OpensBy old v identity
 same_opens rows u v a b old identity opens =
-    subst (λ (n : ℕ). IsIdentity old (text_of v.pass) (text_of v.file_key) (text_of v.shared) n identity) (one_number 22 _ u.max_log v.max_log a.max_log b.max_log)
-    (subst (λ (t : Option Text). IsIdentity old (text_of v.pass) (text_of v.file_key) t u.max_log identity) (a.shared ∙ sym b.shared)
-    (subst (λ (t : Option Text). IsIdentity old (text_of v.pass) t (text_of u.shared) u.max_log identity) (a.file_key ∙ sym b.file_key)
-    (subst (λ (t : Option Text). IsIdentity old t (text_of u.file_key) (text_of u.shared) u.max_log identity) (a.pass ∙ sym b.pass) opens)))
+    subst (λ (n : ℕ). IsIdentity old (option_text v.pass) (option_text v.file_key) (option_text v.shared) n identity) (one_number 22 _ u.max_log v.max_log a.max_log b.max_log)
+    (subst (λ (t : Option Text). IsIdentity old (option_text v.pass) (option_text v.file_key) t u.max_log identity) (a.shared ∙ sym b.shared)
+    (subst (λ (t : Option Text). IsIdentity old (option_text v.pass) t (option_text u.shared) u.max_log identity) (a.file_key ∙ sym b.file_key)
+    (subst (λ (t : Option Text). IsIdentity old t (option_text u.file_key) (option_text u.shared) u.max_log identity) (a.pass ∙ sym b.pass) opens)))
 
 -- two requests that the same words make ask for the same
 pub record IsSame (d e : Decrypting) : Type 0 where
@@ -284,7 +285,7 @@ kept_whole old new status text whole = record { safe = inr (text, whole, ([], ap
 kept_stopped : (old new : Option (List ℕ)) (status : ℕ) (text : List ℕ) → (status ≡ 0 → ⊥) → HoldsNoMore old new text → KeepsOut old new status text
 kept_stopped old new status text failed safe = record { safe = safe; whole = λ zero. absurd (failed zero) }
 
-module _ (words : List Text) (shows : Bool) (IsPorts : Ports → Type 0) (before after : Around) (Failed Unread Unprinted Unshown Over : Type 0) (status : ℕ) (text : List ℕ)
+module _ (words : List Text) (shows : Bool) (IsPorts : Ports → Type 0) (before after : World) (Failed Unread Unprinted Unshown Over : Type 0) (status : ℕ) (text : List ℕ)
     (shown : shows ≡ true) where
   abbrev pub old : Files
   old = before.files.entries
@@ -300,19 +301,19 @@ module _ (words : List Text) (shows : Bool) (IsPorts : Ports → Type 0) (before
 
   module _ (e : Decrypting) (auth : IsWritersInput e old text) where
     decrypted : (r : Result (Unit {0}) Ending) → OnErr r (status ≡ 0 → ⊥)
-        → OnOk r (shows ≡ true → OfEngine IsPorts (Decrypt e) old (λ engine paths. Writes IsPorts engine paths old new))
+        → OnOk r (shows ≡ true → OfEngine IsPorts (Decrypt e) old (λ engine paths. WritesOut IsPorts engine paths old new))
         → IfErr r (λ ending. ((new ≡ old) × EndsBefore (Decrypt e) old ending × HasReason old after.files.events Failed ending)
-        ⊎ OfEngine IsPorts (Decrypt e) old (λ engine paths. Stops IsPorts engine paths old new ending))
+        ⊎ OfEngine IsPorts (Decrypt e) old (λ engine paths. LeavesOut IsPorts engine paths old new ending))
         → KeepsOut (old e.to.now) (new e.to.now) status text
     decrypted (Ok done) failed wrote stopped =
         let did = wrote shown in
         kept_whole (old e.to.now) (new e.to.now) status text
-        (whole_out IsPorts (kept_for (text_of e.save)) did.0 (old e.from.now) (new e.to.now) text did.2.there (auth did.0 did.1) did.2.output)
+        (whole_out IsPorts (kept_for (option_text e.save)) did.0 (old e.from.now) (new e.to.now) text did.2.there (auth did.0 did.1) did.2.output)
     decrypted (Err ending) failed wrote (inl same) =
         kept_stopped (old e.to.now) (new e.to.now) status text failed (inl (ap (λ (f : Files). f e.to.now) same.0))
     decrypted (Err ending) failed wrote (inr did) =
         kept_stopped (old e.to.now) (new e.to.now) status text failed
-        (held_stop IsPorts (kept_for (text_of e.save)) did.0 (old e.from.now) (old e.to.now) (new e.to.now) did.2.position did.2.fault text did.2.there
+        (held_stop IsPorts (kept_for (option_text e.save)) did.0 (old e.from.now) (old e.to.now) (new e.to.now) did.2.position did.2.fault text did.2.there
         (auth did.0 did.1) did.2.output)
 
   -- of what is asked, whichever request was made of the words
@@ -332,9 +333,9 @@ module _ (words : List Text) (shows : Bool) (IsPorts : Ports → Type 0) (before
 
   module _ (s : Resuming) (auth : IsWritersResumption s old text) where
     resumed : (r : Result (Unit {0}) Ending) → OnErr r (status ≡ 0 → ⊥)
-        → OnOk r (shows ≡ true → OfEngine IsPorts (Resume s) old (λ engine paths. Writes IsPorts engine paths old new))
+        → OnOk r (shows ≡ true → OfEngine IsPorts (Resume s) old (λ engine paths. WritesOut IsPorts engine paths old new))
         → IfErr r (λ ending. ((new ≡ old) × EndsBefore (Resume s) old ending × HasReason old after.files.events Failed ending)
-        ⊎ OfEngine IsPorts (Resume s) old (λ engine paths. Stops IsPorts engine paths old new ending))
+        ⊎ OfEngine IsPorts (Resume s) old (λ engine paths. LeavesOut IsPorts engine paths old new ending))
         → KeepsOut (old s.decrypting.to.now) (new s.decrypting.to.now) status text
     resumed (Ok done) failed wrote stopped =
         let d = s.decrypting in
@@ -343,7 +344,7 @@ module _ (words : List Text) (shows : Bool) (IsPorts : Ports → Type 0) (before
         kept_whole (old d.to.now) (new d.to.now) status text
         (whole_resumed did.0 p (old d.from.now) (old_for p (old s.old.now)) text did.5.there did.4 auth.few
         (old_front p (old s.old.now) text (λ all same. auth.old_text p did.3 all same)) (auth.rest p did.3 did.0 did.1)
-        IsPorts (kept_for (text_of d.save)) (new d.to.now) did.5.output)
+        IsPorts (kept_for (option_text d.save)) (new d.to.now) did.5.output)
     resumed (Err ending) failed wrote (inl same) =
         kept_stopped (old s.decrypting.to.now) (new s.decrypting.to.now) status text failed (inl (ap (λ (f : Files). f s.decrypting.to.now) same.0))
     resumed (Err ending) failed wrote (inr did) =
@@ -352,7 +353,7 @@ module _ (words : List Text) (shows : Bool) (IsPorts : Ports → Type 0) (before
         kept_stopped (old d.to.now) (new d.to.now) status text failed
         (resumed_stop did.0 p (old d.from.now) (old_for p (old s.old.now)) text did.5.there did.4 auth.few
         (old_front p (old s.old.now) text (λ all same. auth.old_text p did.3 all same)) (auth.rest p did.3 did.0 did.1)
-        IsPorts (kept_for (text_of d.save)) (old d.to.now) (new d.to.now) did.5.position did.5.fault did.5.output)
+        IsPorts (kept_for (option_text d.save)) (old d.to.now) (new d.to.now) did.5.position did.5.fault did.5.output)
 
   pub resumed_headline_of : (r : Result (Unit {0}) Ending) → OnErr r (status ≡ 0 → ⊥)
       → Obeys words shows IsPorts before after Failed Unread Unprinted Unshown Over r → (a : Resuming) → Requests words (Resume a)

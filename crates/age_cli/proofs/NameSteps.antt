@@ -1,19 +1,19 @@
 -- Names that have to differ, and are equal.
 use Rattle.std.proofs.Common.{◌≡◌, inl, inr, ap, sym, refl, None, Some, Option}
 use Rattle.clap.specs.Words.{Text}
-use Rattle.age_cli_args.specs.Requests.{text_of}
+use Rattle.age_cli_args.specs.Requests.{option_text}
 use Rattle.age_cli_args.specs.declared.request.Resuming.{Resuming}
 use Rattle.age_cli_args.specs.declared.request.Request.{Request}
 use Rattle.age_cli_args.specs.declared.request.Request.TheVariants.{Decrypt, Resume}
-use Rattle.age_cli_common.specs.Orders.{IsSame, NamesTwice, order_asked}
+use Rattle.age_cli_common.specs.Orders.{IsSameName, NamesTwice, order_asked}
 
 abbrev pub Twice : Request → Type 0
 Twice asked = NamesTwice (order_asked asked).apart
 
-none_same : (one : Option Text) → IsSame one None → ⊥
+none_same : (one : Option Text) → IsSameName one None → ⊥
 none_same one (name, is, other_is) = cc
 
-same_none : (other : Option Text) → IsSame None other → ⊥
+same_none : (other : Option Text) → IsSameName None other → ⊥
 same_none other (name, one_is, is) = cc
 
 -- of `resume`: those of `decrypt`
@@ -44,5 +44,5 @@ old_in r same = inr (inr (inl (inl (r.old.now, refl, ap Some (sym same)))))
 pub old_out : (r : Resuming) → r.old.now ≡ r.decrypting.to.now → Twice (Resume r)
 old_out r same = inl (inr (inr (inr (inr (inl (r.decrypting.to.now, refl, ap Some same))))))
 
-pub save_old : (r : Resuming) → text_of r.decrypting.save ≡ Some r.old.now → Twice (Resume r)
+pub save_old : (r : Resuming) → option_text r.decrypting.save ≡ Some r.old.now → Twice (Resume r)
 save_old r is = inr (inl (inr (inr (inr (inr (inl (r.old.now, is, refl)))))))

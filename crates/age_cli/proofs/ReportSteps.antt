@@ -5,11 +5,11 @@ use Rattle.std.proofs.Common.{Result, Ok, Err}
 use Rattle.std.specs.Prelude.{OnErr}
 use Rattle.age_fault.proofs.Bytes.{Appends-then, risen}
 use Rattle.age_fault.specs.Faults.{HasRisen}
-use Rattle.age_cli_common.specs.Endings.{is_usage, Announces, ReportsEnding, ReportsRest, Takes}
+use Rattle.age_cli_common.specs.Endings.{is_usage, Announces, ReportsEnding, ReportsRest, TakesLine}
 use Rattle.age_cli_common.specs.Endings.{Tells, fault_line}
 use Rattle.age_cli_common.specs.declared.ending.Announcement.{Announcement}
 use Rattle.age_cli_common.specs.declared.ending.Announcement.TheVariants.{Unmade, Made, Failed}
-use Rattle.age_cli.specs.Acts.{status_by, status_of}
+use Rattle.age_cli.specs.Acts.{status_by, ending_status}
 use Rattle.age_cli_common.specs.declared.ending.Ending.{Ending}
 use Rattle.age_cli_common.specs.declared.ending.Ending.TheVariants.{Words, Usage, Fault, Unsaved}
 use Rattle.age_io.specs.Io.{SinkView, SourceView}
@@ -23,7 +23,7 @@ use Rattle.age_fileset.specs.FileSet.{IsMemoryOr}
 use Rattle.age_cli.specs.Commands.{FailsReport, seen}
 
 -- an ending has another status than success
-pub failed_status : (e : Ending) → status_of e ≡ 0 → ⊥
+pub failed_status : (e : Ending) → ending_status e ≡ 0 → ⊥
 failed_status (Fault fault) zero = absurd (omega (arith, zero))
 failed_status (Unsaved fault second) zero = absurd (omega (arith, zero))
 failed_status (Words text) zero = absurd (omega (arith, zero))
@@ -57,7 +57,7 @@ failed_whole (Unsaved fault second) old new risen = inr risen
 failed_whole (Words text) old new risen = tt
 failed_whole (Usage usage) old new risen = tt
 
-second_whole : (fault second : FileFault) (old mid new : SinkView) → Takes fault old mid → Takes second mid new ⊎ HasRisen mid.failed new.failed
+second_whole : (fault second : FileFault) (old mid new : SinkView) → TakesLine fault old mid → TakesLine second mid new ⊎ HasRisen mid.failed new.failed
     → Leaves (Unsaved fault second) old new
 second_whole fault second old mid new first (inl took) = inl (Appends-then old.taken mid.taken new.taken (fault_line fault) (fault_line second) first.0 took.0)
 second_whole fault second old mid new first (inr risen) = inr (subst (λ (n : ℕ). HasRisen n new.failed) first.1 risen)

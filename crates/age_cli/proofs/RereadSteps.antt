@@ -16,12 +16,12 @@ use Rattle.age_file.specs.Runs.{Ports, Run, IsPositionOf}
 use Rattle.age_file.specs.declared.decryption.Done.{Done}
 use Rattle.age_file.specs.declared.decryption.Stopped.{Stopped}
 use Rattle.age_file.specs.declared.position.Position.{Position}
-use Rattle.age_file.specs.declared.position.Positions.{Positions}
-use Rattle.age_file.specs.declared.position.Positions.TheVariants.{Kept, Dropped}
+use Rattle.age_file.specs.declared.position.PositionPolicy.{PositionPolicy}
+use Rattle.age_file.specs.declared.position.PositionPolicy.TheVariants.{Kept, Dropped}
 use Rattle.age_fileset.specs.FileSet.{FilesView, IsMemoryOr, Closed}
 use Rattle.age_io.specs.Io.{SinkView, SourceView}
 use Rattle.age_io.specs.declared.durability.Durability.{Durability}
-use Rattle.age_cli_args.specs.Requests.{text_of}
+use Rattle.age_cli_args.specs.Requests.{option_text}
 use Rattle.age_cli_args.specs.declared.request.Decrypting.{Decrypting}
 use Rattle.age_cli_args.specs.declared.request.ProgressOption.TheVariants.{Silent}
 use Rattle.age_cli_common.specs.Identities.{allows_by, refuses_by}
@@ -33,7 +33,7 @@ use Rattle.age_cli_common.specs.Files.{Files, SparesBut, SparesBoth}
 use Rattle.age_cli_common.proofs.EventSteps.{then_follows}
 use Rattle.age_cli.specs.Acts.{EndsOf, IsSaved, SaveFails, kept_for}
 use Rattle.age_cli.specs.inner.Openings.{Saves}
-use Rattle.age_cli.specs.declared.stop.Stop.{Stop}
+use Rattle.age_cli.specs.declared.interruption.Interruption.{Interruption}
 use Rattle.age_cli.proofs.CommandStopSteps.{ends_from}
 use Rattle.age_cli.proofs.EngineSteps.{left_as}
 use Rattle.age_cli.specs.inner.Endings.{Concludes, Left, opening_end}
@@ -64,13 +64,13 @@ again_is true (Err x) (Some y) s k is =
 again_is false (Err x) (Some y) s k is = absurd (none-some (s, k) is)
 
 -- a stop before the payload has no position, kept or not
-unread : (keep other : Positions) (i : Identity) (before after : Ports) (run : Option Run) (s : Stopped) → FindsKey run None
+unread : (keep other : PositionPolicy) (i : Identity) (before after : Ports) (run : Option Run) (s : Stopped) → FindsKey run None
     → DecryptStops keep (allows_by i) (refuses_by i) before after run s → DecryptStops other (allows_by i) (refuses_by i) before after run s
 unread keep other i before after None s none stops = stops
 unread keep other i before after (Some r) s none stops = absurd (none-some r.file.key none)
 
 -- one that isn't read again ended as if positions had been kept where one is to be saved
-pub stopped_so : (reread : Bool) (end : Result Done Stopped) (key : Option (List ℕ)) (keep other : Positions) (i : Identity) (before after : Ports)
+pub stopped_so : (reread : Bool) (end : Result Done Stopped) (key : Option (List ℕ)) (keep other : PositionPolicy) (i : Identity) (before after : Ports)
     → again_of reread end key ≡ None → (reread ≡ false → keep ≡ other)
     → (d : DecryptsKeyed keep (allows_by i) (refuses_by i) before after end key)
     → IfErr end (DecryptStops other (allows_by i) (refuses_by i) before after d.is.run)
@@ -78,14 +78,14 @@ stopped_so reread (Ok done) key keep other i before after none same d = tt
 stopped_so reread (Err s) None keep other i before after none same d = unread keep other i before after d.is.run s d.found d.is.stopped
 stopped_so true (Err s) (Some k) keep other i before after none same d = absurd (none-some (s, k) (sym none))
 stopped_so false (Err s) (Some k) keep other i before after none same d =
-    subst (λ (x : Positions). DecryptStops x (allows_by i) (refuses_by i) before after d.is.run s) (same refl) d.is.stopped
+    subst (λ (x : PositionPolicy). DecryptStops x (allows_by i) (refuses_by i) before after d.is.run s) (same refl) d.is.stopped
 
 module _ (IsPorts : Ports → Type 0) (shows : Bool) (d : Decrypting) (i : Identity) (before after : Ports) (after_is : IsPorts after) (old new : FilesView)
     (Unshown Over : Type 0) (silent : d.progress ≡ Silent → Unshown) (over : Unshown ⊎ Over) where
-  pub opened_once : (reread : Bool) (end : Result Done Stopped) (key : Option (List ℕ)) (keep : Positions) (r : Result (Unit {0}) Ending)
-      → again_of reread end key ≡ None → (reread ≡ false → keep ≡ kept_for (text_of d.save))
+  pub opened_once : (reread : Bool) (end : Result Done Stopped) (key : Option (List ℕ)) (keep : PositionPolicy) (r : Result (Unit {0}) Ending)
+      → again_of reread end key ≡ None → (reread ≡ false → keep ≡ kept_for (option_text d.save))
       → DecryptsKeyed keep (allows_by i) (refuses_by i) before after end key
-      → (engine : Result (Unit {0}) Stop) → engine ≡ opening_end end → Concludes shows (text_of d.save) d.durability after.sink engine old new r
+      → (engine : Result (Unit {0}) Interruption) → engine ≡ opening_end end → Concludes shows (option_text d.save) d.durability after.sink engine old new r
       → DecryptsOpened IsPorts shows d i before old new Unshown Over r
   opened_once reread end key keep r none same did engine is concludes = record {
     after = after;
@@ -93,16 +93,16 @@ module _ (IsPorts : Ports → Type 0) (shows : Bool) (d : Decrypting) (i : Ident
     decrypted = end;
     run = did.is.run;
     done = did.is.done;
-    stopped = λ shown holds. stopped_so reread end key keep (kept_for (text_of d.save)) i before after none same did;
+    stopped = λ shown holds. stopped_so reread end key keep (kept_for (option_text d.save)) i before after none same did;
     named = did.is.named;
-    concludes = subst (λ (e : Result (Unit {0}) Stop). Concludes shows (text_of d.save) d.durability after.sink e old new r) is concludes;
+    concludes = subst (λ (e : Result (Unit {0}) Interruption). Concludes shows (option_text d.save) d.durability after.sink e old new r) is concludes;
     silent = silent;
     over = over;
   }
 
-  module _ (law : ReadAgain Identity allows_by refuses_by) (s : Stopped) (key : List ℕ) (saves : is_some (text_of d.save) ≡ true) (ending : Ending)
+  module _ (law : ReadAgain Identity allows_by refuses_by) (s : Stopped) (key : List ℕ) (saves : is_some (option_text d.save) ≡ true) (ending : Ending)
       (did : DecryptsKeyed Dropped (allows_by i) (refuses_by i) before after (Err s) (Some key)) where
-    abbrev At : Positions → Option Run → Position → Type 0
+    abbrev At : PositionPolicy → Option Run → Position → Type 0
     At keep run p = DecryptStops keep (allows_by i) (refuses_by i) before after run (stopped_at s p)
 
     found_so : (run : Option Run) (p : Position) → FindsKey run (Some key) → DecryptStops Dropped (allows_by i) (refuses_by i) before after run s
@@ -120,7 +120,7 @@ module _ (IsPorts : Ports → Type 0) (shows : Bool) (d : Decrypting) (i : Ident
     due_so (Some r) finds due stops = (due.0, stops_kept (allows_by i) (refuses_by i) before after r s due.0 stops due.1)
 
     opened_at : (p : Position) → (shows ≡ true → HoldsInput d before old → At Kept did.is.run p)
-        → Concludes shows (text_of d.save) d.durability after.sink (opening_end (Err (stopped_at s p))) old new (Err ending)
+        → Concludes shows (option_text d.save) d.durability after.sink (opening_end (Err (stopped_at s p))) old new (Err ending)
         → DecryptsOpened IsPorts shows d i before old new Unshown Over (Err ending)
     opened_at p stops concludes = record {
       after = after;
@@ -128,7 +128,7 @@ module _ (IsPorts : Ports → Type 0) (shows : Bool) (d : Decrypting) (i : Ident
       decrypted = Err (stopped_at s p);
       run = did.is.run;
       done = tt;
-      stopped = λ shown holds. subst (λ (keep : Positions). At keep did.is.run p) (kept_some (text_of d.save) saves) (stops shown holds);
+      stopped = λ shown holds. subst (λ (keep : PositionPolicy). At keep did.is.run p) (kept_some (option_text d.save) saves) (stops shown holds);
       named = did.is.named;
       concludes = concludes;
       silent = silent;
@@ -142,13 +142,13 @@ module _ (IsPorts : Ports → Type 0) (shows : Bool) (d : Decrypting) (i : Ident
         let due = due_so did.is.run did.found did.due did.is.stopped in
         opened_at due.0 (λ shown holds. due.1) (all due.0)
 
-pub keyed_as : (keep : Positions) (i : Identity) (before after : Ports) (end : Result Done Stopped) (key : Option (List ℕ)) (s : Stopped) (k : List ℕ)
+pub keyed_as : (keep : PositionPolicy) (i : Identity) (before after : Ports) (end : Result Done Stopped) (key : Option (List ℕ)) (s : Stopped) (k : List ℕ)
     → keep ≡ Dropped → end ≡ Err s → key ≡ Some k → DecryptsKeyed keep (allows_by i) (refuses_by i) before after end key
     → DecryptsKeyed Dropped (allows_by i) (refuses_by i) before after (Err s) (Some k)
 keyed_as keep i before after end key s k dropped stopped known did =
     subst (λ (x : Option (List ℕ)). DecryptsKeyed Dropped (allows_by i) (refuses_by i) before after (Err s) x) known
     (subst (λ (x : Result Done Stopped). DecryptsKeyed Dropped (allows_by i) (refuses_by i) before after x key) stopped
-    (subst (λ (x : Positions). DecryptsKeyed x (allows_by i) (refuses_by i) before after end key) dropped did))
+    (subst (λ (x : PositionPolicy). DecryptsKeyed x (allows_by i) (refuses_by i) before after end key) dropped did))
 
 -- progress that was shown, and then perhaps shown again, is over
 pub over_again : {P : Type 0} (first second third : P) (OverAt : P → Type 0) → (second ≡ first) ⊎ OverAt second → (third ≡ second) ⊎ OverAt third
@@ -201,7 +201,7 @@ saves_is None p old new saves = tt
 saves_is (Some name) p old new saves = saves
 
 -- OUT was left as the stop leaves it, and then what is due was done for the position
-pub concludes_left : (shows : Bool) (save : Option Text) (durability : Durability) (sink : SinkView) (cause : Stop) (old mid new : FilesView) (ending : Ending)
+pub concludes_left : (shows : Bool) (save : Option Text) (durability : Durability) (sink : SinkView) (cause : Interruption) (old mid new : FilesView) (ending : Ending)
     → (shows ≡ true → cause.is_untouched ≡ true → sink.taken ≡ Some [] → mid.entries ≡ old.entries)
     → (shows ≡ true → cause.is_untouched ≡ false → (mid.entries ≡ old.entries) ⊎ (mid.entries sink.label ≡ sink.taken))
     → SparesBut sink.label old.entries mid.entries → mid.events ≡ old.events ++ Closed durability ∷ [] → is_usage ending ≡ false

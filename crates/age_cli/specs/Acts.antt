@@ -12,17 +12,17 @@ use Rattle.age_file.specs.Resumes.{position_text}
 use Rattle.age_file.specs.declared.encryption.Written.{Written}
 use Rattle.age_file.specs.declared.decryption.Done.{Done}
 use Rattle.age_file.specs.declared.position.Position.{Position}
-use Rattle.age_file.specs.declared.position.Positions.{Positions}
+use Rattle.age_file.specs.declared.position.PositionPolicy.{PositionPolicy}
 use Rattle.age_fault.specs.declared.fault.FileFault.{FileFault}
 use Rattle.age_fault.specs.declared.fault.FileFault.TheVariants.{Memory, Read, Write, BadPosition}
 use Rattle.age_cli_common.specs.declared.identity.Identity.{Identity}
 use Rattle.age_cli_common.specs.Identities.{allows_by, refuses_by, OpensBy}
 use Rattle.clap.specs.Words.{Text}
-use Rattle.age_file.specs.declared.position.Positions.TheVariants.{Kept, Dropped}
+use Rattle.age_file.specs.declared.position.PositionPolicy.TheVariants.{Kept, Dropped}
 use Rattle.age_fileset.specs.FileSet.{IsMemoryOr, FilesView}
 use Rattle.age_cli_common.specs.Files.{Files, SparesBut, SparesBoth}
 use Rattle.age_cli_common.specs.declared.ending.Ending.TheVariants.{Fault, Unsaved}
-use Rattle.age_cli_args.specs.Requests.{text_of}
+use Rattle.age_cli_args.specs.Requests.{option_text}
 use Rattle.age_cli_args.specs.declared.request.ProgressOption.{ProgressOption}
 use Rattle.age_cli_args.specs.declared.request.ProgressOption.TheVariants.{Silent}
 use Rattle.age_cli_args.specs.declared.request.Decrypting.{Decrypting}
@@ -39,13 +39,13 @@ abbrev pub IsUsage : Ending → Type 0
 IsUsage ending = is_usage ending ≡ true
 
 -- the status of the program: 1 on a fault, 2 for a bad command line
-abbrev pub status_of : Ending → ℕ
-status_of e = if is_usage e then 2 else 1
+abbrev pub ending_status : Ending → ℕ
+ending_status e = if is_usage e then 2 else 1
 
 -- and 0 if all was done
 abbrev pub status_by : {A : Type 0} → Result A Ending → ℕ
 status_by (Ok done) = 0
-status_by (Err e) = status_of e
+status_by (Err e) = ending_status e
 
 -- ---- What the engine of a command promises of its source and its sink, before and after.
 
@@ -57,16 +57,16 @@ pub record Engine : Type 1 where
   pub touches : FileFault → Option (List ℕ) → Type 0
 
 -- that of `encrypt`, which has no position; it touches nothing if memory was refused
-abbrev pub sealing : SecretView → Engine
-sealing secret = record {
+abbrev pub encrypt_engine : SecretView → Engine
+encrypt_engine secret = record {
   ends = λ before after. (written : Written) × Encrypts secret before after written;
   stops = λ position fault before after. EncryptFails secret before after fault;
   touches = λ fault taken. fault ≡ Memory → ⊥;
 }
 
 -- that of `decrypt`, which names its run; it touches nothing if nothing was written
-abbrev pub opening : Positions → Identity → Engine
-opening keep i = record {
+abbrev pub decrypt_engine : PositionPolicy → Identity → Engine
+decrypt_engine keep i = record {
   ends = λ before after. (done : Done) × (run : Run)
       × DecryptEnds (allows_by i) before after done run;
   stops = λ position fault before after. (written : ℕ) × (run : Option Run)
@@ -92,8 +92,8 @@ module _ (IsPorts : Ports → Type 0) where
       × Promise (resume_ports before first) (resume_ports after last)
 
   -- that of `resume`, from a position and the old text
-  abbrev pub resuming : Positions → Identity → Position → Option (List ℕ) → Engine
-  resuming keep i from old_text = record {
+  abbrev pub resume_engine : PositionPolicy → Identity → Position → Option (List ℕ) → Engine
+  resume_engine keep i from old_text = record {
     ends = Beside old_text (λ before after. (done : Done) × (run : Run)
         × ResumeEnds (allows_by i) from before after done run);
     stops = λ position fault. Beside old_text (λ before after. (written : ℕ) × (run : Option Run)
@@ -116,7 +116,7 @@ module _ (IsPorts : Ports → Type 0) where
 -- ---- What becomes of OUT and of the file of `--save`, by the engine that a command runs.
 
 -- positions are kept where one is to be saved
-abbrev pub kept_for : Option Text → Positions
+abbrev pub kept_for : Option Text → PositionPolicy
 kept_for (Some name) = Kept
 kept_for None = Dropped
 
@@ -149,7 +149,7 @@ pub record Paths : Type 0 where
 
 module _ (IsPorts : Ports → Type 0) (engine : Engine) where
   -- all is done: the engine ended, OUT holds what the sink took, and no other file differs
-  pub record Writes (p : Paths) (old new : Files) : Type 0 where
+  pub record WritesOut (p : Paths) (old new : Files) : Type 0 where
     pub there : is_some (old p.from) ≡ true
     pub output : Ran IsPorts engine.ends (old p.from) (new p.to)
     pub others : SparesBut p.to old new
@@ -167,7 +167,7 @@ module _ (IsPorts : Ports → Type 0) (engine : Engine) where
       × (position ≡ None) × (fault ≡ Write)
 
   -- it stopped so, and then the position was saved
-  pub record Stops (p : Paths) (old new : Files) (ending : Ending) : Type 0 where
+  pub record LeavesOut (p : Paths) (old new : Files) (ending : Ending) : Type 0 where
     pub there : is_some (old p.from) ≡ true
     pub position : Option Position
     pub fault : FileFault
@@ -178,14 +178,14 @@ module _ (IsPorts : Ports → Type 0) (engine : Engine) where
 -- ---- What a command does of what it is asked.
 
 abbrev pub paths_of : Decrypting → Paths
-paths_of d = record { from = d.from.now; to = d.to.now; save = text_of d.save }
+paths_of d = record { from = d.from.now; to = d.to.now; save = option_text d.save }
 
 -- only OUT and the file of `--save` may differ
 abbrev pub Spares : Request → Files → Files → Type 0
 Spares (Encrypt e) old new = SparesBoth (Some e.to.now) None old new
-Spares (Decrypt d) old new = SparesBoth (Some d.to.now) (text_of d.save) old new
+Spares (Decrypt d) old new = SparesBoth (Some d.to.now) (option_text d.save) old new
 Spares (Resume r) old new =
-    SparesBoth (Some r.decrypting.to.now) (text_of r.decrypting.save) old new
+    SparesBoth (Some r.decrypting.to.now) (option_text r.decrypting.save) old new
 Spares other old new = SparesBoth None None old new
 
 -- whether progress is shown
@@ -215,35 +215,35 @@ module _ (IsPorts : Ports → Type 0) where
   abbrev pub OfEngine : Request → Files → (Engine → Paths → Type 0) → Type 0
   OfEngine (Encrypt e) old P =
       (secret : SecretView) × MakesSecret e old secret
-      × P (sealing secret) (record { from = e.from.now; to = e.to.now; save = None })
+      × P (encrypt_engine secret) (record { from = e.from.now; to = e.to.now; save = None })
   OfEngine (Decrypt d) old P =
       (identity : Identity) × OpensBy old d.identity identity
-      × P (opening (kept_for (text_of d.save)) identity) (paths_of d)
+      × P (decrypt_engine (kept_for (option_text d.save)) identity) (paths_of d)
   OfEngine (Resume r) old P =
       let d = r.decrypting in
       (identity : Identity) × OpensBy old d.identity identity
       × (position : Position) × IsPositionIn (old r.position.now) position
       × (is_some (old_for position (old r.old.now)) ≡ true)
-      × P (resuming IsPorts (kept_for (text_of d.save)) identity position
+      × P (resume_engine IsPorts (kept_for (option_text d.save)) identity position
       (old_for position (old r.old.now))) (paths_of d)
   OfEngine other old P = Unit {0}
 
   -- what is asked makes an engine, whatever the files hold, and this holds of it
   abbrev pub OfSomeEngine : Request → (Engine → Type 0) → Type 0
-  OfSomeEngine (Encrypt e) P = (secret : SecretView) × P (sealing secret)
+  OfSomeEngine (Encrypt e) P = (secret : SecretView) × P (encrypt_engine secret)
   OfSomeEngine (Decrypt d) P =
       (identity : Identity) × ((old : Files) × OpensBy old d.identity identity)
-      × P (opening (kept_for (text_of d.save)) identity)
+      × P (decrypt_engine (kept_for (option_text d.save)) identity)
   OfSomeEngine (Resume r) P =
       let d = r.decrypting in
       (identity : Identity) × ((old : Files) × OpensBy old d.identity identity)
       × (position : Position) × (old_text : Option (List ℕ))
-      × P (resuming IsPorts (kept_for (text_of d.save)) identity position old_text)
+      × P (resume_engine IsPorts (kept_for (option_text d.save)) identity position old_text)
   OfSomeEngine other P = Unit {0}
 
   -- it ended, over a source and a sink of the files
-  abbrev pub HasEnded : Engine → Type 0
-  HasEnded engine = (before : Ports) × (after : Ports) × IsPorts before × IsPorts after
+  abbrev pub HasEngineEnded : Engine → Type 0
+  HasEngineEnded engine = (before : Ports) × (after : Ports) × IsPorts before × IsPorts after
       × engine.ends before after
 
   -- What stands before and after a command; `shows` says whether contracts see the files, `Failed`
@@ -253,15 +253,15 @@ module _ (IsPorts : Ports → Type 0) where
       (Failed Unshown Over : Type 0) (ended : Result (Unit {0}) Ending) : Type 0 where
     -- OUT holds what the engine promises for what the names stood for at the call.
     pub done : OnOk ended (shows ≡ true → OfEngine asked before.entries
-        (λ engine paths. Writes IsPorts engine paths before.entries after.entries))
+        (λ engine paths. WritesOut IsPorts engine paths before.entries after.entries))
     -- The engine ran, also where contracts don't see the files.
-    pub ran : OnOk ended (OfSomeEngine asked HasEnded)
+    pub ran : OnOk ended (OfSomeEngine asked HasEngineEnded)
     -- Nothing differs, and 26 and 27 have a reason; or OUT holds what the engine promises for a
     -- stop, and the file of `--save` its position.
     pub stops : shows ≡ true → IfErr ended (λ ending. ((after.entries ≡ before.entries)
         × EndsBefore asked before.entries ending
         × HasReason before.entries after.events Failed ending) ⊎ OfEngine asked before.entries
-        (λ engine paths. Stops IsPorts engine paths before.entries after.entries ending))
+        (λ engine paths. LeavesOut IsPorts engine paths before.entries after.entries ending))
     -- A command line that is refused changes no file.
     pub usage : IfErr ended (λ e. IsUsage e → after.entries ≡ before.entries)
     -- Where contracts see the files, it is refused for this alone.

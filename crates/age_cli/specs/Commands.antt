@@ -3,7 +3,7 @@ use Rattle.std.specs.Prelude.{◌≡◌, ℕ, List, ◌++◌, length, Option, So
 use Rattle.std.specs.Prelude.{if◌then◌else◌, codes, None, Bool, true, false}
 use Rattle.age_keys.specs.Scrypt.{IsAllowed}
 use Rattle.age_file.specs.Encrypts.{SecretView}
-use Rattle.age_cli_args.specs.Requests.{text_of}
+use Rattle.age_cli_args.specs.Requests.{option_text}
 use Rattle.age_cli_args.specs.declared.request.Encrypting.{Encrypting}
 use Rattle.age_cli_common.specs.Orders.{random_name}
 use Rattle.age_cli_common.specs.Identities.{IsPassphraseIn}
@@ -40,7 +40,7 @@ pub record MakesSecret (asked : Encrypting) (old : Files) (secret : SecretView) 
   pub passphrase : IsPassphraseIn (old asked.pass.now) secret.pass
   pub log_is : secret.log ≡ asked.log
   pub within : IsAllowed secret.pass secret.log
-  pub random_is : IsRandomIn (old (random_name (text_of asked.random))) secret
+  pub random_is : IsRandomIn (old (random_name (option_text asked.random))) secret
 
 -- ---- Where `resume` goes on.
 

@@ -16,7 +16,7 @@ use Rattle.age_cli_args.specs.Requests.{Requests}
 use Rattle.age_cli_args.specs.declared.request.Decrypting.{Decrypting}
 use Rattle.age_cli_args.specs.declared.request.Resuming.{Resuming}
 use Rattle.age_cli_args.specs.declared.request.Request.TheVariants.{Decrypt, Resume}
-use Rattle.age_cli.specs.Runs.{Around, Runs}
+use Rattle.age_cli.specs.Runs.{World, Runs}
 use Rattle.age_cli.specs.Commands.{IsPositionIn}
 
 -- a beginning of the input, as a run may have read it: a header that opens, the payload nonce, the
@@ -75,7 +75,7 @@ pub record IsWritersResumption (asked : Resuming) (old : Files) (text : List ℕ
 
 -- Whatever the status, OUT is as it was or holds a beginning of the plaintext, while no block of IN
 -- opens except as its writer sealed it; and 0 means all of the plaintext.
-abbrev pub DecryptKeepsOut : List Text → (before after : Around) → ℕ → Type 0
+abbrev pub DecryptKeepsOut : List Text → (before after : World) → ℕ → Type 0
 DecryptKeepsOut words before after status =
     (d : Decrypting) (text : List ℕ) → Requests words (Decrypt d)
     → IsWritersInput d before.files.entries text
@@ -83,7 +83,7 @@ DecryptKeepsOut words before after status =
 
 -- The same of `resume`, while the old text begins with the chunks of the plaintext before the
 -- position.
-abbrev pub ResumeKeepsOut : List Text → (before after : Around) → ℕ → Type 0
+abbrev pub ResumeKeepsOut : List Text → (before after : World) → ℕ → Type 0
 ResumeKeepsOut words before after status =
     (r : Resuming) (text : List ℕ) → Requests words (Resume r)
     → IsWritersResumption r before.files.entries text
@@ -94,7 +94,7 @@ ResumeKeepsOut words before after status =
 -- of these types.
 abbrev pub RunsKeepOut : (Ports → Type 0) → (Failed Input Output Faults Progress : Type 0) → Type 0
 RunsKeepOut IsPorts Failed Input Output Faults Progress =
-    (words : List Text) (before after : Around) (faults_old faults_new : SinkView)
+    (words : List Text) (before after : World) (faults_old faults_new : SinkView)
     (input : Input × Input) (output : Output × Output) (faults : Faults × Faults)
     (progress : Progress × Progress) (shown : Option (List Shown)) (status : ℕ)
     → Runs words true IsPorts before after faults_old faults_new Failed (faults.1 ≡ faults.0)

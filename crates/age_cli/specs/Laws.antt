@@ -6,7 +6,7 @@ use Rattle.age_file.specs.Runs.{Ports}
 use Rattle.age_cli_args.specs.Requests.{IsForHelp}
 use Rattle.age_cli_common.specs.declared.ending.Ending.{Ending}
 use Rattle.age_cli.specs.Commands.{FailsReport}
-use Rattle.age_cli.specs.Runs.{Around, Declines, IsRefusal}
+use Rattle.age_cli.specs.Runs.{World, Declines, IsRefusal}
 use Rattle.age_cli.specs.Acts.{IsUsage}
 
 -- Words that ask neither for help nor for the version are refused, or memory is, and nothing is
@@ -14,7 +14,7 @@ use Rattle.age_cli.specs.Acts.{IsUsage}
 abbrev pub RefusesInSilence : Bool → (Ports → Type 0) → (Failed Input Output Progress : Type 0)
     → Type 0
 RefusesInSilence shows IsPorts Failed Input Output Progress =
-    (words : List Text) (before after : Around) (input : Input × Input) (output : Output × Output)
+    (words : List Text) (before after : World) (input : Input × Input) (output : Output × Output)
     (progress : Progress × Progress) (shown : Option (List Shown))
     (ended : Result (Unit {0}) Ending)
     → Declines words shows IsPorts before after Failed (input.1 ≡ input.0) (output.1 ≡ output.0)

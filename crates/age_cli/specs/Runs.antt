@@ -3,7 +3,7 @@ use Rattle.std.specs.Prelude.{◌≡◌, ◌⊎◌, ℕ, Bool, true, List, [], O
 use Rattle.std.specs.Prelude.{Result, OnOk, IfErr, IsErrAnd}
 use Rattle.std.specs.Io.KnownBytes.{Appends}
 use Rattle.clap.specs.Words.{Text}
-use Rattle.age_cli_args.specs.Requests.{IsForHelp, Requests, text_of}
+use Rattle.age_cli_args.specs.Requests.{IsForHelp, Requests, option_text}
 use Rattle.age_cli_args.specs.declared.request.Request.{Request}
 use Rattle.age_cli_args.specs.declared.request.Request.TheVariants.{Inspect, Drill}
 use Rattle.age_io.specs.Io.{SinkView}
@@ -20,13 +20,13 @@ use Rattle.age_cli.specs.Commands.{Reports, ReportsFile, FailsReport, seen}
 -- ---- What a run does of what its words ask for.
 
 -- what a run works with: the set of files, what the input still has to give, and the output
-pub record Around : Type 0 where
+pub record World : Type 0 where
   pub files : FilesView
   pub input : Option (List ℕ)
   pub output : SinkView
 
-abbrev pub around : FilesView → Option (List ℕ) → SinkView → Around
-around files input output = record { files = files; input = input; output = output }
+abbrev pub world : FilesView → Option (List ℕ) → SinkView → World
+world files input output = record { files = files; input = input; output = output }
 
 -- words are refused; or memory was, while they were read
 abbrev pub IsRefusal : Ending → Type 0
@@ -51,7 +51,7 @@ pub record Reported (ended : Result (Unit {0}) Ending) (Report Unprinted : Type 
 -- `shows` says whether contracts see the files, `IsPorts` which are the ports of those, and
 -- `Failed` that a source of them failed. `Unread`, `Unprinted` and `Unshown` say that the input, the
 -- output and the progress are as they were, and `Over` that the progress is over.
-module _ (words : List Text) (shows : Bool) (IsPorts : Ports → Type 0) (before after : Around)
+module _ (words : List Text) (shows : Bool) (IsPorts : Ports → Type 0) (before after : World)
     (Failed Unread Unprinted Unshown Over : Type 0) (ended : Result (Unit {0}) Ending) where
   -- Without words the input is reported.
   pub record ReportsInput : Type 0 where
@@ -68,19 +68,19 @@ module _ (words : List Text) (shows : Bool) (IsPorts : Ports → Type 0) (before
   -- `inspect` reported the input, or its file, which 26 says can't be read. A drill sent on what it
   -- wrote; with both or neither of `--clear` and `--pass` it is refused before a file is opened.
   -- Other commands write nothing to the output, and none of them reads the input.
-  abbrev pub Answers : Request → Type 0
-  Answers (Inspect None) =
+  abbrev pub DoesOther : Request → Type 0
+  DoesOther (Inspect None) =
       Reported ended (Reports before.input after.input before.output.taken after.output.taken)
       Unprinted before.input before.output after.output
-  Answers (Inspect (Some name)) = Unread × Reported ended (ReportsFile shows
+  DoesOther (Inspect (Some name)) = Unread × Reported ended (ReportsFile shows
       (before.files.entries name.now) before.output.taken after.output.taken) Unprinted
       (seen shows (before.files.entries name.now)) before.output after.output
       × (shows ≡ true → IfErr ended (λ e. e ≡ Fault Read
       → IsUnread before.files.entries after.files.events Failed))
-  Answers (Drill d) = Unread × OnOk ended (after.output.settled ≡ true)
-      × (d.clear ≡ is_some (text_of d.pass)
+  DoesOther (Drill d) = Unread × OnOk ended (after.output.settled ≡ true)
+      × (d.clear ≡ is_some (option_text d.pass)
       → (after.files.events ≡ before.files.events) × IsErrAnd ended IsUsage)
-  Answers other = Unread × Unprinted
+  DoesOther other = Unread × Unprinted
 
   -- Words that make a request are obeyed.
   pub record DoesRequest : Type 0 where
@@ -89,7 +89,7 @@ module _ (words : List Text) (shows : Bool) (IsPorts : Ports → Type 0) (before
     -- What was done with files.
     pub acts : Acts IsPorts shows asked before.files after.files Failed Unshown Over ended
     -- What was written to the output.
-    pub answers : Answers asked
+    pub answers : DoesOther asked
 
   -- Other words are refused, unless help or the version is asked for.
   pub record Declines : Type 0 where
@@ -119,7 +119,7 @@ module _ (words : List Text) (shows : Bool) (IsPorts : Ports → Type 0) (before
 -- that `faults`, the input, the output and the progress are as they were, and `Over` that the
 -- progress is over.
 pub record Runs (words : List Text) (shows : Bool) (IsPorts : Ports → Type 0)
-    (before after : Around) (faults_old faults_new : SinkView)
+    (before after : World) (faults_old faults_new : SinkView)
     (Failed Quiet Unread Unprinted Unshown Over : Type 0) (status : ℕ) : Type 0 where
   -- How it ended, which the status says: 0 means that all was done, 2 that the words are refused,
   -- and 1 that it stopped.

@@ -3,25 +3,25 @@
 ghost use Rattle.std.specs.Prelude.{◌≡◌, ◌⊎◌, true, false, is_some, Some};
 ghost use Rattle.age_file.specs.Decrypts.{DecryptsKeyed};
 ghost use Rattle.age_file.specs.Runs.{ports};
-ghost use Rattle.age_file.specs.declared.position.Positions.TheVariants.{Dropped};
-ghost use Rattle.age_cli_args.specs.Requests.{text_of};
+ghost use Rattle.age_file.specs.declared.position.PositionPolicy.TheVariants.{Dropped};
+ghost use Rattle.age_cli_args.specs.Requests.{option_text};
 ghost use Rattle.age_cli_args.specs.declared.request.ProgressOption.TheVariants.{Silent};
 ghost use Rattle.age_cli_args.specs.declared.request.Request.TheVariants.{Decrypt};
-ghost use Rattle.age_cli_common.specs.Identities.{IsEnough, IsSecretIn, bytes_of, file_of};
+ghost use Rattle.age_cli_common.specs.Identities.{IsEnough, IsSecretIn, file_bytes, file_of};
 ghost use Rattle.age_cli_common.specs.Identities.{allows_by, refuses_by};
-ghost use Rattle.age_cli_common.specs.Orders.{opening, NamesTwice, order_asked};
+ghost use Rattle.age_cli_common.specs.Orders.{opening_event, NamesTwice, order_asked};
 ghost use Rattle.age_cli_common.specs.Endings.{Tells, SourceFails};
 ghost use Rattle.age_io.specs.Io.{IsOver};
 ghost use Rattle.age_cli.specs.Acts.{Acts, PortsOf, kept_for};
 ghost use Rattle.age_cli.specs.inner.Openings.{IsReadAs, Judges};
 ghost use Rattle.age_cli.specs.inner.Rereadings.{DecryptsOpened, again_of};
 
+use crate::interruption::opening_end;
 use crate::output::{Content, Output, conclude, end_meter, open_both, with_meter};
 use crate::reread::{Again, conclude_again};
-use crate::stop::opening_end;
 use age_cli_args::{Decrypting, ProgressOption};
 use age_cli_common::{Announcement, Choice, Ending, Identity, Usage};
-use age_file::{Done, Positions, Source, Stopped, decrypt_keyed, read_again};
+use age_file::{Done, PositionPolicy, Source, Stopped, decrypt_keyed, read_again};
 use age_fileset::FileSet;
 use age_io::{Meter, Sink};
 use age_keys::KnownKey;
@@ -29,8 +29,8 @@ use std::alloc::Global;
 
 /// Whether a name is given, and stands for the same file as another.
 pub(crate) fn is_given_as<F: FileSet>(files: &F, given: Option<&str>, name: &str) -> bool
-    ensures same { text_of given.entry ≡ Some name.now → result ≡ true }
-    ensures shown { F.shows_bytes ≡ true → result ≡ true → text_of given.entry ≡ Some name.now }
+    ensures same { option_text given.entry ≡ Some name.now → result ≡ true }
+    ensures shown { F.shows_bytes ≡ true → result ≡ true → option_text given.entry ≡ Some name.now }
 {
     match given {
         Some(given) => files.is_same(given, name),
@@ -42,8 +42,8 @@ pub(crate) fn is_given_as<F: FileSet>(files: &F, given: Option<&str>, name: &str
 /// that.
 fn is_read<F: FileSet>(files: &F, asked: &Decrypting<'_>, name: &str) -> bool
     ensures from { asked.now.from.now ≡ name.now → result ≡ true }
-    ensures pass { text_of asked.now.identity.pass ≡ Some name.now → result ≡ true }
-    ensures shared { text_of asked.now.identity.shared ≡ Some name.now → result ≡ true }
+    ensures pass { option_text asked.now.identity.pass ≡ Some name.now → result ≡ true }
+    ensures shared { option_text asked.now.identity.shared ≡ Some name.now → result ≡ true }
     ensures shown { F.shows_bytes ≡ true → result ≡ true → IsReadAs asked.now name.now }
 {
     files.is_same(asked.from, name)
@@ -71,12 +71,12 @@ pub(crate) fn names_a_file_twice<F: FileSet>(files: &F, asked: &Decrypting<'_>) 
 }
 
 /// Positions are kept where one is to be saved.
-pub(crate) fn positions_for(save: Option<&str>) -> Positions
-    ensures { result ≡ kept_for (text_of save.entry) }
+pub(crate) fn positions_for(save: Option<&str>) -> PositionPolicy
+    ensures { result ≡ kept_for (option_text save.entry) }
 {
     match save {
-        Some(_) => Positions::Kept,
-        None => Positions::Dropped,
+        Some(_) => PositionPolicy::Kept,
+        None => PositionPolicy::Dropped,
     }
 }
 
@@ -89,9 +89,9 @@ pub(crate) fn read_secret<F: FileSet>(
     is_file_named_twice: bool,
     read: &[Option<&str>],
 ) -> Result<Option<Vec<u8>>, Ending>
-    ensures { Judges (F.shows_bytes) (opening (file_of choice.now)) (F.view files.old)
+    ensures { Judges (F.shows_bytes) (opening_event (file_of choice.now)) (F.view files.old)
         (F.view files.new) (λ secret. IsSecretIn (F.view files.old).entries (file_of choice.now)
-        (bytes_of secret) × IsEnough (F.view files.old).entries choice.now (bytes_of secret))
+        (file_bytes secret) × IsEnough (F.view files.old).entries choice.now (file_bytes secret))
         (is_file_named_twice ≡ true) (is_file_named_twice ≡ true) (SourceFails F.In.view) result }
 {
     if is_file_named_twice {
@@ -103,18 +103,18 @@ pub(crate) fn read_secret<F: FileSet>(
 
 /// Whether a position is to be saved, and the input can be read once more to find it.
 fn can_reread<F: FileSet>(files: &F, source: &F::In, save: Option<&str>) -> bool
-    ensures { result ≡ true → is_some (text_of save.entry) ≡ true }
+    ensures { result ≡ true → is_some (option_text save.entry) ≡ true }
 {
     save.is_some() && files.can_reread(source)
 }
 
 /// Positions are dropped where the input can be read once more to find one.
-fn positions_at_first(is_reread: bool, save: Option<&str>) -> Positions
+fn positions_at_first(is_reread: bool, save: Option<&str>) -> PositionPolicy
     ensures dropped { is_reread ≡ true → result ≡ Dropped }
-    ensures kept { is_reread ≡ false → result ≡ kept_for (text_of save.entry) }
+    ensures kept { is_reread ≡ false → result ≡ kept_for (option_text save.entry) }
 {
     if is_reread {
-        return Positions::Dropped;
+        return PositionPolicy::Dropped;
     }
     positions_for(save)
 }
@@ -132,7 +132,7 @@ fn open_text<F: FileSet, P: Meter>(
     alloc: Global,
     files: &F,
     asked: &Decrypting<'_>,
-    positions: Positions,
+    positions: PositionPolicy,
     identity: &Identity<'_>,
     mut source: F::In,
     out: &mut F::Out,

@@ -4,7 +4,7 @@ ghost use Rattle.std.specs.Prelude.{◌≡◌, ◌⊎◌, ◌<◌, ◌++◌, [],
 ghost use Rattle.std.specs.Prelude.{Some, true, IfOk, IfErr, IfSome, IfNone};
 ghost use Rattle.std.specs.Io.KnownBytes.{Consumes};
 ghost use Rattle.age_fileset.specs.FileSet.{Event, Opened};
-ghost use Rattle.age_cli_args.specs.Requests.{text_of};
+ghost use Rattle.age_cli_args.specs.Requests.{option_text};
 ghost use Rattle.age_cli_args.specs.declared.request.Request.TheVariants.{Encrypt};
 ghost use Rattle.age_cli_common.specs.Endings.{EndsEarly, is_usage, Tells, SourceFails, HasReason};
 ghost use Rattle.age_file.specs.Encrypts.{SecretView};
@@ -17,8 +17,8 @@ ghost use Rattle.age_cli.specs.Acts.{Acts, GivesNone, PortsOf};
 ghost use Rattle.age_cli.specs.Commands.{MakesSecret, IsRandomIn};
 ghost use Rattle.age_cli.specs.inner.Openings.{Judges, IsRandom, IsMaterialIn};
 
+use crate::interruption::sealing_end;
 use crate::output::{Content, Output, conclude, end_meter, open_both, with_meter};
-use crate::stop::sealing_end;
 use age_cli_args::{Encrypting, ProgressOption};
 use age_cli_common::{Announcement, Choice, Ending, Usage, read_first, trimmed};
 use age_file::{Secret, Source, encrypt};
@@ -122,7 +122,7 @@ struct Material {
 
 /// The name of the file of random bytes.
 fn random_name<'a>(asked: &Encrypting<'a>) -> &'a str
-    ensures { result.now ≡ random_name (text_of asked.now.random) }
+    ensures { result.now ≡ random_name (option_text asked.now.random) }
 {
     match asked.random {
         Some(name) => name,
@@ -149,7 +149,7 @@ fn read_material<F: FileSet>(
     asked: &Encrypting<'_>,
 ) -> Result<Material, Ending>
     ensures { Judges (F.shows_bytes)
-        (Opened asked.now.pass.now ∷ Opened (random_name (text_of asked.now.random)) ∷ [])
+        (Opened asked.now.pass.now ∷ Opened (random_name (option_text asked.now.random)) ∷ [])
         (F.view files.old) (F.view files.new) (IsMaterialIn asked.now (F.view files.old).entries)
         (NamesTwice (order_asked (Encrypt asked.now)).apart)
         (NamesTwice (order_asked (Encrypt asked.now)).apart

@@ -15,13 +15,13 @@
 mod decrypt_command;
 mod encrypt_command;
 mod inspect_command;
+mod interruption;
 mod laws;
 mod output;
 mod print;
 mod program;
 mod reread;
 mod resume_command;
-mod stop;
 
 pub use age_fileset::{FileSet, MemFiles, OpenFault};
 pub use decrypt_command::decrypt_file;

@@ -5,13 +5,13 @@ ghost use Rattle.std.specs.Prelude.{IfErr, IfSome, ℕ, Option, option_map, leng
 ghost use Rattle.age_io.specs.Io.{Adds, Begins, IsOver};
 ghost use Rattle.age_cli_common.specs.Endings.{EndsEarly, is_usage, Tells, SourceFails, HasReason};
 ghost use Rattle.age_fileset.specs.FileSet.{Opened, Created, Closed};
-ghost use Rattle.age_cli_args.specs.Requests.{text_of};
+ghost use Rattle.age_cli_args.specs.Requests.{option_text};
 ghost use Rattle.age_cli_common.specs.Orders.{preparing, making};
 ghost use Rattle.age_cli_common.specs.Files.{SparesBut};
 ghost use Rattle.age_cli.specs.inner.Endings.{Concludes, EndsOut};
-ghost use Rattle.age_cli.specs.inner.Openings.{Opens};
+ghost use Rattle.age_cli.specs.inner.Openings.{OpensFiles};
 
-use crate::stop::{Stop, end_of};
+use crate::interruption::{Interruption, end_of};
 use age_cli_common::{Announcement, Ending, Usage};
 use age_fileset::FileSet;
 use age_io::{Durability, Meter, Metered, Sink};
@@ -60,7 +60,7 @@ fn create_out<F: FileSet>(
     files: &mut F,
     asked: &Output<'_>,
 ) -> Result<F::Out, Ending>
-    ensures { Opens (F.shows_bytes) (Created asked.now.to.now ∷ [])
+    ensures { OpensFiles (F.shows_bytes) (Created asked.now.to.now ∷ [])
         (making (Some asked.now.to.now) asked.now.durability) (F.view files.old)
         (F.view files.new) (λ o. ((F.Out.view o).taken ≡ Some [])
         × ((F.Out.view o).label ≡ asked.now.to.now)) (SourceFails F.In.view) result }
@@ -80,7 +80,7 @@ fn create_out<F: FileSet>(
 fn prepare_save<F: FileSet>(alloc: Global, files: &mut F, asked: &Output<'_>) -> Result<(), Ending>
     ensures kept { (F.view files.new).entries ≡ (F.view files.old).entries }
     ensures noted { (F.view files.new).events
-        ≡ (F.view files.old).events ++ preparing (text_of asked.now.save) }
+        ≡ (F.view files.old).events ++ preparing (option_text asked.now.save) }
     ensures early { IfErr result EndsEarly }
     ensures reason { F.shows_bytes ≡ true → IfErr result (HasReason (F.view files.old).entries
         (F.view files.new).events (SourceFails F.In.view)) }
@@ -100,9 +100,9 @@ pub(crate) fn open_both<F: FileSet>(
     from: &str,
     asked: &Output<'_>,
 ) -> Result<(F::In, F::Out), Ending>
-    ensures { Opens (F.shows_bytes)
-        (Opened from.now ∷ (preparing (text_of asked.now.save) ++ Created asked.now.to.now ∷ []))
-        (Opened from.now ∷ (preparing (text_of asked.now.save)
+    ensures { OpensFiles (F.shows_bytes)
+        (Opened from.now ∷ (preparing (option_text asked.now.save) ++ Created asked.now.to.now ∷ []))
+        (Opened from.now ∷ (preparing (option_text asked.now.save)
         ++ making (Some asked.now.to.now) asked.now.durability))
         (F.view files.old) (F.view files.new)
         (λ both. (is_some ((F.view files.old).entries from.now) ≡ true)
@@ -170,8 +170,8 @@ fn end_out<F: FileSet>(
     files: &mut F,
     out: F::Out,
     durability: Durability,
-    engine: Result<(), Stop>,
-) -> Result<(), Stop>
+    engine: Result<(), Interruption>,
+) -> Result<(), Interruption>
     ensures { EndsOut (F.shows_bytes) durability (F.Out.view out) engine (F.view files.old)
         (F.view files.new) result }
 {
@@ -193,11 +193,11 @@ pub(crate) fn conclude<F: FileSet, E: Sink>(
     durability: Durability,
     faults: &mut E,
     announced: &mut Announcement,
-    engine: Result<(), Stop>,
+    engine: Result<(), Interruption>,
 ) -> Result<(), Ending>
     ensures announced { Tells announced.new result (E.view faults.old) (E.view faults.new)
         (faults.new ≡ faults.old) }
-    ensures concludes { Concludes (F.shows_bytes) (text_of save.entry) durability
+    ensures concludes { Concludes (F.shows_bytes) (option_text save.entry) durability
         (F.Out.view out) engine (F.view files.old) (F.view files.new) result }
 {
     match end_out(files, out, durability, engine) {

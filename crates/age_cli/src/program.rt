@@ -6,8 +6,8 @@ ghost use Rattle.age_fault.specs.declared.fault.FileFault.TheVariants.{Memory};
 ghost use Rattle.age_cli_common.specs.declared.ending.Ending.TheVariants.{Fault};
 ghost use Rattle.clap.specs.Words.{kind_of};
 ghost use Rattle.clap.specs.Walk.{texts};
-ghost use Rattle.age_cli.specs.Acts.{PortsOf, status_of};
-ghost use Rattle.age_cli.specs.Runs.{around, IsRefusal, Obeys, Prints, FailsWriting, Runs};
+ghost use Rattle.age_cli.specs.Acts.{PortsOf, ending_status};
+ghost use Rattle.age_cli.specs.Runs.{world, IsRefusal, Obeys, Prints, FailsWriting, Runs};
 ghost use Rattle.age_cli_common.specs.Endings.{Tells, SourceFails};
 ghost use Rattle.age_io.specs.Io.{IsOver};
 ghost use Rattle.age_cli.specs.inner.Endings.{IsForOutput};
@@ -61,8 +61,8 @@ fn obey<F: FileSet, I: Source, O: Sink, E: Sink, P: Meter>(
     ensures announced { Tells announced.new result (E.view faults.old) (E.view faults.new)
         (faults.new ≡ faults.old) }
     ensures obeys { Obeys (texts words.now) (F.shows_bytes) (PortsOf F.In.view F.Out.view)
-        (around (F.view files.old) (I.view input.old).remaining (O.view output.old))
-        (around (F.view files.new) (I.view input.new).remaining (O.view output.new))
+        (world (F.view files.old) (I.view input.old).remaining (O.view output.old))
+        (world (F.view files.new) (I.view input.new).remaining (O.view output.new))
         (SourceFails F.In.view) (input.new ≡ input.old) (output.new ≡ output.old)
         (progress.new ≡ progress.old) (IsOver (P.shown progress.new)) result }
 {
@@ -87,7 +87,7 @@ fn obey<F: FileSet, I: Source, O: Sink, E: Sink, P: Meter>(
 
 /// The status of the program for this ending.
 fn status(ending: &Ending) -> u8
-    ensures { result ≡ status_of ending.now }
+    ensures { result ≡ ending_status ending.now }
 {
     match ending {
         Ending::Words(_) | Ending::Usage(_) => 2,
@@ -117,8 +117,8 @@ pub fn run<F: FileSet, I: Source, O: Sink, E: Sink, P: Meter>(
     progress: &mut P,
 ) -> u8
     ensures { Runs (texts words.now) (F.shows_bytes) (PortsOf F.In.view F.Out.view)
-        (around (F.view files.old) (I.view input.old).remaining (O.view output.old))
-        (around (F.view files.new) (I.view input.new).remaining (O.view output.new))
+        (world (F.view files.old) (I.view input.old).remaining (O.view output.old))
+        (world (F.view files.new) (I.view input.new).remaining (O.view output.new))
         (E.view faults.old) (E.view faults.new) (SourceFails F.In.view) (faults.new ≡ faults.old)
         (input.new ≡ input.old) (output.new ≡ output.old) (progress.new ≡ progress.old)
         (IsOver (P.shown progress.new)) result }

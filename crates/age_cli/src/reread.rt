@@ -4,13 +4,13 @@ ghost use Rattle.std.specs.Prelude.{◌≡◌, ◌⊎◌, true, is_some, IfOk, I
 ghost use Rattle.age_fault.specs.declared.fault.FileFault.TheVariants.{Read};
 ghost use Rattle.age_io.specs.Io.{IsOver};
 ghost use Rattle.age_fileset.specs.FileSet.{IsMemoryOr};
-ghost use Rattle.age_cli_args.specs.Requests.{text_of};
+ghost use Rattle.age_cli_args.specs.Requests.{option_text};
 ghost use Rattle.age_cli_args.specs.declared.request.ProgressOption.TheVariants.{Silent};
 ghost use Rattle.age_cli_common.specs.Endings.{Announces};
 ghost use Rattle.age_cli.specs.inner.Rereadings.{IsFoundIn, ConcludesAgain};
 
+use crate::interruption::save;
 use crate::output::{end_meter, leave, with_meter};
-use crate::stop::save;
 use age_cli_args::{Decrypting, ProgressOption};
 use age_cli_common::{Announcement, Ending, announce};
 use age_file::{FileFault, Position, Stopped, position_after};
@@ -72,7 +72,7 @@ pub(crate) fn conclude_again<F: FileSet, E: Sink, P: Meter>(
     announced: &mut Announcement,
     progress: &mut P,
 ) -> Ending
-    requires { is_some (text_of asked.now.save) ≡ true }
+    requires { is_some (option_text asked.now.save) ≡ true }
     ensures announced { Announces announced.new result (E.view faults.old) (E.view faults.new) ⊥ }
     ensures again { ConcludesAgain (F.shows_bytes) asked.now (F.Out.view out) again.stopped
         again.key (F.view files.old) (F.view files.new) result }

@@ -12,8 +12,8 @@ ghost use Rattle.age_cli.specs.Acts.{Acts, PortsOf};
 ghost use Rattle.age_cli.specs.Commands.{HoldsNoPosition, IsPositionIn, old_for};
 
 use crate::decrypt_command::{is_given_as, names_a_file_twice, positions_for, read_secret};
+use crate::interruption::opening_end;
 use crate::output::{Content, Output, conclude, end_meter, open_both, with_meter};
-use crate::stop::opening_end;
 use age_cli_args::{ProgressOption, Resuming};
 use age_cli_common::{Announcement, Choice, Ending, read_file};
 use age_file::{FileFault, Position, resume_with};

@@ -53,8 +53,8 @@ IsNumber default None n = n ≡ default
 IsNumber default (Some text) n = IsNumeral 10 (without_leading_plus text)
     × (n ≡ digits_value 10 (without_leading_plus text)) × (1 ≤ n) × (n ≤ 22)
 
-abbrev pub text_of : Option (Bor Text) → Option Text
-text_of = option_map (λ s. s.now)
+abbrev pub option_text : Option (Bor Text) → Option Text
+option_text = option_map (λ s. s.now)
 
 -- `--no-sync` says that what is written may reach the disk later
 abbrev pub IsDurability : List Row → Durability → Type 0
@@ -67,21 +67,21 @@ IsProgress rows p = p ≡ (if is_given (codes "progress") rows then Shown else S
 pub record IsEncrypting (rows : List Row) (e : Encrypting) : Type 0 where
   pub pass : Some e.pass.now ≡ first_of (codes "pass") rows
   pub log : IsNumber 18 (one_of (codes "log") rows) e.log
-  pub random : text_of e.random ≡ first_of (codes "random") rows
+  pub random : option_text e.random ≡ first_of (codes "random") rows
   pub durability : IsDurability rows e.durability
   pub progress : IsProgress rows e.progress
   pub from : Some e.from.now ≡ first_of (codes "IN") rows
   pub to : Some e.to.now ≡ first_of (codes "OUT") rows
 
 pub record IsIdentityOptions (rows : List Row) (u : IdentityOptions) : Type 0 where
-  pub pass : text_of u.pass ≡ first_of (codes "pass") rows
-  pub file_key : text_of u.file_key ≡ first_of (codes "file-key") rows
-  pub shared : text_of u.shared ≡ first_of (codes "shared") rows
+  pub pass : option_text u.pass ≡ first_of (codes "pass") rows
+  pub file_key : option_text u.file_key ≡ first_of (codes "file-key") rows
+  pub shared : option_text u.shared ≡ first_of (codes "shared") rows
   pub max_log : IsNumber 22 (one_of (codes "max-log") rows) u.max_log
 
 pub record IsDecrypting (rows : List Row) (d : Decrypting) : Type 0 where
   pub identity : IsIdentityOptions rows d.identity
-  pub save : text_of d.save ≡ first_of (codes "save") rows
+  pub save : option_text d.save ≡ first_of (codes "save") rows
   pub durability : IsDurability rows d.durability
   pub progress : IsProgress rows d.progress
   pub from : Some d.from.now ≡ first_of (codes "IN") rows
@@ -94,7 +94,7 @@ pub record IsResuming (rows : List Row) (r : Resuming) : Type 0 where
 
 pub record IsDrilling (rows : List Row) (d : Drilling) : Type 0 where
   pub clear : d.clear ≡ is_given (codes "clear") rows
-  pub pass : text_of d.pass ≡ first_of (codes "pass") rows
+  pub pass : option_text d.pass ≡ first_of (codes "pass") rows
   pub script : Some d.script.now ≡ first_of (codes "SCRIPT") rows
   pub from : Some d.from.now ≡ first_of (codes "IN") rows
 
@@ -104,7 +104,7 @@ IsRequest name rows (Decrypt d) = (name ≡ codes "decrypt") × IsDecrypting row
 IsRequest name rows (Resume r) = (name ≡ codes "resume") × IsResuming rows r
 IsRequest name rows (Drill d) = (name ≡ codes "drill") × IsDrilling rows d
 IsRequest name rows (Inspect file) = (name ≡ codes "inspect")
-    × (text_of file ≡ first_of (codes "FILE") rows)
+    × (option_text file ≡ first_of (codes "FILE") rows)
 
 -- the words ask for this
 abbrev pub Requests : List Text → Request → Type 0

@@ -4,7 +4,8 @@ ghost use Rattle.std.specs.Prelude.{◌≡◌, ◌≤◌, ℕ, None, Some, IfNon
 ghost use Rattle.clap.specs.Words.{subcommand_rows_of, rows_of, found_of, one_of, first_of};
 ghost use Rattle.clap.specs.Words.{FailsBy};
 ghost use Rattle.clap.specs.Walk.{texts};
-ghost use Rattle.age_cli_args.specs.Requests.{refusals, is_given, IsNumber, text_of, IsDurability};
+ghost use Rattle.age_cli_args.specs.Requests.{refusals, is_given, IsNumber, option_text};
+ghost use Rattle.age_cli_args.specs.Requests.{IsDurability};
 ghost use Rattle.age_cli_args.specs.Requests.{IsProgress, IsEncrypting, IsIdentityOptions};
 ghost use Rattle.age_cli_args.specs.Requests.{IsDecrypting, IsResuming, IsDrilling, IsRequest};
 ghost use Rattle.age_cli_args.specs.Requests.{Requests};
@@ -48,7 +49,7 @@ fn number(matches: &ArgMatches<'_>, id: &str, default: u32) -> Option<u32>
 
 /// The first value of an argument.
 fn text<'a>(matches: &ArgMatches<'a>, id: &str) -> Option<&'a str>
-    ensures { text_of result ≡ first_of id.now (rows_of (found_of matches.now)) }
+    ensures { option_text result ≡ first_of id.now (rows_of (found_of matches.now)) }
 {
     matches.get_str(id)
 }

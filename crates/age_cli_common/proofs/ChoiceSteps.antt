@@ -7,7 +7,7 @@ use Rattle.std.specs.Borrow.{Bor}
 use Rattle.std.specs.declared.vec.Vec.{Vec}
 use Rattle.clap.specs.Words.{Text}
 use Rattle.age_fileset.specs.declared.files.OpenFault.{OpenFault}
-use Rattle.age_cli_common.specs.Identities.{IsEnough, Makes, bytes_of}
+use Rattle.age_cli_common.specs.Identities.{IsEnough, Makes, file_bytes}
 use Rattle.age_cli_common.specs.Files.{Files}
 use Rattle.age_cli_common.specs.declared.choice.Choice.{Choice}
 use Rattle.age_cli_common.specs.declared.choice.Choice.TheVariants.{SharedFile}
@@ -33,7 +33,7 @@ module _ {Z : Type 0} (shows : Bool) (old : Files) (name : Bor Text) where
   shared_enough : (r : Result (Option (Vec ℕ Z)) OpenFault)
       → IfOk r (λ o. IfSome o (λ v. shows ≡ true → old name.now ≡ Some v.items))
       → IfOk r (λ o. IfNone o (shows ≡ true → (bytes : List ℕ) → old name.now ≡ Some bytes
-      → 64 < length bytes)) → IfOk r (λ o. shows ≡ true → IsEnough old (SharedFile name) (bytes_of o))
+      → 64 < length bytes)) → IfOk r (λ o. shows ≡ true → IsEnough old (SharedFile name) (file_bytes o))
   shared_enough (Ok (Some v)) all long = λ shown i makes.
       subst (λ (h : Option (List ℕ)). Makes (SharedFile name) h i) (all shown) makes
   shared_enough (Ok None) all long = λ shown i makes.
@@ -45,7 +45,7 @@ module _ {Z : Type 0} (shows : Bool) (old : Files) (name : Bor Text) where
       → (r : Result (Option (Vec ℕ Z)) OpenFault)
       → IfOk r (λ o. IfSome o (λ v. shows ≡ true → old name.now ≡ Some v.items))
       → IfOk r (λ o. IfNone o (shows ≡ true → (bytes : List ℕ) → old name.now ≡ Some bytes
-      → 64 < length bytes)) → IfOk r (λ o. shows ≡ true → IsEnough old choice (bytes_of o))
+      → 64 < length bytes)) → IfOk r (λ o. shows ≡ true → IsEnough old choice (file_bytes o))
   enough_of_shared choice is r all long = subst
-      (λ (c : Choice). IfOk r (λ o. shows ≡ true → IsEnough old c (bytes_of o))) (sym is)
+      (λ (c : Choice). IfOk r (λ o. shows ≡ true → IsEnough old c (file_bytes o))) (sym is)
       (shared_enough r all long)

@@ -8,7 +8,7 @@ use Rattle.age_fault.specs.declared.fault.FileFault.TheVariants.{Read, Write, Me
 use Rattle.age_fileset.specs.FileSet.{Event, Opened, Created}
 use Rattle.std.specs.Io.KnownBytes.{Appends}
 use Rattle.age_io.specs.Io.{SinkView, SourceView}
-use Rattle.age_fault.specs.Faults.{number_of, name_of, place_of, HasRisen}
+use Rattle.age_fault.specs.Faults.{fault_number, name_of, fault_place, HasRisen}
 use Rattle.age_fault.specs.declared.fault.FileFault.{FileFault}
 use Rattle.age_cli_common.specs.declared.ending.Announcement.{Announcement}
 use Rattle.age_cli_common.specs.declared.ending.Announcement.TheVariants.{Unmade, Made, Failed}
@@ -46,8 +46,8 @@ place_text number (Some place) = if nat_le number 8 then codes " line " ++ decim
 
 -- `age_tool: N NAME` with the place, and LF
 abbrev pub fault_line : FileFault → List ℕ
-fault_line fault = codes "age_tool: " ++ (decimal (number_of fault) ++ (codes " " ++ (name_of fault
-    ++ (place_text (number_of fault) (place_of fault) ++ codes "\n"))))
+fault_line fault = codes "age_tool: " ++ (decimal (fault_number fault) ++ (codes " " ++ (name_of fault
+    ++ (place_text (fault_number fault) (fault_place fault) ++ codes "\n"))))
 
 -- a sink took these bytes, or failed
 abbrev pub TakesOrFails : Option (List ℕ) → Option (List ℕ) → ℕ → ℕ → List ℕ → Type 0
@@ -64,15 +64,15 @@ ReportsEnding (Words text) old new failed_old failed_new = Unit {0}
 ReportsEnding (Usage usage) old new failed_old failed_new = Unit {0}
 
 -- a sink took the line of a fault, and counted no failure
-abbrev pub Takes : FileFault → (old new : SinkView) → Type 0
-Takes fault old new = Appends old.taken new.taken (fault_line fault) × (new.failed ≡ old.failed)
+abbrev pub TakesLine : FileFault → (old new : SinkView) → Type 0
+TakesLine fault old new = Appends old.taken new.taken (fault_line fault) × (new.failed ≡ old.failed)
 
 -- what an announcement left: nothing, if it wasn't made, which is what `Quiet` says; the line of the
 -- fault that ended the run; or a sink that failed
 abbrev pub Announces : Announcement → Ending → (old new : SinkView) → (Quiet : Type 0) → Type 0
 Announces Unmade ending old new Quiet = Quiet
-Announces Made (Fault fault) old new Quiet = Takes fault old new
-Announces Made (Unsaved fault second) old new Quiet = Takes fault old new
+Announces Made (Fault fault) old new Quiet = TakesLine fault old new
+Announces Made (Unsaved fault second) old new Quiet = TakesLine fault old new
 Announces Made other old new Quiet = ⊥
 Announces Failed ending old new Quiet = HasRisen old.failed new.failed
 
@@ -80,7 +80,7 @@ Announces Failed ending old new Quiet = HasRisen old.failed new.failed
 -- fault, unless the first couldn't be put
 abbrev pub ReportsRest : Announcement → Ending → (old new : SinkView) → Type 0
 ReportsRest Unmade ending old new = ReportsEnding ending old.taken new.taken old.failed new.failed
-ReportsRest Made (Unsaved fault second) old new = Takes second old new
+ReportsRest Made (Unsaved fault second) old new = TakesLine second old new
     ⊎ HasRisen old.failed new.failed
 ReportsRest Made other old new = new ≡ old
 ReportsRest Failed ending old new = new ≡ old

@@ -11,13 +11,13 @@ use Rattle.age_cli_common.specs.declared.identity.Identity.{Identity}
 use Rattle.age_cli_common.specs.declared.identity.Identity.TheVariants.{ByPassphrase, ByFileKey}
 use Rattle.age_cli_common.specs.declared.identity.Identity.TheVariants.{ByShared}
 use Rattle.age_cli_common.specs.Files.{Files}
-use Rattle.age_cli_args.specs.Requests.{text_of}
+use Rattle.age_cli_args.specs.Requests.{option_text}
 use Rattle.age_cli_args.specs.declared.request.IdentityOptions.{IdentityOptions}
 use Rattle.std.specs.declared.vec.Vec.{Vec}
 use Rattle.age_cli_common.specs.declared.choice.Choice.{Choice}
 use Rattle.age_cli_common.specs.declared.choice.Choice.TheVariants.{PassphraseFile, FileKey}
 use Rattle.age_cli_common.specs.declared.choice.Choice.TheVariants.{SharedFile}
-use Rattle.age_cli_common.specs.Orders.{opening, identity_order}
+use Rattle.age_cli_common.specs.Orders.{opening_event, identity_order}
 
 -- ---- What opens a file, as the options and the files make it.
 
@@ -66,7 +66,7 @@ IsIdentity old pass file_key shared max_log identity = ⊥
 
 -- the options, and the file that they name, make what opens the input
 abbrev pub OpensBy : Files → IdentityOptions → Identity → Type 0
-OpensBy old u identity = IsIdentity old (text_of u.pass) (text_of u.file_key) (text_of u.shared)
+OpensBy old u identity = IsIdentity old (option_text u.pass) (option_text u.file_key) (option_text u.shared)
     u.max_log identity
 
 -- ---- What opens a file, as one of the options says.
@@ -78,8 +78,8 @@ file_of (FileKey known) = None
 file_of (SharedFile name) = Some name.now
 
 -- the bytes of a file that was read, where it wasn't too long
-abbrev pub bytes_of : {Z : Type 0} → Option (Vec ℕ Z) → Option (List ℕ)
-bytes_of = option_map (λ v. v.items)
+abbrev pub file_bytes : {Z : Type 0} → Option (Vec ℕ Z) → Option (List ℕ)
+file_bytes = option_map (λ v. v.items)
 
 -- these bytes are what the file of this name holds, where there are such
 abbrev pub IsSecretIn : Files → Option Text → Option (List ℕ) → Type 0
@@ -107,7 +107,7 @@ IsEnough old choice held = (identity : Identity)
 -- a choice is what these options say
 pub record Chooses (options : IdentityOptions) (choice : Choice) : Type 0 where
   -- Its file is the one that the options name.
-  pub order : opening (file_of choice) ≡ identity_order (text_of options.pass) (text_of options.shared)
+  pub order : opening_event (file_of choice) ≡ identity_order (option_text options.pass) (option_text options.shared)
   -- What it makes of the bytes of its file is what the options and the files make.
   pub opens : (old : Files) (held : Option (List ℕ)) (identity : Identity)
       → IsSecretIn old (file_of choice) held → Makes choice held identity

@@ -3,7 +3,7 @@ use Rattle.std.specs.Prelude.{◌≡◌, List, [], ◌∷◌, ◌++◌, Option, 
 use Rattle.clap.specs.Words.{Text}
 use Rattle.age_io.specs.declared.durability.Durability.{Durability}
 use Rattle.age_fileset.specs.FileSet.{Event, Opened, Prepared, Created, Replaced, Closed}
-use Rattle.age_cli_args.specs.Requests.{text_of}
+use Rattle.age_cli_args.specs.Requests.{option_text}
 use Rattle.age_cli_args.specs.declared.request.Request.{Request}
 use Rattle.age_cli_args.specs.declared.request.Request.TheVariants.{Inspect, Decrypt, Resume}
 use Rattle.age_cli_args.specs.declared.request.Request.TheVariants.{Encrypt, Drill}
@@ -19,9 +19,9 @@ pub record Follows (order old new : List Event) : Type 0 where
 
 -- a file is opened, where one is named; one is prepared to be replaced; one is created and ended;
 -- one is replaced; and what was written reaches the disk then or later
-abbrev pub opening : Option Text → List Event
-opening (Some name) = Opened name ∷ []
-opening None = []
+abbrev pub opening_event : Option Text → List Event
+opening_event (Some name) = Opened name ∷ []
+opening_event None = []
 
 abbrev pub preparing : Option Text → List Event
 preparing (Some name) = Prepared name ∷ []
@@ -37,18 +37,18 @@ replacing None durability = []
 
 -- what opens the input, where its file is named: of a passphrase or of a shared secret
 abbrev pub identity_order : Option Text → Option Text → List Event
-identity_order pass shared = opening pass ++ opening shared
+identity_order pass shared = opening_event pass ++ opening_event shared
 
 -- ---- The names that have to differ.
 
 -- two names are given, and they are equal
-abbrev pub IsSame : Option Text → Option Text → Type 0
-IsSame one other = (name : Text) × (one ≡ Some name) × (other ≡ Some name)
+abbrev pub IsSameName : Option Text → Option Text → Type 0
+IsSameName one other = (name : Text) × (one ≡ Some name) × (other ≡ Some name)
 
 -- a name is given, and is one of these
 abbrev pub IsOneOf : Option Text → List (Option Text) → Type 0
 IsOneOf one [] = ⊥
-IsOneOf one (other ∷ others) = IsSame one other ⊎ IsOneOf one others
+IsOneOf one (other ∷ others) = IsSameName one other ⊎ IsOneOf one others
 
 -- a name that has to differ from others, where they are given
 pub record Apart : Type 0 where
@@ -90,8 +90,8 @@ random_name (Some name) = name
 abbrev pub writing_order : Option Text → Option Text → Option Text → Option Text → Option Text
     → Option Text → Option Text → Durability → Order
 writing_order first second position old from to save durability =
-    let judged = opening first ++ opening second in
-    let done = judged ++ ((opening position ++ (opening old ++ opening from))
+    let judged = opening_event first ++ opening_event second in
+    let done = judged ++ ((opening_event position ++ (opening_event old ++ opening_event from))
     ++ (preparing save ++ making to durability)) in
     let read = from ∷ first ∷ second ∷ old ∷ [] in
     record {
@@ -104,14 +104,15 @@ writing_order first second position old from to save durability =
 
 -- the order of what is asked
 abbrev pub order_asked : Request → Order
-order_asked (Inspect file) = reading_order (opening (text_of file))
-order_asked (Encrypt e) = writing_order (Some e.pass.now) (Some (random_name (text_of e.random)))
+order_asked (Inspect file) = reading_order (opening_event (option_text file))
+order_asked (Encrypt e) = writing_order (Some e.pass.now) (Some (random_name (option_text e.random)))
     None None (Some e.from.now) (Some e.to.now) None e.durability
-order_asked (Decrypt d) = writing_order (text_of d.identity.pass) (text_of d.identity.shared)
-    None None (Some d.from.now) (Some d.to.now) (text_of d.save) d.durability
+order_asked (Decrypt d) = writing_order (option_text d.identity.pass) (option_text d.identity.shared)
+    None None (Some d.from.now) (Some d.to.now) (option_text d.save) d.durability
 order_asked (Resume r) =
     let d = r.decrypting in
-    writing_order (text_of d.identity.pass) (text_of d.identity.shared) (Some r.position.now)
-    (Some r.old.now) (Some d.from.now) (Some d.to.now) (text_of d.save) d.durability
+    writing_order (option_text d.identity.pass) (option_text d.identity.shared) (Some r.position.now)
+    (Some r.old.now) (Some d.from.now) (Some d.to.now) (option_text d.save) d.durability
 order_asked (Drill d) =
-    reading_order (opening (text_of d.pass) ++ (opening (Some d.script.now) ++ opening (Some d.from.now)))
+    reading_order (opening_event (option_text d.pass) ++ (opening_event (Some d.script.now)
+    ++ opening_event (Some d.from.now)))

@@ -5,9 +5,9 @@ ghost use Rattle.age_keys.specs.Scrypt.{IsAllowed, PassphraseIdentity};
 ghost use Rattle.age_keys.specs.X25519.{Shared};
 ghost use Rattle.age_fault.specs.declared.fault.FileFault.TheVariants.{Read};
 ghost use Rattle.age_fileset.specs.FileSet.{OpenFails};
-ghost use Rattle.age_cli_common.specs.Orders.{opening};
+ghost use Rattle.age_cli_common.specs.Orders.{opening_event};
 ghost use Rattle.age_cli_common.specs.Identities.{IsPassphraseIn, IsSharedIn, OpensBy, file_of};
-ghost use Rattle.age_cli_common.specs.Identities.{bytes_of, IsSecretIn, Makes, Chooses, IsEnough};
+ghost use Rattle.age_cli_common.specs.Identities.{file_bytes, IsSecretIn, Makes, Chooses, IsEnough};
 ghost use Rattle.age_cli_common.specs.Endings.{SourceFails, IsUnread};
 ghost use Rattle.age_fileset.specs.declared.files.OpenFault.TheVariants.{Fault};
 ghost use Rattle.age_cli_common.specs.Files.{Files};
@@ -59,15 +59,15 @@ impl<'a> Choice<'a> {
     ) -> Result<Option<Vec<u8>>, OpenFault>
         ensures kept { (F.view files.new).entries ≡ (F.view files.old).entries }
         ensures noted { (F.view files.new).events
-            ≡ (F.view files.old).events ++ opening (file_of self.now) }
+            ≡ (F.view files.old).events ++ opening_event (file_of self.now) }
         ensures faults { IfErr result (OpenFails (F.shows_bytes) Read) }
         ensures reason { F.shows_bytes ≡ true → IfErr result (λ f. f ≡ Fault Read
             → IsUnread (F.view files.old).entries (F.view files.new).events
             (SourceFails F.In.view)) }
         ensures read { IfOk result (λ o. F.shows_bytes ≡ true
-            → IsSecretIn (F.view files.old).entries (file_of self.now) (bytes_of o)) }
+            → IsSecretIn (F.view files.old).entries (file_of self.now) (file_bytes o)) }
         ensures enough { IfOk result (λ o. F.shows_bytes ≡ true
-            → IsEnough (F.view files.old).entries self.now (bytes_of o)) }
+            → IsEnough (F.view files.old).entries self.now (file_bytes o)) }
     {
         match self {
             Choice::PassphraseFile(name, _) => read_file(alloc, files, name, PASSPHRASE_FILE_MAX),
@@ -79,9 +79,9 @@ impl<'a> Choice<'a> {
     /// What opens the file, given the bytes that `read` returned. Refuses those that hold no
     /// passphrase, or no shared secret with its recipient.
     pub fn identity<'s>(self, secret: &'s Option<Vec<u8>>) -> Result<Identity<'s>, Usage>
-        ensures makes { IfOk result (Makes self.entry (bytes_of secret.now)) }
+        ensures makes { IfOk result (Makes self.entry (file_bytes secret.now)) }
         ensures none { IfErr result (λ _. (identity : Identity)
-            → Makes self.entry (bytes_of secret.now) identity → ⊥) }
+            → Makes self.entry (file_bytes secret.now) identity → ⊥) }
     {
         match self {
             Choice::PassphraseFile(_, max_log) => match passphrase_in(secret, max_log) {
@@ -99,10 +99,10 @@ impl<'a> Choice<'a> {
 
 /// The passphrase in the bytes of its file.
 fn passphrase_in<'s>(secret: &'s Option<Vec<u8>>, max_log: u32) -> Option<Passphrase<'s>>
-    ensures some { IfSome result (λ words. IsPassphraseIn (bytes_of secret.now) words.pass
+    ensures some { IfSome result (λ words. IsPassphraseIn (file_bytes secret.now) words.pass
         × (words.max_log ≡ max_log) × IsAllowed words.pass words.max_log) }
     ensures none { IfNone result ((words : PassphraseIdentity)
-        → IsPassphraseIn (bytes_of secret.now) words.pass → words.max_log ≡ max_log
+        → IsPassphraseIn (file_bytes secret.now) words.pass → words.max_log ≡ max_log
         → IsAllowed words.pass words.max_log → ⊥) }
 {
     match secret {
@@ -113,8 +113,8 @@ fn passphrase_in<'s>(secret: &'s Option<Vec<u8>>, max_log: u32) -> Option<Passph
 
 /// The shared secret and the recipient in the bytes of their file.
 fn shared_in(secret: &Option<Vec<u8>>) -> Option<SharedSecret>
-    ensures some { IfSome result (IsSharedIn (bytes_of secret.now)) }
-    ensures none { IfNone result ((shared : Shared) → IsSharedIn (bytes_of secret.now) shared → ⊥) }
+    ensures some { IfSome result (IsSharedIn (file_bytes secret.now)) }
+    ensures none { IfNone result ((shared : Shared) → IsSharedIn (file_bytes secret.now) shared → ⊥) }
 {
     match secret {
         Some(bytes) => shared_of(bytes.as_slice()),

@@ -1,7 +1,7 @@
 //! Reports why a run ended.
 
 ghost use Rattle.std.specs.Prelude.{◌≡◌, ◌++◌, [], decimal, Some, true};
-ghost use Rattle.age_fault.specs.Faults.{number_of, place_of};
+ghost use Rattle.age_fault.specs.Faults.{fault_number, fault_place};
 ghost use Rattle.age_cli_common.specs.Endings.{place_text, fault_line, ReportsEnding, Announces};
 ghost use Rattle.age_cli_common.specs.Endings.{ReportsRest};
 ghost use Rattle.age_cli_common.specs.declared.ending.Ending.TheVariants.{Fault};
@@ -80,7 +80,7 @@ fn put_number<E: Sink>(faults: &mut E, word: &str, number: u64) -> Result<(), Fi
 
 /// The line of a header's fault, or the chunk of a payload's.
 fn put_place<E: Sink>(faults: &mut E, fault: FileFault) -> Result<(), FileFault>
-    ensures { PutsAll (place_text (number_of fault) (place_of fault)) (E.view faults.old)
+    ensures { PutsAll (place_text (fault_number fault) (fault_place fault)) (E.view faults.old)
         (E.view faults.new) result }
 {
     match fault.place() {

@@ -5,7 +5,7 @@ ghost use Rattle.std.specs.Prelude.{true};
 ghost use Rattle.age_fileset.specs.FileSet.{Opened};
 ghost use Rattle.age_cli_common.specs.Endings.{RefusesAtOnce};
 ghost use Rattle.age_cli_common.specs.Orders.{Follows, order_asked};
-ghost use Rattle.age_cli_args.specs.Requests.{text_of};
+ghost use Rattle.age_cli_args.specs.Requests.{option_text};
 ghost use Rattle.age_cli_args.specs.declared.request.Request.TheVariants.{Drill};
 ghost use Rattle.age_stanza.specs.Grammar.{HasText};
 ghost use Rattle.age_stanza.specs.Parsing.{reading};
@@ -342,7 +342,7 @@ pub fn drill_file<F: FileSet, O: Sink>(
     // What was written was sent on.
     ensures sent { OnOk result ((O.view output.new).settled ≡ true) }
     // Both or neither of `--clear` and `--pass`.
-    ensures one { asked.now.clear ≡ is_some (text_of asked.now.pass)
+    ensures one { asked.now.clear ≡ is_some (option_text asked.now.pass)
         → RefusesAtOnce (F.view files.old).events (F.view files.new).events result }
 {
     if asked.clear == asked.pass.is_some() {

@@ -1,7 +1,7 @@
 //! A decryption over memory.
 
 ghost use Rattle.std.specs.Prelude.{◌≡◌, ℕ, List, Some, MatchResult};
-ghost use Rattle.age_file.specs.Decrypts.{IsUndamaged, StopsOutside};
+ghost use Rattle.age_file.specs.Decrypts.{IsUndamagedFile, StopsOutside};
 
 use age_file::{FileFault, MemSink, MemSource, decrypt};
 use age_keys::Unlock;
@@ -18,7 +18,7 @@ const STEP: usize = 65_536;
 /// returns no bytes at all, so nobody takes a cut plaintext for a whole one.
 pub fn text_of<U: Unlock>(alloc: Global, unlock: &U, file: Vec<u8>) -> Result<Vec<u8>, FileFault>
     ensures undamaged { (text : List ℕ)
-        → IsUndamaged (U.allows unlock.now) (U.refuses unlock.now) (Some file.items) text
+        → IsUndamagedFile (U.allows unlock.now) (U.refuses unlock.now) (Some file.items) text
         → MatchResult result (λ v. v.items ≡ text) StopsOutside }
 {
     let mut sink = MemSink::new(alloc, file.len(), STEP, None)?;

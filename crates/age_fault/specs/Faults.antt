@@ -12,20 +12,20 @@ use Rattle.age_stanza.specs.Parsing as head
 use Rattle.age_keys.specs.Keys as key
 use Rattle.age_chunk.specs.FaultNumbers as stream
 
-abbrev pub number_of : FileFault → ℕ
-number_of (Head fault) = head.number_of fault.kind
-number_of (Key fault) = key.number_of fault
-number_of NonceCut = 16
-number_of (Stream fault) = stream.number_of fault.kind
-number_of BadPosition = 23
-number_of OtherFile = 24
-number_of ShortText = 25
-number_of Read = 26
-number_of Write = 27
-number_of Memory = 28
-number_of ReadNeverEnds = 29
-number_of PositionForged = 30
-number_of OldTextDiffers = 31
+abbrev pub fault_number : FileFault → ℕ
+fault_number (Head fault) = head.head_fault_number fault.kind
+fault_number (Key fault) = key.key_fault_number fault
+fault_number NonceCut = 16
+fault_number (Stream fault) = stream.stream_fault_number fault.kind
+fault_number BadPosition = 23
+fault_number OtherFile = 24
+fault_number ShortText = 25
+fault_number Read = 26
+fault_number Write = 27
+fault_number Memory = 28
+fault_number ReadNeverEnds = 29
+fault_number PositionForged = 30
+fault_number OldTextDiffers = 31
 
 -- the names of all faults, in the order of their numbers, from 1 on
 abbrev pub names : List (List ℕ)
@@ -42,13 +42,13 @@ abbrev pub name_by : ℕ → List ℕ
 name_by number = get_or names (number - 1) []
 
 abbrev pub name_of : FileFault → List ℕ
-name_of fault = name_by (number_of fault)
+name_of fault = name_by (fault_number fault)
 
 -- the line of a header's fault, the chunk of a payload's
-abbrev pub place_of : FileFault → Option ℕ
-place_of (Head fault) = head.place_of fault
-place_of (Stream fault) = Some fault.chunk
-place_of other = None
+abbrev pub fault_place : FileFault → Option ℕ
+fault_place (Head fault) = head.head_fault_place fault
+fault_place (Stream fault) = Some fault.chunk
+fault_place other = None
 
 -- a count of failures rose by one, or stayed at its greatest value, and the last call is the one
 -- that failed: no call came after it

@@ -3,10 +3,10 @@
 ghost use Rattle.std.specs.Prelude.{◌≡◌};
 ghost use Rattle.age_fault.specs.declared.fault.FileFault.TheVariants.{Stream};
 ghost use Rattle.age_fault.specs.declared.fault.FileFault.TheVariants.{Memory as MemoryFault};
-ghost use Rattle.age_fault.specs.Faults.{number_of, place_of, name_of, name_by};
-ghost use Rattle.age_stanza.specs.Parsing.{number_of as head_number_of};
-ghost use Rattle.age_keys.specs.Keys.{number_of as key_number_of};
-ghost use Rattle.age_chunk.specs.FaultNumbers.{number_of as stream_number_of};
+ghost use Rattle.age_fault.specs.Faults.{fault_number, fault_place, name_of, name_by};
+ghost use Rattle.age_stanza.specs.Parsing.{head_fault_number};
+ghost use Rattle.age_keys.specs.Keys.{key_fault_number};
+ghost use Rattle.age_chunk.specs.FaultNumbers.{stream_fault_number};
 ghost use Rattle.age_fault.specs.inner.Faults.{fault_of, fault_of_key};
 
 use age_chunk::{StreamFault, StreamKind};
@@ -118,7 +118,7 @@ impl From<StreamFault> for FileFault {
 impl FileFault {
     /// The number of this fault in the list of all faults.
     pub fn number(&self) -> u8
-        ensures { result ≡ number_of self.now }
+        ensures { result ≡ fault_number self.now }
     {
         match self {
             FileFault::Head(fault) => fault.number(),
@@ -139,7 +139,7 @@ impl FileFault {
 
     /// The line of a header's fault, from 1, or the chunk of a payload's, from 0.
     pub fn place(&self) -> Option<u64>
-        ensures { result ≡ place_of self.now }
+        ensures { result ≡ fault_place self.now }
     {
         match self {
             FileFault::Head(fault) => fault.place(),
@@ -171,7 +171,7 @@ impl FileFault {
 }
 
 fn head_name(kind: HeadKind) -> &'static str
-    ensures { result.now ≡ name_by (head_number_of kind) }
+    ensures { result.now ≡ name_by (head_fault_number kind) }
 {
     match kind {
         HeadKind::NotAge => "NotAge",
@@ -187,7 +187,7 @@ fn head_name(kind: HeadKind) -> &'static str
 }
 
 fn key_name(fault: KeyFault) -> &'static str
-    ensures { result.now ≡ name_by (key_number_of fault) }
+    ensures { result.now ≡ name_by (key_fault_number fault) }
 {
     match fault {
         KeyFault::ScryptNotAlone => "ScryptNotAlone",
@@ -202,7 +202,7 @@ fn key_name(fault: KeyFault) -> &'static str
 }
 
 fn stream_name(kind: StreamKind) -> &'static str
-    ensures { result.now ≡ name_by (stream_number_of kind) }
+    ensures { result.now ≡ name_by (stream_fault_number kind) }
 {
     match kind {
         StreamKind::ChunkDamaged => "ChunkDamaged",

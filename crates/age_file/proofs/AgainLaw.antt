@@ -15,13 +15,13 @@ use Rattle.age_io.specs.Io.{SourceView}
 use Rattle.age_keys.specs.declared.fault.KeyFault.{KeyFault}
 use Rattle.age_file.specs.Decrypts.{DecryptStops, IsFoundAgain, ReadAgain}
 use Rattle.age_file.specs.declared.decryption.Stopped.{Stopped}
-use Rattle.age_file.specs.declared.position.Positions.TheVariants.{Kept, Dropped}
+use Rattle.age_file.specs.declared.position.PositionPolicy.TheVariants.{Kept, Dropped}
 use Rattle.age_keys.specs.Keys.{payload_key, position_key}
 use Rattle.age_keys.specs.inner.PayloadBox.{box_valid}
 use Rattle.age_keys.specs.AgeFile.{box, unbox}
 use Rattle.age_file.specs.Bindings.{file_id, chain, chain_over, position_tag}
-use Rattle.age_file.specs.Runs.{Ports, Run, IsFromStart, IsRun, IsPositionOf, Reads, held, text_of}
-use Rattle.age_file.specs.Runs.{segment_of, outcome_of}
+use Rattle.age_file.specs.Runs.{Ports, Run, IsFromStart, IsRun, IsPositionOf, Reads, held, run_text}
+use Rattle.age_file.specs.Runs.{segment_of, run_outcome}
 use Rattle.age_file.specs.declared.position.Position.{Position}
 use Rattle.age_file.proofs.Undamaged.{left_of, none_left, same_front}
 use Rattle.age_file.proofs.AgainRuns.{stand_alike}
@@ -68,9 +68,9 @@ fronts one A B was now before after bytes r q shown again a b =
 -- the file's parts are those of the run
 carried : (r q : Run) (p : Position) (limit : r.first < chunk_limit) → q.file.key ≡ r.file.key
     → q.file.header_bytes ≡ r.file.header_bytes → q.file.nonce ≡ r.file.nonce
-    → IsPrefixOf r.out (text_of r) → held q ≡ held r
-    → min (length (held q) / chunk_length) (outcome_of q).index
-    ≡ min (length (held r) / chunk_length) (outcome_of r).index
+    → IsPrefixOf r.out (run_text r) → held q ≡ held r
+    → min (length (held q) / chunk_length) (run_outcome q).index
+    ≡ min (length (held r) / chunk_length) (run_outcome r).index
     → IsPositionOf q p → IsPositionOf r p
 carried r q p limit key head nonce begins wrote place at =
     let id : p.file_id ≡ file_id r.file.header_bytes r.file.nonce =
@@ -83,7 +83,7 @@ carried r q p limit key head nonce begins wrote place at =
     p.chain) key
     ∙ ap (λ (k : List ℕ). position_tag (position_key r.file.key k) p.index p.file_id p.chain)
     nonce) in
-    let index : p.index ≡ min (length (held r) / chunk_length) (outcome_of r).index =
+    let index : p.index ≡ min (length (held r) / chunk_length) (run_outcome r).index =
     at.index ∙ place in
     record {
       index = index;
@@ -111,7 +111,7 @@ module _ (r q : Run) (k : ℕ) (at : Position) (left rest : List ℕ) (limit : k
     (head : q.file.header_bytes ≡ r.file.header_bytes) (nonce : q.file.nonce ≡ r.file.nonce)
     (behind : r.bytes ++ left ≡ q.bytes ++ rest) (long : length (held r) ≡ length (held q))
     (end_r : r.ended ≡ true → left ≡ []) (end_q : q.ended ≡ true → rest ≡ [])
-    (prefix_r : IsPrefixOf r.out (text_of r)) (prefix_q : IsPrefixOf q.out (text_of q)) where
+    (prefix_r : IsPrefixOf r.out (run_text r)) (prefix_q : IsPrefixOf q.out (run_text q)) where
   abbrev part_of : Run → Segment
   part_of x = record { start = k; bytes = x.bytes; ended = x.ended; late = false }
 
@@ -151,11 +151,11 @@ module _ (r q : Run) (k : ℕ) (at : Position) (left rest : List ℕ) (limit : k
 
   index_of : (x : Run) → x.first ≡ k → held x ≡ r.copied ++ x.out
       → unbox x.file.key x.file.nonce ≡ open_r
-      → min (length (held x) / chunk_length) (outcome_of x).index
+      → min (length (held x) / chunk_length) (run_outcome x).index
       ≡ min (length (r.copied ++ x.out) / chunk_length)
       (outcome open_r chunk_length (part_of x)).index
   index_of x first_x holds is =
-      ap (λ (t : List ℕ). min (length t / chunk_length) (outcome_of x).index) holds
+      ap (λ (t : List ℕ). min (length t / chunk_length) (run_outcome x).index) holds
       ∙ (ap (λ (s : Segment). min (length (r.copied ++ x.out) / chunk_length)
       (outcome (unbox x.file.key x.file.nonce) chunk_length s).index) (seg x first_x)
       ∙ ap (λ (o : List ℕ → List ℕ → Option (List ℕ)). min (length (r.copied ++ x.out) / chunk_length)

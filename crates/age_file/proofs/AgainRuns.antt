@@ -15,7 +15,7 @@ use Rattle.age_chunk.specs.ChunkBoxes.{IsChunkBox, tag_length}
 use Rattle.age_stream.specs.Headline.{IsPrefixOf}
 use Rattle.age_stream.specs.Segment.{Segment, Outcome, outcome, released, front_texts, whole_blocks}
 use Rattle.age_stream.specs.Segment.{rest_bytes, with_piece, with_end}
-use Rattle.age_stream.specs.Laws.{counted}
+use Rattle.age_stream.specs.Laws.{counted_chunks}
 use Rattle.age_stream.specs.declared.step.Status.{Status}
 use Rattle.age_stream.specs.declared.step.Status.TheVariants.{Open}
 use Rattle.age_stream.proofs.Going.{going, going_outcome}

@@ -16,7 +16,7 @@ use Rattle.age_file.specs.Decrypts.{StartFails, fault_again, IsFoundAgain, EndsE
 use Rattle.age_file.specs.Decrypts.{DecryptEnds, DecryptStops}
 use Rattle.age_file.specs.declared.decryption.Done.{Done}
 use Rattle.age_file.specs.declared.position.Position.{Position}
-use Rattle.age_file.specs.declared.position.Positions.TheVariants.{Kept}
+use Rattle.age_file.specs.declared.position.PositionPolicy.TheVariants.{Kept}
 use Rattle.age_file.specs.declared.decryption.Stopped.{Stopped}
 use Rattle.age_fault.specs.declared.fault.FileFault.{FileFault}
 use Rattle.age_fault.specs.declared.fault.FileFault.TheVariants.{Read, Write}

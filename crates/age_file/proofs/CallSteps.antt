@@ -18,8 +18,8 @@ use Rattle.age_file.specs.InARow.{ResumeAnswers, taken, AreInARow, AreTexts, All
 use Rattle.age_file.specs.declared.decryption.Done.{Done}
 use Rattle.age_file.specs.declared.decryption.Stopped.{Stopped}
 use Rattle.age_file.specs.declared.position.Position.{Position}
-use Rattle.age_file.specs.declared.position.Positions.{Positions}
-use Rattle.age_file.specs.declared.position.Positions.TheVariants.{Kept, Dropped}
+use Rattle.age_file.specs.declared.position.PositionPolicy.{PositionPolicy}
+use Rattle.age_file.specs.declared.position.PositionPolicy.TheVariants.{Kept, Dropped}
 use Rattle.age_file.proofs.Bytes.{prefix_trans}
 use Rattle.age_file.proofs.RunSteps.{from_start}
 use Rattle.age_file.proofs.ResumedRunSteps.{authentic_of, same_carries}
@@ -57,7 +57,7 @@ some_carries P Q (Some p) h f = f p h
 none_carries : (Q : Position → Type 0) (o : Option Position) → o ≡ None → IfSome o Q
 none_carries Q o e = subst (λ (x : Option Position). IfSome x Q) (sym e) tt
 
-given_carries : (keep : Positions) (P Q : Position → Type 0) (o : Option Position)
+given_carries : (keep : PositionPolicy) (P Q : Position → Type 0) (o : Option Position)
     → GivesPosition keep P o → ((p : Position) → P p → Q p) → IfSome o Q
 given_carries Kept P Q o h f = some_carries P Q o h f
 given_carries Dropped P Q o h f = none_carries Q o h
@@ -75,7 +75,7 @@ none_right text old new stopped empty w = (
 )
 
 -- of an authentic run, its output begins the text
-run_right : (text : List ℕ) (keep : Positions) (A : Header → List ℕ → Type 0) (never : Type 0)
+run_right : (text : List ℕ) (keep : PositionPolicy) (A : Header → List ℕ → Type 0) (never : Type 0)
     (old new : Ports) (stopped : Stopped) (r : Run)
     → old.sink.taken ≡ Some [] → StopsInPayload keep A never old new stopped r
     → IsAuthenticRun r text → Right text new.sink.taken stopped.position
@@ -91,7 +91,7 @@ run_right text keep A never old new stopped r empty s auth = (
 
 -- ---- a decryption
 
-module _ (text : List ℕ) (few : chunk_count chunk_length text ≤ chunk_limit) (keep : Positions)
+module _ (text : List ℕ) (few : chunk_count chunk_length text ≤ chunk_limit) (keep : PositionPolicy)
     (A : Header → List ℕ → Type 0) (R : Header → KeyFault
     → Type 0) where
   stop_right : (old new : Ports) (run : Option Run) (stopped : Stopped) → old.sink.taken ≡ Some []
@@ -130,7 +130,7 @@ module _ (text : List ℕ) (few : chunk_count chunk_length text ≤ chunk_limit)
       none_carries (CarriesText text) stopped.position s.nowhere,
     )
 
-    in_skipped_right : (keep : Positions) (stopped : Stopped)
+    in_skipped_right : (keep : PositionPolicy) (stopped : Stopped)
         → StopsInSkipped A p old new keep stopped → Right text new.main.sink.taken stopped.position
     in_skipped_right keep stopped s = (
       old_right stopped.written s.copied s.writes,
@@ -146,7 +146,7 @@ module _ (text : List ℕ) (few : chunk_count chunk_length text ≤ chunk_limit)
         authentic_of text p r few from.index from.old_text
         (prefix_trans r.copied (r.copied ++ from.more) text (from.more, refl) whole) auth
 
-    next_right : (keep : Positions) (run : Option Run) (stopped : Stopped)
+    next_right : (keep : PositionPolicy) (run : Option Run) (stopped : Stopped)
         → ResumeStops A p old new keep R run stopped → IfSome run (IsTexts text)
         → Right text new.main.sink.taken stopped.position
     next_right keep None stopped (inl f) auth = none_right text old.main new.main stopped empty f.0
@@ -166,7 +166,7 @@ began text taken (Err stopped) a = a.0
 module _ (Who : Type 0) (Allows : Who → Header → List ℕ → Type 0) (Refused : Who → Header → KeyFault
     → Type 0) (text : List ℕ) (few : chunk_count chunk_length text
     ≤ chunk_limit) where
-  first_right : (keep : Positions) (who : Who) (old new : Ports) (result : Result Done Stopped)
+  first_right : (keep : PositionPolicy) (who : Who) (old new : Ports) (result : Result Done Stopped)
       (run : Option Run) → old.sink.taken ≡ Some []
       → DecryptAnswers Who Allows Refused keep who old new result run → IfSome run (IsTexts text)
       → AnswersRight text new.sink.taken result
@@ -177,7 +177,7 @@ module _ (Who : Type 0) (Allows : Who → Header → List ℕ → Type 0) (Refus
   first_right keep who old new (Err s) run empty f auth =
       stop_right text few keep (Allows who) (Refused who) old new run s empty f auth
 
-  call_right : (keep : Positions) (who : Who) (p : Position) (old new : ResumePorts)
+  call_right : (keep : PositionPolicy) (who : Who) (p : Position) (old new : ResumePorts)
       (result : Result Done Stopped) (run : Option Run)
       → old.main.sink.taken ≡ Some [] → TookBeginning text old.old.remaining
       → ResumeAnswers Who Allows Refused keep who p old new result run → IfSome run (IsTexts text)

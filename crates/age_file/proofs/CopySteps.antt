@@ -10,7 +10,8 @@ use Rattle.age_stream.specs.Headline.{IsPrefixOf}
 use Rattle.age_fault.specs.Faults.{HasFailed}
 use Rattle.age_file.specs.Bindings.{link, chain}
 use Rattle.age_file.specs.inner.Readers.{ReaderView, WriterView}
-use Rattle.age_file.specs.inner.Copies.{Passes, Dries, CopyFails, CopiesChunk, CopiesAll, TextFails}
+use Rattle.age_file.specs.inner.Copies.{Passes, Dries, FailsInCopy, CopiesChunk, CopiesAll}
+use Rattle.age_file.specs.inner.Copies.{TextFails}
 use Rattle.age_fault.specs.declared.fault.FileFault.{FileFault}
 use Rattle.age_fault.specs.declared.fault.FileFault.TheVariants.{ShortText, Read, Write}
 use Rattle.age_fault.specs.declared.fault.FileFault.TheVariants.{ReadNeverEnds, OldTextDiffers}
@@ -33,7 +34,7 @@ chain_more n i out chunk whole size =
 
 copy_fails : (x y z : ReaderView) (a b c : WriterView) (p q : List ℕ) (fault : FileFault)
     → Passes x y p → b.sink.failed ≡ a.sink.failed
-    → CopyFails y z b c q fault → CopyFails x z a c (p ++ q) fault
+    → FailsInCopy y z b c q fault → FailsInCopy x z a c (p ++ q) fault
 copy_fails x y z a b c p q ShortText f same g = (passes_then x y z p q f g.0, g.1, g.2, g.3 ∙ same)
 copy_fails x y z a b c p q Write f same g =
     let more : IsPrefixOf (p ++ q) ((p ++ g.0) ++ z.unread.bytes) = (
@@ -84,7 +85,7 @@ front_written used out unwritten bytes n parts = (
 -- a pull gave no more
 pub copy_dry : (x z : ReaderView) (a b : WriterView) (p : List ℕ) (fault : FileFault)
     → Dries x z p fault → b.sink.failed ≡ a.sink.failed
-    → CopyFails x z a b p fault
+    → FailsInCopy x z a b p fault
 copy_dry x z a b p Read g same = (g, same)
 copy_dry x z a b p ReadNeverEnds g same = (g, same)
 copy_dry x z a b p other g same = absurd g.why
@@ -98,7 +99,7 @@ all_out piece out unwritten parts none =
 -- why the old text was not copied
 pub text_fails : (n chunks : ℕ) (links : List ℕ) (old new : ReaderView) (was now : WriterView)
     (out : List ℕ) (fault : FileFault)
-    → (length out < chunks * n) × CopyFails old new was now out fault
+    → (length out < chunks * n) × FailsInCopy old new was now out fault
     → TextFails n chunks links old new was now out fault
 text_fails n chunks links old new was now out OldTextDiffers h = absurd h.1
 text_fails n chunks links old new was now out other h = h

@@ -13,7 +13,7 @@ use Rattle.std.proofs.Math.Nat.{le-div_iff_mul-le}
 use Rattle.age_chunk.specs.ChunkBoxes.{IsChunkBox}
 use Rattle.age_stream.specs.Segment.{Segment, Outcome, outcome, released, with_piece, with_end}
 use Rattle.age_stream.specs.Segment.{fresh}
-use Rattle.age_stream.specs.Laws.{counted}
+use Rattle.age_stream.specs.Laws.{counted_chunks}
 use Rattle.age_stream.specs.declared.step.Status.{Status}
 use Rattle.age_stream.specs.declared.step.Status.TheVariants.{Open}
 use Rattle.age_stream.proofs.PublicLaws.{chunks_are_counted, closed_stays, end_closes}
@@ -21,9 +21,9 @@ use Rattle.age_stream.proofs.PublicLaws.{fresh_is_open, released_grows}
 use Rattle.age_chunk.proofs.FirstChunks.{first_chunks-append, length-first_chunks}
 use Rattle.age_file.specs.Bindings.{link, chain}
 use Rattle.age_file.specs.inner.Bindings.{link_if, chain_if}
-use Rattle.age_file.specs.declared.position.Positions.{Positions}
-use Rattle.age_file.specs.declared.position.Positions.TheVariants.{Kept, Dropped}
-use Rattle.age_file.specs.inner.Payloads.{Advances, CountsChunks, HasCounted}
+use Rattle.age_file.specs.declared.position.PositionPolicy.{PositionPolicy}
+use Rattle.age_file.specs.declared.position.PositionPolicy.TheVariants.{Kept, Dropped}
+use Rattle.age_file.specs.inner.Payloads.{AdvancesTally, CountsChunks, HasCounted}
 use Rattle.age_file.specs.declared.tally.Tally.{Tally}
 
 -- a quotient that is met from below, or is the lesser of the two
@@ -72,7 +72,7 @@ pub chain_on : (chunks : List (List ℕ)) (chunk : List ℕ)
 unfolding chain
 chain_on chunks chunk = fold-append link (replicate 32 0) chunks (chunk ∷ [])
 
-pub chain_if_on : (keep : Positions) (chunks : List (List ℕ)) (chunk : List ℕ)
+pub chain_if_on : (keep : PositionPolicy) (chunks : List (List ℕ)) (chunk : List ℕ)
     → chain_if keep (chunks ++ chunk ∷ []) ≡ link_if (chain_if keep chunks) chunk
 chain_if_on Kept chunks chunk = ap Some (chain_on chunks chunk)
 chain_if_on Dropped chunks chunk = refl
@@ -84,7 +84,7 @@ no_chain = refl
 
 module _ (sealing : List ℕ → List ℕ → List ℕ) (opening : List ℕ → List ℕ → Option (List ℕ))
     (valid : IsChunkBox sealing opening) (n : ℕ) (positive : 0
-    < n) (keep : Positions) where
+    < n) (keep : PositionPolicy) where
   abbrev at : Segment → ℕ
   at s = (outcome opening n s).index
 
@@ -97,7 +97,7 @@ module _ (sealing : List ℕ → List ℕ → List ℕ) (opening : List ℕ → 
 
   -- open segments have released whole chunks alone
   open_text : (base : List ℕ) (s : Segment) → length base ≡ s.start * n
-      → counted opening n s ≡ (outcome opening n s).texts
+      → counted_chunks opening n s ≡ (outcome opening n s).texts
       → length (base ++ released opening n s) ≡ at s * n
   open_text base s len all =
       let c = chunks_are_counted sealing opening valid n base s len in
@@ -215,7 +215,7 @@ module _ (sealing : List ℕ → List ℕ → List ℕ) (opening : List ℕ → 
       let most = texts_len base next len' in
       let by_one : at next ≡ at s + 1 = omega (arith, lt, most, start, size, count, m.few) in
       let one : length ts ≡ 1 = omega (arith, lt, most, start, size, count, m.few) in
-      let all : counted opening n next ≡ texts ++ ts = ap (take (at next - next.start)) m.texts
+      let all : counted_chunks opening n next ≡ texts ++ ts = ap (take (at next - next.start)) m.texts
       ∙ take_all (at next - next.start) (texts ++ ts)
       (omega (arith, length-append texts ts, by_one, one, count, start)) in
       let base_chunks = first_chunks n s.start base in
@@ -266,7 +266,7 @@ module _ (sealing : List ℕ → List ℕ → List ℕ) (opening : List ℕ → 
       → IsTimely s → IsTimely (with_piece s piece)
       → (outcome opening n (with_piece s piece)).texts ≡ (outcome opening n s).texts ++ ts
       → length ts ≤ 1 → index ≡ at (with_piece s piece)
-      → Advances was.index was.chain index (link_if was.chain (flat_map (λ (t : List ℕ). t) ts)) now
+      → AdvancesTally was.index was.chain index (link_if was.chain (flat_map (λ (t : List ℕ). t) ts)) now
       → CountsChunks keep opening n base s [] was
       → CountsChunks keep opening n base (with_piece s piece) [] now
   mark_step base s piece ts index was now len timely timely' texts few is a m =

@@ -24,7 +24,7 @@ use Rattle.age_file.proofs.RunSteps.{writes_of, writes_all, position_given, posi
 use Rattle.age_file.specs.Bindings.{file_id, position_tag, chain}
 use Rattle.std.specs.Simd.{first_chunks}
 use Rattle.age_file.specs.inner.Bindings.{chain_if}
-use Rattle.age_file.specs.declared.position.Positions.{Positions}
+use Rattle.age_file.specs.declared.position.PositionPolicy.{PositionPolicy}
 use Rattle.age_file.specs.declared.position.Position.{Position}
 use Rattle.age_file.specs.declared.start.Unlocked.{Unlocked}
 use Rattle.age_fault.specs.declared.fault.FileFault.{FileFault}
@@ -44,7 +44,7 @@ own_tag key tag index own_index id own_id links own_links index_is id_is links_a
 first_fits : (r : Run) → IsFromStart r → r.first < chunk_limit
 first_fits r from = omega (arith, from.zero)
 
-module _ (keep : Positions) (Allows : Header → List ℕ → Type 0) (Refused : Header → KeyFault
+module _ (keep : PositionPolicy) (Allows : Header → List ℕ → Type 0) (Refused : Header → KeyFault
     → Type 0) where
   abbrev pub before : SourceView → Stage → Ports
   before a old = record { source = a; sink = old.writer.sink }

@@ -14,14 +14,15 @@ use Rattle.age_stream.proofs.PublicLaws.{fresh_is_open, released_grows}
 use Rattle.age_fault.specs.Faults.{HasFailed}
 use Rattle.age_file.specs.Runs.{NoneFailed}
 use Rattle.age_file.specs.inner.Readers.{WriterView, Stage, stage, ports_at}
-use Rattle.age_file.specs.inner.Payloads.{Releases, Closes, FeedFails, segment, DecryptsPayload}
+use Rattle.age_file.specs.inner.Payloads.{Releases, ClosesPayload, FeedFails, segment}
+use Rattle.age_file.specs.inner.Payloads.{DecryptsPayload}
 use Rattle.age_file.specs.inner.Payloads.{SegmentFails, SegmentDone, CountsChunks, HasCounted}
 use Rattle.age_fault.specs.declared.fault.FileFault.{FileFault}
 use Rattle.age_fault.specs.declared.fault.FileFault.TheVariants.{Stream, Read, Write, ReadNeverEnds}
 use Rattle.age_chunk.specs.ChunkBoxes.{IsChunkBox}
 use Rattle.std.specs.Simd.{first_chunks}
 use Rattle.age_file.specs.inner.Bindings.{chain_if}
-use Rattle.age_file.specs.declared.position.Positions.{Positions}
+use Rattle.age_file.specs.declared.position.PositionPolicy.{PositionPolicy}
 use Rattle.age_file.proofs.CountSteps.{no_piece, mark_fresh, marked}
 use Rattle.age_file.proofs.FlowSteps.{FlowFails, Ends, Stops}
 use Rattle.age_file.proofs.ReleaseSteps.{releases_next}
@@ -92,7 +93,7 @@ module _ {B : Type 0} (sealing : B → List ℕ → List ℕ → List ℕ) (open
         → Stands opening n old (fresh k)
         → with_piece (next (fresh k)) more ≡ last
         → (o : Releases opening n next old new was now unwritten)
-        → (keep : Positions) (base : List ℕ)
+        → (keep : PositionPolicy) (base : List ℕ)
         → length base ≡ k * n → was.tally.index ≡ k
         → was.tally.chain ≡ chain_if keep (first_chunks n k base)
         → HasCounted keep (opening K) n (base ++ o.out) last now.tally
@@ -214,7 +215,7 @@ module _ {B : Type 0} (sealing : B → List ℕ → List ℕ → List ℕ) (open
     pub pour_ended : (a b c : OpenerView B) (old mid : Stage) (now : WriterView)
         (result : Result (Unit {0}) FileFault) → a.key ≡ K
         → Stands opening n a (fresh k)
-        → Ends opening n a b old mid → Closes opening n b c mid.writer now result
+        → Ends opening n a b old mid → ClosesPayload opening n b c mid.writer now result
         → OnOk result (now.sink.settled ≡ true)
         → DecryptsPayload (opening K) n k old (stage mid.reader now) result
     pour_ended a b c old mid now result key h t end settled =

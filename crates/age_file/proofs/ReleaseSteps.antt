@@ -11,13 +11,14 @@ use Rattle.age_stream.specs.Segment.{Segment, outcome, released, with_piece}
 use Rattle.age_stream.specs.Opener.{has_failed, OpenerView, Stands, chunk_texts, chunk_bytes}
 use Rattle.age_stream.proofs.PublicLaws.{pieces_join}
 use Rattle.age_fault.specs.Faults.{HasFailed}
-use Rattle.age_file.specs.inner.Payloads.{Releases, FeedGoes, FeedFails, Advances, CountsChunks}
+use Rattle.age_file.specs.inner.Payloads.{Releases, FeedGoes, FeedFails, AdvancesTally}
+use Rattle.age_file.specs.inner.Payloads.{CountsChunks}
 use Rattle.age_file.specs.inner.Readers.{WriterView}
 use Rattle.age_fault.specs.declared.fault.FileFault.{FileFault}
 use Rattle.age_fault.specs.declared.fault.FileFault.TheVariants.{Stream, Write}
 use Rattle.age_chunk.specs.ChunkBoxes.{IsChunkBox}
 use Rattle.age_file.specs.inner.Bindings.{link_if}
-use Rattle.age_file.specs.declared.position.Positions.{Positions}
+use Rattle.age_file.specs.declared.position.PositionPolicy.{PositionPolicy}
 use Rattle.age_file.specs.declared.tally.Tally.{Tally}
 use Rattle.age_file.proofs.CountSteps.{no_piece, piece_start, mark_step, mark_none, mark_cut}
 use Rattle.age_fault.proofs.Bytes.{Appends-then}
@@ -117,7 +118,7 @@ module _ {B : Type 0} (opening : B → List ℕ → List ℕ → Option (List �
   -- what `counts` asks of a piece that was fed
   abbrev pub IsMarkedOn : OpenerView B → List ℕ → Tally → Tally → List ℕ → Type 0
   IsMarkedOn old fed was now unwritten =
-      (keep : Positions) → 0 < n → (s : Segment) (base : List ℕ) → length base ≡ s.start * n
+      (keep : PositionPolicy) → 0 < n → (s : Segment) (base : List ℕ) → length base ≡ s.start * n
       → Stands opening n old s
       → CountsChunks keep (opening old.key) n base s [] was
       → CountsChunks keep (opening old.key) n base (with_piece s fed) unwritten now
@@ -131,11 +132,11 @@ module _ {B : Type 0} (opening : B → List ℕ → List ℕ → Option (List �
       → ((s : Segment) → Stands opening n old s
       → (outcome (opening old.key) n (with_piece s fed)).texts
       ≡ (outcome (opening old.key) n s).texts ++ chunk_texts chunk)
-      → Advances was.index was.chain index (link_if was.chain (chunk_bytes chunk)) now
+      → AdvancesTally was.index was.chain index (link_if was.chain (chunk_bytes chunk)) now
       → IsMarkedOn old fed was now []
   counts_whole sealing old new was now fed chunk index valid key is stands texts a keep positive s
       base len h m =
-      let a' = subst (λ (l : Option (List ℕ)). Advances was.index was.chain index l now)
+      let a' = subst (λ (l : Option (List ℕ)). AdvancesTally was.index was.chain index l now)
       (ap (link_if was.chain) (sym (lent_flat chunk))) a in
       let at : index ≡ (outcome (opening old.key) n (with_piece s fed)).index = is
       ∙ ((stands s h).index ∙ ap (λ k. (outcome (opening k) n (with_piece s fed)).index) key) in

@@ -23,7 +23,7 @@ use Rattle.age_keys.specs.Keys.{payload_key, position_key}
 use Rattle.age_keys.specs.AgeFile.{unbox}
 use Rattle.age_file.specs.Bindings.{file_id, chain, position_tag}
 use Rattle.age_file.specs.inner.Bindings.{chain_if}
-use Rattle.age_file.specs.declared.position.Positions.TheVariants.{Kept, Dropped}
+use Rattle.age_file.specs.declared.position.PositionPolicy.TheVariants.{Kept, Dropped}
 use Rattle.age_file.specs.inner.Copies.{CopiesText, Passes, SkipFails, Uses, StartsAt}
 use Rattle.age_fault.specs.Faults.{HasFailed}
 use Rattle.age_file.specs.inner.Readers.{ReaderView, reader_view, WriterView, Stage, stage, Pulled}
@@ -41,7 +41,7 @@ use Rattle.age_fault.specs.declared.fault.FileFault.TheVariants.{Stream, OtherFi
 use Rattle.age_fault.specs.declared.fault.FileFault.TheVariants.{Write, ReadNeverEnds}
 use Rattle.age_fault.specs.declared.fault.FileFault.TheVariants.{PositionForged, OldTextDiffers}
 use Rattle.age_file.specs.declared.position.Position.{Position}
-use Rattle.age_file.specs.declared.position.Positions.{Positions}
+use Rattle.age_file.specs.declared.position.PositionPolicy.{PositionPolicy}
 use Rattle.age_file.specs.declared.start.Unlocked.{Unlocked}
 use Rattle.age_file.proofs.Bytes.{prefix_trans, preceded, preceded_consumed, counted_on}
 use Rattle.age_file.proofs.Bytes.{counted_back}
@@ -99,7 +99,7 @@ whole_blocks count len least most = omega (arith, least, most)
 
 -- ---- a run that stopped in the old text, or before it
 
-module _ (keep : Positions) (Allows : Header → List ℕ → Type 0) (Refused : Header → KeyFault
+module _ (keep : PositionPolicy) (Allows : Header → List ℕ → Type 0) (Refused : Header → KeyFault
     → Type 0) (p : Position) where
   abbrev pub before : SourceView → WriterView → ReaderView → ResumePorts
   before a first x = record { main = record { source = a; sink = first.sink }; old = x.source }
@@ -499,7 +499,7 @@ module _ (keep : Positions) (Allows : Header → List ℕ → Type 0) (Refused :
                 (sym id) (sym links) h.tag_is ∙ sym v.1;
           }
 
-      same_given : (how : Positions) (position : Option Position)
+      same_given : (how : PositionPolicy) (position : Option Position)
           → PositionAt unlocked s1.writer.tally.index
           (chain_if how (first_chunks chunk_length p.index c.out)) position
           → GivesPosition how (IsSame p) position

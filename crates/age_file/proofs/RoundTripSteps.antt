@@ -10,9 +10,9 @@ use Rattle.age_keys.specs.Scrypt.{PassphraseOpens, PassphraseIdentity, IsPassphr
 use Rattle.age_keys.specs.Scrypt.{PassphraseRefuses, scrypt_head}
 use Rattle.age_file.specs.Runs.{Ports, Run}
 use Rattle.age_file.specs.Encrypts.{SecretView, AgeFile}
-use Rattle.age_file.specs.Decrypts.{IsWhole, IsUndamaged, StopsOutside}
-use Rattle.age_file.specs.InARow.{DecryptAnswers, IsSecret, words_of, WasEncrypted}
-use Rattle.age_file.specs.declared.position.Positions.{Positions}
+use Rattle.age_file.specs.Decrypts.{IsWhole, IsUndamagedFile, StopsOutside}
+use Rattle.age_file.specs.InARow.{DecryptAnswers, IsSecret, passphrase_identity, WasEncrypted}
+use Rattle.age_file.specs.declared.position.PositionPolicy.{PositionPolicy}
 use Rattle.age_file.specs.declared.decryption.Done.{Done}
 use Rattle.age_file.specs.declared.decryption.Stopped.{Stopped}
 use Rattle.age_file.specs.declared.encryption.Written.{Written}
@@ -22,10 +22,10 @@ use Rattle.age_file.proofs.Undamaged.{left_of, none_left, undamaged, undamaged_d
 pub whole : PassphraseOpens → (s : SecretView) (max_log : ℕ) (text bytes : List ℕ) → IsSecret s
     → s.log ≤ max_log → chunk_count chunk_length text ≤ chunk_limit
     → AgeFile s text bytes
-    → IsWhole (IsPassphraseKey (words_of s max_log)) (PassphraseRefuses (words_of s max_log))
+    → IsWhole (IsPassphraseKey (passphrase_identity s max_log)) (PassphraseRefuses (passphrase_identity s max_log))
     (Some bytes) text
 whole opens s max_log text bytes is within few file =
-    let a = opens (words_of s max_log) s.log s.salt s.key is.within.least_log is.within.most_log
+    let a = opens (passphrase_identity s max_log) s.log s.salt s.key is.within.least_log is.within.most_log
     within is.salt_length is.salt_bytes is.key_length in
     record {
       header = scrypt_head s.pass s.log s.salt s.key;
@@ -67,10 +67,10 @@ undamaged_of : PassphraseOpens
     → s.log ≤ max_log
     → chunk_count chunk_length text ≤ chunk_limit
     → IsClosed (box s.key s.nonce) (unbox s.key s.nonce) chunk_length text → TookFile s text coming
-    → IsUndamaged (IsPassphraseKey (words_of s max_log)) (PassphraseRefuses (words_of s max_log))
+    → IsUndamagedFile (IsPassphraseKey (passphrase_identity s max_log)) (PassphraseRefuses (passphrase_identity s max_log))
     coming text
 undamaged_of opens s max_log text coming is within few closed f =
-    let a = opens (words_of s max_log) s.log s.salt s.key is.within.least_log is.within.most_log
+    let a = opens (passphrase_identity s max_log) s.log s.salt s.key is.within.least_log is.within.most_log
     within is.salt_length is.salt_bytes is.key_length in
     record {
       whole = record {
@@ -88,10 +88,10 @@ undamaged_of opens s max_log text coming is within few closed f =
       closed = closed;
     }
 
-answered : (keep : Positions) → OneHeader
+answered : (keep : PositionPolicy) → OneHeader
     → (w : PassphraseIdentity) (text : List ℕ) (now last : Ports) (result : Result Done Stopped)
     (run : Option Run)
-    → IsUndamaged (IsPassphraseKey w) (PassphraseRefuses w) now.source.remaining text
+    → IsUndamagedFile (IsPassphraseKey w) (PassphraseRefuses w) now.source.remaining text
     → now.sink.taken ≡ Some []
     → DecryptAnswers PassphraseIdentity IsPassphraseKey PassphraseRefuses keep w now last result run
     → MatchResult result (λ done. last.sink.taken ≡ Some text)
@@ -105,13 +105,13 @@ answered keep one w text now last (Err s) run u empty f =
     undamaged keep one (IsPassphraseKey w) (PassphraseRefuses w) now last run s text u f
 
 pub there_and_back : OneHeader → PassphraseOpens
-    → (keep : Positions) (s : SecretView) (max_log : ℕ) (text : List ℕ) (was file now last : Ports)
+    → (keep : PositionPolicy) (s : SecretView) (max_log : ℕ) (text : List ℕ) (was file now last : Ports)
     (written : Written) (result : Result Done Stopped) (run : Option Run) → IsSecret s
     → s.log ≤ max_log
     → IsClosed (box s.key s.nonce) (unbox s.key s.nonce) chunk_length text
     → WasEncrypted s text was file written → now.source.remaining ≡ file.sink.taken
     → now.sink.taken ≡ Some []
-    → DecryptAnswers PassphraseIdentity IsPassphraseKey PassphraseRefuses keep (words_of s max_log)
+    → DecryptAnswers PassphraseIdentity IsPassphraseKey PassphraseRefuses keep (passphrase_identity s max_log)
     now last result run
     → MatchResult result (λ done. last.sink.taken ≡ Some text)
     (λ stopped. StopsOutside stopped.fault)
@@ -119,6 +119,6 @@ there_and_back one opens keep s max_log text was file now last written result ru
     coming empty f =
     let took = took_file s text was file written e in
     let held = subst (TookFile s text) (sym coming) took in
-    answered keep one (words_of s max_log) text now last result run
+    answered keep one (passphrase_identity s max_log) text now last result run
     (undamaged_of opens s max_log text now.source.remaining is within took.few closed held)
     empty f

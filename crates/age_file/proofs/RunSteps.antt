@@ -15,19 +15,19 @@ use Rattle.age_keys.specs.AgeFile.{box, unbox}
 use Rattle.age_file.specs.Bindings.{file_id, chain, position_tag}
 use Rattle.age_file.specs.inner.Bindings.{chain_if}
 use Rattle.age_file.specs.inner.Decrypts.{IsPositionAt, PositionAt}
-use Rattle.age_file.specs.Runs.{Run, IsFromStart, segment_of, outcome_of, text_of, held, IsTexts}
+use Rattle.age_file.specs.Runs.{Run, IsFromStart, segment_of, run_outcome, run_text, held, IsTexts}
 use Rattle.age_file.specs.Runs.{IsAuthenticRun, IsPositionOf, GivesPosition}
 use Rattle.age_file.specs.declared.position.Position.{Position}
-use Rattle.age_file.specs.declared.position.Positions.{Positions}
-use Rattle.age_file.specs.declared.position.Positions.TheVariants.{Kept, Dropped}
+use Rattle.age_file.specs.declared.position.PositionPolicy.{PositionPolicy}
+use Rattle.age_file.specs.declared.position.PositionPolicy.TheVariants.{Kept, Dropped}
 use Rattle.age_file.specs.declared.start.Unlocked.{Unlocked}
 use Rattle.age_file.proofs.Bytes.{prefix_trans}
 use Rattle.age_chunk.proofs.FirstChunks.{first_chunks-append}
 
 -- the text of a run, after its old text
 held_text : (r : Run) (text : List ℕ) → IsAuthenticRun r text → r.first < chunk_limit
-    → IsPrefixOf (r.copied ++ text_of r) text
-    × ((outcome_of r).status ≡ Done → r.copied ++ text_of r ≡ text)
+    → IsPrefixOf (r.copied ++ run_text r) text
+    × ((run_outcome r).status ≡ Done → r.copied ++ run_text r ≡ text)
 held_text r text auth limit =
     let seal = box r.file.key r.file.nonce in
     let open_box = unbox r.file.key r.file.nonce in
@@ -35,8 +35,8 @@ held_text r text auth limit =
     let valid = box_valid (payload_key r.file.key r.file.nonce) in
     let o = released_is_written seal open_box valid chunk_length positive (segment_of r) text
     auth.few limit auth.authentic in (
-      subst (λ (t : List ℕ). IsPrefixOf (t ++ text_of r) text) (sym auth.old_text) o.prefix,
-      λ done. ap (λ (t : List ℕ). t ++ text_of r) auth.old_text ∙ o.done done,
+      subst (λ (t : List ℕ). IsPrefixOf (t ++ run_text r) text) (sym auth.old_text) o.prefix,
+      λ done. ap (λ (t : List ℕ). t ++ run_text r) auth.old_text ∙ o.done done,
     )
 
 -- what was written begins the text of which the run is authentic
@@ -46,13 +46,13 @@ WritesOf r = (text : List ℕ) → IsAuthenticRun r text → IsPrefixOf (held r)
 append_prefix : (x y z : List ℕ) → IsPrefixOf y z → IsPrefixOf (x ++ y) (x ++ z)
 append_prefix x y z p = (p.0, append_assoc x y p.0 ∙ ap (λ (t : List ℕ). x ++ t) p.1)
 
-pub writes_of : (r : Run) → r.first < chunk_limit → IsPrefixOf r.out (text_of r) → WritesOf r
+pub writes_of : (r : Run) → r.first < chunk_limit → IsPrefixOf r.out (run_text r) → WritesOf r
 writes_of r limit begins text auth =
-    prefix_trans (held r) (r.copied ++ text_of r) text
-    (append_prefix r.copied r.out (text_of r) begins) (held_text r text auth limit).0
+    prefix_trans (held r) (r.copied ++ run_text r) text
+    (append_prefix r.copied r.out (run_text r) begins) (held_text r text auth limit).0
 
-pub writes_all : (r : Run) → r.first < chunk_limit → r.out ≡ text_of r
-    → (outcome_of r).status ≡ Done → (text : List ℕ) → IsAuthenticRun r text
+pub writes_all : (r : Run) → r.first < chunk_limit → r.out ≡ run_text r
+    → (run_outcome r).status ≡ Done → (text : List ℕ) → IsAuthenticRun r text
     → held r ≡ text
 writes_all r limit whole done text auth = ap (λ (t : List ℕ). r.copied ++ t) whole
     ∙ (held_text r text auth limit).1 done
@@ -77,14 +77,14 @@ from_start r from text few auth =
 pub position_is : (r : Run) (unlocked : Unlocked) (index : ℕ) (p : Position) → r.first < chunk_limit
     → r.file.key ≡ unlocked.key
     → r.file.nonce ≡ unlocked.nonce → unlocked.id ≡ file_id r.file.header_bytes r.file.nonce
-    → IsPrefixOf r.out (text_of r)
-    → index ≡ min (length (held r) / chunk_length) (outcome_of r).index
+    → IsPrefixOf r.out (run_text r)
+    → index ≡ min (length (held r) / chunk_length) (run_outcome r).index
     → IsPositionAt unlocked index (chain (first_chunks chunk_length index (held r))) p
     → IsPositionOf r p
 position_is r unlocked index p limit key nonce id begins is at =
     let over : p.chain ≡ chain (first_chunks chunk_length p.index (held r)) =
     at.chain_is ∙ ap (λ (k : ℕ). chain (first_chunks chunk_length k (held r))) (sym at.index_is) in
-    let least : p.index ≡ min (length (held r) / chunk_length) (outcome_of r).index =
+    let least : p.index ≡ min (length (held r) / chunk_length) (run_outcome r).index =
     at.index_is ∙ is in
     record {
       index = least;
@@ -109,12 +109,12 @@ position_is r unlocked index p limit key nonce id begins is at =
     }
 
 -- and it is handed out where it was kept
-pub position_given : (keep : Positions) (r : Run) (unlocked : Unlocked) (index : ℕ)
+pub position_given : (keep : PositionPolicy) (r : Run) (unlocked : Unlocked) (index : ℕ)
     (position : Option Position) → r.first < chunk_limit
     → r.file.key ≡ unlocked.key → r.file.nonce ≡ unlocked.nonce
     → unlocked.id ≡ file_id r.file.header_bytes r.file.nonce
-    → IsPrefixOf r.out (text_of r)
-    → index ≡ min (length (held r) / chunk_length) (outcome_of r).index
+    → IsPrefixOf r.out (run_text r)
+    → index ≡ min (length (held r) / chunk_length) (run_outcome r).index
     → PositionAt unlocked index (chain_if keep (first_chunks chunk_length index (held r))) position
     → GivesPosition keep (IsPositionOf r) position
 position_given Kept r unlocked index (Some p) limit key nonce id begins is at =

@@ -22,11 +22,11 @@ use Rattle.age_keys.specs.declared.fault.KeyFault.TheVariants.{MacMismatch, Memo
 use Rattle.age_keys.specs.Keys.{IsMacOf, payload_key, Refuses, RefusesKey}
 use Rattle.age_keys.specs.inner.PayloadBox.{box_valid}
 use Rattle.age_keys.specs.AgeFile.{box, unbox}
-use Rattle.age_file.specs.Runs.{Ports, IsHeadFault, NeverEnds, Run, IsFromStart, outcome_of, IsRun}
+use Rattle.age_file.specs.Runs.{Ports, IsHeadFault, NeverEnds, Run, IsFromStart, run_outcome, IsRun}
 use Rattle.age_file.specs.Runs.{PayloadFails, IsDone}
 use Rattle.std.specs.Prelude.{IfSome}
-use Rattle.age_file.specs.declared.position.Positions.{Positions}
-use Rattle.age_file.specs.Decrypts.{StartFails, DecryptStops, IsWhole, IsUndamaged, WritesText}
+use Rattle.age_file.specs.declared.position.PositionPolicy.{PositionPolicy}
+use Rattle.age_file.specs.Decrypts.{StartFails, DecryptStops, IsWhole, IsUndamagedFile, WritesText}
 use Rattle.age_file.specs.Decrypts.{StopsOutside}
 use Rattle.age_file.specs.inner.Payloads.{segment}
 use Rattle.age_file.specs.declared.decryption.Stopped.{Stopped}
@@ -338,7 +338,7 @@ module _ (one : OneHeader) (Allows : Header → List ℕ → Type 0) (Refused : 
 
   -- opens to its end
   pub run_opens : (fault : StreamFault) → IsRun Allows old new written r
-      → (outcome_of r).status ≡ Failed fault → ⊥
+      → (run_outcome r).status ≡ Failed fault → ⊥
   run_opens fault is failed =
       no_stream_fault one Allows Refused old.source.remaining text u r.first below
       (own_authentic u.key u.nonce text u.few closed r.first below)
@@ -379,10 +379,10 @@ module _ (one : OneHeader) (Allows : Header → List ℕ → Type 0) (Refused : 
             ∙ ap length whole,
       )
 
-pub undamaged : (keep : Positions) → OneHeader
+pub undamaged : (keep : PositionPolicy) → OneHeader
     → (Allows : Header → List ℕ → Type 0) (Refused : Header → KeyFault → Type 0) (old new : Ports)
     (run : Option Run) (stopped : Stopped) (text : List ℕ)
-    → IsUndamaged Allows Refused old.source.remaining text
+    → IsUndamagedFile Allows Refused old.source.remaining text
     → DecryptStops keep Allows Refused old new run stopped → StopsOutside stopped.fault
 undamaged keep one Allows Refused old new None stopped text u f =
     start_undamaged one Allows Refused old.source new.source text u.whole stopped.fault f.1
@@ -395,7 +395,7 @@ undamaged keep one Allows Refused old new (Some r) stopped text u f =
 pub undamaged_done : OneHeader
     → (Allows : Header → List ℕ → Type 0) (Refused : Header → KeyFault → Type 0) (old new : Ports)
     (written : ℕ) (r : Run)
-    (text : List ℕ) → IsUndamaged Allows Refused old.source.remaining text → IsFromStart r
+    (text : List ℕ) → IsUndamagedFile Allows Refused old.source.remaining text → IsFromStart r
     → IsDone Allows old new written r
     → WritesText old.sink.taken new.sink.taken written text
 undamaged_done one Allows Refused old new written r text u from d =

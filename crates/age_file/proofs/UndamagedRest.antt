@@ -18,7 +18,7 @@ use Rattle.age_file.specs.Resumes.{NeverEndTogether, BeforeOldFails, InOldFails,
 use Rattle.age_file.specs.Resumes.{StopsInSkipped, ResumeStops}
 use Rattle.age_file.specs.declared.decryption.Stopped.{Stopped}
 use Rattle.age_file.specs.declared.position.Position.{Position}
-use Rattle.age_file.specs.declared.position.Positions.{Positions}
+use Rattle.age_file.specs.declared.position.PositionPolicy.{PositionPolicy}
 use Rattle.age_fault.specs.declared.fault.FileFault.{FileFault}
 use Rattle.age_fault.specs.declared.fault.FileFault.TheVariants.{Head, Key, NonceCut, Stream}
 use Rattle.age_fault.specs.declared.fault.FileFault.TheVariants.{OtherFile, ShortText, Read, Write}
@@ -121,7 +121,7 @@ module _ (one : OneHeader) (Allows : Header → List ℕ → Type 0) (Refused : 
   old_undamaged written copied w other f = absurd f.1
 
   -- the blocks before the position's are all there
-  skipped_undamaged : (keep : Positions) (stopped : Stopped)
+  skipped_undamaged : (keep : PositionPolicy) (stopped : Stopped)
       (s : StopsInSkipped Allows p old new keep stopped) (fault : FileFault)
       → InSkippedFails Allows p old new s.skipped fault → StopsOutside fault
   skipped_undamaged keep stopped s (Stream x) f =
@@ -133,7 +133,7 @@ module _ (one : OneHeader) (Allows : Header → List ℕ → Type 0) (Refused : 
   skipped_undamaged keep stopped s ReadNeverEnds f = tt
   skipped_undamaged keep stopped s other f = absurd f
 
-  pub undamaged_rest : (keep : Positions) (run : Option Run) (stopped : Stopped)
+  pub undamaged_rest : (keep : PositionPolicy) (run : Option Run) (stopped : Stopped)
       → ResumeStops Allows p old new keep Refused run stopped
       → StopsOutside stopped.fault
   undamaged_rest keep None stopped (inl f) = before_undamaged stopped.fault f.2

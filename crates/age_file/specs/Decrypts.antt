@@ -18,11 +18,11 @@ use Rattle.age_fault.specs.declared.fault.FileFault.TheVariants.{ReadNeverEnds}
 use Rattle.age_chunk.specs.Payload.{chunk_count, chunk_length, chunk_limit}
 use Rattle.age_stream.specs.Laws.{IsClosed}
 use Rattle.age_keys.specs.AgeFile.{box, unbox, FileOf}
-use Rattle.age_file.specs.declared.position.Positions.{Positions}
+use Rattle.age_file.specs.declared.position.PositionPolicy.{PositionPolicy}
 use Rattle.age_file.specs.declared.position.Position.{Position}
 use Rattle.age_file.specs.declared.decryption.Done.{Done}
 use Rattle.age_file.specs.declared.decryption.Stopped.{Stopped}
-use Rattle.age_file.specs.declared.position.Positions.TheVariants.{Kept, Dropped}
+use Rattle.age_file.specs.declared.position.PositionPolicy.TheVariants.{Kept, Dropped}
 
 -- ---- What was read up to a payload.
 
@@ -55,7 +55,7 @@ DecryptEnds Allows old new done r = IsFromStart r × IsDone Allows old new done.
     × NoneFailed old new
 
 -- what it promises where it stopped: before the payload, nothing was written; or in the payload
-abbrev pub DecryptStops : Positions → (Header → List ℕ → Type 0) → (Header → KeyFault → Type 0)
+abbrev pub DecryptStops : PositionPolicy → (Header → List ℕ → Type 0) → (Header → KeyFault → Type 0)
     → Ports → Ports → Option Run → Stopped → Type 0
 DecryptStops keep Allows Refused old new None stopped = WritesNone old new stopped
     × StartFails Allows Refused old.source new.source stopped.fault
@@ -83,7 +83,7 @@ pub record IsWhole (Allows : Header → List ℕ → Type 0) (Refused : Header �
   pub never : (fault : KeyFault) → Refused header fault → fault ≡ KeyMemory
 
 -- and its last block, where that is full, doesn't open as one before the last
-pub record IsUndamaged (Allows : Header → List ℕ → Type 0) (Refused : Header → KeyFault → Type 0)
+pub record IsUndamagedFile (Allows : Header → List ℕ → Type 0) (Refused : Header → KeyFault → Type 0)
     (coming : Option (List ℕ)) (text : List ℕ) : Type 0 where
   pub whole : IsWhole Allows Refused coming text
   pub closed : IsClosed (box whole.key whole.nonce) (unbox whole.key whole.nonce) chunk_length text
@@ -100,13 +100,13 @@ StopsOutside other = ⊥
 -- payload; how it ended and how it stopped; that the text of an age file that is undamaged is
 -- written, unless reading, writing or memory fails; that the sink sent on what it took; and that
 -- the sink keeps its label
-pub record Decrypts (keep : Positions) (Allows : Header → List ℕ → Type 0)
+pub record Decrypts (keep : PositionPolicy) (Allows : Header → List ℕ → Type 0)
     (Refused : Header → KeyFault → Type 0) (old new : Ports) (result : Result Done Stopped)
     : Type 0 where
   pub run : Option Run
   pub done : IfOk result (λ done. IsSomeAnd run (DecryptEnds Allows old new done))
   pub stopped : IfErr result (DecryptStops keep Allows Refused old new run)
-  pub undamaged : (text : List ℕ) → IsUndamaged Allows Refused old.source.remaining text
+  pub undamaged : (text : List ℕ) → IsUndamagedFile Allows Refused old.source.remaining text
       → MatchResult result (λ done. WritesText old.sink.taken new.sink.taken done.written text)
       (λ stopped. StopsOutside stopped.fault)
   pub settled : OnOk result (new.sink.settled ≡ true)
@@ -118,7 +118,7 @@ FindsKey None key = key ≡ None
 FindsKey (Some r) key = key ≡ Some r.file.key
 
 -- what a decryption promises that hands out the key as well
-pub record DecryptsKeyed (keep : Positions) (Allows : Header → List ℕ → Type 0)
+pub record DecryptsKeyed (keep : PositionPolicy) (Allows : Header → List ℕ → Type 0)
     (Refused : Header → KeyFault → Type 0) (old new : Ports) (result : Result Done Stopped)
     (key : Option (List ℕ)) : Type 0 where
   pub is : Decrypts keep Allows Refused old new result

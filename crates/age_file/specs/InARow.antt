@@ -3,7 +3,7 @@ use Rattle.std.specs.Prelude.{◌≡◌, ◌⊎◌, ℕ, List, [], ◌∷◌, �
 use Rattle.std.specs.Prelude.{Result, MatchResult, ◌*◌, take, length}
 use Rattle.age_stream.specs.declared.step.Status.TheVariants.{Done as AllDone}
 use Rattle.age_stream.specs.Headline.{IsPrefixOf}
-use Rattle.age_file.specs.Runs.{Run, IsFromStart, outcome_of, text_of, held, IsTexts}
+use Rattle.age_file.specs.Runs.{Run, IsFromStart, run_outcome, run_text, held, IsTexts}
 use Rattle.age_file.specs.Runs.{IsAuthenticRun, IsPositionOf, CarriesText, Ports, IsRun, IsDone}
 use Rattle.age_file.specs.Resumes.{IsSame, IsOldText, ResumePorts, ResumeEnds, ResumeStops}
 use Rattle.age_file.specs.Resumes.{IsBoundTo, IsFrom}
@@ -14,7 +14,7 @@ use Rattle.age_keys.specs.declared.fault.KeyFault.{KeyFault}
 use Rattle.age_file.specs.Decrypts.{DecryptEnds, DecryptStops, IsWhole, StopsOutside}
 use Rattle.age_file.specs.declared.decryption.Done.{Done}
 use Rattle.age_file.specs.declared.decryption.Stopped.{Stopped}
-use Rattle.age_file.specs.declared.position.Positions.{Positions}
+use Rattle.age_file.specs.declared.position.PositionPolicy.{PositionPolicy}
 use Rattle.base64.specs.GeneralPurpose.{IsBytes}
 use Rattle.age_stream.specs.Laws.{IsClosed}
 use Rattle.age_keys.specs.Scrypt.{PassphraseIdentity, IsAllowed, IsPassphraseKey, PassphraseRefuses}
@@ -43,7 +43,7 @@ HandsOut first (r ∷ earlier) p = IsPositionOf r.run p ⊎ IsSame r.position p
 
 -- a run ended with all of its text written
 abbrev pub HasEnded : Run → Type 0
-HasEnded r = (r.out ≡ text_of r) × ((outcome_of r).status ≡ AllDone)
+HasEnded r = (r.out ≡ run_text r) × ((run_outcome r).status ≡ AllDone)
 
 -- a run copied the beginning of what was written before, and wrote the beginning of its text after
 -- it; no block that came and is tried opens, except as the writer of this text sealed it
@@ -52,12 +52,12 @@ pub record FollowsOn (text : List ℕ) (first : Run) (earlier : List ResumedRun)
   pub at : r.run.first ≡ r.position.index
   pub old : IsPrefixOf r.run.copied (held (last first earlier))
   pub old_text : IsOldText r.position r.run.copied
-  pub prefix : IsPrefixOf r.run.out (text_of r.run)
+  pub prefix : IsPrefixOf r.run.out (run_text r.run)
   pub authentic : IsTexts text r.run
 
 abbrev pub AllFollow : List ℕ → Run → List ResumedRun → Type 0
 AllFollow text first [] = IsFromStart first × IsAuthenticRun first text
-    × IsPrefixOf first.out (text_of first)
+    × IsPrefixOf first.out (run_text first)
 AllFollow text first (r ∷ earlier) = FollowsOn text first earlier r × AllFollow text first earlier
 
 -- then what the last one wrote begins the text, and is all of it where it ended; so does what one
@@ -93,14 +93,14 @@ AnswersRight text taken result = MatchResult result (λ done. taken ≡ Some tex
 module _ (Who : Type 0) (Allows : Who → Header → List ℕ → Type 0)
     (Refused : Who → Header → KeyFault → Type 0) where
   -- what `decrypt_with` promises of its answer and of its run, if it came to its payload
-  abbrev pub DecryptAnswers : Positions → Who → Ports → Ports → Result Done Stopped → Option Run
+  abbrev pub DecryptAnswers : PositionPolicy → Who → Ports → Ports → Result Done Stopped → Option Run
       → Type 0
   DecryptAnswers keep who old new result run = MatchResult result
       (λ done. IsSomeAnd run (DecryptEnds (Allows who) old new done))
       (DecryptStops keep (Allows who) (Refused who) old new run)
 
   -- what `resume_with` promises of them
-  abbrev pub ResumeAnswers : Positions → Who → Position → ResumePorts → ResumePorts
+  abbrev pub ResumeAnswers : PositionPolicy → Who → Position → ResumePorts → ResumePorts
       → Result Done Stopped → Option Run → Type 0
   ResumeAnswers keep who p old new result run = MatchResult result
       (λ done. IsSomeAnd run (ResumeEnds (Allows who) p old new done))
@@ -108,7 +108,7 @@ module _ (Who : Type 0) (Allows : Who → Header → List ℕ → Type 0)
 
   -- a call of `decrypt_with`, into a sink that had taken nothing
   pub record FirstCall : Type 0 where
-    pub keep : Positions
+    pub keep : PositionPolicy
     pub who : Who
     pub old : Ports
     pub new : Ports
@@ -119,7 +119,7 @@ module _ (Who : Type 0) (Allows : Who → Header → List ℕ → Type 0)
 
   -- a call of `resume_with`, into a sink that had taken nothing
   pub record NextCall : Type 0 where
-    pub keep : Positions
+    pub keep : PositionPolicy
     pub who : Who
     pub from : Position
     pub old : ResumePorts
@@ -193,15 +193,15 @@ pub record IsSecret (s : SecretView) : Type 0 where
   pub key_length : length s.key ≡ 16
 
 -- the secret's passphrase, with a limit
-abbrev pub words_of : SecretView → ℕ → PassphraseIdentity
-words_of s max_log = record { pass = s.pass; max_log = max_log }
+abbrev pub passphrase_identity : SecretView → ℕ → PassphraseIdentity
+passphrase_identity s max_log = record { pass = s.pass; max_log = max_log }
 
 -- the age file of a secret and a text is a whole one for the secret's passphrase, where the limit
 -- allows its work factor
 abbrev pub AgeFileIsWhole : Type 0
 AgeFileIsWhole = (s : SecretView) (max_log : ℕ) (text bytes : List ℕ) → IsSecret s → s.log ≤ max_log
     → chunk_count chunk_length text ≤ chunk_limit → AgeFile s text bytes
-    → IsWhole (IsPassphraseKey (words_of s max_log)) (PassphraseRefuses (words_of s max_log))
+    → IsWhole (IsPassphraseKey (passphrase_identity s max_log)) (PassphraseRefuses (passphrase_identity s max_log))
     (Some bytes) text
 
 -- an encryption of a text came to its end, into a sink that had taken nothing
@@ -214,14 +214,14 @@ pub record WasEncrypted (s : SecretView) (text : List ℕ) (old new : Ports) (wr
 -- then a decryption of what the sink took, with the same passphrase, gives the text back, or stops
 -- as reading, writing or want of memory may stop it
 abbrev pub RoundTrip : Type 0
-RoundTrip = (keep : Positions) (s : SecretView) (max_log : ℕ) (text : List ℕ)
+RoundTrip = (keep : PositionPolicy) (s : SecretView) (max_log : ℕ) (text : List ℕ)
     (was file now last : Ports) (written : Written) (result : Result Done Stopped)
     (run : Option Run) → IsSecret s
     → s.log ≤ max_log
     → IsClosed (box s.key s.nonce) (unbox s.key s.nonce) chunk_length text
     → WasEncrypted s text was file written → now.source.remaining ≡ file.sink.taken
     → now.sink.taken ≡ Some []
-    → DecryptAnswers PassphraseIdentity IsPassphraseKey PassphraseRefuses keep (words_of s max_log)
+    → DecryptAnswers PassphraseIdentity IsPassphraseKey PassphraseRefuses keep (passphrase_identity s max_log)
     now last result run
     → MatchResult result (λ done. last.sink.taken ≡ Some text)
     (λ stopped. StopsOutside stopped.fault)

@@ -18,7 +18,7 @@ use Rattle.age_chunk.specs.declared.fault.StreamKind.TheVariants.{Truncated}
 use Rattle.age_keys.specs.declared.fault.KeyFault.{KeyFault}
 use Rattle.age_fault.specs.Faults.{HasFailed}
 use Rattle.age_file.specs.Decrypts.{StartFails, IsWhole, WritesText, StopsOutside}
-use Rattle.age_file.specs.declared.position.Positions.{Positions}
+use Rattle.age_file.specs.declared.position.PositionPolicy.{PositionPolicy}
 use Rattle.age_file.specs.declared.decryption.Done.{Done}
 use Rattle.age_file.specs.declared.decryption.Stopped.{Stopped}
 use Rattle.age_fault.specs.declared.fault.FileFault.{FileFault}
@@ -178,7 +178,7 @@ module _ (Allows : Header → List ℕ → Type 0) (p : Position) (old new : Res
 
   -- a stop in the blocks that are skipped has the old text written, and the position that the run
   -- began from
-  pub record StopsInSkipped (keep : Positions) (stopped : Stopped) : Type 0 where
+  pub record StopsInSkipped (keep : PositionPolicy) (stopped : Stopped) : Type 0 where
     pub file : OpenedFile
     pub skipped : List ℕ
     pub reads : Reads Allows old.main.source.remaining new.main.source.remaining file skipped
@@ -193,7 +193,7 @@ module _ (Allows : Header → List ℕ → Type 0) (p : Position) (old new : Res
     pub why : InSkippedFails skipped stopped.fault
 
   -- what it promises where it stopped: before the payload, which its run would name; or in it
-  abbrev pub ResumeStops : Positions → (Header → KeyFault → Type 0) → Option Run → Stopped → Type 0
+  abbrev pub ResumeStops : PositionPolicy → (Header → KeyFault → Type 0) → Option Run → Stopped → Type 0
   ResumeStops keep Refused None stopped =
       (WritesNone old.main new.main stopped × (new.old ≡ old.old)
       × BeforeOldFails Refused stopped.fault)
@@ -224,7 +224,7 @@ pub record IsUndamagedRest (Allows : Header → List ℕ → Type 0)
 -- stopped; that the text of an age file that is undamaged, from a position of it, is written whole,
 -- unless reading, writing or memory fails; that the sink sent on what it took; and that the sink
 -- keeps its label
-pub record ResumesText (keep : Positions) (Allows : Header → List ℕ → Type 0)
+pub record ResumesText (keep : PositionPolicy) (Allows : Header → List ℕ → Type 0)
     (Refused : Header → KeyFault → Type 0) (p : Position) (old new : ResumePorts)
     (result : Result Done Stopped) : Type 0 where
   pub run : Option Run

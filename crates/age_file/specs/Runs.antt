@@ -21,8 +21,8 @@ use Rattle.age_stream.specs.Opener.{has_failed}
 use Rattle.age_stream.specs.Segment.{Segment, Outcome, outcome, released}
 use Rattle.age_stream.specs.Headline.{IsPrefixOf, IsAuthentic}
 use Rattle.age_keys.specs.AgeFile.{box, unbox}
-use Rattle.age_file.specs.declared.position.Positions.{Positions}
-use Rattle.age_file.specs.declared.position.Positions.TheVariants.{Kept, Dropped}
+use Rattle.age_file.specs.declared.position.PositionPolicy.{PositionPolicy}
+use Rattle.age_file.specs.declared.position.PositionPolicy.TheVariants.{Kept, Dropped}
 use Rattle.age_file.specs.declared.decryption.Stopped.{Stopped}
 
 -- ---- Whether a position is a file's, and was made under its key.
@@ -158,11 +158,11 @@ abbrev pub segment_of : Run → Segment
 segment_of r = record { start = r.first; bytes = r.bytes; ended = r.ended; late = false }
 
 -- the outcome of the bytes, and the text that they release, every chunk of which opened
-abbrev pub outcome_of : Run → Outcome
-outcome_of r = outcome (unbox r.file.key r.file.nonce) chunk_length (segment_of r)
+abbrev pub run_outcome : Run → Outcome
+run_outcome r = outcome (unbox r.file.key r.file.nonce) chunk_length (segment_of r)
 
-abbrev pub text_of : Run → List ℕ
-text_of r = released (unbox r.file.key r.file.nonce) chunk_length (segment_of r)
+abbrev pub run_text : Run → List ℕ
+run_text r = released (unbox r.file.key r.file.nonce) chunk_length (segment_of r)
 
 -- all that was written
 abbrev pub held : Run → List ℕ
@@ -186,11 +186,11 @@ pub record IsRun (Allows : Header → List ℕ → Type 0) (old new : Ports) (wr
   pub at_end : r.ended ≡ true → IsAtEnd new.source.remaining
   pub wrote : Appends old.sink.taken new.sink.taken (held r)
   pub count : written ≡ length (held r)
-  pub prefix : IsPrefixOf r.out (text_of r)
+  pub prefix : IsPrefixOf r.out (run_text r)
 
 -- the end of the source was not seen, and what came has no fault
 abbrev pub HasNoFault : Run → Type 0
-HasNoFault r = (r.ended ≡ false) × (has_failed (outcome_of r).status ≡ false)
+HasNoFault r = (r.ended ≡ false) × (has_failed (run_outcome r).status ≡ false)
 
 -- every block that is tried and opens is one that the writer of this text sealed there
 abbrev pub IsTexts : List ℕ → Run → Type 0
@@ -211,14 +211,14 @@ CarriesText text p = (p.index * chunk_length ≤ length text) × (p.chain ≡ ch
 -- with the file's id, the chain over those chunks, and the tag; of an authentic run, that chain is
 -- the text's
 pub record IsPositionOf (r : Run) (p : Position) : Type 0 where
-  pub index : p.index ≡ min (length (held r) / chunk_length) (outcome_of r).index
+  pub index : p.index ≡ min (length (held r) / chunk_length) (run_outcome r).index
   pub own : HasId p r.file
   pub chain_is : p.chain ≡ chain_over p.index (held r)
   pub tagged : HasTag p r.file
   pub carries : (text : List ℕ) → IsAuthenticRun r text → CarriesText text p
 
 -- a position is returned if positions are kept, and none if they are dropped
-abbrev pub GivesPosition : Positions → (Position → Type 0) → Option Position → Type 0
+abbrev pub GivesPosition : PositionPolicy → (Position → Type 0) → Option Position → Type 0
 GivesPosition Kept Is position = IsSomeAnd position Is
 GivesPosition Dropped Is position = position ≡ None
 
@@ -232,16 +232,16 @@ pub record WritesNone (old new : Ports) (stopped : Stopped) : Type 0 where
 -- only if what did has no fault; and if the sink failed, some text was not written, or the end of
 -- the file was seen and only the flush was left
 abbrev pub PayloadFails : (Never : Type 0) → Ports → Ports → Run → FileFault → Type 0
-PayloadFails Never old new r (Stream fault) = (r.out ≡ text_of r)
-    × ((outcome_of r).status ≡ Failed fault) × NoneFailed old new
-PayloadFails Never old new r Read = (r.out ≡ text_of r) × HasNoFault r × ReadFailed old new
+PayloadFails Never old new r (Stream fault) = (r.out ≡ run_text r)
+    × ((run_outcome r).status ≡ Failed fault) × NoneFailed old new
+PayloadFails Never old new r Read = (r.out ≡ run_text r) × HasNoFault r × ReadFailed old new
 PayloadFails Never old new r Write =
-    ((length r.out < length (text_of r)) ⊎ ((outcome_of r).status ≡ Done)) × WriteFailed old new
-PayloadFails Never old new r ReadNeverEnds = (r.out ≡ text_of r) × HasNoFault r × Never
+    ((length r.out < length (run_text r)) ⊎ ((run_outcome r).status ≡ Done)) × WriteFailed old new
+PayloadFails Never old new r ReadNeverEnds = (r.out ≡ run_text r) × HasNoFault r × Never
 PayloadFails Never old new r other = ⊥
 
 -- a run that stopped in its payload; of an authentic run, what was written begins the text
-pub record StopsInPayload (keep : Positions) (Allows : Header → List ℕ → Type 0)
+pub record StopsInPayload (keep : PositionPolicy) (Allows : Header → List ℕ → Type 0)
     (Never : Type 0) (old new : Ports) (stopped : Stopped) (r : Run) : Type 0 where
   pub is : IsRun Allows old new stopped.written r
   pub begins : (text : List ℕ) → IsAuthenticRun r text → IsPrefixOf (held r) text
@@ -252,7 +252,7 @@ pub record StopsInPayload (keep : Positions) (Allows : Header → List ℕ → T
 pub record IsDone (Allows : Header → List ℕ → Type 0) (old new : Ports) (written : ℕ) (r : Run)
     : Type 0 where
   pub is : IsRun Allows old new written r
-  pub whole : r.out ≡ text_of r
+  pub whole : r.out ≡ run_text r
   pub ended : r.ended ≡ true
-  pub done : (outcome_of r).status ≡ Done
+  pub done : (run_outcome r).status ≡ Done
   pub all : (text : List ℕ) → IsAuthenticRun r text → held r ≡ text

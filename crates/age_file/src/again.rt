@@ -7,7 +7,7 @@ ghost use Rattle.age_io.specs.Io.{one_more};
 ghost use Rattle.age_file.specs.Decrypts.{FindsPosition, fault_again};
 
 use crate::decryption::decrypt_with;
-use crate::position::{Position, Positions};
+use crate::position::{Position, PositionPolicy};
 use age_fault::FileFault;
 use age_io::{Failed, Sink, Source};
 use age_keys::Unlock;
@@ -142,7 +142,7 @@ pub fn position_after<U: Unlock, S: Source>(
         (S.view reader.new) written result }
 {
     let mut limit = Limit::new(written);
-    let Err(stopped) = decrypt_with(alloc, Positions::Kept, unlock, reader, &mut limit) else {
+    let Err(stopped) = decrypt_with(alloc, PositionPolicy::Kept, unlock, reader, &mut limit) else {
         return Err(FileFault::Read);
     };
     let position = match stopped.position {

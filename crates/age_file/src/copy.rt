@@ -1,7 +1,7 @@
 //! Copies an old text, chunk by chunk, with the chain over it.
 
 ghost use Rattle.std.specs.Prelude.{◌≡◌, ◌<◌, []};
-ghost use Rattle.age_file.specs.declared.position.Positions.TheVariants.{Kept};
+ghost use Rattle.age_file.specs.declared.position.PositionPolicy.TheVariants.{Kept};
 ghost use Rattle.age_file.specs.inner.Bindings.{chain_if};
 ghost use Rattle.age_file.specs.inner.Readers.{view_of_reader, view_of_writer, SameReader};
 ghost use Rattle.age_file.specs.inner.Readers.{SameWriter};
@@ -9,7 +9,7 @@ ghost use Rattle.age_file.specs.inner.Copies.{CanCopy, CopiesChunk, CopiesAll};
 ghost use Rattle.age_chunk.specs.Payload.{chunk_length, chunk_limit};
 
 use crate::reader::{Reader, Writer};
-use crate::start::some_bytes;
+use crate::start::has_bytes;
 use age_fault::{FileFault, write_all};
 use age_io::{Sink, Source};
 use age_stream::CHUNK_LEN;
@@ -34,7 +34,7 @@ fn copy_chunk<S: Source, O: Sink>(
     digest.update(&chain);
     let mut left = CHUNK_LEN;
     'parts: while left > 0 {
-        if !some_bytes(reader)? {
+        if !has_bytes(reader)? {
             return Err(FileFault::ShortText);
         }
         let n = left.min(reader.intake.bytes().len());

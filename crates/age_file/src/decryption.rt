@@ -2,7 +2,7 @@
 
 ghost use Rattle.std.specs.Prelude.{◌≡◌, ◌<◌, None, true};
 ghost use Rattle.age_file.specs.Runs.{ports};
-ghost use Rattle.age_file.specs.declared.position.Positions.TheVariants.{Kept};
+ghost use Rattle.age_file.specs.declared.position.PositionPolicy.TheVariants.{Kept};
 ghost use Rattle.age_file.specs.Decrypts.{Decrypts, DecryptsKeyed};
 ghost use Rattle.age_file.specs.inner.Decrypts.{PositionAt, EndsAs, OpensPayload};
 ghost use Rattle.age_file.specs.inner.Payloads.{HasPlace};
@@ -11,7 +11,7 @@ ghost use Rattle.age_chunk.specs.Payload.{chunk_limit};
 
 use crate::intake::Intake;
 use crate::payload::decrypt_payload;
-use crate::position::{Position, Positions};
+use crate::position::{Position, PositionPolicy};
 use crate::reader::{Reader, Writer};
 use crate::start::{Unlocked, start};
 use crate::tally::Tally;
@@ -129,7 +129,7 @@ pub fn decrypt<U: Unlock, S: Source, O: Sink>(
         (ports (S.view reader.old) (O.view writer.old))
         (ports (S.view reader.new) (O.view writer.new)) result }
 {
-    decrypt_with(alloc, Positions::Kept, unlock, reader, writer)
+    decrypt_with(alloc, PositionPolicy::Kept, unlock, reader, writer)
 }
 
 /// Decrypts a file: opens its header, and writes each chunk of the text once the tag of its block
@@ -143,7 +143,7 @@ pub fn decrypt<U: Unlock, S: Source, O: Sink>(
 /// nothing was written.
 pub fn decrypt_with<U: Unlock, S: Source, O: Sink>(
     alloc: Global,
-    positions: Positions,
+    positions: PositionPolicy,
     unlock: &U,
     reader: &mut S,
     writer: &mut O,
@@ -159,7 +159,7 @@ pub fn decrypt_with<U: Unlock, S: Source, O: Sink>(
 /// read again.
 pub fn decrypt_keyed<U: Unlock, S: Source, O: Sink>(
     alloc: Global,
-    positions: Positions,
+    positions: PositionPolicy,
     unlock: &U,
     reader: &mut S,
     writer: &mut O,

@@ -8,7 +8,7 @@ ghost use Rattle.age_file.specs.Runs.{ports};
 ghost use Rattle.age_fault.specs.declared.fault.FileFault.TheVariants.{Memory};
 
 use crate::intake::Intake;
-use crate::position::Positions;
+use crate::position::PositionPolicy;
 use crate::reader::{Reader, Writer};
 use crate::sealing::seal_all;
 use crate::secret::Secret;
@@ -86,7 +86,7 @@ pub fn encrypt<S: Source, O: Sink>(
     };
     let mut writer = Writer {
         sink: writer,
-        tally: Tally::new(Positions::Dropped),
+        tally: Tally::new(PositionPolicy::Dropped),
     };
     write_front(alloc, secret, &mut writer)?;
     let key = payload_key(&FileKey::new(secret.file_key), &secret.payload_nonce);

@@ -39,7 +39,7 @@ pub use inspection::inspect;
 pub use laws::{
     age_file_is_whole, bound_positions, calls_in_a_row, read_again, round_trip, runs_in_a_row,
 };
-pub use position::{Position, Positions};
+pub use position::{Position, PositionPolicy};
 pub use report::{Report, StanzaReport, StanzaReports};
 pub use resumption::{resume, resume_with};
 pub use secret::Secret;

@@ -4,7 +4,7 @@ ghost use Rattle.std.specs.Prelude.{◌≡◌, ◌+◌, ◌^◌, ◌<◌, ◌≤
 ghost use Rattle.std.specs.Prelude.{true, false};
 ghost use Rattle.age_stream.specs.Opener.{has_failed};
 ghost use Rattle.age_file.specs.inner.Decrypts.{opens};
-ghost use Rattle.age_file.specs.inner.Payloads.{FeedsOnce, FeedsPiece, Closes, HasPlace};
+ghost use Rattle.age_file.specs.inner.Payloads.{FeedsOnce, FeedsPiece, ClosesPayload, HasPlace};
 ghost use Rattle.age_file.specs.inner.Payloads.{DecryptsPayload};
 ghost use Rattle.age_file.specs.inner.Readers.{view_of_writer, stage_of, SameReader, SameWriter};
 ghost use Rattle.age_chunk.specs.Payload.{chunk_length, chunk_limit};
@@ -67,7 +67,7 @@ fn close<O: Sink>(
     writer: &mut Writer<'_, O>,
 ) -> Result<(), FileFault>
     requires { length opener.old.held + writer.old.tally.written < 2 ^ 128 }
-    ensures closed { Closes opens chunk_length opener.old opener.new
+    ensures closed { ClosesPayload opens chunk_length opener.old opener.new
         (view_of_writer O.view writer.old) (view_of_writer O.view writer.new) result }
     ensures same { SameWriter writer.old writer.new }
 {
@@ -81,7 +81,7 @@ fn finish<O: Sink>(
     writer: &mut Writer<'_, O>,
 ) -> Result<(), FileFault>
     requires { length opener.old.held + writer.old.tally.written < 2 ^ 128 }
-    ensures closed { Closes opens chunk_length opener.old opener.new
+    ensures closed { ClosesPayload opens chunk_length opener.old opener.new
         (view_of_writer O.view writer.old) (view_of_writer O.view writer.new) result }
     ensures settled { OnOk result ((O.view writer.new.sink.now).settled ≡ true) }
     ensures same { SameWriter writer.old writer.new }

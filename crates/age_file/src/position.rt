@@ -33,7 +33,7 @@ pub struct Position {
 /// Whether a decryption keeps the position at which a reader can continue after a stop. Keeping it
 /// takes a SHA-256 over the text.
 #[derive(Clone, Copy, Debug, PartialEq, Eq)]
-pub enum Positions {
+pub enum PositionPolicy {
     /// A stop hands out its position.
     Kept,
     /// A stop hands out none.

@@ -5,7 +5,7 @@ ghost use Rattle.age_file.specs.inner.Readers.{view_of_reader, view_of_writer, S
 ghost use Rattle.age_file.specs.inner.Readers.{SameWriter};
 ghost use Rattle.age_file.specs.inner.Copies.{CopiesText, CopiesBefore};
 ghost use Rattle.age_file.specs.Runs.{ports};
-ghost use Rattle.age_file.specs.declared.position.Positions.TheVariants.{Kept};
+ghost use Rattle.age_file.specs.declared.position.PositionPolicy.TheVariants.{Kept};
 ghost use Rattle.age_file.specs.inner.Bindings.{chain_if};
 ghost use Rattle.age_file.specs.inner.Verdicts.{VerdictOn};
 ghost use Rattle.age_file.specs.Resumes.{resume_ports, ResumesText};
@@ -14,7 +14,7 @@ ghost use Rattle.age_chunk.specs.Payload.{chunk_length};
 use crate::copy::copy_chunks;
 use crate::decryption::{Done, Stopped, ended, open_payload};
 use crate::intake::Intake;
-use crate::position::{Position, Positions, tag_of};
+use crate::position::{Position, PositionPolicy, tag_of};
 use crate::reader::{Reader, Writer};
 use crate::skip::skip_blocks;
 use crate::start::{Unlocked, start};
@@ -42,7 +42,7 @@ fn verify(unlocked: &Unlocked, position: &Position) -> Result<(), FileFault>
 
 /// Copies the old text that a position was made for.
 fn copy_old<L: Source, O: Sink>(
-    positions: Positions,
+    positions: PositionPolicy,
     position: &Position,
     reader: &mut Reader<'_, L>,
     writer: &mut Writer<'_, O>,
@@ -65,7 +65,7 @@ fn copy_old<L: Source, O: Sink>(
 
 /// Copies the old text of a source before a file is read on: the pulls of both count together.
 fn copy_before<L: Source, O: Sink>(
-    positions: Positions,
+    positions: PositionPolicy,
     position: &Position,
     source: &mut L,
     mut old_intake: Intake,
@@ -107,7 +107,7 @@ pub fn resume<U: Unlock, S: Source, L: Source, O: Sink>(
 {
     resume_with(
         alloc,
-        Positions::Kept,
+        PositionPolicy::Kept,
         unlock,
         position,
         reader,
@@ -130,7 +130,7 @@ pub fn resume<U: Unlock, S: Source, L: Source, O: Sink>(
 /// are kept. All memory is taken before the payload nonce is read.
 pub fn resume_with<U: Unlock, S: Source, L: Source, O: Sink>(
     alloc: Global,
-    positions: Positions,
+    positions: PositionPolicy,
     unlock: &U,
     position: &Position,
     reader: &mut S,
@@ -158,7 +158,7 @@ pub fn resume_with<U: Unlock, S: Source, L: Source, O: Sink>(
         Ok(()) => {}
         Err(fault) => return Err(Stopped::early(fault)),
     }
-    let tally = Tally::new(Positions::Kept);
+    let tally = Tally::new(PositionPolicy::Kept);
     let mut writer = Writer {
         sink: writer,
         tally,

@@ -3,7 +3,7 @@
 ghost use Rattle.std.specs.Prelude.{◌≡◌, ◌^◌, ◌≤◌, [], length, OnOk, true};
 ghost use Rattle.age_file.specs.inner.Decrypts.{seals};
 ghost use Rattle.age_file.specs.inner.Readers.{view_of_writer, ports_of, SameReader, SameWriter};
-ghost use Rattle.age_file.specs.inner.Seals.{IsFeeding, HasRoom, SealsOnce, SealsPiece, SealsLast};
+ghost use Rattle.age_file.specs.inner.Seals.{IsFeeding, HasRoom, SealsOnce, SealsPiece, SealsRest};
 ghost use Rattle.age_file.specs.inner.Seals.{SealsSource};
 ghost use Rattle.age_chunk.specs.Payload.{chunk_length};
 
@@ -64,7 +64,7 @@ fn seal_last<O: Sink>(
 ) -> Result<(), FileFault>
     requires feeding { IsFeeding sealer.old }
     requires room { writer.old.tally.written ≤ 2 ^ 127 }
-    ensures sealed { SealsLast seals chunk_length sealer.old (view_of_writer O.view writer.old)
+    ensures sealed { SealsRest seals chunk_length sealer.old (view_of_writer O.view writer.old)
         (view_of_writer O.view writer.new) result }
     ensures same_writer { SameWriter writer.old writer.new }
 {
@@ -79,7 +79,7 @@ fn finish<O: Sink>(
 ) -> Result<(), FileFault>
     requires feeding { IsFeeding sealer.old }
     requires room { writer.old.tally.written ≤ 2 ^ 127 }
-    ensures sealed { SealsLast seals chunk_length sealer.old (view_of_writer O.view writer.old)
+    ensures sealed { SealsRest seals chunk_length sealer.old (view_of_writer O.view writer.old)
         (view_of_writer O.view writer.new) result }
     ensures settled { OnOk result ((O.view writer.new.sink.now).settled ≡ true) }
     ensures same_writer { SameWriter writer.old writer.new }

@@ -5,7 +5,7 @@ ghost use Rattle.age_file.specs.inner.Readers.{view_of_reader, SameReader};
 ghost use Rattle.age_chunk.specs.Payload.{block_length};
 
 use crate::reader::Reader;
-use crate::start::some_bytes;
+use crate::start::has_bytes;
 use age_fault::FileFault;
 use age_io::Source;
 use age_stream::{BLOCK_LEN, StreamFault, StreamKind};
@@ -18,7 +18,7 @@ fn skip_block<S: Source>(reader: &mut Reader<'_, S>) -> Result<bool, FileFault>
 {
     let mut left = BLOCK_LEN;
     'parts: while left > 0 {
-        if !some_bytes(reader)? {
+        if !has_bytes(reader)? {
             return Ok(false);
         }
         let n = left.min(reader.intake.bytes().len());

@@ -27,7 +27,7 @@ pub(crate) struct Unlocked {
 }
 
 /// Pulls if the buffer is empty; false at the end of the source.
-pub(crate) fn some_bytes<S: Source>(reader: &mut Reader<'_, S>) -> Result<bool, FileFault>
+pub(crate) fn has_bytes<S: Source>(reader: &mut Reader<'_, S>) -> Result<bool, FileFault>
     ensures answers { SomeAnswers (view_of_reader S.view reader.old)
         (view_of_reader S.view reader.new) result }
     ensures uses { Uses (view_of_reader S.view reader.old) (view_of_reader S.view reader.new) [] }
@@ -62,7 +62,7 @@ fn take_nonce<S: Source>(reader: &mut Reader<'_, S>) -> Result<[u8; 16], FileFau
     let mut nonce = [0; 16];
     let mut have = 0;
     'parts: while have < 16 {
-        if !some_bytes(reader)? {
+        if !has_bytes(reader)? {
             return Err(FileFault::NonceCut);
         }
         let n = copy_some(reader.intake.bytes(), &mut nonce, have);

@@ -2,10 +2,10 @@
 
 ghost use Rattle.std.specs.Prelude.{◌≡◌, ◌<◌, ℕ, List, []};
 ghost use Rattle.age_file.specs.inner.Bindings.{chain_if, link_if};
-ghost use Rattle.age_file.specs.declared.position.Positions.TheVariants.{Kept};
+ghost use Rattle.age_file.specs.declared.position.PositionPolicy.TheVariants.{Kept};
 ghost use Rattle.age_chunk.specs.Payload.{chunk_limit};
 
-use crate::position::{Positions, next_link};
+use crate::position::{PositionPolicy, next_link};
 
 /// How far a run has come: how many bytes it wrote, how many whole chunks before the last these
 /// make from the start of the text, and the chain over those, where positions are kept.
@@ -18,18 +18,18 @@ pub(crate) struct Tally {
 }
 
 impl Tally {
-    ghost use Rattle.age_file.specs.inner.Payloads.{Advances};
+    ghost use Rattle.age_file.specs.inner.Payloads.{AdvancesTally};
 
     /// Nothing was written.
     #[tactic(auto, unfolding(crate::specs::Bindings::chain))]
-    pub(crate) fn new(positions: Positions) -> Tally
+    pub(crate) fn new(positions: PositionPolicy) -> Tally
         ensures written { result.written ≡ 0 }
         ensures index { result.index ≡ 0 }
         ensures chain { result.chain ≡ chain_if positions [] }
     {
         let chain = match positions {
-            Positions::Kept => Some([0; 32]),
-            Positions::Dropped => None,
+            PositionPolicy::Kept => Some([0; 32]),
+            PositionPolicy::Dropped => None,
         };
         Tally {
             written: 0,
@@ -49,15 +49,15 @@ impl Tally {
     }
 
     /// Drops the chain where positions aren't kept.
-    pub(crate) fn keep(&mut self, positions: Positions)
+    pub(crate) fn keep(&mut self, positions: PositionPolicy)
         ensures written { self.new.written ≡ self.old.written }
         ensures index { self.new.index ≡ self.old.index }
         ensures chain { (chunks : List (List ℕ)) → self.old.chain ≡ chain_if Kept chunks
             → self.new.chain ≡ chain_if positions chunks }
     {
         match positions {
-            Positions::Kept => {}
-            Positions::Dropped => self.chain = None,
+            PositionPolicy::Kept => {}
+            PositionPolicy::Dropped => self.chain = None,
         }
     }
 
@@ -66,7 +66,7 @@ impl Tally {
     pub(crate) fn count(&mut self, index: u64, chunk: &[u8])
         requires { index < chunk_limit }
         ensures same { self.new.written ≡ self.old.written }
-        ensures counted { Advances self.old.index self.old.chain index
+        ensures counted { AdvancesTally self.old.index self.old.chain index
             (link_if self.old.chain chunk.now) self.new }
     {
         if index <= self.index {
@@ -80,7 +80,7 @@ impl Tally {
     pub(crate) fn advance(&mut self, index: u64, chain: Option<[u8; 32]>)
         requires { index < chunk_limit }
         ensures same { self.new.written ≡ self.old.written }
-        ensures counted { Advances self.old.index self.old.chain index chain self.new }
+        ensures counted { AdvancesTally self.old.index self.old.chain index chain self.new }
     {
         if index > self.index {
             self.index = index;

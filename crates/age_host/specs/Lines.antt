@@ -39,9 +39,9 @@ count_line end count = padded 6 (amount (measure_of count).size count)
 
 -- the line for a count of bytes, of a length where that is known and no less; it ends in a carriage
 -- return, so that the next one is written over it, and covers a longer line that it is written over
-abbrev pub line : Option ℕ → ℕ → List ℕ
-line None count = count_line (codes "\r") count
-line (Some length) count = if nat_lt length count
+abbrev pub progress_line : Option ℕ → ℕ → List ℕ
+progress_line None count = count_line (codes "\r") count
+progress_line (Some length) count = if nat_lt length count
     then count_line (codes "                    \r") count
     else padded 3 (decimal (percentage length count))
     ++ (codes " %  " ++ (amount (measure_of length).size count

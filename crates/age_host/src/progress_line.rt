@@ -3,7 +3,7 @@
 ghost use Rattle.std.specs.Prelude.{◌≡◌, ℕ, ◌+◌, Option, None, Some, true, false, ◌||◌};
 ghost use Rattle.std.specs.Prelude.{if◌then◌else◌, codes};
 ghost use Rattle.age_io.specs.Io.{with_more};
-ghost use Rattle.age_host.specs.Lines.{line, mark, first_mark, is_due, Shows};
+ghost use Rattle.age_host.specs.Lines.{progress_line, mark, first_mark, is_due, Shows};
 
 use crate::line::{line_of, mark_of};
 use crate::text::show;
@@ -76,8 +76,8 @@ impl<O: Sink> Meter for ProgressLine<O> {
     fn advance(&mut self, bytes: u64)
         ensures quiet { is_due self.old.length self.old.next self.new.count ≡ false
             → self.new ≡ record self.old { count = with_more bytes self.old.count } }
-        ensures line { is_due self.old.length self.old.next self.new.count ≡ true
-            → Shows (O.view self.old.sink) (line self.old.length self.new.count)
+        ensures progress_line { is_due self.old.length self.old.next self.new.count ≡ true
+            → Shows (O.view self.old.sink) (progress_line self.old.length self.new.count)
             (O.view self.new.sink) }
         ensures due { is_due self.old.length self.old.next self.new.count ≡ true
             → self.new ≡ record self.old {
@@ -100,7 +100,7 @@ impl<O: Sink> Meter for ProgressLine<O> {
     fn end(&mut self)
         ensures quiet { self.old.shown ≡ false → self.new ≡ self.old }
         ensures ended { self.new ≡ record self.old { sink = self.new.sink; shown = false } }
-        ensures line { self.old.shown ≡ true
+        ensures progress_line { self.old.shown ≡ true
             → Shows (O.view self.old.sink) (codes "\n") (O.view self.new.sink) }
     {
         if self.shown {

@@ -18,15 +18,15 @@ use Rattle.std.specs.Bool.{OnTrue}
 
 -- ---- How a refusal is numbered among all faults.
 
-abbrev pub number_of : KeyFault → ℕ
-number_of ScryptNotAlone = 9
-number_of BadScrypt = 10
-number_of WorkTooHigh = 11
-number_of NoMatch = 12
-number_of WrongKey = 13
-number_of MacMismatch = 14
-number_of BadX25519 = 15
-number_of Memory = 28
+abbrev pub key_fault_number : KeyFault → ℕ
+key_fault_number ScryptNotAlone = 9
+key_fault_number BadScrypt = 10
+key_fault_number WorkTooHigh = 11
+key_fault_number NoMatch = 12
+key_fault_number WrongKey = 13
+key_fault_number MacMismatch = 14
+key_fault_number BadX25519 = 15
+key_fault_number Memory = 28
 
 -- ---- The keys of an age file (C2SP age.md, "File key", "Header MAC", "Payload", "Recipient
 -- stanza").

@@ -1,7 +1,7 @@
 //! Why a header wasn't opened.
 
 ghost use Rattle.std.specs.Prelude.{◌≡◌, None};
-ghost use Rattle.age_keys.specs.Keys.{is_before_work, number_of};
+ghost use Rattle.age_keys.specs.Keys.{is_before_work, key_fault_number};
 
 use thiserror::Error;
 
@@ -38,7 +38,7 @@ impl KeyFault {
     /// The fault's number in the list of all faults: 9 to 15 in the order of the variants, and
     /// 28 for memory.
     pub fn number(&self) -> u8
-        ensures { result ≡ number_of self.now }
+        ensures { result ≡ key_fault_number self.now }
     {
         match self {
             KeyFault::ScryptNotAlone => 9,

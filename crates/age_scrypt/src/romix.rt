@@ -2,7 +2,8 @@
 
 ghost use Rattle.std.specs.Prelude.{◌≡◌, ℕ, ◌+◌, ◌*◌, ◌%◌, ◌^◌, ◌<◌, ◌≤◌, List, length};
 ghost use Rattle.age_scrypt.specs.Scrypt.{xor_words, v_block, integerify, romix, work_factor_limit};
-ghost use Rattle.age_scrypt.specs.inner.Workspace.{IsTable, IsTurned, IsCount, HasRoom, AreBlocks};
+ghost use Rattle.age_scrypt.specs.inner.Workspace.{IsTable, IsTurned, IsCount, HasTableRoom};
+ghost use Rattle.age_scrypt.specs.inner.Workspace.{AreBlocks};
 ghost use Rattle.age_scrypt.specs.inner.Workspace.{IsWorkspace, IsFilled};
 
 use crate::part::Part;
@@ -44,7 +45,7 @@ fn place_of(x: &[u32], n: usize) -> usize
 /// Fills a table that has room for `n` turned blocks: block `i` is `x` mixed `i` times.
 fn fill(table: &mut Vec<u32>, x: &mut [u32], n: usize, steps: &mut Steps)
     requires count { IsCount n }
-    requires table { HasRoom n table.old }
+    requires table { HasTableRoom n table.old }
     requires x { length x.old ≡ 256 }
     ensures filled { IsFilled n x.old table.new x.new }
     ensures counted { steps.new ≡ steps.old + n }

@@ -12,7 +12,7 @@ use Rattle.age_stanza.specs.declared.head_step.HeadStep.{HeadStep}
 use Rattle.age_stanza.specs.declared.head_step.HeadStep.TheVariants.{More, Ready}
 use Rattle.age_stanza.specs.declared.fault.HeadFault.{HeadFault}
 use Rattle.age_stanza.specs.Parsing.{memory_fault, FirstFault, HasHeader, IsLineFault, IsFault}
-use Rattle.age_stanza.specs.Parsing.{Parsing, reading, complete, refused, IsOpen, Feeds}
+use Rattle.age_stanza.specs.Parsing.{Parsing, reading, complete, refused, IsOpen, FeedsParser}
 use Rattle.age_stanza.specs.Grammar.{line, Spells, HeadText}
 use Rattle.age_stanza.specs.Laws.{Fed, none, more, StandsFor}
 
@@ -93,7 +93,7 @@ grown : (pieces : List (List ℕ)) (piece : List ℕ) → concat (pieces ++ piec
 grown [] piece = append-nil piece
 grown (p ∷ pieces) piece = ap (λ (t : List ℕ). p ++ t) (grown pieces piece) ∙ sym (append_assoc p (concat pieces) piece)
 
-step_stands : (bytes piece : List ℕ) (old new : Parsing) (result : Result HeadStep HeadFault) → StandsFor old bytes → IsOpen old → Feeds old piece result new
+step_stands : (bytes piece : List ℕ) (old new : Parsing) (result : Result HeadStep HeadFault) → StandsFor old bytes → IsOpen old → FeedsParser old piece result new
     → StandsFor new (bytes ++ piece)
 step_stands bytes piece (reading held) new (Ok More) e is-open f = subst (λ (p : Parsing). StandsFor p (bytes ++ piece)) (sym f.0)
     (ap (λ (t : List ℕ). t ++ piece) e)

@@ -16,7 +16,7 @@ use Rattle.age_stanza.specs.Grammar.{line}
 use Rattle.age_stanza.specs.Parsing.{IsLine, AreLines, line_after, memory_fault}
 use Rattle.age_stanza.specs.inner.LineMachine.{unfinished, ready, faulty, walk, after, step}
 use Rattle.age_stanza.specs.inner.LineMachine.{fault_at, bytes_before, LeadTo, IsPartial}
-use Rattle.age_stanza.specs.inner.LineMachine.{IsUnderWay}
+use Rattle.age_stanza.specs.inner.LineMachine.{IsUnfinished}
 use Rattle.age_stanza.proofs.Texts.{IsBytes-append, IsLine-append, bytes_from_pass}
 use Rattle.age_stanza.proofs.Lines.{All-front}
 use Rattle.age_stanza.proofs.Complete.{walk_text, walk_go}
@@ -31,7 +31,7 @@ walk_within place n l [] lined = refl
 walk_within place n l (c ∷ w) lined = rw (ne_eqb c 10 lined.0) (walk_within place n (l ++ c ∷ []) w lined.1)
 
 -- finished lines and a begun one hold no header and no fault
-pub under_way : (place : Place) (lines : ℕ) (l : List ℕ) → LeadTo place lines → IsLine l → IsBytes l → IsUnderWay (bytes_before place ++ l)
+pub under_way : (place : Place) (lines : ℕ) (l : List ℕ) → LeadTo place lines → IsLine l → IsBytes l → IsUnfinished (bytes_before place ++ l)
 under_way place lines l led lined fits =
     record { goes_on = led.reaches l ∙ walk_within place (lines + 1) [] l lined; are_bytes = IsBytes-append (bytes_before place) l led.are_bytes fits }
 
@@ -183,5 +183,5 @@ new_partial = record {
   within = omega arith;
 }
 
-pub nothing_under_way : IsUnderWay []
+pub nothing_under_way : IsUnfinished []
 nothing_under_way = under_way Start 0 [] new_partial.lead_to tt no_bytes

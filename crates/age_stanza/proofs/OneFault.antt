@@ -19,7 +19,7 @@ use Rattle.age_stanza.specs.declared.place.Place.TheVariants.{Start, Between, In
 use Rattle.age_stanza.specs.Grammar.{line, version, stanza_text, IsStanza, Spells}
 use Rattle.age_stanza.specs.Parsing.{Begins, IsLine, AreLines, FirstFault, stanzas_text, IsEndLine}
 use Rattle.age_stanza.specs.Parsing.{RefusesBetween, RefusesLine, line_after, IsLineFault, IsFault}
-use Rattle.age_stanza.specs.inner.LineMachine.{Outcome, unfinished, ready, faulty, walk, mac_of}
+use Rattle.age_stanza.specs.inner.LineMachine.{Walked, unfinished, ready, faulty, walk, mac_of}
 use Rattle.age_stanza.proofs.Texts.{IsBytes-take, IsBytes-tail, line_from_test}
 use Rattle.age_stanza.proofs.Lines.{All-front, end_line_read, read_end_line}
 use Rattle.age_stanza.proofs.Complete.{walk_go, stanzas_reach, step_version}
@@ -149,7 +149,7 @@ same_elsewhere before l k k' over r r' =
     ∙ stanzas_unfinished ts valid) in
     r.in_body some other ∙ sym (r'.in_body some other)
 
-same_kind : (before l : List ℕ) (k k' : HeadKind) (o : Outcome) → IsBytes before → IsBytes l → AreLines before → walk Start 1 [] before ≡ o → RefusesLine before l k
+same_kind : (before l : List ℕ) (k k' : HeadKind) (o : Walked) → IsBytes before → IsBytes l → AreLines before → walk Start 1 [] before ≡ o → RefusesLine before l k
     → RefusesLine before l k' → k ≡ k'
 same_kind before l k k' unfinished fits fits' whole is r r' =
     let p = passed [] [] before Start 1 at_start tt fits is in

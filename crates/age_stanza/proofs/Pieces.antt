@@ -10,7 +10,7 @@ use Rattle.age_stanza.specs.declared.header.Header.{Header}
 use Rattle.age_stanza.specs.declared.fault.HeadFault.{HeadFault}
 use Rattle.age_stanza.specs.declared.place.Place.TheVariants.{Start}
 use Rattle.age_stanza.specs.Grammar.{head_text, HeadText}
-use Rattle.age_stanza.specs.inner.LineMachine.{unfinished, ready, faulty, walk, IsUnderWay}
+use Rattle.age_stanza.specs.inner.LineMachine.{unfinished, ready, faulty, walk, IsUnfinished}
 use Rattle.age_stanza.specs.Parsing.{memory_fault, HasHeader, IsFault, line_after}
 use Rattle.age_stanza.specs.declared.fault.HeadKind.TheVariants.{HeadTooLong}
 use Rattle.age_stanza.proofs.FaultLaws.{line_fault, no_fault, not_ready}
@@ -59,7 +59,7 @@ none_held held lt e has =
 -- ---- the same, as the parser meets it
 
 -- a header that ends inside the piece
-pub found_in : (held piece : List ℕ) (room taken : ℕ) (h : Header) → room ≡ 1048576 - length held → length held < 1048576 → IsUnderWay held
+pub found_in : (held piece : List ℕ) (room taken : ℕ) (h : Header) → room ≡ 1048576 - length held → length held < 1048576 → IsUnfinished held
     → IsBytes (held ++ take room piece)
     → taken ≤ length (take room piece) → walk Start 1 [] (held ++ take room piece) ≡ ready h (drop taken (take room piece))
     → (taken ≤ length piece) × HeadText h (held ++ take taken piece)
@@ -92,7 +92,7 @@ none_in held piece room fault room-is lt fits (inr reads) =
 
 -- neither, and the limit is reached
 pub none_yet : (held piece : List ℕ) (room : ℕ) (fault : HeadFault) → room ≡ 1048576 - length held → length held < 1048576
-    → IsUnderWay (held ++ take room piece)
+    → IsUnfinished (held ++ take room piece)
     → length (held ++ take room piece) ≡ 1048576 → fault ≡ record { kind = HeadTooLong; line = line_after (take 1048575 (held ++ take room piece)) }
     → (HasHeader (held ++ piece) → ⊥) × IsFault (held ++ piece) fault
 none_yet held piece room fault room-is lt known long fault-is =

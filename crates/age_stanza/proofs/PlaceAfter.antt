@@ -18,7 +18,7 @@ use Rattle.age_stanza.specs.declared.place.Next.TheVariants.{Go}
 use Rattle.age_stanza.specs.Text.{base64_text}
 use Rattle.age_stanza.specs.inner.LineMachine.{base64_bytes, step, end_line_result}
 use Rattle.age_stanza.specs.inner.LineMachine.{argument_line_result, body_line_result, arguments_of}
-use Rattle.age_stanza.specs.inner.LineMachine.{mac_of, whole_lines, bytes_before, IsWhole}
+use Rattle.age_stanza.specs.inner.LineMachine.{mac_of, whole_lines, bytes_before, HasWholeLines}
 use Rattle.age_stanza.specs.Grammar.{line, version, argument_line, in_lines, stanza_text}
 use Rattle.age_stanza.specs.Parsing.{stanzas_text, armor}
 use Rattle.age_stanza.proofs.Texts.{text-append, text-nil, length-text, text_of_decoded}
@@ -57,7 +57,7 @@ whole_before f full t = by_lines (IsBeforeWhole f) (before_short f) (before_full
 -- ---- the place after a line
 
 abbrev IsAfter : Place → List ℕ → Place → Type 0
-IsAfter place l next = (bytes_before next ≡ bytes_before place ++ line l) × IsWhole next
+IsAfter place l next = (bytes_before next ≡ bytes_before place ++ line l) × HasWholeLines next
 
 after_argument_line : (ss : List Stanza) (l : List ℕ) (next : Place) (o : Option (List (List ℕ))) → arguments_of l ≡ o → argument_line_result ss o ≡ Ok (Go next)
     → IsAfter (Between ss) l next
@@ -109,7 +109,7 @@ after_body_line ss args body l next false (Some more) whole fits le long is e =
     )
 
 -- a line leads to a place that its bytes were added to
-pub place_after : (place next : Place) (l : List ℕ) → IsWhole place → IsBytes l → step place l ≡ Ok (Go next) → IsAfter place l next
+pub place_after : (place next : Place) (l : List ℕ) → HasWholeLines place → IsBytes l → step place l ≡ Ok (Go next) → IsAfter place l next
 unfolding step
 place_after Start next l whole fits e = elim (chosen (bytes_eq l version) (Ok (Go (Between []))) _ (Ok (Go next)) e) [
   | inl h ↦

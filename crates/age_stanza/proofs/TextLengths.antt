@@ -11,7 +11,7 @@ use Rattle.base64.specs.GeneralPurpose.{IsBytes}
 use Rattle.age_stanza.specs.declared.header.Stanza.{Stanza}
 use Rattle.age_stanza.specs.declared.header.Header.{Header}
 use Rattle.age_stanza.specs.Text.{base64_text}
-use Rattle.age_stanza.specs.inner.Lengths.{HasArguments, Leaves, IsTextLength}
+use Rattle.age_stanza.specs.inner.Lengths.{HasArguments, Leaves, IsHeaderLength}
 use Rattle.age_stanza.specs.Grammar.{line, version, in_lines, stanza_text, end_line, head_text}
 use Rattle.age_stanza.specs.Grammar.{IsStanza, HasText}
 use Rattle.age_stanza.proofs.Lines.{length-in_lines}
@@ -64,7 +64,7 @@ valid_stanzas [] args bodies = tt
 valid_stanzas (s ∷ ss) args bodies = (record { some_argument = args.0.0; arguments = args.0.1; body = bodies.0 }, valid_stanzas ss args.1 bodies.1)
 
 -- a valid header whose text is within the limit has one
-pub has_text : (h : Header) (r : Option ℕ) → IsTextLength h r → is_some r ≡ true → 0 < length h.stanzas → AllByRecursion HasArguments h.stanzas
+pub has_text : (h : Header) (r : Option ℕ) → IsHeaderLength h r → is_some r ≡ true → 0 < length h.stanzas → AllByRecursion HasArguments h.stanzas
     → HasText h
 has_text h None len some stanzas args = absurd (cc some)
 has_text h (Some size) len some stanzas args =
@@ -81,7 +81,7 @@ has_text h (Some size) len some stanzas args =
     )
 
 -- a header that has a text is valid, and its text is within the limit
-pub text_within : (h : Header) (r : Option ℕ) → IsTextLength h r → HasText h → is_some r ≡ true
+pub text_within : (h : Header) (r : Option ℕ) → IsHeaderLength h r → HasText h → is_some r ≡ true
 text_within h None long has =
     let size = ap length has.1.spells.bytes_are in
     let within = has.1.within in

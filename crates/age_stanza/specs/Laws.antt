@@ -2,7 +2,7 @@
 use Rattle.age_stanza.specs.declared.parser.State.{State}
 use Rattle.age_stanza.specs.declared.parser.State.TheVariants.{Open, Done, Failed}
 use Rattle.age_stanza.specs.Parsing.{Parsing, reading, complete, refused, memory_fault, HasHeader}
-use Rattle.age_stanza.specs.Parsing.{IsFault, IsOpen, Feeds}
+use Rattle.age_stanza.specs.Parsing.{IsFault, IsOpen, FeedsParser}
 use Rattle.std.specs.Prelude.{◌≡◌, ◌⊎◌, ℕ, List, [], ◌∷◌, ◌++◌, Result, ◌+◌, ◌*◌, ◌/◌, ◌%◌, length}
 use Rattle.std.specs.Prelude.{codes, slice_index}
 use Rattle.std.specs.List.{concat}
@@ -29,7 +29,7 @@ pub data Fed : List (List ℕ) → Parsing → Type 0 where
   none : Fed [] (reading [])
   more : (pieces : List (List ℕ)) (old new : Parsing) (piece : List ℕ)
       (result : Result HeadStep HeadFault)
-      → Fed pieces old → IsOpen old → Feeds old piece result new
+      → Fed pieces old → IsOpen old → FeedsParser old piece result new
       → Fed (pieces ++ piece ∷ []) new
 
 -- what such a parser says of the joined pieces

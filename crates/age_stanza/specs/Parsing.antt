@@ -19,24 +19,24 @@ use Rattle.age_stanza.specs.declared.head_step.HeadStep.TheVariants.{More, Ready
 
 -- ---- How a fault is numbered among all faults, and the line that it reports.
 
-abbrev pub number_of : HeadKind → ℕ
-number_of NotAge = 1
-number_of Armored = 2
-number_of BadStanzaLine = 3
-number_of BadBody = 4
-number_of BadEndLine = 5
-number_of NoStanza = 6
-number_of HeadTooLong = 7
-number_of HeadCut = 8
-number_of Memory = 28
+abbrev pub head_fault_number : HeadKind → ℕ
+head_fault_number NotAge = 1
+head_fault_number Armored = 2
+head_fault_number BadStanzaLine = 3
+head_fault_number BadBody = 4
+head_fault_number BadEndLine = 5
+head_fault_number NoStanza = 6
+head_fault_number HeadTooLong = 7
+head_fault_number HeadCut = 8
+head_fault_number Memory = 28
 
 -- want of memory has no line
 abbrev pub line_of : HeadKind → ℕ → Option ℕ
 line_of Memory n = None
 line_of kind n = Some n
 
-abbrev pub place_of : HeadFault → Option ℕ
-place_of fault = line_of fault.kind fault.line
+abbrev pub head_fault_place : HeadFault → Option ℕ
+head_fault_place fault = line_of fault.kind fault.line
 
 -- ---- The first fault of bytes that begin no header (C2SP age.md, "Header"): a line is faulty
 -- where no header's text goes on after it. Which kind is reported is this crate's own choice, and
@@ -152,17 +152,17 @@ IsOpen parsing = parsing ≢ complete
 -- what is returned for a piece, and what the parser then is: a header exactly where a prefix of the
 -- joined bytes is its text; else the first fault of the joined bytes; else more is asked for. An
 -- empty piece is refused only after an earlier refusal, which stays
-abbrev pub Feeds : Parsing → List ℕ → Result HeadStep HeadFault → Parsing → Type 0
-Feeds (reading held) piece (Ok More) new = (new ≡ reading (held ++ piece))
+abbrev pub FeedsParser : Parsing → List ℕ → Result HeadStep HeadFault → Parsing → Type 0
+FeedsParser (reading held) piece (Ok More) new = (new ≡ reading (held ++ piece))
     × (length (held ++ piece) < header_limit) × (¬ HasHeader (held ++ piece))
     × NoFault (held ++ piece)
-Feeds (reading held) piece (Ok (Ready taken h)) new = (new ≡ complete) × (taken ≤ length piece)
+FeedsParser (reading held) piece (Ok (Ready taken h)) new = (new ≡ complete) × (taken ≤ length piece)
     × HeadText h (held ++ take taken piece)
-Feeds (reading held) piece (Err fault) new = (new ≡ refused fault)
+FeedsParser (reading held) piece (Err fault) new = (new ≡ refused fault)
     × ((fault ≡ memory_fault) ⊎ ((¬ HasHeader (held ++ piece)) × IsFault (held ++ piece) fault))
     × (0 < length piece)
-Feeds complete piece result new = Unit {0}
-Feeds (refused fault) piece result new = (result ≡ Err fault) × (new ≡ refused fault)
+FeedsParser complete piece result new = Unit {0}
+FeedsParser (refused fault) piece result new = (result ≡ Err fault) × (new ≡ refused fault)
 
 -- what is returned at the end of the input: that the header is cut, in the line that the end comes
 -- in, or the earlier fault

@@ -1,7 +1,7 @@
 //! Why a header was refused, and where.
 
 ghost use Rattle.std.specs.Prelude.{◌≡◌};
-ghost use Rattle.age_stanza.specs.Parsing.{number_of, place_of};
+ghost use Rattle.age_stanza.specs.Parsing.{head_fault_number, head_fault_place};
 
 use std::alloc::AllocError;
 use std::{error, fmt};
@@ -45,7 +45,7 @@ impl HeadKind {
     /// The kind's number in the list of all faults: 1 to 8 in the order of the
     /// variants, and 28 for memory.
     pub fn number(&self) -> u8
-        ensures { result ≡ number_of self.now }
+        ensures { result ≡ head_fault_number self.now }
     {
         match self {
             HeadKind::NotAge => 1,
@@ -85,14 +85,14 @@ impl HeadFault {
     /// The fault's number: 1 to 8 for what is wrong with a header, in the order
     /// of the variants of [`HeadKind`], and 28 where memory was refused.
     pub fn number(&self) -> u8
-        ensures { result ≡ number_of self.now.kind }
+        ensures { result ≡ head_fault_number self.now.kind }
     {
         self.kind.number()
     }
 
     /// The line of the fault, from 1. `None` where memory was refused.
     pub fn place(&self) -> Option<u64>
-        ensures { result ≡ place_of self.now }
+        ensures { result ≡ head_fault_place self.now }
     {
         match self.kind {
             HeadKind::Memory => None,

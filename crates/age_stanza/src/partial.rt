@@ -5,7 +5,7 @@ ghost use Rattle.std.specs.Prelude.{IfErr, OnErr};
 ghost use Rattle.age_stanza.specs.Grammar.{header_limit};
 ghost use Rattle.age_stanza.specs.Parsing.{line_after, memory_fault, IsLine};
 ghost use Rattle.age_stanza.specs.inner.LineMachine.{fault_at as spec_fault_at, Gives};
-ghost use Rattle.age_stanza.specs.inner.LineMachine.{step as step_of, IsUnderWay};
+ghost use Rattle.age_stanza.specs.inner.LineMachine.{step as step_of, IsUnfinished};
 
 use crate::fault::{HeadFault, HeadKind, MEMORY};
 use crate::header::Header;
@@ -87,7 +87,7 @@ impl PartialHeader {
     /// How many bytes came.
     pub(crate) fn len(&self) -> usize
         ensures len { result ≡ length self.now }
-        ensures known { IsUnderWay self.now }
+        ensures known { IsUnfinished self.now }
     {
         self.bytes
     }

@@ -8,7 +8,7 @@ ghost use Rattle.base64.specs.GeneralPurpose.{IsBytes};
 ghost use Rattle.age_stanza.specs.Text.{base64_text};
 ghost use Rattle.age_stanza.specs.Grammar.{IsArgument, HasText, in_lines, header_limit};
 ghost use Rattle.age_stanza.specs.inner.Lengths.{HasArguments, Leaves, LeavesAfterStanza};
-ghost use Rattle.age_stanza.specs.inner.Lengths.{IsTextLength};
+ghost use Rattle.age_stanza.specs.inner.Lengths.{IsHeaderLength};
 
 use crate::HEAD_MAX;
 use crate::argument::Argument;
@@ -84,7 +84,7 @@ fn room_after_stanza(room: usize, stanza: &Stanza) -> Option<usize>
 
 /// The length of a header's text, where it is within the limit.
 pub(crate) fn text_len(header: &Header) -> Option<usize>
-    ensures { IsTextLength header.now result }
+    ensures { IsHeaderLength header.now result }
 {
     let version_line = 22;
     let end_line = 4 + characters_of(&header.mac) + 1;

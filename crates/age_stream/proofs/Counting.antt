@@ -12,7 +12,7 @@ use Rattle.age_chunk.specs.ChunkBoxes.{IsChunkBox, tag_length}
 use Rattle.age_stream.specs.Segment.{Segment, Outcome, outcome, front_texts, text_then}
 use Rattle.age_stream.specs.Segment.{text_before_last, unless_greatest, whole_blocks, rest_bytes}
 use Rattle.age_stream.specs.Segment.{released}
-use Rattle.age_stream.specs.Laws.{IsCounted, counted}
+use Rattle.age_stream.specs.Laws.{IsCounted, counted_chunks}
 use Rattle.age_chunk.proofs.Nonces.{nonce_bytes-length}
 use Rattle.age_stream.proofs.Undamaged.{all_full}
 use Rattle.age_stream.proofs.Going.{going, going_outcome, first_chunks-add}
@@ -81,7 +81,7 @@ module _ (sealing : List ℕ → List ℕ → List ℕ) (opening : List ℕ → 
       (rest_bytes n s.bytes) s.late s.ended in
       let stopped = begins_stop opening n texts (s.start + m) (slice_get blocks m) behind (rest_bytes n s.bytes) s.late s.ended in
       let more : (added : List (List ℕ)) × ((outcome opening n s).texts ≡ texts ++ added) = (stopped.0, ap (λ (o : Outcome). o.texts) same ∙ stopped.1) in
-      let are : counted opening n s ≡ texts =
+      let are : counted_chunks opening n s ≡ texts =
       ap (λ (ts : List (List ℕ)). take (i - s.start) ts) more.1 ∙ take_at texts more.0 (i - s.start) (omega (arith, at)) in
       let front = flat_map (λ (t : List ℕ). t) texts in
       let tail = flat_map (λ (t : List ℕ). t) more.0 in

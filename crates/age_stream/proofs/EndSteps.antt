@@ -7,7 +7,7 @@ use Rattle.std.proofs.lemmas.List.{append-nil}
 use Rattle.std.proofs.lemmas.Grind.{flat_map-append}
 use Rattle.age_stream.specs.Segment.{Segment, Outcome, outcome, released, front_texts, whole_blocks}
 use Rattle.age_stream.specs.Segment.{rest_bytes, with_end}
-use Rattle.age_stream.specs.inner.OpenerSteps.{status_ended, final_block, EndsAs, front_bytes}
+use Rattle.age_stream.specs.inner.OpenerSteps.{status_ended, final_block, OpenerEndsAs, front_bytes}
 use Rattle.age_stream.specs.declared.opener.OpenerState.{OpenerState}
 use Rattle.age_chunk.specs.declared.fault.StreamFault.{StreamFault}
 use Rattle.age_stream.specs.declared.step.Status.TheVariants.{Open, Failed}
@@ -28,7 +28,7 @@ module _ {B : Type 0} {n : ℕ} {g : _} (opening : B → List ℕ → List ℕ �
   by_answer o (Err f) t = ap (flat_map (λ (t : List ℕ). t)) t.1
 
   -- the outcome of the whole segment is that of the end, after the texts so far
-  finishes : (s : Segment) (o : Outcome) (answer : Result ℕ StreamFault) → EndsAs o old answer new
+  finishes : (s : Segment) (o : Outcome) (answer : Result ℕ StreamFault) → OpenerEndsAs o old answer new
       → (outcome (opening old.key.now) (text_length n) (with_end s)).texts ≡ (outcome (opening old.key.now) (text_length n) s).texts ++ o.texts
       → (outcome (opening old.key.now) (text_length n) (with_end s)).index ≡ o.index → (outcome (opening old.key.now) (text_length n) (with_end s)).status ≡ o.status
       → Finishes s (front_bytes answer new.buffer.items)
@@ -48,7 +48,7 @@ module _ {B : Type 0} {n : ℕ} {g : _} (opening : B → List ℕ → List ℕ �
       }
 
   pub end_open : (s : Segment) (answer : Result ℕ StreamFault) → Stands opening (text_length n) (opener_view old) s → old.status ≡ Open
-      → EndsAs (final_block (opening old.key.now) [] old.index (held_bytes old) false true) old answer new → Finishes s (front_bytes answer new.buffer.items)
+      → OpenerEndsAs (final_block (opening old.key.now) [] old.index (held_bytes old) false true) old answer new → Finishes s (front_bytes answer new.buffer.items)
   end_open s answer h open_ e =
       let op = opening old.key.now in
       let m = text_length n in
@@ -70,9 +70,9 @@ module _ {B : Type 0} {n : ℕ} {g : _} (opening : B → List ℕ → List ℕ �
       (ap (λ (o : Outcome). o.index) all ∙ ap (λ (o : Outcome). o.index) same)
       (ap (λ (o : Outcome). o.status) all ∙ ap (λ (o : Outcome). o.status) same)
 
-  pub end_none : (s : Segment) (answer : Result ℕ StreamFault) → Stands opening (text_length n) (opener_view old) s → (old.status ≡ Open → ⊥)
-      → EndsAs (record { texts = []; index = old.index; status = status_ended old.status }) old answer new → Finishes s (front_bytes answer new.buffer.items)
-  end_none s answer h shut e =
+  pub end_closed : (s : Segment) (answer : Result ℕ StreamFault) → Stands opening (text_length n) (opener_view old) s → (old.status ≡ Open → ⊥)
+      → OpenerEndsAs (record { texts = []; index = old.index; status = status_ended old.status }) old answer new → Finishes s (front_bytes answer new.buffer.items)
+  end_closed s answer h shut e =
       let op = opening old.key.now in
       let m = text_length n in
       let more = after_end op m s (λ o. shut (h.status ∙ o)) in

@@ -12,7 +12,7 @@ use Rattle.age_chunk.specs.declared.fault.StreamKind.TheVariants.{ChunkDamaged, 
 use Rattle.age_chunk.specs.declared.fault.StreamKind.TheVariants.{Truncated}
 use Rattle.age_stream.specs.Segment.{Outcome, failed}
 use Rattle.age_stream.specs.Opener.{held_bytes}
-use Rattle.age_stream.specs.inner.OpenerSteps.{final_block, after_last, EndsAs}
+use Rattle.age_stream.specs.inner.OpenerSteps.{final_block, after_last, OpenerEndsAs}
 use Rattle.age_stream.specs.declared.opener.OpenerState.{OpenerState}
 use Rattle.age_stream.specs.declared.step.Status.TheVariants.{Done, Failed}
 use Rattle.age_chunk.specs.ChunkBoxes.{tag_length}
@@ -45,7 +45,7 @@ module _ (opening : List ℕ → List ℕ → Option (List ℕ)) (i : ℕ) (held
 module _ {B : Type 0} {n : ℕ} {g : _} (old new : OpenerState B n g) (outcome : Outcome) (key : new.key ≡ old.key) (index : new.index ≡ old.index) where
   -- an end that was refused
   pub ends_refused : (kind : StreamKind) (fault : StreamFault) → outcome ≡ refused kind old.index → new.status ≡ failed kind old.index
-      → Failed fault ≡ failed kind old.index → EndsAs outcome old (Err fault) new
+      → Failed fault ≡ failed kind old.index → OpenerEndsAs outcome old (Err fault) new
   ends_refused kind fault is status same = record {
     key = key;
     index = index ∙ ap (λ (o : Outcome). o.index) (sym is);
@@ -56,7 +56,7 @@ module _ {B : Type 0} {n : ℕ} {g : _} (old new : OpenerState B n g) (outcome :
 
   -- an end whose block opened
   pub ends_opened : (len : ℕ) (text : List ℕ) → outcome ≡ record { texts = text ∷ []; index = old.index; status = Done } → new.status ≡ Done
-      → text ≡ take len new.buffer.items → len ≤ length new.buffer.items → len ≤ length (held_bytes old) → EndsAs outcome old (Ok len) new
+      → text ≡ take len new.buffer.items → len ≤ length new.buffer.items → len ≤ length (held_bytes old) → OpenerEndsAs outcome old (Ok len) new
   ends_opened len text is status front within short = record {
     key = key;
     index = index ∙ ap (λ (o : Outcome). o.index) (sym is);

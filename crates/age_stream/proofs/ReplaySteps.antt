@@ -14,7 +14,7 @@ use Rattle.age_stream.specs.Segment.{with_end, text_held, accepts, after_deliver
 use Rattle.age_stream.specs.declared.delivery.Delivery.TheVariants.{End, Restart}
 use Rattle.age_stream.proofs.Fresh.{fresh_outcome}
 use Rattle.age_stream.specs.Opener.{Stands, chunk_texts, chunk_bytes}
-use Rattle.age_stream.specs.Replay.{ReplayView, IsAt, Replays}
+use Rattle.age_stream.specs.Replay.{ReplayView, IsReplayAt, Replays}
 use Rattle.age_stream.specs.inner.ReplaySteps.{with_bytes}
 use Rattle.age_chunk.specs.ChunkBoxes.{IsChunkBox}
 use Rattle.age_stream.specs.Headline.{HoldsWritten, IsRight, IsUndamaged}
@@ -27,12 +27,12 @@ lent_flat None = refl
 lent_flat (Some chunk) = append-nil chunk.now
 
 module _ {B : Type 0} (opening : B → List ℕ → List ℕ → Option (List ℕ)) (n : ℕ) (old new : ReplayView B) where
-  pub replay_step : (s : Standing) (piece : List ℕ) (ts : List (List ℕ)) → IsAt opening n old s → new.key ≡ old.key → new.opener.key ≡ old.opener.key
+  pub replay_step : (s : Standing) (piece : List ℕ) (ts : List (List ℕ)) → IsReplayAt opening n old s → new.key ≡ old.key → new.opener.key ≡ old.opener.key
       → new.refused ≡ old.refused
       → Stands opening n new.opener (with_piece s.segment piece)
       → (outcome (opening old.opener.key) n (with_piece s.segment piece)).texts ≡ (outcome (opening old.opener.key) n s.segment).texts ++ ts
       → new.text ≡ old.text ++ flat_map (λ (t : List ℕ). t) ts
-      → IsAt opening n new (with_bytes s piece)
+      → IsReplayAt opening n new (with_bytes s piece)
   replay_step s piece ts h key okey refused stands texts text =
       let m = n in
       let F : (List (List ℕ)) → List ℕ = flat_map (λ (t : List ℕ). t) in
@@ -89,11 +89,11 @@ with_bytes-nil s = ap (λ (x : Segment). record { given_up = s.given_up; base = 
     (nothing s.segment.start s.segment.bytes s.segment.ended s.segment.late)
 
 module _ {B : Type 0} (opening : B → List ℕ → List ℕ → Option (List ℕ)) (n : ℕ) (old new : ReplayView B) where
-  pub end_step : (s : Standing) (bytes : List ℕ) → IsAt opening n old s → new.key ≡ old.key → new.opener.key ≡ old.opener.key → new.refused ≡ old.refused
+  pub end_step : (s : Standing) (bytes : List ℕ) → IsReplayAt opening n old s → new.key ≡ old.key → new.opener.key ≡ old.opener.key → new.refused ≡ old.refused
       → Stands opening n new.opener (with_end s.segment)
       → released (opening old.opener.key) n (with_end s.segment) ≡ released (opening old.opener.key) n s.segment ++ bytes
       → new.text ≡ old.text ++ bytes
-      → IsAt opening n new (after_delivery (opening old.key) n s End)
+      → IsReplayAt opening n new (after_delivery (opening old.key) n s End)
   end_step s bytes h key okey refused stands more text =
       let m = n in
       let same = ap (λ k. opening k) h.key in
@@ -110,10 +110,10 @@ module _ {B : Type 0} (opening : B → List ℕ → List ℕ → Option (List �
         refused = refused ∙ h.refused;
       }
 
-  pub restart_step : (s : Standing) (k : ℕ) → IsAt opening n old s → new.key ≡ old.key
+  pub restart_step : (s : Standing) (k : ℕ) → IsReplayAt opening n old s → new.key ≡ old.key
       → (nat_lt k chunk_limit && nat_le (k * n) (length old.text)) ≡ true
       → new.opener.key ≡ old.key → Stands opening n new.opener (fresh k) → new.text ≡ take (k * n) old.text → new.refused ≡ old.refused
-      → IsAt opening n new (after_delivery (opening old.key) n s (Restart k))
+      → IsReplayAt opening n new (after_delivery (opening old.key) n s (Restart k))
   restart_step s k h key sure okey stands text refused =
       let m = n in
       let op = opening old.key in
@@ -134,18 +134,18 @@ module _ {B : Type 0} (opening : B → List ℕ → List ℕ → Option (List �
       let held : text_held op m next ≡ take (k * m) (text_held op m s) =
       ap (λ (o : Outcome). take (k * m) (text_held op m s) ++ flat_map (λ (t : List ℕ). t) o.texts) (fresh_outcome op m k)
       ∙ append-nil (take (k * m) (text_held op m s)) in
-      subst (IsAt opening n new) (sym e) (record {
+      subst (IsReplayAt opening n new) (sym e) (record {
         key = okey ∙ sym key;
         segment = stands;
         text = text ∙ (ap (take (k * m)) h.text ∙ (sym held ∙ ap (λ k. text_held (opening k) m next) (sym key)));
         refused = refused ∙ h.refused;
       })
 
-  pub refused_step : (s : Standing) (k : ℕ) → IsAt opening n old s → new.key ≡ old.key
+  pub refused_step : (s : Standing) (k : ℕ) → IsReplayAt opening n old s → new.key ≡ old.key
       → (nat_lt k chunk_limit && nat_le (k * n) (length old.text)) ≡ false
       → new.opener ≡ old.opener → new.text ≡ old.text
       → new.refused ≡ min (old.refused + 1) 18446744073709551615
-      → IsAt opening n new (after_delivery (opening old.key) n s (Restart k))
+      → IsReplayAt opening n new (after_delivery (opening old.key) n s (Restart k))
   refused_step s k h key sure same text refused =
       let m = n in
       let op = opening old.key in
@@ -159,7 +159,7 @@ module _ {B : Type 0} (opening : B → List ℕ → List ℕ → Option (List �
         segment = fresh k;
         refused = s.refused;
       }) next) is in
-      subst (IsAt opening n new) (sym e) (record {
+      subst (IsReplayAt opening n new) (sym e) (record {
         key = ap (λ o. o.key) same ∙ (h.key ∙ sym key);
         segment = subst (λ o. Stands opening n o s.segment) (sym same) h.segment;
         text = text ∙ (h.text ∙ ap (λ k. text_held (opening k) m next) (sym key));
@@ -169,13 +169,13 @@ module _ {B : Type 0} (opening : B → List ℕ → List ℕ → Option (List �
 module _ {B : Type 0} (opening : B → List ℕ → List ℕ → Option (List ℕ)) (n : ℕ) (old new : ReplayView B) (key : new.key ≡ old.key) where
   -- one delivery more
   pub replays_more : (ds : List Delivery) (d : Delivery) → Replays opening n old ds
-      → ((s : Standing) → IsAt opening n old s → IsAt opening n new (after_delivery (opening old.key) n s d)) → Replays opening n new (ds ++ d ∷ [])
+      → ((s : Standing) → IsReplayAt opening n old s → IsReplayAt opening n new (after_delivery (opening old.key) n s d)) → Replays opening n new (ds ++ d ∷ [])
   replays_more ds d h f =
       let m = n in
       let op = opening old.key in
       let e : after_delivery op m (standing op m ds) d ≡ standing op m (ds ++ d ∷ []) = sym (standing_more op m ds d) in
       let k : standing op m (ds ++ d ∷ []) ≡ standing (opening new.key) m (ds ++ d ∷ []) = ap (λ k. standing (opening k) m (ds ++ d ∷ [])) (sym key) in
-      subst (IsAt opening n new) (e ∙ k) (f (standing op m ds) h)
+      subst (IsReplayAt opening n new) (e ∙ k) (f (standing op m ds) h)
 
 module _ {B : Type 0} (sealing : B → List ℕ → List ℕ → List ℕ) (opening : B → List ℕ → List ℕ → Option (List ℕ)) (n : ℕ) (old new : ReplayView B)
     (valid : IsChunkBox (sealing old.key) (opening old.key)) (positive : 0 < n) (key : new.key ≡ old.key) where

@@ -8,7 +8,7 @@ use Rattle.std.proofs.lemmas.Grind.{flat_map-append}
 use Rattle.age_chunk.specs.Payload.{nonce_bytes, last_index, last_chunk, sealed_before_last}
 use Rattle.age_chunk.specs.Payload.{block_bytes, pair, payload}
 use Rattle.age_stream.specs.Sealer.{SealerView, Holds, step_len}
-use Rattle.age_stream.specs.inner.SealerSteps.{bytes_of, IsStep, Grows, Closes}
+use Rattle.age_stream.specs.inner.SealerSteps.{block_or_none, IsStep, Grows, SealerCloses}
 use Rattle.age_stream.proofs.Sealings.{grown_index, grown_chunk, grown_blocks, closed_index}
 use Rattle.age_stream.proofs.Sealings.{closed_chunk, closed_blocks}
 
@@ -21,7 +21,7 @@ module _ {B : Type 0} (sealing : B → List ℕ → List ℕ → List ℕ) (n : 
   pub record Follows (text : List ℕ) (block : Option (List ℕ)) : Type 0 where
     pub holds : Holds n new (text ++ take taken piece)
     pub blocks : block_bytes (sealed_before_last (sealing old.key) n (text ++ take taken piece))
-        ≡ block_bytes (sealed_before_last (sealing old.key) n text) ++ bytes_of block
+        ≡ block_bytes (sealed_before_last (sealing old.key) n text) ++ block_or_none block
 
   grows : (text : List ℕ) → Holds n old text → Grows sealing n old piece taken new → Follows text None
   grows text h s =
@@ -38,7 +38,7 @@ module _ {B : Type 0} (sealing : B → List ℕ → List ℕ → List ℕ) (n : 
             ∙ sym (append-nil (block_bytes (sealed_before_last (sealing old.key) m text)));
       }
 
-  closes : (text : List ℕ) (block : List ℕ) (x : ℕ) → take taken piece ≡ x ∷ [] → Holds n old text → Closes sealing n old piece taken block new
+  closes : (text : List ℕ) (block : List ℕ) (x : ℕ) → take taken piece ≡ x ∷ [] → Holds n old text → SealerCloses sealing n old piece taken block new
       → Follows text (Some block)
   closes text block x is h s =
       let m = n in

@@ -6,7 +6,7 @@ use Rattle.std.proofs.lemmas.List.{length-drop, length-take, take_all}
 use Rattle.std.proofs.lemmas.Bool.{cases_lt, le-ltb, eq-eqb, ne_eqb}
 use Rattle.std.proofs.lemmas.Bool.Decides.{nat_tests}
 use Rattle.std.proofs.Math.Nat.{le-div_iff_mul-le}
-use Rattle.age_chunk.specs.ChunkBoxes.{Seals, Opens, tag_length}
+use Rattle.age_chunk.specs.ChunkBoxes.{Seals, OpensBlock, tag_length}
 use Rattle.age_chunk.specs.Payload.{nonce_bytes}
 use Rattle.age_stream.specs.Segment.{Segment, block_at, front_texts, whole_blocks, rest_bytes}
 use Rattle.age_stream.specs.Headline.{IsWriters, IsAuthentic}
@@ -42,7 +42,7 @@ by_flag : (P : Bool → Type 0) (b : Bool) → P false → P true → P b
 by_flag P false unset set = unset
 by_flag P true unset set = set
 
-module _ (sealing : Seals) (opening : Opens) (n : ℕ) (text : List ℕ) where
+module _ (sealing : Seals) (opening : OpensBlock) (n : ℕ) (text : List ℕ) where
   -- each block that is tried is the writer's, if it opens
   pub record AreTried (s : Segment) : Type 0 where
     pub front : (j : ℕ) → j < length (front_texts opening s.start (whole_blocks n s.bytes))

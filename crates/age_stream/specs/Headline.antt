@@ -3,7 +3,7 @@ use Rattle.std.specs.Prelude.{◌≡◌, ◌≢◌, ℕ, ◌+◌, ◌-◌, ◌<�
 use Rattle.std.specs.Prelude.{Contains, Some, None, if◌then◌else◌, ◌*◌, ◌≤◌, true, ◌++◌, length}
 use Rattle.std.specs.Prelude.{take, drop, IsSome, ◌⊎◌, map}
 use Rattle.std.specs.Str.{bytes_eq}
-use Rattle.age_chunk.specs.ChunkBoxes.{Seals, Opens, tag_length}
+use Rattle.age_chunk.specs.ChunkBoxes.{Seals, OpensBlock, tag_length}
 use Rattle.age_chunk.specs.Payload.{nonce_bytes, chunks, sealed, chunk_limit, payload, chunk_count}
 use Rattle.age_stream.specs.Segment.{Segment, outcome, failed, block_at, stop, is_tried, standing}
 use Rattle.age_stream.specs.Segment.{accepts}
@@ -20,7 +20,7 @@ use Rattle.age_stream.specs.declared.delivery.Delivery.TheVariants.{Piece, End, 
 
 -- the chunk that was sealed as this block at this nonce, if any: blocks are compared, and none is
 -- opened
-abbrev pub sealed_as : List (List ℕ × List ℕ) → List (List ℕ) → Opens
+abbrev pub sealed_as : List (List ℕ × List ℕ) → List (List ℕ) → OpensBlock
 sealed_as [] chunks nonce block = None
 sealed_as (pair ∷ pairs) [] nonce block = None
 sealed_as (pair ∷ pairs) (chunk ∷ chunks) nonce block =
@@ -29,7 +29,7 @@ sealed_as (pair ∷ pairs) (chunk ∷ chunks) nonce block =
 
 module _ (sealing : Seals) (n : ℕ) (text : List ℕ) where
   -- in place of opening, comparing with the writer's blocks
-  abbrev pub compared : Opens
+  abbrev pub compared : OpensBlock
   compared = sealed_as (sealed sealing n text) (chunks n text)
 
   -- block number i is none of the writer's, and those before it are the writer's, each at its
@@ -40,7 +40,7 @@ module _ (sealing : Seals) (n : ℕ) (text : List ℕ) where
     pub there : (last : Bool) → ¬ Contains (sealed sealing n text)
         (nonce_bytes i last, block_at n s.bytes (i - s.start))
 
-module _ (sealing : Seals) (opening : Opens) (n : ℕ) (text : List ℕ) where
+module _ (sealing : Seals) (opening : OpensBlock) (n : ℕ) (text : List ℕ) where
   -- the outcome is that of comparing blocks with the writer's; one is refused as damaged where it
   -- is the first that is none, and there are never too many
   pub record IsInPlace (s : Segment) (status : Status) : Type 0 where
@@ -54,7 +54,7 @@ module _ (sealing : Seals) (opening : Opens) (n : ℕ) (text : List ℕ) where
 abbrev pub IsPrefixOf : List ℕ → List ℕ → Type 0
 IsPrefixOf xs ys = (rest : List ℕ) × (xs ++ rest ≡ ys)
 
-module _ (sealing : Seals) (opening : Opens) (n : ℕ) (text : List ℕ) where
+module _ (sealing : Seals) (opening : OpensBlock) (n : ℕ) (text : List ℕ) where
   -- if the block opens at the nonce, the writer of the text sealed it there
   abbrev pub IsWriters : List ℕ → List ℕ → Type 0
   IsWriters nonce block = IsSome (opening nonce block)
@@ -110,7 +110,7 @@ module _ (sealing : Seals) (opening : Opens) (n : ℕ) (text : List ℕ) where
     pub whole : Undamaged → (held ≡ text) × (status ≡ Done)
     pub place : IsInPlace sealing opening n text s status
 
-module _ (sealing : Seals) (opening : Opens) (n : ℕ) where
+module _ (sealing : Seals) (opening : OpensBlock) (n : ℕ) where
   -- the headline: for every text of at most 2^48 chunks, while no delivered block opens except as
   -- its writer sealed it
   abbrev pub HoldsWritten : List Delivery → List ℕ → Status → Type 0

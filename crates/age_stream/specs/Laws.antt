@@ -2,7 +2,7 @@
 use Rattle.std.specs.Prelude.{◌≡◌, ℕ, ◌+◌, ◌-◌, ◌*◌, ◌/◌, ◌≤◌, List, length, Option, MatchOption}
 use Rattle.std.specs.Prelude.{◌<◌, ◌==◌, ◌⊎◌, [], ◌∷◌, ◌++◌, slice_index_or, true, false, None, map}
 use Rattle.std.specs.Prelude.{◌≢◌, Bool, take}
-use Rattle.age_chunk.specs.ChunkBoxes.{OfAllBoxes, tag_length, Seals, Opens, IsChunkBox}
+use Rattle.age_chunk.specs.ChunkBoxes.{OfAllBoxes, tag_length, Seals, OpensBlock, IsChunkBox}
 use Rattle.age_chunk.specs.ChunkBoxes.{clear_sealing, clear_opening}
 use Rattle.age_chunk.specs.Payload.{chunk_limit, chunk_count, chunk_length, payload, nonce_bytes}
 use Rattle.age_chunk.specs.Payload.{chunks, sealed, last_index, last_chunk, sealed_before_last}
@@ -81,12 +81,12 @@ pub record AreWhole (bytes : List ℕ) (deliveries : List Delivery) : Type 0 whe
   pub join : flat_map (λ (piece : Bor (List ℕ)). piece.now) pieces ≡ bytes
 
 -- where these bytes are delivered whole, the text is held, and its end was reported
-abbrev pub GivesBack : Opens → ℕ → List ℕ → List ℕ → Type 0
+abbrev pub GivesBack : OpensBlock → ℕ → List ℕ → List ℕ → Type 0
 GivesBack opening n bytes text = (deliveries : List Delivery) → AreWhole bytes deliveries
     → (text_held opening n (standing opening n deliveries) ≡ text)
     × ((outcome opening n (standing opening n deliveries).segment).status ≡ Done)
 
-module _ (sealing : Seals) (opening : Opens) (n : ℕ) (text : List ℕ) where
+module _ (sealing : Seals) (opening : OpensBlock) (n : ℕ) (text : List ℕ) where
   -- a full last block isn't also one before the last: a short one is never tried so
   abbrev pub IsClosed : Type 0
   IsClosed = length (last_chunk n text) ≡ n
@@ -102,8 +102,8 @@ module _ (sealing : Seals) (opening : Opens) (n : ℕ) (text : List ℕ) where
     pub closed : IsClosed
 
 -- a claim about every such box and text
-abbrev pub OfAllSealable : (Seals → Opens → ℕ → List ℕ → Type 0) → Type 0
-OfAllSealable Claim = (sealing : Seals) (opening : Opens) (n : ℕ) (text : List ℕ)
+abbrev pub OfAllSealable : (Seals → OpensBlock → ℕ → List ℕ → Type 0) → Type 0
+OfAllSealable Claim = (sealing : Seals) (opening : OpensBlock) (n : ℕ) (text : List ℕ)
     → IsSealable sealing opening n text → Claim sealing opening n text
 
 -- the payload, or its rest from a chunk on, is authentic
@@ -125,8 +125,8 @@ WholeIsAuthentic = OfAllSealable (λ sealing opening n text. (deliveries : List 
     → AreWhole (payload sealing n text) deliveries → AreAuthentic sealing opening n text deliveries)
 
 -- and the payload gives its text back
-abbrev pub RoundTrip : Type 0
-RoundTrip = OfAllSealable (λ sealing opening n text.
+abbrev pub PayloadRoundTrip : Type 0
+PayloadRoundTrip = OfAllSealable (λ sealing opening n text.
     GivesBack opening n (payload sealing n text) text)
 
 -- in the clear every text of at most 2^48 chunks is so
@@ -153,14 +153,14 @@ PiecesJoin = (s : Segment) (piece more : List ℕ)
 
 -- with more bytes the text that was released only grows, and the index never falls
 abbrev pub ReleasedGrows : Type 0
-ReleasedGrows = (opening : Opens) (n : ℕ) (s : Segment) (piece : List ℕ)
+ReleasedGrows = (opening : OpensBlock) (n : ℕ) (s : Segment) (piece : List ℕ)
     → (s.ended ≡ false → s.late ≡ false)
     → IsPrefixOf (released opening n s) (released opening n (with_piece s piece))
     × ((outcome opening n s).index ≤ (outcome opening n (with_piece s piece)).index)
 
 -- a segment of no bytes and no end is open, and released nothing
 abbrev pub FreshIsOpen : Type 0
-FreshIsOpen = (opening : Opens) (n k : ℕ)
+FreshIsOpen = (opening : OpensBlock) (n k : ℕ)
     → outcome opening n (fresh k) ≡ record { texts = []; index = k; status = Open }
 
 -- it released no more, and stands at the same chunk; a refusal stays
@@ -171,14 +171,14 @@ pub record IsSettled (old new : Outcome) : Type 0 where
 
 -- once a segment isn't open, it is settled, whatever comes
 abbrev pub ClosedStays : Type 0
-ClosedStays = (opening : Opens) (n : ℕ) (s : Segment)
+ClosedStays = (opening : OpensBlock) (n : ℕ) (s : Segment)
     → (s.ended ≡ false → s.late ≡ false) → (outcome opening n s).status ≢ Open
     → ((piece : List ℕ) → IsSettled (outcome opening n s) (outcome opening n (with_piece s piece)))
     × IsSettled (outcome opening n s) (outcome opening n (with_end s))
 
 -- after an end it isn't open, and it stands at the same chunk
 abbrev pub EndCloses : Type 0
-EndCloses = (opening : Opens) (n : ℕ) (s : Segment)
+EndCloses = (opening : OpensBlock) (n : ℕ) (s : Segment)
     → ((outcome opening n (with_end s)).status ≢ Open)
     × ((outcome opening n (with_end s)).index ≡ (outcome opening n s).index)
 
@@ -201,20 +201,20 @@ SealedGrows = (sealing : Seals) (n : ℕ) (text more : List ℕ) → 0 < n
     (block_bytes (sealed_before_last sealing n (text ++ more)))
 
 -- the chunks that a segment counts: what it released of its blocks before the last
-abbrev pub counted : Opens → ℕ → Segment → List (List ℕ)
-counted opening n s = take ((outcome opening n s).index - s.start) (outcome opening n s).texts
+abbrev pub counted_chunks : OpensBlock → ℕ → Segment → List (List ℕ)
+counted_chunks opening n s = take ((outcome opening n s).index - s.start) (outcome opening n s).texts
 
 -- after a base of so many whole chunks as stand before the segment, the chunks that it counts are
 -- the first of all text so far; while it is open they are all that it released
-pub record IsCounted (opening : Opens) (n : ℕ) (base : List ℕ) (s : Segment) : Type 0 where
-  pub count : s.start + length (counted opening n s) ≡ (outcome opening n s).index
+pub record IsCounted (opening : OpensBlock) (n : ℕ) (base : List ℕ) (s : Segment) : Type 0 where
+  pub count : s.start + length (counted_chunks opening n s) ≡ (outcome opening n s).index
   pub within : (outcome opening n s).index * n ≤ length (base ++ released opening n s)
-  pub join : base ++ flat_map (λ (chunk : List ℕ). chunk) (counted opening n s)
+  pub join : base ++ flat_map (λ (chunk : List ℕ). chunk) (counted_chunks opening n s)
       ≡ take ((outcome opening n s).index * n) (base ++ released opening n s)
   pub chunks : (i : ℕ) → i ≤ (outcome opening n s).index
       → first_chunks n i (base ++ released opening n s)
-      ≡ take i (first_chunks n s.start base ++ counted opening n s)
-  pub all : (outcome opening n s).status ≡ Open → counted opening n s ≡ (outcome opening n s).texts
+      ≡ take i (first_chunks n s.start base ++ counted_chunks opening n s)
+  pub all : (outcome opening n s).status ≡ Open → counted_chunks opening n s ≡ (outcome opening n s).texts
 
 -- so it is of every segment under a valid box, whatever its blocks are
 abbrev pub ChunksAreCounted : Type 0

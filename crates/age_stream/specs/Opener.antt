@@ -7,7 +7,7 @@ use Rattle.age_stream.specs.declared.step.Status.{Status}
 use Rattle.age_stream.specs.declared.step.Status.TheVariants.{Open, Failed, Done}
 use Rattle.age_chunk.specs.declared.fault.StreamFault.{StreamFault}
 use Rattle.age_stream.specs.declared.opener.OpenerState.{OpenerState}
-use Rattle.age_chunk.specs.ChunkBoxes.{Opens, tag_length, text_length, Seals}
+use Rattle.age_chunk.specs.ChunkBoxes.{OpensBlock, tag_length, text_length, Seals}
 use Rattle.age_stream.specs.Segment.{Segment, outcome, rest_bytes, released, with_piece, with_end}
 use Rattle.std.specs.List.{flat_map}
 use Rattle.age_stream.specs.declared.step.Step.{Step}
@@ -46,7 +46,7 @@ has_failed other = false
 
 -- it was given this segment: it stands where the outcome says, and holds what is left after all
 -- whole blocks
-pub record Stands {B : Type 0} (opening : B → Opens) (n : ℕ) (o : OpenerView B)
+pub record Stands {B : Type 0} (opening : B → OpensBlock) (n : ℕ) (o : OpenerView B)
     (s : Segment) : Type 0 where
   pub index : o.index ≡ (outcome (opening o.key) n s).index
   pub status : o.status ≡ (outcome (opening o.key) n s).status
@@ -97,7 +97,7 @@ text_of_piece n o len = while_open o.status (whole_text n (length o.held + len))
 abbrev pub fed : Segment → List ℕ → Result Step StreamFault → Segment
 fed s piece answer = with_piece s (given (λ (step : Step). step.taken) answer piece)
 
-module _ {B : Type 0} (sealing : B → Seals) (opening : B → Opens) (n : ℕ) (old : OpenerView B) where
+module _ {B : Type 0} (sealing : B → Seals) (opening : B → OpensBlock) (n : ℕ) (old : OpenerView B) where
   -- what an opener is after `feed`
   pub record IsFed (piece : List ℕ) (answer : Result Step StreamFault)
       (new : OpenerView B) : Type 0 where
@@ -148,7 +148,7 @@ module _ {B : Type 0} (sealing : B → Seals) (opening : B → Opens) (n : ℕ) 
         (released (opening old.key) n s ++ handed_bytes answer) new.status
 
 -- what `feed` and `end` answer, for blocks of `size` bytes
-module _ {B : Type 0} (opening : B → Opens) (size : ℕ) (old : OpenerView B) where
+module _ {B : Type 0} (opening : B → OpensBlock) (size : ℕ) (old : OpenerView B) where
   pub record Feeds (piece : List ℕ) (answer : Result Step StreamFault) : Type 0 where
     -- what is lent is what the outcome gains
     pub texts : (s : Segment) → Stands opening (text_length size) old s

@@ -1,7 +1,7 @@
 -- Replays and drills.
 use Rattle.std.specs.Prelude.{◌≡◌, ◌<◌, ◌≤◌, ◌+◌, ℕ, List, [], ◌∷◌, ◌++◌, length, vec_capacity}
 use Rattle.std.specs.Prelude.{Result, OnOk, OnErr}
-use Rattle.age_chunk.specs.ChunkBoxes.{Seals, Opens}
+use Rattle.age_chunk.specs.ChunkBoxes.{Seals, OpensBlock}
 use Rattle.age_chunk.specs.declared.fault.Memory.{Memory}
 use Rattle.age_stream.specs.Segment.{Standing, standing, text_held, outcome}
 use Rattle.age_stream.specs.Headline.{HoldsWritten}
@@ -34,9 +34,9 @@ module _ {B : Type 0} {n : _} {g : _} where
         refused = r.refused;
       }
 
-module _ {B : Type 0} (opening : B → Opens) (n : ℕ) where
+module _ {B : Type 0} (opening : B → OpensBlock) (n : ℕ) where
   -- it stands where the standing says
-  pub record IsAt (r : ReplayView B) (s : Standing) : Type 0 where
+  pub record IsReplayAt (r : ReplayView B) (s : Standing) : Type 0 where
     pub key : r.opener.key ≡ r.key
     pub segment : Stands opening n r.opener s.segment
     pub text : r.text ≡ text_held (opening r.key) n s
@@ -44,7 +44,7 @@ module _ {B : Type 0} (opening : B → Opens) (n : ℕ) where
 
   -- it was given these deliveries
   abbrev pub Replays : ReplayView B → List Delivery → Type 0
-  Replays r deliveries = IsAt r (standing (opening r.key) n deliveries)
+  Replays r deliveries = IsReplayAt r (standing (opening r.key) n deliveries)
 
 -- how much text a delivery releases at most: no more room is asked for
 abbrev pub could_release : {B : Type 0} → ℕ → OpenerView B → Delivery → ℕ
@@ -59,7 +59,7 @@ pub record IsCramped {B : Type 0} (n : ℕ) (r : ReplayView B) (delivery : Deliv
   pub full : r.capacity < length r.text + could_release n r.opener delivery
 
 -- what `take` does with a delivery
-module _ {B : Type 0} (sealing : B → Seals) (opening : B → Opens) (n : ℕ) where
+module _ {B : Type 0} (sealing : B → Seals) (opening : B → OpensBlock) (n : ℕ) where
   pub record TakesDelivery (old : ReplayView B) (delivery : Delivery)
       (answer : Result (Unit {0}) Memory) (new : ReplayView B) : Type 0 where
     -- whatever deliveries it was given before, it was then given these and this one
@@ -90,7 +90,7 @@ bytes_in (Restart k) = []
 -- ---- What a drill answers. A chunk has n bytes.
 
 -- it is what the definition holds after these deliveries
-pub record IsHeldAfter (opening : Opens) (n : ℕ) (deliveries : List Delivery)
+pub record IsHeldAfter (opening : OpensBlock) (n : ℕ) (deliveries : List Delivery)
     (drill : Drill) : Type 0 where
   pub text : drill.text.items ≡ text_held opening n (standing opening n deliveries)
   pub status : drill.status ≡ (outcome opening n (standing opening n deliveries).segment).status

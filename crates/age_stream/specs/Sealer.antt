@@ -8,11 +8,11 @@ use Rattle.age_chunk.specs.declared.fault.StreamFault.{StreamFault}
 use Rattle.age_chunk.specs.declared.fault.StreamKind.TheVariants.{TooManyChunks}
 use Rattle.age_stream.specs.declared.sealer.SealerState.{SealerState}
 use Rattle.std.specs.Borrow.{Bor}
-use Rattle.age_chunk.specs.ChunkBoxes.{Seals, text_length, Opens, tag_length}
+use Rattle.age_chunk.specs.ChunkBoxes.{Seals, text_length, OpensBlock, tag_length}
 use Rattle.age_stream.specs.declared.step.Step.{Step}
 use Rattle.age_stream.specs.Opener.{chunk_bytes}
 use Rattle.std.specs.declared.vec.Vec.{Vec}
-use Rattle.age_chunk.specs.FaultNumbers.{number_of as number_of_kind}
+use Rattle.age_chunk.specs.FaultNumbers.{stream_fault_number}
 use Rattle.age_stream.specs.Laws.{GivesBack, IsClosed}
 use Rattle.age_stream.specs.declared.whole_text.SealFault.{SealFault}
 use Rattle.age_stream.specs.declared.whole_text.SealFault.TheVariants.{Stream, Memory}
@@ -171,7 +171,7 @@ module _ (sealing : Seals) (n : ℕ) (text : List ℕ) where
     -- and adds nothing
     pub unchanged : OnErr answer (new ≡ old)
 
-module _ (sealing : Seals) (opening : Opens) (n : ℕ) (text : List ℕ) where
+module _ (sealing : Seals) (opening : OpensBlock) (n : ℕ) (text : List ℕ) where
   -- what `seal_all` answers
   pub record SealsPayload {Z : Type 0} (answer : Result (Vec ℕ Z) SealFault) : Type 0 where
     -- it is the payload
@@ -185,11 +185,11 @@ module _ (sealing : Seals) (opening : Opens) (n : ℕ) (text : List ℕ) where
     pub refused : IfErr answer (SealRefuses n text 0)
 
 -- its number in the list of all faults
-abbrev pub number_of : SealFault → ℕ
-number_of (Stream fault) = number_of_kind fault.kind
-number_of Memory = 28
+abbrev pub seal_fault_number : SealFault → ℕ
+seal_fault_number (Stream fault) = stream_fault_number fault.kind
+seal_fault_number Memory = 28
 
 -- its chunk, if it has one
-abbrev pub place_of : SealFault → Option ℕ
-place_of (Stream fault) = Some fault.chunk
-place_of Memory = None
+abbrev pub seal_fault_place : SealFault → Option ℕ
+seal_fault_place (Stream fault) = Some fault.chunk
+seal_fault_place Memory = None

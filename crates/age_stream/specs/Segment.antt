@@ -4,7 +4,7 @@ use Rattle.std.specs.Prelude.{List, [], ◌∷◌, ◌++◌, length, take, drop,
 use Rattle.std.specs.Prelude.{is_none, if◌then◌else◌, nat_le, min}
 use Rattle.std.specs.List.{flat_map}
 use Rattle.std.specs.Simd.{first_chunks}
-use Rattle.age_chunk.specs.ChunkBoxes.{Opens, tag_length}
+use Rattle.age_chunk.specs.ChunkBoxes.{OpensBlock, tag_length}
 use Rattle.age_chunk.specs.Payload.{nonce_bytes, chunk_limit}
 use Rattle.age_stream.specs.declared.step.Status.{Status}
 use Rattle.age_stream.specs.declared.step.Status.TheVariants.{Open, LastSeen, Done, Failed}
@@ -47,7 +47,7 @@ block_at n bytes j = take (n + tag_length) (drop (j * (n + tag_length)) bytes)
 
 -- where a segment stands: the texts of the blocks in front, the number of the next block, what came
 -- of it, whether that is all of it, whether bytes came after it, and whether the input ended
-pub record Stop : Type 0 where
+pub record Frontier : Type 0 where
   pub texts : List (List ℕ)
   pub index : ℕ
   pub block : List ℕ
@@ -56,27 +56,27 @@ pub record Stop : Type 0 where
   pub ended : Bool
 
 -- the rest of the block may still come
-abbrev pub is_waiting : Stop → Bool
+abbrev pub is_waiting : Frontier → Bool
 is_waiting b = not b.whole && not b.ended
 
 -- the input ended where a block had to begin
-abbrev pub is_missing : Stop → Bool
+abbrev pub is_missing : Frontier → Bool
 is_missing b = length b.block == 0
 
 -- it ended before a block had as many bytes as a tag
-abbrev pub is_cut : Stop → Bool
+abbrev pub is_cut : Frontier → Bool
 is_cut b = nat_lt (length b.block) tag_length
 
 -- the last block is a tag alone, though other chunks came before it
-abbrev pub is_empty_last : Stop → Bool
+abbrev pub is_empty_last : Frontier → Bool
 is_empty_last b = not b.whole && (length b.block == tag_length && nat_lt 0 b.index)
 
 -- it is none of these, but is tried as the last
-abbrev pub is_tried : Stop → Bool
+abbrev pub is_tried : Frontier → Bool
 is_tried b = not (is_waiting b || (is_cut b || is_empty_last b))
 
 -- nothing more is released
-abbrev pub stays : Stop → Status → Outcome
+abbrev pub stays : Frontier → Status → Outcome
 stays b status = record { texts = b.texts; index = b.index; status = status }
 
 -- the first line that holds, or else what comes after all lines
@@ -89,7 +89,7 @@ abbrev pub unless_greatest : ℕ → Option (List ℕ) → Option (List ℕ)
 unless_greatest i None = None
 unless_greatest i (Some text) = if nat_lt (i + 1) chunk_limit then Some text else None
 
-module _ (opening : Opens) where
+module _ (opening : OpensBlock) where
   -- the text of block number i as one before the last
   abbrev pub text_before_last : ℕ → List ℕ → Option (List ℕ)
   text_before_last i block = unless_greatest i (opening (nonce_bytes i false) block)
@@ -104,7 +104,7 @@ module _ (opening : Opens) where
   front_texts i (block ∷ blocks) = text_then (text_before_last i block) (front_texts (i + 1) blocks)
 
   -- where a segment stands: at the block after those in front
-  abbrev pub stop : ℕ → Segment → Stop
+  abbrev pub stop : ℕ → Segment → Frontier
   stop n s =
       let texts = front_texts s.start (whole_blocks n s.bytes) in
       let j = length texts in
@@ -119,21 +119,21 @@ module _ (opening : Opens) where
 
   -- a whole block that opens as one before the last, though it isn't in front: its number is the
   -- greatest
-  abbrev pub is_too_many : Stop → Bool
+  abbrev pub is_too_many : Frontier → Bool
   is_too_many b = b.whole && is_some (opening (nonce_bytes b.index false) b.block)
 
   -- it doesn't open as the last
-  abbrev pub is_damaged : Stop → Bool
+  abbrev pub is_damaged : Frontier → Bool
   is_damaged b = is_none (opening (nonce_bytes b.index true) b.block)
 
   -- the text of the last block is released
-  abbrev pub releases_last : Stop → Status → Outcome
+  abbrev pub releases_last : Frontier → Status → Outcome
   releases_last b status =
       let texts = text_then (opening (nonce_bytes b.index true) b.block) [] in
       record { texts = b.texts ++ texts; index = b.index; status = status }
 
   -- the outcome: the first line that holds
-  abbrev pub verdict : Stop → Outcome
+  abbrev pub verdict : Frontier → Outcome
   verdict b =
       first_line (
       (is_waiting b, stays b Open)
@@ -177,7 +177,7 @@ with_piece s piece =
 abbrev pub with_end : Segment → Segment
 with_end s = record s { ended = true }
 
-module _ (opening : Opens) (n : ℕ) where
+module _ (opening : OpensBlock) (n : ℕ) where
   -- the text before the current segment, and what that released
   abbrev pub text_held : Standing → List ℕ
   text_held s = s.base ++ flat_map (λ text. text) (outcome opening n s.segment).texts

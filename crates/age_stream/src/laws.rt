@@ -2,7 +2,7 @@
 ghost use Rattle.age_stream.specs.Laws.{ChunksAreCounted, ClosedStays, EndCloses, FreshIsOpen};
 ghost use Rattle.age_stream.specs.Laws.{NoncesDiffer, PayloadIsLonger, PiecesJoin, ReleasedGrows};
 ghost use Rattle.age_stream.specs.Laws.{ReleasedIsWritten, SealedGrows, SealingsDiffer};
-ghost use Rattle.age_stream.specs.Laws.{ClearIsSealable, RestIsAuthentic, RoundTrip};
+ghost use Rattle.age_stream.specs.Laws.{ClearIsSealable, RestIsAuthentic, PayloadRoundTrip};
 ghost use Rattle.age_stream.specs.Laws.{UndamagedIsAuthentic, WholeIsAuthentic, LengthsAreOne};
 ghost use Rattle.age_stream.specs.Laws.{ChunksAreOne, SealsChunks};
 
@@ -79,7 +79,7 @@ pub fn undamaged_is_authentic()
 /// that text, with the status [`Done`](crate::Status::Done), if the last chunk
 /// is short or its block doesn't open as one before the last.
 pub fn round_trip()
-    ensures { RoundTrip }
+    ensures { PayloadRoundTrip }
 {}
 
 /// With [`ClearBox`](crate::ClearBox) every text of at most 2^48 chunks meets

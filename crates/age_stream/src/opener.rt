@@ -36,11 +36,12 @@ impl<'k, B: ChunkBox, const SEALED: usize> OpenerState<'k, B, SEALED> {
     ghost use Rattle.age_stream.specs.Segment.{failed};
     ghost use Rattle.age_stream.specs.inner.OpenerSteps.{final_block, one_block, IsTried};
     ghost use Rattle.age_stream.specs.inner.OpenerSteps.{TakesPart, TakesWhole, TakesNone};
-    ghost use Rattle.age_stream.specs.inner.OpenerSteps.{Advances, Closes, EndsAs, EndsNone};
+    ghost use Rattle.age_stream.specs.inner.OpenerSteps.{OpenerAdvances, OpenerCloses};
+    ghost use Rattle.age_stream.specs.inner.OpenerSteps.{OpenerEndsAs, EndsNone};
     ghost use Rattle.age_stream.specs.Opener.{held_bytes};
 
     // Empties the buffer of a text that was lent.
-    fn settle(&mut self)
+    fn reclaim(&mut self)
         ensures buffer { self.new.buffer.items ≡ held_bytes self.old }
         ensures lent { self.new.lent ≡ false }
         ensures same { (self.new.index ≡ self.old.index) × (self.new.key ≡ self.old.key)
@@ -88,7 +89,7 @@ impl<'k, B: ChunkBox, const SEALED: usize> OpenerState<'k, B, SEALED> {
         ensures short { length (held_bytes self.old) < SEALED }
         ensures key { self.new.key ≡ self.old.key }
     {
-        self.settle();
+        self.reclaim();
         let room = SEALED - self.buffer.len();
         if piece.len() < room {
             push_bytes(&mut self.buffer, piece);
@@ -101,7 +102,7 @@ impl<'k, B: ChunkBox, const SEALED: usize> OpenerState<'k, B, SEALED> {
     }
 
     // Takes nothing more.
-    fn take_none(&mut self, piece: &[u8]) -> Result<(usize, bool), StreamFault>
+    fn take_closed(&mut self, piece: &[u8]) -> Result<(usize, bool), StreamFault>
         requires { self.old.status ≢ Status.Open }
         ensures { TakesNone self.old piece.now result self.new }
     {
@@ -118,24 +119,24 @@ impl<'k, B: ChunkBox, const SEALED: usize> OpenerState<'k, B, SEALED> {
 
     // Takes what it takes of a piece, and says whether a text then stands in the buffer.
     fn advance(&mut self, piece: &[u8]) -> Result<(usize, bool), StreamFault>
-        ensures { Advances B.sealing B.opening self.old piece.now result self.new }
+        ensures { OpenerAdvances B.sealing B.opening self.old piece.now result self.new }
     {
         match self.status {
             Status::Open => self.take_open(piece),
-            _ => self.take_none(piece),
+            _ => self.take_closed(piece),
         }
     }
 
     // Tries what is held as the last block.
     fn end_open(&mut self) -> Result<usize, StreamFault>
         requires { self.old.status ≡ Status.Open }
-        ensures ends { EndsAs (final_block (B.opening self.old.key.now) [] self.old.index
+        ensures ends { OpenerEndsAs (final_block (B.opening self.old.key.now) [] self.old.index
             (held_bytes self.old) false true) self.old result self.new }
         ensures done { OnOk result (self.new.status ≡ Status.Done) }
         ensures none { OnOk result (held_bytes self.new ≡ []) }
         ensures len { IfOk result (λ len. len ≡ text_length (length (held_bytes self.old))) }
     {
-        self.settle();
+        self.reclaim();
         let len = self.buffer.len();
         if len == 0 {
             return Err(self.fail(StreamKind::Truncated));
@@ -155,7 +156,7 @@ impl<'k, B: ChunkBox, const SEALED: usize> OpenerState<'k, B, SEALED> {
     }
 
     // An end where no block is open.
-    fn end_none(&mut self) -> Result<usize, StreamFault>
+    fn end_closed(&mut self) -> Result<usize, StreamFault>
         requires { self.old.status ≢ Status.Open }
         ensures { EndsNone self.old result self.new }
     {
@@ -168,11 +169,11 @@ impl<'k, B: ChunkBox, const SEALED: usize> OpenerState<'k, B, SEALED> {
 
     // Ends, and says how many bytes at the beginning of the buffer are the last text.
     fn close(&mut self) -> Result<usize, StreamFault>
-        ensures { Closes B.sealing B.opening self.old result self.new }
+        ensures { OpenerCloses B.sealing B.opening self.old result self.new }
     {
         match self.status {
             Status::Open => self.end_open(),
-            _ => self.end_none(),
+            _ => self.end_closed(),
         }
     }
 

@@ -38,7 +38,7 @@ struct ReplayState<'k, B: ChunkBox, const SEALED: usize> {
 
 impl<'k, B: ChunkBox, const SEALED: usize> ReplayState<'k, B, SEALED> {
     ghost use Rattle.age_stream.specs.Replay.{IsCramped, TakesDelivery, replay_view};
-    ghost use Rattle.age_stream.specs.inner.ReplaySteps.{FeedsOnce, Goes, with_bytes};
+    ghost use Rattle.age_stream.specs.inner.ReplaySteps.{ReplayFeeds, Goes, with_bytes};
     ghost use Rattle.age_stream.specs.Opener.{text_at_end, text_of_piece, whole_text};
     ghost use Rattle.age_stream.specs.Segment.{after_delivery};
     ghost use Rattle.age_stream.specs.declared.delivery.Delivery.TheVariants.{End, Restart};
@@ -49,7 +49,7 @@ impl<'k, B: ChunkBox, const SEALED: usize> ReplayState<'k, B, SEALED> {
         requires room { self.old.opener.status ≡ Status.Open → vec_len self.old.text
             + whole_text (text_length SEALED) (length self.old.opener.held + length piece.now)
             ≤ vec_capacity self.old.text }
-        ensures { FeedsOnce B.opening self.old piece.now result self.new }
+        ensures { ReplayFeeds B.opening self.old piece.now result self.new }
     {
         match self.opener.feed(piece) {
             Ok(step) => {

@@ -30,11 +30,11 @@ struct SealerState<'k, B: ChunkBox, const SEALED: usize> {
 
 impl<'k, B: ChunkBox, const SEALED: usize> SealerState<'k, B, SEALED> {
     ghost use Rattle.age_stream.specs.Sealer.{held_text, sealer_view, Holds, too_many};
-    ghost use Rattle.age_stream.specs.inner.SealerSteps.{Steps, Advances, SealsLast};
+    ghost use Rattle.age_stream.specs.inner.SealerSteps.{Steps, SealerAdvances, SealerSealsLast};
     ghost use Rattle.age_chunk.specs.Payload.{sealed_before_last, block_bytes, payload};
 
     // Empties the buffer of a block that was lent, and puts the byte beside it first.
-    fn settle(&mut self)
+    fn reclaim(&mut self)
         ensures held { held_text self.new ≡ held_text self.old }
         ensures buffer { self.new.buffer.items ≡ held_text self.old }
         ensures beside { self.new.beside ≡ None }
@@ -69,7 +69,7 @@ impl<'k, B: ChunkBox, const SEALED: usize> SealerState<'k, B, SEALED> {
         if piece.is_empty() {
             return Ok((0, false));
         }
-        self.settle();
+        self.reclaim();
         let room = SEALED - TAG_LEN - self.buffer.len();
         if room > 0 {
             let taken = room.min(piece.len());
@@ -89,7 +89,7 @@ impl<'k, B: ChunkBox, const SEALED: usize> SealerState<'k, B, SEALED> {
     // The same, for each text that the sealer may have been given.
     fn advance(&mut self, piece: &[u8]) -> Result<(usize, bool), StreamFault>
         requires { self.old.finished ≡ false }
-        ensures { Advances B.sealing self.old piece.now result self.new }
+        ensures { SealerAdvances B.sealing self.old piece.now result self.new }
     {
         self.step(piece)
     }
@@ -97,14 +97,14 @@ impl<'k, B: ChunkBox, const SEALED: usize> SealerState<'k, B, SEALED> {
     // Seals what is held as the last chunk, in place.
     fn close(&mut self) -> Result<(), StreamFault>
         requires { self.old.finished ≡ false }
-        ensures last { SealsLast self.old result self.new }
+        ensures last { SealerSealsLast self.old result self.new }
         ensures block { OnOk result (self.new.buffer.items
             ≡ B.sealing self.old.key.now (nonce_bytes self.old.index true) (held_text self.old)) }
     {
         if self.failed {
             return Err(self.refusal());
         }
-        self.settle();
+        self.reclaim();
         seal_in(self.key, self.index, true, &mut self.buffer);
         self.finished = true;
         Ok(())
@@ -113,7 +113,7 @@ impl<'k, B: ChunkBox, const SEALED: usize> SealerState<'k, B, SEALED> {
     // The same, for each text that the sealer may have been given.
     fn close_text(&mut self) -> Result<(), StreamFault>
         requires { self.old.finished ≡ false }
-        ensures last { SealsLast self.old result self.new }
+        ensures last { SealerSealsLast self.old result self.new }
         ensures blocks { OnOk result ((text : List ℕ)
             → Holds (text_length SEALED) (sealer_view self.old) text
             → payload (B.sealing self.old.key.now) (text_length SEALED) text

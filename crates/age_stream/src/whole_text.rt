@@ -2,7 +2,8 @@
 ghost use Rattle.std.specs.Prelude.{◌≡◌, ◌-◌, ◌≤◌, ◌<◌, ◌+◌, ◌*◌, ◌/◌, ◌^◌};
 ghost use Rattle.std.specs.Prelude.{length, IfSome, IfNone, vec_capacity};
 ghost use Rattle.age_chunk.specs.Payload.{chunk_count, block_length};
-ghost use Rattle.age_stream.specs.Sealer.{AppendsPayload, SealsPayload, number_of, place_of};
+ghost use Rattle.age_stream.specs.Sealer.{AppendsPayload, SealsPayload, seal_fault_number};
+ghost use Rattle.age_stream.specs.Sealer.{seal_fault_place};
 ghost use Rattle.age_stream.specs.inner.SealerSteps.{SealsWithin};
 ghost use Rattle.age_stream.specs.declared.whole_text.SealFault.TheVariants as refusals;
 ghost use Rattle.age_chunk.specs.ChunkBoxes.{tag_length, text_length};
@@ -28,7 +29,7 @@ impl SealFault {
     /// The fault's number in the list of all faults: that of the sealer's
     /// refusal, which is 22, or 28 for memory.
     pub fn number(&self) -> u8
-        ensures { result ≡ number_of self.now }
+        ensures { result ≡ seal_fault_number self.now }
     {
         match self {
             SealFault::Stream(fault) => fault.number(),
@@ -39,7 +40,7 @@ impl SealFault {
     /// The chunk of the sealer's refusal, from 0. `None` where memory was
     /// refused.
     pub fn place(&self) -> Option<u64>
-        ensures { result ≡ place_of self.now }
+        ensures { result ≡ seal_fault_place self.now }
     {
         match self {
             SealFault::Stream(fault) => fault.place(),

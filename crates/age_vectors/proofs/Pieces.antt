@@ -7,7 +7,8 @@ use Rattle.age_stanza.specs.declared.header.Header.{Header}
 use Rattle.age_stanza.specs.declared.head_step.HeadStep.TheVariants.{More, Ready}
 use Rattle.age_stanza.specs.declared.fault.HeadFault.{HeadFault}
 use Rattle.age_stanza.specs.Grammar.{HeadText}
-use Rattle.age_stanza.specs.Parsing.{HasHeader, IsFault, Parsing, reading, complete, Feeds, Cuts}
+use Rattle.age_stanza.specs.Parsing.{HasHeader, IsFault, Parsing, reading, complete, FeedsParser}
+use Rattle.age_stanza.specs.Parsing.{Cuts}
 use Rattle.age_stanza.proofs.AnyPieces.{more_fault}
 use Rattle.age_vectors.specs.Header.{IsReported}
 
@@ -19,8 +20,8 @@ pub record Reads (parser : Parsing) (rest bytes : List ℕ) : Type 0 where
 
 -- what a front of the bytes was reported, of them all
 pub fault_fed : (old new : Parsing) (rest piece after bytes : List ℕ) (fault : HeadFault) → Reads old rest bytes → piece ++ after ≡ rest
-    → Feeds old piece (Err fault) new → IsReported bytes fault
-fault_fed old new rest piece after bytes fault reads parts feeds = reported (subst (λ (p : Parsing). Feeds p piece (Err fault) new) reads.is feeds) where
+    → FeedsParser old piece (Err fault) new → IsReported bytes fault
+fault_fed old new rest piece after bytes fault reads parts feeds = reported (subst (λ (p : Parsing). FeedsParser p piece (Err fault) new) reads.is feeds) where
   joined : (reads.fed ++ piece) ++ after ≡ bytes
   joined = append_assoc reads.fed piece after ∙ ap (λ (t : List ℕ). reads.fed ++ t) parts ∙ reads.parts
 
@@ -29,19 +30,19 @@ fault_fed old new rest piece after bytes fault reads parts feeds = reported (sub
       let all = more_fault (reads.fed ++ piece) after fault f.0 f.1 in
       inr (subst (λ (b : List ℕ). HasHeader b → ⊥) joined all.0, inl (subst (λ (b : List ℕ). IsFault b fault) joined all.1))
 
-  reported : Feeds (reading reads.fed) piece (Err fault) new → IsReported bytes fault
+  reported : FeedsParser (reading reads.fed) piece (Err fault) new → IsReported bytes fault
   reported f = elim f.1 [ inl memory ↦ inl memory | inr e ↦ whole e ]
 
 -- a header that ends in a piece
 pub header_fed : (old new : Parsing) (rest piece after bytes : List ℕ) (taken : ℕ) (h : Header) → Reads old rest bytes → piece ++ after ≡ rest
-    → Feeds old piece (Ok (Ready taken h)) new
+    → FeedsParser old piece (Ok (Ready taken h)) new
     → HeadText h (take (length bytes - length rest + taken) bytes)
-header_fed old new rest piece after bytes taken h reads parts feeds = found (subst (λ (p : Parsing). Feeds p piece (Ok (Ready taken h)) new) reads.is feeds)
+header_fed old new rest piece after bytes taken h reads parts feeds = found (subst (λ (p : Parsing). FeedsParser p piece (Ok (Ready taken h)) new) reads.is feeds)
   where
     joined : (reads.fed ++ piece) ++ after ≡ bytes
     joined = append_assoc reads.fed piece after ∙ ap (λ (t : List ℕ). reads.fed ++ t) parts ∙ reads.parts
 
-    found : Feeds (reading reads.fed) piece (Ok (Ready taken h)) new → HeadText h (take (length bytes - length rest + taken) bytes)
+    found : FeedsParser (reading reads.fed) piece (Ok (Ready taken h)) new → HeadText h (take (length bytes - length rest + taken) bytes)
     found f =
         let within = f.1 in
         let size : length bytes ≡ length reads.fed + length rest = sym (ap length reads.parts) ∙ length-append reads.fed rest in
@@ -63,14 +64,14 @@ cut_fed old new [] bytes fault reads none cuts = reported (subst (λ (p : Parsin
 cut_fed old new (x ∷ rest) bytes fault reads none cuts = absurd (omega arith)
 
 -- a piece more
-pub more_fed : (old new : Parsing) (rest piece after bytes : List ℕ) → Reads old rest bytes → piece ++ after ≡ rest → Feeds old piece (Ok More) new
+pub more_fed : (old new : Parsing) (rest piece after bytes : List ℕ) → Reads old rest bytes → piece ++ after ≡ rest → FeedsParser old piece (Ok More) new
     → Reads new after bytes
 more_fed old new rest piece after bytes reads parts feeds = record {
   fed = reads.fed ++ piece;
-  is = goes (subst (λ (p : Parsing). Feeds p piece (Ok More) new) reads.is feeds);
+  is = goes (subst (λ (p : Parsing). FeedsParser p piece (Ok More) new) reads.is feeds);
   parts = append_assoc reads.fed piece after ∙ ap (λ (t : List ℕ). reads.fed ++ t) parts ∙ reads.parts;
 } where
-  goes : Feeds (reading reads.fed) piece (Ok More) new → new ≡ reading (reads.fed ++ piece)
+  goes : FeedsParser (reading reads.fed) piece (Ok More) new → new ≡ reading (reads.fed ++ piece)
   goes f = f.0
 
 apart : (fed : List ℕ) → reading fed ≡ complete → ⊥

@@ -4,7 +4,7 @@ use Rattle.age_vectors.specs.declared.header.TheConstants.{SMALLEST, SMALLEST_AN
 use Rattle.age_vectors.specs.declared.header.TheConstants.{LAST_BYTE_ONE, CR_LF, ARMOR, ARMOR_CR}
 use Rattle.age_vectors.specs.declared.header.TheConstants.{TWO_SPACES, SPACE_AT_END, HIGH_BYTE, NUL}
 use Rattle.age_vectors.specs.declared.header.TheConstants.{NO_EMPTY_LINE, TRAILING_BIT, NO_STANZA}
-use Rattle.age_vectors.specs.Header.{Accepts, Refuses}
+use Rattle.age_vectors.specs.Header.{Accepts, RefusesHeader}
 
 pub record AcceptedRows : Type 0 where
   pub smallest : Accepts SMALLEST.now 76
@@ -13,17 +13,17 @@ pub record AcceptedRows : Type 0 where
   pub last_byte_one : Accepts LAST_BYTE_ONE.now 76
 
 pub record FirstLineRows : Type 0 where
-  pub cr_lf : Refuses CR_LF.now 1 1
-  pub armor : Refuses ARMOR.now 2 1
-  pub armor_cr : Refuses ARMOR_CR.now 2 1
+  pub cr_lf : RefusesHeader CR_LF.now 1 1
+  pub armor : RefusesHeader ARMOR.now 2 1
+  pub armor_cr : RefusesHeader ARMOR_CR.now 2 1
 
 pub record ArgumentRows : Type 0 where
-  pub two_spaces : Refuses TWO_SPACES.now 3 2
-  pub space_at_end : Refuses SPACE_AT_END.now 3 2
-  pub high_byte : Refuses HIGH_BYTE.now 3 2
-  pub nul : Refuses NUL.now 3 2
+  pub two_spaces : RefusesHeader TWO_SPACES.now 3 2
+  pub space_at_end : RefusesHeader SPACE_AT_END.now 3 2
+  pub high_byte : RefusesHeader HIGH_BYTE.now 3 2
+  pub nul : RefusesHeader NUL.now 3 2
 
 pub record LineRows : Type 0 where
-  pub no_empty_line : Refuses NO_EMPTY_LINE.now 4 4
-  pub trailing_bit : Refuses TRAILING_BIT.now 5 4
-  pub no_stanza : Refuses NO_STANZA.now 6 2
+  pub no_empty_line : RefusesHeader NO_EMPTY_LINE.now 4 4
+  pub trailing_bit : RefusesHeader TRAILING_BIT.now 5 4
+  pub no_stanza : RefusesHeader NO_STANZA.now 6 2

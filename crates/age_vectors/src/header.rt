@@ -1,7 +1,7 @@
 // Headers of the C2SP page's grammar, whole and in single bytes.
 ghost use Rattle.std.specs.Prelude.{◌<◌, IsTrue, IfOk, IfErr, take};
 ghost use Rattle.age_stanza.specs.Grammar.{HeadText};
-ghost use Rattle.age_vectors.specs.Header.{IsReported, Accepts, Refuses};
+ghost use Rattle.age_vectors.specs.Header.{IsReported, Accepts, RefusesHeader};
 ghost use Rattle.age_vectors.specs.HeaderRows.{AcceptedRows, FirstLineRows, ArgumentRows, LineRows};
 
 use age_stanza::{HEAD_MAX, HeadFault, HeadParser, HeadStep, Header};
@@ -126,7 +126,7 @@ fn accepts(alloc: Global, bytes: &[u8], size: usize, zeros: usize, last: u8) -> 
 
 fn refuses_in(alloc: Global, bytes: &[u8], step: usize, number: u8, line: u64) -> bool
     requires { 0 < step }
-    ensures { IsTrue result → Refuses bytes.now number line }
+    ensures { IsTrue result → RefusesHeader bytes.now number line }
 {
     let Err(fault) = parsed(alloc, bytes, step) else {
         return false;
@@ -139,7 +139,7 @@ fn refuses_in(alloc: Global, bytes: &[u8], step: usize, number: u8, line: u64) -
 
 /// Whether this is the fault of the bytes and their end.
 fn refuses(alloc: Global, bytes: &[u8], number: u8, line: u64) -> bool
-    ensures { IsTrue result → Refuses bytes.now number line }
+    ensures { IsTrue result → RefusesHeader bytes.now number line }
 {
     refuses_in(alloc, bytes, HEAD_MAX, number, line) && refuses_in(alloc, bytes, 1, number, line)
 }

@@ -6,7 +6,7 @@ use Rattle.age_stream.specs.Opener.{OpenerView, Stands, has_failed}
 use Rattle.age_stream.specs.Segment.{Segment, released}
 use Rattle.age_chunk.specs.Payload.{chunk_length}
 use Rattle.age_c.specs.declared.reader.Reader.{Reader}
-use Rattle.age_c.specs.Calls.{answer_of, status_of}
+use Rattle.age_c.specs.Calls.{answer_of, reader_status}
 use Rattle.age_c.specs.Readers.{SameFile}
 use Rattle.age_c.specs.inner.Keys.{opens}
 
@@ -30,7 +30,7 @@ pub record PassesOn (next : Segment → Segment) (old new : OpenerView (List ℕ
 -- a reader keeps the chunk and the status of an opener
 pub record Keeps (chunk : ℕ) (is : Status) (old new : Reader) : Type 0 where
   -- its numbers stand for the status
-  pub status : status_of new.state new.fault_chunk ≡ Some is
+  pub status : reader_status new.state new.fault_chunk ≡ Some is
   -- it is at the chunk
   pub index : new.chunk ≡ chunk
   -- where nothing was refused, the answer is 0

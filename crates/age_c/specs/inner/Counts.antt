@@ -7,13 +7,13 @@ use Rattle.age_c.specs.declared.start.StartFault.{StartFault}
 use Rattle.age_c.specs.declared.start.StartFault.TheVariants.{Key}
 
 -- the fault is found before any work: by looking at the header
-abbrev pub is_before_work : StartFault → Bool
-is_before_work (Key fault) = is_before_work_on_keys fault
-is_before_work other = true
+abbrev pub starts_before_work : StartFault → Bool
+starts_before_work (Key fault) = is_before_work_on_keys fault
+starts_before_work other = true
 
 -- what the count was before and after a file was begun or refused
 pub record StartCounts (most : ℕ) (result : Result Reader StartFault) (old new : ℕ) : Type 0 where
   -- no step was made if the fault is found before any work
-  pub before : IfErr result (λ fault. OnTrue (is_before_work fault) (new ≡ old))
+  pub before : IfErr result (λ fault. OnTrue (starts_before_work fault) (new ≡ old))
   -- and never more steps than these
   pub within : new ≤ old + most

@@ -1,7 +1,7 @@
 -- The key of a file's payload, and the file's box by that key. Only private functions cite this.
 use Rattle.std.specs.Prelude.{ℕ, List, []}
 use Rattle.age_cipher.specs.Aead.{sealing as sealing_with, opening as opening_with}
-use Rattle.age_chunk.specs.ChunkBoxes.{Seals, Opens}
+use Rattle.age_chunk.specs.ChunkBoxes.{Seals, OpensBlock}
 use Rattle.age_keys.specs.Keys.{payload_key}
 use Rattle.age_c.specs.declared.reader.Reader.{Reader}
 use Rattle.age_c.specs.declared.writer.Writer.{Writer}
@@ -17,5 +17,5 @@ key_of_writer w = payload_key w.file_key w.nonce
 abbrev pub seals : List ℕ → Seals
 seals key nonce text = sealing_with key nonce [] text
 
-abbrev pub opens : List ℕ → Opens
+abbrev pub opens : List ℕ → OpensBlock
 opens key nonce block = opening_with key nonce [] block

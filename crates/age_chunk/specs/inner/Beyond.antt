@@ -5,7 +5,7 @@ use Rattle.std.specs.Prelude.{◌≡◌, ℕ, ◌+◌, List, ◌++◌, length, t
 use Rattle.std.specs.Prelude.{None, nat_lt, nat_le, ◌&&◌, Bool, true, not, if◌then◌else◌}
 use Rattle.std.specs.List.{list_all}
 use Rattle.std.specs.Str.{bytes_eq}
-use Rattle.age_chunk.specs.ChunkBoxes.{Seals, Opens, tag_length, text_length}
+use Rattle.age_chunk.specs.ChunkBoxes.{Seals, OpensBlock, tag_length, text_length}
 use Rattle.age_chunk.specs.Payload.{chunk_length, block_length}
 
 abbrev pub are_bytes : List ℕ → Bool
@@ -22,7 +22,7 @@ is_block nonce block =
     && (are_bytes block && (nat_le tag_length (length block) && nat_le (length block) block_length))
 
 -- the law of a box, of these alone
-pub record IsChunkBoxOnBytes (sealing : Seals) (opening : Opens) : Type 0 where
+pub record IsChunkBoxOnBytes (sealing : Seals) (opening : OpensBlock) : Type 0 where
   pub bytes : (nonce text : List ℕ) → length nonce ≡ 12 → is_text nonce text ≡ true
       → are_bytes (sealing nonce text) ≡ true
   pub longer : (nonce text : List ℕ) → length nonce ≡ 12 → is_text nonce text ≡ true
@@ -42,7 +42,7 @@ abbrev pub sealing_beyond : Seals → Seals
 sealing_beyond sealing nonce text =
     if is_text nonce text then sealing nonce text else text ++ no_tag
 
-abbrev pub opening_beyond : Opens → Opens
+abbrev pub opening_beyond : OpensBlock → OpensBlock
 opening_beyond opening nonce block =
     let front = take (text_length (length block)) block in
     let is_sealed = not (is_text nonce front) && bytes_eq (front ++ no_tag) block in

@@ -17,7 +17,7 @@ use Rattle.age_cli_common.specs.Orders.{Follows, replacing}
 use Rattle.age_cli_common.specs.Files.{SparesBut, SparesBoth}
 use Rattle.age_cli_common.specs.declared.ending.Ending.{Ending}
 use Rattle.age_cli.specs.Acts.{EndsOf}
-use Rattle.age_cli.specs.declared.stop.Stop.{Stop}
+use Rattle.age_cli.specs.declared.interruption.Interruption.{Interruption}
 
 -- a refusal that isn't one: help or the version is asked for
 abbrev pub IsForOutput : ErrorKind → Type 0
@@ -29,23 +29,23 @@ is_memory other = false
 
 -- how an engine ended: nothing was written if an encryption had no memory, and by the count of a
 -- decryption
-abbrev pub sealing_end : Result Written FileFault → Result (Unit {0}) Stop
+abbrev pub sealing_end : Result Written FileFault → Result (Unit {0}) Interruption
 sealing_end (Ok written) = Ok tt
 sealing_end (Err fault) =
     Err (record { fault = fault; position = None; is_untouched = is_memory fault })
 
-abbrev pub opening_end : Result Done Stopped → Result (Unit {0}) Stop
+abbrev pub opening_end : Result Done Stopped → Result (Unit {0}) Interruption
 opening_end (Ok done) = Ok tt
 opening_end (Err s) =
     Err (record { fault = s.fault; position = s.position; is_untouched = s.written == 0 })
 
 -- where it says that nothing was written, its sink took nothing
-abbrev pub IsFaithful : Result (Unit {0}) Stop → SinkView → Type 0
+abbrev pub IsFaithful : Result (Unit {0}) Interruption → SinkView → Type 0
 IsFaithful engine sink = IfErr engine (λ stop. stop.is_untouched ≡ true → sink.taken ≡ Some [])
 
 -- how a stop leaves OUT: the engine stopped, and it is as it was, or holds what the sink took; or
 -- it could not be closed
-abbrev pub Left : Result (Unit {0}) Stop → (taken old new : Option (List ℕ)) → Stop → Type 0
+abbrev pub Left : Result (Unit {0}) Interruption → (taken old new : Option (List ℕ)) → Interruption → Type 0
 Left (Err cause) taken old new stop =
     (stop ≡ cause) × ((new ≡ old) ⊎ ((new ≡ taken) × (cause.is_untouched ≡ false)))
 Left (Ok done) taken old new stop =
@@ -54,7 +54,7 @@ Left (Ok done) taken old new stop =
 
 -- OUT was ended, whose sink is this: whole, or as a stop leaves it
 pub record EndsOut (shows : Bool) (durability : Durability) (sink : SinkView)
-    (engine : Result (Unit {0}) Stop) (old new : FilesView) (result : Result (Unit {0}) Stop)
+    (engine : Result (Unit {0}) Interruption) (old new : FilesView) (result : Result (Unit {0}) Interruption)
     : Type 0 where
   -- It holds what the sink took, if the engine and the end succeeded.
   pub done : OnOk result (IsOk engine × (shows ≡ true → new.entries sink.label ≡ sink.taken))
@@ -68,14 +68,14 @@ pub record EndsOut (shows : Bool) (durability : Durability) (sink : SinkView)
 
 -- and then the position of a stop was saved
 pub record Concludes (shows : Bool) (save : Option Text) (durability : Durability)
-    (sink : SinkView) (engine : Result (Unit {0}) Stop) (old new : FilesView)
+    (sink : SinkView) (engine : Result (Unit {0}) Interruption) (old new : FilesView)
     (result : Result (Unit {0}) Ending) : Type 0 where
   -- OUT holds what the sink took, and no other file differs.
   pub done : OnOk result (IsOk engine × (shows ≡ true
       → (new.entries sink.label ≡ sink.taken) × SparesBut sink.label old.entries new.entries))
   -- OUT is left, and the position saved, if it goes to another file.
   pub stops : IfErr result (λ ending. shows ≡ true → (save ≡ Some sink.label → ⊥)
-      → IsFaithful engine sink → (stop : Stop)
+      → IsFaithful engine sink → (stop : Interruption)
       × Left engine sink.taken (old.entries sink.label) (new.entries sink.label) stop
       × EndsOf stop.fault save stop.position old.entries new.entries ending)
   -- The command line is not to blame.

@@ -3,7 +3,7 @@
 use Rattle.std.specs.Prelude.{◌≡◌, ◌⊎◌, Some, Option, None, ◌++◌, true, false, Bool, List, Result}
 use Rattle.std.specs.Prelude.{IfOk, OnOk, OnErr, IfErr, ℕ, length}
 use Rattle.clap.specs.Words.{Text}
-use Rattle.age_cli_args.specs.Requests.{text_of}
+use Rattle.age_cli_args.specs.Requests.{option_text}
 use Rattle.age_cli_args.specs.declared.request.Decrypting.{Decrypting}
 use Rattle.age_file.specs.declared.position.Position.{Position}
 use Rattle.age_file.specs.Resumes.{position_text}
@@ -21,7 +21,7 @@ use Rattle.age_cli.specs.declared.encrypt_command.Material.{Material}
 -- a name is that of the input, or of the file of what opens it
 abbrev pub IsReadAs : Decrypting → Text → Type 0
 IsReadAs d name = (d.from.now ≡ name)
-    ⊎ ((text_of d.identity.pass ≡ Some name) ⊎ (text_of d.identity.shared ≡ Some name))
+    ⊎ ((option_text d.identity.pass ≡ Some name) ⊎ (option_text d.identity.shared ≡ Some name))
 
 -- ---- The bytes under each name, and what a command changes.
 
@@ -35,7 +35,7 @@ Saves (Some name) None old new = new ≡ old
 -- ---- How files are opened and made before anything is written.
 
 -- the files of `order` were opened or made, and this holds of them; or it ended early, in `whole`
-pub record Opens {A : Type 0} (shows : Bool) (order whole : List Event) (old new : FilesView)
+pub record OpensFiles {A : Type 0} (shows : Bool) (order whole : List Event) (old new : FilesView)
     (IsOpened : A → Type 0) (Failed : Type 0) (result : Result A Ending) : Type 0 where
   -- No entry differs.
   pub kept : new.entries ≡ old.entries
@@ -88,5 +88,5 @@ pub record IsMaterialIn (asked : Encrypting) (old : Files) (m : Material) : Type
   pub pass_is : old asked.pass.now ≡ Some m.pass.items
   pub bytes : List ℕ
   pub rest : List ℕ
-  pub random_held : old (random_name (text_of asked.random)) ≡ Some (bytes ++ rest)
+  pub random_held : old (random_name (option_text asked.random)) ≡ Some (bytes ++ rest)
   pub random_is : IsRandom bytes m.random

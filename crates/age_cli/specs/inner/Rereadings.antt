@@ -8,7 +8,7 @@ use Rattle.age_file.specs.declared.decryption.Done.{Done}
 use Rattle.age_file.specs.declared.decryption.Stopped.{Stopped}
 use Rattle.age_file.specs.declared.position.Position.{Position}
 use Rattle.age_fileset.specs.FileSet.{FilesView}
-use Rattle.age_cli_args.specs.Requests.{text_of}
+use Rattle.age_cli_args.specs.Requests.{option_text}
 use Rattle.age_cli_args.specs.declared.request.Decrypting.{Decrypting}
 use Rattle.age_cli_args.specs.declared.request.ProgressOption.TheVariants.{Silent}
 use Rattle.age_cli_common.specs.Identities.{allows_by, refuses_by}
@@ -38,7 +38,7 @@ again_of reread end key = None
 module _ (shows : Bool) (d : Decrypting) (sink : SinkView) (stopped : Stopped) (key : List ℕ)
     (old new : FilesView) (ending : Ending) where
   abbrev pub ConcludesAt : Position → Type 0
-  ConcludesAt p = Concludes shows (text_of d.save) d.durability sink
+  ConcludesAt p = Concludes shows (option_text d.save) d.durability sink
       (opening_end (Err (stopped_at stopped p))) old new (Err ending)
 
   abbrev pub ConcludesAgain : Type 0
@@ -64,9 +64,9 @@ pub record DecryptsOpened (IsPorts : Ports → Type 0) (shows : Bool) (d : Decry
   pub done : IfOk decrypted
       (λ done. IsSomeAnd run (DecryptEnds (allows_by identity) before after done))
   pub stopped : shows ≡ true → HoldsInput d before old → IfErr decrypted (DecryptStops
-      (kept_for (text_of d.save)) (allows_by identity) (refuses_by identity) before after run)
+      (kept_for (option_text d.save)) (allows_by identity) (refuses_by identity) before after run)
   pub named : after.sink.label ≡ before.sink.label
-  pub concludes : Concludes shows (text_of d.save) d.durability after.sink (opening_end decrypted)
+  pub concludes : Concludes shows (option_text d.save) d.durability after.sink (opening_end decrypted)
       old new result
   pub silent : d.progress ≡ Silent → Unshown
   pub over : Unshown ⊎ Over

@@ -22,8 +22,8 @@ use Rattle.age_chunk.specs.declared.fault.StreamKind.TheVariants.{Truncated}
 use Rattle.std.specs.Simd.{first_chunks}
 use Rattle.age_stream.specs.Headline.{IsPrefixOf}
 use Rattle.age_file.specs.inner.Bindings.{link_if, chain_if}
-use Rattle.age_file.specs.declared.position.Positions.{Positions}
-use Rattle.age_file.specs.declared.position.Positions.TheVariants.{Kept}
+use Rattle.age_file.specs.declared.position.PositionPolicy.{PositionPolicy}
+use Rattle.age_file.specs.declared.position.PositionPolicy.TheVariants.{Kept}
 use Rattle.age_file.specs.inner.Unread.{Unread}
 use Rattle.age_file.specs.declared.position.Position.{Position}
 use Rattle.age_file.specs.declared.tally.Tally.{Tally}
@@ -143,17 +143,17 @@ pub record CanCopy (t : Tally) : Type 0 where
 
 -- what was written of the old text, fewer bytes than were to be copied: all that the source gave,
 -- or its front where the sink failed
-abbrev pub CopyFails : ReaderView → ReaderView → WriterView → WriterView → List ℕ → FileFault
+abbrev pub FailsInCopy : ReaderView → ReaderView → WriterView → WriterView → List ℕ → FileFault
     → Type 0
-CopyFails old new was now out ShortText = Passes old new out × (new.unread.bytes ≡ [])
+FailsInCopy old new was now out ShortText = Passes old new out × (new.unread.bytes ≡ [])
     × IsAtEnd new.source.remaining × (now.sink.failed ≡ was.sink.failed)
-CopyFails old new was now out Write = (used : List ℕ) × Passes old new used
+FailsInCopy old new was now out Write = (used : List ℕ) × Passes old new used
     × IsPrefixOf out (used ++ new.unread.bytes)
     × HasFailed was.sink.failed now.sink.failed now.sink.failing
-CopyFails old new was now out Read = Dries old new out Read × (now.sink.failed ≡ was.sink.failed)
-CopyFails old new was now out ReadNeverEnds = Dries old new out ReadNeverEnds
+FailsInCopy old new was now out Read = Dries old new out Read × (now.sink.failed ≡ was.sink.failed)
+FailsInCopy old new was now out ReadNeverEnds = Dries old new out ReadNeverEnds
     × (now.sink.failed ≡ was.sink.failed)
-CopyFails old new was now out other = ⊥
+FailsInCopy old new was now out other = ⊥
 
 -- a chunk was copied, and counted with its link
 abbrev pub ChunkGoes : ℕ → ReaderView → ReaderView → WriterView → WriterView → List ℕ → Type 0
@@ -176,7 +176,7 @@ pub record Copies (Goes : List ℕ → Type 0) (size : ℕ) (old new : ReaderVie
   pub named : now.sink.label ≡ was.sink.label
   pub count : now.tally.written ≡ was.tally.written + length out
   pub answered : MatchResult result (λ _. Goes out)
-      (λ fault. (length out < size) × CopyFails old new was now out fault)
+      (λ fault. (length out < size) × FailsInCopy old new was now out fault)
 
 -- a chunk was copied
 abbrev pub CopiesChunk : ℕ → ReaderView → ReaderView → WriterView → WriterView
@@ -195,10 +195,10 @@ abbrev pub TextFails : ℕ → ℕ → List ℕ → ReaderView → ReaderView �
 TextFails n chunks links old new was now out OldTextDiffers = ChunksGo n chunks old new was now out
     × (now.tally.chain ≢ Some links)
 TextFails n chunks links old new was now out fault = (length out < chunks * n)
-    × CopyFails old new was now out fault
+    × FailsInCopy old new was now out fault
 
 -- so many chunks were copied, which have this chain; it goes on where positions are kept
-abbrev pub TextGoes : Positions → ℕ → ℕ → List ℕ → ReaderView → ReaderView → WriterView
+abbrev pub TextGoes : PositionPolicy → ℕ → ℕ → List ℕ → ReaderView → ReaderView → WriterView
     → WriterView → List ℕ → Type 0
 TextGoes keep n chunks links old new was now out = (length out ≡ chunks * n) × Passes old new out
     × (now.sink.failed ≡ was.sink.failed) × (now.tally.index ≡ chunks)
@@ -206,7 +206,7 @@ TextGoes keep n chunks links old new was now out = (length out ≡ chunks * n) �
     × (chain (first_chunks n chunks out) ≡ links)
 
 -- the old text was copied, and has this chain
-pub record CopiesText (keep : Positions) (n chunks : ℕ) (links : List ℕ) (old new : ReaderView)
+pub record CopiesText (keep : PositionPolicy) (n chunks : ℕ) (links : List ℕ) (old new : ReaderView)
     (was now : WriterView) (result : Result (Unit {0}) FileFault) : Type 0 where
   pub out : List ℕ
   pub wrote : Appends was.sink.taken now.sink.taken out
@@ -216,7 +216,7 @@ pub record CopiesText (keep : Positions) (n chunks : ℕ) (links : List ℕ) (ol
       (TextFails n chunks links old new was now out)
 
 -- the old text was copied, and its pulls are counted after those of the file
-pub record CopiesBefore (keep : Positions) (p : Position) (old new : SourceView)
+pub record CopiesBefore (keep : PositionPolicy) (p : Position) (old new : SourceView)
     (before after : Unread) (was now : WriterView) (result : Result (Unit {0}) FileFault)
     : Type 0 where
   pub first : Unread

@@ -5,7 +5,7 @@ use Rattle.std.specs.Prelude.{◌^◌, Result, MatchResult, OnOk, Bool, true, fa
 use Rattle.std.specs.Simd.{first_chunks}
 use Rattle.age_stream.specs.Segment.{Segment, outcome, released, with_piece, with_end}
 use Rattle.age_file.specs.inner.Bindings.{chain_if}
-use Rattle.age_file.specs.declared.position.Positions.{Positions}
+use Rattle.age_file.specs.declared.position.PositionPolicy.{PositionPolicy}
 use Rattle.age_file.specs.declared.tally.Tally.{Tally}
 use Rattle.std.specs.Io.KnownBytes.{Appends, IsAtEnd}
 use Rattle.age_stream.specs.declared.step.Status.TheVariants.{Failed, Done}
@@ -20,14 +20,14 @@ use Rattle.age_fault.specs.Faults.{HasFailed}
 -- ---- How a run's tally counts the chunks that were written. A chunk has n bytes.
 
 -- where the index has risen, one more chunk is counted, with its link
-pub record Advances (index : ℕ) (links : Option (List ℕ)) (risen : ℕ) (link : Option (List ℕ))
+pub record AdvancesTally (index : ℕ) (links : Option (List ℕ)) (risen : ℕ) (link : Option (List ℕ))
     (new : Tally) : Type 0 where
   pub further : index < risen → (new.index ≡ risen) × (new.chain ≡ link)
   pub still : risen ≤ index → (new.index ≡ index) × (new.chain ≡ links)
 
 -- all of the text but for a part was written: the chunks that are counted are those that are whole
 -- and were released as not last, and the chain is over them, whatever bytes follow
-pub record CountsChunks (keep : Positions) (opening : List ℕ → List ℕ → Option (List ℕ)) (n : ℕ)
+pub record CountsChunks (keep : PositionPolicy) (opening : List ℕ → List ℕ → Option (List ℕ)) (n : ℕ)
     (base : List ℕ) (s : Segment) (unwritten : List ℕ) (p : Tally) : Type 0 where
   pub index : (more : List ℕ) → p.index
       ≡ min ((length (base ++ released opening n s) - length unwritten) / n)
@@ -35,7 +35,7 @@ pub record CountsChunks (keep : Positions) (opening : List ℕ → List ℕ → 
   pub chain_is : p.chain ≡ chain_if keep (first_chunks n p.index (base ++ released opening n s))
 
 -- all of this text was written, for this segment
-pub record HasCounted (keep : Positions) (opening : List ℕ → List ℕ → Option (List ℕ)) (n : ℕ)
+pub record HasCounted (keep : PositionPolicy) (opening : List ℕ → List ℕ → Option (List ℕ)) (n : ℕ)
     (text : List ℕ) (s : Segment) (p : Tally) : Type 0 where
   pub index : p.index ≡ min (length text / n) (outcome opening n s).index
   pub chain_is : p.chain ≡ chain_if keep (first_chunks n p.index text)
@@ -90,7 +90,7 @@ module _ (opening : List ℕ → List ℕ → Option (List ℕ)) (n : ℕ) where
     pub named : new.writer.sink.label ≡ old.writer.sink.label
     pub count : new.writer.tally.written ≡ old.writer.tally.written + length out
     pub prefix : IsPrefixOf out (released opening n (segment start bytes ended))
-    pub counts : (keep : Positions) (base : List ℕ) → length base ≡ start * n
+    pub counts : (keep : PositionPolicy) (base : List ℕ) → length base ≡ start * n
         → old.writer.tally.index ≡ start
         → old.writer.tally.chain ≡ chain_if keep (first_chunks n start base)
         → HasCounted keep opening n (base ++ out) (segment start bytes ended) new.writer.tally
@@ -115,7 +115,7 @@ module _ {B : Type 0} (opening : B → List ℕ → List ℕ → Option (List �
     pub stands : (s : Segment) → Stands opening n old s → Stands opening n new (next s)
     pub text : (s : Segment) → Stands opening n old s → released (opening old.key) n (next s)
         ≡ released (opening old.key) n s ++ (out ++ unwritten)
-    pub counts : (keep : Positions) → 0 < n → (s : Segment) (base : List ℕ)
+    pub counts : (keep : PositionPolicy) → 0 < n → (s : Segment) (base : List ℕ)
         → length base ≡ s.start * n
         → Stands opening n old s
         → CountsChunks keep (opening old.key) n base s [] was.tally
@@ -164,7 +164,7 @@ module _ {B : Type 0} (opening : B → List ℕ → List ℕ → Option (List �
         (FeedFails new was now left unwritten)
 
   -- the end, for each segment that the opener stood for
-  pub record Closes (old new : OpenerView B) (was now : WriterView)
+  pub record ClosesPayload (old new : OpenerView B) (was now : WriterView)
       (result : Result (Unit {0}) FileFault) : Type 0 where
     pub unwritten : List ℕ
     pub releases : Releases with_end old new was now unwritten

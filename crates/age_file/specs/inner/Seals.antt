@@ -137,7 +137,7 @@ module _ {B : Type 0} (sealing : B → List ℕ → List ℕ → List ℕ) (n : 
 -- the last block of what the sealer holds: what of it was written, and what wasn't where the sink
 -- failed
 module _ {B : Type 0} (sealing : B → List ℕ → List ℕ → List ℕ) (n : ℕ) where
-  pub record SealsLast (old : SealerView B) (was now : WriterView)
+  pub record SealsRest (old : SealerView B) (was now : WriterView)
       (result : Result (Unit {0}) FileFault) : Type 0 where
     pub out : List ℕ
     pub unwritten : List ℕ

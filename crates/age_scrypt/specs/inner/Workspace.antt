@@ -74,7 +74,7 @@ pub record IsCount (n : ℕ) : Type 0 where
   pub divides : 2 ^ 32 % n ≡ 0
 
 -- a table that isn't filled yet
-pub record HasRoom {Z : Type 0} (n : ℕ) (table : Vec ℕ Z) : Type 0 where
+pub record HasTableRoom {Z : Type 0} (n : ℕ) (table : Vec ℕ Z) : Type 0 where
   -- It holds no block.
   pub empty : vec_len table ≡ 0
   -- Room was reserved for n blocks.
@@ -90,7 +90,7 @@ pub record AreBlocks (x y : List ℕ) : Type 0 where
 -- the memory for a key of n blocks, which its caller takes
 pub record IsWorkspace {Z : Type 0} (n : ℕ) (table : Vec ℕ Z) (x y : List ℕ) : Type 0 where
   -- The table isn't filled yet, and there is room.
-  pub room : HasRoom n table
+  pub room : HasTableRoom n table
   -- X and Y are one block each.
   pub blocks : AreBlocks x y
 

@@ -22,7 +22,7 @@ LeavesAfterStanza room s None = room < length (stanza_text s)
 
 -- the length of a header's text, where it is within the limit; and what the types show of the MAC
 -- and of the bytes
-abbrev pub IsTextLength : Header → Option ℕ → Type 0
-IsTextLength h (Some size) = (size ≡ length (head_text h)) × (size ≤ header_limit)
+abbrev pub IsHeaderLength : Header → Option ℕ → Type 0
+IsHeaderLength h (Some size) = (size ≡ length (head_text h)) × (size ≤ header_limit)
     × (length h.mac ≡ 32) × IsBytes h.mac × AllByRecursion (λ s. IsBytes s.body) h.stanzas
-IsTextLength h None = header_limit < length (head_text h)
+IsHeaderLength h None = header_limit < length (head_text h)

@@ -85,23 +85,23 @@ step (InBody ss args body) l =
     if nat_lt 64 (length l) then Err BadBody
     else body_line_result ss args body (length l == 64) (base64_bytes l)
 
-pub data Outcome : Type 0 where
-  unfinished : Outcome
-  ready : Header → List ℕ → Outcome
-  faulty : HeadFault → Outcome
+pub data Walked : Type 0 where
+  unfinished : Walked
+  ready : Header → List ℕ → Walked
+  faulty : HeadFault → Walked
 
 -- a refusal in this line; want of memory has none
 abbrev pub fault_at : HeadKind → ℕ → HeadFault
 fault_at Memory n = memory_fault
 fault_at kind n = record { kind = kind; line = n }
 
-abbrev pub after : ℕ → List ℕ → (Place → Outcome) → Result Next HeadKind → Outcome
+abbrev pub after : ℕ → List ℕ → (Place → Walked) → Result Next HeadKind → Walked
 after n rest go (Err kind) = faulty (fault_at kind n)
 after n rest go (Ok (Done h)) = ready h rest
 after n rest go (Ok (Go place)) = go place
 
 -- what bytes lead to, from a place in line n whose characters so far are l
-unfoldable pub walk : Place → ℕ → List ℕ → List ℕ → Outcome
+unfoldable pub walk : Place → ℕ → List ℕ → List ℕ → Walked
 walk place n l [] = unfinished
 walk place n l (c ∷ cs) =
     if c == 10 then after n cs (λ next. walk next (n + 1) [] cs) (step place l)
@@ -140,10 +140,10 @@ bytes_before (InBody ss args body) =
     stanzas_text ss ++ (line (argument_line args) ++ whole_lines (base64_text body))
 
 -- a body so far is whole lines
-abbrev pub IsWhole : Place → Type 0
-IsWhole Start = Unit {0}
-IsWhole (Between ss) = Unit {0}
-IsWhole (InBody ss args body) = length body % 48 ≡ 0
+abbrev pub HasWholeLines : Place → Type 0
+HasWholeLines Start = Unit {0}
+HasWholeLines (Between ss) = Unit {0}
+HasWholeLines (InBody ss args body) = length body % 48 ≡ 0
 
 -- so many finished lines led to this place
 pub record LeadTo (place : Place) (lines : ℕ) : Type 0 where
@@ -151,7 +151,7 @@ pub record LeadTo (place : Place) (lines : ℕ) : Type 0 where
       → walk Start 1 [] (bytes_before place ++ rest) ≡ walk place (lines + 1) [] rest
   pub line_count : lines + 1 ≡ line_after (bytes_before place)
   pub are_lines : AreLines (bytes_before place)
-  pub whole_body : IsWhole place
+  pub whole_body : HasWholeLines place
   pub are_bytes : IsBytes (bytes_before place)
 
 -- what is kept of the fields of a partial header
@@ -163,7 +163,7 @@ pub record IsPartial (place : Place) (l : List ℕ) (bytes lines : ℕ) : Type 0
   pub within : bytes ≤ header_limit
 
 -- bytes that hold no header and no fault
-pub record IsUnderWay (held : List ℕ) : Type 0 where
+pub record IsUnfinished (held : List ℕ) : Type 0 where
   pub goes_on : walk Start 1 [] held ≡ unfinished
   pub are_bytes : IsBytes held
 
@@ -188,7 +188,7 @@ ReadsLines held bytes (Err fault) new = ((fault ≡ memory_fault)
 -- a piece, of which no more is read than the limit allows
 abbrev pub TakesPiece : List ℕ → List ℕ → Result HeadStep HeadFault → List ℕ → Type 0
 TakesPiece held piece (Ok More) new = (new ≡ held ++ piece)
-    × (length (held ++ piece) < header_limit) × IsUnderWay (held ++ piece)
+    × (length (held ++ piece) < header_limit) × IsUnfinished (held ++ piece)
 TakesPiece held piece (Ok (Ready taken h)) new = (taken ≤ length piece)
     × HeadText h (held ++ take taken piece)
 TakesPiece held piece (Err fault) new = ((fault ≡ memory_fault)

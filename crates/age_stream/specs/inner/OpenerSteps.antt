@@ -12,7 +12,7 @@ use Rattle.age_chunk.specs.declared.fault.StreamKind.TheVariants.{Truncated, Tra
 use Rattle.age_chunk.specs.declared.fault.StreamKind.TheVariants.{TooManyChunks}
 use Rattle.age_stream.specs.Segment.{Outcome, failed, first_line, text_before_last, Segment}
 use Rattle.age_stream.specs.Segment.{outcome, released, with_piece, with_end}
-use Rattle.age_chunk.specs.ChunkBoxes.{tag_length, Seals, Opens, text_length}
+use Rattle.age_chunk.specs.ChunkBoxes.{tag_length, Seals, OpensBlock, text_length}
 use Rattle.std.specs.List.{flat_map}
 use Rattle.age_chunk.specs.declared.fault.StreamFault.{StreamFault}
 use Rattle.age_stream.specs.declared.opener.OpenerState.{OpenerState}
@@ -149,7 +149,7 @@ module _ {B : Type 0} {n : ℕ} {g : _} where
     pub still : length piece ≡ 0 → opener_view new ≡ opener_view old
 
   -- an end came; so many bytes in front of the buffer are the text that it gave
-  pub record EndsAs (outcome : Outcome) (old : OpenerState B n g) (answer : Result ℕ StreamFault)
+  pub record OpenerEndsAs (outcome : Outcome) (old : OpenerState B n g) (answer : Result ℕ StreamFault)
       (new : OpenerState B n g) : Type 0 where
     pub key : new.key ≡ old.key
     pub index : new.index ≡ outcome.index
@@ -164,7 +164,7 @@ module _ {B : Type 0} {n : ℕ} {g : _} where
   pub record EndsNone (old : OpenerState B n g) (answer : Result ℕ StreamFault)
       (new : OpenerState B n g) : Type 0 where
     -- an end comes at the chunk at which the opener stands, and releases no text
-    pub ends : EndsAs
+    pub ends : OpenerEndsAs
         (record { texts = []; index = old.index; status = status_ended old.status })
         old answer new
     -- a fault that came before comes again
@@ -187,10 +187,10 @@ text_lent n buffer answer = if answer.1 then take (text_length n) buffer ∷ [] 
 abbrev pub advanced : Segment → List ℕ → Result (ℕ × Bool) StreamFault → Segment
 advanced s piece answer = with_piece s (given (λ (a : ℕ × Bool). a.0) answer piece)
 
-module _ {B : Type 0} {n : ℕ} {g : _} (sealing : B → Seals) (opening : B → Opens)
+module _ {B : Type 0} {n : ℕ} {g : _} (sealing : B → Seals) (opening : B → OpensBlock)
     (old : OpenerState B n g) where
   -- what `advance` does with a piece
-  pub record Advances (piece : List ℕ) (answer : Result (ℕ × Bool) StreamFault)
+  pub record OpenerAdvances (piece : List ℕ) (answer : Result (ℕ × Bool) StreamFault)
       (new : OpenerState B n g) : Type 0 where
     -- the opener stands for each segment that it stood for, with what was taken added
     pub stands : (s : Segment) → Stands opening (text_length n) (opener_view old) s
@@ -242,7 +242,7 @@ module _ {B : Type 0} {n : ℕ} {g : _} (sealing : B → Seals) (opening : B →
         ≤ length (held_bytes old) + a.0)
 
   -- what `close` does
-  pub record Closes (answer : Result ℕ StreamFault) (new : OpenerState B n g) : Type 0 where
+  pub record OpenerCloses (answer : Result ℕ StreamFault) (new : OpenerState B n g) : Type 0 where
     -- the opener stands for each segment that it stood for, ended
     pub stands : (s : Segment) → Stands opening (text_length n) (opener_view old) s
         → Stands opening (text_length n) (opener_view new) (with_end s)

@@ -1,24 +1,24 @@
 -- The steps of a replay. Only private functions cite this.
 use Rattle.std.specs.Prelude.{◌≡◌, ◌+◌, ◌-◌, ◌<◌, ◌≤◌, ℕ, List, length, take}
 use Rattle.std.specs.Prelude.{Option, IfSome, IfNone, vec_len, vec_capacity}
-use Rattle.age_chunk.specs.ChunkBoxes.{Opens, text_length}
+use Rattle.age_chunk.specs.ChunkBoxes.{OpensBlock, text_length}
 use Rattle.age_stream.specs.Segment.{Standing, with_piece}
 use Rattle.age_stream.specs.Opener.{whole_text}
-use Rattle.age_stream.specs.Replay.{IsAt, replay_view}
+use Rattle.age_stream.specs.Replay.{IsReplayAt, replay_view}
 use Rattle.age_stream.specs.declared.replay.ReplayState.{ReplayState}
 
 -- more bytes came to the current segment
 abbrev pub with_bytes : Standing → List ℕ → Standing
 with_bytes s piece = record s { segment = with_piece s.segment piece }
 
-module _ {B : Type 0} {n : ℕ} {g : _} (opening : B → Opens) where
+module _ {B : Type 0} {n : ℕ} {g : _} (opening : B → OpensBlock) where
   -- a replay that stood where a standing says then stands where the step from it leads
   abbrev pub Goes : ReplayState B n g → ReplayState B n g → (Standing → Standing) → Type 0
-  Goes old new step = (s : Standing) → IsAt opening (text_length n) (replay_view old) s
-      → IsAt opening (text_length n) (replay_view new) (step s)
+  Goes old new step = (s : Standing) → IsReplayAt opening (text_length n) (replay_view old) s
+      → IsReplayAt opening (text_length n) (replay_view new) (step s)
 
   -- what `feed_once` does with a piece: it takes so many bytes, unless the opener refuses it
-  pub record FeedsOnce (old : ReplayState B n g) (piece : List ℕ) (answer : Option ℕ)
+  pub record ReplayFeeds (old : ReplayState B n g) (piece : List ℕ) (answer : Option ℕ)
       (new : ReplayState B n g) : Type 0 where
     -- some bytes are taken, at most the piece
     pub taken : IfSome answer (λ taken. (0 < taken) × (taken ≤ length piece))

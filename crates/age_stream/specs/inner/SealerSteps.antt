@@ -15,9 +15,9 @@ use Rattle.age_stream.specs.declared.whole_text.SealFault.TheVariants.{Stream}
 -- ---- The steps of a sealer on its buffer.
 
 -- the bytes of a block, or none
-abbrev pub bytes_of : Option (List ℕ) → List ℕ
-bytes_of None = []
-bytes_of (Some block) = block
+abbrev pub block_or_none : Option (List ℕ) → List ℕ
+block_or_none None = []
+block_or_none (Some block) = block
 
 module _ {B : Type 0} (sealing : B → List ℕ → List ℕ → List ℕ) (n : ℕ) where
   -- the held text grew by what was taken
@@ -28,7 +28,7 @@ module _ {B : Type 0} (sealing : B → List ℕ → List ℕ → List ℕ) (n : 
     pub index : new.index ≡ old.index
 
   -- the held text became a block that isn't the last, and the byte that was taken is the next text
-  pub record Closes (old : SealerView B) (piece : List ℕ) (taken : ℕ) (block : List ℕ)
+  pub record SealerCloses (old : SealerView B) (piece : List ℕ) (taken : ℕ) (block : List ℕ)
       (new : SealerView B) : Type 0 where
     pub full : length old.held ≡ n
     pub more : 0 < length piece
@@ -45,7 +45,7 @@ module _ {B : Type 0} (sealing : B → List ℕ → List ℕ → List ℕ) (n : 
     pub failed : new.failed ≡ false
     pub count : taken ≡ step_len n old.held piece
     pub cases : MatchOption block (Grows old piece taken new)
-        (λ block. Closes old piece taken block new)
+        (λ block. SealerCloses old piece taken block new)
 
 -- the block in the buffer, if there is one, of an answer: what was taken, and whether there is
 abbrev pub block_lent : List ℕ → ℕ × Bool → Option (List ℕ)
@@ -73,7 +73,7 @@ module _ {B : Type 0} {n : ℕ} {g : _} (sealing : B → Seals) (old : SealerSta
     pub still : length piece ≡ 0 → sealer_view new ≡ sealer_view old
 
   -- what `advance` does with a piece, for each text that the sealer may have been given
-  pub record Advances (piece : List ℕ) (answer : Result (ℕ × Bool) StreamFault)
+  pub record SealerAdvances (piece : List ℕ) (answer : Result (ℕ × Bool) StreamFault)
       (new : SealerState B n g) : Type 0 where
     -- bytes are taken as far as there is room, or one after a full chunk
     pub taken : IfOk answer (λ s. s.0 ≡ step_len (text_length n) (held_text old) piece)
@@ -87,7 +87,7 @@ module _ {B : Type 0} {n : ℕ} {g : _} (sealing : B → Seals) (old : SealerSta
         → block_bytes (sealed_before_last (sealing old.key.now) (text_length n)
         (text ++ take s.0 piece))
         ≡ block_bytes (sealed_before_last (sealing old.key.now) (text_length n) text)
-        ++ bytes_of (block_lent new.buffer.items s))
+        ++ block_or_none (block_lent new.buffer.items s))
     -- the block is a whole one
     pub whole : IfOk answer (λ s. s.1 ≡ true → length new.buffer.items ≡ n)
     -- no byte that is taken needs a chunk too many
@@ -108,7 +108,7 @@ module _ {B : Type 0} {n : ℕ} {g : _} (sealing : B → Seals) (old : SealerSta
 
 -- what sealing the last chunk leaves, whichever text it is of
 module _ {B : Type 0} {n : ℕ} {g : _} (old : SealerState B n g) where
-  pub record SealsLast (answer : Result (Unit {0}) StreamFault)
+  pub record SealerSealsLast (answer : Result (Unit {0}) StreamFault)
       (new : SealerState B n g) : Type 0 where
     -- it finishes a sealer that wasn't refused
     pub ok : OnOk answer ((new.finished ≡ true) × (old.failed ≡ false))

@@ -7,7 +7,7 @@ mod machine;
 mod resumption;
 
 use age_file::{
-    Done, FileFault, MemSink, MemSource, Position, Positions, Stopped, decrypt, decrypt_with,
+    Done, FileFault, MemSink, MemSource, Position, PositionPolicy, Stopped, decrypt, decrypt_with,
 };
 use age_keys::{FileKey, KnownKey, PayloadKey, payload_key};
 use age_stream::{BLOCK_LEN, seal_all};
@@ -306,7 +306,12 @@ fn each_byte_of_a_payload_changed(rt: HostRuntime) {
 }
 
 /// How the decryption of `hello` ends under a key of these bytes, into a sink of this room.
-fn hello_under(alloc: Global, key: [u8; 16], positions: Positions, room: usize) -> Option<Outcome> {
+fn hello_under(
+    alloc: Global,
+    key: [u8; 16],
+    positions: PositionPolicy,
+    room: usize,
+) -> Option<Outcome> {
     match hello_file(alloc) {
         Some(file) => {
             let mut source = MemSource::new(file, 50, None);
@@ -319,7 +324,7 @@ fn hello_under(alloc: Global, key: [u8; 16], positions: Positions, room: usize) 
 fn opened_under(
     alloc: Global,
     key: &KnownKey,
-    positions: Positions,
+    positions: PositionPolicy,
     source: &mut MemSource,
     room: usize,
 ) -> Option<Outcome> {
@@ -334,7 +339,7 @@ fn opened_under(
 
 #[test]
 fn another_key(rt: HostRuntime) {
-    let outcome = hello_under(rt.alloc(), [7; 16], Positions::Kept, 5);
+    let outcome = hello_under(rt.alloc(), [7; 16], PositionPolicy::Kept, 5);
     assert!(rt; ends(&outcome, 14, 0, None));
 }
 
@@ -365,7 +370,7 @@ fn each_pull_fails_in_turn(rt: HostRuntime) {
 // A stop hands out no position where positions are dropped.
 #[test]
 fn dropped_positions(rt: HostRuntime) {
-    let outcome = hello_under(rt.alloc(), KEY, Positions::Dropped, 2);
+    let outcome = hello_under(rt.alloc(), KEY, PositionPolicy::Dropped, 2);
     assert!(rt; ends(&outcome, 27, 2, None));
 }
 

@@ -2,7 +2,7 @@ use Rattle.std.proofs.Common.{◌≡◌, ◌∙◌, ◌++◌, ◌+◌, ap, subst
 use Rattle.std.proofs.lemmas.List.{take_all}
 use Rattle.age_chunk.specs.Payload.{block_length}
 use Rattle.age_c.specs.Calls.{answer_of}
-use Rattle.age_c.specs.Readers.{Takes, after_block}
+use Rattle.age_c.specs.Readers.{TakesBlock, after_block}
 use Rattle.age_c.specs.declared.reader.Reader.{Reader}
 use Rattle.age_c.specs.declared.stream.Stream.{Stream}
 use Rattle.age_c.specs.Streams.{held_of}
@@ -36,8 +36,8 @@ returns-clause-feeds c =
     ∙ (ap (λ (n : ℕ). take n block) full ∙ take_all block_length block (omega (arith, held.ensures.size))) in
     let after = c.open_block-written.new.reader in
     let text = take c.open_block-written.result c.open_block-written.new.out in
-    let takes : Takes (after_block block) old.reader (answer_of after.state) text after =
-    subst (λ (r : Reader). Takes (after_block block) r (answer_of after.state) text after) held.ensures.reader
+    let takes : TakesBlock (after_block block) old.reader (answer_of after.state) text after =
+    subst (λ (r : Reader). TakesBlock (after_block block) r (answer_of after.state) text after) held.ensures.reader
     c.open_block-written.ensures.takes in
     feeds_whole c.args.piece.now held.result (answer_of after.state) block text old _ takes refl is
     held.ensures.count_is c.requires.call.short

@@ -1,7 +1,7 @@
 use Rattle.std.proofs.Common.{◌∙◌, ◌++◌, ◌∷◌, [], inl, inr, refl, sym, subst, true≢false, Some}
 use Rattle.age_file.specs.Runs.{ports}
 use Rattle.age_fileset.specs.FileSet.{Opened, Created}
-use Rattle.age_cli_args.specs.Requests.{text_of}
+use Rattle.age_cli_args.specs.Requests.{option_text}
 use Rattle.age_cli_args.specs.declared.request.Request.TheVariants.{Decrypt}
 use Rattle.age_cli_common.specs.Orders.{identity_order, preparing, making}
 use Rattle.age_cli_common.specs.Files.{Files}
@@ -33,7 +33,7 @@ returns-in_err-secret-clause-acts g c =
     let e : Ending = c.in_err-secret.field-0.0 in
     let judged = in_order _ _ _ _ _ _ _ _ _ _ c.in_ok-choice.ensures.chooses.order c.in_err-secret.ensures in
     acts_early _ _ (Decrypt d) _ _ _ _ _ c.from_residual-in_err-secret.result e c.from_residual-in_err-secret.ensures judged.kept (λ shown. judged.early) judged.reason
-    (longer _ (Opened d.from.now ∷ (preparing (text_of d.save) ++ making (Some d.to.now) d.durability)) _ _ judged.followed) (λ shown usage. judged.followed)
+    (longer _ (Opened d.from.now ∷ (preparing (option_text d.save) ++ making (Some d.to.now) d.durability)) _ _ judged.followed) (λ shown usage. judged.followed)
     (λ twice. judged.apart (c.names_a_file_twice-is_file_named_twice.ensures.twice twice))
     (λ shown usage. inl (c.names_a_file_twice-is_file_named_twice.ensures.shown shown (judged.blamed shown usage))) refl
 
@@ -46,7 +46,7 @@ returns-in_err-identity-clause-acts g c =
     let e : Ending = Usage c.in_err-identity.field-0.0 in
     let judged = in_order _ _ _ _ _ _ _ _ _ _ c.in_ok-choice.ensures.chooses.order c.in_ok-secret.ensures in
     acts_early _ _ (Decrypt d) _ _ _ _ _ c.from_residual-in_err-identity.result e c.from_residual-in_err-identity.ensures judged.kept (λ shown. tt) (λ shown. tt)
-    (longer _ (Opened d.from.now ∷ (preparing (text_of d.save) ++ making (Some d.to.now) d.durability)) _ _ judged.followed) (λ shown usage. judged.followed)
+    (longer _ (Opened d.from.now ∷ (preparing (option_text d.save) ++ making (Some d.to.now) d.durability)) _ _ judged.followed) (λ shown usage. judged.followed)
     (λ twice. absurd (judged.apart (c.names_a_file_twice-is_file_named_twice.ensures.twice twice)).1)
     (λ shown usage. inr (λ identity opens. c.in_err-identity.ensures.none identity
     ((judged.read shown).1 identity (c.in_ok-choice.ensures.chooses.only (g.F.FileSet.view c.args.files.now).entries identity opens)))) refl
@@ -62,8 +62,8 @@ returns-in_err-source-clause-acts g c =
     let both = c.in_err-source.ensures in
     acts_early _ _ (Decrypt d) _ _ _ _ _ c.from_residual-in_err-source.result e c.from_residual-in_err-source.ensures (both.kept ∙ judged.kept) (λ shown. both.early)
     (λ shown. reason_at _ _ (g.F.FileSet.view c.open_both.new.files).events (SourceFails g.F.In.Source.view) e judged.kept (both.reason shown))
-    (then_follows _ _ _ (identity_order (text_of d.identity.pass) (text_of d.identity.shared))
-    (Opened d.from.now ∷ (preparing (text_of d.save) ++ making (Some d.to.now) d.durability)) judged.noted both.followed)
+    (then_follows _ _ _ (identity_order (option_text d.identity.pass) (option_text d.identity.shared))
+    (Opened d.from.now ∷ (preparing (option_text d.save) ++ making (Some d.to.now) d.durability)) judged.noted both.followed)
     (λ shown usage. absurd (true≢false (sym usage ∙ both.fault shown)))
     (λ twice. absurd (judged.apart (c.names_a_file_twice-is_file_named_twice.ensures.twice twice)).1)
     (λ shown usage. absurd (true≢false (sym usage ∙ both.fault shown))) refl
@@ -83,8 +83,8 @@ returns-clause-acts g c =
     c.in_ok-identity.identity (some_files _ _ _ _ c.in_ok-choice.ensures.chooses c.in_ok-identity.ensures.makes)
     (λ shown. c.in_ok-choice.ensures.chooses.opens (view c.args.files.now).entries _ _ (judged.read shown).0 c.in_ok-identity.ensures.makes)
     (λ shown. subst (λ (f : Files). Found (paths_of d) f before) judged.kept (both.opened shown)) c.decrypt_opened.ensures.opened
-    (then_did _ _ _ (identity_order (text_of d.identity.pass) (text_of d.identity.shared))
-    (Opened d.from.now ∷ (preparing (text_of d.save) ++ Created d.to.now ∷ [])) judged.noted both.noted)
+    (then_did _ _ _ (identity_order (option_text d.identity.pass) (option_text d.identity.shared))
+    (Opened d.from.now ∷ (preparing (option_text d.save) ++ Created d.to.now ∷ [])) judged.noted both.noted)
     (λ twice. absurd (judged.apart (c.names_a_file_twice-is_file_named_twice.ensures.twice twice)).1)
 
 pub returns-clause-announced : goal.returns-clause-announced

@@ -1,7 +1,7 @@
 use Rattle.std.proofs.Common.{◌∙◌, ◌∷◌, [], inl, inr, refl, ap, sym, subst, true≢false, Some, None}
 use Rattle.age_file.specs.Runs.{ports}
 use Rattle.age_fileset.specs.FileSet.{Opened, Created}
-use Rattle.age_cli_args.specs.Requests.{text_of}
+use Rattle.age_cli_args.specs.Requests.{option_text}
 use Rattle.age_cli_args.specs.declared.request.Request.TheVariants.{Encrypt}
 use Rattle.age_cli_common.specs.Orders.{making, random_name}
 use Rattle.age_cli_common.specs.Files.{Files}
@@ -49,7 +49,7 @@ returns-in_err-source-clause-acts g c =
     let both = c.in_err-source.ensures in
     acts_early _ _ (Encrypt a) _ _ _ _ _ c.from_residual-in_err-source.result e c.from_residual-in_err-source.ensures (both.kept ∙ judged.kept) (λ shown. both.early)
     (λ shown. reason_at _ _ (g.F.FileSet.view c.open_both.new.files).events (SourceFails g.F.In.Source.view) e judged.kept (both.reason shown))
-    (then_follows _ _ _ (Opened a.pass.now ∷ Opened (random_name (text_of a.random)) ∷ []) (Opened a.from.now ∷ making (Some a.to.now) a.durability)
+    (then_follows _ _ _ (Opened a.pass.now ∷ Opened (random_name (option_text a.random)) ∷ []) (Opened a.from.now ∷ making (Some a.to.now) a.durability)
     judged.noted both.followed)
     (λ shown usage. absurd (true≢false (sym usage ∙ both.fault shown)))
     (λ twice. absurd (judged.apart twice).1) (λ shown usage. absurd (true≢false (sym usage ∙ both.fault shown))) refl
@@ -74,7 +74,7 @@ returns-in-Silent-clause-acts g c =
     (λ shown. c.in_ok-secret.ensures.makes (view c.args.files.now).entries (judged.read shown))
     (λ shown. subst (λ (f : Files). Found paths f before) judged.kept (both.opened shown))
     c.sealing_end.ensures run.ensures.done run.ensures.fails run.ensures.named c.conclude.ensures.concludes
-    (then_did _ _ _ (Opened a.pass.now ∷ Opened (random_name (text_of a.random)) ∷ []) (Opened a.from.now ∷ Created a.to.now ∷ []) judged.noted both.noted)
+    (then_did _ _ _ (Opened a.pass.now ∷ Opened (random_name (option_text a.random)) ∷ []) (Opened a.from.now ∷ Created a.to.now ∷ []) judged.noted both.noted)
     (λ twice. absurd (judged.apart twice).1) (λ silent. refl, inl refl)
 
 pub returns-in-Silent-clause-announced : goal.returns-in-Silent-clause-announced
@@ -99,7 +99,7 @@ returns-clause-acts g c =
     (λ shown. let f = both.opened shown in
     subst (λ (f : Files). Found paths f before) judged.kept (f.0, ap (λ s. (In s).remaining) c.with_meter-metered.ensures.source ∙ f.1, f.2, f.3))
     c.sealing_end-in-Shown.ensures run.ensures.done run.ensures.fails run.ensures.named c.conclude-in-Shown.ensures.concludes
-    (then_did _ _ _ (Opened a.pass.now ∷ Opened (random_name (text_of a.random)) ∷ []) (Opened a.from.now ∷ Created a.to.now ∷ []) judged.noted both.noted)
+    (then_did _ _ _ (Opened a.pass.now ∷ Opened (random_name (option_text a.random)) ∷ []) (Opened a.from.now ∷ Created a.to.now ∷ []) judged.noted both.noted)
     (λ twice. absurd (judged.apart twice).1) (λ silent. absurd (shown_not_silent (sym c.in-Shown.is ∙ silent)), inr c.end_meter.ensures)
 
 pub returns-clause-announced : goal.returns-clause-announced

@@ -1,5 +1,5 @@
 use Rattle.std.proofs.Common.{◌∙◌, ◌++◌, ◌∷◌, [], refl, ap, sym, subst, inl, inr, true≢false}
-use Rattle.age_cli_args.specs.Requests.{text_of}
+use Rattle.age_cli_args.specs.Requests.{option_text}
 use Rattle.age_fileset.specs.FileSet.{Opened}
 use Rattle.age_cli_common.specs.Endings.{EndsEarly, SourceFails}
 use Rattle.age_cli_common.specs.inner.Endings.{ending_of}
@@ -54,7 +54,7 @@ returns-in_err-pass g c =
       noted = not_well r e is _;
       followed = record {
         done = Opened a.pass.now ∷ [];
-        rest = Opened (random_name (text_of a.random)) ∷ [];
+        rest = Opened (random_name (option_text a.random)) ∷ [];
         did = c.in_err-pass.ensures.noted;
         front = refl;
       };
@@ -80,7 +80,7 @@ returns-in_err-random g c =
       apart = λ twice. absurd (true≢false (sym (c.names_out_twice.ensures.twice twice) ∙ c.if-names_out_twice.false));
       blamed = λ shown. this_error r e is _ (λ usage. inr (λ s makes. c.in_err-random.ensures.short shown usage s
           (subst (λ n. IsRandomIn ((g.F.FileSet.view c.read_pass.new.files).entries n) s) (sym c.random_name-random_name.ensures)
-          (subst (λ (f : Files). IsRandomIn (f (random_name (text_of a.random))) s) (sym c.in_ok-pass.ensures.kept) makes.random_is))));
+          (subst (λ (f : Files). IsRandomIn (f (random_name (option_text a.random))) s) (sym c.in_ok-pass.ensures.kept) makes.random_is))));
       early = this_error r e is EndsEarly c.in_err-random.ensures.early;
       reason = λ shown. this_error r e is _ (reason_at _ _ (g.F.FileSet.view c.read_random.new.files).events (SourceFails g.F.In.Source.view) e c.in_ok-pass.ensures.kept (c.in_err-random.ensures.reason shown));
     }
@@ -99,7 +99,7 @@ returns g c =
             pass_is = c.in_ok-pass.ensures.read shown;
             bytes = random.0;
             rest = random.1;
-            random_held = ap (λ f. f (random_name (text_of a.random))) (sym c.in_ok-pass.ensures.kept)
+            random_held = ap (λ f. f (random_name (option_text a.random))) (sym c.in_ok-pass.ensures.kept)
                 ∙ (ap (λ q. (g.F.FileSet.view c.read_pass.new.files).entries q) (sym name) ∙ random.2);
             random_is = random.3;
           };

@@ -1,6 +1,6 @@
 use Rattle.std.proofs.Common.{◌∙◌, ◌∷◌, [], ap, sym, subst, Some}
 use Rattle.age_fileset.specs.FileSet.{Closed}
-use Rattle.age_cli_args.specs.Requests.{text_of}
+use Rattle.age_cli_args.specs.Requests.{option_text}
 use Rattle.age_cli_common.specs.Orders.{replacing}
 use Rattle.age_cli.specs.inner.Endings.{Left}
 use Rattle.age_cli.proofs.CommandStopSteps.{ends_from}
@@ -16,7 +16,7 @@ returns-in-Ok-clause-concludes g c =
       stops = tt;
       fault = tt;
       spares = λ shown q to save. out.others q (λ e. to (ap Some (sym e)));
-      order = longer (Closed c.args.durability ∷ []) (replacing (text_of c.args.save) c.args.durability) _ _ (followed _ _ _ out.noted);
+      order = longer (Closed c.args.durability ∷ []) (replacing (option_text c.args.save) c.args.durability) _ _ (followed _ _ _ out.noted);
       order_done = out.noted;
     }
 
@@ -35,12 +35,12 @@ returns-in-Err-clause-concludes g c =
       stops = λ shown apart faithful. (
         stop,
         subst (λ x. Left c.args.engine sink.taken (old sink.label) x stop) (sym (ended.others shown sink.label (λ e. cc) apart)) (out.stops shown faithful),
-        ends_from stop.fault (text_of c.args.save) stop.position old mid new c.end_of.result (λ q name. out.others q (λ e. apart (name ∙ ap Some e)))
+        ends_from stop.fault (option_text c.args.save) stop.position old mid new c.end_of.result (λ q name. out.others q (λ e. apart (name ∙ ap Some e)))
             (ended.ends shown),
       );
       fault = ended.fault;
       spares = λ shown q to save. ended.others shown q (λ e. cc) save ∙ out.others q (λ e. to (ap Some (sym e)));
-      order = then_follows _ _ _ (Closed c.args.durability ∷ []) (replacing (text_of c.args.save) c.args.durability) out.noted ended.noted;
+      order = then_follows _ _ _ (Closed c.args.durability ∷ []) (replacing (option_text c.args.save) c.args.durability) out.noted ended.noted;
       order_done = tt;
     }
 

@@ -1,7 +1,7 @@
 use Rattle.std.proofs.Common.{⊎_elim, inl, inr, refl, ap, sym, subst, false, None, Result}
 use Rattle.std.specs.Prelude.{IsOk}
 use Rattle.age_cli_common.specs.Files.{Files}
-use Rattle.age_cli.specs.declared.stop.Stop.{Stop}
+use Rattle.age_cli.specs.declared.interruption.Interruption.{Interruption}
 use Rattle.age_cli.specs.inner.Endings.{IsFaithful, Left}
 use Rattle.age_cli.proofs.CommandSteps.{not_well, this_error}
 use Rattle.age_cli.proofs.EngineSteps.{left_as}
@@ -11,7 +11,7 @@ pub returns-in_ok-close-in-Ok : goal.returns-in_ok-close-in-Ok
 returns-in_ok-close-in-Ok g c =
     let closed = c.in_ok-close-in-Ok.ensures in
     record {
-      done = (subst (λ (r : Result (Unit {0}) Stop). IsOk r) (sym c.in-Ok.is) refl, closed.put);
+      done = (subst (λ (r : Result (Unit {0}) Interruption). IsOk r) (sym c.in-Ok.is) refl, closed.put);
       stops = tt;
       others = closed.others;
       noted = closed.noted;
@@ -23,12 +23,12 @@ returns-in_err-close-in-Ok g c =
     let sink = g.F.Out.Sink.view c.args.out in
     let view = g.F.FileSet.view in
     let r = c.from_residual.result in
-    let e : Stop = record { fault = c.in_err-close-in-Ok.field-0.0; position = None; is_untouched = false } in
+    let e : Interruption = record { fault = c.in_err-close-in-Ok.field-0.0; position = None; is_untouched = false } in
     let is = c.from_residual.ensures in
     record {
       done = not_well r e is _;
       stops = this_error r e is _ (λ shown faithful.
-          subst (λ (x : Result (Unit {0}) Stop). Left x sink.taken ((view c.args.files.now).entries sink.label) ((view c.close.new.self).entries sink.label) e)
+          subst (λ (x : Result (Unit {0}) Interruption). Left x sink.taken ((view c.args.files.now).entries sink.label) ((view c.close.new.self).entries sink.label) e)
           (sym c.in-Ok.is) (
             ap (λ f. record { fault = f; position = None; is_untouched = false }) closed.faults,
             ⊎_elim (λ same. inl (ap (λ (f : Files). f sink.label) same)) (λ put. inr (put shown)) closed.err,
@@ -48,8 +48,8 @@ returns-in-Err g c =
     record {
       done = tt;
       stops = λ shown faithful.
-          let empty = subst (λ (x : Result (Unit {0}) Stop). IsFaithful x sink) c.in-Err.is faithful in
-          subst (λ (x : Result (Unit {0}) Stop). Left x sink.taken (old sink.label) (new sink.label) stop) (sym c.in-Err.is) (
+          let empty = subst (λ (x : Result (Unit {0}) Interruption). IsFaithful x sink) c.in-Err.is faithful in
+          subst (λ (x : Result (Unit {0}) Interruption). Left x sink.taken (old sink.label) (new sink.label) stop) (sym c.in-Err.is) (
             refl,
             left_as stop.is_untouched sink.taken (old sink.label) (new sink.label)
                 (λ untouched. ap (λ (f : Files). f sink.label) (left.untouched shown untouched (empty untouched)))

@@ -1,6 +1,6 @@
 use Rattle.std.proofs.Common.{◌∙◌, ◌++◌, ◌∷◌, [], refl, Some}
 use Rattle.age_fileset.specs.FileSet.{Opened, Created}
-use Rattle.age_cli_args.specs.Requests.{text_of}
+use Rattle.age_cli_args.specs.Requests.{option_text}
 use Rattle.age_cli_common.specs.Orders.{preparing, making}
 use Rattle.age_cli_common.specs.Endings.{EndsEarly, SourceFails}
 use Rattle.age_cli_common.specs.declared.ending.Ending.{Ending}
@@ -20,7 +20,7 @@ returns-in_err-source g c =
       kept = c.in_err-source.ensures.kept;
       opened = no_value r e is _;
       noted = not_well r e is _;
-      followed = an_error r _ (longer (Opened c.args.from.now ∷ []) (preparing (text_of a.save) ++ making (Some a.to.now) a.durability) _ _
+      followed = an_error r _ (longer (Opened c.args.from.now ∷ []) (preparing (option_text a.save) ++ making (Some a.to.now) a.durability) _ _
           (followed _ _ _ c.in_err-source.ensures.noted));
       early = this_error r e is EndsEarly (opened_early _ _ c.in_err-source.ensures.faults);
       reason = λ shown. this_error r e is _ (open_reason _ _ _ _ _ c.in_err-source.ensures.faults
@@ -39,8 +39,8 @@ returns-in_err-prepare_save g c =
       kept = prepared.kept ∙ c.in_ok-source.ensures.kept;
       opened = no_value r e is _;
       noted = not_well r e is _;
-      followed = an_error r _ (then_follows _ _ _ (Opened c.args.from.now ∷ []) (preparing (text_of a.save) ++ making (Some a.to.now) a.durability)
-          c.in_ok-source.ensures.noted (longer (preparing (text_of a.save)) (making (Some a.to.now) a.durability) _ _ (followed _ _ _ prepared.noted)));
+      followed = an_error r _ (then_follows _ _ _ (Opened c.args.from.now ∷ []) (preparing (option_text a.save) ++ making (Some a.to.now) a.durability)
+          c.in_ok-source.ensures.noted (longer (preparing (option_text a.save)) (making (Some a.to.now) a.durability) _ _ (followed _ _ _ prepared.noted)));
       early = this_error r e is EndsEarly prepared.early;
       reason = λ shown. this_error r e is _ (reason_at _ _ (g.F.FileSet.view c.prepare_save.new.files).events (SourceFails g.F.In.Source.view) e c.in_ok-source.ensures.kept (prepared.reason shown));
       fault = λ shown. this_error r e is _ (prepared.fault shown);
@@ -58,8 +58,8 @@ returns-in_err-out g c =
       kept = out.kept ∙ (prepared.kept ∙ c.in_ok-source.ensures.kept);
       opened = no_value r e is _;
       noted = not_well r e is _;
-      followed = an_error r _ (then_follows _ _ _ (Opened c.args.from.now ∷ []) (preparing (text_of a.save) ++ making (Some a.to.now) a.durability)
-          c.in_ok-source.ensures.noted (then_follows _ _ _ (preparing (text_of a.save)) (making (Some a.to.now) a.durability) prepared.noted out.followed));
+      followed = an_error r _ (then_follows _ _ _ (Opened c.args.from.now ∷ []) (preparing (option_text a.save) ++ making (Some a.to.now) a.durability)
+          c.in_ok-source.ensures.noted (then_follows _ _ _ (preparing (option_text a.save)) (making (Some a.to.now) a.durability) prepared.noted out.followed));
       early = this_error r e is EndsEarly out.early;
       reason = λ shown. this_error r e is _ (reason_at _ _ (g.F.FileSet.view c.create_out.new.files).events (SourceFails g.F.In.Source.view) e (prepared.kept ∙ c.in_ok-source.ensures.kept) (out.reason shown));
       fault = λ shown. this_error r e is _ (out.fault shown);
@@ -76,8 +76,8 @@ returns g c =
           let found = c.in_ok-source.ensures.found shown in
           let made = out.opened shown in
           (found.0, found.1, made.0, made.1);
-      noted = then_did _ _ _ (Opened c.args.from.now ∷ []) (preparing (text_of a.save) ++ Created a.to.now ∷ []) c.in_ok-source.ensures.noted
-          (then_did _ _ _ (preparing (text_of a.save)) (Created a.to.now ∷ []) prepared.noted out.noted);
+      noted = then_did _ _ _ (Opened c.args.from.now ∷ []) (preparing (option_text a.save) ++ Created a.to.now ∷ []) c.in_ok-source.ensures.noted
+          (then_did _ _ _ (preparing (option_text a.save)) (Created a.to.now ∷ []) prepared.noted out.noted);
       followed = tt;
       early = tt;
       reason = λ shown. tt;

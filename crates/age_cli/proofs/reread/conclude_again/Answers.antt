@@ -1,5 +1,5 @@
 use Rattle.std.proofs.Common.{List, Option, ℕ, inl, inr, refl, subst}
-use Rattle.age_cli_args.specs.Requests.{text_of}
+use Rattle.age_cli_args.specs.Requests.{option_text}
 use Rattle.age_cli.specs.inner.Rereadings.{IsFoundIn}
 use Rattle.age_cli_common.proofs.EventSteps.{none_done}
 use Rattle.age_cli.proofs.RereadSteps.{concludes_left, save_unfound, saves_is}
@@ -18,8 +18,8 @@ returns-in-Ok-save-clause-again g c =
     inl (
       p,
       (λ shown other. subst (λ (x : Option (List ℕ)). IsFoundIn x again.key again.stopped.written p) (left.others d.from.now other) (c.in-Ok.ensures.found shown)),
-      concludes_left _ (text_of d.save) d.durability (g.F.Out.Sink.view c.args.out) _ (view c.args.files.now) mid new _ left.untouched left.written left.others
-          left.noted refl (λ shown. (refl, saves_is (text_of d.save) p mid.entries new.entries (saved.saved shown))) saved.noted saved.others,
+      concludes_left _ (option_text d.save) d.durability (g.F.Out.Sink.view c.args.out) _ (view c.args.files.now) mid new _ left.untouched left.written left.others
+          left.noted refl (λ shown. (refl, saves_is (option_text d.save) p mid.entries new.entries (saved.saved shown))) saved.noted saved.others,
     )
 
 pub returns-in-Err-save-clause-again : goal.returns-in-Err-save-clause-again
@@ -35,7 +35,7 @@ returns-in-Err-save-clause-again g c =
     inl (
       p,
       (λ shown other. subst (λ (x : Option (List ℕ)). IsFoundIn x again.key again.stopped.written p) (left.others d.from.now other) (c.in-Ok.ensures.found shown)),
-      concludes_left _ (text_of d.save) d.durability (g.F.Out.Sink.view c.args.out) _ (view c.args.files.now) mid new _ left.untouched left.written left.others
+      concludes_left _ (option_text d.save) d.durability (g.F.Out.Sink.view c.args.out) _ (view c.args.files.now) mid new _ left.untouched left.written left.others
           left.noted refl (λ shown. (refl, saved.unsaved)) saved.noted saved.others,
     )
 
@@ -45,7 +45,7 @@ returns-in-Err-clause-again g c =
     let d = c.args.asked.now in
     let left = c.leave.ensures in
     let mid = view c.leave.new.files in
-    inr (λ p. concludes_left _ (text_of d.save) d.durability (g.F.Out.Sink.view c.args.out) _ (view c.args.files.now) mid mid _ left.untouched
+    inr (λ p. concludes_left _ (option_text d.save) d.durability (g.F.Out.Sink.view c.args.out) _ (view c.args.files.now) mid mid _ left.untouched
     left.written left.others left.noted refl
-    (λ shown. (refl, save_unfound (text_of d.save) p mid.entries c.in-Err.second c.requires c.in-Err.ensures.faults))
+    (λ shown. (refl, save_unfound (option_text d.save) p mid.entries c.in-Err.second c.requires c.in-Err.ensures.faults))
     (none_done _ _) (λ shown q to save. refl))

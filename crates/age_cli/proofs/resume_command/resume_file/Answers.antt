@@ -2,7 +2,7 @@ use Rattle.std.proofs.Common.{◌≡◌, ◌∙◌, ◌++◌, ◌∷◌, [], inl
 use Rattle.std.proofs.Common.{Some}
 use Rattle.age_file.specs.Runs.{ports}
 use Rattle.age_fileset.specs.FileSet.{Opened, Created}
-use Rattle.age_cli_args.specs.Requests.{text_of}
+use Rattle.age_cli_args.specs.Requests.{option_text}
 use Rattle.age_cli_args.specs.declared.request.Request.TheVariants.{Resume}
 use Rattle.age_cli_common.specs.Orders.{identity_order, preparing, making}
 use Rattle.age_cli_common.specs.Files.{Files}
@@ -41,7 +41,7 @@ returns-in_err-secret-clause-acts g c =
     let e : Ending = c.in_err-secret.field-0.0 in
     let judged = in_order _ _ _ _ _ _ _ _ _ _ c.in_ok-choice.ensures.chooses.order c.in_err-secret.ensures in
     acts_early _ _ (Resume r) _ _ _ _ _ c.from_residual-in_err-secret.result e c.from_residual-in_err-secret.ensures judged.kept (λ shown. inl judged.early) judged.reason
-    (longer _ (Opened r.position.now ∷ Opened r.old.now ∷ Opened d.from.now ∷ (preparing (text_of d.save) ++ making (Some d.to.now) d.durability)) _ _ judged.followed)
+    (longer _ (Opened r.position.now ∷ Opened r.old.now ∷ Opened d.from.now ∷ (preparing (option_text d.save) ++ making (Some d.to.now) d.durability)) _ _ judged.followed)
     (λ shown usage. judged.followed)
     (λ twice. judged.apart (c.names_one_twice-is_file_named_twice.ensures.twice twice))
     (λ shown usage. inl (c.names_one_twice-is_file_named_twice.ensures.shown shown (judged.blamed shown usage))) refl
@@ -56,7 +56,7 @@ returns-in_err-identity-clause-acts g c =
     let e : Ending = Usage c.in_err-identity.field-0.0 in
     let judged = in_order _ _ _ _ _ _ _ _ _ _ c.in_ok-choice.ensures.chooses.order c.in_ok-secret.ensures in
     acts_early _ _ (Resume r) _ _ _ _ _ c.from_residual-in_err-identity.result e c.from_residual-in_err-identity.ensures judged.kept (λ shown. inl tt) (λ shown. tt)
-    (longer _ (Opened r.position.now ∷ Opened r.old.now ∷ Opened d.from.now ∷ (preparing (text_of d.save) ++ making (Some d.to.now) d.durability)) _ _ judged.followed)
+    (longer _ (Opened r.position.now ∷ Opened r.old.now ∷ Opened d.from.now ∷ (preparing (option_text d.save) ++ making (Some d.to.now) d.durability)) _ _ judged.followed)
     (λ shown usage. judged.followed)
     (λ twice. absurd (judged.apart (c.names_one_twice-is_file_named_twice.ensures.twice twice)).1)
     (λ shown usage. inr (λ identity opens. c.in_err-identity.ensures.none identity
@@ -76,8 +76,8 @@ returns-in_err-position-clause-acts g c =
     (λ shown. bad_position _ _ _ earlier.faults (subst (λ (f : Files). c.in_err-position.field-0.0 ≡ create.Fault BadPosition → HoldsNoPosition (f r.position.now))
     judged.kept (earlier.bad shown)))
     (λ shown. reason_at _ _ (g.F.FileSet.view c.open_earlier.new.files).events (SourceFails g.F.In.Source.view) e judged.kept (position_reason _ _ _ _ _ earlier.faults (earlier.reason shown)))
-    (then_follows _ _ _ (identity_order (text_of d.identity.pass) (text_of d.identity.shared)) (Opened r.position.now ∷ Opened r.old.now ∷ Opened d.from.now ∷ (preparing (text_of d.save) ++ making (Some d.to.now) d.durability)) judged.noted
-    (longer (Opened r.position.now ∷ Opened r.old.now ∷ []) (Opened d.from.now ∷ (preparing (text_of d.save) ++ making (Some d.to.now) d.durability)) _ _
+    (then_follows _ _ _ (identity_order (option_text d.identity.pass) (option_text d.identity.shared)) (Opened r.position.now ∷ Opened r.old.now ∷ Opened d.from.now ∷ (preparing (option_text d.save) ++ making (Some d.to.now) d.durability)) judged.noted
+    (longer (Opened r.position.now ∷ Opened r.old.now ∷ []) (Opened d.from.now ∷ (preparing (option_text d.save) ++ making (Some d.to.now) d.durability)) _ _
     earlier.follows))
     (λ shown usage. absurd (true≢false (sym usage ∙ position_fault _ _ earlier.faults shown)))
     (λ twice. absurd (judged.apart (c.names_one_twice-is_file_named_twice.ensures.twice twice)).1)
@@ -97,9 +97,9 @@ returns-in_err-source-clause-acts g c =
     acts_early _ _ (Resume r) _ _ _ _ _ c.from_residual-in_err-source.result e c.from_residual-in_err-source.ensures (both.kept ∙ (earlier.kept ∙ judged.kept))
     (λ shown. inl both.early)
     (λ shown. reason_at _ _ (g.F.FileSet.view c.open_both.new.files).events (SourceFails g.F.In.Source.view) e (earlier.kept ∙ judged.kept) (both.reason shown))
-    (then_follows _ _ _ (identity_order (text_of d.identity.pass) (text_of d.identity.shared)) (Opened r.position.now ∷ Opened r.old.now ∷ Opened d.from.now ∷ (preparing (text_of d.save) ++ making (Some d.to.now) d.durability)) judged.noted
+    (then_follows _ _ _ (identity_order (option_text d.identity.pass) (option_text d.identity.shared)) (Opened r.position.now ∷ Opened r.old.now ∷ Opened d.from.now ∷ (preparing (option_text d.save) ++ making (Some d.to.now) d.durability)) judged.noted
     (then_follows _ _ _ (Opened r.position.now ∷ Opened r.old.now ∷ [])
-    (Opened d.from.now ∷ (preparing (text_of d.save) ++ making (Some d.to.now) d.durability)) earlier.noted both.followed))
+    (Opened d.from.now ∷ (preparing (option_text d.save) ++ making (Some d.to.now) d.durability)) earlier.noted both.followed))
     (λ shown usage. absurd (true≢false (sym usage ∙ both.fault shown)))
     (λ twice. absurd (judged.apart (c.names_one_twice-is_file_named_twice.ensures.twice twice)).1)
     (λ shown usage. absurd (true≢false (sym usage ∙ both.fault shown))) refl
@@ -130,9 +130,9 @@ returns-in-Silent-clause-acts g c =
     (record { source = first; sink = c.in_ok-source.out; is = refl }) (record { source = run.new.old_reader; sink = run.new.writer; is = refl })
     (λ shown. subst (λ (f : Files). Found (paths_of d) f before) (earlier.kept ∙ judged.kept) (both.opened shown))
     c.positions_for-positions.ensures c.opening_end.ensures run.ensures c.conclude.ensures.concludes
-    (then_did _ _ _ (identity_order (text_of d.identity.pass) (text_of d.identity.shared))
-    (Opened r.position.now ∷ Opened r.old.now ∷ Opened d.from.now ∷ (preparing (text_of d.save) ++ Created d.to.now ∷ [])) judged.noted
-    (then_did _ _ _ (Opened r.position.now ∷ Opened r.old.now ∷ []) (Opened d.from.now ∷ (preparing (text_of d.save) ++ Created d.to.now ∷ [])) earlier.noted
+    (then_did _ _ _ (identity_order (option_text d.identity.pass) (option_text d.identity.shared))
+    (Opened r.position.now ∷ Opened r.old.now ∷ Opened d.from.now ∷ (preparing (option_text d.save) ++ Created d.to.now ∷ [])) judged.noted
+    (then_did _ _ _ (Opened r.position.now ∷ Opened r.old.now ∷ []) (Opened d.from.now ∷ (preparing (option_text d.save) ++ Created d.to.now ∷ [])) earlier.noted
     both.noted))
     (λ twice. absurd (judged.apart (c.names_one_twice-is_file_named_twice.ensures.twice twice)).1) (λ silent. refl, inl refl)
 
@@ -165,9 +165,9 @@ returns-clause-acts g c =
     subst (λ (f : Files). Found (paths_of d) f before) (earlier.kept ∙ judged.kept)
     (f.0, ap (λ s. (In s).remaining) c.with_meter-metered.ensures.source ∙ f.1, f.2, f.3))
     c.positions_for-positions.ensures c.opening_end-in-Shown.ensures run.ensures c.conclude-in-Shown.ensures.concludes
-    (then_did _ _ _ (identity_order (text_of d.identity.pass) (text_of d.identity.shared))
-    (Opened r.position.now ∷ Opened r.old.now ∷ Opened d.from.now ∷ (preparing (text_of d.save) ++ Created d.to.now ∷ [])) judged.noted
-    (then_did _ _ _ (Opened r.position.now ∷ Opened r.old.now ∷ []) (Opened d.from.now ∷ (preparing (text_of d.save) ++ Created d.to.now ∷ [])) earlier.noted
+    (then_did _ _ _ (identity_order (option_text d.identity.pass) (option_text d.identity.shared))
+    (Opened r.position.now ∷ Opened r.old.now ∷ Opened d.from.now ∷ (preparing (option_text d.save) ++ Created d.to.now ∷ [])) judged.noted
+    (then_did _ _ _ (Opened r.position.now ∷ Opened r.old.now ∷ []) (Opened d.from.now ∷ (preparing (option_text d.save) ++ Created d.to.now ∷ [])) earlier.noted
     both.noted))
     (λ twice. absurd (judged.apart (c.names_one_twice-is_file_named_twice.ensures.twice twice)).1) (λ silent. absurd (shown_not_silent (sym c.in-Shown.is ∙ silent)), inr c.end_meter.ensures)
 

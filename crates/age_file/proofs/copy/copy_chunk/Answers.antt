@@ -41,12 +41,12 @@ parts-init g c =
 pub returns-then-not-branch-clause-copied : goal.returns-then-not-branch-clause-copied
 returns-then-not-branch-clause-copied g c =
     let kept = c.parts.invariant in
-    let r = rw c.if-not-branch.true at c.in_ok-some_bytes.ensures.answers in
+    let r = rw c.if-not-branch.true at c.in_ok-has_bytes.ensures.answers in
     let old = view_of_reader g.S.Source.view c.args.reader.now in
     let mid = view_of_reader g.S.Source.view c.parts.reader in
-    let new = view_of_reader g.S.Source.view c.some_bytes.new.reader in
+    let new = view_of_reader g.S.Source.view c.has_bytes.new.reader in
     let passes = passes_same old mid new kept.copied kept.passes
-    (record { uses = c.some_bytes.ensures.uses; unfailed = r.2 }) in
+    (record { uses = c.has_bytes.ensures.uses; unfailed = r.2 }) in
     record {
       out = kept.copied;
       wrote = kept.wrote;
@@ -55,19 +55,19 @@ returns-then-not-branch-clause-copied g c =
       answered = (omega (arith, kept.size, c.parts-test.true), (passes, r.0, r.1, kept.failures));
     }
 
-pub returns-in_err-some_bytes-clause-copied : goal.returns-in_err-some_bytes-clause-copied
-returns-in_err-some_bytes-clause-copied g c =
+pub returns-in_err-has_bytes-clause-copied : goal.returns-in_err-has_bytes-clause-copied
+returns-in_err-has_bytes-clause-copied g c =
     let p = err_from_is_err_and c.from_residual.result c.from_residual.ensures.1 in
     let kept = c.parts.invariant in
-    let a = c.in_err-some_bytes.ensures.answers in
+    let a = c.in_err-has_bytes.ensures.answers in
     let old = view_of_reader g.S.Source.view c.args.reader.now in
     let mid = view_of_reader g.S.Source.view c.parts.reader in
-    let new = view_of_reader g.S.Source.view c.some_bytes.new.reader in
+    let new = view_of_reader g.S.Source.view c.has_bytes.new.reader in
     let was = view_of_writer g.O.Sink.view c.args.writer.now in
     let now = view_of_writer g.O.Sink.view c.parts.writer in
-    let dries = dries_same old mid new kept.copied c.in_err-some_bytes.field-0.0 kept.passes
+    let dries = dries_same old mid new kept.copied c.in_err-has_bytes.field-0.0 kept.passes
     (record {
-      uses = c.some_bytes.ensures.uses;
+      uses = c.has_bytes.ensures.uses;
       used = a.0;
       why = a.1;
     }) in
@@ -78,7 +78,7 @@ returns-in_err-some_bytes-clause-copied g c =
       count = kept.count;
       answered = rw (p.1, p.2) (
         omega (arith, kept.size, c.parts-test.true),
-        copy_dry old new was now kept.copied c.in_err-some_bytes.field-0.0 dries
+        copy_dry old new was now kept.copied c.in_err-has_bytes.field-0.0 dries
             kept.failures,
       );
     }
@@ -88,13 +88,13 @@ returns-in_err-write_all-clause-copied g c =
     let p = err_from_is_err_and c.from_residual-in_err-write_all.result
     c.from_residual-in_err-write_all.ensures.1 in
     let kept = c.parts.invariant in
-    let r = rw c.if-not-branch.false at c.in_ok-some_bytes.ensures.answers in
+    let r = rw c.if-not-branch.false at c.in_ok-has_bytes.ensures.answers in
     let put = c.in_err-write_all.ensures.writes in
     let old = view_of_reader g.S.Source.view c.args.reader.now in
     let mid = view_of_reader g.S.Source.view c.parts.reader in
-    let new = view_of_reader g.S.Source.view c.some_bytes.new.reader in
+    let new = view_of_reader g.S.Source.view c.has_bytes.new.reader in
     let used = passes_same old mid new kept.copied kept.passes
-    (record { uses = c.some_bytes.ensures.uses; unfailed = r.1 }) in
+    (record { uses = c.has_bytes.ensures.uses; unfailed = r.1 }) in
     let n = c.min-n.result in
     let bytes = c.bytes-in-parts.result.now in
     record {
@@ -131,11 +131,11 @@ returns-in_err-write_all-clause-copied g c =
 pub parts-preserved : goal.parts-preserved
 parts-preserved g c =
     let kept = c.parts.invariant in
-    let r = rw c.if-not-branch.false at c.in_ok-some_bytes.ensures.answers in
+    let r = rw c.if-not-branch.false at c.in_ok-has_bytes.ensures.answers in
     let old = view_of_reader g.S.Source.view c.args.reader.now in
     let mid = view_of_reader g.S.Source.view c.parts.reader in
-    let there = view_of_reader g.S.Source.view c.some_bytes.new.reader in
-    let new = reader_view (g.S.Source.view c.some_bytes.new.reader.source.now)
+    let there = view_of_reader g.S.Source.view c.has_bytes.new.reader in
+    let new = reader_view (g.S.Source.view c.has_bytes.new.reader.source.now)
     c.use_front.new.self in
     let n = c.min-n.result in
     let bytes = c.bytes-in-parts.result.now in
@@ -144,13 +144,13 @@ parts-preserved g c =
     all_out (take n bytes) put.out put.unwritten put.parts put.answered.0 in
     let wrote = subst (λ (t : List ℕ). Appends (g.O.Sink.view c.parts.writer.sink.now).taken
     (g.O.Sink.view c.write_all.new.sink).taken t) whole put.wrote in
-    let front = uses_front (g.S.Source.view c.some_bytes.new.reader.source.now)
-    c.some_bytes.new.reader.intake.now c.use_front.new.self bytes n
+    let front = uses_front (g.S.Source.view c.has_bytes.new.reader.source.now)
+    c.has_bytes.new.reader.intake.now c.use_front.new.self bytes n
     c.use_front.ensures.pulls c.bytes-in-parts.ensures.bytes c.use_front.ensures.bytes in
     record {
       same_reader = (
-        c.in_ok-some_bytes.ensures.same.0 ∙ kept.same_reader.0,
-        c.in_ok-some_bytes.ensures.same.1 ∙ kept.same_reader.1,
+        c.in_ok-has_bytes.ensures.same.0 ∙ kept.same_reader.0,
+        c.in_ok-has_bytes.ensures.same.1 ∙ kept.same_reader.1,
       );
       same_writer = kept.same_writer;
       copied = kept.copied ++ take n bytes;
@@ -165,7 +165,7 @@ parts-preserved g c =
       );
       passes = passes_then old there new kept.copied (take n bytes)
           (passes_same old mid there kept.copied kept.passes
-          (record { uses = c.some_bytes.ensures.uses; unfailed = r.1 }))
+          (record { uses = c.has_bytes.ensures.uses; unfailed = r.1 }))
           (record { uses = front; unfailed = refl });
       wrote = Appends-then (g.O.Sink.view c.args.writer.now.sink.now).taken
           (g.O.Sink.view c.parts.writer.sink.now).taken

@@ -4,7 +4,7 @@ use Rattle.std.proofs.lemmas.Result.{err_from_is_err_and}
 use Rattle.std.proofs.lemmas.List.{length-append}
 use Rattle.std.specs.Simd.{first_chunks}
 use Rattle.age_file.specs.inner.Bindings.{chain_if, link_if}
-use Rattle.age_file.specs.declared.position.Positions.TheVariants.{Kept}
+use Rattle.age_file.specs.declared.position.PositionPolicy.TheVariants.{Kept}
 use Rattle.age_fault.proofs.Bytes.{Appends-then}
 use Rattle.age_file.proofs.SkipSteps.{passes_then}
 use Rattle.age_file.proofs.CopySteps.{chain_more, chunk_failed}

@@ -2,7 +2,7 @@ use Rattle.std.proofs.Common.{◌≡◌, ◌*◌, ℕ, List, length}
 use Rattle.std.specs.Io.KnownBytes.{Appends}
 use Rattle.std.specs.Simd.{first_chunks}
 use Rattle.age_file.specs.inner.Bindings.{chain_if}
-use Rattle.age_file.specs.declared.position.Positions.TheVariants.{Kept}
+use Rattle.age_file.specs.declared.position.PositionPolicy.TheVariants.{Kept}
 use Rattle.age_file.specs.inner.Copies.{Passes}
 use Rattle.age_file.specs.inner.Readers.{view_of_reader, SameReader, SameWriter}
 use Rattle.age_chunk.specs.Payload.{chunk_length}

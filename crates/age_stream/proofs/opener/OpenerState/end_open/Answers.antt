@@ -11,8 +11,8 @@ use Rattle.age_stream.proofs.Sizes.{list_fits, opener_state_fits}
 use Rattle.age_stream.proofs.opener.OpenerState.end_open.Goals as goal
 use Rattle.age_chunk.specs.ChunkBoxes.{tag_length, text_length}
 
-pub settle-requires : goal.settle-requires
-settle-requires g c = opener_state_fits c.args.self.now.sizes.1
+pub reclaim-requires : goal.reclaim-requires
+reclaim-requires g c = opener_state_fits c.args.self.now.sizes.1
 
 pub fail-requires : goal.fail-requires
 fail-requires g c = opener_state_fits c.args.self.now.sizes.1
@@ -35,7 +35,7 @@ open_in-requires g c = (list_fits c.args.self.now.sizes.1, (omega arith, c.args.
 pub returns-then-len-eq0-clause-ends : goal.returns-then-len-eq0-clause-ends
 returns-then-len-eq0-clause-ends g c =
     let old = c.args.self.now in
-    let settled = c.settle.ensures in
+    let settled = c.reclaim.ensures in
     let len = ap length settled.buffer in
     ends_refused old c.fail.new.self _ (c.fail.ensures.same.1 ∙ settled.same.1) (c.fail.ensures.same.0 ∙ settled.same.0) Truncated c.fail.result
     (is_missing (g.B.ChunkBox.opening old.key.now) old.index (held_bytes old) (omega (arith, len))) (c.fail.ensures.status ∙ ap (failed Truncated) settled.same.0)
@@ -44,7 +44,7 @@ returns-then-len-eq0-clause-ends g c =
 pub returns-then-len-lt-TAG_LEN-clause-ends : goal.returns-then-len-lt-TAG_LEN-clause-ends
 returns-then-len-lt-TAG_LEN-clause-ends g c =
     let old = c.args.self.now in
-    let settled = c.settle.ensures in
+    let settled = c.reclaim.ensures in
     let failing = c.fail-then-len-lt-TAG_LEN in
     let len = ap length settled.buffer in
     ends_refused old failing.new.self _ (failing.ensures.same.1 ∙ settled.same.1) (failing.ensures.same.0 ∙ settled.same.0) ChunkCut failing.result
@@ -54,9 +54,9 @@ returns-then-len-lt-TAG_LEN-clause-ends g c =
 pub returns-then-is_empty_last-clause-ends : goal.returns-then-is_empty_last-clause-ends
 returns-then-is_empty_last-clause-ends g c =
     let old = c.args.self.now in
-    let settled = c.settle.ensures in
+    let settled = c.reclaim.ensures in
     let failing = c.fail-then-is_empty_last in
-    let test = is_empty c.is_empty_last.result c.len-len.result c.settle.new.self.index c.is_empty_last.ensures c.if-is_empty_last.true in
+    let test = is_empty c.is_empty_last.result c.len-len.result c.reclaim.new.self.index c.is_empty_last.ensures c.if-is_empty_last.true in
     let len = ap length settled.buffer in
     ends_refused old failing.new.self _ (failing.ensures.same.1 ∙ settled.same.1) (failing.ensures.same.0 ∙ settled.same.0) EmptyLast failing.result
     (is_empty_last (g.B.ChunkBox.opening old.key.now) old.index (held_bytes old) (omega (arith, len, test.0)) (omega (arith, settled.same.0, test.1)))
@@ -65,7 +65,7 @@ returns-then-is_empty_last-clause-ends g c =
 pub invariant_of-self : goal.invariant_of-self
 invariant_of-self g c = record {
   sizes = c.args.self.now.sizes;
-  limit = c.settle.new.self.limit;
+  limit = c.reclaim.new.self.limit;
   room = λ done. cc;
   closed = λ _. refl;
 }
@@ -74,14 +74,14 @@ pub returns-then-open_in-clause-ends : goal.returns-then-open_in-clause-ends
 returns-then-open_in-clause-ends g c =
     let old = c.args.self.now in
     let opening = g.B.ChunkBox.opening old.key.now in
-    let settled = c.settle.ensures in
+    let settled = c.reclaim.ensures in
     let len = ap length settled.buffer in
     let long : tag_length ≤ length (held_bytes old) = omega (arith, len) in
     let first : length (held_bytes old) ≡ tag_length → old.index ≡ 0 = λ tag.
-    let zero = is_first c.is_empty_last.result c.len-len.result c.settle.new.self.index c.is_empty_last.ensures c.if-is_empty_last.false
+    let zero = is_first c.is_empty_last.result c.len-len.result c.reclaim.new.self.index c.is_empty_last.ensures c.if-is_empty_last.false
     (omega (arith, tag, len)) in
     omega (arith, zero, settled.same.0) in
-    let block = c.settle.new.self.buffer.items in
+    let block = c.reclaim.new.self.buffer.items in
     let text = take (text_length (length block)) c.open_in.new.buffer.items in
     let opens = moved (λ k i b. g.B.ChunkBox.opening k.now (nonce_bytes i true) b) settled.same.1 settled.same.0 settled.buffer c.if-open_in.ensures.opened in
     ends_opened old _ _ settled.same.1 settled.same.0 _ text (is_opened opening old.index (held_bytes old) long first text opens) refl
@@ -94,15 +94,15 @@ pub returns-then-open_in-clause-none : goal.returns-then-open_in-clause-none
 returns-then-open_in-clause-none g c = refl
 
 pub returns-then-open_in-clause-len : goal.returns-then-open_in-clause-len
-returns-then-open_in-clause-len g c = omega (arith, ap length c.settle.ensures.buffer)
+returns-then-open_in-clause-len g c = omega (arith, ap length c.reclaim.ensures.buffer)
 
 pub invariant_of-self-else-open_in : goal.invariant_of-self-else-open_in
 invariant_of-self-else-open_in g c =
-    let open_ : c.settle.new.self.status ≡ Open = c.settle.ensures.same.2 ∙ c.requires in
+    let open_ : c.reclaim.new.self.status ≡ Open = c.reclaim.ensures.same.2 ∙ c.requires in
     record {
       sizes = c.args.self.now.sizes;
-      limit = c.settle.new.self.limit;
-      room = λ o l. omega (arith, c.open_in.ensures.len, c.settle.new.self.room o l);
+      limit = c.reclaim.new.self.limit;
+      room = λ o l. omega (arith, c.open_in.ensures.len, c.reclaim.new.self.room o l);
       closed = λ shut. absurd (shut open_);
     }
 
@@ -110,11 +110,11 @@ pub returns-clause-ends : goal.returns-clause-ends
 returns-clause-ends g c =
     let old = c.args.self.now in
     let opening = g.B.ChunkBox.opening old.key.now in
-    let settled = c.settle.ensures in
+    let settled = c.reclaim.ensures in
     let len = ap length settled.buffer in
     let long : tag_length ≤ length (held_bytes old) = omega (arith, len) in
     let first : length (held_bytes old) ≡ tag_length → old.index ≡ 0 = λ tag.
-    let zero = is_first c.is_empty_last.result c.len-len.result c.settle.new.self.index c.is_empty_last.ensures c.if-is_empty_last.false
+    let zero = is_first c.is_empty_last.result c.len-len.result c.reclaim.new.self.index c.is_empty_last.ensures c.if-is_empty_last.false
     (omega (arith, tag, len)) in
     omega (arith, zero, settled.same.0) in
     let closed = moved (λ k i b. g.B.ChunkBox.opening k.now (nonce_bytes i true) b) settled.same.1 settled.same.0 settled.buffer c.if-open_in.ensures.closed.0 in

@@ -8,8 +8,8 @@ use Rattle.age_stream.proofs.OpenerSteps.{tried_ok, tried_err}
 use Rattle.age_stream.proofs.Sizes.{list_fits, opener_state_fits}
 use Rattle.age_stream.proofs.opener.OpenerState.take_open.Goals as goal
 
-pub settle-requires : goal.settle-requires
-settle-requires g c = opener_state_fits c.args.self.now.sizes.1
+pub reclaim-requires : goal.reclaim-requires
+reclaim-requires g c = opener_state_fits c.args.self.now.sizes.1
 
 pub len-room-requires : goal.len-room-requires
 len-room-requires g c = list_fits c.args.self.now.sizes.1
@@ -22,32 +22,32 @@ push_bytes-requires g c = (list_fits c.args.self.now.sizes.1, (omega arith, c.ar
 
 pub invariant_of-self : goal.invariant_of-self
 invariant_of-self g c =
-    let open_ : c.settle.new.self.status ≡ Open = c.settle.ensures.same.2 ∙ c.requires in
+    let open_ : c.reclaim.new.self.status ≡ Open = c.reclaim.ensures.same.2 ∙ c.requires in
     record {
       sizes = c.args.self.now.sizes;
-      limit = c.settle.new.self.limit;
-      room = λ _ _. omega (arith, ap length c.push_bytes.ensures, length-append c.settle.new.self.buffer.items c.args.piece.now);
+      limit = c.reclaim.new.self.limit;
+      room = λ _ _. omega (arith, ap length c.push_bytes.ensures, length-append c.reclaim.new.self.buffer.items c.args.piece.now);
       closed = λ shut. absurd (shut open_);
     }
 
 pub returns-then-piece-room-clause-part : goal.returns-then-piece-room-clause-part
 returns-then-piece-room-clause-part g c = λ _. record {
-  key = c.settle.ensures.same.1;
-  index = c.settle.ensures.same.0;
-  status = c.settle.ensures.same.2;
-  held = ap (λ (lent : Bool). if lent then [] else c.push_bytes.new.buffer.items) c.settle.ensures.lent
-      ∙ (c.push_bytes.ensures ∙ ap (λ (held : List ℕ). held ++ c.args.piece.now) c.settle.ensures.buffer);
+  key = c.reclaim.ensures.same.1;
+  index = c.reclaim.ensures.same.0;
+  status = c.reclaim.ensures.same.2;
+  held = ap (λ (lent : Bool). if lent then [] else c.push_bytes.new.buffer.items) c.reclaim.ensures.lent
+      ∙ (c.push_bytes.ensures ∙ ap (λ (held : List ℕ). held ++ c.args.piece.now) c.reclaim.ensures.buffer);
   answered = (refl, refl);
 }
 
 pub returns-then-piece-room-clause-whole : goal.returns-then-piece-room-clause-whole
-returns-then-piece-room-clause-whole g c = λ long. absurd (omega (arith, ap length c.settle.ensures.buffer))
+returns-then-piece-room-clause-whole g c = λ long. absurd (omega (arith, ap length c.reclaim.ensures.buffer))
 
 pub returns-then-piece-room-clause-short : goal.returns-then-piece-room-clause-short
-returns-then-piece-room-clause-short g c = omega (arith, ap length c.settle.ensures.buffer)
+returns-then-piece-room-clause-short g c = omega (arith, ap length c.reclaim.ensures.buffer)
 
 pub returns-then-piece-room-clause-key : goal.returns-then-piece-room-clause-key
-returns-then-piece-room-clause-key g c = c.settle.ensures.same.1
+returns-then-piece-room-clause-key g c = c.reclaim.ensures.same.1
 
 pub slice_bounds-push_bytes-end : goal.slice_bounds-push_bytes-end
 slice_bounds-push_bytes-end g c = omega (arith, length-take (g.row.SEALED - c.len-room.result) c.args.piece.now)
@@ -61,7 +61,7 @@ push_bytes-requires-2 g c = (
 pub invariant_of-self-2 : goal.invariant_of-self-2
 invariant_of-self-2 g c = record {
   sizes = c.args.self.now.sizes;
-  limit = c.settle.new.self.limit;
+  limit = c.reclaim.new.self.limit;
   room = λ open_ shut. cc;
   closed = λ _. refl;
 }
@@ -70,55 +70,55 @@ pub try_block-requires : goal.try_block-requires
 try_block-requires g c =
     let piece = c.args.piece.now in
     let room = g.row.SEALED - c.len-room.result in
-    let len = length-append c.settle.new.self.buffer.items (take room piece) in (
+    let len = length-append c.reclaim.new.self.buffer.items (take room piece) in (
       opener_state_fits c.args.self.now.sizes.1,
       (
         omega (arith, ap length c.push_bytes-2.ensures, len, length-take room piece, c.len-room.ensures.fits),
-        (c.settle.ensures.same.2 ∙ c.requires, refl),
+        (c.reclaim.ensures.same.2 ∙ c.requires, refl),
       ),
     )
 
 pub returns-clause-part : goal.returns-clause-part
-returns-clause-part g c = λ short. absurd (omega (arith, ap length c.settle.ensures.buffer))
+returns-clause-part g c = λ short. absurd (omega (arith, ap length c.reclaim.ensures.buffer))
 
 pub returns-clause-whole : goal.returns-clause-whole
 returns-clause-whole g c = λ _.
     let piece = c.args.piece.now in
     let old = c.args.self.now in
     let room = g.row.SEALED - c.len-room.result in
-    let size : room ≡ g.row.SEALED - length (held_bytes old) = omega (arith, ap length c.settle.ensures.buffer) in
+    let size : room ≡ g.row.SEALED - length (held_bytes old) = omega (arith, ap length c.reclaim.ensures.buffer) in
     let items : c.push_bytes-2.new.buffer.items ≡ held_bytes old ++ take (g.row.SEALED - length (held_bytes old)) piece =
-    c.push_bytes-2.ensures ∙ (ap (λ (front : List ℕ). front ++ take room piece) c.settle.ensures.buffer
+    c.push_bytes-2.ensures ∙ (ap (λ (front : List ℕ). front ++ take room piece) c.reclaim.ensures.buffer
     ∙ ap (λ (k : ℕ). held_bytes old ++ take k piece) size) in
-    tried_ok g.B.ChunkBox.opening old _ c.try_block.new.self piece c.settle.ensures.same.1 c.settle.ensures.same.0 items room
-    (omega (arith, size, c.len-room.ensures.fits, ap length c.settle.ensures.buffer)) c.in_ok-try_block.ensures
+    tried_ok g.B.ChunkBox.opening old _ c.try_block.new.self piece c.reclaim.ensures.same.1 c.reclaim.ensures.same.0 items room
+    (omega (arith, size, c.len-room.ensures.fits, ap length c.reclaim.ensures.buffer)) c.in_ok-try_block.ensures
 
 pub returns-clause-short : goal.returns-clause-short
 returns-clause-short g c =
-    omega (arith, ap length c.settle.ensures.buffer, c.settle.new.self.room (c.settle.ensures.same.2 ∙ c.requires) c.settle.ensures.lent)
+    omega (arith, ap length c.reclaim.ensures.buffer, c.reclaim.new.self.room (c.reclaim.ensures.same.2 ∙ c.requires) c.reclaim.ensures.lent)
 
 pub returns-clause-key : goal.returns-clause-key
-returns-clause-key g c = c.in_ok-try_block.ensures.key ∙ c.settle.ensures.same.1
+returns-clause-key g c = c.in_ok-try_block.ensures.key ∙ c.reclaim.ensures.same.1
 
 pub returns-in_err-try_block-clause-part : goal.returns-in_err-try_block-clause-part
-returns-in_err-try_block-clause-part g c = λ short. absurd (omega (arith, ap length c.settle.ensures.buffer))
+returns-in_err-try_block-clause-part g c = λ short. absurd (omega (arith, ap length c.reclaim.ensures.buffer))
 
 pub returns-in_err-try_block-clause-whole : goal.returns-in_err-try_block-clause-whole
 returns-in_err-try_block-clause-whole g c = λ _.
     let piece = c.args.piece.now in
     let old = c.args.self.now in
     let room = g.row.SEALED - c.len-room.result in
-    let size : room ≡ g.row.SEALED - length (held_bytes old) = omega (arith, ap length c.settle.ensures.buffer) in
+    let size : room ≡ g.row.SEALED - length (held_bytes old) = omega (arith, ap length c.reclaim.ensures.buffer) in
     let items : c.push_bytes-2.new.buffer.items ≡ held_bytes old ++ take (g.row.SEALED - length (held_bytes old)) piece =
-    c.push_bytes-2.ensures ∙ (ap (λ (front : List ℕ). front ++ take room piece) c.settle.ensures.buffer
+    c.push_bytes-2.ensures ∙ (ap (λ (front : List ℕ). front ++ take room piece) c.reclaim.ensures.buffer
     ∙ ap (λ (k : ℕ). held_bytes old ++ take k piece) size) in
     let told = err_from_is_err_and c.from_residual.result c.from_residual.ensures.1 in
-    rw (told.1, told.2) (tried_err g.B.ChunkBox.opening old _ c.try_block.new.self piece c.settle.ensures.same.1 c.settle.ensures.same.0 items _
+    rw (told.1, told.2) (tried_err g.B.ChunkBox.opening old _ c.try_block.new.self piece c.reclaim.ensures.same.1 c.reclaim.ensures.same.0 items _
     c.in_err-try_block.ensures)
 
 pub returns-in_err-try_block-clause-short : goal.returns-in_err-try_block-clause-short
 returns-in_err-try_block-clause-short g c =
-    omega (arith, ap length c.settle.ensures.buffer, c.settle.new.self.room (c.settle.ensures.same.2 ∙ c.requires) c.settle.ensures.lent)
+    omega (arith, ap length c.reclaim.ensures.buffer, c.reclaim.new.self.room (c.reclaim.ensures.same.2 ∙ c.requires) c.reclaim.ensures.lent)
 
 pub returns-in_err-try_block-clause-key : goal.returns-in_err-try_block-clause-key
-returns-in_err-try_block-clause-key g c = c.in_err-try_block.ensures.key ∙ c.settle.ensures.same.1
+returns-in_err-try_block-clause-key g c = c.in_err-try_block.ensures.key ∙ c.reclaim.ensures.same.1

@@ -4,7 +4,7 @@ use Rattle.std.proofs.Common.{take-add, take-append-drop}
 use Rattle.std.proofs.lemmas.List.{take_rest, take_all, length-take, length-drop}
 use Rattle.age_stream.specs.Opener.{whole_text}
 use Rattle.age_stream.specs.declared.step.Status.TheVariants.{Open}
-use Rattle.age_stream.specs.Replay.{replay_view, IsAt}
+use Rattle.age_stream.specs.Replay.{replay_view, IsReplayAt}
 use Rattle.age_stream.specs.inner.ReplaySteps.{with_bytes}
 use Rattle.age_stream.proofs.ReplaySteps.{with_bytes-append, with_bytes-nil}
 use Rattle.age_stream.proofs.replay.ReplayState.feed_all.Goals as goal
@@ -20,7 +20,7 @@ loop-at-init g c =
           ≤ vec_capacity c.args.self.now.text) (sym left) (c.requires open_);
       capacity = omega arith;
       key = refl;
-      fed = λ s h. subst (IsAt g.B.ChunkBox.opening (text_length g.row.SEALED) (replay_view c.args.self.now)) (sym (with_bytes-nil s)) h;
+      fed = λ s h. subst (IsReplayAt g.B.ChunkBox.opening (text_length g.row.SEALED) (replay_view c.args.self.now)) (sym (with_bytes-nil s)) h;
     }
 
 pub loop-at-preserved : goal.loop-at-preserved
@@ -41,7 +41,7 @@ loop-at-preserved g c =
       capacity = omega (arith, c.feed_once.ensures.capacity, c.loop-at.invariant.capacity);
       key = c.feed_once.ensures.key ∙ c.loop-at.invariant.key;
       fed = λ s h.
-          subst (IsAt g.B.ChunkBox.opening (text_length g.row.SEALED) (replay_view c.feed_once.new.self))
+          subst (IsReplayAt g.B.ChunkBox.opening (text_length g.row.SEALED) (replay_view c.feed_once.new.self))
           (with_bytes-append s (take at piece) (take taken (take (length piece - at) (drop at piece))) ∙ ap (with_bytes s) on)
           (r.fed (with_bytes s (take at piece)) (c.loop-at.invariant.fed s h));
     }
@@ -52,7 +52,7 @@ returns-in-None-clause-fed g c = λ s h.
     let at = c.loop-at.at in
     let all : take at piece ++ take (length piece - at) (drop at piece) ≡ piece = ap (λ (ys : List ℕ). take at piece ++ ys) (take_rest piece at)
     ∙ take-append-drop at piece in
-    subst (IsAt g.B.ChunkBox.opening (text_length g.row.SEALED) (replay_view c.feed_once.new.self))
+    subst (IsReplayAt g.B.ChunkBox.opening (text_length g.row.SEALED) (replay_view c.feed_once.new.self))
     (with_bytes-append s (take at piece) (take (length piece - at) (drop at piece)) ∙ ap (with_bytes s) all)
     (c.in-None.ensures.refused (with_bytes s (take at piece)) (c.loop-at.invariant.fed s h))
 
@@ -88,7 +88,7 @@ returns-clause-capacity g c = c.loop-at.invariant.capacity
 pub returns-clause-fed : goal.returns-clause-fed
 returns-clause-fed g c = λ s h.
     let piece = c.args.piece.now in
-    subst (λ (ps : List ℕ). IsAt g.B.ChunkBox.opening (text_length g.row.SEALED) (replay_view c.loop-at.self) (with_bytes s ps))
+    subst (λ (ps : List ℕ). IsReplayAt g.B.ChunkBox.opening (text_length g.row.SEALED) (replay_view c.loop-at.self) (with_bytes s ps))
     (take_all c.loop-at.at piece (omega (arith, c.loop-at-test.false))) (c.loop-at.invariant.fed s h)
 
 pub returns-clause-key : goal.returns-clause-key

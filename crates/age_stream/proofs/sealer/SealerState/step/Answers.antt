@@ -5,8 +5,8 @@ use Rattle.age_stream.proofs.sealer.SealerState.step.Goals as goal
 pub refusal-requires : goal.refusal-requires
 refusal-requires g c = sealer_state_fits c.args.self.now.sizes.1
 
-pub settle-requires : goal.settle-requires
-settle-requires g c = sealer_state_fits c.args.self.now.sizes.1
+pub reclaim-requires : goal.reclaim-requires
+reclaim-requires g c = sealer_state_fits c.args.self.now.sizes.1
 
 pub refusal-requires-then-self-2 : goal.refusal-requires-then-self-2
 refusal-requires-then-self-2 g c = sealer_state_fits c.args.self.now.sizes.1

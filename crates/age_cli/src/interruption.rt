@@ -1,7 +1,7 @@
 //! How a command that writes a text stops, and where its position goes.
 
 ghost use Rattle.std.specs.Prelude.{◌≡◌, true, false, None, OnOk, IfErr};
-ghost use Rattle.age_cli_args.specs.Requests.{text_of};
+ghost use Rattle.age_cli_args.specs.Requests.{option_text};
 ghost use Rattle.age_cli_common.specs.Endings.{is_usage, Announces};
 ghost use Rattle.age_cli.specs.Acts.{SaveFails, EndsOf};
 ghost use Rattle.age_cli_common.specs.Orders.{Follows, replacing};
@@ -17,7 +17,7 @@ use std::alloc::Global;
 
 /// Why a command stopped, and what it leaves.
 #[derive(Clone, Copy)]
-pub(crate) struct Stop {
+pub(crate) struct Interruption {
     /// Why it stopped.
     pub(crate) fault: FileFault,
     /// The position to save.
@@ -26,11 +26,11 @@ pub(crate) struct Stop {
     pub(crate) is_untouched: bool,
 }
 
-impl From<FileFault> for Stop {
+impl From<FileFault> for Interruption {
     ghost from_gives = { λ f s. s ≡ record { fault = f; position = None; is_untouched = false } };
 
-    fn from(fault: FileFault) -> Stop {
-        Stop {
+    fn from(fault: FileFault) -> Interruption {
+        Interruption {
             fault,
             position: None,
             is_untouched: false,
@@ -46,12 +46,12 @@ fn is_memory(fault: FileFault) -> bool
 }
 
 /// How an encryption ended. It has no position, and nothing was written if memory was refused.
-pub(crate) fn sealing_end(sealed: Result<Written, FileFault>) -> Result<(), Stop>
+pub(crate) fn sealing_end(sealed: Result<Written, FileFault>) -> Result<(), Interruption>
     ensures { result ≡ sealing_end sealed }
 {
     match sealed {
         Ok(_) => Ok(()),
-        Err(fault) => Err(Stop {
+        Err(fault) => Err(Interruption {
             fault,
             position: None,
             is_untouched: is_memory(fault),
@@ -60,12 +60,12 @@ pub(crate) fn sealing_end(sealed: Result<Written, FileFault>) -> Result<(), Stop
 }
 
 /// How a decryption ended.
-pub(crate) fn opening_end(opened: Result<Done, Stopped>) -> Result<(), Stop>
+pub(crate) fn opening_end(opened: Result<Done, Stopped>) -> Result<(), Interruption>
     ensures { result ≡ opening_end opened }
 {
     match opened {
         Ok(_) => Ok(()),
-        Err(stopped) => Err(Stop {
+        Err(stopped) => Err(Interruption {
             fault: stopped.fault,
             position: stopped.position,
             is_untouched: stopped.written == 0,
@@ -81,13 +81,13 @@ pub(crate) fn save<F: FileSet>(
     position: Option<Position>,
     durability: Durability,
 ) -> Result<(), FileFault>
-    ensures saved { OnOk result (F.shows_bytes ≡ true → Saves (text_of name.entry) position
+    ensures saved { OnOk result (F.shows_bytes ≡ true → Saves (option_text name.entry) position
         (F.view files.old).entries (F.view files.new).entries) }
-    ensures unsaved { IfErr result (λ second. SaveFails (text_of name.entry) position
+    ensures unsaved { IfErr result (λ second. SaveFails (option_text name.entry) position
         (F.view files.old).entries (F.view files.new).entries second) }
-    ensures noted { Follows (replacing (text_of name.entry) durability)
+    ensures noted { Follows (replacing (option_text name.entry) durability)
         (F.view files.old).events (F.view files.new).events }
-    ensures others { F.shows_bytes ≡ true → SparesBoth None (text_of name.entry)
+    ensures others { F.shows_bytes ≡ true → SparesBoth None (option_text name.entry)
         (F.view files.old).entries (F.view files.new).entries }
 {
     let (Some(name), Some(position)) = (name, position) else {
@@ -103,18 +103,18 @@ pub(crate) fn end_of<F: FileSet, E: Sink>(
     alloc: Global,
     files: &mut F,
     name: Option<&str>,
-    stop: Stop,
+    stop: Interruption,
     durability: Durability,
     faults: &mut E,
     announced: &mut Announcement,
 ) -> Ending
     ensures announced { Announces announced.new result (E.view faults.old) (E.view faults.new) ⊥ }
     ensures fault { is_usage result ≡ false }
-    ensures ends { F.shows_bytes ≡ true → EndsOf stop.fault (text_of name.entry) stop.position
+    ensures ends { F.shows_bytes ≡ true → EndsOf stop.fault (option_text name.entry) stop.position
         (F.view files.old).entries (F.view files.new).entries result }
-    ensures noted { Follows (replacing (text_of name.entry) durability)
+    ensures noted { Follows (replacing (option_text name.entry) durability)
         (F.view files.old).events (F.view files.new).events }
-    ensures others { F.shows_bytes ≡ true → SparesBoth None (text_of name.entry)
+    ensures others { F.shows_bytes ≡ true → SparesBoth None (option_text name.entry)
         (F.view files.old).entries (F.view files.new).entries }
 {
     *announced = announce(faults, stop.fault);
