@@ -1,8 +1,8 @@
-pub mod ReaderSteps
-pub mod CallSteps
-pub mod CallFaults
-pub mod FirstWrong
-pub mod CallsWritten
-pub mod StreamSteps
-pub mod WriterSteps
-pub mod FrontSize
+pub mod ReaderLemmas
+pub mod CallLemmas
+pub mod CallFaultLemmas
+pub mod FirstWrongLemmas
+pub mod CallsWrittenLemmas
+pub mod StreamLemmas
+pub mod WriterLemmas
+pub mod FrontSizeLemmas

@@ -1,3 +1,3 @@
-pub mod Nonces
-pub mod BytesLaw
-pub mod FirstChunks
+pub mod NonceLemmas
+pub mod BeyondLemmas
+pub mod FirstChunkLemmas

@@ -28,7 +28,7 @@ pub(crate) struct Again<S: Source> {
 }
 
 /// The position of a stop, by reading the input once more.
-#[tactic(auto, using(crate::proofs::RereadSteps::finds_so, crate::proofs::RereadSteps::fails_so))]
+#[tactic(auto, using(crate::proofs::RereadLemmas::finds_so, crate::proofs::RereadLemmas::fails_so))]
 fn find_again<F: FileSet, P: Meter>(
     alloc: Global,
     files: &F,

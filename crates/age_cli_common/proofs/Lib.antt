@@ -1,3 +1,3 @@
-pub mod Cuts
-pub mod EventSteps
-pub mod ChoiceSteps
+pub mod CutLemmas
+pub mod EventLemmas
+pub mod ChoiceLemmas

@@ -131,7 +131,7 @@ fn fault_again(fault: FileFault) -> FileFault
 /// more of it is read than the chunk after them takes.
 ///
 /// It refuses with `Memory` (28), and with `Read` (26) where the second reading ends elsewhere.
-#[tactic(auto, using(crate::proofs::AgainSteps::ended_again, crate::proofs::AgainSteps::stopped_elsewhere))]
+#[tactic(auto, using(crate::proofs::AgainLemmas::ended_again, crate::proofs::AgainLemmas::stopped_elsewhere))]
 pub fn position_after<U: Unlock, S: Source>(
     alloc: Global,
     unlock: &U,

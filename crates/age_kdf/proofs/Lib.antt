@@ -1,3 +1,3 @@
 pub mod MapLemmas
 pub mod BlockLemmas
-pub mod Keys
+pub mod KeyLemmas

@@ -14,10 +14,10 @@ use Rattle.age_stanza.specs.declared.header.Header.{Header}
 use Rattle.age_stanza.specs.declared.header.Stanza.{Stanza}
 use Rattle.age_stanza.specs.Text.{base64_text}
 use Rattle.age_stanza.specs.Grammar.{line, in_lines, stanza_text, head_text, IsStanza, HasText}
-use Rattle.age_stanza.proofs.Lines.{IsVisible}
-use Rattle.age_stanza.proofs.Elements.{visible_from_test}
-use Rattle.age_stanza.proofs.TextLengths.{length-body, length-head}
-use Rattle.age_stanza.proofs.Texts.{the_symbols, text-symbols, length-text}
+use Rattle.age_stanza.proofs.LineLemmas.{IsVisible}
+use Rattle.age_stanza.proofs.ElementLemmas.{visible_from_test}
+use Rattle.age_stanza.proofs.TextLengthLemmas.{length-body, length-head}
+use Rattle.age_stanza.proofs.TextLemmas.{the_symbols, text-symbols, length-text}
 use Rattle.age_keys.specs.Keys.{header_mac, wrapped_key}
 use Rattle.age_keys.specs.Scrypt.{wrap_key, scrypt_stanza, scrypt_head}
 

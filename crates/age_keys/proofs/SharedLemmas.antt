@@ -5,7 +5,7 @@ use Rattle.std.specs.Prelude.{IfNone}
 use Rattle.std.specs.List.{AllByRecursion}
 use Rattle.std.proofs.lemmas.List.{take_more, drop_more, take-append-drop}
 use Rattle.age_stanza.specs.declared.header.Stanza.{Stanza}
-use Rattle.age_stanza.proofs.Lines.{All-append}
+use Rattle.age_stanza.proofs.LineLemmas.{All-append}
 use Rattle.age_keys.specs.Keys.{wrapped_key}
 use Rattle.age_keys.specs.X25519.{IsX25519Stanza, Shared, shared_wrap_key, StaysShut}
 use Rattle.age_stanza.proofs.Base64Lemmas.{one_text}

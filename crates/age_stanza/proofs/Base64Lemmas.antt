@@ -3,7 +3,7 @@ use Rattle.std.proofs.Common.{◌≡◌, ℕ, ◌+◌, ◌*◌, ◌/◌, ◌≤�
 use Rattle.std.proofs.Common.{sym, ap, ◌∙◌, arith, length-take}
 use Rattle.std.specs.Result.{result_unwrap_or}
 use Rattle.base64.specs.declared.decode.DecodeError.{DecodeError}
-use Rattle.age_stanza.proofs.Texts.{length-text}
+use Rattle.age_stanza.proofs.TextLemmas.{length-text}
 use Rattle.base64.specs.GeneralPurpose.{IsBytes, decode_of}
 use Rattle.base64.specs.Engines.{standard_no_pad}
 use Rattle.base64.proofs.EngineFacts.{decode_of-encode_of, decode_of_strict}

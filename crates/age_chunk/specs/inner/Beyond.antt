@@ -1,5 +1,5 @@
 -- How a box that meets its law only on bytes, as one made of tables does, is continued to all lists
--- of numbers. `proofs/BytesLaw.antt` proves that it then meets the law of `ChunkBox`. No code cites
+-- of numbers. `proofs/BeyondLemmas.antt` proves that it then meets the law of `ChunkBox`. No code cites
 -- this: it shows that the law asks no more of a box than what it does with bytes.
 use Rattle.std.specs.Prelude.{◌≡◌, ℕ, ◌+◌, List, ◌++◌, length, take, replicate, Some}
 use Rattle.std.specs.Prelude.{None, nat_lt, nat_le, ◌&&◌, Bool, true, not, if◌then◌else◌}

@@ -2,7 +2,7 @@ use Rattle.std.proofs.Common.{◌≡◌, ap, refl, ◌∙◌}
 use Rattle.age_stream.specs.Segment.{with_piece}
 use Rattle.age_stream.specs.Opener.{has_failed}
 use Rattle.age_c.specs.Calls.{answer_of}
-use Rattle.age_c.proofs.ReaderSteps.{opener_of, block_at, text_at, nothing_of}
+use Rattle.age_c.proofs.ReaderLemmas.{opener_of, block_at, text_at, nothing_of}
 use Rattle.std.proofs.Common.{take}
 use Rattle.age_c.proofs.blocks.open_block.Goals as goal
 

@@ -4,7 +4,7 @@ use Rattle.age_stream.specs.Segment.{released}
 use Rattle.age_chunk.specs.Payload.{chunk_length}
 use Rattle.age_c.specs.inner.Keys.{opens}
 use Rattle.age_c.specs.Calls.{answer_of}
-use Rattle.age_c.proofs.ReaderSteps.{opener_of, end_at, end_text, nothing_of, done_of}
+use Rattle.age_c.proofs.ReaderLemmas.{opener_of, end_at, end_text, nothing_of, done_of}
 use Rattle.age_c.proofs.blocks.open_last.Goals as goal
 
 pub returns-clause-takes : goal.returns-clause-takes

@@ -1,7 +1,7 @@
 use Rattle.std.proofs.Common.{◌≡◌, ◌≢◌, [], refl, take}
 use Rattle.age_stream.specs.Segment.{with_piece}
 use Rattle.age_stream.specs.declared.step.Status.TheVariants.{Open}
-use Rattle.age_c.proofs.ReaderSteps.{opener_of, rest_at, text_at}
+use Rattle.age_c.proofs.ReaderLemmas.{opener_of, rest_at, text_at}
 use Rattle.age_c.proofs.blocks.refuse_more.Goals as goal
 
 pub returns-clause-takes : goal.returns-clause-takes

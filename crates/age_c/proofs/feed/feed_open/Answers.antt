@@ -6,7 +6,7 @@ use Rattle.age_c.specs.Readers.{TakesBlock, after_block}
 use Rattle.age_c.specs.declared.reader.Reader.{Reader}
 use Rattle.age_c.specs.declared.stream.Stream.{Stream}
 use Rattle.age_c.specs.Streams.{held_of}
-use Rattle.age_c.proofs.StreamSteps.{feeds_part, feeds_whole}
+use Rattle.age_c.proofs.StreamLemmas.{feeds_part, feeds_whole}
 use Rattle.age_c.proofs.feed.feed_open.Goals as goal
 
 pub returns-then-held-lt-BLOCK_LEN-clause-feeds : goal.returns-then-held-lt-BLOCK_LEN-clause-feeds

@@ -1,4 +1,4 @@
-use Rattle.age_c.proofs.CallSteps.{answers_are_calls}
+use Rattle.age_c.proofs.CallLemmas.{answers_are_calls}
 use Rattle.age_c.proofs.laws.answers_are_calls.Goals as goal
 
 pub returns : goal.returns

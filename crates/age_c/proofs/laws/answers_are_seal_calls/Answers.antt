@@ -1,4 +1,4 @@
-use Rattle.age_c.proofs.WriterSteps.{answers_are_seal_calls}
+use Rattle.age_c.proofs.WriterLemmas.{answers_are_seal_calls}
 use Rattle.age_c.proofs.laws.answers_are_seal_calls.Goals as goal
 
 pub returns : goal.returns

@@ -1,4 +1,4 @@
-use Rattle.age_c.proofs.WriterSteps.{calls_are_payload}
+use Rattle.age_c.proofs.WriterLemmas.{calls_are_payload}
 use Rattle.age_c.proofs.laws.calls_are_payload.Goals as goal
 
 pub returns : goal.returns

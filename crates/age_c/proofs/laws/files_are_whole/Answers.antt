@@ -1,4 +1,4 @@
-use Rattle.age_c.proofs.WriterSteps.{files_are_whole}
+use Rattle.age_c.proofs.WriterLemmas.{files_are_whole}
 use Rattle.age_c.proofs.laws.files_are_whole.Goals as goal
 
 pub returns : goal.returns

@@ -1,5 +1,5 @@
 use Rattle.std.proofs.Common.{refl, take}
-use Rattle.age_c.proofs.WriterSteps.{seals_last}
+use Rattle.age_c.proofs.WriterLemmas.{seals_last}
 use Rattle.age_c.proofs.sealing.seal_last.Goals as goal
 
 pub returns-clause-sealed : goal.returns-clause-sealed

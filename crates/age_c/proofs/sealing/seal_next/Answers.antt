@@ -1,5 +1,5 @@
 use Rattle.std.proofs.Common.{refl, take}
-use Rattle.age_c.proofs.WriterSteps.{seals_chunk}
+use Rattle.age_c.proofs.WriterLemmas.{seals_chunk}
 use Rattle.age_c.proofs.sealing.seal_next.Goals as goal
 
 pub returns-clause-sealed : goal.returns-clause-sealed

@@ -1,6 +1,6 @@
 use Rattle.std.proofs.Common.{ap, sym, refl}
 use Rattle.age_stream.specs.Segment.{Outcome}
-use Rattle.age_stream.proofs.Fresh.{fresh_outcome, fresh_rest}
+use Rattle.age_stream.proofs.FreshLemmas.{fresh_outcome, fresh_rest}
 use Rattle.std.specs.Prelude.{Some}
 use Rattle.age_c.specs.inner.Keys.{opens}
 use Rattle.age_keys.specs.Keys.{payload_key}

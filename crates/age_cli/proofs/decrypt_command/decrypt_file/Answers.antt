@@ -9,11 +9,11 @@ use Rattle.age_cli_common.specs.Endings.{SourceFails}
 use Rattle.age_cli_common.specs.declared.ending.Ending.{Ending}
 use Rattle.age_cli_common.specs.declared.ending.Ending.TheVariants.{Usage}
 use Rattle.age_cli.specs.Acts.{paths_of}
-use Rattle.age_cli.proofs.CommandSteps.{in_order, reason_at, some_files}
-use Rattle.age_cli.proofs.ReportSteps.{unmade}
-use Rattle.age_cli.proofs.ActSteps.{acts_early}
-use Rattle.age_cli.proofs.FinalSteps.{Found, decrypt_acts}
-use Rattle.age_cli_common.proofs.EventSteps.{longer, none_done, then_did, then_follows}
+use Rattle.age_cli.proofs.CommandLemmas.{in_order, reason_at, some_files}
+use Rattle.age_cli.proofs.ReportLemmas.{unmade}
+use Rattle.age_cli.proofs.ActLemmas.{acts_early}
+use Rattle.age_cli.proofs.FinalLemmas.{Found, decrypt_acts}
+use Rattle.age_cli_common.proofs.EventLemmas.{longer, none_done, then_did, then_follows}
 use Rattle.age_cli.proofs.decrypt_command.decrypt_file.Goals as goal
 
 pub returns-in_err-choice-clause-acts : goal.returns-in_err-choice-clause-acts

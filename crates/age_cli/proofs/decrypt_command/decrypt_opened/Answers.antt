@@ -1,7 +1,7 @@
 use Rattle.std.proofs.Common.{◌∙◌, sym, refl}
 use Rattle.age_file.specs.Runs.{ports}
 use Rattle.age_io.specs.Io.{IsOver}
-use Rattle.age_cli.proofs.RereadSteps.{again_is, keyed_as, opened_again, opened_once, over_again}
+use Rattle.age_cli.proofs.RereadLemmas.{again_is, keyed_as, opened_again, opened_once, over_again}
 use Rattle.age_cli.proofs.decrypt_command.decrypt_opened.Goals as goal
 
 pub conclude_again-requires : goal.conclude_again-requires

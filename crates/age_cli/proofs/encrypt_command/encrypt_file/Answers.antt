@@ -9,11 +9,11 @@ use Rattle.age_cli_common.specs.Endings.{SourceFails}
 use Rattle.age_cli_common.specs.declared.ending.Ending.{Ending}
 use Rattle.age_cli_common.specs.declared.ending.Ending.TheVariants.{Usage}
 use Rattle.age_cli.specs.Acts.{Paths}
-use Rattle.age_cli.proofs.CommandSteps.{reason_at}
-use Rattle.age_cli.proofs.ReportSteps.{unmade}
-use Rattle.age_cli.proofs.ActSteps.{acts_early, shown_not_silent}
-use Rattle.age_cli.proofs.FinalSteps.{Found, encrypt_acts}
-use Rattle.age_cli_common.proofs.EventSteps.{longer, then_did, then_follows}
+use Rattle.age_cli.proofs.CommandLemmas.{reason_at}
+use Rattle.age_cli.proofs.ReportLemmas.{unmade}
+use Rattle.age_cli.proofs.ActLemmas.{acts_early, shown_not_silent}
+use Rattle.age_cli.proofs.FinalLemmas.{Found, encrypt_acts}
+use Rattle.age_cli_common.proofs.EventLemmas.{longer, then_did, then_follows}
 use Rattle.age_cli.proofs.encrypt_command.encrypt_file.Goals as goal
 
 pub returns-in_err-material-clause-acts : goal.returns-in_err-material-clause-acts

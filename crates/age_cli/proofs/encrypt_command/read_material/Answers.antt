@@ -8,9 +8,9 @@ use Rattle.age_cli_common.specs.Orders.{random_name}
 use Rattle.age_cli_common.specs.Files.{Files}
 use Rattle.age_keys.specs.Scrypt.{IsAllowed}
 use Rattle.age_cli.specs.Commands.{IsRandomIn}
-use Rattle.age_cli.proofs.CommandSteps.{no_value, not_well, this_error, created_fault}
-use Rattle.age_cli.proofs.CommandSteps.{streams_early, streams_reason, reason_at}
-use Rattle.age_cli_common.proofs.EventSteps.{followed, none_done, then_did}
+use Rattle.age_cli.proofs.CommandLemmas.{no_value, not_well, this_error, created_fault}
+use Rattle.age_cli.proofs.CommandLemmas.{streams_early, streams_reason, reason_at}
+use Rattle.age_cli_common.proofs.EventLemmas.{followed, none_done, then_did}
 use Rattle.age_cli.proofs.encrypt_command.read_material.Goals as goal
 
 pub returns-then-names_out_twice : goal.returns-then-names_out_twice

@@ -3,7 +3,7 @@ use Rattle.age_keys.specs.Scrypt.{PassphraseIdentity}
 use Rattle.age_cli_common.specs.declared.ending.Ending.{Ending}
 use Rattle.age_cli_common.specs.declared.ending.Ending.TheVariants.{Usage}
 use Rattle.age_cli_common.specs.declared.identity.Identity.TheVariants.{ByPassphrase}
-use Rattle.age_cli.proofs.CommandSteps.{this_error}
+use Rattle.age_cli.proofs.CommandLemmas.{this_error}
 use Rattle.age_cli.proofs.encrypt_command.read_pass.Goals as goal
 
 pub returns-in_err-identity-clause-refused : goal.returns-in_err-identity-clause-refused

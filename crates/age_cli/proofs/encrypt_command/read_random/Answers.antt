@@ -4,9 +4,9 @@ use Rattle.std.proofs.lemmas.Result.{IfOk-weaker, IfErr-weaker}
 use Rattle.age_cli_common.specs.Endings.{EndsEarly}
 use Rattle.age_cli_common.specs.declared.ending.Ending.{Ending}
 use Rattle.age_cli_common.specs.inner.Endings.{ending_of}
-use Rattle.age_cli.proofs.CommandSteps.{no_value, this_error, created_fault, last_missing}
-use Rattle.age_cli.proofs.CommandSteps.{opened_early, open_reason, front_read}
-use Rattle.age_cli.proofs.EncryptionSteps.{too_few}
+use Rattle.age_cli.proofs.CommandLemmas.{no_value, this_error, created_fault, last_missing}
+use Rattle.age_cli.proofs.CommandLemmas.{opened_early, open_reason, front_read}
+use Rattle.age_cli.proofs.EncryptionLemmas.{too_few}
 use Rattle.age_cli.proofs.encrypt_command.read_random.Goals as goal
 
 pub returns-in_err-source : goal.returns-in_err-source

@@ -1,4 +1,4 @@
-use Rattle.age_cli.proofs.ObeySteps.{no_help, refused_unprinted, reported_accepts}
+use Rattle.age_cli.proofs.ObeyLemmas.{no_help, refused_unprinted, reported_accepts}
 use Rattle.age_cli.proofs.laws.refusals_are_silent.Goals as goal
 
 pub returns-clause-declined : goal.returns-clause-declined

@@ -1,6 +1,6 @@
 use Rattle.std.proofs.Common.{refl, true}
-use Rattle.age_cli.proofs.HeadlineSteps.{headline_of, resumed_headline_of}
-use Rattle.age_cli.proofs.ReportSteps.{failed_by}
+use Rattle.age_cli.proofs.HeadlineLemmas.{headline_of, resumed_headline_of}
+use Rattle.age_cli.proofs.ReportLemmas.{failed_by}
 use Rattle.age_cli.proofs.laws.runs_keep_out.Goals as goal
 
 pub returns : goal.returns

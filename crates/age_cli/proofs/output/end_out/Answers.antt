@@ -3,8 +3,8 @@ use Rattle.std.specs.Prelude.{IsOk}
 use Rattle.age_cli_common.specs.Files.{Files}
 use Rattle.age_cli.specs.declared.interruption.Interruption.{Interruption}
 use Rattle.age_cli.specs.inner.Endings.{IsFaithful, Left}
-use Rattle.age_cli.proofs.CommandSteps.{not_well, this_error}
-use Rattle.age_cli.proofs.EngineSteps.{left_as}
+use Rattle.age_cli.proofs.CommandLemmas.{not_well, this_error}
+use Rattle.age_cli.proofs.EngineLemmas.{left_as}
 use Rattle.age_cli.proofs.output.end_out.Goals as goal
 
 pub returns-in_ok-close-in-Ok : goal.returns-in_ok-close-in-Ok

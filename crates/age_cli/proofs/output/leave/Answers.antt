@@ -1,5 +1,5 @@
 use Rattle.std.proofs.Common.{◌∙◌, ⊎_elim, inl, inr, sym, true≢false}
-use Rattle.age_cli.proofs.CommandSteps.{either_way}
+use Rattle.age_cli.proofs.CommandLemmas.{either_way}
 use Rattle.age_cli.proofs.output.leave.Goals as goal
 
 pub returns-then-is_untouched : goal.returns-then-is_untouched

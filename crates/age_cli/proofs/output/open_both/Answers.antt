@@ -5,9 +5,9 @@ use Rattle.age_cli_common.specs.Orders.{preparing, making}
 use Rattle.age_cli_common.specs.Endings.{EndsEarly, SourceFails}
 use Rattle.age_cli_common.specs.declared.ending.Ending.{Ending}
 use Rattle.age_cli_common.specs.inner.Endings.{ending_of}
-use Rattle.age_cli.proofs.CommandSteps.{no_value, not_well, this_error, an_error, created_fault}
-use Rattle.age_cli.proofs.CommandSteps.{last_missing, opened_early, open_reason, reason_at}
-use Rattle.age_cli_common.proofs.EventSteps.{followed, longer, then_did, then_follows}
+use Rattle.age_cli.proofs.CommandLemmas.{no_value, not_well, this_error, an_error, created_fault}
+use Rattle.age_cli.proofs.CommandLemmas.{last_missing, opened_early, open_reason, reason_at}
+use Rattle.age_cli_common.proofs.EventLemmas.{followed, longer, then_did, then_follows}
 use Rattle.age_cli.proofs.output.open_both.Goals as goal
 
 pub returns-in_err-source : goal.returns-in_err-source

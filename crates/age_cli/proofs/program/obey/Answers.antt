@@ -4,9 +4,9 @@ use Rattle.clap.specs.Walk.{texts}
 use Rattle.age_cli_args.specs.Requests.{Requests}
 use Rattle.age_cli_args.specs.declared.request.Request.TheVariants.{Inspect, Encrypt, Decrypt}
 use Rattle.age_cli_args.specs.declared.request.Request.TheVariants.{Resume, Drill}
-use Rattle.age_cli.proofs.ObeySteps.{no_words, some_words, asked_fails, report_fault, for_help}
-use Rattle.age_cli.proofs.ObeySteps.{help_done, help_fails, both_done, drill_acts, inspect_acts}
-use Rattle.age_cli.proofs.ReportSteps.{unmade}
+use Rattle.age_cli.proofs.ObeyLemmas.{no_words, some_words, asked_fails, report_fault, for_help}
+use Rattle.age_cli.proofs.ObeyLemmas.{help_done, help_fails, both_done, drill_acts, inspect_acts}
+use Rattle.age_cli.proofs.ReportLemmas.{unmade}
 use Rattle.age_cli.proofs.program.obey.Goals as goal
 
 pub returns-then-is_empty-clause-obeys : goal.returns-then-is_empty-clause-obeys

@@ -1,4 +1,4 @@
-use Rattle.age_cli.proofs.NameSteps.{resumed, position_out, old_in, old_out, save_old}
+use Rattle.age_cli.proofs.NameLemmas.{resumed, position_out, old_in, old_out, save_old}
 use Rattle.age_cli.proofs.resume_command.names_one_twice.Goals as goal
 
 pub returns-then-names_a_file_twice-clause-shown : goal.returns-then-names_a_file_twice-clause-shown

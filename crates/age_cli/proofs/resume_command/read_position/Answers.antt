@@ -1,5 +1,5 @@
 use Rattle.std.proofs.Common.{inl}
-use Rattle.age_cli.proofs.CommandSteps.{no_value, this_error, not_bad}
+use Rattle.age_cli.proofs.CommandLemmas.{no_value, this_error, not_bad}
 use Rattle.age_cli.proofs.resume_command.read_position.Goals as goal
 
 pub returns-in_err-text : goal.returns-in_err-text

@@ -14,12 +14,12 @@ use Rattle.age_fault.specs.declared.fault.FileFault.TheVariants.{BadPosition}
 use Rattle.age_fileset.specs.declared.files.OpenFault.TheVariants as create
 use Rattle.age_cli.specs.Acts.{paths_of}
 use Rattle.age_cli.specs.Commands.{HoldsNoPosition}
-use Rattle.age_cli.proofs.ReportSteps.{unmade}
-use Rattle.age_cli.proofs.ActSteps.{acts_early, shown_not_silent}
-use Rattle.age_cli.proofs.CommandSteps.{bad_position, in_order, position_fault, position_reason}
-use Rattle.age_cli.proofs.CommandSteps.{reason_at, some_files}
-use Rattle.age_cli.proofs.FinalSteps.{Found, WasEarlier, resume_acts}
-use Rattle.age_cli_common.proofs.EventSteps.{longer, none_done, then_did, then_follows}
+use Rattle.age_cli.proofs.ReportLemmas.{unmade}
+use Rattle.age_cli.proofs.ActLemmas.{acts_early, shown_not_silent}
+use Rattle.age_cli.proofs.CommandLemmas.{bad_position, in_order, position_fault, position_reason}
+use Rattle.age_cli.proofs.CommandLemmas.{reason_at, some_files}
+use Rattle.age_cli.proofs.FinalLemmas.{Found, WasEarlier, resume_acts}
+use Rattle.age_cli_common.proofs.EventLemmas.{longer, none_done, then_did, then_follows}
 use Rattle.age_cli.proofs.resume_command.resume_file.Goals as goal
 
 pub returns-in_err-choice-clause-acts : goal.returns-in_err-choice-clause-acts

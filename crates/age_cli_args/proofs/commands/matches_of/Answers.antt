@@ -5,7 +5,7 @@ use Rattle.clap.specs.Walk.{texts}
 use Rattle.clap.proofs.FaultLemmas.{fails_as}
 use Rattle.age_cli_args.specs.Commands.{age_tool}
 use Rattle.age_cli_args.specs.Requests.{named, refusals}
-use Rattle.age_cli_args.proofs.Simple.{is_simple-age_tool, is_free-age_tool}
+use Rattle.age_cli_args.proofs.SimpleLemmas.{is_simple-age_tool, is_free-age_tool}
 use Rattle.age_cli_args.proofs.commands.matches_of.Goals as goal
 
 pub returns-clause-matches : goal.returns-clause-matches

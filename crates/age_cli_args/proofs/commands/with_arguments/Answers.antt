@@ -1,7 +1,7 @@
 use Rattle.std.proofs.Common.{◌∙◌, sym, ap}
 use Rattle.clap.specs.Words.{App}
 use Rattle.age_cli_args.specs.inner.Commands.{with_all}
-use Rattle.age_cli_args.proofs.Arguments.{add_one, add_none, neither}
+use Rattle.age_cli_args.proofs.ArgumentLemmas.{add_one, add_none, neither}
 use Rattle.age_cli_args.proofs.commands.with_arguments.Goals as goal
 
 pub loop-argument-init : goal.loop-argument-init

@@ -1,7 +1,7 @@
 use Rattle.std.proofs.Common.{◌∙◌, sym, ap, refl}
 use Rattle.clap.specs.Words.{App}
 use Rattle.age_cli_args.specs.inner.Commands.{with_subcommands}
-use Rattle.age_cli_args.proofs.Arguments.{add_command, no_command_left}
+use Rattle.age_cli_args.proofs.ArgumentLemmas.{add_command, no_command_left}
 use Rattle.age_cli_args.proofs.commands.with_commands.Goals as goal
 
 pub loop-sub-init : goal.loop-sub-init

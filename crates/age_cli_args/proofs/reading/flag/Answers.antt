@@ -5,7 +5,7 @@ use Rattle.std.specs.Str.Parse.{ParsesBool}
 use Rattle.clap.specs.Words.{Text, found_of, one_text}
 use Rattle.clap.proofs.WalkLemmas.{one_text-rows}
 use Rattle.std.specs.Prelude.{Option}
-use Rattle.age_cli_args.proofs.Flags.{flag_read}
+use Rattle.age_cli_args.proofs.FlagLemmas.{flag_read}
 use Rattle.age_cli_args.proofs.reading.flag.Goals as goal
 
 pub returns : goal.returns

@@ -1,6 +1,6 @@
 use Rattle.std.proofs.Common.{take, arith, ap, length}
 use Rattle.std.proofs.lemmas.List.{length-append, length-take}
-use Rattle.age_fault.proofs.Bytes.{Consumes-then}
+use Rattle.age_fault.proofs.ByteLemmas.{Consumes-then}
 use Rattle.age_cli_common.proofs.first_bytes.fill_first.Goals as goal
 
 pub pieces-preserved : goal.pieces-preserved

@@ -1,4 +1,4 @@
-use Rattle.age_fault.proofs.Bytes.{risen}
+use Rattle.age_fault.proofs.ByteLemmas.{risen}
 use Rattle.age_cli_common.proofs.first_bytes.pull_some.Goals as goal
 
 pub returns-in-Err-clause-failed : goal.returns-in-Err-clause-failed

@@ -1,6 +1,6 @@
 use Rattle.std.proofs.Common.{◌∙◌, ◌++◌, ap, sym, subst, arith, List, ℕ, length, Some}
 use Rattle.age_cli_common.specs.Identities.{IsSharedIn}
-use Rattle.age_cli_common.proofs.Cuts.{cut_in_two, front_length}
+use Rattle.age_cli_common.proofs.CutLemmas.{cut_in_two, front_length}
 use Rattle.age_cli_common.proofs.identity.shared_of.Goals as goal
 
 pub returns-clause-some : goal.returns-clause-some

@@ -6,7 +6,7 @@ use Rattle.age_stream.specs.Sealer.{Holds, step_len}
 use Rattle.age_stream.specs.Opener.{chunk_bytes}
 use Rattle.age_chunk.specs.Payload.{sealed_before_last, block_bytes, payload, chunk_length}
 use Rattle.std.proofs.lemmas.Bool.Decides.{nat_tests}
-use Rattle.age_fault.proofs.Bytes.{Appends-then}
+use Rattle.age_fault.proofs.ByteLemmas.{Appends-then}
 use Rattle.age_examples.proofs.sealing.seal_to.Goals as goal
 
 step_len_le : (m : ℕ) (held piece : List ℕ) → step_len m held piece ≤ length piece

@@ -1,5 +1,5 @@
 use Rattle.std.proofs.Common.{◌≡◌, ◌+◌, ◌∷◌, [], ℕ, length, ap, arith, refl, rules, Some}
-use Rattle.age_file.proofs.AgainSteps.{found_again, stopped_before}
+use Rattle.age_file.proofs.AgainLemmas.{found_again, stopped_before}
 use Rattle.age_file.proofs.again.position_after.Goals as goal
 
 pub returns-in-None : goal.returns-in-None

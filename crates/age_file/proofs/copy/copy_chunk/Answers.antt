@@ -9,10 +9,10 @@ use Rattle.age_stream.specs.Headline.{IsPrefixOf}
 use Rattle.age_fault.specs.Faults.{HasFailed}
 use Rattle.age_file.specs.inner.Bindings.{link_if}
 use Rattle.age_file.specs.inner.Readers.{reader_view, view_of_reader, view_of_writer}
-use Rattle.age_fault.proofs.Bytes.{Appends-then}
-use Rattle.age_file.proofs.StartSteps.{uses_front}
-use Rattle.age_file.proofs.SkipSteps.{passes_then, passes_same, dries_same}
-use Rattle.age_file.proofs.CopySteps.{copy_dry, all_out, front_written}
+use Rattle.age_fault.proofs.ByteLemmas.{Appends-then}
+use Rattle.age_file.proofs.StartLemmas.{uses_front}
+use Rattle.age_file.proofs.SkipLemmas.{passes_then, passes_same, dries_same}
+use Rattle.age_file.proofs.CopyLemmas.{copy_dry, all_out, front_written}
 use Rattle.age_file.proofs.copy.copy_chunk.Goals as goal
 
 pub parts-init : goal.parts-init

@@ -5,9 +5,9 @@ use Rattle.std.proofs.lemmas.List.{length-append}
 use Rattle.std.specs.Simd.{first_chunks}
 use Rattle.age_file.specs.inner.Bindings.{chain_if, link_if}
 use Rattle.age_file.specs.declared.position.PositionPolicy.TheVariants.{Kept}
-use Rattle.age_fault.proofs.Bytes.{Appends-then}
-use Rattle.age_file.proofs.SkipSteps.{passes_then}
-use Rattle.age_file.proofs.CopySteps.{chain_more, chunk_failed}
+use Rattle.age_fault.proofs.ByteLemmas.{Appends-then}
+use Rattle.age_file.proofs.SkipLemmas.{passes_then}
+use Rattle.age_file.proofs.CopyLemmas.{chain_more, chunk_failed}
 use Rattle.std.proofs.KnownBytes.{Appends-nil}
 use Rattle.age_file.specs.inner.Readers.{view_of_reader, view_of_writer}
 use Rattle.age_chunk.specs.Payload.{chunk_length}

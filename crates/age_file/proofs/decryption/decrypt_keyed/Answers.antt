@@ -1,11 +1,11 @@
 use Rattle.std.proofs.Common.{◌++◌, arith, refl, rules, Err, None, Some, subst, List, ℕ, ◌≡◌}
 use Rattle.std.proofs.lemmas.List.{length-append}
-use Rattle.age_file.proofs.Bytes.{stops_unread}
+use Rattle.age_file.proofs.ByteLemmas.{stops_unread}
 use Rattle.age_file.specs.Runs.{ports}
 use Rattle.age_file.specs.inner.Readers.{writer_view, stage, view_of_reader, stage_of}
 use Rattle.age_file.specs.Decrypts.{DecryptsKeyed}
-use Rattle.age_file.proofs.ReaderSteps.{read_last, ports_last}
-use Rattle.age_file.proofs.DecryptSteps.{decrypted, run_ended, stopped_early}
+use Rattle.age_file.proofs.ReaderLemmas.{read_last, ports_last}
+use Rattle.age_file.proofs.DecryptLemmas.{decrypted, run_ended, stopped_early}
 use Rattle.age_fault.specs.declared.fault.FileFault.TheVariants.{Memory}
 use Rattle.age_file.proofs.decryption.decrypt_keyed.Goals as goal
 

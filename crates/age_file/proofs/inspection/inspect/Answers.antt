@@ -10,8 +10,8 @@ use Rattle.age_io.specs.Io.{SourceView}
 use Rattle.age_file.specs.inner.Unread.{Unread}
 use Rattle.age_fault.specs.declared.fault.FileFault.{FileFault}
 use Rattle.age_fault.specs.declared.fault.FileFault.TheVariants.{Read, ReadNeverEnds}
-use Rattle.age_file.proofs.Bytes.{stops_unread, sound_too, pull_fails_since}
-use Rattle.age_file.proofs.ReaderSteps.{read_last}
+use Rattle.age_file.proofs.ByteLemmas.{stops_unread, sound_too, pull_fails_since}
+use Rattle.age_file.proofs.ReaderLemmas.{read_last}
 use Rattle.age_file.proofs.inspection.inspect.Goals as goal
 
 -- no more came of a source, whose bytes so far are sound

@@ -1,4 +1,4 @@
-use Rattle.age_file.proofs.CallSteps.{in_a_row}
+use Rattle.age_file.proofs.CallLemmas.{in_a_row}
 use Rattle.age_file.proofs.laws.calls_in_a_row.Goals as goal
 
 pub returns : goal.returns

@@ -1,4 +1,4 @@
-use Rattle.age_file.proofs.AgainLaw as again
+use Rattle.age_file.proofs.AgainLawLemmas as again
 use Rattle.age_file.proofs.laws.read_again.Goals as goal
 
 pub returns : goal.returns

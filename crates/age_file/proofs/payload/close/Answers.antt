@@ -4,8 +4,8 @@ use Rattle.std.proofs.KnownBytes.{Appends-nil}
 use Rattle.age_stream.specs.Segment.{released}
 use Rattle.age_file.specs.inner.Decrypts.{opens, seals}
 use Rattle.age_keys.specs.inner.PayloadBox.{box_valid}
-use Rattle.age_fault.proofs.Bytes.{answer_as}
-use Rattle.age_file.proofs.CountSteps.{mark_end}
+use Rattle.age_fault.proofs.ByteLemmas.{answer_as}
+use Rattle.age_file.proofs.CountLemmas.{mark_end}
 use Rattle.age_chunk.specs.Payload.{chunk_length}
 use Rattle.age_file.proofs.payload.close.Goals as goal
 

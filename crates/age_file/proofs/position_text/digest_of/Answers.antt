@@ -1,6 +1,6 @@
 use Rattle.std.proofs.Common.{arith}
 use Rattle.base64.specs.GeneralPurpose.{IsBytes}
-use Rattle.age_file.proofs.PositionTextSteps.{digest_read, digest_short, digest_none}
+use Rattle.age_file.proofs.PositionTextLemmas.{digest_read, digest_short, digest_none}
 use Rattle.age_file.proofs.position_text.digest_of.Goals as goal
 
 pub returns-in-Ok-clause-some : goal.returns-in-Ok-clause-some

@@ -1,6 +1,6 @@
 use Rattle.std.proofs.Common.{arith}
 use Rattle.std.proofs.lemmas.List.{length-take}
-use Rattle.age_file.proofs.PositionTextSteps.{first_field, second_field, third_field, fields_are}
+use Rattle.age_file.proofs.PositionTextLemmas.{first_field, second_field, third_field, fields_are}
 use Rattle.age_file.proofs.position_text.position_of.Goals as goal
 
 pub returns-in_err-digest_of-clause-none : goal.returns-in_err-digest_of-clause-none

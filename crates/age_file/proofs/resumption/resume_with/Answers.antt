@@ -4,10 +4,10 @@ use Rattle.age_file.specs.inner.Readers.{reader_view, writer_view, stage, view_o
 use Rattle.age_file.specs.inner.Readers.{view_of_writer, stage_of}
 use Rattle.age_file.specs.Runs.{ports}
 use Rattle.age_file.specs.Resumes.{resume_ports, ResumesText}
-use Rattle.age_file.proofs.ReaderSteps.{read_last, ports_last}
-use Rattle.age_file.proofs.Bytes.{stops_unread}
-use Rattle.age_file.proofs.ResumeSteps.{place_after, stopped_early, refused, copy_stopped}
-use Rattle.age_file.proofs.ResumeSteps.{skip_stopped, rest_ended}
+use Rattle.age_file.proofs.ReaderLemmas.{read_last, ports_last}
+use Rattle.age_file.proofs.ByteLemmas.{stops_unread}
+use Rattle.age_file.proofs.ResumeLemmas.{place_after, stopped_early, refused, copy_stopped}
+use Rattle.age_file.proofs.ResumeLemmas.{skip_stopped, rest_ended}
 use Rattle.age_file.proofs.resumption.resume_with.Goals as goal
 
 pub returns-in_default : goal.returns-in_default

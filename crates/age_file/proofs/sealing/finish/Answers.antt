@@ -1,5 +1,5 @@
 use Rattle.std.proofs.Common.{ap, ◌∙◌, ◌+◌, ◌-◌, ◌^◌, min, ℕ}
-use Rattle.age_fault.proofs.Bytes.{Appends-Keeps, answer_as}
+use Rattle.age_fault.proofs.ByteLemmas.{Appends-Keeps, answer_as}
 use Rattle.age_file.proofs.sealing.finish.Goals as goal
 
 pub returns-clause-sealed : goal.returns-clause-sealed

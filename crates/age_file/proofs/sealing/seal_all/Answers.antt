@@ -11,10 +11,10 @@ use Rattle.age_fault.specs.Faults.{HasFailed}
 use Rattle.age_file.specs.inner.Seals.{Wrote, front_of, SealingFails, SealsAll, SealsFront}
 use Rattle.age_file.specs.Runs.{ports}
 use Rattle.age_fault.specs.declared.fault.FileFault.{FileFault}
-use Rattle.age_file.proofs.Bytes.{cut_pulled}
-use Rattle.age_file.proofs.SealSteps.{front_small}
-use Rattle.age_file.proofs.SourceSteps.{front_begins, no_front, piece_done, piece_cut, pull_fails}
-use Rattle.age_file.proofs.SourceSteps.{seal_fails, last_written, last_begins, last_whole}
+use Rattle.age_file.proofs.ByteLemmas.{cut_pulled}
+use Rattle.age_file.proofs.SealLemmas.{front_small}
+use Rattle.age_file.proofs.SourceLemmas.{front_begins, no_front, piece_done, piece_cut, pull_fails}
+use Rattle.age_file.proofs.SourceLemmas.{seal_fails, last_written, last_begins, last_whole}
 use Rattle.age_chunk.specs.Payload.{block_length, chunk_length}
 use Rattle.age_file.proofs.sealing.seal_all.Goals as goal
 

@@ -1,7 +1,7 @@
 use Rattle.std.proofs.Common.{◌++◌, ◌∙◌, ap, List, ℕ}
 use Rattle.age_file.specs.inner.Decrypts.{seals}
 use Rattle.age_file.specs.inner.Seals.{front_of}
-use Rattle.age_fault.proofs.Bytes.{answer_as}
+use Rattle.age_fault.proofs.ByteLemmas.{answer_as}
 use Rattle.age_chunk.specs.Payload.{chunk_length}
 use Rattle.age_file.proofs.sealing.seal_last.Goals as goal
 

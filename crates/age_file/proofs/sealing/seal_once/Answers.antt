@@ -6,7 +6,7 @@ use Rattle.age_stream.specs.Sealer.{too_many}
 use Rattle.age_stream.specs.Opener.{chunk_bytes}
 use Rattle.age_file.specs.inner.Decrypts.{seals}
 use Rattle.age_file.specs.inner.Seals.{front_of}
-use Rattle.age_file.proofs.SealSteps.{step_len_le, step_len_some, at_limit, too_long, some_sealed}
+use Rattle.age_file.proofs.SealLemmas.{step_len_le, step_len_some, at_limit, too_long, some_sealed}
 use Rattle.age_chunk.specs.Payload.{chunk_length}
 use Rattle.age_file.proofs.sealing.seal_once.Goals as goal
 

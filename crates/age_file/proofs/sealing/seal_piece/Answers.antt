@@ -7,8 +7,8 @@ use Rattle.std.proofs.lemmas.List.{length-drop}
 use Rattle.age_file.specs.inner.Decrypts.{opens, seals}
 use Rattle.age_keys.specs.inner.PayloadBox.{box_valid}
 use Rattle.age_file.specs.inner.Seals.{SealsSome, GoesOn, SealFails, front_of}
-use Rattle.age_file.proofs.SealSteps.{next_some, fed_alone, fed_is, goes_then, fails_then}
-use Rattle.age_file.proofs.SealSteps.{room_left}
+use Rattle.age_file.proofs.SealLemmas.{next_some, fed_alone, fed_is, goes_then, fails_then}
+use Rattle.age_file.proofs.SealLemmas.{room_left}
 use Rattle.age_file.specs.inner.Readers.{view_of_writer}
 use Rattle.age_chunk.specs.Payload.{chunk_length}
 use Rattle.age_file.proofs.sealing.seal_piece.Goals as goal

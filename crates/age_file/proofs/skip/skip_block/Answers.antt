@@ -2,8 +2,8 @@ use Rattle.std.proofs.Common.{◌++◌, ◌∙◌, refl, take, arith}
 use Rattle.std.proofs.lemmas.Result.{err_from_is_err_and}
 use Rattle.std.proofs.lemmas.List.{length-append, length-take}
 use Rattle.age_file.specs.inner.Readers.{reader_view, view_of_reader}
-use Rattle.age_file.proofs.StartSteps.{uses_front}
-use Rattle.age_file.proofs.SkipSteps.{passes_then, passes_same, dries_same}
+use Rattle.age_file.proofs.StartLemmas.{uses_front}
+use Rattle.age_file.proofs.SkipLemmas.{passes_then, passes_same, dries_same}
 use Rattle.age_file.proofs.skip.skip_block.Goals as goal
 
 pub returns-then-not-branch-clause-skipped : goal.returns-then-not-branch-clause-skipped

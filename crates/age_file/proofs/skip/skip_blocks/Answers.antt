@@ -1,7 +1,7 @@
 use Rattle.std.proofs.Common.{◌++◌, ◌∙◌, refl, arith}
 use Rattle.std.proofs.lemmas.Result.{err_from_is_err_and}
 use Rattle.std.proofs.lemmas.List.{length-append}
-use Rattle.age_file.proofs.SkipSteps.{passes_then, pass_fails, ends_after}
+use Rattle.age_file.proofs.SkipLemmas.{passes_then, pass_fails, ends_after}
 use Rattle.age_file.specs.inner.Readers.{view_of_reader}
 use Rattle.age_chunk.specs.Payload.{block_length}
 use Rattle.age_file.proofs.skip.skip_blocks.Goals as goal

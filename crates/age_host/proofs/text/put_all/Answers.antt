@@ -1,7 +1,7 @@
 use Rattle.std.proofs.Common.{◌≡◌, ◌+◌, ◌-◌, length, take, drop, sym, ap, subst, ◌∙◌, arith, take-add, ◌++◌, List, ℕ}
 use Rattle.std.proofs.lemmas.List.{take_rest}
 use Rattle.std.specs.Io.KnownBytes.{Appends}
-use Rattle.age_fault.proofs.Bytes.{Appends-then}
+use Rattle.age_fault.proofs.ByteLemmas.{Appends-then}
 use Rattle.age_host.proofs.text.put_all.Goals as goal
 
 pub loop-at-preserved : goal.loop-at-preserved

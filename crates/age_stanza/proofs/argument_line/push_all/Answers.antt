@@ -2,8 +2,8 @@ use Rattle.std.proofs.Common.{[], ◌+◌, Some, ap, sym, ◌∙◌, arith}
 use Rattle.std.proofs.lemmas.Result.{IfOk-weaker}
 use Rattle.std.proofs.lemmas.List.{take_rest, length-drop}
 use Rattle.age_stanza.specs.inner.LineMachine.{arguments_from}
-use Rattle.age_stanza.proofs.LineEnds.{first_part, no_part}
-use Rattle.age_stanza.proofs.Lines.{next_argument, last_argument, bad_argument, bad_last_argument}
+use Rattle.age_stanza.proofs.LineEndLemmas.{first_part, no_part}
+use Rattle.age_stanza.proofs.LineLemmas.{next_argument, last_argument, bad_argument, bad_last_argument}
 use Rattle.age_stanza.proofs.argument_line.push_all.Goals as goal
 
 pub returns-then-not-branch-clause-refused : goal.returns-then-not-branch-clause-refused

@@ -1,5 +1,5 @@
 use Rattle.std.proofs.Common.{arith}
-use Rattle.age_stanza.proofs.TextLengths.{length-head}
+use Rattle.age_stanza.proofs.TextLengthLemmas.{length-head}
 use Rattle.age_stanza.proofs.encode.mac_text.Goals as goal
 
 pub overflow_sub-len : goal.overflow_sub-len

@@ -1,6 +1,6 @@
 use Rattle.std.proofs.Common.{◌≡◌, ◌∷◌, ◌++◌, [], arith}
 use Rattle.std.proofs.lemmas.List.{append_assoc}
-use Rattle.age_stanza.proofs.Elements.{written_next, written_all}
+use Rattle.age_stanza.proofs.ElementLemmas.{written_next, written_all}
 use Rattle.age_stanza.proofs.encode.put_args.Goals as goal
 
 pub loop-argument-preserved : goal.loop-argument-preserved

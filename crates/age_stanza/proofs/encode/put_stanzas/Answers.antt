@@ -1,6 +1,6 @@
 use Rattle.std.proofs.Common.{arith}
 use Rattle.age_stanza.specs.Grammar.{stanza_text}
-use Rattle.age_stanza.proofs.Elements.{written_next, written_all}
+use Rattle.age_stanza.proofs.ElementLemmas.{written_next, written_all}
 use Rattle.age_stanza.proofs.encode.put_stanzas.Goals as goal
 
 pub loop-stanza-preserved : goal.loop-stanza-preserved

@@ -3,8 +3,8 @@ use Rattle.age_stanza.specs.declared.header.Header.{Header}
 use Rattle.age_stanza.specs.declared.place.Place.TheVariants.{Start}
 use Rattle.age_stanza.specs.Grammar.{Spells, head_text}
 use Rattle.age_stanza.specs.inner.LineMachine.{ready, walk}
-use Rattle.age_stanza.proofs.Places.{parts_of_ready}
-use Rattle.age_stanza.proofs.Complete.{text_walk}
+use Rattle.age_stanza.proofs.PlaceLemmas.{parts_of_ready}
+use Rattle.age_stanza.proofs.CompleteLemmas.{text_walk}
 use Rattle.age_stanza.proofs.laws.one_header.Goals as goal
 
 one : (h k : Header) (a b x y : List ℕ) → Spells h a → Spells k b → a ++ x ≡ b ++ y → (h ≡ k) × (a ≡ b)

@@ -1,4 +1,4 @@
-use Rattle.age_stanza.proofs.Texts.{text-none, text-one, text-two, text-three}
+use Rattle.age_stanza.proofs.TextLemmas.{text-none, text-one, text-two, text-three}
 use Rattle.age_stanza.proofs.laws.text_is_base64.Goals as goal
 
 pub returns : goal.returns

@@ -1,7 +1,7 @@
 use Rattle.std.proofs.Common.{◌+◌, length, ap, sym, arith, refl}
 use Rattle.std.proofs.lemmas.Result.{err_from_is_err_and}
 use Rattle.std.proofs.lemmas.List.{length-append, length-take, take_rest}
-use Rattle.age_stanza.proofs.LineEnds.{first_line, no_line, faulty_at, ready_at, left_after}
+use Rattle.age_stanza.proofs.LineEndLemmas.{first_line, no_line, faulty_at, ready_at, left_after}
 use Rattle.age_stanza.proofs.piece.read_lines.Goals as goal
 
 pub end_line-requires-clause-one_line : goal.end_line-requires-clause-one_line

@@ -1,5 +1,5 @@
 use Rattle.std.proofs.Common.{◌++◌, length}
-use Rattle.age_stanza.proofs.LineEnds.{Left}
+use Rattle.age_stanza.proofs.LineEndLemmas.{Left}
 use Rattle.age_stanza.proofs.piece.read_lines.Given as goal
 
 -- what was read and what is left are all the bytes

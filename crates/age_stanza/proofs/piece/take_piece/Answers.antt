@@ -4,8 +4,8 @@ use Rattle.std.proofs.lemmas.Result.{err_from_is_err_and}
 use Rattle.base64.specs.GeneralPurpose.{IsBytes}
 use Rattle.age_stanza.specs.declared.fault.HeadKind.TheVariants.{HeadTooLong}
 use Rattle.age_stanza.specs.Parsing.{line_after}
-use Rattle.age_stanza.proofs.Texts.{IsBytes-append, IsBytes-take}
-use Rattle.age_stanza.proofs.Pieces.{found_in, none_in, none_yet}
+use Rattle.age_stanza.proofs.TextLemmas.{IsBytes-append, IsBytes-take}
+use Rattle.age_stanza.proofs.PieceLemmas.{found_in, none_in, none_yet}
 use Rattle.age_stanza.proofs.piece.take_piece.Goals as goal
 
 pub returns-in_err-taken : goal.returns-in_err-taken

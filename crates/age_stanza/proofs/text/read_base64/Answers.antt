@@ -1,7 +1,7 @@
 use Rattle.std.proofs.Common.{◌≤◌, take, length, sym, ap, ◌∙◌, refl, arith}
 use Rattle.std.proofs.lemmas.List.{length-take}
 use Rattle.base64.specs.GeneralPurpose.{IsBytes}
-use Rattle.age_stanza.proofs.TextLengths.{div_ceil-characters}
+use Rattle.age_stanza.proofs.TextLengthLemmas.{div_ceil-characters}
 use Rattle.age_stanza.specs.Text.{base64_text}
 use Rattle.age_stanza.proofs.Base64Lemmas.{text_of_decoded, characters_of, decoded_size}
 use Rattle.age_stanza.proofs.Base64Lemmas.{never_decodes}

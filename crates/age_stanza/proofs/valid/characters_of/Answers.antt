@@ -1,6 +1,6 @@
 use Rattle.std.proofs.Common.{◌∙◌, sym}
-use Rattle.age_stanza.proofs.Texts.{length-text}
-use Rattle.age_stanza.proofs.TextLengths.{div_ceil-characters}
+use Rattle.age_stanza.proofs.TextLemmas.{length-text}
+use Rattle.age_stanza.proofs.TextLengthLemmas.{div_ceil-characters}
 use Rattle.age_stanza.proofs.valid.characters_of.Goals as goal
 
 pub returns-clause-len : goal.returns-clause-len

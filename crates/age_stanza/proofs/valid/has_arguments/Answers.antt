@@ -2,7 +2,7 @@ use Rattle.std.proofs.Common.{[], length, arith, ap, sym, ◌∙◌, rules, test
 use Rattle.std.proofs.lemmas.Bool.{eqb-false}
 use Rattle.std.proofs.lemmas.Iterator.{cases_from_all, YieldsList-from_slice}
 use Rattle.age_stanza.specs.Grammar.{IsArgument}
-use Rattle.age_stanza.proofs.Elements.{all_is}
+use Rattle.age_stanza.proofs.ElementLemmas.{all_is}
 use Rattle.age_stanza.proofs.valid.has_arguments.Goals as goal
 
 pub returns-then-not-is_empty : goal.returns-then-not-is_empty

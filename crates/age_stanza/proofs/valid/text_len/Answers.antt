@@ -3,7 +3,7 @@ use Rattle.std.specs.List.{AllByRecursion}
 use Rattle.std.proofs.lemmas.List.{take_all}
 use Rattle.base64.specs.GeneralPurpose.{IsBytes}
 use Rattle.age_stanza.specs.declared.header.Stanza.{Stanza}
-use Rattle.age_stanza.proofs.TextLengths.{length-head, stanza_within, none_left}
+use Rattle.age_stanza.proofs.TextLengthLemmas.{length-head, stanza_within, none_left}
 use Rattle.age_stanza.proofs.valid.text_len.Goals as goal
 
 pub returns-in_err-left : goal.returns-in_err-left

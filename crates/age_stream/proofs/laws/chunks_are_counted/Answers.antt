@@ -1,4 +1,4 @@
-use Rattle.age_stream.proofs.Counting.{is_counted}
+use Rattle.age_stream.proofs.CountingLemmas.{is_counted}
 use Rattle.age_stream.proofs.laws.chunks_are_counted.Goals as goal
 
 pub returns : goal.returns

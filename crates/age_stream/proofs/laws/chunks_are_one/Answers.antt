@@ -1,7 +1,7 @@
 use Rattle.std.proofs.Common.{◌≡◌, ◌+◌, ◌<◌, ℕ, List, [], length, get_or, sym, subst}
 use Rattle.std.specs.Prelude.{◌==◌}
 use Rattle.age_chunk.specs.Payload.{nonce_bytes, sealed}
-use Rattle.age_stream.proofs.Parts.{chunks_are, chunks_only, sealed_count, sealed_at}
+use Rattle.age_stream.proofs.PartLemmas.{chunks_are, chunks_only, sealed_count, sealed_at}
 use Rattle.age_stream.proofs.laws.chunks_are_one.Goals as goal
 
 pub returns-clause-one : goal.returns-clause-one

@@ -1,4 +1,4 @@
-use Rattle.age_stream.proofs.PublicLaws.{fresh_is_open, closed_stays, end_closes}
+use Rattle.age_stream.proofs.LawLemmas.{fresh_is_open, closed_stays, end_closes}
 use Rattle.age_stream.proofs.laws.closed_stays.Goals as goal
 
 pub returns-clause-fresh : goal.returns-clause-fresh

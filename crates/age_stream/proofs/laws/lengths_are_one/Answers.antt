@@ -1,4 +1,4 @@
-use Rattle.age_stream.proofs.PublicLaws.{lengths_are_one}
+use Rattle.age_stream.proofs.LawLemmas.{lengths_are_one}
 use Rattle.age_stream.proofs.laws.lengths_are_one.Goals as goal
 
 pub returns : goal.returns

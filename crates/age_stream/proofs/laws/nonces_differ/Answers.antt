@@ -1,4 +1,4 @@
-use Rattle.age_chunk.proofs.Nonces.{nonce_bytes-number, nonce_bytes-flag}
+use Rattle.age_chunk.proofs.NonceLemmas.{nonce_bytes-number, nonce_bytes-flag}
 use Rattle.std.proofs.Common.{arith}
 use Rattle.age_stream.proofs.laws.nonces_differ.Goals as goal
 

@@ -1,4 +1,4 @@
-use Rattle.age_stream.proofs.PublicLaws.{payload_is_longer}
+use Rattle.age_stream.proofs.LawLemmas.{payload_is_longer}
 use Rattle.age_stream.proofs.laws.payload_is_longer.Goals as goal
 
 pub returns : goal.returns

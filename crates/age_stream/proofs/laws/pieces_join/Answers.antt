@@ -1,4 +1,4 @@
-use Rattle.age_stream.proofs.ReplaySteps.{pieces_join}
+use Rattle.age_stream.proofs.ReplayLemmas.{pieces_join}
 use Rattle.age_stream.proofs.laws.pieces_join.Goals as goal
 
 pub returns : goal.returns

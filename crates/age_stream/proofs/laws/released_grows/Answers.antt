@@ -1,4 +1,4 @@
-use Rattle.age_stream.proofs.Growing.{released_grows, index_stays}
+use Rattle.age_stream.proofs.GrowingLemmas.{released_grows, index_stays}
 use Rattle.age_stream.proofs.laws.released_grows.Goals as goal
 
 pub returns : goal.returns

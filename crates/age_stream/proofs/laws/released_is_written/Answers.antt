@@ -1,4 +1,4 @@
-use Rattle.age_stream.proofs.PublicLaws.{released_is_written}
+use Rattle.age_stream.proofs.LawLemmas.{released_is_written}
 use Rattle.age_stream.proofs.laws.released_is_written.Goals as goal
 
 pub returns : goal.returns

@@ -1,4 +1,4 @@
-use Rattle.age_stream.proofs.Authentic.{comes_back}
+use Rattle.age_stream.proofs.AuthenticLemmas.{comes_back}
 use Rattle.age_stream.proofs.laws.round_trip.Goals as goal
 
 pub returns : goal.returns

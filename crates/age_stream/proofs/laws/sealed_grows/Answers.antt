@@ -1,4 +1,4 @@
-use Rattle.age_stream.proofs.Sealings.{payload_begins}
+use Rattle.age_stream.proofs.SealingLemmas.{payload_begins}
 use Rattle.age_stream.proofs.laws.sealed_grows.Goals as goal
 
 pub returns : goal.returns

@@ -1,4 +1,4 @@
-use Rattle.age_stream.proofs.Authentic.{whole_right, rest_right, undamaged_right}
+use Rattle.age_stream.proofs.AuthenticLemmas.{whole_right, rest_right, undamaged_right}
 use Rattle.age_stream.proofs.laws.undamaged_is_authentic.Goals as goal
 
 pub returns-clause-whole : goal.returns-clause-whole

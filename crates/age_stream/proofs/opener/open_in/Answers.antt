@@ -1,6 +1,6 @@
 use Rattle.std.proofs.Common.{◌≡◌, ap, ◌∙◌, length, arith}
-use Rattle.age_stream.proofs.InPlace.{opened_in, closed_in, refilled}
-use Rattle.age_stream.proofs.Sizes.{list_fits}
+use Rattle.age_stream.proofs.InPlaceLemmas.{opened_in, closed_in, refilled}
+use Rattle.age_stream.proofs.SizeLemmas.{list_fits}
 use Rattle.age_stream.proofs.opener.open_in.Goals as goal
 
 pub as_mut_slice-requires : goal.as_mut_slice-requires

@@ -1,7 +1,7 @@
 use Rattle.std.proofs.Common.{◌≡◌, ap, length, arith, refl}
 use Rattle.std.proofs.lemmas.List.{length-append}
-use Rattle.age_stream.proofs.InPlace.{sealed_in}
-use Rattle.age_stream.proofs.Sizes.{list_fits}
+use Rattle.age_stream.proofs.InPlaceLemmas.{sealed_in}
+use Rattle.age_stream.proofs.SizeLemmas.{list_fits}
 use Rattle.age_stream.proofs.sealer.seal_in.Goals as goal
 
 pub push_bytes-requires : goal.push_bytes-requires

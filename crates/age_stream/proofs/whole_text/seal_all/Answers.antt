@@ -1,7 +1,7 @@
 use Rattle.std.proofs.Common.{◌<◌, ◌++◌, List, ℕ, ap, sym, subst, ◌∙◌, arith}
 use Rattle.age_stream.specs.Laws.{GivesBack}
 use Rattle.age_chunk.specs.Payload.{payload}
-use Rattle.age_stream.proofs.Authentic.{comes_back}
+use Rattle.age_stream.proofs.AuthenticLemmas.{comes_back}
 use Rattle.age_stream.proofs.whole_text.seal_all.Goals as goal
 use Rattle.age_chunk.specs.ChunkBoxes.{text_length}
 

@@ -4,10 +4,10 @@ use Rattle.std.proofs.lemmas.List.{take_all, length-take, length-drop, length-ap
 use Rattle.age_stream.specs.Sealer.{Holds}
 use Rattle.age_stream.specs.Opener.{chunk_bytes}
 use Rattle.age_chunk.specs.Payload.{last_index, sealed_before_last, block_bytes, payload}
-use Rattle.age_stream.proofs.SealerSteps.{step_len_le}
-use Rattle.age_stream.proofs.PublicLaws.{payload_is_longer}
-use Rattle.age_stream.proofs.WholeTexts.{take_on, front_fits}
-use Rattle.age_stream.proofs.Sizes.{sealer_fits}
+use Rattle.age_stream.proofs.SealerLemmas.{step_len_le}
+use Rattle.age_stream.proofs.LawLemmas.{payload_is_longer}
+use Rattle.age_stream.proofs.WholeTextLemmas.{take_on, front_fits}
+use Rattle.age_stream.proofs.SizeLemmas.{sealer_fits}
 use Rattle.age_stream.proofs.whole_text.seal_within.Goals as goal
 use Rattle.age_chunk.specs.ChunkBoxes.{text_length}
 

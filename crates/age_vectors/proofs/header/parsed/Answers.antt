@@ -2,7 +2,7 @@ use Rattle.std.proofs.Common.{◌≡◌, ◌++◌, ◌∙◌, List, ℕ, take, d
 use Rattle.std.proofs.lemmas.Bool.{eqb-true}
 use Rattle.std.proofs.lemmas.List.{take-append-drop}
 use Rattle.std.proofs.lemmas.Result.{err_from_is_err_and}
-use Rattle.age_vectors.proofs.Pieces.{more_fed, fault_fed, header_fed, cut_fed, is_open}
+use Rattle.age_vectors.proofs.PieceLemmas.{more_fed, fault_fed, header_fed, cut_fed, is_open}
 use Rattle.age_vectors.proofs.header.parsed.Goals as goal
 
 joined : (front back rest : List ℕ) (n : ℕ) → front ≡ take n rest → back ≡ drop n rest → front ++ back ≡ rest

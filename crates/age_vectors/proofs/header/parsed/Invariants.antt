@@ -1,5 +1,5 @@
 use Rattle.std.proofs.Common.{length}
-use Rattle.age_vectors.proofs.Pieces.{Reads}
+use Rattle.age_vectors.proofs.PieceLemmas.{Reads}
 use Rattle.age_vectors.proofs.header.parsed.Given as goal
 
 -- what was fed and what is left are the bytes

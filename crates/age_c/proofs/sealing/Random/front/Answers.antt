@@ -2,7 +2,7 @@ use Rattle.std.proofs.Common.{◌≡◌, length, subst, ap, arith}
 use Rattle.age_stanza.specs.declared.header.Header.{Header}
 use Rattle.age_stanza.specs.Grammar.{HeadText}
 use Rattle.age_keys.specs.Scrypt.{scrypt_head}
-use Rattle.age_c.proofs.FrontSize.{front_size}
+use Rattle.age_c.proofs.FrontSizeLemmas.{front_size}
 use Rattle.age_c.proofs.sealing.Random.front.Goals as goal
 
 pub returns-in-Ok-extend_from_slice-clause-size : goal.returns-in-Ok-extend_from_slice-clause-size

@@ -1,4 +1,4 @@
-use Rattle.age_cli_common.proofs.ChoiceSteps.{enough_of_shared}
+use Rattle.age_cli_common.proofs.ChoiceLemmas.{enough_of_shared}
 use Rattle.age_cli_common.proofs.choice.Choice.read.Goals as goal
 
 pub returns-in-SharedFile-clause-enough : goal.returns-in-SharedFile-clause-enough

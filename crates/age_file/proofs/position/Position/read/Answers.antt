@@ -1,4 +1,4 @@
-use Rattle.age_file.proofs.PositionTextSteps.{long_enough, words_front, words_back, words_of}
+use Rattle.age_file.proofs.PositionTextLemmas.{long_enough, words_front, words_back, words_of}
 use Rattle.age_file.proofs.position.Position.read.Goals as goal
 
 pub returns-in_default-clause-refused : goal.returns-in_default-clause-refused

@@ -1,7 +1,7 @@
 use Rattle.std.proofs.Common.{arith}
-use Rattle.age_stanza.proofs.FinishedLines.{nothing_under_way}
-use Rattle.age_stanza.proofs.Pieces.{none_held}
-use Rattle.age_stanza.proofs.FaultLaws.{no_fault}
+use Rattle.age_stanza.proofs.FinishedLineLemmas.{nothing_under_way}
+use Rattle.age_stanza.proofs.PieceLemmas.{none_held}
+use Rattle.age_stanza.proofs.FaultLemmas.{no_fault}
 use Rattle.age_stanza.proofs.parser.HeadParser.new.Goals as goal
 
 pub invariant_of-result : goal.invariant_of-result

@@ -2,7 +2,7 @@ use Rattle.std.proofs.Common.{◌∙◌, ap, ℕ}
 use Rattle.age_stanza.specs.Parsing.{line_after}
 use Rattle.age_stanza.specs.declared.fault.HeadFault.{HeadFault}
 use Rattle.age_stanza.specs.declared.fault.HeadKind.TheVariants.{HeadCut}
-use Rattle.age_stanza.proofs.FinishedLines.{begun_number}
+use Rattle.age_stanza.proofs.FinishedLineLemmas.{begun_number}
 use Rattle.age_stanza.proofs.partial.PartialHeader.cut_fault.Goals as goal
 
 cut_at : ℕ → HeadFault

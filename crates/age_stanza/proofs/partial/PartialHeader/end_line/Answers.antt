@@ -1,5 +1,5 @@
 use Rattle.std.proofs.Common.{◌<◌, ◌+◌, length, ap, ◌∙◌, arith}
-use Rattle.age_stanza.proofs.FinishedLines.{whole_partial, whole_held, next_partial, next_bytes, whole_walk, faulty_walk}
+use Rattle.age_stanza.proofs.FinishedLineLemmas.{whole_partial, whole_held, next_partial, next_bytes, whole_walk, faulty_walk}
 use Rattle.age_stanza.proofs.partial.PartialHeader.end_line.Goals as goal
 
 pub invariant_of-more : goal.invariant_of-more

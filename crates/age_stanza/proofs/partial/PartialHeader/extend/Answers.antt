@@ -1,5 +1,5 @@
 use Rattle.std.proofs.Common.{arith}
-use Rattle.age_stanza.proofs.FinishedLines.{whole_partial}
+use Rattle.age_stanza.proofs.FinishedLineLemmas.{whole_partial}
 use Rattle.age_stanza.proofs.partial.PartialHeader.extend.Goals as goal
 
 pub invariant_of-self : goal.invariant_of-self

@@ -1,4 +1,4 @@
-use Rattle.age_stanza.proofs.FinishedLines.{under_way}
+use Rattle.age_stanza.proofs.FinishedLineLemmas.{under_way}
 use Rattle.age_stanza.proofs.partial.PartialHeader.len.Goals as goal
 
 pub returns-clause-known : goal.returns-clause-known

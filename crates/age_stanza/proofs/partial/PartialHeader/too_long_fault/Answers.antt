@@ -5,8 +5,8 @@ use Rattle.age_stanza.specs.inner.LineMachine.{bytes_before, LeadTo}
 use Rattle.age_stanza.specs.declared.fault.HeadFault.{HeadFault}
 use Rattle.age_stanza.specs.declared.fault.HeadKind.TheVariants.{HeadTooLong}
 use Rattle.age_stanza.specs.declared.place.Place.{Place}
-use Rattle.age_stanza.proofs.OneFault.{no_length}
-use Rattle.age_stanza.proofs.FinishedLines.{finished_number, begun_number_of_last}
+use Rattle.age_stanza.proofs.OneFaultLemmas.{no_length}
+use Rattle.age_stanza.proofs.FinishedLineLemmas.{finished_number, begun_number_of_last}
 use Rattle.age_stanza.proofs.partial.PartialHeader.too_long_fault.Goals as goal
 
 too_long_at : ℕ → HeadFault

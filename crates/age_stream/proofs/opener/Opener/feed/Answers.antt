@@ -2,7 +2,7 @@ use Rattle.std.proofs.Common.{refl, ap, ◌≡◌, ◌+◌, length, take, arith,
 use Rattle.std.proofs.lemmas.List.{length-take}
 use Rattle.std.proofs.lemmas.Result.{err_from_is_err_and}
 use Rattle.age_stream.specs.Opener.{held_bytes}
-use Rattle.age_stream.proofs.Sizes.{list_fits, opener_state_fits}
+use Rattle.age_stream.proofs.SizeLemmas.{list_fits, opener_state_fits}
 use Rattle.age_stream.proofs.opener.Opener.feed.Goals as goal
 use Rattle.age_chunk.specs.ChunkBoxes.{tag_length, text_length}
 

@@ -1,4 +1,4 @@
-use Rattle.age_stream.proofs.Sizes.{opener_state_fits}
+use Rattle.age_stream.proofs.SizeLemmas.{opener_state_fits}
 use Rattle.age_stream.proofs.opener.OpenerState.take_closed.Goals as goal
 
 pub fail-requires : goal.fail-requires

@@ -4,8 +4,8 @@ use Rattle.std.proofs.lemmas.List.{length-append, length-take}
 use Rattle.std.proofs.lemmas.Result.{err_from_is_err_and}
 use Rattle.age_stream.specs.Opener.{held_bytes}
 use Rattle.age_stream.specs.declared.step.Status.TheVariants.{Open}
-use Rattle.age_stream.proofs.OpenerSteps.{tried_ok, tried_err}
-use Rattle.age_stream.proofs.Sizes.{list_fits, opener_state_fits}
+use Rattle.age_stream.proofs.OpenerLemmas.{tried_ok, tried_err}
+use Rattle.age_stream.proofs.SizeLemmas.{list_fits, opener_state_fits}
 use Rattle.age_stream.proofs.opener.OpenerState.take_open.Goals as goal
 
 pub reclaim-requires : goal.reclaim-requires

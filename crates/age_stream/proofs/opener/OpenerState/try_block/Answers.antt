@@ -1,8 +1,8 @@
 use Rattle.std.proofs.Common.{[], refl, ap, ◌∙◌, Bool, if◌then◌else◌, arith}
 use Rattle.age_chunk.specs.declared.fault.StreamKind.TheVariants.{ChunkDamaged, TooManyChunks}
 use Rattle.age_stream.specs.declared.step.Status.TheVariants.{Open, LastSeen}
-use Rattle.age_stream.proofs.Blocks.{before_in, last_in, neither_in, one_block-greatest, tried_text, tried_fault}
-use Rattle.age_stream.proofs.Sizes.{list_fits, opener_state_fits}
+use Rattle.age_stream.proofs.BlockLemmas.{before_in, last_in, neither_in, one_block-greatest, tried_text, tried_fault}
+use Rattle.age_stream.proofs.SizeLemmas.{list_fits, opener_state_fits}
 use Rattle.age_stream.proofs.opener.OpenerState.try_block.Goals as goal
 
 pub fail-requires : goal.fail-requires

@@ -1,4 +1,4 @@
-use Rattle.age_stream.proofs.Sizes.{opener_fits}
+use Rattle.age_stream.proofs.SizeLemmas.{opener_fits}
 use Rattle.age_stream.proofs.replay.Replay.index.Goals as goal
 
 pub index-requires : goal.index-requires

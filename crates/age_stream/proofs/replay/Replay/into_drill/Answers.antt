@@ -1,5 +1,5 @@
 use Rattle.std.proofs.Common.{ap}
-use Rattle.age_stream.proofs.Sizes.{replay_fits}
+use Rattle.age_stream.proofs.SizeLemmas.{replay_fits}
 use Rattle.age_stream.proofs.replay.Replay.into_drill.Goals as goal
 
 pub returns-clause-text : goal.returns-clause-text

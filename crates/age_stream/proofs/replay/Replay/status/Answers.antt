@@ -1,4 +1,4 @@
-use Rattle.age_stream.proofs.Sizes.{opener_fits}
+use Rattle.age_stream.proofs.SizeLemmas.{opener_fits}
 use Rattle.age_stream.proofs.replay.Replay.status.Goals as goal
 
 pub status-requires : goal.status-requires

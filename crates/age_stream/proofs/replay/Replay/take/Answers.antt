@@ -1,4 +1,4 @@
-use Rattle.age_stream.proofs.Sizes.{replay_state_fits}
+use Rattle.age_stream.proofs.SizeLemmas.{replay_state_fits}
 use Rattle.age_stream.proofs.replay.Replay.take.Goals as goal
 
 pub take-requires : goal.take-requires

@@ -1,8 +1,8 @@
 use Rattle.std.proofs.Common.{vec_len, arith}
 use Rattle.age_stream.specs.declared.delivery.Delivery.TheVariants.{Piece, End}
 use Rattle.age_stream.specs.Replay.{replay_view}
-use Rattle.age_stream.proofs.Cramped.{cramped_by}
-use Rattle.age_stream.proofs.Sizes.{replay_state_fits}
+use Rattle.age_stream.proofs.CrampedLemmas.{cramped_by}
+use Rattle.age_stream.proofs.SizeLemmas.{replay_state_fits}
 use Rattle.age_stream.proofs.replay.ReplayState.deliver.Goals as goal
 use Rattle.age_chunk.specs.ChunkBoxes.{text_length}
 

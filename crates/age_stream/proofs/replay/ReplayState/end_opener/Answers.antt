@@ -1,7 +1,7 @@
 use Rattle.std.proofs.Common.{refl, sym, [], append-nil, arith}
 use Rattle.age_stream.specs.Replay.{replay_view}
-use Rattle.age_stream.proofs.ReplaySteps.{end_step}
-use Rattle.age_stream.proofs.Sizes.{opener_fits}
+use Rattle.age_stream.proofs.ReplayLemmas.{end_step}
+use Rattle.age_stream.proofs.SizeLemmas.{opener_fits}
 use Rattle.age_stream.proofs.replay.ReplayState.end_opener.Goals as goal
 use Rattle.age_chunk.specs.ChunkBoxes.{text_length}
 

@@ -6,7 +6,7 @@ use Rattle.age_stream.specs.Opener.{whole_text}
 use Rattle.age_stream.specs.declared.step.Status.TheVariants.{Open}
 use Rattle.age_stream.specs.Replay.{replay_view, IsReplayAt}
 use Rattle.age_stream.specs.inner.ReplaySteps.{with_bytes}
-use Rattle.age_stream.proofs.ReplaySteps.{with_bytes-append, with_bytes-nil}
+use Rattle.age_stream.proofs.ReplayLemmas.{with_bytes-append, with_bytes-nil}
 use Rattle.age_stream.proofs.replay.ReplayState.feed_all.Goals as goal
 use Rattle.age_chunk.specs.ChunkBoxes.{text_length}
 

@@ -1,4 +1,4 @@
-use Rattle.age_stream.proofs.Sizes.{opener_fits}
+use Rattle.age_stream.proofs.SizeLemmas.{opener_fits}
 use Rattle.age_stream.proofs.replay.ReplayState.reaches.Goals as goal
 
 pub chunk_len-requires : goal.chunk_len-requires

@@ -1,8 +1,8 @@
 use Rattle.std.proofs.Common.{◌<◌, arith, ap, [], ◌∷◌, ◌++◌}
 use Rattle.std.proofs.lemmas.Result.{IfOk-weaker}
 use Rattle.age_stream.specs.Replay.{replay_view}
-use Rattle.age_stream.proofs.ReplaySteps.{replays_more, written}
-use Rattle.age_stream.proofs.Sizes.{replay_state_fits}
+use Rattle.age_stream.proofs.ReplayLemmas.{replays_more, written}
+use Rattle.age_stream.proofs.SizeLemmas.{replay_state_fits}
 use Rattle.age_stream.proofs.replay.ReplayState.take.Goals as goal
 use Rattle.age_chunk.specs.ChunkBoxes.{text_length}
 

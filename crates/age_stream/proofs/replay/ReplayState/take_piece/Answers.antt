@@ -1,6 +1,6 @@
 use Rattle.std.proofs.Common.{ℕ, ◌+◌, ◌≤◌, ◌∙◌, vec_len, vec_capacity, refl, subst, arith}
-use Rattle.age_stream.proofs.Room.{open_number}
-use Rattle.age_stream.proofs.Sizes.{replay_state_fits}
+use Rattle.age_stream.proofs.RoomLemmas.{open_number}
+use Rattle.age_stream.proofs.SizeLemmas.{replay_state_fits}
 use Rattle.age_stream.proofs.replay.ReplayState.take_piece.Goals as goal
 
 pub piece_room-room-requires : goal.piece_room-room-requires

@@ -1,6 +1,6 @@
 use Rattle.std.proofs.Common.{◌∙◌, refl, ap, rules}
 use Rattle.std.proofs.lemmas.Result.{err_from_is_err_and}
-use Rattle.age_stream.proofs.Sizes.{list_fits, sealer_state_fits}
+use Rattle.age_stream.proofs.SizeLemmas.{list_fits, sealer_state_fits}
 use Rattle.age_stream.proofs.sealer.Sealer.feed.Goals as goal
 
 pub returns-in_err-taken : goal.returns-in_err-taken

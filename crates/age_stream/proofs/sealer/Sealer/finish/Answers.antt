@@ -1,5 +1,5 @@
 use Rattle.std.proofs.Common.{rules}
-use Rattle.age_stream.proofs.Sizes.{list_fits, sealer_state_fits}
+use Rattle.age_stream.proofs.SizeLemmas.{list_fits, sealer_state_fits}
 use Rattle.age_stream.proofs.sealer.Sealer.finish.Goals as goal
 
 pub close_text-requires : goal.close_text-requires

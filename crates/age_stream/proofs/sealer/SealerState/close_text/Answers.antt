@@ -1,8 +1,8 @@
 use Rattle.std.proofs.lemmas.Result.{IfOk-weaker}
 use Rattle.std.proofs.Common.{rules}
 use Rattle.age_stream.specs.Sealer.{sealer_view}
-use Rattle.age_stream.proofs.SealerSteps.{payload_is}
-use Rattle.age_stream.proofs.Sizes.{sealer_state_fits}
+use Rattle.age_stream.proofs.SealerLemmas.{payload_is}
+use Rattle.age_stream.proofs.SizeLemmas.{sealer_state_fits}
 use Rattle.age_stream.proofs.sealer.SealerState.close_text.Goals as goal
 use Rattle.age_chunk.specs.ChunkBoxes.{text_length}
 

@@ -1,0 +1,101 @@
+-- What a command did, from what its steps did.
+use Rattle.std.proofs.Common.{◌≡◌, ◌∙◌, ◌⊎◌, ◌++◌, Option, Some, None, ap, sym, inl, inr, Bool}
+use Rattle.std.proofs.Common.{true, false, true≢false, List}
+use Rattle.std.proofs.Common.{Result, OnOk, IfErr}
+use Rattle.std.specs.Prelude.{IsErr, IsErrAnd}
+use Rattle.age_io.specs.Io.{Adds, Ends, IsOver, Shown as ShownOne}
+use Rattle.age_file.specs.Runs.{Ports}
+use Rattle.age_fileset.specs.FileSet.{Event, FilesView}
+use Rattle.age_cli_args.specs.Requests.{option_text}
+use Rattle.age_cli_args.specs.declared.request.ProgressOption.TheVariants.{Shown, Silent}
+use Rattle.age_cli_args.specs.declared.request.Request.{Request}
+use Rattle.age_cli_args.specs.declared.request.Request.TheVariants.{Inspect, Decrypt, Resume}
+use Rattle.age_cli_args.specs.declared.request.Request.TheVariants.{Encrypt, Drill}
+use Rattle.age_cli_common.specs.Orders.{Follows, replacing, NamesTwice, order_asked}
+use Rattle.age_cli_common.specs.Files.{Files}
+use Rattle.age_cli_common.specs.Endings.{HasReason, is_usage}
+use Rattle.age_cli_common.specs.declared.ending.Ending.{Ending}
+use Rattle.age_cli.specs.Acts.{Acts, EndsBefore, GivesNone, HasEngineEnded, OfEngine, OfSomeEngine}
+use Rattle.age_cli.specs.Acts.{Spares, progress_of, IsUsage, LeavesOut, WritesOut}
+use Rattle.age_cli.proofs.CommandLemmas.{not_well, this_error, just_error}
+use Rattle.age_cli_common.proofs.EventLemmas.{longer}
+use Rattle.std.proofs.lemmas.Result.{IfErr-weaker}
+
+-- where no file differs, none but the outputs does
+pub spares_kept : (asked : Request) (old new : Files) → new ≡ old → Spares asked old new
+spares_kept (Encrypt e) old new kept = λ q to save. ap (λ (f : Files). f q) kept
+spares_kept (Decrypt d) old new kept = λ q to save. ap (λ (f : Files). f q) kept
+spares_kept (Resume r) old new kept = λ q to save. ap (λ (f : Files). f q) kept
+spares_kept (Inspect file) old new kept = λ q to save. ap (λ (f : Files). f q) kept
+spares_kept (Drill d) old new kept = λ q to save. ap (λ (f : Files). f q) kept
+
+-- what begins the order of a success begins the whole order
+pub whole_of : (asked : Request) (old new : List Event) → Follows (order_asked asked).done old new → Follows (order_asked asked).whole old new
+whole_of (Encrypt e) old new f = longer _ (replacing None e.durability) old new f
+whole_of (Decrypt d) old new f = longer _ (replacing (option_text d.save) d.durability) old new f
+whole_of (Resume r) old new f = longer _ (replacing (option_text r.decrypting.save) r.decrypting.durability) old new f
+whole_of (Inspect file) old new f = f
+whole_of (Drill d) old new f = f
+
+module _ (IsPorts : Ports → Type 0) (shows : Bool) (asked : Request) (before after : FilesView) (Failed Unshown Over : Type 0) (r : Result (Unit {0}) Ending) where
+  abbrev pub Acted : Type 0
+  Acted = Acts IsPorts shows asked before after Failed Unshown Over r
+
+  -- a command ended early, with this ending
+  pub acts_early : (e : Ending) → IsErr r × IsErrAnd r (λ x. x ≡ e) → after.entries ≡ before.entries → (shows ≡ true → EndsBefore asked before.entries e)
+      → (shows ≡ true → HasReason before.entries after.events Failed e)
+      → Follows (order_asked asked).done before.events after.events
+      → (shows ≡ true → IsUsage e → Follows (order_asked asked).judged before.events after.events)
+      → (NamesTwice (order_asked asked).apart → (after.events ≡ before.events) × IsUsage e)
+      → (shows ≡ true → IsUsage e → NamesTwice (order_asked asked).apart ⊎ GivesNone asked before.entries)
+      → Unshown → Acted
+  acts_early e is kept early reason follows judged apart blamed silent = record {
+    done = not_well r e is _;
+    ran = not_well r e is _;
+    stops = λ shown. this_error r e is _ (inl (kept, early shown, reason shown));
+    usage = this_error r e is _ (λ usage. kept);
+    blamed = λ shown. this_error r e is _ (blamed shown);
+    spares = λ shown. spares_kept asked before.entries after.entries kept;
+    order = whole_of asked before.events after.events follows;
+    order_done = not_well r e is _;
+    order_usage = this_error r e is _ (λ usage. follows);
+    order_shown = λ shown. this_error r e is _ (judged shown);
+    apart = λ twice. let refused = apart twice in (refused.0, just_error r e is IsUsage refused.1);
+    silent = λ unasked. silent;
+    over = inl silent;
+  }
+
+  -- a command ended once its engine had run
+  pub acts_concluded : OnOk r (shows ≡ true → OfEngine IsPorts asked before.entries (λ engine paths. WritesOut IsPorts engine paths before.entries after.entries))
+      → OnOk r (OfSomeEngine IsPorts asked (HasEngineEnded IsPorts)) → (shows ≡ true → IfErr r (λ e. OfEngine IsPorts asked before.entries (λ engine paths. LeavesOut IsPorts engine paths before.entries after.entries e)))
+      → IfErr r (λ e. is_usage e ≡ false) → (shows ≡ true → Spares asked before.entries after.entries)
+      → Follows (order_asked asked).whole before.events after.events → OnOk r (after.events ≡ before.events ++ (order_asked asked).done)
+      → (NamesTwice (order_asked asked).apart → ⊥) → (progress_of asked ≡ Silent → Unshown) × (Unshown ⊎ Over) → Acted
+  acts_concluded done ran stops fault spares order finished apart shown =
+      let impossible : (P : Type 0) → IfErr r (λ e. IsUsage e → P) =
+      λ P. IfErr-weaker r _ _ (λ e no usage. absurd (true≢false (sym usage ∙ no))) fault in
+      record {
+        done = done;
+        ran = ran;
+        stops = λ shown. IfErr-weaker r _ _ (λ e s. inr s) (stops shown);
+        usage = impossible _;
+        blamed = λ shown. impossible _;
+        spares = spares;
+        order = order;
+        order_done = finished;
+        order_usage = impossible _;
+        order_shown = λ shown. impossible _;
+        apart = λ twice. absurd (apart twice);
+        silent = shown.0;
+        over = shown.1;
+      }
+
+-- a meter that was shown that its run is over
+pub is_over : (old new : Option (List ShownOne)) → Adds old new Ends → IsOver new
+is_over None None added = tt
+is_over None (Some now) added = cc
+is_over (Some shown) None added = absurd added
+is_over (Some shown) (Some now) added = (shown, added)
+
+pub shown_not_silent : Shown ≡ Silent → ⊥
+shown_not_silent is = cc

@@ -1,0 +1,185 @@
+-- What becomes of OUT, from what an engine promises and how OUT was ended.
+use Rattle.std.proofs.Common.{◌≡◌, ◌∙◌, ◌⊎◌, ℕ, ap, sym, subst, refl, inl, inr, Bool, true, false}
+use Rattle.std.proofs.Common.{true≢false, List, [], Option, Some}
+use Rattle.std.proofs.Common.{Result, Ok, Err, OnOk, IfOk, IfErr, ⊎_elim, rules}
+use Rattle.std.specs.Prelude.{IsOk, IsSomeAnd, is_some, ◌==◌}
+use Rattle.std.proofs.lemmas.Result.{on_ok_weaker, IfErr-weaker}
+use Rattle.age_io.specs.Io.{SourceView}
+use Rattle.age_io.specs.declared.durability.Durability.{Durability}
+use Rattle.age_file.specs.Runs.{Ports, ports, Run}
+use Rattle.age_file.specs.Encrypts.{SecretView, Encrypts, EncryptFails}
+use Rattle.age_file.specs.Decrypts.{DecryptEnds, DecryptStops}
+use Rattle.age_file.specs.Resumes.{resume_ports, ResumeEnds, ResumeStops}
+use Rattle.age_file.specs.declared.encryption.Written.{Written}
+use Rattle.age_file.specs.declared.decryption.Done.{Done}
+use Rattle.age_file.specs.declared.decryption.Stopped.{Stopped}
+use Rattle.age_file.specs.declared.position.Position.{Position}
+use Rattle.age_file.specs.declared.position.PositionPolicy.{PositionPolicy}
+use Rattle.age_fault.specs.declared.fault.FileFault.{FileFault}
+use Rattle.age_fault.specs.declared.fault.FileFault.TheVariants as fault
+use Rattle.age_fileset.specs.FileSet.{FilesView}
+use Rattle.age_cli_common.specs.Files.{Files, SparesBoth}
+use Rattle.age_cli_common.specs.declared.ending.Ending.{Ending}
+use Rattle.age_cli_common.specs.declared.identity.Identity.{Identity}
+use Rattle.age_cli_common.specs.Identities.{allows_by, refuses_by}
+use Rattle.age_cli.specs.Acts.{Engine, Ran, encrypt_engine, decrypt_engine, resume_engine, Paths}
+use Rattle.age_cli.specs.Acts.{WritesOut, LeavesOut}
+use Rattle.age_cli.specs.Acts.{IsLeft, IsUnclosed, EndsOf}
+use Rattle.age_cli.specs.declared.interruption.Interruption.{Interruption}
+use Rattle.age_cli.specs.inner.Endings.{is_memory, sealing_end, opening_end, IsFaithful, Left}
+use Rattle.age_cli.specs.inner.Endings.{Concludes}
+use Rattle.age_cli.proofs.CommandStopLemmas.{stop_wrote, resume_wrote, sealed_nothing, the_run}
+use Rattle.age_cli.proofs.CommandStopLemmas.{holds_nothing, holds_something}
+
+-- an engine's promise, of how it ended
+pub record Kept (engine : Engine) (before after : Ports) (end : Result (Unit {0}) Interruption) : Type 0 where
+  pub ends : OnOk end (engine.ends before after)
+  pub stops : IfErr end (λ s. engine.stops s.position s.fault before after)
+  pub touches : IfErr end (λ s. s.is_untouched ≡ false → engine.touches s.fault after.sink.taken)
+  pub faithful : IsFaithful end after.sink
+
+-- how a stop leaves OUT, by whether it says that nothing was written
+pub left_as : (untouched : Bool) (taken old new : Option (List ℕ)) → (untouched ≡ true → new ≡ old) → (untouched ≡ false → (new ≡ old) ⊎ (new ≡ taken))
+    → (new ≡ old) ⊎ ((new ≡ taken) × (untouched ≡ false))
+left_as true taken old new kept left = inl (kept refl)
+left_as false taken old new kept left = ⊎_elim (λ same. inl same) (λ put. inr (put, refl)) (left refl)
+
+pub ends_so : {P : Type 0} (end : Result (Unit {0}) Interruption) → OnOk end P → IsOk end → P
+ends_so (Ok done) ends ok = ends
+ends_so (Err stop) ends ok = absurd (true≢false (sym ok))
+
+-- the end of a command, whose source and sink were these once IN and OUT were open, and are these after the engine ran
+module _ (IsPorts : Ports → Type 0) (engine : Engine) (shows : Bool) (p : Paths) (durability : Durability) (old opened new : FilesView) (before after : Ports)
+    (before_is : IsPorts before) (after_is : IsPorts after) (end : Result (Unit {0}) Interruption) (r : Result (Unit {0}) Ending)
+    (kept : opened.entries ≡ old.entries)
+    (found : shows ≡ true → (is_some (old.entries p.from) ≡ true) × (before.source.remaining ≡ old.entries p.from) × (before.sink.taken ≡ Some [])
+    × (before.sink.label ≡ p.to))
+    (named : after.sink.label ≡ before.sink.label) (promise : shows ≡ true → before.sink.taken ≡ Some [] → Kept engine before after end)
+    (concludes : Concludes shows p.save durability after.sink end opened new r) where
+  module _ (shown : shows ≡ true) where
+    label : after.sink.label ≡ p.to
+    label = named ∙ (found shown).3
+
+    ran : (Promise : Ports → Ports → Type 0) → Promise before after → (taken : Option (List ℕ)) → taken ≡ after.sink.taken
+        → Ran IsPorts Promise (old.entries p.from) taken
+    ran Promise promised taken took = record {
+      before = before;
+      after = after;
+      before_is = before_is;
+      after_is = after_is;
+      coming = sym (found shown).1;
+      empty = (found shown).2;
+      took = took;
+      promise = promised;
+    }
+
+    -- how OUT is left, by how the engine ended
+    left_out : (e : Result (Unit {0}) Interruption) → Kept engine before after e → (out_old out_new : Option (List ℕ)) (s : Interruption)
+        → Left e after.sink.taken out_old out_new s
+        → IsLeft IsPorts engine s.position s.fault (old.entries p.from) out_old out_new
+        ⊎ IsUnclosed IsPorts engine s.position s.fault (old.entries p.from) out_old out_new
+    left_out (Err cause) k out_old out_new s (is, left) =
+        subst (λ (t : Interruption). IsLeft IsPorts engine t.position t.fault (old.entries p.from) out_old out_new
+        ⊎ IsUnclosed IsPorts engine t.position t.fault (old.entries p.from) out_old out_new) (sym is)
+        (inl (
+          after.sink.taken,
+          ran (engine.stops cause.position cause.fault) k.stops after.sink.taken refl,
+          ⊎_elim (λ same. inl same) (λ put. inr (put.0, k.touches put.1)) left,
+        ))
+    left_out (Ok done) k out_old out_new s (is, left) = inr (
+      after.sink.taken,
+      ran engine.ends k.ends after.sink.taken refl,
+      left,
+      ap (λ (t : Interruption). t.position) is,
+      ap (λ (t : Interruption). t.fault) is,
+    )
+
+  pub wrote_out : OnOk r (shows ≡ true → WritesOut IsPorts engine p old.entries new.entries)
+  wrote_out = on_ok_weaker r (λ done shown.
+      let put = done.1 shown in
+      record {
+        there = (found shown).0;
+        output = ran shown engine.ends (ends_so end (promise shown (found shown).2).ends done.0) (new.entries p.to)
+            (subst (λ l. new.entries l ≡ after.sink.taken) (label shown) put.0);
+        others = λ q other. put.1 q (λ e. other (e ∙ label shown)) ∙ ap (λ (f : Files). f q) kept;
+      }) concludes.done
+
+  pub stopped_out : (p.save ≡ Some p.to → ⊥) → shows ≡ true → IfErr r (λ e. LeavesOut IsPorts engine p old.entries new.entries e)
+  stopped_out apart shown = IfErr-weaker r _ _ (λ e stops.
+      let k = promise shown (found shown).2 in
+      let s = stops shown (λ same. apart (same ∙ ap Some (label shown))) k.faithful in
+      let left = subst (λ (f : Files). Left end after.sink.taken (f p.to) (new.entries p.to) s.0) kept
+      (subst (λ l. Left end after.sink.taken (opened.entries l) (new.entries l) s.0) (label shown) s.1) in
+      record {
+        there = (found shown).0;
+        position = s.0.position;
+        fault = s.0.fault;
+        output = left_out shown end k (old.entries p.to) (new.entries p.to) s.0 left;
+        ends = subst (λ (f : Files). EndsOf s.0.fault p.save s.0.position f new.entries e) kept s.2;
+      }) concludes.stops
+
+  pub spared_out : shows ≡ true → SparesBoth (Some p.to) p.save old.entries new.entries
+  spared_out shown q to save = concludes.spares shown q (λ e. to (ap Some (sym (label shown)) ∙ e)) save ∙ ap (λ (f : Files). f q) kept
+
+-- ---- what each engine promises
+
+zero_of : (n : ℕ) → (n == 0) ≡ true → n ≡ 0
+zero_of n test = search rules
+
+pub kept_opening : (keep : PositionPolicy) (i : Identity) (before after : Ports) (run : Option Run) (r : Result Done Stopped)
+    → IfOk r (λ done. IsSomeAnd run (DecryptEnds (allows_by i) before after done)) → IfErr r (DecryptStops keep (allows_by i) (refuses_by i) before after run)
+    → before.sink.taken ≡ Some [] → Kept (decrypt_engine keep i) before after (opening_end r)
+kept_opening keep i before after run (Ok done) ends stops empty =
+    let of = the_run run ends in
+    record { ends = (done, of.0, of.1); stops = tt; touches = tt; faithful = tt }
+kept_opening keep i before after run (Err s) ends stops empty =
+    let w = stop_wrote keep (allows_by i) (refuses_by i) before after s run stops in
+    record {
+      ends = tt;
+      stops = (s.written, run, stops);
+      touches = λ wrote. holds_something before.sink.taken after.sink.taken s.written w.0 empty w.1 wrote;
+      faithful = λ none. holds_nothing before.sink.taken after.sink.taken s.written w.0 empty w.1 (zero_of s.written none);
+    }
+
+pub kept_resuming : (IsPorts : Ports → Type 0) (keep : PositionPolicy) (i : Identity) (from : Position) (old_text : Option (List ℕ)) (before after : Ports)
+    (first last : SourceView) (run : Option Run) (r : Result Done Stopped) → IsPorts (ports first before.sink) → IsPorts (ports last after.sink)
+    → old_text ≡ first.remaining
+    → IfOk r (λ done. IsSomeAnd run (ResumeEnds (allows_by i) from (resume_ports before first) (resume_ports after last) done))
+    → IfErr r (ResumeStops (allows_by i) from (resume_ports before first) (resume_ports after last) keep (refuses_by i) run) → before.sink.taken ≡ Some []
+    → Kept (resume_engine IsPorts keep i from old_text) before after (opening_end r)
+kept_resuming IsPorts keep i from old_text before after first last run (Ok done) first_is last_is coming ends stops empty =
+    let of = the_run run ends in
+    record { ends = (first, last, first_is, last_is, coming, (done, of.0, of.1)); stops = tt; touches = tt; faithful = tt }
+kept_resuming IsPorts keep i from old_text before after first last run (Err s) first_is last_is coming ends stops empty =
+    let w = resume_wrote keep (allows_by i) from (refuses_by i) (resume_ports before first) (resume_ports after last) s run stops in
+    record {
+      ends = tt;
+      stops = (first, last, first_is, last_is, coming, (s.written, run, stops));
+      touches = λ wrote. holds_something before.sink.taken after.sink.taken s.written w.0 empty w.1 wrote;
+      faithful = λ none. holds_nothing before.sink.taken after.sink.taken s.written w.0 empty w.1 (zero_of s.written none);
+    }
+
+memory_of : (f : FileFault) → is_memory f ≡ true → f ≡ fault.Memory
+memory_of fault.Memory is = refl
+memory_of (fault.Head f) is = absurd (true≢false (sym is))
+memory_of (fault.Key f) is = absurd (true≢false (sym is))
+memory_of fault.NonceCut is = absurd (true≢false (sym is))
+memory_of (fault.Stream f) is = absurd (true≢false (sym is))
+memory_of fault.BadPosition is = absurd (true≢false (sym is))
+memory_of fault.OtherFile is = absurd (true≢false (sym is))
+memory_of fault.ShortText is = absurd (true≢false (sym is))
+memory_of fault.Read is = absurd (true≢false (sym is))
+memory_of fault.Write is = absurd (true≢false (sym is))
+memory_of fault.ReadNeverEnds is = absurd (true≢false (sym is))
+memory_of fault.PositionForged is = absurd (true≢false (sym is))
+memory_of fault.OldTextDiffers is = absurd (true≢false (sym is))
+
+pub kept_sealing : (secret : SecretView) (before after : Ports) (r : Result Written FileFault) → IfOk r (Encrypts secret before after)
+    → IfErr r (EncryptFails secret before after) → before.sink.taken ≡ Some [] → Kept (encrypt_engine secret) before after (sealing_end r)
+kept_sealing secret before after (Ok written) ends fails empty = record { ends = (written, ends); stops = tt; touches = tt; faithful = tt }
+kept_sealing secret before after (Err f) ends fails empty = record {
+  ends = tt;
+  stops = fails;
+  touches = λ wrote memory. true≢false (sym (ap is_memory memory) ∙ wrote);
+  faithful = λ none. sealed_nothing secret before after f (memory_of f none) fails ∙ empty;
+}

@@ -1,0 +1,165 @@
+-- What a command did whose engine ran.
+use Rattle.std.proofs.Common.{◌≡◌, ◌⊎◌, ◌∙◌, ◌++◌, ◌∷◌, ap, sym, subst, refl, inl, inr, true, List}
+use Rattle.std.proofs.Common.{[], Bool, Some, None, append-nil}
+use Rattle.std.proofs.Common.{Result, Ok, Err, OnOk, IfOk, IfErr}
+use Rattle.std.specs.Prelude.{is_some}
+use Rattle.std.proofs.lemmas.Result.{on_ok_weaker, IfErr-weaker}
+use Rattle.age_io.specs.Io.{SourceView}
+use Rattle.age_io.specs.declared.durability.Durability.{Durability}
+use Rattle.age_file.specs.Runs.{Ports, ports}
+use Rattle.age_file.specs.Encrypts.{SecretView, Encrypts, EncryptFails}
+use Rattle.age_file.specs.Resumes.{resume_ports, ResumesText}
+use Rattle.age_file.specs.declared.encryption.Written.{Written}
+use Rattle.age_file.specs.declared.decryption.Done.{Done}
+use Rattle.age_file.specs.declared.decryption.Stopped.{Stopped}
+use Rattle.age_file.specs.declared.position.Position.{Position}
+use Rattle.age_file.specs.declared.position.PositionPolicy.{PositionPolicy}
+use Rattle.age_fault.specs.declared.fault.FileFault.{FileFault}
+use Rattle.age_fileset.specs.FileSet.{Event, Opened, Created, FilesView}
+use Rattle.age_cli_args.specs.Requests.{option_text}
+use Rattle.age_cli_args.specs.declared.request.ProgressOption.TheVariants.{Silent}
+use Rattle.age_cli_args.specs.declared.request.Encrypting.{Encrypting}
+use Rattle.age_cli_args.specs.declared.request.Decrypting.{Decrypting}
+use Rattle.age_cli_args.specs.declared.request.Resuming.{Resuming}
+use Rattle.age_cli_args.specs.declared.request.Request.{Request}
+use Rattle.age_cli_args.specs.declared.request.Request.TheVariants.{Encrypt, Decrypt, Resume}
+use Rattle.age_cli_common.specs.Orders.{Follows, identity_order, preparing, making, replacing}
+use Rattle.age_cli_common.specs.Orders.{NamesTwice, order_asked, random_name}
+use Rattle.age_cli_common.specs.Files.{Files, SparesBoth}
+use Rattle.age_cli_common.specs.Identities.{OpensBy, allows_by, refuses_by}
+use Rattle.age_cli_common.specs.declared.ending.Ending.{Ending}
+use Rattle.age_cli_common.specs.declared.identity.Identity.{Identity}
+use Rattle.age_cli.specs.Acts.{Acts, HasEngineEnded, OfEngine, OfSomeEngine, Spares, paths_of}
+use Rattle.age_cli.specs.Acts.{progress_of, Engine, encrypt_engine, decrypt_engine, resume_engine}
+use Rattle.age_cli.specs.Acts.{Paths, LeavesOut}
+use Rattle.age_cli.specs.Acts.{WritesOut, kept_for}
+use Rattle.age_cli.specs.Commands.{MakesSecret, IsPositionIn, old_for}
+use Rattle.age_cli.specs.declared.interruption.Interruption.{Interruption}
+use Rattle.age_cli.specs.inner.Endings.{Concludes, sealing_end, opening_end}
+use Rattle.age_cli.specs.inner.Rereadings.{DecryptsOpened, HoldsInput}
+use Rattle.age_cli.proofs.ActLemmas.{acts_concluded}
+use Rattle.age_cli.proofs.CommandStopLemmas.{the_run}
+use Rattle.age_cli.proofs.EngineLemmas.{Kept, ends_so, kept_sealing, kept_opening, kept_resuming}
+use Rattle.age_cli.proofs.EngineLemmas.{wrote_out, stopped_out, spared_out}
+use Rattle.age_cli.proofs.EventLemmas.{then_concluded, then_closed}
+
+-- IN and OUT were found so
+abbrev pub Found : Paths → Files → Ports → Type 0
+Found p old before = (is_some (old p.from) ≡ true) × (before.source.remaining ≡ old p.from) × (before.sink.taken ≡ Some []) × (before.sink.label ≡ p.to)
+
+-- what follows from an engine that ended
+sealing_ran : {P : Type 0} {Q : Written → Type 0} (r : Result Written FileFault) → ((x : Written) → Q x → P) → IfOk r Q → OnOk (sealing_end r) P
+sealing_ran (Ok x) so q = so x q
+sealing_ran (Err f) so q = tt
+
+opening_ran : {P : Type 0} {Q : Done → Type 0} (r : Result Done Stopped) → ((x : Done) → Q x → P) → IfOk r Q → OnOk (opening_end r) P
+opening_ran (Ok x) so q = so x q
+opening_ran (Err s) so q = tt
+
+-- and so the position and the old text
+abbrev pub WasEarlier : Resuming → Position → Files → SourceView → Type 0
+WasEarlier a from old first = IsPositionIn (old a.position.now) from × (is_some (old_for from (old a.old.now)) ≡ true)
+    × (first.remaining ≡ old_for from (old a.old.now))
+
+module _ (IsPorts : Ports → Type 0) (shows : Bool) (asked : Request) (old opened new : FilesView) (Failed Unshown Over : Type 0) (engine : Engine) (p : Paths)
+    (durability : Durability) (before after : Ports) (end : Result (Unit {0}) Interruption) (r : Result (Unit {0}) Ending) (xs ys : List Event) where
+  acts_of_engine : IsPorts before → IsPorts after → (order_asked asked).done ≡ xs ++ (ys ++ making (Some p.to) durability)
+      → (order_asked asked).whole ≡ (xs ++ (ys ++ making (Some p.to) durability)) ++ replacing p.save durability
+      → (shows ≡ true → (P : Engine → Paths → Type 0) → P engine p → OfEngine IsPorts asked old.entries P)
+      → OnOk end (OfSomeEngine IsPorts asked (HasEngineEnded IsPorts))
+      → (SparesBoth (Some p.to) p.save old.entries new.entries → Spares asked old.entries new.entries)
+      → opened.entries ≡ old.entries → (shows ≡ true → Found p old.entries before) → after.sink.label ≡ before.sink.label
+      → (shows ≡ true → before.sink.taken ≡ Some [] → Kept engine before after end) → Concludes shows p.save durability after.sink end opened new r
+      → opened.events ≡ old.events ++ (xs ++ (ys ++ Created p.to ∷ [])) → (NamesTwice (order_asked asked).apart → ⊥) → (p.save ≡ Some p.to → ⊥)
+      → (progress_of asked ≡ Silent → Unshown) × (Unshown ⊎ Over) → Acts IsPorts shows asked old new Failed Unshown Over r
+  acts_of_engine before_is after_is done_is whole_is of ran spares kept found named promise concludes noted apart unsaved silent =
+      acts_concluded IsPorts shows asked old new Failed Unshown Over r
+      (on_ok_weaker r (λ wrote shown. of shown (λ e q. WritesOut IsPorts e q old.entries new.entries) (wrote shown))
+      (wrote_out IsPorts engine shows p durability old opened new before after before_is after_is end r kept found named promise concludes))
+      (on_ok_weaker r (λ done. ends_so end ran done.0) concludes.done)
+      (λ shown. IfErr-weaker r _ _ (λ e stops. of shown (λ n q. LeavesOut IsPorts n q old.entries new.entries e) stops)
+      (stopped_out IsPorts engine shows p durability old opened new before after before_is after_is end r kept found named promise concludes unsaved shown))
+      concludes.fault
+      (λ shown. spares
+      (spared_out IsPorts engine shows p durability old opened new before after before_is after_is end r kept found named promise concludes shown))
+      (subst (λ order. Follows order old.events new.events) (sym whole_is)
+      (then_concluded xs ys p.to durability (replacing p.save durability) old.events opened.events new.events noted concludes.order))
+      (on_ok_weaker r (λ closed. then_closed xs ys p.to durability old.events opened.events new.events noted closed ∙ ap (λ order. old.events ++ order) (sym done_is))
+      concludes.order_done)
+      apart silent
+
+module _ (IsPorts : Ports → Type 0) (shows : Bool) (old opened new : FilesView) (Failed Unshown Over : Type 0) (before after : Ports) (before_is : IsPorts before)
+    (after_is : IsPorts after) (end : Result (Unit {0}) Interruption) (r : Result (Unit {0}) Ending) (kept : opened.entries ≡ old.entries) where
+  pub encrypt_acts : (e : Encrypting) (secret : SecretView) (sealed : Result Written FileFault) → (shows ≡ true → MakesSecret e old.entries secret)
+      → (shows ≡ true → Found (record { from = e.from.now; to = e.to.now; save = None }) old.entries before) → end ≡ sealing_end sealed
+      → IfOk sealed (Encrypts secret before after) → IfErr sealed (EncryptFails secret before after) → after.sink.label ≡ before.sink.label
+      → Concludes shows None e.durability after.sink end opened new r
+      → opened.events ≡ old.events
+      ++ ((Opened e.pass.now ∷ Opened (random_name (option_text e.random)) ∷ []) ++ (Opened e.from.now ∷ Created e.to.now ∷ []))
+      → (NamesTwice (order_asked (Encrypt e)).apart → ⊥) → (e.progress ≡ Silent → Unshown) × (Unshown ⊎ Over)
+      → Acts IsPorts shows (Encrypt e) old new Failed Unshown Over r
+  encrypt_acts e secret sealed made found is ends fails named concludes noted apart silent =
+      acts_of_engine IsPorts shows (Encrypt e) old opened new Failed Unshown Over (encrypt_engine secret) (record { from = e.from.now; to = e.to.now; save = None }) e.durability
+      before after end r (Opened e.pass.now ∷ Opened (random_name (option_text e.random)) ∷ []) (Opened e.from.now ∷ []) before_is after_is refl
+      refl
+      (λ shown P holds. (secret, made shown, holds))
+      (subst (λ (n : Result (Unit {0}) Interruption). OnOk n (OfSomeEngine IsPorts (Encrypt e) (HasEngineEnded IsPorts))) (sym is)
+      (sealing_ran sealed (λ written sealed_so. (secret, (before, after, before_is, after_is, (written, sealed_so)))) ends)) (λ spared. spared) kept found named
+      (λ shown empty. subst (λ (n : Result (Unit {0}) Interruption). Kept (encrypt_engine secret) before after n) (sym is) (kept_sealing secret before after sealed ends fails empty))
+      concludes noted apart (λ same. cc) silent
+
+  pub resume_acts : (a : Resuming) (keep : PositionPolicy) (identity : Identity) (from : Position) (first last : SourceView) (resumed : Result Done Stopped)
+      → ((files : Files) × OpensBy files a.decrypting.identity identity)
+      → (shows ≡ true → OpensBy old.entries a.decrypting.identity identity)
+      → (shows ≡ true → WasEarlier a from old.entries first)
+      → IsPorts (ports first before.sink) → IsPorts (ports last after.sink)
+      → (shows ≡ true → Found (paths_of a.decrypting) old.entries before)
+      → keep ≡ kept_for (option_text a.decrypting.save) → end ≡ opening_end resumed
+      → ResumesText keep (allows_by identity) (refuses_by identity) from (resume_ports before first) (resume_ports after last) resumed
+      → Concludes shows (option_text a.decrypting.save) a.decrypting.durability after.sink end opened new r
+      → opened.events ≡ old.events ++ (identity_order (option_text a.decrypting.identity.pass) (option_text a.decrypting.identity.shared)
+      ++ ((Opened a.position.now ∷ Opened a.old.now ∷ Opened a.decrypting.from.now ∷ preparing (option_text a.decrypting.save)) ++ Created a.decrypting.to.now ∷ []))
+      → (NamesTwice (order_asked (Resume a)).apart → ⊥) → (a.decrypting.progress ≡ Silent → Unshown) × (Unshown ⊎ Over)
+      → Acts IsPorts shows (Resume a) old new Failed Unshown Over r
+  resume_acts a keep identity from first last resumed by opens earlier first_is last_is found keep_is is promise concludes noted apart silent =
+      let d = a.decrypting in
+      let k = kept_for (option_text d.save) in
+      let engine = resume_engine IsPorts k identity from (old_for from (old.entries a.old.now)) in
+      let did = subst (λ (x : PositionPolicy). ResumesText x (allows_by identity) (refuses_by identity) from (resume_ports before first) (resume_ports after last)
+      resumed) keep_is promise in
+      acts_of_engine IsPorts shows (Resume a) old opened new Failed Unshown Over engine (paths_of d) d.durability before after end r
+      (identity_order (option_text d.identity.pass) (option_text d.identity.shared))
+      (Opened a.position.now ∷ Opened a.old.now ∷ Opened d.from.now ∷ preparing (option_text d.save)) before_is after_is refl refl
+      (λ shown P holds. (identity, opens shown, from, (earlier shown).0, (earlier shown).1, holds))
+      (subst (λ (n : Result (Unit {0}) Interruption). OnOk n (OfSomeEngine IsPorts (Resume a) (HasEngineEnded IsPorts))) (sym is)
+      (opening_ran resumed (λ done so. let of = the_run did.run so in
+      (identity, by, from, first.remaining, (before, after, before_is, after_is, (first, last, first_is, last_is, refl, (done, of.0, of.1)))))
+      did.done)) (λ spared. spared) kept found did.named
+      (λ shown empty. subst (λ (n : Result (Unit {0}) Interruption). Kept engine before after n) (sym is)
+      (kept_resuming IsPorts k identity from (old_for from (old.entries a.old.now)) before after first last did.run resumed first_is last_is (sym (earlier shown).2)
+      did.done did.stopped empty)) concludes noted apart
+      (λ same. apart (inr (inl (inl (d.to.now, same, refl))))) silent
+
+module _ (IsPorts : Ports → Type 0) (shows : Bool) (old opened new : FilesView) (Failed Unshown Over : Type 0) (before : Ports) (before_is : IsPorts before)
+    (r : Result (Unit {0}) Ending) (kept : opened.entries ≡ old.entries) where
+  pub decrypt_acts : (d : Decrypting) (identity : Identity) → ((files : Files) × OpensBy files d.identity identity)
+      → (shows ≡ true → OpensBy old.entries d.identity identity) → (shows ≡ true → Found (paths_of d) old.entries before)
+      → DecryptsOpened IsPorts shows d identity before opened new Unshown Over r
+      → opened.events ≡ old.events ++ (identity_order (option_text d.identity.pass) (option_text d.identity.shared)
+      ++ ((Opened d.from.now ∷ preparing (option_text d.save)) ++ Created d.to.now ∷ []))
+      → (NamesTwice (order_asked (Decrypt d)).apart → ⊥) → Acts IsPorts shows (Decrypt d) old new Failed Unshown Over r
+  decrypt_acts d identity by opens found did noted apart =
+      let k = kept_for (option_text d.save) in
+      let holds : shows ≡ true → HoldsInput d before opened =
+      λ shown. let f = found shown in record {
+        there = subst (λ (files : Files). is_some (files d.from.now) ≡ true) (sym kept) f.0;
+        gives = f.1 ∙ ap (λ (files : Files). files d.from.now) (sym kept);
+        other = λ e. apart (inl (inr (inl (d.to.now, refl, ap Some (e ∙ f.3)))));
+      } in
+      acts_of_engine IsPorts shows (Decrypt d) old opened new Failed Unshown Over (decrypt_engine k identity) (paths_of d) d.durability before did.after
+      (opening_end did.decrypted) r (identity_order (option_text d.identity.pass) (option_text d.identity.shared)) (Opened d.from.now ∷ preparing (option_text d.save))
+      before_is did.after_is refl refl (λ shown P holds. (identity, opens shown, holds))
+      (opening_ran did.decrypted (λ done so. let of = the_run did.run so in
+      (identity, by, (before, did.after, before_is, did.after_is, (done, of.0, of.1)))) did.done) (λ spared. spared) kept found did.named
+      (λ shown empty. kept_opening k identity before did.after did.run did.decrypted did.done (did.stopped shown (holds shown)) empty) did.concludes noted apart
+      (λ same. apart (inr (inl (inl (d.to.now, same, refl))))) (did.silent, did.over)

@@ -1,0 +1,122 @@
+-- What the status says of an ending.
+use Rattle.std.proofs.Common.{◌≡◌, ◌∙◌, ◌⊎◌, inl, inr, arith, refl, sym, subst, ℕ, Bool, true}
+use Rattle.std.proofs.Common.{false, List, Option, None}
+use Rattle.std.proofs.Common.{Result, Ok, Err}
+use Rattle.std.specs.Prelude.{OnErr}
+use Rattle.age_fault.proofs.ByteLemmas.{Appends-then, risen}
+use Rattle.age_fault.specs.Faults.{HasRisen}
+use Rattle.age_cli_common.specs.Endings.{is_usage, Announces, ReportsEnding, ReportsRest, TakesLine}
+use Rattle.age_cli_common.specs.Endings.{Tells, fault_line}
+use Rattle.age_cli_common.specs.declared.ending.Announcement.{Announcement}
+use Rattle.age_cli_common.specs.declared.ending.Announcement.TheVariants.{Unmade, Made, Failed}
+use Rattle.age_cli.specs.Acts.{status_by, ending_status}
+use Rattle.age_cli_common.specs.declared.ending.Ending.{Ending}
+use Rattle.age_cli_common.specs.declared.ending.Ending.TheVariants.{Words, Usage, Fault, Unsaved}
+use Rattle.age_io.specs.Io.{SinkView, SourceView}
+use Rattle.age_file.specs.Runs.{HeadFails, NoHeadFault}
+use Rattle.age_fault.specs.declared.fault.FileFault.{FileFault}
+use Rattle.age_fault.specs.declared.fault.FileFault.TheVariants.{Head, Key, NonceCut, Stream}
+use Rattle.age_fault.specs.declared.fault.FileFault.TheVariants.{BadPosition, OtherFile, ShortText}
+use Rattle.age_fault.specs.declared.fault.FileFault.TheVariants.{Read, Write, Memory, ReadNeverEnds}
+use Rattle.age_fault.specs.declared.fault.FileFault.TheVariants.{PositionForged, OldTextDiffers}
+use Rattle.age_fileset.specs.FileSet.{IsMemoryOr}
+use Rattle.age_cli.specs.Commands.{FailsReport, seen}
+
+-- an ending has another status than success
+pub failed_status : (e : Ending) → ending_status e ≡ 0 → ⊥
+failed_status (Fault fault) zero = absurd (omega (arith, zero))
+failed_status (Unsaved fault second) zero = absurd (omega (arith, zero))
+failed_status (Words text) zero = absurd (omega (arith, zero))
+failed_status (Usage usage) zero = absurd (omega (arith, zero))
+
+pub failed_by : (r : Result (Unit {0}) Ending) (status : ℕ) → status ≡ status_by r → OnErr r (status ≡ 0 → ⊥)
+failed_by (Ok done) status is = tt
+failed_by (Err e) status is = λ zero. failed_status e (sym is ∙ zero)
+
+-- where nothing is announced, the sink is as it was
+pub unmade : {A : Type 0} (r : Result A Ending) (old new : SinkView) (Quiet : Type 0) → Quiet → Tells Unmade r old new Quiet
+unmade (Ok done) old new Quiet quiet = quiet
+unmade (Err ending) old new Quiet quiet = quiet
+
+-- what is always announced
+pub announced_so : (a : Announcement) (e : Ending) (old new : SinkView) (Quiet : Type 0) → Announces a e old new ⊥ → Announces a e old new Quiet
+announced_so Unmade e old new Quiet h = absurd h
+announced_so Made (Fault fault) old new Quiet h = h
+announced_so Made (Unsaved fault second) old new Quiet h = h
+announced_so Made (Words text) old new Quiet h = absurd h
+announced_so Made (Usage usage) old new Quiet h = absurd h
+announced_so Failed e old new Quiet h = h
+
+-- what an ending leaves of these two views
+abbrev pub Leaves : Ending → SinkView → SinkView → Type 0
+Leaves e old new = ReportsEnding e old.taken new.taken old.failed new.failed
+
+failed_whole : (e : Ending) (old new : SinkView) → HasRisen old.failed new.failed → Leaves e old new
+failed_whole (Fault fault) old new risen = inr risen
+failed_whole (Unsaved fault second) old new risen = inr risen
+failed_whole (Words text) old new risen = tt
+failed_whole (Usage usage) old new risen = tt
+
+second_whole : (fault second : FileFault) (old mid new : SinkView) → TakesLine fault old mid → TakesLine second mid new ⊎ HasRisen mid.failed new.failed
+    → Leaves (Unsaved fault second) old new
+second_whole fault second old mid new first (inl took) = inl (Appends-then old.taken mid.taken new.taken (fault_line fault) (fault_line second) first.0 took.0)
+second_whole fault second old mid new first (inr risen) = inr (subst (λ (n : ℕ). HasRisen n new.failed) first.1 risen)
+
+-- what was announced and the rest are the whole report
+pub reported_whole : (a : Announcement) (e : Ending) (old mid new : SinkView) (Quiet : Type 0) → (Quiet → mid ≡ old) → Announces a e old mid Quiet
+    → ReportsRest a e mid new → Leaves e old new
+reported_whole Unmade e old mid new Quiet same quiet rest = subst (λ (s : SinkView). Leaves e s new) (same quiet) rest
+reported_whole Made (Fault fault) old mid new Quiet same first rest = subst (λ (s : SinkView). Leaves (Fault fault) old s) (sym rest) (inl first.0)
+reported_whole Made (Unsaved fault second) old mid new Quiet same first rest = second_whole fault second old mid new first rest
+reported_whole Made (Words text) old mid new Quiet same first rest = tt
+reported_whole Made (Usage usage) old mid new Quiet same first rest = tt
+reported_whole Failed e old mid new Quiet same risen rest = subst (λ (s : SinkView). Leaves e old s) (sym rest) (failed_whole e old mid risen)
+
+-- a report that fails has the fault of what was read
+pub report_fails : (old new : SourceView) (f : FileFault) → HeadFails NoHeadFault old new f → FailsReport old.remaining (Fault f)
+report_fails old new (Head fault) h = h.of_all
+report_fails old new Read h = tt
+report_fails old new Memory h = tt
+report_fails old new ReadNeverEnds h = tt
+report_fails old new Write h = tt
+report_fails old new (Key fault) h = absurd h
+report_fails old new (Stream fault) h = absurd h
+report_fails old new NonceCut h = absurd h
+report_fails old new BadPosition h = absurd h
+report_fails old new OtherFile h = absurd h
+report_fails old new ShortText h = absurd h
+report_fails old new PositionForged h = absurd h
+report_fails old new OldTextDiffers h = absurd h
+
+-- and one that can't be read has a source that failed
+pub read_fails : (old new : SourceView) (f : FileFault) → HeadFails NoHeadFault old new f → f ≡ Read → HasRisen old.failed new.failed
+read_fails old new f h is = risen _ _ (subst (λ (x : FileFault). HeadFails NoHeadFault old new x) is h).1.0
+
+-- so has one of a file of which contracts see nothing
+unseen : (held : Option (List ℕ)) (e : Ending) → FailsReport held e → FailsReport None e
+unseen held (Fault (Head fault)) fails = tt
+unseen held (Fault Read) fails = tt
+unseen held (Fault Memory) fails = tt
+unseen held (Fault ReadNeverEnds) fails = tt
+unseen held (Fault Write) fails = tt
+unseen held (Fault (Key fault)) fails = absurd fails
+unseen held (Fault (Stream fault)) fails = absurd fails
+unseen held (Fault NonceCut) fails = absurd fails
+unseen held (Fault BadPosition) fails = absurd fails
+unseen held (Fault OtherFile) fails = absurd fails
+unseen held (Fault ShortText) fails = absurd fails
+unseen held (Fault PositionForged) fails = absurd fails
+unseen held (Fault OldTextDiffers) fails = absurd fails
+unseen held (Words text) fails = absurd fails
+unseen held (Usage usage) fails = absurd fails
+unseen held (Unsaved fault second) fails = absurd fails
+
+pub seen_fails : (shows : Bool) (held coming : Option (List ℕ)) (e : Ending) → (shows ≡ true → coming ≡ held) → FailsReport coming e
+    → FailsReport (seen shows held) e
+seen_fails true held coming e same fails = subst (λ (h : Option (List ℕ)). FailsReport h e) (same refl) fails
+seen_fails false held coming e same fails = unseen coming e fails
+
+-- and a file that can't be opened
+pub open_fails : (held : Option (List ℕ)) (f : FileFault) → IsMemoryOr Read f → FailsReport held (Fault f)
+open_fails held f (inl read) = subst (λ (x : FileFault). FailsReport held (Fault x)) (sym read) tt
+open_fails held f (inr memory) = subst (λ (x : FileFault). FailsReport held (Fault x)) (sym memory) tt

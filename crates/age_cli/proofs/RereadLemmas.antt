@@ -1,0 +1,227 @@
+-- What a decryption did whose position was found by reading the input once more.
+use Rattle.std.proofs.Common.{◌≡◌, ◌≢◌, ◌∙◌, ◌⊎◌, ◌∷◌, ◌++◌, [], ℕ, List, Option, Some, None, Bool}
+use Rattle.std.proofs.Common.{true, false}
+use Rattle.std.proofs.Common.{Result, Ok, Err, IfOk, IfErr, ap, sym, subst, refl, inl, inr, ⊎_elim}
+use Rattle.std.proofs.Common.{true≢false}
+use Rattle.std.specs.Prelude.{is_some, IfSome}
+use Rattle.std.proofs.lemmas.Option.{none-some}
+use Rattle.clap.specs.Words.{Text}
+use Rattle.age_fault.specs.declared.fault.FileFault.{FileFault}
+use Rattle.age_fault.specs.declared.fault.FileFault.TheVariants.{Read, Write}
+use Rattle.age_fault.specs.declared.fault.FileFault.TheVariants as fault
+use Rattle.age_file.proofs.AgainLawLemmas.{stops_kept}
+use Rattle.age_file.specs.Decrypts.{FindsPosition, IsElsewhere, IsFoundAgain, ReadAgain}
+use Rattle.age_file.specs.Decrypts.{fault_again, DecryptStops, DecryptsKeyed, FindsKey}
+use Rattle.age_file.specs.Runs.{Ports, Run, IsPositionOf}
+use Rattle.age_file.specs.declared.decryption.Done.{Done}
+use Rattle.age_file.specs.declared.decryption.Stopped.{Stopped}
+use Rattle.age_file.specs.declared.position.Position.{Position}
+use Rattle.age_file.specs.declared.position.PositionPolicy.{PositionPolicy}
+use Rattle.age_file.specs.declared.position.PositionPolicy.TheVariants.{Kept, Dropped}
+use Rattle.age_fileset.specs.FileSet.{FilesView, IsMemoryOr, Closed}
+use Rattle.age_io.specs.Io.{SinkView, SourceView}
+use Rattle.age_io.specs.declared.durability.Durability.{Durability}
+use Rattle.age_cli_args.specs.Requests.{option_text}
+use Rattle.age_cli_args.specs.declared.request.Decrypting.{Decrypting}
+use Rattle.age_cli_args.specs.declared.request.ProgressOption.TheVariants.{Silent}
+use Rattle.age_cli_common.specs.Identities.{allows_by, refuses_by}
+use Rattle.age_cli_common.specs.declared.ending.Ending.{Ending}
+use Rattle.age_cli_common.specs.declared.identity.Identity.{Identity}
+use Rattle.age_cli_common.specs.Endings.{is_usage}
+use Rattle.age_cli_common.specs.Orders.{Follows, replacing}
+use Rattle.age_cli_common.specs.Files.{Files, SparesBut, SparesBoth}
+use Rattle.age_cli_common.proofs.EventLemmas.{then_follows}
+use Rattle.age_cli.specs.Acts.{EndsOf, IsSaved, SaveFails, kept_for}
+use Rattle.age_cli.specs.inner.Openings.{Saves}
+use Rattle.age_cli.specs.declared.interruption.Interruption.{Interruption}
+use Rattle.age_cli.proofs.CommandStopLemmas.{ends_from}
+use Rattle.age_cli.proofs.EngineLemmas.{left_as}
+use Rattle.age_cli.specs.inner.Endings.{Concludes, Left, opening_end}
+use Rattle.age_cli.specs.inner.Rereadings.{again_of, ConcludesAgain, DecryptsOpened, HoldsInput}
+use Rattle.age_cli.specs.inner.Rereadings.{IsFoundIn, stopped_at}
+
+some_of : (o : Option (List ℕ)) → is_some o ≡ true → (bytes : List ℕ) × (o ≡ Some bytes)
+some_of None there = absurd (true≢false (sym there))
+some_of (Some bytes) there = (bytes, refl)
+
+kept_some : (save : Option Text) → is_some save ≡ true → Kept ≡ kept_for save
+kept_some None there = absurd (true≢false (sym there))
+kept_some (Some name) there = refl
+
+-- what is there, or else this
+abbrev pair_in : Stopped × List ℕ → Option (Stopped × List ℕ) → Stopped × List ℕ
+pair_in other None = other
+pair_in other (Some both) = both
+
+-- the result, the key and the choice of a decryption that is read again
+pub again_is : (reread : Bool) (end : Result Done Stopped) (key : Option (List ℕ)) (s : Stopped) (k : List ℕ) → again_of reread end key ≡ Some (s, k)
+    → (reread ≡ true) × (end ≡ Err s) × (key ≡ Some k)
+again_is reread (Ok x) key s k is = absurd (none-some (s, k) is)
+again_is reread (Err x) None s k is = absurd (none-some (s, k) is)
+again_is true (Err x) (Some y) s k is =
+    let both = ap (pair_in (s, k)) is in
+    (refl, ap (λ (t : Stopped × List ℕ). Err t.0) both, ap (λ (t : Stopped × List ℕ). Some t.1) both)
+again_is false (Err x) (Some y) s k is = absurd (none-some (s, k) is)
+
+-- a stop before the payload has no position, kept or not
+unread : (keep other : PositionPolicy) (i : Identity) (before after : Ports) (run : Option Run) (s : Stopped) → FindsKey run None
+    → DecryptStops keep (allows_by i) (refuses_by i) before after run s → DecryptStops other (allows_by i) (refuses_by i) before after run s
+unread keep other i before after None s none stops = stops
+unread keep other i before after (Some r) s none stops = absurd (none-some r.file.key none)
+
+-- one that isn't read again ended as if positions had been kept where one is to be saved
+pub stopped_so : (reread : Bool) (end : Result Done Stopped) (key : Option (List ℕ)) (keep other : PositionPolicy) (i : Identity) (before after : Ports)
+    → again_of reread end key ≡ None → (reread ≡ false → keep ≡ other)
+    → (d : DecryptsKeyed keep (allows_by i) (refuses_by i) before after end key)
+    → IfErr end (DecryptStops other (allows_by i) (refuses_by i) before after d.is.run)
+stopped_so reread (Ok done) key keep other i before after none same d = tt
+stopped_so reread (Err s) None keep other i before after none same d = unread keep other i before after d.is.run s d.found d.is.stopped
+stopped_so true (Err s) (Some k) keep other i before after none same d = absurd (none-some (s, k) (sym none))
+stopped_so false (Err s) (Some k) keep other i before after none same d =
+    subst (λ (x : PositionPolicy). DecryptStops x (allows_by i) (refuses_by i) before after d.is.run s) (same refl) d.is.stopped
+
+module _ (IsPorts : Ports → Type 0) (shows : Bool) (d : Decrypting) (i : Identity) (before after : Ports) (after_is : IsPorts after) (old new : FilesView)
+    (Unshown Over : Type 0) (silent : d.progress ≡ Silent → Unshown) (over : Unshown ⊎ Over) where
+  pub opened_once : (reread : Bool) (end : Result Done Stopped) (key : Option (List ℕ)) (keep : PositionPolicy) (r : Result (Unit {0}) Ending)
+      → again_of reread end key ≡ None → (reread ≡ false → keep ≡ kept_for (option_text d.save))
+      → DecryptsKeyed keep (allows_by i) (refuses_by i) before after end key
+      → (engine : Result (Unit {0}) Interruption) → engine ≡ opening_end end → Concludes shows (option_text d.save) d.durability after.sink engine old new r
+      → DecryptsOpened IsPorts shows d i before old new Unshown Over r
+  opened_once reread end key keep r none same did engine is concludes = record {
+    after = after;
+    after_is = after_is;
+    decrypted = end;
+    run = did.is.run;
+    done = did.is.done;
+    stopped = λ shown holds. stopped_so reread end key keep (kept_for (option_text d.save)) i before after none same did;
+    named = did.is.named;
+    concludes = subst (λ (e : Result (Unit {0}) Interruption). Concludes shows (option_text d.save) d.durability after.sink e old new r) is concludes;
+    silent = silent;
+    over = over;
+  }
+
+  module _ (law : ReadAgain Identity allows_by refuses_by) (s : Stopped) (key : List ℕ) (saves : is_some (option_text d.save) ≡ true) (ending : Ending)
+      (did : DecryptsKeyed Dropped (allows_by i) (refuses_by i) before after (Err s) (Some key)) where
+    abbrev At : PositionPolicy → Option Run → Position → Type 0
+    At keep run p = DecryptStops keep (allows_by i) (refuses_by i) before after run (stopped_at s p)
+
+    found_so : (run : Option Run) (p : Position) → FindsKey run (Some key) → DecryptStops Dropped (allows_by i) (refuses_by i) before after run s
+        → HoldsInput d before old → IsFoundIn (old.entries d.from.now) key s.written p → At Kept run p
+    found_so None p finds stops holds found = absurd (none-some key (sym finds))
+    found_so (Some r) p finds stops holds (first, last, is, again) =
+        let bytes = some_of (old.entries d.from.now) holds.there in
+        let same : key ≡ r.file.key = cc in
+        law i before after r s first last bytes.0 p stops (holds.gives ∙ bytes.1) (is ∙ bytes.1)
+        (subst (λ (k : List ℕ). IsFoundAgain (λ _ x. x ≡ k) first last s.written p) same again)
+
+    due_so : (run : Option Run) → FindsKey run (Some key) → IfSome run (λ r. (p : Position) × IsPositionOf r p)
+        → DecryptStops Dropped (allows_by i) (refuses_by i) before after run s → (p : Position) × At Kept run p
+    due_so None finds due stops = absurd (none-some key (sym finds))
+    due_so (Some r) finds due stops = (due.0, stops_kept (allows_by i) (refuses_by i) before after r s due.0 stops due.1)
+
+    opened_at : (p : Position) → (shows ≡ true → HoldsInput d before old → At Kept did.is.run p)
+        → Concludes shows (option_text d.save) d.durability after.sink (opening_end (Err (stopped_at s p))) old new (Err ending)
+        → DecryptsOpened IsPorts shows d i before old new Unshown Over (Err ending)
+    opened_at p stops concludes = record {
+      after = after;
+      after_is = after_is;
+      decrypted = Err (stopped_at s p);
+      run = did.is.run;
+      done = tt;
+      stopped = λ shown holds. subst (λ (keep : PositionPolicy). At keep did.is.run p) (kept_some (option_text d.save) saves) (stops shown holds);
+      named = did.is.named;
+      concludes = concludes;
+      silent = silent;
+      over = over;
+    }
+
+    pub opened_again : ConcludesAgain shows d after.sink s key old new ending → DecryptsOpened IsPorts shows d i before old new Unshown Over (Err ending)
+    opened_again (inl (p, found, concludes)) =
+        opened_at p (λ shown holds. found_so did.is.run p did.found did.is.stopped holds (found shown (λ e. holds.other (e ∙ did.is.named)))) concludes
+    opened_again (inr all) =
+        let due = due_so did.is.run did.found did.due did.is.stopped in
+        opened_at due.0 (λ shown holds. due.1) (all due.0)
+
+pub keyed_as : (keep : PositionPolicy) (i : Identity) (before after : Ports) (end : Result Done Stopped) (key : Option (List ℕ)) (s : Stopped) (k : List ℕ)
+    → keep ≡ Dropped → end ≡ Err s → key ≡ Some k → DecryptsKeyed keep (allows_by i) (refuses_by i) before after end key
+    → DecryptsKeyed Dropped (allows_by i) (refuses_by i) before after (Err s) (Some k)
+keyed_as keep i before after end key s k dropped stopped known did =
+    subst (λ (x : Option (List ℕ)). DecryptsKeyed Dropped (allows_by i) (refuses_by i) before after (Err s) x) known
+    (subst (λ (x : Result Done Stopped). DecryptsKeyed Dropped (allows_by i) (refuses_by i) before after x key) stopped
+    (subst (λ (x : PositionPolicy). DecryptsKeyed x (allows_by i) (refuses_by i) before after end key) dropped did))
+
+-- progress that was shown, and then perhaps shown again, is over
+pub over_again : {P : Type 0} (first second third : P) (OverAt : P → Type 0) → (second ≡ first) ⊎ OverAt second → (third ≡ second) ⊎ OverAt third
+    → (third ≡ first) ⊎ OverAt third
+over_again first second third OverAt once (inr over) = inr over
+over_again first second third OverAt (inl none) (inl same) = inl (same ∙ none)
+over_again first second third OverAt (inr over) (inl same) = inr (subst OverAt (sym same) over)
+
+-- a position that was found by this key, over these bytes
+pub finds_so : (bytes : Option (List ℕ)) (key : List ℕ) (old new : SourceView) (written : ℕ) (r : Result Position FileFault) → old.remaining ≡ bytes
+    → FindsPosition (λ _ k. k ≡ key) (λ _ _. ⊥) old new written r → IfOk r (IsFoundIn bytes key written)
+finds_so bytes key old new written (Ok p) is found = (old, new, is, found)
+finds_so bytes key old new written (Err f) is found = tt
+
+again_fault : (f : FileFault) → IsMemoryOr Read (fault_again f)
+again_fault fault.Memory = inr refl
+again_fault (fault.Head f) = inl refl
+again_fault (fault.Key f) = inl refl
+again_fault fault.NonceCut = inl refl
+again_fault (fault.Stream f) = inl refl
+again_fault fault.BadPosition = inl refl
+again_fault fault.OtherFile = inl refl
+again_fault fault.ShortText = inl refl
+again_fault fault.Read = inl refl
+again_fault fault.Write = inl refl
+again_fault fault.ReadNeverEnds = inl refl
+again_fault fault.PositionForged = inl refl
+again_fault fault.OldTextDiffers = inl refl
+
+pub fails_so : (key : List ℕ) (old new : SourceView) (written : ℕ) (r : Result Position FileFault)
+    → FindsPosition (λ _ k. k ≡ key) (λ _ _. ⊥) old new written r → IfErr r (IsMemoryOr Read)
+fails_so key old new written (Ok p) found = tt
+fails_so key old new written (Err f) ends = by ends.result ends.elsewhere where
+  by : (result : Result Done Stopped) → IsElsewhere ends.decrypts.run written f result → IsMemoryOr Read f
+  by (Ok done) is = inl is.1
+  by (Err s) is = subst (IsMemoryOr Read) (sym is.2) (again_fault s.fault)
+
+-- why a position isn't saved that wasn't found
+pub unfound : (f : FileFault) → IsMemoryOr Read f → IsMemoryOr Write f ⊎ (f ≡ Read)
+unfound f (inl read) = inr read
+unfound f (inr memory) = inl (inr memory)
+
+pub save_unfound : (save : Option Text) (p : Position) (files : Files) (f : FileFault) → is_some save ≡ true → IsMemoryOr Read f → SaveFails save (Some p) files files f
+save_unfound None p files f there fault = absurd (true≢false (sym there))
+save_unfound (Some name) p files f there fault = (refl, unfound f fault)
+
+-- a position that stands in its file is saved
+pub saves_is : (save : Option Text) (p : Position) (old new : Files) → Saves save (Some p) old new → IsSaved save (Some p) old new
+saves_is None p old new saves = tt
+saves_is (Some name) p old new saves = saves
+
+-- OUT was left as the stop leaves it, and then what is due was done for the position
+pub concludes_left : (shows : Bool) (save : Option Text) (durability : Durability) (sink : SinkView) (cause : Interruption) (old mid new : FilesView) (ending : Ending)
+    → (shows ≡ true → cause.is_untouched ≡ true → sink.taken ≡ Some [] → mid.entries ≡ old.entries)
+    → (shows ≡ true → cause.is_untouched ≡ false → (mid.entries ≡ old.entries) ⊎ (mid.entries sink.label ≡ sink.taken))
+    → SparesBut sink.label old.entries mid.entries → mid.events ≡ old.events ++ Closed durability ∷ [] → is_usage ending ≡ false
+    → (shows ≡ true → EndsOf cause.fault save cause.position mid.entries new.entries ending)
+    → Follows (replacing save durability) mid.events new.events → (shows ≡ true → SparesBoth None save mid.entries new.entries)
+    → Concludes shows save durability sink (Err cause) old new (Err ending)
+concludes_left shows save durability sink cause old mid new ending untouched written others closed fault ends noted spares = record {
+  done = tt;
+  stops = λ shown apart faithful. (
+    cause,
+    subst (λ (x : Option (List ℕ)). Left (Err cause) sink.taken (old.entries sink.label) x cause) (sym (spares shown sink.label (λ e. cc) apart)) (
+      refl,
+      left_as cause.is_untouched sink.taken (old.entries sink.label) (mid.entries sink.label)
+          (λ none. ap (λ (f : Files). f sink.label) (untouched shown none (faithful none)))
+          (λ wrote. ⊎_elim (λ same. inl (ap (λ (f : Files). f sink.label) same)) (λ put. inr put) (written shown wrote)),
+    ),
+    ends_from cause.fault save cause.position old.entries mid.entries new.entries ending (λ q name. others q (λ e. apart (name ∙ ap Some e))) (ends shown),
+  );
+  fault = fault;
+  spares = λ shown q to save_is. spares shown q (λ e. cc) save_is ∙ others q (λ e. to (ap Some (sym e)));
+  order = then_follows _ _ _ (Closed durability ∷ []) (replacing save durability) closed noted;
+  order_done = tt;
+}

@@ -1,0 +1,211 @@
+-- A position that is found by reading again is that of the run.
+use Rattle.std.proofs.Common.{◌≡◌, ℕ, ◌/◌, ◌<◌, ◌≤◌, min, List, [], ◌++◌, length, Option, Some}
+use Rattle.std.proofs.Common.{refl, sym, ap, subst, ◌∙◌, arith, append_assoc, true, false, ◌*◌}
+use Rattle.std.specs.Simd.{first_chunks}
+use Rattle.std.proofs.lemmas.List.{length-append}
+use Rattle.std.proofs.Math.Nat.{le-div_iff_mul-le}
+use Rattle.age_chunk.specs.Payload.{chunk_limit, chunk_length}
+use Rattle.age_chunk.proofs.FirstChunkLemmas.{first_chunks-append}
+use Rattle.age_file.proofs.RunLemmas.{writes_of}
+use Rattle.age_stanza.specs.declared.header.Header.{Header}
+use Rattle.age_stanza.specs.Laws.{OneHeader}
+use Rattle.age_stream.specs.Headline.{IsPrefixOf}
+use Rattle.age_stream.specs.Segment.{Segment, outcome, released}
+use Rattle.age_io.specs.Io.{SourceView}
+use Rattle.age_keys.specs.declared.fault.KeyFault.{KeyFault}
+use Rattle.age_file.specs.Decrypts.{DecryptStops, IsFoundAgain, ReadAgain}
+use Rattle.age_file.specs.declared.decryption.Stopped.{Stopped}
+use Rattle.age_file.specs.declared.position.PositionPolicy.TheVariants.{Kept, Dropped}
+use Rattle.age_keys.specs.Keys.{payload_key, position_key}
+use Rattle.age_keys.specs.inner.PayloadBox.{box_valid}
+use Rattle.age_keys.specs.AgeFile.{box, unbox}
+use Rattle.age_file.specs.Bindings.{file_id, chain, chain_over, position_tag}
+use Rattle.age_file.specs.Runs.{Ports, Run, IsFromStart, IsRun, IsPositionOf, Reads, held, run_text}
+use Rattle.age_file.specs.Runs.{segment_of, run_outcome}
+use Rattle.age_file.specs.declared.position.Position.{Position}
+use Rattle.age_file.proofs.UndamagedLemmas.{left_of, none_left, same_front}
+use Rattle.age_file.proofs.AgainRunLemmas.{stand_alike}
+
+-- two files that were opened at the front of the same bytes
+pub record IsSameFront (r q : Run) (left rest : List ℕ) : Type 0 where
+  pub header_bytes : q.file.header_bytes ≡ r.file.header_bytes
+  pub nonce : q.file.nonce ≡ r.file.nonce
+  pub behind : (r.skipped ++ r.bytes) ++ left ≡ (q.skipped ++ q.bytes) ++ rest
+
+fronts : OneHeader → (A B : Header → List ℕ → Type 0)
+    (was now before after : Option (List ℕ)) (bytes : List ℕ) (r q : Run)
+    → was ≡ Some bytes → before ≡ Some bytes
+    → Reads A was now r.file (r.skipped ++ r.bytes)
+    → Reads B before after q.file (q.skipped ++ q.bytes)
+    → (left : List ℕ) × (rest : List ℕ) × (now ≡ Some left) × (after ≡ Some rest)
+    × IsSameFront r q left rest
+fronts one A B was now before after bytes r q shown again a b =
+    let s = left_of was now bytes _ shown a.read in
+    let t = left_of before after bytes _ again b.read in
+    let x = r.skipped ++ r.bytes in
+    let y = q.skipped ++ q.bytes in
+    let f = r.file in
+    let g = q.file in
+    let whole_f : bytes ≡ f.header_bytes ++ (f.nonce ++ (x ++ s.0)) =
+    s.1 ∙ (append_assoc (f.header_bytes ++ f.nonce) x s.0
+    ∙ append_assoc f.header_bytes f.nonce (x ++ s.0)) in
+    let whole_g : bytes ≡ g.header_bytes ++ (g.nonce ++ (y ++ t.0)) =
+    t.1 ∙ (append_assoc (g.header_bytes ++ g.nonce) y t.0
+    ∙ append_assoc g.header_bytes g.nonce (y ++ t.0)) in
+    let e : f.header_bytes ++ (f.nonce ++ (x ++ s.0)) ≡ g.header_bytes ++ (g.nonce ++ (y ++ t.0)) =
+    sym whole_f ∙ whole_g in
+    let same = one f.header g.header f.header_bytes g.header_bytes _ _ a.text.spells b.text.spells e
+    in
+    let behind = (same_front f.header_bytes g.header_bytes _ _ (ap length same.1) e).1 in
+    let both = same_front f.nonce g.nonce (x ++ s.0) (y ++ t.0) (a.size ∙ sym b.size) behind in (
+      s.0,
+      t.0,
+      s.2,
+      t.2,
+      record { header_bytes = sym same.1; nonce = sym both.0; behind = both.1 },
+    )
+
+-- the file's parts are those of the run
+carried : (r q : Run) (p : Position) (limit : r.first < chunk_limit) → q.file.key ≡ r.file.key
+    → q.file.header_bytes ≡ r.file.header_bytes → q.file.nonce ≡ r.file.nonce
+    → IsPrefixOf r.out (run_text r) → held q ≡ held r
+    → min (length (held q) / chunk_length) (run_outcome q).index
+    ≡ min (length (held r) / chunk_length) (run_outcome r).index
+    → IsPositionOf q p → IsPositionOf r p
+carried r q p limit key head nonce begins wrote place at =
+    let id : p.file_id ≡ file_id r.file.header_bytes r.file.nonce =
+    at.own ∙ (ap (λ (h : List ℕ). file_id h q.file.nonce) head
+    ∙ ap (file_id r.file.header_bytes) nonce) in
+    let over : p.chain ≡ chain_over p.index (held r) =
+    at.chain_is ∙ ap (chain_over p.index) wrote in
+    let tag : p.tag ≡ position_tag (position_key r.file.key r.file.nonce) p.index p.file_id p.chain =
+    at.tagged ∙ (ap (λ (k : List ℕ). position_tag (position_key k q.file.nonce) p.index p.file_id
+    p.chain) key
+    ∙ ap (λ (k : List ℕ). position_tag (position_key r.file.key k) p.index p.file_id p.chain)
+    nonce) in
+    let index : p.index ≡ min (length (held r) / chunk_length) (run_outcome r).index =
+    at.index ∙ place in
+    record {
+      index = index;
+      own = id;
+      chain_is = over;
+      tagged = tag;
+      carries = λ text auth.
+          let rest = writes_of r limit begins text auth in
+          let positive : 0 < chunk_length = omega arith in
+          let le : p.index ≤ length (held r) / chunk_length = omega (arith, index) in
+          let within : p.index * chunk_length ≤ length (held r) =
+          (le-div_iff_mul-le positive).0 le in (
+            omega (arith, within, ap length rest.1, length-append (held r) rest.0),
+            over
+                ∙ (sym (ap chain (first_chunks-append chunk_length p.index (held r) rest.0 within))
+                ∙ ap (λ (t : List ℕ). chain (first_chunks chunk_length p.index t)) rest.1),
+          );
+    }
+
+-- Two runs by one key from the same chunk, after the same text and over the same bytes, which wrote
+-- as much.
+module _ (r q : Run) (k : ℕ) (at : Position) (left rest : List ℕ) (limit : k < chunk_limit)
+    (first_r : r.first ≡ k) (first_q : q.first ≡ k) (copied : q.copied ≡ r.copied)
+    (size : length r.copied ≡ k * chunk_length) (key : q.file.key ≡ r.file.key)
+    (head : q.file.header_bytes ≡ r.file.header_bytes) (nonce : q.file.nonce ≡ r.file.nonce)
+    (behind : r.bytes ++ left ≡ q.bytes ++ rest) (long : length (held r) ≡ length (held q))
+    (end_r : r.ended ≡ true → left ≡ []) (end_q : q.ended ≡ true → rest ≡ [])
+    (prefix_r : IsPrefixOf r.out (run_text r)) (prefix_q : IsPrefixOf q.out (run_text q)) where
+  abbrev part_of : Run → Segment
+  part_of x = record { start = k; bytes = x.bytes; ended = x.ended; late = false }
+
+  seg : (x : Run) → x.first ≡ k → segment_of x ≡ part_of x
+  seg x is =
+      ap (λ (i : ℕ). record { start = i; bytes = x.bytes; ended = x.ended; late = false }) is
+
+  abbrev open_r : List ℕ → List ℕ → Option (List ℕ)
+  open_r = unbox r.file.key r.file.nonce
+
+  keys : unbox q.file.key q.file.nonce ≡ open_r
+  keys = ap (λ (c : List ℕ). unbox c q.file.nonce) key ∙ ap (unbox r.file.key) nonce
+
+  begins_r : IsPrefixOf r.out (released open_r chunk_length (part_of r))
+  begins_r = subst (λ (s : Segment). IsPrefixOf r.out (released open_r chunk_length s))
+      (seg r first_r) prefix_r
+
+  begins_q : IsPrefixOf q.out (released open_r chunk_length (part_of q))
+  begins_q =
+      subst (λ (o : List ℕ → List ℕ → Option (List ℕ)). IsPrefixOf q.out (released o chunk_length
+      (part_of q))) keys
+      (subst (λ (s : Segment). IsPrefixOf q.out (released (unbox q.file.key q.file.nonce)
+      chunk_length s)) (seg q first_q) prefix_q)
+
+  held_q : held q ≡ r.copied ++ q.out
+  held_q = ap (λ (t : List ℕ). t ++ q.out) copied
+
+  out_long : length r.out ≡ length q.out
+  out_long =
+      omega (
+        arith,
+        long,
+        length-append r.copied r.out,
+        ap length held_q,
+        length-append r.copied q.out,
+      )
+
+  index_of : (x : Run) → x.first ≡ k → held x ≡ r.copied ++ x.out
+      → unbox x.file.key x.file.nonce ≡ open_r
+      → min (length (held x) / chunk_length) (run_outcome x).index
+      ≡ min (length (r.copied ++ x.out) / chunk_length)
+      (outcome open_r chunk_length (part_of x)).index
+  index_of x first_x holds is =
+      ap (λ (t : List ℕ). min (length t / chunk_length) (run_outcome x).index) holds
+      ∙ (ap (λ (s : Segment). min (length (r.copied ++ x.out) / chunk_length)
+      (outcome (unbox x.file.key x.file.nonce) chunk_length s).index) (seg x first_x)
+      ∙ ap (λ (o : List ℕ → List ℕ → Option (List ℕ)). min (length (r.copied ++ x.out) / chunk_length)
+      (outcome o chunk_length (part_of x)).index) is)
+
+  pub same_stand : IsPositionOf q at → IsPositionOf r at
+  same_stand found =
+      let alike = stand_alike (box r.file.key r.file.nonce) open_r
+      (box_valid (payload_key r.file.key r.file.nonce)) chunk_length r.copied k r.bytes q.bytes
+      left rest r.ended q.ended r.out q.out (omega arith) size behind end_r end_q begins_r begins_q
+      out_long in
+      carried r q at (omega (arith, limit, first_r)) key head nonce prefix_r
+      (held_q ∙ ap (λ (t : List ℕ). r.copied ++ t) (sym alike.wrote))
+      (index_of q first_q held_q keys ∙ (sym alike.place ∙ sym (index_of r first_r refl refl)))
+      found
+
+same_position : OneHeader → (Allows : Header → List ℕ → Type 0) (before after : Ports)
+    (written : ℕ) (r : Run) (old new : SourceView) (bytes : List ℕ) (p : Position)
+    → IsFromStart r → IsRun Allows before after written r
+    → before.source.remaining ≡ Some bytes → old.remaining ≡ Some bytes
+    → IsFoundAgain (λ _ key. key ≡ r.file.key) old new written p → IsPositionOf r p
+same_position one Allows before after written r old new bytes p from is shown again found =
+    let q = found.run in
+    let f = fronts one Allows (λ _ key. key ≡ r.file.key) before.source.remaining
+    after.source.remaining old.remaining new.remaining bytes r q shown again is.reads
+    found.is.reads in
+    let same = f.4 in
+    let behind : r.bytes ++ f.0 ≡ q.bytes ++ f.1 =
+    ap (λ (t : List ℕ). (t ++ r.bytes) ++ f.0) (sym from.none_skipped)
+    ∙ (same.behind ∙ ap (λ (t : List ℕ). (t ++ q.bytes) ++ f.1) found.from_start.none_skipped) in
+    same_stand r q 0 p f.0 f.1 (omega arith) from.zero found.from_start.zero
+    (found.from_start.none_copied ∙ sym from.none_copied) (omega (arith, ap length from.none_copied))
+    found.is.reads.opens.allowed same.header_bytes same.nonce behind (sym is.count ∙ found.is.count)
+    (λ e. none_left after.source.remaining f.0 f.2 (is.at_end e))
+    (λ e. none_left new.remaining f.1 f.3 (found.is.at_end e)) is.prefix found.is.prefix found.here
+
+-- the stop, with that position
+pub stops_kept : (Allows : Header → List ℕ → Type 0) (Refused : Header → KeyFault → Type 0)
+    (before after : Ports) (r : Run) (stopped : Stopped) (p : Position)
+    → DecryptStops Dropped Allows Refused before after (Some r) stopped → IsPositionOf r p
+    → DecryptStops Kept Allows Refused before after (Some r)
+    (record { fault = stopped.fault; written = stopped.written; position = Some p })
+stops_kept Allows Refused before after r stopped p s at = (
+  s.0,
+  record { is = s.1.is; begins = s.1.begins; here = at; why = s.1.why },
+)
+
+pub read_again : OneHeader → (Who : Type 0) (Allows : Who → Header → List ℕ → Type 0)
+    (Refused : Who → Header → KeyFault → Type 0) → ReadAgain Who Allows Refused
+read_again one Who Allows Refused who before after r stopped old new bytes p s shown again found =
+    stops_kept (Allows who) (Refused who) before after r stopped p s
+    (same_position one (Allows who) before after stopped.written r old new bytes p s.0 s.1.is shown
+    again found)

@@ -1,0 +1,244 @@
+-- Bytes that are shown, one call after another.
+use Rattle.std.proofs.Common.{◌≡◌, ℕ, ◌≤◌, List, [], ◌++◌, length, take, drop, Option, Some, None}
+use Rattle.std.proofs.Common.{refl, sym, ap, subst}
+use Rattle.std.proofs.Common.{◌∙◌, append_assoc, append-nil, inl, inr, arith}
+use Rattle.std.specs.Prelude.{◌⊎◌, IfSome}
+use Rattle.std.specs.Io.KnownBytes.{Consumes, IsAtEnd}
+use Rattle.std.proofs.lemmas.List.{append_cancel_left, length-append, take-append-drop}
+use Rattle.age_io.specs.Io.{SourceView}
+use Rattle.age_stanza.specs.declared.fault.HeadFault.{HeadFault}
+use Rattle.age_stanza.specs.declared.fault.HeadKind.{HeadKind}
+use Rattle.age_stanza.specs.declared.fault.HeadKind.TheVariants.{NotAge, Armored, BadStanzaLine}
+use Rattle.age_stanza.specs.declared.fault.HeadKind.TheVariants.{BadBody, BadEndLine, NoStanza}
+use Rattle.age_stanza.specs.declared.fault.HeadKind.TheVariants.{HeadTooLong, HeadCut, Memory}
+use Rattle.age_stanza.specs.Parsing.{HasHeader, IsFault, memory_fault}
+use Rattle.std.proofs.KnownBytes.{Consumes-nil}
+use Rattle.age_stanza.proofs.AnyPiecesLemmas.{more_fault}
+use Rattle.age_stanza.proofs.FinishedLineLemmas.{nothing_under_way}
+use Rattle.age_stanza.proofs.PieceLemmas.{none_held}
+use Rattle.age_stanza.proofs.FaultLemmas.{no_fault}
+use Rattle.age_stream.specs.Headline.{IsPrefixOf}
+use Rattle.age_fault.proofs.ByteLemmas.{Consumes-then}
+use Rattle.age_file.specs.Runs.{pull_room, EndsInHeader, InHeader, IsCut, IsHeadFault, ReportsFault}
+use Rattle.age_file.specs.Runs.{StopsAtHeader, HeadFails}
+use Rattle.age_fault.specs.inner.Faults.{fault_of, fault_by_kind}
+use Rattle.age_fault.specs.declared.fault.FileFault.{FileFault}
+use Rattle.age_fault.specs.declared.fault.FileFault.TheVariants.{Head, Read, ReadNeverEnds}
+use Rattle.age_fault.specs.declared.fault.FileFault.TheVariants.{Memory as FileMemory}
+use Rattle.age_file.specs.inner.Readers.{Pulled, PullFails, ReaderView, reader_view}
+use Rattle.age_fault.specs.Faults.{HasFailed}
+use Rattle.age_file.specs.inner.Unread.{Unread}
+
+-- a beginning of a beginning
+pub prefix_trans : (x y z : List ℕ) → IsPrefixOf x y → IsPrefixOf y z → IsPrefixOf x z
+prefix_trans x y z p q = (
+  p.0 ++ q.0,
+  sym (append_assoc x p.0 q.0)
+      ∙ (ap (λ (t : List ℕ). t ++ q.0) p.1 ∙ q.1),
+)
+
+-- ---- headers
+
+pub stops_at : (old new : Option (List ℕ)) (held piece : List ℕ) → length piece ≤ pull_room
+    → EndsInHeader held → Consumes old new (held ++ piece)
+    → StopsAtHeader old new
+stops_at old new held piece most inside consumed = record {
+  before = held;
+  last = piece;
+  read = consumed;
+  few = most;
+  in_header = inside;
+}
+
+-- the last pull gave nothing
+pub stops_at_held : (old new : Option (List ℕ)) (held : List ℕ) → Consumes old new held
+    → EndsInHeader held → StopsAtHeader old new
+stops_at_held old new held consumed inside =
+    stops_at old new held [] (omega arith) inside
+    (subst (λ (t : List ℕ). Consumes old new t) (sym (append-nil held)) consumed)
+
+-- nothing was pulled
+pub stops_unread : (a : Option (List ℕ)) → StopsAtHeader a a
+stops_unread a =
+    let started = nothing_under_way in
+    stops_at_held a a [] (Consumes-nil a) (record {
+      no_header = none_held [] (omega arith) started.goes_on;
+      no_fault = no_fault [] started.are_bytes started.goes_on;
+      short = omega arith;
+    })
+
+-- a fault that the bytes have is the fault that is reported
+fails_by_kind : (old new : SourceView) (kind : HeadKind) (fault : HeadFault)
+    → StopsAtHeader old.remaining new.remaining
+    → ReportsFault old.remaining new.remaining fault
+    → HeadFails InHeader old new (fault_by_kind kind fault)
+fails_by_kind old new NotAge fault stops reported = reported
+fails_by_kind old new Armored fault stops reported = reported
+fails_by_kind old new BadStanzaLine fault stops reported = reported
+fails_by_kind old new BadBody fault stops reported = reported
+fails_by_kind old new BadEndLine fault stops reported = reported
+fails_by_kind old new NoStanza fault stops reported = reported
+fails_by_kind old new HeadTooLong fault stops reported = reported
+fails_by_kind old new HeadCut fault stops reported = reported
+fails_by_kind old new Memory fault stops reported = stops
+
+-- what is reported of the bytes that were read is reported of all that the source had
+abbrev OfAll : Option (List ℕ) → HeadFault → Type 0
+OfAll old fault = IfSome old (λ (all : List ℕ). IsHeadFault all fault)
+
+whole_fault : (old new : Option (List ℕ)) (bytes : List ℕ) (fault : HeadFault)
+    → Consumes old new bytes → (HasHeader bytes → ⊥) → IsFault bytes fault
+    → OfAll old fault
+whole_fault None new bytes fault consumed none is = tt
+whole_fault (Some all) None bytes fault consumed none is = absurd consumed
+whole_fault (Some all) (Some rest) bytes fault consumed none is =
+    let more = more_fault bytes rest fault none is in
+    subst (λ (t : List ℕ). IsHeadFault t fault) (sym consumed) (more.0, inl more.1)
+
+whole_cut : (old new : Option (List ℕ)) (bytes : List ℕ) (fault : HeadFault)
+    → Consumes old new bytes → IsAtEnd new → IsCut bytes fault → OfAll old fault
+whole_cut None new bytes fault consumed ended cut = tt
+whole_cut (Some all) None bytes fault consumed ended cut = absurd consumed
+whole_cut (Some all) (Some rest) bytes fault consumed ended cut =
+    let same : all ≡ bytes = consumed ∙ ap (λ (t : List ℕ). bytes ++ t) ended ∙ append-nil bytes in
+    subst (λ (t : List ℕ). IsHeadFault t fault) (sym same) (cut.0.no_header, inr cut)
+
+-- the input ended inside the header
+pub end_fails : (old new : SourceView) (bytes : List ℕ) (fault : HeadFault)
+    → Consumes old.remaining new.remaining bytes → IsAtEnd new.remaining
+    → IsCut bytes fault → HeadFails InHeader old new (fault_of fault)
+end_fails old new bytes fault consumed ended cut =
+    fails_by_kind old new fault.kind fault
+    (stops_at_held old.remaining new.remaining bytes consumed cut.0) (record {
+      bytes = bytes;
+      consumed = consumed;
+      no_header = cut.0.no_header;
+      reports = inr (ended, cut);
+      of_all = whole_cut old.remaining new.remaining bytes fault consumed ended cut;
+    })
+
+-- a piece that was refused
+pub piece_fails : (old new : SourceView) (held piece : List ℕ) (fault : HeadFault)
+    → StopsAtHeader old.remaining new.remaining
+    → Consumes old.remaining new.remaining (held ++ piece)
+    → (fault ≡ memory_fault) ⊎ ((HasHeader (held ++ piece) → ⊥) × IsFault (held ++ piece) fault)
+    → HeadFails InHeader old new (fault_of fault)
+piece_fails old new held piece fault stops consumed (inl memory) =
+    subst (λ (f : HeadFault). HeadFails InHeader old new (fault_of f)) (sym memory) stops
+piece_fails old new held piece fault stops consumed (inr is) =
+    fails_by_kind old new fault.kind fault stops (record {
+      bytes = held ++ piece;
+      consumed = consumed;
+      no_header = is.0;
+      reports = inl is.1;
+      of_all = whole_fault old.remaining new.remaining (held ++ piece) fault consumed is.0 is.1;
+    })
+
+-- the bytes are sound in another sense too
+pub sound_too : (P Q : Option (List ℕ) → Option (List ℕ) → Type 0) (old new : SourceView)
+    (fault : FileFault)
+    → (P old.remaining new.remaining → Q old.remaining new.remaining) → HeadFails P old new fault
+    → HeadFails Q old new fault
+sound_too P Q old new (Head x) sound f = f
+sound_too P Q old new Read sound f = (sound f.0, f.1)
+sound_too P Q old new FileMemory sound f = f
+sound_too P Q old new ReadNeverEnds sound f = (sound f.0, f.1)
+sound_too P Q old new other sound f = absurd f
+
+-- a refill that gave nothing
+pub cut_pulled : (start now : Option (List ℕ)) (pulls : ℕ) (held bytes : List ℕ) → bytes ≡ []
+    → Pulled start now pulls (held ++ bytes)
+    → Pulled start now pulls held
+cut_pulled start now pulls held bytes none h =
+    subst (λ (t : List ℕ). Pulled start now pulls t)
+    (ap (λ (t : List ℕ). held ++ t) none ∙ append-nil held) h
+
+-- a header was not read, since a pull gave nothing
+pub pull_fails : (old mid new : SourceView) (was now : Unread) (held : List ℕ) (fault : FileFault)
+    → mid.failed ≡ old.failed
+    → EndsInHeader held → Pulled old.remaining new.remaining now.pulls held
+    → PullFails (reader_view mid was) (reader_view new now) fault → HeadFails InHeader old new fault
+pull_fails old mid new was now held Read same inside all f =
+    ((held, all.consumed, inside), subst (λ (m : ℕ). HasFailed m new.failed new.failing) same f)
+pull_fails old mid new was now held ReadNeverEnds same inside all f = (
+  (held, all.consumed, inside),
+  (held, all.consumed, (omega (arith, all.each_gave, f.0), omega (arith, all.small, f.0))),
+)
+pull_fails old mid new was now held other same inside all f = absurd f
+
+-- no more came, after pulls none of which failed
+pub pull_fails_since : (old mid new : ReaderView) (fault : FileFault)
+    → mid.source.failed ≡ old.source.failed → PullFails mid new fault
+    → PullFails old new fault
+pull_fails_since old mid new Read same f =
+    subst (λ (m : ℕ). HasFailed m new.source.failed new.source.failing) same f
+pull_fails_since old mid new ReadNeverEnds same f = (f.0, f.1 ∙ same)
+pull_fails_since old mid new other same f = absurd f
+
+-- ---- the pulls of a call, over its two sources
+
+-- a source that gives these bytes first
+abbrev pub preceded : List ℕ → Option (List ℕ) → Option (List ℕ)
+preceded front None = None
+preceded front (Some rest) = Some (front ++ rest)
+
+first_consumed : (front : List ℕ) (a : Option (List ℕ)) → Consumes (preceded front a) a front
+first_consumed front None = tt
+first_consumed front (Some rest) = refl
+
+pub preceded_consumed : (front y : List ℕ) (a b : Option (List ℕ))
+    → Consumes (preceded front a) b (front ++ y) → Consumes a b y
+preceded_consumed front y None b h = tt
+preceded_consumed front y (Some rest) None h = absurd h
+preceded_consumed front y (Some rest) (Some left) h =
+    append_cancel_left front rest (y ++ left) (h ∙ append_assoc front y left)
+
+preceded_then : (front y : List ℕ) (a b : Option (List ℕ)) → Consumes a b y
+    → Consumes (preceded front a) b (front ++ y)
+preceded_then front y a b h = Consumes-then (preceded front a) a b front y (first_consumed front a)
+    h
+
+-- the pulls of one source are counted on at another
+pub counted_on : (a b c : Option (List ℕ)) (pulls : ℕ) (front : List ℕ) → Pulled a b pulls front
+    → Pulled (preceded front c) c pulls (front ++ [])
+counted_on a b c pulls front h = record {
+  consumed = preceded_then front [] c c (Consumes-nil c);
+  each_gave = omega (arith, h.each_gave, ap length (append-nil front));
+  small = omega (arith, h.small, ap length (append-nil front));
+  most = h.most;
+}
+
+-- and back
+pub counted_back : (a b c d : Option (List ℕ)) (pulls total : ℕ) (x y : List ℕ) → Pulled a b pulls x
+    → Pulled (preceded x c) d total (x ++ y)
+    → Pulled (preceded y a) b total (y ++ x)
+counted_back a b c d pulls total x y h k = record {
+  consumed = preceded_then y x a b h.consumed;
+  each_gave = omega (arith, k.each_gave, length-append x y, length-append y x);
+  small = omega (arith, k.small, length-append x y, length-append y x);
+  most = k.most;
+}
+
+-- the part of a piece that a header ends in, and the part that is left in the intake
+pub head_pulled : (start now : Option (List ℕ)) (old new : Unread) (held piece : List ℕ) (taken : ℕ)
+    → new.pulls ≡ old.pulls → piece ≡ old.bytes
+    → new.bytes ≡ drop taken old.bytes
+    → Pulled start now old.pulls (held ++ old.bytes)
+    → Pulled start now new.pulls ((held ++ take taken piece) ++ new.bytes)
+head_pulled start now old new held piece taken pulls is rest h =
+    let e : held ++ old.bytes ≡ (held ++ take taken piece) ++ new.bytes =
+    ap (λ (t : List ℕ). held ++ t) (sym (take-append-drop taken old.bytes))
+    ∙ (sym (append_assoc held (take taken old.bytes) (drop taken old.bytes))
+    ∙ (ap (λ (t : List ℕ). (held ++ take taken t) ++ drop taken old.bytes) (sym is)
+    ∙ ap (λ (t : List ℕ). (held ++ take taken piece) ++ t) (sym rest))) in
+    subst (λ (k : ℕ). Pulled start now k ((held ++ take taken piece) ++ new.bytes)) (sym pulls)
+    (subst (λ (t : List ℕ). Pulled start now old.pulls t) e h)
+
+-- a refill that gave bytes, all of which are counted now
+pub rest_pulled : (start now : Option (List ℕ)) (pulls new_pulls : ℕ) (used passed fresh : List ℕ)
+    → new_pulls ≡ pulls
+    → Pulled start now pulls ((used ++ passed) ++ fresh)
+    → Pulled start now new_pulls (used ++ (passed ++ fresh))
+rest_pulled start now pulls new_pulls used passed fresh same h =
+    subst (λ (k : ℕ). Pulled start now k (used ++ (passed ++ fresh))) (sym same)
+    (subst (λ (t : List ℕ). Pulled start now pulls t) (append_assoc used passed fresh) h)

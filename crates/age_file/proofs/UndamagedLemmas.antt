@@ -1,0 +1,403 @@
+-- What can't stop the decryption of an age file that is undamaged.
+use Rattle.std.proofs.Common.{inl, inr, ◌≡◌, ℕ, ◌+◌, ◌*◌, ◌<◌, ◌≤◌, List, [], ◌++◌, length, take}
+use Rattle.std.proofs.Common.{drop, Option, Some, None, refl, sym, ap, subst, ◌∙◌, arith}
+use Rattle.std.proofs.Common.{append-nil, append_assoc, Bool, true, false}
+use Rattle.std.proofs.lemmas.List.{length-append, drop_at, take_at, drop_all}
+use Rattle.std.specs.Io.KnownBytes.{Appends, Consumes, IsAtEnd}
+use Rattle.age_io.specs.Io.{SourceView}
+use Rattle.age_stanza.specs.declared.header.Header.{Header}
+use Rattle.age_stanza.specs.declared.fault.HeadFault.{HeadFault}
+use Rattle.age_stanza.specs.Grammar.{HeadText}
+use Rattle.age_stanza.specs.Laws.{OneHeader}
+use Rattle.age_chunk.specs.declared.fault.StreamFault.{StreamFault}
+use Rattle.age_chunk.specs.declared.fault.StreamKind.TheVariants.{Truncated}
+use Rattle.age_stream.specs.declared.step.Status.TheVariants.{Open, Failed, Done}
+use Rattle.age_chunk.specs.Payload.{payload, chunk_count, block_length, chunk_length, chunk_limit}
+use Rattle.age_stream.specs.Segment.{outcome}
+use Rattle.age_stream.specs.Headline.{IsAuthentic, IsRest}
+use Rattle.age_stream.specs.Laws.{IsClosed}
+use Rattle.age_stream.proofs.LawLemmas.{closed_stays, released_is_written, rest_is_authentic}
+use Rattle.age_keys.specs.declared.fault.KeyFault.{KeyFault}
+use Rattle.age_keys.specs.declared.fault.KeyFault.TheVariants.{MacMismatch, Memory as KeyMemory}
+use Rattle.age_keys.specs.Keys.{IsMacOf, payload_key, Refuses, RefusesKey}
+use Rattle.age_keys.specs.inner.PayloadBox.{box_valid}
+use Rattle.age_keys.specs.AgeFile.{box, unbox}
+use Rattle.age_file.specs.Runs.{Ports, IsHeadFault, NeverEnds, Run, IsFromStart, run_outcome, IsRun}
+use Rattle.age_file.specs.Runs.{PayloadFails, IsDone}
+use Rattle.std.specs.Prelude.{IfSome}
+use Rattle.age_file.specs.declared.position.PositionPolicy.{PositionPolicy}
+use Rattle.age_file.specs.Decrypts.{StartFails, DecryptStops, IsWhole, IsUndamagedFile, WritesText}
+use Rattle.age_file.specs.Decrypts.{StopsOutside}
+use Rattle.age_file.specs.inner.Payloads.{segment}
+use Rattle.age_file.specs.declared.decryption.Stopped.{Stopped}
+use Rattle.age_file.proofs.RunLemmas.{none_before}
+use Rattle.age_fault.specs.declared.fault.FileFault.{FileFault}
+use Rattle.age_fault.specs.declared.fault.FileFault.TheVariants.{Head, Key, NonceCut, Stream, Read}
+use Rattle.age_fault.specs.declared.fault.FileFault.TheVariants.{Write, Memory, ReadNeverEnds}
+
+-- a source that showed its bytes shows those that are left
+pub left_of : (before after : Option (List ℕ)) (bytes used : List ℕ) → before ≡ Some bytes
+    → Consumes before after used → (rest : List ℕ) × (bytes ≡ used ++ rest)
+    × (after ≡ Some rest)
+left_of before after bytes used is consumed =
+    left after (subst (λ (b : Option (List ℕ)). Consumes b after used) is consumed) where
+      left : (after : Option (List ℕ)) → Consumes (Some bytes) after used
+          → (rest : List ℕ) × (bytes ≡ used ++ rest) × (after ≡ Some rest)
+      left None h = absurd h
+      left (Some rest) h = (rest, h, refl)
+
+pub none_left : (after : Option (List ℕ)) (rest : List ℕ) → after ≡ Some rest → IsAtEnd after
+    → rest ≡ []
+none_left after rest is ended = subst IsAtEnd is ended
+
+-- two texts that begin with as many bytes
+pub same_front : (a b x y : List ℕ) → length a ≡ length b → a ++ x ≡ b ++ y → (a ≡ b) × (x ≡ y)
+same_front a b x y len e = (
+  sym (take_at a x (length b) len) ∙ (ap (take (length b)) e ∙ take_at b y (length b) refl),
+  sym (drop_at a x (length b) len) ∙ (ap (drop (length b)) e ∙ drop_at b y (length b) refl),
+)
+
+-- a key whose MAC is the header's is refused for want of memory alone
+for_memory : (h : Header) (key : List ℕ) (fault : KeyFault) → IsMacOf h key → RefusesKey h key fault
+    → fault ≡ KeyMemory
+for_memory h key MacMismatch mac refused = absurd (refused mac)
+for_memory h key KeyMemory mac refused = refl
+for_memory h key other mac refused = absurd refused
+
+-- an end without bytes
+no_bytes : (op : List ℕ → List ℕ → Option (List ℕ)) (k : ℕ)
+    → (outcome op chunk_length (segment k [] true)).status
+    ≡ Failed (record { kind = Truncated; chunk = k + 0 })
+unfolding outcome
+no_bytes op k = refl
+
+-- a segment that failed stays so with more bytes and an end
+failed_stays : (op : List ℕ → List ℕ → Option (List ℕ)) (n k : ℕ) (bytes more : List ℕ)
+    (ended : Bool) (fault : StreamFault)
+    → (outcome op n (segment k bytes ended)).status ≡ Failed fault
+    → (ended ≡ true → more ≡ []) → (outcome op n (segment k (bytes ++ more) true)).status
+    ≡ Failed fault
+failed_stays op n k bytes more true fault e none =
+    let same : bytes ≡ bytes ++ more =
+    sym (ap (λ (t : List ℕ). bytes ++ t) (none refl) ∙ append-nil bytes) in
+    ap (λ (t : List ℕ). (outcome op n (segment k t true)).status) (sym same) ∙ e
+failed_stays op n k bytes more false fault e none =
+    let s = segment k bytes false in
+    let shut : (outcome op n s).status ≡ Open → ⊥ = λ o. let clash : Open ≡ Failed fault =
+    sym o ∙ e in cc in
+    let later = ((closed_stays op n s (λ _. refl) shut).0 more).fault fault e in
+    let fed = segment k (bytes ++ more) false in
+    let still : (outcome op n fed).status ≡ Open → ⊥ = λ o. let clash : Open ≡ Failed fault =
+    sym o ∙ later in cc in
+    (closed_stays op n fed (λ _. refl) still).1.fault fault later
+
+module _ (one : OneHeader) (Allows : Header → List ℕ → Type 0) (Refused : Header → KeyFault
+    → Type 0) (coming : Option (List ℕ)) (text : List ℕ)
+    (u : IsWhole Allows Refused coming text) where
+  -- what was read of the header is the file's
+  pub record IsFront (h : Header) (front behind : List ℕ) : Type 0 where
+    pub header_is : h ≡ u.header
+    pub front_is : front ≡ u.file.front
+    pub rest_is : behind ≡ u.nonce ++ payload (box u.key u.nonce) chunk_length text
+
+  fronts : (h : Header) (front behind : List ℕ) → HeadText h front → u.bytes ≡ front ++ behind
+      → IsFront h front behind
+  fronts h front behind text_is parts =
+      let file = u.file in
+      let e : file.front ++ (u.nonce ++ payload (box u.key u.nonce) chunk_length text)
+      ≡ front ++ behind = sym (append_assoc file.front u.nonce
+      (payload (box u.key u.nonce) chunk_length text)) ∙ (sym file.parts ∙ parts) in
+      let same = one u.header h file.front front
+      (u.nonce ++ payload (box u.key u.nonce) chunk_length text) behind file.head.spells
+      text_is.spells e in
+      record {
+        header_is = sym same.0;
+        front_is = sym same.1;
+        rest_is = sym (same_front file.front front
+            (u.nonce ++ payload (box u.key u.nonce) chunk_length text) behind (ap length same.1)
+            e).1;
+      }
+
+  no_head_fault : (fault : HeadFault) → IfSome coming (λ (all : List ℕ). IsHeadFault all fault) → ⊥
+  no_head_fault fault f =
+      let here : IsHeadFault u.bytes fault =
+      subst (λ (c : Option (List ℕ)). IfSome c (λ (all : List ℕ). IsHeadFault all fault)) u.all
+      f in
+      let file = u.file in
+      here.0 (
+        u.header,
+        file.front,
+        u.nonce ++ payload (box u.key u.nonce) chunk_length text,
+        file.head,
+        file.parts
+            ∙ append_assoc file.front u.nonce (payload (box u.key u.nonce) chunk_length text),
+      )
+
+  no_key_fault : (after : Option (List ℕ)) (h : Header) (front rest : List ℕ) (fault : KeyFault)
+      → HeadText h front → Consumes coming after (front ++ rest)
+      → (fault ≡ KeyMemory → ⊥) → Refuses Allows Refused h fault → ⊥
+  no_key_fault after h front rest fault text_is consumed not refuses =
+      let t = left_of coming after u.bytes (front ++ rest) u.all consumed in
+      let same = fronts h front (rest ++ t.0) text_is (t.1 ∙ append_assoc front rest t.0) in
+      let r = subst (λ (x : Header). Refuses Allows Refused x fault) same.header_is refuses in
+      elim (r.alone u.alone) [
+        | inl refused ↦ not (u.never fault refused)
+        | inr found ↦ not (for_memory u.header found.0 fault
+            (subst (IsMacOf u.header) (sym (u.only found.0 found.1)) u.file.mac) found.2)
+      ]
+
+  no_nonce_cut : (after : Option (List ℕ)) (h : Header) (front short : List ℕ) → HeadText h front
+      → length short < 16 → Consumes coming after (front ++ short)
+      → IsAtEnd after → ⊥
+  no_nonce_cut after h front short text_is lt consumed ended =
+      let t = left_of coming after u.bytes (front ++ short) u.all consumed in
+      let same = fronts h front (short ++ t.0) text_is (t.1 ∙ append_assoc front short t.0) in
+      let none : t.0 ≡ [] = none_left after t.0 t.2 ended in
+      omega (
+        arith,
+        lt,
+        ap length same.rest_is,
+        length-append short t.0,
+        ap length none,
+        length-append u.nonce (payload (box u.key u.nonce) chunk_length text),
+        u.file.size,
+      )
+
+  -- what was read after the nonce is the payload's beginning
+  pub record IsOpenedAs (key nonce behind : List ℕ) (after : Option (List ℕ)) : Type 0 where
+    pub key_is : key ≡ u.key
+    pub nonce_is : nonce ≡ u.nonce
+    pub left : List ℕ
+    pub left_is : after ≡ Some left
+    pub payload_is : behind ++ left ≡ payload (box u.key u.nonce) chunk_length text
+
+  -- the file's front is that which was read
+  pub front_is : (after : Option (List ℕ)) (h : Header) (front nonce behind : List ℕ)
+      → HeadText h front → Consumes coming after ((front ++ nonce) ++ behind)
+      → front ≡ u.file.front
+  front_is after h front nonce behind text_is consumed =
+      let t = left_of coming after u.bytes ((front ++ nonce) ++ behind) u.all consumed in
+      let parts : u.bytes ≡ front ++ (nonce ++ (behind ++ t.0)) =
+      t.1 ∙ (append_assoc (front ++ nonce) behind t.0
+      ∙ append_assoc front nonce (behind ++ t.0)) in
+      (fronts h front (nonce ++ (behind ++ t.0)) text_is parts).front_is
+
+  pub opened_as : (after : Option (List ℕ)) (h : Header) (front key nonce behind : List ℕ)
+      → HeadText h front → Allows h key → length nonce ≡ 16
+      → Consumes coming after ((front ++ nonce) ++ behind) → IsOpenedAs key nonce behind after
+  opened_as after h front key nonce behind text_is allows size consumed =
+      let t = left_of coming after u.bytes ((front ++ nonce) ++ behind) u.all consumed in
+      let parts : u.bytes ≡ front ++ (nonce ++ (behind ++ t.0)) =
+      t.1 ∙ (append_assoc (front ++ nonce) behind t.0
+      ∙ append_assoc front nonce (behind ++ t.0)) in
+      let same = fronts h front (nonce ++ (behind ++ t.0)) text_is parts in
+      let both = same_front nonce u.nonce (behind ++ t.0)
+      (payload (box u.key u.nonce) chunk_length text) (size ∙ sym u.file.size) same.rest_is in
+      record {
+        key_is = u.only key (subst (λ (x : Header). Allows x key) same.header_is allows);
+        nonce_is = both.0;
+        left = t.0;
+        left_is = t.2;
+        payload_is = both.1;
+      }
+
+  -- from a chunk of the text on, whose blocks are the writer's
+  module _ (k : ℕ) (below : k < chunk_count chunk_length text)
+      (authentic : IsAuthentic (box u.key u.nonce) (unbox u.key u.nonce) chunk_length text
+      (segment k (drop (k * block_length) (payload (box u.key u.nonce) chunk_length text))
+      true)) where
+    -- the rest of the payload opens to its end
+    rest_done : (outcome (unbox u.key u.nonce) chunk_length
+        (segment k (drop (k * block_length) (payload (box u.key u.nonce) chunk_length text))
+        true)).status ≡ Done
+    rest_done =
+        let valid = box_valid (payload_key u.key u.nonce) in
+        let positive : 0 < chunk_length = omega arith in
+        let s = segment k (drop (k * block_length) (payload (box u.key u.nonce) chunk_length text))
+        true in
+        let rest : IsRest (box u.key u.nonce) (unbox u.key u.nonce) chunk_length text s =
+        record { below = below; bytes = refl; ended = refl; timely = refl } in
+        ((released_is_written (box u.key u.nonce) (unbox u.key u.nonce) valid chunk_length positive
+        s text u.few (omega (arith, below, u.few)) authentic).whole rest).1
+
+    pub no_stream_fault : (after : Option (List ℕ)) (key nonce passed bytes : List ℕ) (ended : Bool)
+        (fault : StreamFault)
+        → IsOpenedAs key nonce (passed ++ bytes) after → length passed ≡ k * block_length
+        → (ended ≡ true → IsAtEnd after)
+        → (outcome (unbox key nonce) chunk_length (segment k bytes ended)).status ≡ Failed fault
+        → ⊥
+    no_stream_fault after key nonce passed bytes ended fault o size at_end failed =
+        let all = payload (box u.key u.nonce) chunk_length text in
+        let rest : bytes ++ o.left ≡ drop (k * block_length) all =
+        sym (drop_at passed (bytes ++ o.left) (k * block_length) size)
+        ∙ ap (drop (k * block_length))
+        (sym (append_assoc passed bytes o.left) ∙ o.payload_is) in
+        let here : (outcome (unbox u.key u.nonce) chunk_length (segment k bytes ended)).status
+        ≡ Failed fault =
+        subst (λ (x : List ℕ). (outcome (unbox x u.nonce) chunk_length
+        (segment k bytes ended)).status ≡ Failed fault) o.key_is
+        (subst (λ (x : List ℕ). (outcome (unbox key x) chunk_length (segment k bytes ended)).status
+        ≡ Failed fault) o.nonce_is failed) in
+        let stays = failed_stays (unbox u.key u.nonce) chunk_length k bytes o.left ended fault here
+        (λ e. none_left after o.left o.left_is (at_end e)) in
+        let clash : Done ≡ Failed fault =
+        sym rest_done ∙ (ap (λ (x : List ℕ).
+        (outcome (unbox u.key u.nonce) chunk_length (segment k x true)).status) (sym rest)
+        ∙ stays) in
+        cc
+
+    -- the blocks before that chunk are all there
+    pub no_early_end : (after : Option (List ℕ)) (key nonce passed : List ℕ)
+        → IsOpenedAs key nonce passed after → length passed < k * block_length → IsAtEnd after → ⊥
+    no_early_end after key nonce passed o short ended =
+        let all = payload (box u.key u.nonce) chunk_length text in
+        let none : o.left ≡ [] = none_left after o.left o.left_is ended in
+        let nothing : drop (k * block_length) all ≡ [] = drop_all (k * block_length) all (omega (
+          arith,
+          short,
+          ap length o.payload_is,
+          length-append passed o.left,
+          ap length none,
+        )) in
+        let clash : Done ≡ Failed (record { kind = Truncated; chunk = k + 0 }) =
+        sym rest_done ∙ (ap (λ (x : List ℕ).
+        (outcome (unbox u.key u.nonce) chunk_length (segment k x true)).status) nothing
+        ∙ no_bytes (unbox u.key u.nonce) k) in
+        cc
+
+-- no fault of what is before a payload
+module _ (one : OneHeader) (Allows : Header → List ℕ → Type 0) (Refused : Header → KeyFault
+    → Type 0) (before after : SourceView) (text : List ℕ)
+    (u : IsWhole Allows Refused before.remaining text) where
+  pub start_undamaged : (fault : FileFault) → StartFails Allows Refused before after fault
+      → StopsOutside fault
+  start_undamaged (Head x) f = absurd
+      (no_head_fault one Allows Refused before.remaining text u x f.of_all)
+  start_undamaged (Key x) f = absurd
+      (no_key_fault one Allows Refused before.remaining text u after.remaining f.0 f.1 f.2 x f.3 f.4
+      f.5 f.6)
+  start_undamaged NonceCut f = absurd
+      (no_nonce_cut one Allows Refused before.remaining text u after.remaining f.0.0 f.0.1 f.0.3
+      f.0.4 f.0.6 f.0.7 f.1)
+  start_undamaged Read f = tt
+  start_undamaged Write f = tt
+  start_undamaged Memory f = tt
+  start_undamaged ReadNeverEnds f = tt
+  start_undamaged other f = absurd f
+
+-- the payload of a text from a chunk on, of which no block opens except as its writer sealed it
+pub own_authentic : (key nonce text : List ℕ) → chunk_count chunk_length text ≤ chunk_limit
+    → IsClosed (box key nonce) (unbox key nonce) chunk_length text → (k : ℕ)
+    → k < chunk_count chunk_length text
+    → IsAuthentic (box key nonce) (unbox key nonce) chunk_length text
+    (segment k (drop (k * block_length) (payload (box key nonce) chunk_length text)) true)
+own_authentic key nonce text few closed k below =
+    rest_is_authentic (box key nonce) (unbox key nonce) chunk_length text (record {
+      valid = box_valid (payload_key key nonce);
+      some = omega arith;
+      few = few;
+      closed = closed;
+    })
+    (segment k (drop (k * block_length) (payload (box key nonce) chunk_length text)) true)
+    (record { below = below; bytes = refl; ended = refl; timely = refl })
+
+-- blocks that are those of a segment are as authentic
+pub authentic_as : (text : List ℕ) (k : ℕ) (key nonce own_key own_nonce bytes all : List ℕ)
+    (ended : Bool) → key ≡ own_key → nonce ≡ own_nonce → bytes
+    ≡ all → ended ≡ true
+    → IsAuthentic (box own_key own_nonce) (unbox own_key own_nonce) chunk_length text
+    (segment k all true)
+    → IsAuthentic (box key nonce) (unbox key nonce) chunk_length text (segment k bytes ended)
+authentic_as text k key nonce own_key own_nonce bytes all ended keys nonces blocks ends a =
+    subst (λ (x : List ℕ). IsAuthentic (box x nonce) (unbox x nonce) chunk_length text
+    (segment k bytes ended)) (sym keys)
+    (subst (λ (x : List ℕ). IsAuthentic (box own_key x) (unbox own_key x) chunk_length text
+    (segment k bytes ended)) (sym nonces)
+    (subst (λ (x : List ℕ). IsAuthentic (box own_key own_nonce) (unbox own_key own_nonce)
+    chunk_length text (segment k x ended)) (sym blocks)
+    (subst (λ (e : Bool). IsAuthentic (box own_key own_nonce) (unbox own_key own_nonce) chunk_length
+    text (segment k all e)) (sym ends) a)))
+
+-- a run of an undamaged file, from a chunk of its text
+module _ (one : OneHeader) (Allows : Header → List ℕ → Type 0) (Refused : Header → KeyFault
+    → Type 0) (old new : Ports) (text : List ℕ)
+    (u : IsWhole Allows Refused old.source.remaining text)
+    (closed : IsClosed (box u.key u.nonce) (unbox u.key u.nonce) chunk_length text)
+    (written : ℕ)
+    (r : Run) (below : r.first < chunk_count chunk_length text) where
+  abbrev rest : List ℕ
+  rest = drop (r.first * block_length) (payload (box u.key u.nonce) chunk_length text)
+
+  run_opened : IsRun Allows old new written r
+      → IsOpenedAs one Allows Refused old.source.remaining text u r.file.key r.file.nonce
+      (r.skipped ++ r.bytes) new.source.remaining
+  run_opened is =
+      opened_as one Allows Refused old.source.remaining text u new.source.remaining r.file.header
+      r.file.header_bytes r.file.key r.file.nonce
+      (r.skipped ++ r.bytes) is.reads.text is.reads.opens.allowed is.reads.size is.reads.read
+
+  -- opens to its end
+  pub run_opens : (fault : StreamFault) → IsRun Allows old new written r
+      → (run_outcome r).status ≡ Failed fault → ⊥
+  run_opens fault is failed =
+      no_stream_fault one Allows Refused old.source.remaining text u r.first below
+      (own_authentic u.key u.nonce text u.few closed r.first below)
+      new.source.remaining r.file.key r.file.nonce r.skipped r.bytes r.ended fault (run_opened is)
+      is.skipped_size is.at_end failed
+
+  -- so it has no fault
+  pub payload_undamaged : (never : Type 0) (fault : FileFault) → IsRun Allows old new written r
+      → PayloadFails never old new r fault → StopsOutside fault
+  payload_undamaged never (Stream x) is f = absurd (run_opens x is f.1)
+  payload_undamaged never Read is f = tt
+  payload_undamaged never Write is f = tt
+  payload_undamaged never ReadNeverEnds is f = tt
+  payload_undamaged never other is f = absurd f
+
+  -- and where it was read to its end, gave its text
+  pub run_writes : r.copied ≡ take (r.first * chunk_length) text → IsDone Allows old new written r
+      → WritesText old.sink.taken new.sink.taken written text
+  run_writes old_text d =
+      let is = d.is in
+      let o = run_opened is in
+      let none = none_left new.source.remaining o.left o.left_is (is.at_end d.ended) in
+      let after : r.bytes ++ o.left ≡ rest =
+      sym (drop_at r.skipped (r.bytes ++ o.left) (r.first * block_length) is.skipped_size)
+      ∙ ap (drop (r.first * block_length))
+      (sym (append_assoc r.skipped r.bytes o.left) ∙ o.payload_is) in
+      let bytes_are : r.bytes ≡ rest = sym (append-nil r.bytes)
+      ∙ (ap (λ (t : List ℕ). r.bytes ++ t) (sym none) ∙ after) in
+      let own = own_authentic u.key u.nonce text u.few closed r.first below in
+      let whole = d.all text (record {
+        few = u.few;
+        old_text = old_text;
+        authentic = authentic_as text r.first r.file.key r.file.nonce u.key u.nonce r.bytes rest
+            r.ended o.key_is o.nonce_is bytes_are d.ended own;
+      }) in (
+        subst (λ (t : List ℕ). Appends old.sink.taken new.sink.taken t) whole is.wrote,
+        is.count
+            ∙ ap length whole,
+      )
+
+pub undamaged : (keep : PositionPolicy) → OneHeader
+    → (Allows : Header → List ℕ → Type 0) (Refused : Header → KeyFault → Type 0) (old new : Ports)
+    (run : Option Run) (stopped : Stopped) (text : List ℕ)
+    → IsUndamagedFile Allows Refused old.source.remaining text
+    → DecryptStops keep Allows Refused old new run stopped → StopsOutside stopped.fault
+undamaged keep one Allows Refused old new None stopped text u f =
+    start_undamaged one Allows Refused old.source new.source text u.whole stopped.fault f.1
+undamaged keep one Allows Refused old new (Some r) stopped text u f =
+    payload_undamaged one Allows Refused old new text u.whole u.closed stopped.written r
+    (omega (arith, f.0.zero))
+    (NeverEnds old.source.remaining new.source.remaining) stopped.fault f.1.is f.1.why
+
+-- an undamaged file that was read to its end gave its text
+pub undamaged_done : OneHeader
+    → (Allows : Header → List ℕ → Type 0) (Refused : Header → KeyFault → Type 0) (old new : Ports)
+    (written : ℕ) (r : Run)
+    (text : List ℕ) → IsUndamagedFile Allows Refused old.source.remaining text → IsFromStart r
+    → IsDone Allows old new written r
+    → WritesText old.sink.taken new.sink.taken written text
+undamaged_done one Allows Refused old new written r text u from d =
+    run_writes one Allows Refused old new text u.whole u.closed written r (omega (arith, from.zero))
+    (none_before r from text) d

@@ -1,0 +1,305 @@
+-- The lines of a header: a body's, an argument line, an end line.
+use Rattle.std.proofs.Common.{◌≡◌, ℕ, zero, suc, ◌<◌, ◌≤◌, ◌+◌, ◌*◌, ◌/◌, Bool, true, false, cond}
+use Rattle.std.proofs.Common.{leb, eqb, nat_eq, ◌&&◌, List, [], ◌∷◌, ◌++◌, length, take, drop}
+use Rattle.std.proofs.Common.{Option, Some, None}
+use Rattle.std.proofs.Common.{refl, sym, ap, subst, ◌∙◌, arith, inl, inr}
+use Rattle.std.specs.Prelude.{codes, ◌⊎◌}
+use Rattle.std.specs.List.{flat_map, AllByRecursion, starts_with}
+use Rattle.std.proofs.lemmas.Bool.{eqb-true, eqb-false, eq-eqb, ne_eqb, leb-true, le-leb, and_parts}
+use Rattle.std.proofs.lemmas.Bool.{and_from}
+use Rattle.std.proofs.lemmas.Bool.Decides.{Decides-eqb}
+use Rattle.std.specs.Simd.{first_chunks}
+use Rattle.std.proofs.lemmas.List.{append-nil, append_assoc, length-append, length-take}
+use Rattle.std.proofs.lemmas.List.{length-drop, take_at, drop_at, drop-drop, take-append-drop}
+use Rattle.std.proofs.lemmas.List.Concat.{flat_map-append}
+use Rattle.std.proofs.lemmas.Slice.Eq.{starts_is}
+use Rattle.std.proofs.lemmas.Option.{cond_some}
+use Rattle.base64.specs.GeneralPurpose.{IsBytes}
+use Rattle.age_stanza.specs.inner.LineMachine.{whole_lines, base64_bytes, arguments_from}
+use Rattle.age_stanza.specs.inner.LineMachine.{arguments_of, mac_of, whole_mac}
+use Rattle.age_stanza.specs.Text.{base64_text}
+use Rattle.age_stanza.specs.Grammar.{line, IsArgument, argument_line, in_lines, end_line}
+use Rattle.age_stanza.proofs.TextLemmas.{text_of_decoded, decoded-text, IsBytes-drop}
+
+-- ---- a test that was passed or not
+
+pub chosen : {A : Type 0} (b : Bool) (x y z : A) → cond b x y ≡ z → ((b ≡ true) × (x ≡ z)) ⊎ ((b ≡ false) × (y ≡ z))
+chosen true x y z e = inl (refl, e)
+chosen false x y z e = inr (refl, e)
+
+pub by_cases : (b : Bool) → cond b true false ≡ b
+by_cases true = refl
+by_cases false = refl
+
+-- ---- what a line starts with
+
+pub starts_at : (s p : List ℕ) → starts_with nat_eq s p ≡ true → s ≡ p ++ drop (length p) s
+starts_at s p e = (starts_is Decides-eqb s p (starts_with nat_eq s p) refl).0 e
+
+pub starts_from : (s p rest : List ℕ) → s ≡ p ++ rest → starts_with nat_eq s p ≡ true
+starts_from s p rest e = (starts_is Decides-eqb s p (starts_with nat_eq s p) refl).1 rest e
+
+-- ---- a text in lines
+
+pub whole_lines-full : (l rest : List ℕ) → length l ≡ 64 → whole_lines (l ++ rest) ≡ line l ++ whole_lines rest
+unfolding whole_lines
+whole_lines-full l rest len =
+    let n = length rest / 64 in
+    let all = l ++ rest in
+    let count : length all / 64 ≡ suc n = omega (arith, length-append l rest, len) in
+    let front : take 64 all ≡ l = take_at l rest 64 len in
+    let after : drop 64 all ≡ rest = drop_at l rest 64 len in
+    ap (λ (k : ℕ). flat_map line (first_chunks 64 k all)) count
+    ∙ (ap (λ (a : List ℕ). line a ++ flat_map line (first_chunks 64 n (drop 64 all))) front
+    ∙ ap (λ (b : List ℕ). line l ++ flat_map line (first_chunks 64 n b)) after)
+
+pub in_lines-short : (l : List ℕ) → length l < 64 → in_lines l ≡ line l
+unfolding in_lines
+in_lines-short l lt =
+    let none : length l / 64 ≡ 0 = omega arith in
+    ap (λ (n : ℕ). flat_map line (first_chunks 64 n l) ++ line (drop (n * 64) l)) none
+
+pub in_lines-full : (l rest : List ℕ) → length l ≡ 64 → in_lines (l ++ rest) ≡ line l ++ in_lines rest
+unfolding in_lines whole_lines
+in_lines-full l rest len =
+    let n = length rest / 64 in
+    let all = l ++ rest in
+    let count : length all / 64 * 64 ≡ 64 + n * 64 = omega (arith, length-append l rest, len) in
+    let last : drop (length all / 64 * 64) all ≡ drop (n * 64) rest =
+    ap (λ (k : ℕ). drop k all) count ∙ sym (drop-drop (n * 64) 64 all) ∙ ap (drop (n * 64)) (drop_at l rest 64 len) in
+    ap (λ (w : List ℕ). w ++ line (drop (length all / 64 * 64) all)) (whole_lines-full l rest len)
+    ∙ ap (λ (d : List ℕ). (line l ++ whole_lines rest) ++ line d) last
+    ∙ append_assoc (line l) (whole_lines rest) (line (drop (n * 64) rest))
+
+-- a text is fewer than 64 characters, or a line of 64 before such a text
+pub by_lines : (P : List ℕ → Type 0) → ((cs : List ℕ) → length cs < 64 → P cs) → ((l rest : List ℕ) → length l ≡ 64 → P rest → P (l ++ rest))
+    → (n : ℕ) (cs : List ℕ) → length cs / 64 ≡ n → P cs
+by_lines P short full zero cs e = short cs (omega (arith, e))
+by_lines P short full (suc n) cs e =
+    let long : 64 ≤ length cs = omega (arith, e) in
+    let len : length (take 64 cs) ≡ 64 = omega (arith, length-take 64 cs, long) in
+    let fewer : length (drop 64 cs) / 64 ≡ n = omega (arith, length-drop 64 cs, e) in
+    subst P (take-append-drop 64 cs) (full (take 64 cs) (drop 64 cs) len (by_lines P short full n (drop 64 cs) fewer))
+
+-- a text in lines has an LF for each 64 characters, and one more
+pub length-in_lines : (cs : List ℕ) → length (in_lines cs) ≡ length cs + length cs / 64 + 1
+length-in_lines cs =
+    by_lines (λ (t : List ℕ). length (in_lines t) ≡ length t + length t / 64 + 1)
+    (λ t lt. omega (arith, lt, ap length (in_lines-short t lt), length-append t (10 ∷ [])))
+    (λ l rest len more. omega (
+      arith,
+      len,
+      more,
+      ap length (in_lines-full l rest len),
+      length-append (line l) (in_lines rest),
+      length-append l (10 ∷ []),
+      length-append l rest,
+    ))
+    (length cs / 64) cs refl
+
+-- ---- an argument line
+
+abbrev pub IsVisible : ℕ → Type 0
+IsVisible c = (33 ≤ c) × (c ≤ 126)
+
+abbrev spaced : List (List ℕ) → List ℕ
+spaced args = flat_map (λ a. 32 ∷ a) args
+
+pub All-append : {X : Type 0} (P : X → Type 0) (xs ys : List X) → AllByRecursion P xs → AllByRecursion P ys → AllByRecursion P (xs ++ ys)
+All-append P [] ys f g = g
+All-append P (x ∷ xs) ys f g = (f.0, All-append P xs ys f.1 g)
+
+pub All-front : {X : Type 0} (P : X → Type 0) (xs ys : List X) → AllByRecursion P (xs ++ ys) → AllByRecursion P xs
+All-front P [] ys f = tt
+All-front P (x ∷ xs) ys f = (f.0, All-front P xs ys f.1)
+
+pub All-back : {X : Type 0} (P : X → Type 0) (xs ys : List X) → AllByRecursion P (xs ++ ys) → AllByRecursion P ys
+All-back P [] ys f = f
+All-back P (x ∷ xs) ys f = All-back P xs ys f.1
+
+spaced_word : (done : List (List ℕ)) (word : List ℕ) → spaced (done ++ word ∷ []) ≡ spaced done ++ 32 ∷ word
+spaced_word done word = flat_map-append (λ a. 32 ∷ a) done (word ∷ []) ∙ ap (λ (w : List ℕ). spaced done ++ 32 ∷ w) (append-nil word)
+
+some_length : (word : List ℕ) → eqb (length word) 0 ≡ false → 0 < length word
+some_length word e =
+    let ne = eqb-false (length word) 0 e in
+    omega arith
+
+pub arguments_sound : (done : List (List ℕ)) (word cs : List ℕ) (args : List (List ℕ)) → AllByRecursion IsArgument done → AllByRecursion IsVisible word
+    → arguments_from done word cs ≡ Some args
+    → (spaced done ++ (32 ∷ (word ++ cs)) ≡ spaced args) × (0 < length args) × AllByRecursion IsArgument args
+unfolding arguments_from
+arguments_sound done word [] args dones visible e = elim (chosen (eqb (length word) 0) None (Some (done ++ word ∷ [])) (Some args) e) [
+  | inl h ↦ absurd (cc (h.1))
+  | inr h ↦
+      let is : done ++ word ∷ [] ≡ args = cc (h.1) in
+      rw (← is) (
+        rw append-nil (sym (spaced_word done word)),
+        omega (arith, length-append done (word ∷ [])),
+        All-append IsArgument done (word ∷ []) dones ((some_length word h.0, visible), tt),
+      )
+]
+arguments_sound done word (c ∷ cs) args dones visible e = elim (chosen (eqb c 32) _ _ (Some args) e) [
+  | inl h ↦ elim (chosen (eqb (length word) 0) None (arguments_from (done ++ word ∷ []) [] cs) (Some args) h.1) [
+    | inl g ↦ absurd (cc (g.1))
+    | inr g ↦
+        let space : c ≡ 32 = eqb-true c 32 h.0 in
+        let rest = arguments_sound (done ++ word ∷ []) [] cs args (All-append IsArgument done (word ∷ []) dones ((some_length word g.0, visible), tt)) tt g.1 in
+        let joined : spaced done ++ (32 ∷ (word ++ c ∷ cs)) ≡ spaced (done ++ word ∷ []) ++ (32 ∷ cs) = rw (
+          spaced_word done word,
+          space,
+        ) (sym (append_assoc (spaced done) (32 ∷ word) (32 ∷ cs))) in
+        (joined ∙ rest.0, rest.1, rest.2)
+  ]
+  | inr h ↦ elim (chosen (leb 33 c && leb c 126) (arguments_from done (word ++ c ∷ []) cs) None (Some args) h.1) [
+    | inl g ↦
+        let parts = and_parts (leb 33 c) (leb c 126) g.0 in
+        let rest = arguments_sound done (word ++ c ∷ []) cs args dones
+        (All-append IsVisible word (c ∷ []) visible ((leb-true 33 c parts.0, leb-true c 126 parts.1), tt)) g.1 in
+        (rw (← append_assoc word (c ∷ []) cs) rest.0, rest.1, rest.2)
+    | inr g ↦ absurd (cc (g.1))
+  ]
+]
+
+pub arguments_complete : (done : List (List ℕ)) (word w : List ℕ) (ws : List (List ℕ)) → 0 < length (word ++ w) → AllByRecursion IsVisible w
+    → AllByRecursion IsArgument ws
+    → arguments_from done word (w ++ spaced ws) ≡ Some (done ++ (word ++ w) ∷ ws)
+unfolding arguments_from
+arguments_complete done word [] [] some visible args =
+    let long : eqb (length word) 0 ≡ false = ne_eqb (length word) 0 (λ e. omega (arith, ap length (append-nil word))) in
+    rw (append-nil word, long) refl
+arguments_complete done word [] (v ∷ vs) some visible args =
+    let long : eqb (length word) 0 ≡ false = ne_eqb (length word) 0 (λ e. omega (arith, ap length (append-nil word))) in
+    rw (append-nil word, long) (arguments_complete (done ++ word ∷ []) [] v vs args.0.0 args.0.1 args.1
+    ∙ ap (λ (xs : List (List ℕ)). Some xs) (append_assoc done (word ∷ []) (v ∷ vs)))
+arguments_complete done word (c ∷ cs) ws some visible args =
+    let seen : IsVisible c = visible.0 in
+    let space : eqb c 32 ≡ false = ne_eqb c 32 (λ e. omega arith) in
+    let pass : (leb 33 c && leb c 126) ≡ true = and_from (leb 33 c) (leb c 126) (le-leb 33 c seen.0) (le-leb c 126 seen.1) in
+    let longer : 0 < length ((word ++ c ∷ []) ++ cs) = rw append_assoc some in
+    rw (space, pass) (arguments_complete done (word ++ c ∷ []) cs ws longer visible.1 args
+    ∙ ap (λ (xs : List ℕ). Some (done ++ xs ∷ ws)) (append_assoc word (c ∷ []) cs))
+
+-- the letters of a word, and what follows it
+word_read : (done : List (List ℕ)) (word w cs : List ℕ) → AllByRecursion IsVisible w → arguments_from done word (w ++ cs) ≡ arguments_from done (word ++ w) cs
+unfolding arguments_from
+word_read done word [] cs visible = ap (λ (xs : List ℕ). arguments_from done xs cs) (sym (append-nil word))
+word_read done word (c ∷ w) cs visible =
+    let seen : IsVisible c = visible.0 in
+    let space : eqb c 32 ≡ false = ne_eqb c 32 (λ e. omega arith) in
+    let pass : (leb 33 c && leb c 126) ≡ true = and_from (leb 33 c) (leb c 126) (le-leb 33 c seen.0) (le-leb c 126 seen.1) in
+    rw (space, pass) (word_read done (word ++ c ∷ []) w cs visible.1 ∙ ap (λ (xs : List ℕ). arguments_from done xs cs) (append_assoc word (c ∷ []) w))
+
+pub next_argument : (done : List (List ℕ)) (w rest : List ℕ) → IsArgument w → arguments_from done [] (w ++ 32 ∷ rest) ≡ arguments_from (done ++ w ∷ []) [] rest
+unfolding arguments_from
+next_argument done w rest valid =
+    let size = valid.0 in
+    let long : eqb (length w) 0 ≡ false = ne_eqb (length w) 0 (λ e. omega arith) in
+    word_read done [] w (32 ∷ rest) valid.1 ∙ rw long refl
+
+pub last_argument : (done : List (List ℕ)) (w : List ℕ) → IsArgument w → arguments_from done [] w ≡ Some (done ++ w ∷ [])
+unfolding arguments_from
+last_argument done w valid =
+    let size = valid.0 in
+    let long : eqb (length w) 0 ≡ false = ne_eqb (length w) 0 (λ e. omega arith) in
+    ap (arguments_from done []) (sym (append-nil w)) ∙ word_read done [] w [] valid.1 ∙ rw long refl
+
+-- the line ends here, or a space follows
+abbrev pub EndsWord : List ℕ → Type 0
+EndsWord cs = (cs ≡ []) ⊎ ((rest : List ℕ) × (cs ≡ 32 ∷ rest))
+
+no_word : (done : List (List ℕ)) (word cs : List ℕ) → EndsWord cs → eqb (length word) 0 ≡ true → arguments_from done word cs ≡ None
+unfolding arguments_from
+no_word done word cs (inl e) none = rw (e, none) refl
+no_word done word cs (inr (rest, e)) none = rw (e, none) refl
+
+bad_word : (done : List (List ℕ)) (word w cs : List ℕ) → EndsWord cs → AllByRecursion (λ c. c ≡ 32 → ⊥) w → AllByRecursion IsVisible word
+    → (IsArgument (word ++ w) → ⊥)
+    → arguments_from done word (w ++ cs) ≡ None
+unfolding arguments_from
+bad_word done word [] cs ends others visible bad = elim (chosen (eqb (length word) 0) true false (eqb (length word) 0) (by_cases (eqb (length word) 0))) [
+  | inl h ↦ no_word done word cs ends h.0
+  | inr h ↦ absurd (bad (rw append-nil (some_length word h.0, visible)))
+]
+bad_word done word (c ∷ w) cs ends others visible bad =
+    let space : eqb c 32 ≡ false = ne_eqb c 32 others.0 in
+    elim (chosen (leb 33 c && leb c 126) true false (leb 33 c && leb c 126) (by_cases (leb 33 c && leb c 126))) [
+      | inl h ↦
+          let parts = and_parts (leb 33 c) (leb c 126) h.0 in
+          rw (
+            space,
+            h.0,
+          ) (bad_word done (word ++ c ∷ []) w cs ends others.1
+          (All-append IsVisible word (c ∷ []) visible ((leb-true 33 c parts.0, leb-true c 126 parts.1), tt))
+          (λ valid. bad (rw (← append_assoc word (c ∷ []) w) valid)))
+      | inr h ↦ rw (space, h.0) refl
+    ]
+
+-- a word that is no argument, before a space and at the end
+pub bad_argument : (done : List (List ℕ)) (w rest : List ℕ) → AllByRecursion (λ c. c ≡ 32 → ⊥) w → (IsArgument w → ⊥) → arguments_from done [] (w ++ 32 ∷ rest)
+    ≡ None
+bad_argument done w rest others bad = bad_word done [] w (32 ∷ rest) (inr (rest, refl)) others tt bad
+
+pub bad_last_argument : (done : List (List ℕ)) (w : List ℕ) → AllByRecursion (λ c. c ≡ 32 → ⊥) w → (IsArgument w → ⊥) → arguments_from done [] w ≡ None
+bad_last_argument done w others bad = ap (arguments_from done []) (sym (append-nil w)) ∙ bad_word done [] w [] (inl refl) others tt bad
+
+pub argument_line_read : (l : List ℕ) (args : List (List ℕ)) → arguments_of l ≡ Some args → (l ≡ argument_line args) × (0 < length args)
+    × AllByRecursion IsArgument args
+unfolding arguments_of
+argument_line_read l args e = elim (chosen (starts_with nat_eq l (codes "-> ")) (arguments_from [] [] (drop 3 l)) None (Some args) e) [
+  | inl h ↦
+      let front = starts_at l (codes "-> ") h.0 in
+      let rest = arguments_sound [] [] (drop 3 l) args tt tt h.1 in
+      (front ∙ ap (λ (xs : List ℕ). codes "->" ++ xs) rest.0, rest.1, rest.2)
+  | inr h ↦ absurd (cc (h.1))
+]
+
+pub read_argument_line : (args : List (List ℕ)) → 0 < length args → AllByRecursion IsArgument args → arguments_of (argument_line args) ≡ Some args
+unfolding arguments_of
+read_argument_line [] some valid = absurd (omega arith)
+read_argument_line (a ∷ as') some valid = arguments_complete [] [] a as' valid.0.0 valid.0.1 valid.1
+
+-- ---- an end line
+
+whole_is : (o : Option (List ℕ)) (mac : List ℕ) → whole_mac o ≡ Some mac → (o ≡ Some mac) × (length mac ≡ 32)
+whole_is None mac e = absurd cc
+whole_is (Some m) mac e =
+    let parts = cond_some (eqb (length m) 32) m mac e in
+    (rw parts.1 refl, rw (← parts.1) (eqb-true (length m) 32 parts.0))
+
+pub end_line_read : (l mac : List ℕ) → IsBytes l → mac_of l ≡ Some mac → (l ≡ end_line mac) × (length mac ≡ 32) × IsBytes mac
+unfolding mac_of
+end_line_read l mac fits e = elim (chosen (starts_with nat_eq l (codes "--- ")) (whole_mac (base64_bytes (drop 4 l))) None (Some mac) e) [
+  | inl h ↦
+      let front = starts_at l (codes "--- ") h.0 in
+      let whole = whole_is (base64_bytes (drop 4 l)) mac h.1 in
+      let is = text_of_decoded (drop 4 l) mac (IsBytes-drop 4 l fits) whole.0 in
+      (front ∙ ap (λ (xs : List ℕ). codes "--- " ++ xs) is.0, whole.1, is.1)
+  | inr h ↦ absurd (cc (h.1))
+]
+
+pub read_end_line : (mac : List ℕ) → length mac ≡ 32 → IsBytes mac → mac_of (end_line mac) ≡ Some mac
+unfolding mac_of
+read_end_line mac long fits = rw (decoded-text mac fits, eq-eqb (length mac) 32 long) refl
+
+-- ---- what stands after the marks of an end line
+
+pub no_end_line : (l : List ℕ) → starts_with nat_eq l (codes "--- ") ≡ false → None ≡ mac_of l
+unfolding mac_of
+no_end_line l e = rw e refl
+
+pub mac_is : (l mac : List ℕ) → starts_with nat_eq l (codes "--- ") ≡ true → drop 4 l ≡ base64_text mac → length mac ≡ 32 → IsBytes mac → Some mac ≡ mac_of l
+mac_is l mac starts is long fits =
+    let whole : l ≡ end_line mac = starts_at l (codes "--- ") starts ∙ ap (λ (xs : List ℕ). codes "--- " ++ xs) is in
+    sym (ap mac_of whole ∙ read_end_line mac long fits)
+
+none_unless : (o : Option (List ℕ)) → ((mac : List ℕ) → o ≡ Some mac → ⊥) → None ≡ o
+none_unless None never = refl
+none_unless (Some mac) never = absurd (never mac refl)
+
+pub no_mac : (l : List ℕ) → IsBytes l → ((mac : List ℕ) → IsBytes mac → length mac ≡ 32 → drop 4 l ≡ base64_text mac → ⊥) → None ≡ mac_of l
+no_mac l fits never =
+    none_unless (mac_of l)
+    (λ mac e.
+    let read = end_line_read l mac fits e in
+    never mac read.2 read.1 (ap (drop 4) read.0))

@@ -1,0 +1,89 @@
+-- How long the texts of a header are.
+use Rattle.std.proofs.Common.{◌≡◌, ℕ, ◌<◌, ◌≤◌, ◌+◌, ◌-◌, ◌*◌, ◌/◌, true, List, [], ◌∷◌, ◌++◌}
+use Rattle.std.proofs.Common.{length, get_or, drop, is_some, Option}
+use Rattle.std.proofs.Common.{Some, None, refl, sym, ap, ◌∙◌, arith, inl, inr}
+use Rattle.std.specs.List.{flat_map, AllByRecursion}
+use Rattle.std.specs.Option.{SomeIff}
+use Rattle.std.specs.Int.{div_ceil}
+use Rattle.std.proofs.lemmas.Bool.{cases_lt}
+use Rattle.std.proofs.lemmas.List.{length-append, drop_more, drop_all}
+use Rattle.base64.specs.GeneralPurpose.{IsBytes}
+use Rattle.age_stanza.specs.declared.header.Stanza.{Stanza}
+use Rattle.age_stanza.specs.declared.header.Header.{Header}
+use Rattle.age_stanza.specs.Text.{base64_text}
+use Rattle.age_stanza.specs.inner.Lengths.{HasArguments, Leaves, IsHeaderLength}
+use Rattle.age_stanza.specs.Grammar.{line, version, in_lines, stanza_text, end_line, head_text}
+use Rattle.age_stanza.specs.Grammar.{IsStanza, HasText}
+use Rattle.age_stanza.proofs.LineLemmas.{length-in_lines}
+use Rattle.age_stanza.proofs.TextLemmas.{length-text}
+
+pub length-body : (body : List ℕ) → length (in_lines (base64_text body)) ≡ (4 * length body + 2) / 3 + (4 * length body + 2) / 3 / 64 + 1
+length-body body =
+    let lines = length-in_lines (base64_text body) in
+    let size = length-text body in
+    omega arith
+
+pub length-head : (h : Header) → length h.mac ≡ 32 → length (head_text h) ≡ length (flat_map stanza_text h.stanzas) + 70
+length-head h long =
+    omega (
+      arith,
+      length-append (line version) (flat_map stanza_text h.stanzas ++ line (end_line h.mac)),
+      length-append (flat_map stanza_text h.stanzas) (line (end_line h.mac)),
+      length-append (end_line h.mac) (10 ∷ []),
+      length-text h.mac,
+    )
+
+-- what a difference leaves
+pub leaves : (r : Option ℕ) (size n room : ℕ) → SomeIff r (size ≤ room) (room - size) → n ≡ size → Leaves room n r
+leaves None size n room h e = elim (cases_lt room n) [ inl lt ↦ lt | inr ge ↦ absurd (h (omega arith)) ]
+leaves (Some left) size n room h e =
+    let fits = h.0 in
+    let is = h.1 in
+    omega arith
+
+-- three bytes are four characters
+pub div_ceil-characters : (n : ℕ) → div_ceil (4 * n) 3 ≡ (4 * n + 2) / 3
+div_ceil-characters n = omega arith
+
+-- ---- the texts of stanzas
+
+-- a stanza's text is part of the texts from it on
+pub stanza_within : (ss : List Stanza) (i : ℕ) (s : Stanza) → i < length ss → s ≡ get_or ss i s → length (stanza_text s)
+    ≤ length (flat_map stanza_text (drop i ss))
+stanza_within ss i s lt is =
+    let first : drop i ss ≡ s ∷ drop (i + 1) ss = drop_more ss i s lt ∙ ap (λ (x : Stanza). x ∷ drop (i + 1) ss) (sym is) in
+    let size = ap (λ (xs : List Stanza). length (flat_map stanza_text xs)) first in
+    omega (arith, size, length-append (stanza_text s) (flat_map stanza_text (drop (i + 1) ss)))
+
+-- no stanza is left
+pub none_left : (ss : List Stanza) (i : ℕ) → length ss ≤ i → length (flat_map stanza_text (drop i ss)) ≡ 0
+none_left ss i le = ap (λ (xs : List Stanza). length (flat_map stanza_text xs)) (drop_all i ss le)
+
+valid_stanzas : (ss : List Stanza) → AllByRecursion HasArguments ss → AllByRecursion (λ s. IsBytes s.body) ss → AllByRecursion IsStanza ss
+valid_stanzas [] args bodies = tt
+valid_stanzas (s ∷ ss) args bodies = (record { some_argument = args.0.0; arguments = args.0.1; body = bodies.0 }, valid_stanzas ss args.1 bodies.1)
+
+-- a valid header whose text is within the limit has one
+pub has_text : (h : Header) (r : Option ℕ) → IsHeaderLength h r → is_some r ≡ true → 0 < length h.stanzas → AllByRecursion HasArguments h.stanzas
+    → HasText h
+has_text h None len some stanzas args = absurd (cc some)
+has_text h (Some size) len some stanzas args =
+    let is = len.0 in
+    let within = len.1 in (
+      head_text h,
+      record {
+        spells = record {
+          valid = record { some_stanza = stanzas; stanzas = valid_stanzas h.stanzas args len.4; mac_length = len.2; mac = len.3 };
+          bytes_are = refl;
+        };
+        within = omega arith;
+      },
+    )
+
+-- a header that has a text is valid, and its text is within the limit
+pub text_within : (h : Header) (r : Option ℕ) → IsHeaderLength h r → HasText h → is_some r ≡ true
+text_within h None long has =
+    let size = ap length has.1.spells.bytes_are in
+    let within = has.1.within in
+    absurd (omega arith)
+text_within h (Some size) len has = refl

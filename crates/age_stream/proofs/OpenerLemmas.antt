@@ -1,0 +1,284 @@
+-- A step of an opener, for each segment that it was given.
+use Rattle.std.proofs.Common.{inl, inr, ◌≡◌, ℕ, ◌<◌, ◌≤◌, ◌+◌, ◌-◌, refl, ap, sym, subst, ◌∙◌, List}
+use Rattle.std.proofs.Common.{[], ◌∷◌, ◌++◌, length, take, drop, Bool, true, false}
+use Rattle.std.proofs.Common.{arith}
+use Rattle.std.specs.Prelude.{Option, Result, Ok, Err, IfOk, MatchResult, nat_lt, cond, ◌||◌}
+use Rattle.std.specs.Prelude.{if◌then◌else◌}
+use Rattle.std.proofs.lemmas.List.{append-nil, append_assoc, length-append, length-take}
+use Rattle.std.proofs.lemmas.List.{nil_from_length, take-append-drop, take_all}
+use Rattle.std.proofs.lemmas.Bool.{cases_lt}
+use Rattle.age_stream.specs.Segment.{Segment, Outcome, outcome, rest_bytes, with_piece}
+use Rattle.age_stream.specs.inner.OpenerSteps.{one_block, status_after, IsTried, TakesPart}
+use Rattle.age_stream.specs.inner.OpenerSteps.{TakesWhole, TakesNone}
+use Rattle.age_stream.specs.declared.opener.OpenerState.{OpenerState}
+use Rattle.age_chunk.specs.declared.fault.StreamFault.{StreamFault}
+use Rattle.age_stream.specs.declared.step.Status.{Status}
+use Rattle.age_stream.specs.declared.step.Status.TheVariants.{Open, LastSeen, Done, Failed}
+use Rattle.age_stream.specs.Opener.{Stands, given, handed, held_bytes, opener_view}
+use Rattle.age_stream.proofs.GoingLemmas.{going, going_part, going_whole, after_piece, unended_piece}
+use Rattle.age_stream.proofs.GoingLemmas.{IsGoing, IsWhole}
+use Rattle.age_chunk.specs.ChunkBoxes.{tag_length, text_length}
+
+never : true ≡ false → ⊥
+never e = cc
+
+piece_timely : (s : Segment) (ended : Bool) (p : List ℕ) → s.ended ≡ ended → (s.ended ≡ false → s.late ≡ false) → (with_piece s p).ended ≡ false
+    → (with_piece s p).late ≡ false
+piece_timely s false p is t h = ap (λ (x : Segment). x.late) (unended_piece s p is) ∙ t is
+piece_timely s true p is t h =
+    let e : (with_piece s p).ended ≡ true =
+    ap (λ (b : Bool). (cond {A = Segment} b (record { start = s.start; bytes = s.bytes; ended = true; late = s.late || nat_lt 0 (length p) })
+    (record { start = s.start; bytes = s.bytes ++ p; ended = false; late = s.late })).ended) is in
+    cc
+
+two_pieces : (s : Segment) (p r : List ℕ) → s.ended ≡ false → with_piece (with_piece s p) r ≡ with_piece s (p ++ r)
+two_pieces s p r is =
+    ap (λ (x : Segment). with_piece x r) (unended_piece s p is)
+    ∙ (ap (λ (bs : List ℕ). record { start = s.start; bytes = bs; ended = false; late = s.late }) (append_assoc s.bytes p r)
+    ∙ sym (unended_piece s (p ++ r) is))
+
+never_open : (some : Bool) (i : ℕ) (s : Status) → (s ≡ Open → ⊥) → status_after some i s ≡ Open → ⊥
+never_open some i (Failed f) h e = cc
+never_open true i LastSeen h e = cc
+never_open true i Done h e = cc
+never_open true i Open h e = h e
+never_open false i LastSeen h e = cc
+never_open false i Done h e = cc
+never_open false i Open h e = h e
+
+module _ {B : Type 0} {n : ℕ} {g : _} (opening : B → List ℕ → List ℕ → Option (List ℕ)) (old new : OpenerState B n g) (big : tag_length ≤ n) where
+  -- what a step leaves, for a segment that the opener was given
+  pub record Follows (s next : Segment) (texts : List (List ℕ)) : Type 0 where
+    pub stands : Stands opening (text_length n) (opener_view new) next
+    pub texts_are : (outcome (opening old.key.now) (text_length n) next).texts ≡ (outcome (opening old.key.now) (text_length n) s).texts ++ texts
+
+  back : text_length n + tag_length ≡ n
+  back = omega (arith, big)
+
+  to_new : (next : Segment) → new.key ≡ old.key → new.index ≡ (outcome (opening old.key.now) (text_length n) next).index → new.status
+      ≡ (outcome (opening old.key.now) (text_length n) next).status
+      → (new.status ≡ Open → held_bytes new ≡ rest_bytes (text_length n) next.bytes) → (next.ended ≡ false → next.late ≡ false)
+      → Stands opening (text_length n) (opener_view new) next
+  to_new next key index status held timely =
+      record {
+        index = index ∙ ap (λ k. (outcome (opening k.now) (text_length n) next).index) (sym key);
+        status = status ∙ ap (λ k. (outcome (opening k.now) (text_length n) next).status) (sym key);
+        held = held;
+        timely = timely;
+      }
+
+  pub part : (s : Segment) (piece : List ℕ) (answer : Result (ℕ × Bool) StreamFault) → Stands opening (text_length n) (opener_view old) s → old.status ≡ Open
+      → length (held_bytes old) + length piece < n → TakesPart old piece answer new
+      → Follows s (with_piece s piece) []
+  part s piece answer h open_ short t =
+      let op = opening old.key.now in
+      let m = text_length n in
+      let goes = going op m s (sym h.status ∙ open_) in
+      let held = h.held open_ in
+      let small : length (rest_bytes m s.bytes) + length piece < m + tag_length = omega (arith, short, ap length held, back) in
+      let p = going_part op m s piece goes small in
+      record {
+        stands = to_new (with_piece s piece) t.key (t.index ∙ (h.index ∙ ap (λ (o : Outcome). o.index) (sym p.same))) (t.status
+            ∙ (h.status ∙ ap (λ (o : Outcome). o.status) (sym p.same)))
+            (λ _. t.held ∙ (ap (λ (bs : List ℕ). bs ++ piece) held ∙ sym p.rest)) (piece_timely s s.ended piece refl h.timely);
+        texts_are = ap (λ (o : Outcome). o.texts) p.same ∙ sym (append-nil (outcome op m s).texts);
+      }
+
+  -- the front of the piece made a whole block
+  module _ (s : Segment) (piece : List ℕ) (h : Stands opening (text_length n) (opener_view old) s) (open_ : old.status ≡ Open) (long : n
+      ≤ length (held_bytes old) + length piece) (short : length (held_bytes old) < n) where
+    abbrev front : List ℕ
+    front = take (n - length (held_bytes old)) piece
+
+    front_len : length (held_bytes old) + length front ≡ n
+    front_len = omega (arith, length-take (n - length (held_bytes old)) piece, long, short)
+
+    goes : IsGoing (opening old.key.now) (text_length n) s
+    goes = going (opening old.key.now) (text_length n) s (sym h.status ∙ open_)
+
+    whole_front : IsWhole (opening old.key.now) (text_length n) s front
+    whole_front =
+        going_whole (opening old.key.now) (text_length n) s front goes (h.timely goes.unended) (omega (arith, front_len, ap length (h.held open_), back))
+
+    abbrev trial : Outcome
+    trial = one_block (opening old.key.now) old.index (held_bytes old ++ front)
+
+    tried : one_block (opening old.key.now) (outcome (opening old.key.now) (text_length n) s).index (rest_bytes (text_length n) s.bytes ++ front) ≡ trial
+    tried =
+        ap (λ (i : ℕ). one_block (opening old.key.now) i (rest_bytes (text_length n) s.bytes ++ front)) (sym h.index)
+        ∙ ap (λ (bs : List ℕ). one_block (opening old.key.now) old.index (bs ++ front)) (sym (h.held open_))
+
+    pub whole : (answer : Result (ℕ × Bool) StreamFault) → TakesWhole trial old answer new
+        → Follows s (with_piece s (given (λ (a : ℕ × Bool). a.0) answer piece))
+        (handed (λ (a : ℕ × Bool). if a.1 then take (text_length n) new.buffer.items ∷ [] else []) answer)
+    whole (Ok a) t =
+        let w = whole_front in
+        let op = opening old.key.now in
+        let m = text_length n in
+        let at : a.0 ≡ n - length (held_bytes old) = omega (arith, t.answered.0, short) in
+        let P : List ℕ → Type 0 = λ p. Follows s (with_piece s p) (take m new.buffer.items ∷ []) in
+        let here : P front = record {
+          stands = to_new (with_piece s front) t.key (t.index ∙ (ap (λ (o : Outcome). o.index) (sym tried) ∙ sym w.index)) (t.status
+              ∙ (ap (λ (o : Outcome). o.status) (sym tried) ∙ sym w.status))
+              (λ _. t.answered.2 ∙ sym w.rest) (piece_timely s s.ended front refl h.timely);
+          texts_are = w.texts ∙ ap (λ (ts : List (List ℕ)). (outcome op m s).texts ++ ts) (ap (λ (o : Outcome). o.texts) tried ∙ t.answered.3);
+        } in
+        let Q : Bool → Type 0 = λ f. Follows s (with_piece s (take a.0 piece)) (if f then take m new.buffer.items ∷ [] else []) in
+        subst Q (sym t.answered.1) (subst P (ap (λ (k : ℕ). take k piece) (sym at)) here)
+    whole (Err f) t =
+        let w = whole_front in
+        let op = opening old.key.now in
+        let m = text_length n in
+        let behind = drop (n - length (held_bytes old)) piece in
+        let mid = with_piece s front in
+        let failed_mid : (outcome op m mid).status ≡ Failed f = w.status ∙ (ap (λ (o : Outcome). o.status) tried ∙ (sym t.status ∙ t.answered.0)) in
+        let timely = piece_timely s s.ended front refl h.timely in
+        let more = after_piece op m mid behind timely (λ o. let e : Failed f ≡ Open = sym failed_mid ∙ o in cc) in
+        let some = nat_lt 0 (length behind) in
+        let stays : status_after some (outcome op m mid).index (outcome op m mid).status ≡ Failed f = ap (status_after some (outcome op m mid).index)
+        failed_mid in
+        let join : with_piece mid behind ≡ with_piece s piece = two_pieces s front behind goes.unended
+        ∙ ap (with_piece s) (take-append-drop (n - length (held_bytes old)) piece) in
+        let P : Segment → Type 0 = λ x. Follows s x [] in
+        let status : new.status ≡ (outcome op m (with_piece mid behind)).status = t.answered.0 ∙ sym (more.status ∙ stays) in
+        subst P join (record {
+          stands = to_new (with_piece mid behind) t.key (t.index ∙ (ap (λ (o : Outcome). o.index) (sym tried) ∙ (sym w.index ∙ sym more.index))) status
+              (λ o. let e : Failed f ≡ Open = sym t.answered.0 ∙ o in cc) (piece_timely mid mid.ended behind refl timely);
+          texts_are = more.texts ∙ (w.texts ∙ ap (λ (ts : List (List ℕ)). (outcome op m s).texts ++ ts) (ap (λ (o : Outcome). o.texts) tried ∙ t.answered.1));
+        })
+
+  by_answer : (s : Segment) (piece : List ℕ) (answer : Result (ℕ × Bool) StreamFault) → ((p : List ℕ) → nat_lt 0 (length p) ≡ nat_lt 0 (length piece)
+      → Follows s (with_piece s p) [])
+      → MatchResult answer (λ a. (a.0 ≡ 0) × (a.1 ≡ false) × (length piece ≡ 0)) (λ fault. new.status ≡ Failed fault)
+      → Follows s (with_piece s (given (λ (a : ℕ × Bool). a.0) answer piece))
+      (handed (λ (a : ℕ × Bool). if a.1 then take (text_length n) new.buffer.items ∷ [] else []) answer)
+  by_answer s piece (Ok a) core t =
+      let e : length (take a.0 piece) ≡ length piece = omega (arith, length-take a.0 piece, t.0, t.2) in
+      let Q : Bool → Type 0 = λ f. Follows s (with_piece s (take a.0 piece)) (if f then take (text_length n) new.buffer.items ∷ [] else []) in
+      subst Q (sym t.1) (core (take a.0 piece) (ap (λ (k : ℕ). nat_lt 0 k) e))
+  by_answer s piece (Err f) core t = core piece refl
+
+  -- the opener was open no more
+  pub none : (s : Segment) (piece : List ℕ) → Stands opening (text_length n) (opener_view old) s → (old.status ≡ Open → ⊥) → (answer : Result (ℕ × Bool) StreamFault)
+      → TakesNone old piece answer new
+      → Follows s (with_piece s (given (λ (a : ℕ × Bool). a.0) answer piece))
+      (handed (λ (a : ℕ × Bool). if a.1 then take (text_length n) new.buffer.items ∷ [] else []) answer)
+  none s piece h shut answer t =
+      let op = opening old.key.now in
+      let m = text_length n in
+      let closed : (outcome op m s).status ≡ Open → ⊥ = λ o. shut (h.status ∙ o) in
+      let core : (p : List ℕ) → nat_lt 0 (length p) ≡ nat_lt 0 (length piece) → Follows s (with_piece s p) [] =
+      λ p e.
+      let more = after_piece op m s p h.timely closed in
+      let flag : status_after (nat_lt 0 (length piece)) old.index old.status
+      ≡ status_after (nat_lt 0 (length p)) (outcome op m s).index (outcome op m s).status =
+      ap (λ (b : Bool). status_after b old.index old.status) (sym e)
+      ∙ (ap (λ (i : ℕ). status_after (nat_lt 0 (length p)) i old.status) h.index ∙ ap (status_after (nat_lt 0 (length p)) (outcome op m s).index) h.status) in
+      let status : new.status ≡ (outcome op m (with_piece s p)).status = t.status ∙ (flag ∙ sym more.status) in
+      record {
+        stands = to_new (with_piece s p) t.key (t.index ∙ (h.index ∙ sym more.index)) status
+            (λ o. absurd (never_open (nat_lt 0 (length piece)) old.index old.status shut (sym t.status ∙ o))) (piece_timely s s.ended p refl h.timely);
+        texts_are = more.texts ∙ sym (append-nil (outcome op m s).texts);
+      } in
+      by_answer s piece answer core t.answered
+
+  part_answer : (s : Segment) (piece : List ℕ) (answer : Result (ℕ × Bool) StreamFault) → Follows s (with_piece s piece) []
+      → MatchResult answer (λ a. (a.0 ≡ length piece) × (a.1 ≡ false)) (λ fault. ⊥)
+      → Follows s (with_piece s (given (λ (a : ℕ × Bool). a.0) answer piece))
+      (handed (λ (a : ℕ × Bool). if a.1 then take (text_length n) new.buffer.items ∷ [] else []) answer)
+  part_answer s piece (Ok a) h t =
+      let e : take a.0 piece ≡ piece = take_all a.0 piece (omega (arith, t.0)) in
+      let Q : Bool → Type 0 = λ f. Follows s (with_piece s (take a.0 piece)) (if f then take (text_length n) new.buffer.items ∷ [] else []) in
+      let P : List ℕ → Type 0 = λ p. Follows s (with_piece s p) [] in
+      subst Q (sym t.1) (subst P (sym e) h)
+  part_answer s piece (Err f) h t = absurd t
+
+  -- the opener was open
+  pub open_step : (s : Segment) (piece : List ℕ) (answer : Result (ℕ × Bool) StreamFault) → Stands opening (text_length n) (opener_view old) s → old.status
+      ≡ Open → length (held_bytes old) < n
+      → (length (held_bytes old) + length piece < n → TakesPart old piece answer new)
+      → (n ≤ length (held_bytes old) + length piece
+      → TakesWhole (one_block (opening old.key.now) old.index (held_bytes old ++ take (n - length (held_bytes old)) piece)) old answer new)
+      → Follows s (with_piece s (given (λ (a : ℕ × Bool). a.0) answer piece))
+      (handed (λ (a : ℕ × Bool). if a.1 then take (text_length n) new.buffer.items ∷ [] else []) answer)
+  open_step s piece answer h open_ short f w =
+      elim (cases_lt (length (held_bytes old) + length piece) n) [
+        | inl lt ↦ (let t = f lt in part_answer s piece answer (part s piece answer h open_ lt t) t.answered)
+        | inr le ↦ whole s piece h open_ le short answer (w le)
+      ]
+
+-- what is held after a piece, whether it made a whole block or not
+module _ {B : Type 0} {n : ℕ} {g : _} (old new : OpenerState B n g) (piece : List ℕ) (short : length (held_bytes old) < n) where
+  abbrev Whole : Outcome → Result (ℕ × Bool) StreamFault → Type 0
+  Whole outcome answer = n ≤ length (held_bytes old) + length piece → TakesWhole outcome old answer new
+
+  abbrev Part : Result (ℕ × Bool) StreamFault → Type 0
+  Part answer = length (held_bytes old) + length piece < n → TakesPart old piece answer new
+
+  pub open_still : (answer : Result (ℕ × Bool) StreamFault) → Part answer → length piece ≡ 0 → opener_view new ≡ opener_view old
+  open_still answer part none =
+      let t = part (omega (arith, none, short)) in
+      let held : held_bytes new ≡ held_bytes old = t.held ∙ (ap (λ (p : List ℕ). held_bytes old ++ p) (nil_from_length piece none)
+      ∙ append-nil (held_bytes old)) in
+      cc (held, t.key, t.index, t.status)
+
+  pub open_unlent : (outcome : Outcome) (answer : Result (ℕ × Bool) StreamFault) → Part answer → Whole outcome answer
+      → IfOk answer (λ a. a.1 ≡ false → length (held_bytes new) ≡ length (held_bytes old) + a.0)
+  open_unlent outcome (Err f) part whole = tt
+  open_unlent outcome (Ok a) part whole = λ unlent.
+      elim (cases_lt (length (held_bytes old) + length piece) n) [
+        | inl lt ↦ (let t = part lt in omega (arith, ap length t.held, length-append (held_bytes old) piece, t.answered.0))
+        | inr le ↦ (let t = whole le in absurd (never (sym t.answered.1 ∙ unlent)))
+      ]
+
+  pub open_room : (outcome : Outcome) (answer : Result (ℕ × Bool) StreamFault) → Part answer → Whole outcome answer
+      → IfOk answer (λ a. length (held_bytes new) + length (if a.1 then take (text_length n) new.buffer.items else []) ≤ length (held_bytes old) + a.0)
+  open_room outcome (Err f) part whole = tt
+  open_room outcome (Ok a) part whole =
+      let P : Bool → Type 0 = λ b. length (held_bytes new) + length (if b then take (text_length n) new.buffer.items else []) ≤ length (held_bytes old) + a.0 in
+      elim (cases_lt (length (held_bytes old) + length piece) n) [
+        | inl lt ↦ (
+            let t = part lt in
+            let at : P false = omega (arith, ap length t.held, length-append (held_bytes old) piece, t.answered.0) in
+            subst P (sym t.answered.1) at
+            )
+        | inr le ↦ (
+            let t = whole le in
+            let at : P true = omega (arith, t.answered.0, ap length t.answered.2, length-take (text_length n) new.buffer.items) in
+            subst P (sym t.answered.1) at
+            )
+      ]
+
+-- a block that is full was tried: what was taken of the piece, for what was held
+module _ {B : Type 0} {n : ℕ} {g : _} (opening : B → List ℕ → List ℕ → Option (List ℕ)) (old mid new : OpenerState B n g) (piece : List ℕ)
+    (key : mid.key ≡ old.key) (index : mid.index ≡ old.index)
+    (items : mid.buffer.items ≡ held_bytes old ++ take (n - length (held_bytes old)) piece) where
+  block : one_block (opening mid.key.now) mid.index mid.buffer.items
+      ≡ one_block (opening old.key.now) old.index (held_bytes old ++ take (n - length (held_bytes old)) piece)
+  block =
+      ap (λ k. one_block (opening k.now) mid.index mid.buffer.items) key
+      ∙ (ap (λ (i : ℕ). one_block (opening old.key.now) i mid.buffer.items) index ∙ ap (one_block (opening old.key.now) old.index) items)
+
+  pub tried_ok : (room : ℕ) → room + length (held_bytes old) ≡ n → IsTried (one_block (opening mid.key.now) mid.index mid.buffer.items) mid (Ok tt) new
+      → TakesWhole (one_block (opening old.key.now) old.index (held_bytes old ++ take (n - length (held_bytes old)) piece)) old (Ok (room, true)) new
+  tried_ok room sum t = record {
+    key = t.key ∙ key;
+    index = t.index ∙ ap (λ (o : Outcome). o.index) block;
+    status = t.status ∙ ap (λ (o : Outcome). o.status) block;
+    answered = (
+      sum,
+      refl,
+      ap (λ (lent : Bool). if lent then [] else new.buffer.items) t.answered.0,
+      ap (λ (o : Outcome). o.texts) (sym block) ∙ t.answered.2,
+      t.answered.1,
+    );
+  }
+
+  pub tried_err : (fault : StreamFault) → IsTried (one_block (opening mid.key.now) mid.index mid.buffer.items) mid (Err fault) new
+      → TakesWhole (one_block (opening old.key.now) old.index (held_bytes old ++ take (n - length (held_bytes old)) piece)) old (Err fault) new
+  tried_err fault t = record {
+    key = t.key ∙ key;
+    index = t.index ∙ ap (λ (o : Outcome). o.index) block;
+    status = t.status ∙ ap (λ (o : Outcome). o.status) block;
+    answered = (t.answered.0, ap (λ (o : Outcome). o.texts) (sym block) ∙ t.answered.1);
+  }

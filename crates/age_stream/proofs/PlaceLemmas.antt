@@ -1,0 +1,430 @@
+-- Each block in its place, where what opens is the writer's.
+use Rattle.std.proofs.Common.{inl, inr, ◌≡◌, ℕ, zero, suc, ◌<◌, ◌≤◌, ◌+◌, ◌*◌, ◌-◌, ◌/◌, refl, ap}
+use Rattle.std.proofs.Common.{sym, subst, ◌∙◌, List, [], ◌∷◌, ◌++◌, length, take, drop}
+use Rattle.std.proofs.Common.{get_or, Bool, true, false, arith, rules}
+use Rattle.std.specs.Prelude.{Option, Some, None, IsSome, Contains, ◌==◌, ◌&&◌, ◌||◌, nat_lt, cond}
+use Rattle.std.specs.Prelude.{map}
+use Rattle.std.specs.Str.{bytes_eq}
+use Rattle.std.specs.List.{list_any, enumerate_from}
+use Rattle.std.specs.Simd.{first_chunks}
+use Rattle.std.proofs.lemmas.Slice.Eq.{bytes_eq-Decides}
+use Rattle.std.proofs.lemmas.List.{length-take, length-drop, take_all}
+use Rattle.std.proofs.lemmas.List.Folds.{list_any_at, Any-from_list_any}
+use Rattle.std.proofs.lemmas.Bool.{cases_lt, lt-ltb, and_parts}
+use Rattle.std.proofs.lemmas.Bool.Decides.{nat_tests}
+use Rattle.age_chunk.specs.ChunkBoxes.{IsChunkBox, tag_length}
+use Rattle.age_chunk.specs.Payload.{nonce_bytes, chunk_limit, chunks, chunk_count, last_index}
+use Rattle.age_chunk.specs.Payload.{last_chunk, pair, sealed}
+use Rattle.age_stream.specs.Segment.{Segment, Outcome, outcome, block_at, text_before_last}
+use Rattle.age_stream.specs.Segment.{unless_greatest, text_then, front_texts, whole_blocks}
+use Rattle.age_stream.specs.Segment.{rest_bytes, failed}
+use Rattle.age_stream.specs.inner.OpenerSteps.{after_last, at_block, final_block}
+use Rattle.age_stream.specs.declared.step.Status.{Status}
+use Rattle.age_stream.specs.declared.step.Status.TheVariants.{Failed}
+use Rattle.age_chunk.specs.declared.fault.StreamKind.{StreamKind}
+use Rattle.age_chunk.specs.declared.fault.StreamKind.TheVariants.{ChunkDamaged, ChunkCut, EmptyLast}
+use Rattle.age_chunk.specs.declared.fault.StreamKind.TheVariants.{Truncated, Trailing}
+use Rattle.age_chunk.specs.declared.fault.StreamKind.TheVariants.{TooManyChunks}
+use Rattle.age_stream.specs.Headline.{IsWriters, IsAuthentic, sealed_as, compared, IsFirstWrong}
+use Rattle.age_stream.specs.Headline.{IsInPlace}
+use Rattle.age_chunk.proofs.NonceLemmas.{nonce_bytes-length, nonce_bytes-flag}
+use Rattle.age_chunk.proofs.FirstChunkLemmas.{length-first_chunks, get_or-first_chunks}
+use Rattle.age_stream.proofs.SegmentLemmas.{by_test, tag_left, empty_first, writer_text, next_within}
+use Rattle.age_stream.proofs.SegmentLemmas.{opens_before, front_carries, IsPair-from_Contains}
+use Rattle.age_stream.proofs.GoingLemmas.{place, at_place, past_place}
+use Rattle.age_stream.proofs.TableLemmas.{rest_short}
+use Rattle.age_stream.proofs.TriedLemmas.{AreTried, tried}
+
+-- each pair is the sealing of its chunk
+abbrev AreSealed : (List ℕ → List ℕ → List ℕ) → List (List ℕ × List ℕ) → List (List ℕ) → Type 0
+AreSealed sealing [] chunks = Unit {0}
+AreSealed sealing (pair ∷ pairs) [] = ⊥
+AreSealed sealing (pair ∷ pairs) (chunk ∷ chunks) =
+    (pair.1 ≡ sealing pair.0 chunk) × ((length pair.0 ≡ 12) × AreSealed sealing pairs chunks)
+
+seals_from : (sealing : List ℕ → List ℕ → List ℕ) (q i : ℕ) (last : List ℕ) (cs : List (List ℕ))
+    → AreSealed sealing (map (pair sealing false) (enumerate_from i cs) ++ pair sealing true (q, last) ∷ []) (cs ++ last ∷ [])
+seals_from sealing q i last [] = (refl, (nonce_bytes-length q true, tt))
+seals_from sealing q i last (c ∷ cs) = (refl, (nonce_bytes-length i false, seals_from sealing q (i + 1) last cs))
+
+seals_all : (sealing : List ℕ → List ℕ → List ℕ) (n : ℕ) (text : List ℕ) → AreSealed sealing (sealed sealing n text) (chunks n text)
+seals_all sealing n text = seals_from sealing (last_index n text) 0 (last_chunk n text) (first_chunks n (last_index n text) text)
+
+abbrev is_pair : List ℕ → List ℕ → List ℕ × List ℕ → Bool
+is_pair nonce block pair = bytes_eq pair.0 nonce && bytes_eq pair.1 block
+
+-- by the test of the first pair
+found_none_by : (b more : Bool) (chunk : List ℕ) (rest : Option (List ℕ)) → (more ≡ false → rest ≡ None) → (b || more) ≡ false → cond b (Some chunk) rest ≡ None
+found_none_by true more chunk rest f e = cc
+found_none_by false more chunk rest f e = f e
+
+found_none : (pairs : List (List ℕ × List ℕ)) (chunks : List (List ℕ)) (nonce block : List ℕ) → list_any (is_pair nonce block) pairs ≡ false
+    → sealed_as pairs chunks nonce block ≡ None
+found_none [] chunks nonce block e = refl
+found_none (p ∷ pairs) [] nonce block e = refl
+found_none (p ∷ pairs) (chunk ∷ chunks) nonce block e =
+    found_none_by (is_pair nonce block p) (list_any (is_pair nonce block) pairs) chunk (sealed_as pairs chunks nonce block)
+    (λ more. found_none pairs chunks nonce block more) e
+
+module _ (sealing : List ℕ → List ℕ → List ℕ) (opening : List ℕ → List ℕ → Option (List ℕ)) (valid : IsChunkBox sealing opening) where
+  found_by : (b more : Bool) (p : List ℕ × List ℕ) (chunk nonce block : List ℕ) (rest : Option (List ℕ)) → is_pair nonce block p ≡ b → p.1 ≡ sealing p.0 chunk
+      → length p.0 ≡ 12
+      → (more ≡ true → opening nonce block ≡ rest) → (b || more) ≡ true → opening nonce block ≡ cond b (Some chunk) rest
+  found_by true more p chunk nonce block rest is seals len f e =
+      let t = and_parts (bytes_eq p.0 nonce) (bytes_eq p.1 block) is in
+      let first : p.0 ≡ nonce = (bytes_eq-Decides p.0 nonce).0 t.0 in
+      let second : p.1 ≡ block = (bytes_eq-Decides p.1 block).0 t.1 in
+      sym (ap (λ (x : List ℕ). opening x p.1) first ∙ ap (opening nonce) second)
+      ∙ (ap (opening p.0) seals ∙ valid.opens p.0 chunk len)
+  found_by false more p chunk nonce block rest is seals len f e = f e
+
+  found_opens : (pairs : List (List ℕ × List ℕ)) (chunks : List (List ℕ)) (nonce block : List ℕ) → AreSealed sealing pairs chunks
+      → list_any (is_pair nonce block) pairs ≡ true
+      → opening nonce block ≡ sealed_as pairs chunks nonce block
+  found_opens [] chunks nonce block h e = cc
+  found_opens (p ∷ pairs) [] nonce block h e = absurd h
+  found_opens (p ∷ pairs) (chunk ∷ chunks) nonce block h e =
+      found_by (is_pair nonce block p) (list_any (is_pair nonce block) pairs) p chunk nonce block (sealed_as pairs chunks nonce block) refl h.0 h.1.0
+      (λ more. found_opens pairs chunks nonce block h.1.1 more) e
+
+abbrev kind_of : Status → StreamKind → StreamKind
+kind_of (Failed f) none = f.kind
+kind_of other none = none
+
+abbrev place_of : Status → ℕ
+place_of (Failed f) = f.chunk
+place_of other = 0
+
+kinds : (a b : StreamKind) (i j : ℕ) → failed a i ≡ failed b j → a ≡ b
+kinds a b i j e = ap (λ (s : Status). kind_of s a) e
+
+places : (a b : StreamKind) (i j : ℕ) → failed a i ≡ failed b j → i ≡ j
+places a b i j e = ap place_of e
+
+-- a choice of four, of which the last is the same where it is reached
+four : {A : Type 0} (b0 b1 b2 : Bool) (w x y u v : A) → (b0 ≡ false → b1 ≡ false → b2 ≡ false → u ≡ v)
+    → cond b0 w (cond b1 x (cond b2 y u)) ≡ cond b0 w (cond b1 x (cond b2 y v))
+four true b1 b2 w x y u v f = refl
+four false true b2 w x y u v f = refl
+four false false true w x y u v f = refl
+four false false false w x y u v f = f refl refl refl
+
+module _ (sealing : List ℕ → List ℕ → List ℕ) (opening : List ℕ → List ℕ → Option (List ℕ)) (valid : IsChunkBox sealing opening)
+    (n : ℕ) (text : List ℕ) (few : chunk_count n text ≤ chunk_limit) (positive : 0 < n) where
+  abbrev other : List ℕ → List ℕ → Option (List ℕ)
+  other = compared sealing n text
+
+  abbrev sure : List ℕ → List ℕ → Bool
+  sure nonce block = list_any (is_pair nonce block) (sealed sealing n text)
+
+  abbrev Same : List ℕ → List ℕ → Type 0
+  Same nonce block = opening nonce block ≡ other nonce block
+
+  sure_from_Contains : (nonce block : List ℕ) → Contains (sealed sealing n text) (nonce, block) → sure nonce block ≡ true
+  sure_from_Contains nonce block h =
+      let p : List ℕ × List ℕ → Bool = λ pair. bytes_eq pair.0 nonce && bytes_eq pair.1 block in
+      let a : bytes_eq nonce nonce ≡ true = (bytes_eq-Decides nonce nonce).1 refl in
+      let b : bytes_eq block block ≡ true = (bytes_eq-Decides block block).1 refl in
+      let e : p (nonce, block) ≡ true = ap (λ (x : Bool). x && bytes_eq block block) a ∙ b in
+      list_any_at p (sealed sealing n text) h.0 (nonce, block) h.1 (ap p h.2 ∙ e)
+
+  Contains_from_sure : (nonce block : List ℕ) → sure nonce block ≡ true → Contains (sealed sealing n text) (nonce, block)
+  Contains_from_sure nonce block e =
+      let p : List ℕ × List ℕ → Bool = λ pair. bytes_eq pair.0 nonce && bytes_eq pair.1 block in
+      let a = Any-from_list_any p (sealed sealing n text) e in
+      let t = and_parts (bytes_eq a.1.0 nonce) (bytes_eq a.1.1 block) a.4 in
+      let first : a.1.0 ≡ nonce = (bytes_eq-Decides a.1.0 nonce).0 t.0 in
+      let second : a.1.1 ≡ block = (bytes_eq-Decides a.1.1 block).0 t.1 in
+      let is : a.1 ≡ (nonce, block) = ap (λ (x : List ℕ). (x, a.1.1)) first ∙ ap (λ (x : List ℕ). (nonce, x)) second in
+      subst (Contains (sealed sealing n text)) is (a.0, a.2, a.3)
+
+  -- a block that the writer sealed opens to its chunk; others open to nothing
+  opens_none : (nonce block : List ℕ) (o : Option (List ℕ)) → opening nonce block ≡ o → IsWriters sealing opening n text nonce block → sure nonce block
+      ≡ false → o ≡ None
+  opens_none nonce block None e w f = refl
+  opens_none nonce block (Some x) e w f =
+      let some : IsSome (opening nonce block) = rw e (search rules) in
+      let yes : true ≡ false = sym (sure_from_Contains nonce block (w some)) ∙ f in
+      cc
+
+  same_by : (nonce block : List ℕ) (b : Bool) → sure nonce block ≡ b → IsWriters sealing opening n text nonce block → Same nonce block
+  same_by nonce block true e w = found_opens sealing opening valid (sealed sealing n text) (chunks n text) nonce block (seals_all sealing n text) e
+  same_by nonce block false e w =
+      opens_none nonce block (opening nonce block) refl w e ∙ sym (found_none (sealed sealing n text) (chunks n text) nonce block e)
+
+  same : (nonce block : List ℕ) → IsWriters sealing opening n text nonce block → Same nonce block
+  same nonce block w = same_by nonce block (sure nonce block) refl w
+
+  -- what doesn't open is none of the writer's
+  unsure_by : (nonce block : List ℕ) (b : Bool) → length nonce ≡ 12 → sure nonce block ≡ b → opening nonce block ≡ None → sure nonce block ≡ false
+  unsure_by nonce block false len e none = e
+  unsure_by nonce block true len e none =
+      let p = IsPair-from_Contains sealing n text nonce block positive (Contains_from_sure nonce block e) in
+      let o = valid.opens nonce (take n (drop (p.at * n) text)) len in
+      let o2 = ap (opening nonce) p.block_is ∙ o in
+      let no : None ≡ Some (take n (drop (p.at * n) text)) = sym none ∙ o2 in
+      cc
+
+  unsure : (i : ℕ) (last : Bool) (block : List ℕ) → opening (nonce_bytes i last) block ≡ None → sure (nonce_bytes i last) block ≡ false
+  unsure i last block none = unsure_by (nonce_bytes i last) block (sure (nonce_bytes i last) block) (nonce_bytes-length i last) refl none
+
+  -- a block of fewer bytes is none before the last
+  unsure_short_by : (i : ℕ) (block : List ℕ) (b : Bool) → length block < n + tag_length → sure (nonce_bytes i false) block ≡ b → sure (nonce_bytes i false) block
+      ≡ false
+  unsure_short_by i block false short e = e
+  unsure_short_by i block true short e =
+      let p = IsPair-from_Contains sealing n text (nonce_bytes i false) block positive (Contains_from_sure (nonce_bytes i false) block e) in
+      let flag : false ≡ (p.at + 1 == chunk_count n text) = nonce_bytes-flag i p.at false (p.at + 1 == chunk_count n text) p.nonce_is in
+      let fits : (p.at + 1) * n ≤ length text = next_within sealing opening valid n text few positive p.at p.below flag in
+      let x = take n (drop (p.at * n) text) in
+      let m : (p.at + 1) * n ≡ p.at * n + n = omega arith in
+      let len : length x ≡ n = omega (arith, length-take n (drop (p.at * n) text), length-drop (p.at * n) text, fits, m) in
+      absurd (omega (arith, short, ap length p.block_is, valid.longer (nonce_bytes i false) x (nonce_bytes-length i false), len))
+
+  unsure_short : (i : ℕ) (block : List ℕ) → length block < n + tag_length → sure (nonce_bytes i false) block ≡ false
+  unsure_short i block short = unsure_short_by i block (sure (nonce_bytes i false) block) short refl
+
+  -- the block after those in front doesn't open as one before the last, unless its number is the greatest
+  stop_step : (block : List ℕ) (blocks : List (List ℕ)) (i : ℕ) (o : Option (List ℕ)) → text_before_last opening i block ≡ o
+      → (length (front_texts opening (i + 1) blocks) < length blocks
+      → text_before_last opening (i + 1 + length (front_texts opening (i + 1) blocks)) (get_or blocks (length (front_texts opening (i + 1) blocks)) []) ≡ None)
+      → length (text_then opening o (front_texts opening (i + 1) blocks)) < suc (length blocks)
+      → text_before_last opening (i + length (text_then opening o (front_texts opening (i + 1) blocks)))
+      (get_or (block ∷ blocks) (length (text_then opening o (front_texts opening (i + 1) blocks))) []) ≡ None
+  stop_step block blocks i None e more lt = let z : i ≡ i + 0 = omega arith in subst (λ (k : ℕ). text_before_last opening k block ≡ None) z e
+  stop_step block blocks i (Some x) e more lt =
+      let k = length (front_texts opening (i + 1) blocks) in
+      let z : i + 1 + k ≡ i + suc k = omega arith in
+      subst (λ (j : ℕ). text_before_last opening j (get_or blocks k []) ≡ None) z (more (omega (arith, lt)))
+
+  front_stops : (blocks : List (List ℕ)) (i : ℕ) → length (front_texts opening i blocks) < length blocks
+      → text_before_last opening (i + length (front_texts opening i blocks)) (get_or blocks (length (front_texts opening i blocks)) []) ≡ None
+  front_stops [] i lt = absurd (omega arith)
+  front_stops (block ∷ blocks) i lt = stop_step block blocks i (text_before_last opening i block) refl (λ l. front_stops blocks (i + 1) l) lt
+
+  -- those in front open
+  opens_step : (block : List ℕ) (blocks : List (List ℕ)) (i j : ℕ) (o : Option (List ℕ)) → text_before_last opening i block ≡ o
+      → ((k : ℕ) → k < length (front_texts opening (i + 1) blocks) → IsSome (opening (nonce_bytes (i + 1 + k) false) (get_or blocks k [])))
+      → j < length (text_then opening o (front_texts opening (i + 1) blocks)) → IsSome (opening (nonce_bytes (i + j) false) (get_or (block ∷ blocks) j []))
+  opens_step block blocks i j None e more lt = absurd (omega arith)
+  opens_step block blocks i zero (Some x) e more lt =
+      let z : i ≡ i + 0 = omega arith in
+      let o : opening (nonce_bytes i false) block
+      ≡ Some x = (opens_before sealing opening valid n text few positive i (opening (nonce_bytes i false) block) x e).1 in
+      let some : IsSome (opening (nonce_bytes i false) block) = rw o (search rules) in
+      subst (λ (k : ℕ). IsSome (opening (nonce_bytes k false) block)) z some
+  opens_step block blocks i (suc j) (Some x) e more lt =
+      let z : i + 1 + j ≡ i + suc j = omega arith in
+      subst (λ (k : ℕ). IsSome (opening (nonce_bytes k false) (get_or blocks j []))) z (more j (omega (arith, lt)))
+
+  front_opens : (blocks : List (List ℕ)) (i j : ℕ) → j < length (front_texts opening i blocks)
+      → IsSome (opening (nonce_bytes (i + j) false) (get_or blocks j []))
+  front_opens [] i j lt = absurd (omega arith)
+  front_opens (block ∷ blocks) i j lt = opens_step block blocks i j (text_before_last opening i block) refl (λ k l. front_opens blocks (i + 1) k l) lt
+
+  -- the blocks in front are the same
+  front_step : (block : List ℕ) (blocks : List (List ℕ)) (i : ℕ) (o : Option (List ℕ)) → text_before_last opening i block ≡ o
+      → ((j : ℕ) → j < suc (length blocks) → j ≤ length (text_then opening o (front_texts opening (i + 1) blocks))
+      → Same (nonce_bytes (i + j) false) (get_or (block ∷ blocks) j []))
+      → (((j : ℕ) → j < length blocks → j ≤ length (front_texts opening (i + 1) blocks) → Same (nonce_bytes (i + 1 + j) false) (get_or blocks j []))
+      → front_texts opening (i + 1) blocks ≡ front_texts other (i + 1) blocks)
+      → text_then opening o (front_texts opening (i + 1) blocks) ≡ text_then other o (front_texts other (i + 1) blocks)
+  front_step block blocks i None e f more = refl
+  front_step block blocks i (Some x) e f more =
+      ap (λ (ts : List (List ℕ)). x ∷ ts)
+      (more (λ j l m. let s : i + suc j ≡ i + 1 + j = omega arith in subst (λ (k : ℕ). Same (nonce_bytes k false) (get_or blocks j [])) s
+      (f (suc j) (omega arith) (omega arith))))
+
+  front_same : (blocks : List (List ℕ)) (i : ℕ)
+      → ((j : ℕ) → j < length blocks → j ≤ length (front_texts opening i blocks) → Same (nonce_bytes (i + j) false) (get_or blocks j []))
+      → front_texts opening i blocks ≡ front_texts other i blocks
+  front_same [] i f = refl
+  front_same (block ∷ blocks) i f =
+      let z : i + 0 ≡ i = omega arith in
+      let here : Same (nonce_bytes i false) block = subst (λ (k : ℕ). Same (nonce_bytes k false) block) z (f 0 (omega arith) (omega arith)) in
+      front_step block blocks i (text_before_last opening i block) refl f (λ f'. front_same blocks (i + 1) f')
+      ∙ ap (λ (o : Option (List ℕ)). text_then other (unless_greatest i o) (front_texts other (i + 1) blocks)) here
+
+  last_same : (texts : List (List ℕ)) (i : ℕ) (o : Option (List ℕ)) (behind ended : Bool) → after_last opening texts i o behind ended
+      ≡ after_last other texts i o behind ended
+  last_same texts i None behind ended = refl
+  last_same texts i (Some x) behind ended = refl
+
+  last_both : (texts : List (List ℕ)) (i : ℕ) (block : List ℕ) (behind ended : Bool) → Same (nonce_bytes i true) block
+      → after_last opening texts i (opening (nonce_bytes i true) block) behind ended ≡ after_last other texts i (other (nonce_bytes i true) block) behind ended
+  last_both texts i block behind ended e =
+      last_same texts i (opening (nonce_bytes i true) block) behind ended ∙ ap (λ (o : Option (List ℕ)). after_last other texts i o behind ended) e
+
+  block_same : (texts : List (List ℕ)) (i : ℕ) (block : List ℕ) (behind ended : Bool) (o : Option (List ℕ)) → Same (nonce_bytes i true) block
+      → at_block opening texts i block behind ended o ≡ at_block other texts i block behind ended o
+  block_same texts i block behind ended (Some x) e = refl
+  block_same texts i block behind ended None e = last_both texts i block behind ended e
+
+  rest_same : (texts : List (List ℕ)) (i : ℕ) (rest : List ℕ) (late ended : Bool)
+      → (ended ≡ true → tag_length ≤ length rest → (length rest ≡ tag_length → i ≡ 0) → Same (nonce_bytes i true) rest)
+      → final_block opening texts i rest late ended ≡ final_block other texts i rest late ended
+  rest_same texts i rest late false f = refl
+  rest_same texts i rest late true f =
+      four (nat_lt 0 (length rest) && nat_lt (length rest) tag_length) (length rest == tag_length && nat_lt 0 i) (length rest == 0) _ _ _ _ _
+      (λ uncut first some. last_both texts i rest late true (f refl (tag_left (length rest) uncut some) (empty_first (length rest) i first)))
+
+  module _ (s : Segment) (given : IsAuthentic sealing opening n text s) where
+    auth : AreTried sealing opening n text s
+    auth = tried sealing opening n text s given
+
+    abbrev blocks : List (List ℕ)
+    blocks = whole_blocks n s.bytes
+
+    abbrev texts : List (List ℕ)
+    texts = front_texts opening s.start blocks
+
+    abbrev at : ℕ
+    at = s.start + length texts
+
+    count : length blocks ≡ length s.bytes / (n + tag_length)
+    count = length-first_chunks (n + tag_length) (length s.bytes / (n + tag_length)) s.bytes
+
+    front_is : texts ≡ front_texts other s.start blocks
+    front_is =
+        front_same blocks s.start
+        (λ j l m. elim (cases_lt j (length texts)) [
+          | inl lt ↦ same (nonce_bytes (s.start + j) false) (get_or blocks j []) (auth.front j lt)
+          | inr le ↦
+              (let e : length texts ≡ j = omega (arith, le, m) in
+              let lt : length texts < length s.bytes / (n + tag_length) = omega (arith, e, l, count) in
+              subst (λ (k : ℕ). Same (nonce_bytes (s.start + k) false) (get_or blocks k [])) e
+              (same (nonce_bytes at false) (get_or blocks (length texts) []) (auth.next lt false)))
+        ])
+
+    compares : outcome opening n s ≡ outcome other n s
+    compares =
+        let behind = nat_lt ((length texts + 1) * (n + tag_length)) (length s.bytes) in
+        let rest = rest_bytes n s.bytes in
+        elim (place opening n s) [
+          | inl lt ↦
+              (let b = get_or blocks (length texts) [] in
+              let lt' : length texts < length s.bytes / (n + tag_length) = omega (arith, lt, count) in
+              let lt2 : length (front_texts other s.start blocks) < length blocks = subst (λ (ts : List (List ℕ)). length ts < length blocks) front_is lt in
+              let o = opening (nonce_bytes at false) b in
+              at_place opening n s lt
+              ∙ (block_same texts at b (behind || s.late) s.ended o (same (nonce_bytes at true) b (auth.next lt' true))
+              ∙ (ap (λ (x : Option (List ℕ)). at_block other texts at b (behind || s.late) s.ended x) (same (nonce_bytes at false) b (auth.next lt' false))
+              ∙ (ap (λ (ts : List (List ℕ)). at_block other ts (s.start + length ts) (get_or blocks (length ts) [])
+              (nat_lt ((length ts + 1) * (n + tag_length)) (length s.bytes) || s.late) s.ended
+              (other (nonce_bytes (s.start + length ts) false) (get_or blocks (length ts) []))) front_is
+              ∙ sym (at_place other n s lt2)))))
+          | inr eq ↦
+              (let eq' : length texts ≡ length s.bytes / (n + tag_length) = eq ∙ count in
+              let eq2 : length (front_texts other s.start blocks) ≡ length blocks = subst (λ (ts : List (List ℕ)). length ts ≡ length blocks) front_is eq in
+              past_place opening n s eq
+              ∙ (rest_same texts at rest s.late s.ended
+              (λ t h z. same (nonce_bytes at true) rest (subst (λ (k : ℕ). IsWriters sealing opening n text (nonce_bytes (s.start + k) true) rest) (sym eq')
+              (auth.rest eq' t h (λ g. omega (arith, eq', z g)))))
+              ∙ (ap (λ (ts : List (List ℕ)). final_block other ts (s.start + length ts) rest s.late s.ended) front_is
+              ∙ sym (past_place other n s eq2))))
+        ]
+
+    block_is : (j : ℕ) → j < length blocks → block_at n s.bytes j ≡ get_or blocks j []
+    block_is j lt = sym (get_or-first_chunks (n + tag_length) (length s.bytes / (n + tag_length)) s.bytes j [] (omega (arith, lt, count)))
+
+    first_wrong : ((last : Bool) → sure (nonce_bytes at last) (block_at n s.bytes (length texts)) ≡ false) → length texts ≤ length blocks
+        → IsFirstWrong sealing n text s at
+    first_wrong none fits =
+        let m : length texts ≡ at - s.start = omega arith in
+        record {
+          before = λ j lt.
+              let here : j < length texts = omega (arith, lt) in
+              let b = get_or blocks j [] in
+              let is : block_at n s.bytes j ≡ b = block_is j (omega (arith, here, fits)) in
+              subst (λ (x : List ℕ). Contains (sealed sealing n text) (nonce_bytes (s.start + j) false, x)) (sym is)
+              (auth.front j here (front_opens blocks s.start j here));
+          there = λ last found.
+              let no = subst (λ (k : ℕ). sure (nonce_bytes at last) (block_at n s.bytes k) ≡ false) m (none last) in
+              let clash : true ≡ false = sym (sure_from_Contains (nonce_bytes at last) (block_at n s.bytes (at - s.start)) found) ∙ no in
+              cc;
+        }
+
+    -- what an outcome's status may say
+    abbrev Right : Outcome → Type 0
+    Right o = ((i : ℕ) → o.status ≡ failed ChunkDamaged i → IsFirstWrong sealing n text s i) × ((i : ℕ) → o.status ≡ failed TooManyChunks i → ⊥)
+
+    right_kind : (ts : List (List ℕ)) (kind : StreamKind) (i : ℕ) → (kind ≡ ChunkDamaged → ⊥) → (kind ≡ TooManyChunks → ⊥)
+        → Right (record { texts = ts; index = i; status = failed kind i })
+    right_kind ts kind i a b = (λ j e. absurd (a (kinds kind ChunkDamaged i j e)), λ j e. b (kinds kind TooManyChunks i j e))
+
+    right_last : (o : Option (List ℕ)) (behind ended : Bool) → (o ≡ None → IsFirstWrong sealing n text s at)
+        → Right (after_last opening texts at o behind ended)
+    right_last None behind ended f = (
+      λ i e. subst (IsFirstWrong sealing n text s) (places ChunkDamaged ChunkDamaged at i e) (f refl),
+      λ i e. let k = kinds ChunkDamaged TooManyChunks at i e in cc,
+    )
+    right_last (Some x) true ended f = right_kind (texts ++ x ∷ []) Trailing at (λ e. cc) (λ e. cc)
+    right_last (Some x) false true f = (λ i e. cc, λ i e. cc)
+    right_last (Some x) false false f = (λ i e. cc, λ i e. cc)
+
+    right_rest : (rest : List ℕ) (late ended : Bool) → (opening (nonce_bytes at true) rest ≡ None → IsFirstWrong sealing n text s at)
+        → Right (final_block opening texts at rest late ended)
+    right_rest rest late false f = (λ i e. cc, λ i e. cc)
+    right_rest rest late true f =
+        let last : Right (after_last opening texts at (opening (nonce_bytes at true) rest) late true) = right_last (opening (nonce_bytes at true) rest)
+        late true f in
+        by_test Right (nat_lt 0 (length rest) && nat_lt (length rest) tag_length) _ _ (λ _. right_kind texts ChunkCut at (λ e. cc) (λ e. cc))
+        (λ _. by_test Right (length rest == tag_length && nat_lt 0 at) _ _ (λ _. right_kind texts EmptyLast at (λ e. cc) (λ e. cc))
+        (λ _. by_test Right (length rest == 0) _ _ (λ _. right_kind texts Truncated at (λ e. cc) (λ e. cc)) (λ _. last)))
+
+    -- it stands at a chunk that a payload may have, where the text reaches its start
+    pub low_within : s.start < chunk_limit → s.start * n ≤ length text → at < chunk_limit
+    low_within limit fits = (front_carries sealing opening valid n text few positive blocks s.start fits auth.front).small limit
+
+    module _ (low : at < chunk_limit) where
+      -- the block at which it stands doesn't open as one before the last
+      not_before : (o : Option (List ℕ)) → length texts < length blocks → opening (nonce_bytes at false) (get_or blocks (length texts) []) ≡ o
+          → opening (nonce_bytes at false) (get_or blocks (length texts) []) ≡ None
+      not_before None lt e = e
+      not_before (Some x) lt e =
+          let b = get_or blocks (length texts) [] in
+          let lt' : length texts < length s.bytes / (n + tag_length) = omega (arith, lt, count) in
+          let c = writer_text sealing opening valid n text few positive at false b x low e (auth.next lt' false) in
+          let below = c.below in
+          let flag = c.flag in
+          let more : at + 1 < chunk_count n text = grind (arith, nat_tests) in
+          let t : nat_lt (at + 1) chunk_limit ≡ true = lt-ltb (at + 1) chunk_limit (omega (arith, more, few)) in
+          let is : text_before_last opening at b ≡ Some x = ap (unless_greatest at) e ∙ ap (λ (y : Bool). cond y (Some x) None) t in
+          let no : None ≡ Some x = sym (front_stops blocks s.start lt) ∙ is in
+          cc
+
+      right_block : length texts < length blocks → (behind ended : Bool)
+          → Right (at_block opening texts at (get_or blocks (length texts) []) behind ended (opening (nonce_bytes at false) (get_or blocks (length texts) [])))
+      right_block lt behind ended =
+          let b = get_or blocks (length texts) [] in
+          let none = not_before (opening (nonce_bytes at false) b) lt refl in
+          let is : block_at n s.bytes (length texts) ≡ b = block_is (length texts) lt in
+          subst (λ (o : Option (List ℕ)). Right (at_block opening texts at b behind ended o)) (sym none)
+          (right_last (opening (nonce_bytes at true) b) behind ended
+          (λ shut. first_wrong (λ last. ap (sure (nonce_bytes at last)) is ∙ neither last b none shut) (omega (arith, lt))))
+        where
+          neither : (last : Bool) (b : List ℕ) → opening (nonce_bytes at false) b ≡ None → opening (nonce_bytes at true) b ≡ None → sure (nonce_bytes at last) b
+              ≡ false
+          neither true b none shut = unsure at true b shut
+          neither false b none shut = unsure at false b none
+
+      right_left : length texts ≡ length blocks → Right (final_block opening texts at (rest_bytes n s.bytes) s.late s.ended)
+      right_left eq =
+          let rest = rest_bytes n s.bytes in
+          let short : length rest < n + tag_length = rest_short n s.bytes in
+          let is : block_at n s.bytes (length texts) ≡ rest =
+          ap (block_at n s.bytes) (eq ∙ count) ∙ take_all (n + tag_length) rest (omega (arith, short)) in
+          right_rest rest s.late s.ended (λ shut. first_wrong (λ last. ap (sure (nonce_bytes at last)) is ∙ neither last rest short shut) (omega (arith, eq)))
+        where
+          neither : (last : Bool) (b : List ℕ) → length b < n + tag_length → opening (nonce_bytes at true) b ≡ None → sure (nonce_bytes at last) b ≡ false
+          neither true b short shut = unsure at true b shut
+          neither false b short shut = unsure_short at b short
+
+      pub in_place : IsInPlace sealing opening n text s (outcome opening n s).status
+      in_place =
+          let right : Right (outcome opening n s) =
+          elim (place opening n s) [
+            | inl lt ↦ subst Right (sym (at_place opening n s lt)) (right_block lt (nat_lt ((length texts + 1) * (n + tag_length)) (length s.bytes) || s.late) s.ended)
+            | inr eq ↦ subst Right (sym (past_place opening n s eq)) (right_left eq)
+          ] in
+          record { compares = compares; damaged = right.0; few = right.1 }

@@ -1,0 +1,80 @@
+-- A step of a sealer, for each text that it was given.
+use Rattle.std.proofs.Common.{◌≡◌, ℕ, ◌<◌, ◌≤◌, ◌+◌, ap, sym, subst, ◌∙◌, List, [], ◌∷◌, ◌++◌}
+use Rattle.std.proofs.Common.{length, take, true, false, arith}
+use Rattle.std.specs.Prelude.{Option, Some, None}
+use Rattle.std.proofs.lemmas.Bool.Decides.{nat_tests}
+use Rattle.std.proofs.lemmas.List.{append-nil, length-take}
+use Rattle.std.proofs.lemmas.Grind.{flat_map-append}
+use Rattle.age_chunk.specs.Payload.{nonce_bytes, last_index, last_chunk, sealed_before_last}
+use Rattle.age_chunk.specs.Payload.{block_bytes, pair, payload}
+use Rattle.age_stream.specs.Sealer.{SealerView, Holds, step_len}
+use Rattle.age_stream.specs.inner.SealerSteps.{block_or_none, IsStep, Grows, SealerCloses}
+use Rattle.age_stream.proofs.SealingLemmas.{grown_index, grown_chunk, grown_blocks, closed_index}
+use Rattle.age_stream.proofs.SealingLemmas.{closed_chunk, closed_blocks}
+
+-- no more is taken than came
+pub step_len_le : (m : ℕ) (held piece : List ℕ) → step_len m held piece ≤ length piece
+step_len_le m held piece = grind (arith, nat_tests)
+
+module _ {B : Type 0} (sealing : B → List ℕ → List ℕ → List ℕ) (n : ℕ) (old new : SealerView B) (positive : 0 < n) (piece : List ℕ) (taken : ℕ) where
+  -- what a step leaves, for a text that the sealer was given
+  pub record Follows (text : List ℕ) (block : Option (List ℕ)) : Type 0 where
+    pub holds : Holds n new (text ++ take taken piece)
+    pub blocks : block_bytes (sealed_before_last (sealing old.key) n (text ++ take taken piece))
+        ≡ block_bytes (sealed_before_last (sealing old.key) n text) ++ block_or_none block
+
+  grows : (text : List ℕ) → Holds n old text → Grows sealing n old piece taken new → Follows text None
+  grows text h s =
+      let m = n in
+      let more = take taken piece in
+      let short : length more ≤ taken = omega (arith, length-take taken piece) in
+      let room : length (last_chunk m text) + length more ≤ m = omega (arith, s.room, short, ap length h.held) in
+      record {
+        holds = record {
+          index = s.index ∙ (h.index ∙ sym (grown_index m positive text more room));
+          held = s.held ∙ (ap (λ (t : List ℕ). t ++ more) h.held ∙ sym (grown_chunk m positive text more room));
+        };
+        blocks = ap block_bytes (grown_blocks m positive text more room (sealing old.key))
+            ∙ sym (append-nil (block_bytes (sealed_before_last (sealing old.key) m text)));
+      }
+
+  closes : (text : List ℕ) (block : List ℕ) (x : ℕ) → take taken piece ≡ x ∷ [] → Holds n old text → SealerCloses sealing n old piece taken block new
+      → Follows text (Some block)
+  closes text block x is h s =
+      let m = n in
+      let full : length (last_chunk m text) ≡ m = ap length (sym h.held) ∙ s.full in
+      let key = sealing old.key in
+      let e : block ≡ (pair key false (last_index m text, last_chunk m text)).1 =
+      s.sealed ∙ (ap (λ (i : ℕ). key (nonce_bytes i false) old.held) h.index ∙ ap (key (nonce_bytes (last_index m text) false)) h.held) in
+      let P : List ℕ → Type 0 = λ more. Holds n new (text ++ more) in
+      let Q : List ℕ → Type 0 = λ more. block_bytes (sealed_before_last key m (text ++ more)) ≡ block_bytes (sealed_before_last key m text) ++ block in
+      record {
+        holds = subst P (sym is) (record {
+          index = s.index ∙ (ap (λ (i : ℕ). i + 1) h.index ∙ sym (closed_index m positive text x full));
+          held = s.held ∙ (is ∙ sym (closed_chunk m positive text x full));
+        });
+        blocks = subst Q (sym is)
+            (ap block_bytes (closed_blocks m positive text x full key)
+            ∙ (flat_map-append (λ (p : List ℕ × List ℕ). p.1) (sealed_before_last key m text) (pair key false (last_index m text, last_chunk m text) ∷ [])
+            ∙ ap (λ (t : List ℕ). block_bytes (sealed_before_last key m text) ++ t) (append-nil (pair key false (last_index m text, last_chunk m text)).1
+            ∙ sym e)));
+      }
+
+  front_byte : (p : List ℕ) (k : ℕ) → k ≡ 1 → 0 < length p → (x : ℕ) × (take k p ≡ x ∷ [])
+  front_byte [] k e h = absurd (omega arith)
+  front_byte (x ∷ xs) k e h = (x, ap (λ (i : ℕ). take i (x ∷ xs)) e)
+
+  pub follows : (text : List ℕ) (block : Option (List ℕ)) → Holds n old text → IsStep sealing n old piece taken block new → Follows text block
+  follows text None h s = grows text h s.cases
+  follows text (Some block) h s = let f = front_byte piece taken s.cases.one s.cases.more in closes text block f.0 f.1 h s.cases
+
+module _ {B : Type 0} (sealing : B → List ℕ → List ℕ → List ℕ) (n : ℕ) (old : SealerView B) where
+  pub payload_is : (text block : List ℕ) → Holds n old text → block ≡ sealing old.key (nonce_bytes old.index true) old.held
+      → payload (sealing old.key) n text ≡ block_bytes (sealed_before_last (sealing old.key) n text) ++ block
+  payload_is text block h e =
+      let m = n in
+      let key = sealing old.key in
+      let is : block ≡ (pair key true (last_index m text, last_chunk m text)).1 =
+      e ∙ (ap (λ (i : ℕ). key (nonce_bytes i true) old.held) h.index ∙ ap (key (nonce_bytes (last_index m text) true)) h.held) in
+      flat_map-append (λ (p : List ℕ × List ℕ). p.1) (sealed_before_last key m text) (pair key true (last_index m text, last_chunk m text) ∷ [])
+      ∙ ap (λ (t : List ℕ). block_bytes (sealed_before_last key m text) ++ t) (append-nil (pair key true (last_index m text, last_chunk m text)).1 ∙ sym is)

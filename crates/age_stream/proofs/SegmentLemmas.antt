@@ -1,0 +1,302 @@
+-- What a segment releases, where what opens is the writer's.
+use Rattle.std.proofs.Common.{take-add, inl, inr, ◌≡◌, ℕ, suc, ◌<◌, ◌≤◌, ◌+◌, ◌*◌, ◌-◌, ◌/◌, ◌^◌}
+use Rattle.std.proofs.Common.{refl, ap, sym, subst, ◌∙◌, List, [], ◌∷◌, ◌++◌, length, take}
+use Rattle.std.proofs.Common.{drop, get_or, Bool, true, false, arith, rules}
+use Rattle.std.specs.Prelude.{Option, Some, None, IsSome, Contains, ◌==◌, nat_lt, cond, ◌||◌, ◌&&◌}
+use Rattle.std.specs.Prelude.{slice_get}
+use Rattle.std.specs.List.{enumerate_from, flat_map}
+use Rattle.std.specs.Simd.{first_chunks}
+use Rattle.std.proofs.lemmas.List.{get_or-map, length-map, append_assoc, append-nil, take_all}
+use Rattle.std.proofs.lemmas.List.{take-append-drop, get_or_append_left, length_push, get_or_push}
+use Rattle.std.proofs.lemmas.List.{flat_map_more}
+use Rattle.std.proofs.lemmas.Bool.{ltb-true, lt-ltb, cases_lt, eq-eqb, ne_eqb}
+use Rattle.std.proofs.lemmas.Bool.Decides.{nat_tests}
+use Rattle.std.proofs.Math.Nat.{le-div_iff_mul-le}
+use Rattle.std.proofs.lemmas.List.FromFn.{length-enumerate_from, get_or-enumerate_from}
+use Rattle.std.proofs.lemmas.Option.{cond_some}
+use Rattle.age_chunk.specs.ChunkBoxes.{IsChunkBox, tag_length}
+use Rattle.age_chunk.specs.Payload.{nonce_bytes, chunk_limit, chunk_count, last_index, last_chunk}
+use Rattle.age_chunk.specs.Payload.{pair, sealed_before_last, sealed}
+use Rattle.age_stream.specs.Segment.{Segment, Outcome, outcome, text_before_last, unless_greatest}
+use Rattle.age_stream.specs.Segment.{text_then, front_texts, whole_blocks, rest_bytes, failed}
+use Rattle.age_stream.specs.Segment.{with_piece}
+use Rattle.age_stream.specs.inner.OpenerSteps.{after_last, at_block, final_block}
+use Rattle.age_stream.specs.declared.step.Status.{Status}
+use Rattle.age_stream.specs.declared.step.Status.TheVariants.{Open, Done}
+use Rattle.age_chunk.specs.declared.fault.StreamKind.TheVariants.{ChunkDamaged, ChunkCut, EmptyLast}
+use Rattle.age_chunk.specs.declared.fault.StreamKind.TheVariants.{Truncated, TooManyChunks}
+use Rattle.age_stream.specs.Headline.{IsWriters, IsAuthentic, IsPrefixOf}
+use Rattle.age_chunk.proofs.NonceLemmas.{nonce_bytes-length, nonce_bytes-number, nonce_bytes-flag}
+use Rattle.age_chunk.proofs.FirstChunkLemmas.{length-first_chunks, get_or-first_chunks}
+use Rattle.age_stream.proofs.ChunkLemmas.{last_chunk_le, slice_get-within, slice_get-past}
+use Rattle.age_stream.proofs.TableLemmas.{verdict_at, by_blocks, length-front_texts}
+use Rattle.age_stream.proofs.TriedLemmas.{tried}
+
+-- a pair of the writer's, by its number
+pub record IsPair (sealing : List ℕ → List ℕ → List ℕ) (n : ℕ) (text : List ℕ) (nonce block : List ℕ) : Type 0 where
+  pub at : ℕ
+  pub below : at < chunk_count n text
+  pub nonce_is : nonce ≡ nonce_bytes at (at + 1 == chunk_count n text)
+  pub block_is : block ≡ sealing nonce (take n (drop (at * n) text))
+
+pair_at : (sealing : List ℕ → List ℕ → List ℕ) (n : ℕ) (text nonce block : List ℕ) (last : Bool) (i : ℕ) (x : List ℕ) → (nonce, block)
+    ≡ pair sealing last (i, x)
+    → i < chunk_count n text → last ≡ (i + 1 == chunk_count n text) → x ≡ take n (drop (i * n) text) → IsPair sealing n text nonce block
+pair_at sealing n text nonce block last i x e below flag is =
+    let en : nonce ≡ nonce_bytes i last = ap (λ (p : List ℕ × List ℕ). p.0) e in
+    record {
+      at = i;
+      below = below;
+      nonce_is = en ∙ ap (λ (f : Bool). nonce_bytes i f) flag;
+      block_is = ap (λ (p : List ℕ × List ℕ). p.1) e ∙ (ap (λ (m : List ℕ). sealing m x) (sym en) ∙ ap (sealing nonce) is);
+    }
+
+pub IsPair-from_Contains : (sealing : List ℕ → List ℕ → List ℕ) (n : ℕ) (text nonce block : List ℕ) → 0 < n → Contains (sealed sealing n text) (nonce, block)
+    → IsPair sealing n text nonce block
+IsPair-from_Contains sealing n text nonce block positive h =
+    let q = last_index n text in
+    let cs = first_chunks n q text in
+    let front = sealed_before_last sealing n text in
+    let len_cs : length cs ≡ q = length-first_chunks n q text in
+    let len_en : length (enumerate_from 0 cs) ≡ q = length-enumerate_from 0 cs ∙ len_cs in
+    let len : length front ≡ q = length-map (enumerate_from 0 cs) (pair sealing false) ∙ len_en in
+    elim (cases_lt h.0 q) [
+      | inl lt ↦
+          (let e0 : get_or (sealed sealing n text) h.0 (nonce, block) ≡ get_or front h.0 (nonce, block) =
+          get_or_append_left front (pair sealing true (q, last_chunk n text) ∷ []) (nonce, block) h.0 (omega (arith, lt, len)) in
+          let e1 : get_or front h.0 (nonce, block) ≡ pair sealing false (get_or (enumerate_from 0 cs) h.0 (0, [])) =
+          get_or-map (pair sealing false) (enumerate_from 0 cs) h.0 (0, []) (nonce, block) (omega (arith, lt, len_en)) in
+          let e2 : get_or (enumerate_from 0 cs) h.0 (0, []) ≡ (0 + h.0, get_or cs h.0 []) = get_or-enumerate_from 0 cs h.0 (
+            0,
+            [],
+          ) (omega (arith, lt, len_cs)) in
+          let z : 0 + h.0 ≡ h.0 = omega arith in
+          let e3 : pair sealing false (0 + h.0, get_or cs h.0 [])
+          ≡ pair sealing false (h.0, get_or cs h.0 []) = ap (λ (i : ℕ). pair sealing false (i, get_or cs h.0 [])) z in
+          pair_at sealing n text nonce block false h.0 (get_or cs h.0 []) (sym h.2 ∙ (e0 ∙ (e1 ∙ (ap (pair sealing false) e2 ∙ e3)))) (omega (arith, lt))
+          (sym (ne_eqb (h.0 + 1) (q + 1) (λ e. omega (arith, lt, e)))) (get_or-first_chunks n q text h.0 [] lt))
+      | inr le ↦
+          (let total : length (sealed sealing n text) ≡ q + 1 = length_push front (pair sealing true (q, last_chunk n text)) ∙ ap (λ (k : ℕ). k + 1) len in
+          let at : h.0 ≡ q = omega (arith, le, h.1, total) in
+          let e0 : get_or (sealed sealing n text) h.0 (nonce, block) ≡ pair sealing true (q, last_chunk n text) =
+          get_or_push front (pair sealing true (q, last_chunk n text)) (nonce, block) h.0 (len ∙ sym at) in
+          let short : length (last_chunk n text) ≤ n = last_chunk_le n text positive in
+          pair_at sealing n text nonce block true q (last_chunk n text) (sym h.2 ∙ e0) (omega arith) (sym (eq-eqb (q + 1) (q + 1) refl))
+          (sym (take_all n (last_chunk n text) short)))
+    ]
+
+pub by_test : {A : Type 0} (P : A → Type 0) (b : Bool) (x y : A) → (b ≡ true → P x) → (b ≡ false → P y) → P (cond b x y)
+by_test P true x y f g = f refl
+by_test P false x y f g = g refl
+
+-- what is left at the end has a tag, and is only a tag at number 0
+pub tag_left : (len : ℕ) → (nat_lt 0 len && nat_lt len tag_length) ≡ false → (len == 0) ≡ false → tag_length ≤ len
+tag_left len uncut some =
+    elim (cases_lt len tag_length) [
+      | inl lt ↦
+          (let pos : 0 < len = grind (arith, nat_tests) in
+          let cut : (nat_lt 0 len && nat_lt len tag_length) ≡ true = ap (λ (b : Bool). b && nat_lt len tag_length) (lt-ltb 0 len pos) ∙ lt-ltb len tag_length lt in
+          let no : true ≡ false = sym cut ∙ uncut in
+          cc)
+      | inr le ↦ le
+    ]
+
+pub empty_first : (len i : ℕ) → (len == tag_length && nat_lt 0 i) ≡ false → len ≡ tag_length → i ≡ 0
+empty_first len i first is =
+    elim (cases_lt 0 i) [
+      | inl lt ↦
+          (let later : (len == tag_length && nat_lt 0 i) ≡ true = ap (λ (b : Bool). b && nat_lt 0 i) (eq-eqb len tag_length is) ∙ lt-ltb 0 i lt in
+          let no : true ≡ false = sym later ∙ first in
+          cc)
+      | inr le ↦ omega (arith, le)
+    ]
+
+-- x is the chunk at i, and last says whether no other follows
+pub record IsChunk (n : ℕ) (text : List ℕ) (i : ℕ) (last : Bool) (x : List ℕ) : Type 0 where
+  pub below : i < chunk_count n text
+  pub flag : last ≡ (i + 1 == chunk_count n text)
+  pub is : x ≡ take n (drop (i * n) text)
+
+-- a piece leaves the start
+pub piece_start : (s : Segment) (p : List ℕ) → (with_piece s p).start ≡ s.start
+piece_start s p = by_test (λ (t : Segment). t.start ≡ s.start) s.ended _ _ (λ _. refl) (λ _. refl)
+
+module _ (sealing : List ℕ → List ℕ → List ℕ) (opening : List ℕ → List ℕ → Option (List ℕ)) (valid : IsChunkBox sealing opening)
+    (n : ℕ) (text : List ℕ) (few : chunk_count n text ≤ chunk_limit) (positive : 0 < n) where
+  pub writer_text : (i : ℕ) (last : Bool) (block x : List ℕ) → i < chunk_limit → opening (nonce_bytes i last) block ≡ Some x
+      → IsWriters sealing opening n text (nonce_bytes i last) block → IsChunk n text i last x
+  writer_text i last block x small e w =
+      let some : IsSome (opening (nonce_bytes i last) block) = rw e (search rules) in
+      let p = IsPair-from_Contains sealing n text (nonce_bytes i last) block positive (w some) in
+      let y = take n (drop (p.at * n) text) in
+      let l1 : i < 2 ^ 64 = omega arith in
+      let l2 : p.at < 2 ^ 64 = omega (arith, p.below) in
+      let same : i ≡ p.at = nonce_bytes-number i p.at last (p.at + 1 == chunk_count n text) l1 l2 p.nonce_is in
+      let flag : last ≡ (p.at + 1 == chunk_count n text) = nonce_bytes-flag i p.at last (p.at + 1 == chunk_count n text) p.nonce_is in
+      let o : opening (nonce_bytes i last) (sealing (nonce_bytes i last) y) ≡ Some y = valid.opens (nonce_bytes i last) y (nonce_bytes-length i last) in
+      let o2 : opening (nonce_bytes i last) block ≡ Some y = ap (opening (nonce_bytes i last)) p.block_is ∙ o in
+      let o3 : Some x ≡ Some y = sym e ∙ o2 in
+      let o4 : x ≡ y = cc in
+      record {
+        below = omega (arith, same, p.below);
+        flag = flag ∙ ap (λ (k : ℕ). k + 1 == chunk_count n text) (sym same);
+        is = o4 ∙ ap (λ (k : ℕ). take n (drop (k * n) text)) (sym same);
+      }
+
+  -- what the blocks in front release carries the text on
+  pub record Carries (i : ℕ) (texts : List (List ℕ)) : Type 0 where
+    pub within : (i + length texts) * n ≤ length text
+    pub joins : take (i * n) text ++ flat_map (λ (t : List ℕ). t) texts ≡ take ((i + length texts) * n) text
+    pub small : i < chunk_limit → i + length texts < chunk_limit
+
+  pub opens_before : (i : ℕ) (o : Option (List ℕ)) (x : List ℕ) → unless_greatest i o ≡ Some x → (nat_lt (i + 1) chunk_limit ≡ true) × (o ≡ Some x)
+  opens_before i None x e = cc
+  opens_before i (Some y) x e = let t = cond_some (nat_lt (i + 1) chunk_limit) y x e in (t.0, ap Some t.1)
+
+  pub next_within : (i : ℕ) → i < chunk_count n text → false ≡ (i + 1 == chunk_count n text) → (i + 1) * n ≤ length text
+  next_within i below flag =
+      let ne : i + 1 < chunk_count n text = grind (arith, nat_tests) in
+      let q : i + 1 ≤ (length text - 1) / n = omega (arith, ne) in
+      let m : (i + 1) * n ≤ length text - 1 = (le-div_iff_mul-le positive).0 q in
+      omega (arith, m)
+
+  take_chunk : (i : ℕ) → take (i * n) text ++ take n (drop (i * n) text) ≡ take ((i + 1) * n) text
+  take_chunk i =
+      let e : (i + 1) * n ≡ i * n + n = omega arith in
+      let a = take (i * n) text in
+      rw e (sym (take-add (i * n) n text))
+
+  step : (i : ℕ) (block x : List ℕ) (rest : List (List ℕ)) → IsChunk n text i false x → i + 1 < chunk_limit → Carries (i + 1) rest → Carries i (x ∷ rest)
+  step i block x rest c lt more =
+      let e : i + suc (length rest) ≡ i + 1 + length rest = omega arith in
+      record {
+        within = rw e more.within;
+        joins = ap (λ (t : List ℕ). take (i * n) text ++ (t ++ flat_map (λ (t : List ℕ). t) rest)) c.is
+            ∙ (sym (append_assoc (take (i * n) text) (take n (drop (i * n) text)) (flat_map (λ (t : List ℕ). t) rest))
+            ∙ (ap (λ (t : List ℕ). t ++ flat_map (λ (t : List ℕ). t) rest) (take_chunk i)
+            ∙ (more.joins ∙ ap (λ (k : ℕ). take (k * n) text) (sym e))));
+        small = λ h. rw e (more.small lt);
+      }
+
+  none : (i : ℕ) → i * n ≤ length text → Carries i []
+  none i h =
+      let e : i + 0 ≡ i = omega arith in
+      record {
+        within = rw e h;
+        joins = append-nil (take (i * n) text) ∙ ap (λ (k : ℕ). take (k * n) text) (sym e);
+        small = λ g. rw e g;
+      }
+
+  front_step : (block : List ℕ) (blocks : List (List ℕ)) (i : ℕ) (o : Option (List ℕ)) → text_before_last opening i block ≡ o → i * n ≤ length text
+      → ((j : ℕ) → j < length (text_then opening o (front_texts opening (i + 1) blocks)) → IsWriters sealing opening n text (nonce_bytes (i + j) false)
+      (get_or (block ∷ blocks) j []))
+      → (((j : ℕ) → j < length (front_texts opening (i + 1) blocks) → IsWriters sealing opening n text (nonce_bytes (i + 1 + j) false) (get_or blocks j []))
+      → (i + 1) * n ≤ length text → Carries (i + 1) (front_texts opening (i + 1) blocks))
+      → Carries i (text_then opening o (front_texts opening (i + 1) blocks))
+  front_step block blocks i None e h w more = none i h
+  front_step block blocks i (Some x) e h w more =
+      let p = opens_before i (opening (nonce_bytes i false) block) x e in
+      let lt : i + 1 < chunk_limit = ltb-true (i + 1) chunk_limit p.0 in
+      let w0 : IsWriters sealing opening n text (nonce_bytes (i + 0) false) block = w 0 (omega arith) in
+      let z : i + 0 ≡ i = omega arith in
+      let w1 : IsWriters sealing opening n text (nonce_bytes i false) block = subst (λ (k : ℕ). IsWriters sealing opening n text (nonce_bytes k false) block)
+      z w0 in
+      let c = writer_text i false block x (omega arith) p.1 w1 in
+      step i block x (front_texts opening (i + 1) blocks) c lt
+      (more
+      (λ j l. let s : i + suc j ≡ i + 1 + j = omega arith in subst (λ (k : ℕ). IsWriters sealing opening n text (nonce_bytes k false) (get_or blocks j []))
+      s (w (suc j) (omega arith)))
+      (next_within i c.below c.flag))
+
+  pub front_carries : (blocks : List (List ℕ)) (i : ℕ) → i * n ≤ length text
+      → ((j : ℕ) → j < length (front_texts opening i blocks) → IsWriters sealing opening n text (nonce_bytes (i + j) false) (get_or blocks j []))
+      → Carries i (front_texts opening i blocks)
+  front_carries [] i h w = none i h
+  front_carries (block ∷ blocks) i h w = front_step block blocks i (text_before_last opening i block) refl h w (λ w' h'. front_carries blocks (i + 1) h' w')
+
+  last_within : (i : ℕ) → true ≡ (i + 1 == chunk_count n text) → length text ≤ (i + 1) * n
+  last_within i flag =
+      let eq : i + 1 ≡ chunk_count n text = grind (arith, nat_tests) in
+      let back : (i + 1) * n ≤ length text - 1 → i + 1 ≤ (length text - 1) / n = (le-div_iff_mul-le positive).1 in
+      elim (cases_lt (length text - 1) ((i + 1) * n)) [
+        | inl lt ↦ omega arith
+        | inr le ↦ (let q : i + 1 ≤ (length text - 1) / n = back le in absurd (omega (arith, q, eq)))
+      ]
+
+  -- o's text carries the text on, and Done says that all of it came
+  pub record IsReleased (i : ℕ) (start : List ℕ) (o : Outcome) : Type 0 where
+    pub prefix : IsPrefixOf (start ++ flat_map (λ (t : List ℕ). t) o.texts) text
+    pub done : o.status ≡ Done → start ++ flat_map (λ (t : List ℕ). t) o.texts ≡ text
+
+  at_carried : (i : ℕ) (start : List ℕ) (texts : List (List ℕ)) (status : Status) → start ++ flat_map (λ (t : List ℕ). t) texts ≡ take (i * n) text
+      → (status ≡ Done → ⊥) → IsReleased i start (record { texts = texts; index = i; status = status })
+  at_carried i start texts status e ne =
+      record { prefix = (drop (i * n) text, ap (λ (t : List ℕ). t ++ drop (i * n) text) e ∙ take-append-drop (i * n) text); done = λ d. absurd (ne d) }
+
+  whole : (i : ℕ) (start : List ℕ) (texts : List (List ℕ)) (x : List ℕ) → start ++ flat_map (λ (t : List ℕ). t) texts ≡ take (i * n) text
+      → IsChunk n text i true x
+      → start ++ flat_map (λ (t : List ℕ). t) (texts ++ x ∷ []) ≡ text
+  whole i start texts x e c =
+      sym (flat_map_more (λ (t : List ℕ). t) start texts x)
+      ∙ (ap (λ (t : List ℕ). t ++ x) e ∙ (ap (λ (t : List ℕ). take (i * n) text ++ t) c.is
+      ∙ (take_chunk i ∙ take_all ((i + 1) * n) text (last_within i c.flag))))
+
+  released_last : (i : ℕ) (start : List ℕ) (texts : List (List ℕ)) (block : List ℕ) (behind ended : Bool) (o : Option (List ℕ)) → i < chunk_limit
+      → opening (nonce_bytes i true) block ≡ o → IsWriters sealing opening n text (nonce_bytes i true) block
+      → start ++ flat_map (λ (t : List ℕ). t) texts ≡ take (i * n) text → IsReleased i start (after_last opening texts i o behind ended)
+  released_last i start texts block behind ended None small is w e = at_carried i start texts (failed ChunkDamaged i) e (λ d. cc)
+  released_last i start texts block behind ended (Some x) small is w e =
+      let all = whole i start texts x e (writer_text i true block x small is w) in
+      record { prefix = ([], append-nil (start ++ flat_map (λ (t : List ℕ). t) (texts ++ x ∷ [])) ∙ all); done = λ d. all }
+
+  released_block : (i : ℕ) (start : List ℕ) (texts : List (List ℕ)) (block : List ℕ) (behind ended : Bool) (o : Option (List ℕ)) → i < chunk_limit
+      → IsWriters sealing opening n text (nonce_bytes i true) block
+      → start ++ flat_map (λ (t : List ℕ). t) texts ≡ take (i * n) text → IsReleased i start (at_block opening texts i block behind ended o)
+  released_block i start texts block behind ended (Some x) small w e = at_carried i start texts (failed TooManyChunks i) e (λ d. cc)
+  released_block i start texts block behind ended None small w e = released_last i start texts block behind ended (opening (nonce_bytes i true) block)
+      small refl w e
+
+  released_rest : (i : ℕ) (start : List ℕ) (texts : List (List ℕ)) (rest : List ℕ) (late ended : Bool) → i < chunk_limit
+      → (ended ≡ true → tag_length ≤ length rest → (length rest ≡ tag_length → i ≡ 0) → IsWriters sealing opening n text (nonce_bytes i true) rest)
+      → start ++ flat_map (λ (t : List ℕ). t) texts ≡ take (i * n) text → IsReleased i start (final_block opening texts i rest late ended)
+  released_rest i start texts rest late false small w e = at_carried i start texts Open e (λ d. cc)
+  released_rest i start texts rest late true small w e =
+      let P : Outcome → Type 0 = IsReleased i start in
+      let last = λ (h : tag_length ≤ length rest) (z : length rest ≡ tag_length → i ≡ 0). released_last i start texts rest late true (opening (nonce_bytes i true) rest)
+      small refl (w refl h z) e in
+      by_test P (nat_lt 0 (length rest) && nat_lt (length rest) tag_length) _ _ (λ t. at_carried i start texts (failed ChunkCut i) e (λ d. cc))
+      (λ uncut. by_test P (length rest == tag_length && nat_lt 0 i) _ _ (λ t. at_carried i start texts (failed EmptyLast i) e (λ d. cc))
+      (λ first. by_test P (length rest == 0) _ _ (λ t. at_carried i start texts (failed Truncated i) e (λ d. cc))
+      (λ some. last (tag_left (length rest) uncut some) (empty_first (length rest) i first))))
+
+  pub released_segment : (s : Segment) (base : List ℕ) → s.start < chunk_limit → s.start * n ≤ length text → base ≡ take (s.start * n) text
+      → IsAuthentic sealing opening n text s → IsReleased (s.start + length (front_texts opening s.start (whole_blocks n s.bytes))) base (outcome opening n s)
+  released_segment s base small fits e given =
+      let auth = tried sealing opening n text s given in
+      let size = n + tag_length in
+      let blocks = whole_blocks n s.bytes in
+      let texts = front_texts opening s.start blocks in
+      let m = length texts in
+      let i = s.start + m in
+      let count : length blocks ≡ length s.bytes / size = length-first_chunks size (length s.bytes / size) s.bytes in
+      let c : Carries s.start texts = front_carries blocks s.start fits auth.front in
+      let here : base ++ flat_map (λ (t : List ℕ). t) texts ≡ take (i * n) text = ap (λ (t : List ℕ). t ++ flat_map (λ (t : List ℕ). t) texts) e ∙ c.joins in
+      let low : i < chunk_limit = c.small small in
+      let behind = nat_lt ((m + 1) * size) (length s.bytes) in
+      let rest = rest_bytes n s.bytes in
+      subst (IsReleased i base) (sym (by_blocks opening n s))
+      (elim (cases_lt m (length blocks)) [
+        | inl lt ↦
+            (let is : slice_get blocks m ≡ Some (get_or blocks m []) = slice_get-within blocks m [] lt in
+            let lt' : m < length s.bytes / size = omega (arith, lt, count) in
+            subst (λ (b : Option (List ℕ)). IsReleased i base (verdict_at opening texts i b behind rest s.late s.ended)) (sym is)
+            (released_block i base texts (get_or blocks m []) (behind || s.late) s.ended
+            (opening (nonce_bytes i false) (get_or blocks m [])) low (auth.next lt' true) here))
+        | inr le ↦
+            (let is : slice_get blocks m ≡ None = slice_get-past blocks m le in
+            let eq : m ≡ length s.bytes / size = omega (arith, le, count, length-front_texts opening blocks s.start) in
+            subst (λ (b : Option (List ℕ)). IsReleased i base (verdict_at opening texts i b behind rest s.late s.ended)) (sym is)
+            (released_rest i base texts rest s.late s.ended low
+            (λ t h z. subst (λ (k : ℕ). IsWriters sealing opening n text (nonce_bytes (s.start + k) true) rest) (sym eq)
+            (auth.rest eq t h (λ g. omega (arith, eq, z g)))) here))
+      ])
