@@ -11,14 +11,15 @@ use Rattle.age_cli_args.specs.declared.request.ProgressOption.TheVariants.{Shown
 use Rattle.age_cli_args.specs.declared.request.Request.{Request}
 use Rattle.age_cli_args.specs.declared.request.Request.TheVariants.{Inspect, Decrypt, Resume}
 use Rattle.age_cli_args.specs.declared.request.Request.TheVariants.{Encrypt, Drill}
-use Rattle.age_cli_common.specs.Orders.{Follows, replacing, NamesTwice, order_asked}
-use Rattle.age_cli_common.specs.Files.{Files}
-use Rattle.age_cli_common.specs.Endings.{HasReason, is_usage}
-use Rattle.age_cli_common.specs.declared.ending.Ending.{Ending}
+use Rattle.age_identity.specs.Orders.{Follows, replacing, NamesTwice, order_asked}
+use Rattle.age_identity.specs.Files.{Files}
+use Rattle.age_ending.specs.Endings.{is_usage}
+use Rattle.age_identity.specs.Files.{HasReason}
+use Rattle.age_ending.specs.declared.ending.Ending.{Ending}
 use Rattle.age_cli.specs.Acts.{Acts, EndsBefore, GivesNone, HasEngineEnded, OfEngine, OfSomeEngine}
 use Rattle.age_cli.specs.Acts.{Spares, progress_of, IsUsage, LeavesOut, WritesOut}
 use Rattle.age_cli.proofs.CommandLemmas.{not_well, this_error, just_error}
-use Rattle.age_cli_common.proofs.EventLemmas.{longer}
+use Rattle.age_identity.proofs.EventLemmas.{longer}
 use Rattle.std.proofs.lemmas.Result.{IfErr-weaker}
 
 -- where no file differs, none but the outputs does

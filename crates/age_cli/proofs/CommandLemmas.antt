@@ -10,16 +10,17 @@ use Rattle.age_fileset.specs.FileSet.{IsMemoryOr, OpenFails, Event, Opened, File
 use Rattle.age_fileset.specs.declared.files.OpenFault.{OpenFault}
 use Rattle.age_fileset.specs.declared.files.OpenFault.TheVariants.{SameFile}
 use Rattle.age_fileset.specs.declared.files.OpenFault.TheVariants as create
-use Rattle.age_cli_common.specs.Endings.{EndsEarly, is_usage, HasReason, IsUnmade, IsUnread}
-use Rattle.age_cli_common.specs.Identities.{Chooses, IsSecretIn, Makes, file_of, OpensBy}
-use Rattle.age_cli_common.specs.Files.{Files}
-use Rattle.age_cli_common.specs.declared.choice.Choice.{Choice}
-use Rattle.age_cli_common.specs.declared.identity.Identity.{Identity}
+use Rattle.age_ending.specs.Endings.{EndsEarly, is_usage}
+use Rattle.age_identity.specs.Files.{HasReason, IsUnmade, IsUnread}
+use Rattle.age_identity.specs.Identities.{Chooses, IsSecretIn, Makes, file_of, OpensBy}
+use Rattle.age_identity.specs.Files.{Files}
+use Rattle.age_identity.specs.declared.choice.Choice.{Choice}
+use Rattle.age_identity.specs.declared.identity.Identity.{Identity}
 use Rattle.age_cli_args.specs.declared.request.IdentityOptions.{IdentityOptions}
 use Rattle.clap.specs.Words.{Text}
-use Rattle.age_cli_common.specs.inner.Endings.{ending_of}
-use Rattle.age_cli_common.specs.declared.ending.Ending.{Ending}
-use Rattle.age_cli_common.specs.declared.ending.Ending.TheVariants.{Fault}
+use Rattle.age_ending.specs.inner.Endings.{ending_of}
+use Rattle.age_ending.specs.declared.ending.Ending.{Ending}
+use Rattle.age_ending.specs.declared.ending.Ending.TheVariants.{Fault}
 use Rattle.age_cli.specs.Commands.{HoldsNoPosition}
 use Rattle.age_cli.specs.inner.Openings.{Judges}
 

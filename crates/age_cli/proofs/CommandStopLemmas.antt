@@ -19,10 +19,10 @@ use Rattle.age_file.specs.declared.position.Position.{Position}
 use Rattle.age_file.specs.declared.position.PositionPolicy.{PositionPolicy}
 use Rattle.age_fault.specs.declared.fault.FileFault.{FileFault}
 use Rattle.age_fault.specs.declared.fault.FileFault.TheVariants as fault
-use Rattle.age_cli_common.specs.Files.{Files}
+use Rattle.age_identity.specs.Files.{Files}
 use Rattle.age_cli.specs.Acts.{EndsOf}
-use Rattle.age_cli_common.specs.declared.ending.Ending.{Ending}
-use Rattle.age_cli_common.specs.declared.ending.Ending.TheVariants.{Words, Usage, Fault, Unsaved}
+use Rattle.age_ending.specs.declared.ending.Ending.{Ending}
+use Rattle.age_ending.specs.declared.ending.Ending.TheVariants.{Words, Usage, Fault, Unsaved}
 
 none_out : (new : Option (List ℕ)) (out : List ℕ) (written : ℕ) → Appends (Some []) new out → written ≡ length out → written ≡ 0 → new ≡ Some []
 none_out None out written put count none = absurd put

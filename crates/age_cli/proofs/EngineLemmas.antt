@@ -18,10 +18,10 @@ use Rattle.age_file.specs.declared.position.PositionPolicy.{PositionPolicy}
 use Rattle.age_fault.specs.declared.fault.FileFault.{FileFault}
 use Rattle.age_fault.specs.declared.fault.FileFault.TheVariants as fault
 use Rattle.age_fileset.specs.FileSet.{FilesView}
-use Rattle.age_cli_common.specs.Files.{Files, SparesBoth}
-use Rattle.age_cli_common.specs.declared.ending.Ending.{Ending}
-use Rattle.age_cli_common.specs.declared.identity.Identity.{Identity}
-use Rattle.age_cli_common.specs.Identities.{allows_by, refuses_by}
+use Rattle.age_identity.specs.Files.{Files, SparesBoth}
+use Rattle.age_ending.specs.declared.ending.Ending.{Ending}
+use Rattle.age_identity.specs.declared.identity.Identity.{Identity}
+use Rattle.age_identity.specs.Identities.{allows_by, refuses_by}
 use Rattle.age_cli.specs.Acts.{Engine, Ran, encrypt_engine, decrypt_engine, resume_engine, Paths}
 use Rattle.age_cli.specs.Acts.{WritesOut, LeavesOut}
 use Rattle.age_cli.specs.Acts.{IsLeft, IsUnclosed, EndsOf}

@@ -23,12 +23,12 @@ use Rattle.age_cli_args.specs.declared.request.Decrypting.{Decrypting}
 use Rattle.age_cli_args.specs.declared.request.Resuming.{Resuming}
 use Rattle.age_cli_args.specs.declared.request.Request.{Request}
 use Rattle.age_cli_args.specs.declared.request.Request.TheVariants.{Encrypt, Decrypt, Resume}
-use Rattle.age_cli_common.specs.Orders.{Follows, identity_order, preparing, making, replacing}
-use Rattle.age_cli_common.specs.Orders.{NamesTwice, order_asked, random_name}
-use Rattle.age_cli_common.specs.Files.{Files, SparesBoth}
-use Rattle.age_cli_common.specs.Identities.{OpensBy, allows_by, refuses_by}
-use Rattle.age_cli_common.specs.declared.ending.Ending.{Ending}
-use Rattle.age_cli_common.specs.declared.identity.Identity.{Identity}
+use Rattle.age_identity.specs.Orders.{Follows, identity_order, preparing, making, replacing}
+use Rattle.age_identity.specs.Orders.{NamesTwice, order_asked, random_name}
+use Rattle.age_identity.specs.Files.{Files, SparesBoth}
+use Rattle.age_identity.specs.Identities.{OpensBy, allows_by, refuses_by}
+use Rattle.age_ending.specs.declared.ending.Ending.{Ending}
+use Rattle.age_identity.specs.declared.identity.Identity.{Identity}
 use Rattle.age_cli.specs.Acts.{Acts, HasEngineEnded, OfEngine, OfSomeEngine, Spares, paths_of}
 use Rattle.age_cli.specs.Acts.{progress_of, Engine, encrypt_engine, decrypt_engine, resume_engine}
 use Rattle.age_cli.specs.Acts.{Paths, LeavesOut}

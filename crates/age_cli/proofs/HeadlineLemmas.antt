@@ -29,15 +29,15 @@ use Rattle.age_cli_args.specs.declared.request.Request.TheVariants.{Inspect, Enc
 use Rattle.age_cli_args.specs.declared.request.Request.TheVariants.{Resume, Drill}
 use Rattle.age_cli_args.proofs.SimpleLemmas.{no_command}
 use Rattle.age_cli_args.proofs.NumberLemmas.{one_number}
-use Rattle.age_cli_common.specs.Files.{Files}
-use Rattle.age_cli_common.specs.declared.identity.Identity.{Identity}
-use Rattle.age_cli_common.specs.Identities.{IsIdentity, OpensBy, allows_by, refuses_by}
-use Rattle.age_cli_common.specs.declared.ending.Ending.{Ending}
+use Rattle.age_identity.specs.Files.{Files}
+use Rattle.age_identity.specs.declared.identity.Identity.{Identity}
+use Rattle.age_identity.specs.Identities.{IsIdentity, OpensBy, allows_by, refuses_by}
+use Rattle.age_ending.specs.declared.ending.Ending.{Ending}
 use Rattle.age_cli.specs.Acts.{Acts, EndsBefore, OfEngine, decrypt_engine, resume_engine, Ran}
 use Rattle.age_cli.specs.Acts.{IsLeft}
 use Rattle.age_cli.specs.Acts.{IsUnclosed, LeavesOut, WritesOut, kept_for}
 use Rattle.age_cli.specs.Runs.{World, Obeys, Prints}
-use Rattle.age_cli_common.specs.Endings.{HasReason}
+use Rattle.age_identity.specs.Files.{HasReason}
 use Rattle.age_cli.specs.Commands.{IsPositionIn, old_for}
 use Rattle.age_cli.proofs.CommandStopLemmas.{stop_wrote, resume_wrote}
 use Rattle.age_cli.specs.Headline.{IsRead, IsWritersInput, KeepsOut, BeginsAt, IsWritersResumption}

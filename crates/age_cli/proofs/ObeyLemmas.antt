@@ -17,22 +17,22 @@ use Rattle.age_cli_args.specs.declared.request.Request.TheVariants.{Inspect, Dri
 use Rattle.age_cli_args.specs.declared.request.Drilling.{Drilling}
 use Rattle.age_file.specs.Runs.{Ports}
 use Rattle.age_fileset.specs.FileSet.{FilesView}
-use Rattle.age_cli_common.specs.Endings.{is_usage}
-use Rattle.age_cli_common.specs.Orders.{Follows, order_asked}
-use Rattle.age_cli_common.specs.declared.ending.Ending.{Ending}
+use Rattle.age_ending.specs.Endings.{is_usage}
+use Rattle.age_identity.specs.Orders.{Follows, order_asked}
+use Rattle.age_ending.specs.declared.ending.Ending.{Ending}
 use Rattle.age_cli.specs.Acts.{Acts, IsUsage}
 use Rattle.age_cli.specs.Runs.{FailsWriting, IsRefusal, Prints, Reported}
 use Rattle.age_io.specs.Io.{SinkView}
 use Rattle.age_cli.specs.Commands.{FailsReport}
 use Rattle.age_cli_args.specs.declared.request.Request.{Request}
-use Rattle.age_cli_common.specs.declared.ending.Ending.TheVariants.{Words, Usage, Fault, Unsaved}
+use Rattle.age_ending.specs.declared.ending.Ending.TheVariants.{Words, Usage, Fault, Unsaved}
 use Rattle.age_fault.specs.declared.fault.FileFault.TheVariants.{Write, Memory}
 use Rattle.clap.specs.Kinds.{Kinds}
 use Rattle.clap.specs.declared.error.kind.ErrorKind.TheVariants.{OutOfMemory}
 use Rattle.std.proofs.Common.{ℕ, ◌⊎◌}
 use Rattle.age_cli.specs.inner.Endings.{IsForOutput}
 use Rattle.age_cli.proofs.ActLemmas.{spares_kept}
-use Rattle.age_cli_common.proofs.EventLemmas.{followed}
+use Rattle.age_identity.proofs.EventLemmas.{followed}
 
 -- whether there are words
 pub no_words : (ws : List (Bor Text)) (test : Bool) → test ≡ (length ws == 0) → test ≡ true → texts ws ≡ []

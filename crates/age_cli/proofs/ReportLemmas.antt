@@ -5,13 +5,13 @@ use Rattle.std.proofs.Common.{Result, Ok, Err}
 use Rattle.std.specs.Prelude.{OnErr}
 use Rattle.age_fault.proofs.ByteLemmas.{Appends-then, risen}
 use Rattle.age_fault.specs.Faults.{HasRisen}
-use Rattle.age_cli_common.specs.Endings.{is_usage, Announces, ReportsEnding, ReportsRest, TakesLine}
-use Rattle.age_cli_common.specs.Endings.{Tells, fault_line}
-use Rattle.age_cli_common.specs.declared.ending.Announcement.{Announcement}
-use Rattle.age_cli_common.specs.declared.ending.Announcement.TheVariants.{Unmade, Made, Failed}
+use Rattle.age_ending.specs.Endings.{is_usage, Announces, ReportsEnding, ReportsRest, TakesLine}
+use Rattle.age_ending.specs.Endings.{Tells, fault_line}
+use Rattle.age_ending.specs.declared.ending.Announcement.{Announcement}
+use Rattle.age_ending.specs.declared.ending.Announcement.TheVariants.{Unmade, Made, Failed}
 use Rattle.age_cli.specs.Acts.{status_by, ending_status}
-use Rattle.age_cli_common.specs.declared.ending.Ending.{Ending}
-use Rattle.age_cli_common.specs.declared.ending.Ending.TheVariants.{Words, Usage, Fault, Unsaved}
+use Rattle.age_ending.specs.declared.ending.Ending.{Ending}
+use Rattle.age_ending.specs.declared.ending.Ending.TheVariants.{Words, Usage, Fault, Unsaved}
 use Rattle.age_io.specs.Io.{SinkView, SourceView}
 use Rattle.age_file.specs.Runs.{HeadFails, NoHeadFault}
 use Rattle.age_fault.specs.declared.fault.FileFault.{FileFault}

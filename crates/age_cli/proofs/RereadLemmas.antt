@@ -24,13 +24,13 @@ use Rattle.age_io.specs.declared.durability.Durability.{Durability}
 use Rattle.age_cli_args.specs.Requests.{option_text}
 use Rattle.age_cli_args.specs.declared.request.Decrypting.{Decrypting}
 use Rattle.age_cli_args.specs.declared.request.ProgressOption.TheVariants.{Silent}
-use Rattle.age_cli_common.specs.Identities.{allows_by, refuses_by}
-use Rattle.age_cli_common.specs.declared.ending.Ending.{Ending}
-use Rattle.age_cli_common.specs.declared.identity.Identity.{Identity}
-use Rattle.age_cli_common.specs.Endings.{is_usage}
-use Rattle.age_cli_common.specs.Orders.{Follows, replacing}
-use Rattle.age_cli_common.specs.Files.{Files, SparesBut, SparesBoth}
-use Rattle.age_cli_common.proofs.EventLemmas.{then_follows}
+use Rattle.age_identity.specs.Identities.{allows_by, refuses_by}
+use Rattle.age_ending.specs.declared.ending.Ending.{Ending}
+use Rattle.age_identity.specs.declared.identity.Identity.{Identity}
+use Rattle.age_ending.specs.Endings.{is_usage}
+use Rattle.age_identity.specs.Orders.{Follows, replacing}
+use Rattle.age_identity.specs.Files.{Files, SparesBut, SparesBoth}
+use Rattle.age_identity.proofs.EventLemmas.{then_follows}
 use Rattle.age_cli.specs.Acts.{EndsOf, IsSaved, SaveFails, kept_for}
 use Rattle.age_cli.specs.inner.Openings.{Saves}
 use Rattle.age_cli.specs.declared.interruption.Interruption.{Interruption}

@@ -5,9 +5,9 @@ use Rattle.age_keys.specs.Scrypt.{IsAllowed}
 use Rattle.age_file.specs.Encrypts.{SecretView}
 use Rattle.age_cli_args.specs.Requests.{option_text}
 use Rattle.age_cli_args.specs.declared.request.Encrypting.{Encrypting}
-use Rattle.age_cli_common.specs.Orders.{random_name}
-use Rattle.age_cli_common.specs.Identities.{IsPassphraseIn}
-use Rattle.age_cli_common.specs.Files.{Files}
+use Rattle.age_identity.specs.Orders.{random_name}
+use Rattle.age_identity.specs.Identities.{IsPassphraseIn}
+use Rattle.age_identity.specs.Files.{Files}
 use Rattle.age_fileset.specs.FileSet.{or_empty}
 use Rattle.age_file.specs.declared.position.Position.{Position}
 use Rattle.age_file.specs.Resumes.{position_text, NoPosition}
@@ -20,8 +20,8 @@ use Rattle.age_fault.specs.declared.fault.FileFault.TheVariants.{Head}
 use Rattle.age_file.specs.Decrypts.{StopsOutside}
 use Rattle.age_file.specs.Runs.{IsHeadFault}
 use Rattle.age_file.specs.Reports.{IsReport}
-use Rattle.age_cli_common.specs.declared.ending.Ending.{Ending}
-use Rattle.age_cli_common.specs.declared.ending.Ending.TheVariants.{Fault}
+use Rattle.age_ending.specs.declared.ending.Ending.{Ending}
+use Rattle.age_ending.specs.declared.ending.Ending.TheVariants.{Fault}
 use Rattle.age_file.specs.Reports as file
 
 -- ---- What `encrypt` makes a file of.

@@ -9,9 +9,9 @@ use Rattle.age_keys.specs.Keys.{Opens}
 use Rattle.age_io.specs.Io.{IsOver, Shown, SinkView}
 use Rattle.age_file.specs.Runs.{Ports, Run, IsFromStart, IsTexts, IsAuthenticRun, HasId, HasTag}
 use Rattle.age_file.specs.declared.position.Position.{Position}
-use Rattle.age_cli_common.specs.Files.{Files}
-use Rattle.age_cli_common.specs.declared.identity.Identity.{Identity}
-use Rattle.age_cli_common.specs.Identities.{allows_by, OpensBy}
+use Rattle.age_identity.specs.Files.{Files}
+use Rattle.age_identity.specs.declared.identity.Identity.{Identity}
+use Rattle.age_identity.specs.Identities.{allows_by, OpensBy}
 use Rattle.age_cli_args.specs.Requests.{Requests}
 use Rattle.age_cli_args.specs.declared.request.Decrypting.{Decrypting}
 use Rattle.age_cli_args.specs.declared.request.Resuming.{Resuming}

@@ -4,7 +4,7 @@ use Rattle.clap.specs.Words.{Text}
 use Rattle.age_io.specs.Io.{IsOver, Shown}
 use Rattle.age_file.specs.Runs.{Ports}
 use Rattle.age_cli_args.specs.Requests.{IsForHelp}
-use Rattle.age_cli_common.specs.declared.ending.Ending.{Ending}
+use Rattle.age_ending.specs.declared.ending.Ending.{Ending}
 use Rattle.age_cli.specs.Commands.{FailsReport}
 use Rattle.age_cli.specs.Runs.{World, Declines, IsRefusal}
 use Rattle.age_cli.specs.Acts.{IsUsage}

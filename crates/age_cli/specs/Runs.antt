@@ -11,9 +11,10 @@ use Rattle.age_file.specs.Runs.{Ports}
 use Rattle.age_fault.specs.Faults.{HasRisen}
 use Rattle.age_fault.specs.declared.fault.FileFault.TheVariants.{Read, Write, Memory}
 use Rattle.age_fileset.specs.FileSet.{FilesView}
-use Rattle.age_cli_common.specs.Endings.{IsUnread, ReportsEnding}
-use Rattle.age_cli_common.specs.declared.ending.Ending.{Ending}
-use Rattle.age_cli_common.specs.declared.ending.Ending.TheVariants.{Fault}
+use Rattle.age_ending.specs.Endings.{ReportsEnding}
+use Rattle.age_identity.specs.Files.{IsUnread}
+use Rattle.age_ending.specs.declared.ending.Ending.{Ending}
+use Rattle.age_ending.specs.declared.ending.Ending.TheVariants.{Fault}
 use Rattle.age_cli.specs.Acts.{Acts, IsUsage, status_by}
 use Rattle.age_cli.specs.Commands.{Reports, ReportsFile, FailsReport, seen}
 

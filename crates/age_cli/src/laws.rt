@@ -3,7 +3,7 @@
 ghost use Rattle.age_cli.specs.Acts.{PortsOf};
 ghost use Rattle.age_cli.specs.Headline.{RunsKeepOut};
 ghost use Rattle.age_cli.specs.Laws.{RefusesInSilence, ReportsAccept};
-ghost use Rattle.age_cli_common.specs.Endings.{SourceFails};
+ghost use Rattle.age_identity.specs.Files.{SourceFails};
 
 use age_file::{Sink, Source};
 use age_fileset::FileSet;

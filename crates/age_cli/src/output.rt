@@ -3,16 +3,17 @@
 ghost use Rattle.std.specs.Prelude.{◌≡◌, ◌⊎◌, [], ◌∷◌, ◌++◌, Some, None, true, false, is_some};
 ghost use Rattle.std.specs.Prelude.{IfErr, IfSome, ℕ, Option, option_map, length};
 ghost use Rattle.age_io.specs.Io.{Adds, Begins, IsOver};
-ghost use Rattle.age_cli_common.specs.Endings.{EndsEarly, is_usage, Tells, SourceFails, HasReason};
+ghost use Rattle.age_ending.specs.Endings.{EndsEarly, is_usage, Tells};
+ghost use Rattle.age_identity.specs.Files.{SourceFails, HasReason};
 ghost use Rattle.age_fileset.specs.FileSet.{Opened, Created, Closed};
 ghost use Rattle.age_cli_args.specs.Requests.{option_text};
-ghost use Rattle.age_cli_common.specs.Orders.{preparing, making};
-ghost use Rattle.age_cli_common.specs.Files.{SparesBut};
+ghost use Rattle.age_identity.specs.Orders.{preparing, making};
+ghost use Rattle.age_identity.specs.Files.{SparesBut};
 ghost use Rattle.age_cli.specs.inner.Endings.{Concludes, EndsOut};
 ghost use Rattle.age_cli.specs.inner.Openings.{OpensFiles};
 
 use crate::interruption::{Interruption, end_of};
-use age_cli_common::{Announcement, Ending, Usage};
+use age_ending::{Announcement, Ending, Usage};
 use age_fileset::FileSet;
 use age_io::{Durability, Meter, Metered, Sink};
 use std::alloc::Global;

@@ -3,12 +3,13 @@
 ghost use Rattle.std.specs.Prelude.{◌≡◌, ◌⊎◌, IfErr, IsErrAnd, IsOk, OnOk};
 ghost use Rattle.clap.specs.declared.error.kind.ErrorKind.TheVariants.{OutOfMemory};
 ghost use Rattle.age_fault.specs.declared.fault.FileFault.TheVariants.{Memory};
-ghost use Rattle.age_cli_common.specs.declared.ending.Ending.TheVariants.{Fault};
+ghost use Rattle.age_ending.specs.declared.ending.Ending.TheVariants.{Fault};
 ghost use Rattle.clap.specs.Words.{kind_of};
 ghost use Rattle.clap.specs.Walk.{texts};
 ghost use Rattle.age_cli.specs.Acts.{PortsOf, ending_status};
 ghost use Rattle.age_cli.specs.Runs.{world, IsRefusal, Obeys, Prints, FailsWriting, Runs};
-ghost use Rattle.age_cli_common.specs.Endings.{Tells, SourceFails};
+ghost use Rattle.age_ending.specs.Endings.{Tells};
+ghost use Rattle.age_identity.specs.Files.{SourceFails};
 ghost use Rattle.age_io.specs.Io.{IsOver};
 ghost use Rattle.age_cli.specs.inner.Endings.{IsForOutput};
 
@@ -17,8 +18,8 @@ use crate::encrypt_command::encrypt_file;
 use crate::inspect_command::{report, report_file};
 use crate::resume_command::resume_file;
 use age_cli_args::{Request, read_request};
-use age_cli_common::{Announcement, Ending, Usage, put_bytes, report_ending};
 use age_drill::drill_file;
+use age_ending::{Announcement, Ending, Usage, put_bytes, report_ending};
 use age_file::{FileFault, Sink, Source, flush_all};
 use age_fileset::FileSet;
 use age_io::Meter;

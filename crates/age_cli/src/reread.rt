@@ -6,13 +6,13 @@ ghost use Rattle.age_io.specs.Io.{IsOver};
 ghost use Rattle.age_fileset.specs.FileSet.{IsMemoryOr};
 ghost use Rattle.age_cli_args.specs.Requests.{option_text};
 ghost use Rattle.age_cli_args.specs.declared.request.ProgressOption.TheVariants.{Silent};
-ghost use Rattle.age_cli_common.specs.Endings.{Announces};
+ghost use Rattle.age_ending.specs.Endings.{Announces};
 ghost use Rattle.age_cli.specs.inner.Rereadings.{IsFoundIn, ConcludesAgain};
 
 use crate::interruption::save;
 use crate::output::{end_meter, leave, with_meter};
 use age_cli_args::{Decrypting, ProgressOption};
-use age_cli_common::{Announcement, Ending, announce};
+use age_ending::{Announcement, Ending, announce};
 use age_file::{FileFault, Position, Stopped, position_after};
 use age_fileset::FileSet;
 use age_io::{Meter, Sink, Source};

@@ -5,8 +5,9 @@ ghost use Rattle.age_fault.specs.declared.fault.FileFault.TheVariants.{Read, Bad
 ghost use Rattle.age_fileset.specs.FileSet.{Opened, OpenFails};
 ghost use Rattle.age_fileset.specs.declared.files.OpenFault.TheVariants as OpenFault;
 ghost use Rattle.age_cli_args.specs.declared.request.Request.TheVariants.{Resume};
-ghost use Rattle.age_cli_common.specs.Orders.{Follows, NamesTwice, order_asked};
-ghost use Rattle.age_cli_common.specs.Endings.{Tells, SourceFails, IsUnread};
+ghost use Rattle.age_identity.specs.Orders.{Follows, NamesTwice, order_asked};
+ghost use Rattle.age_ending.specs.Endings.{Tells};
+ghost use Rattle.age_identity.specs.Files.{SourceFails, IsUnread};
 ghost use Rattle.age_io.specs.Io.{IsOver};
 ghost use Rattle.age_cli.specs.Acts.{Acts, PortsOf};
 ghost use Rattle.age_cli.specs.Commands.{HoldsNoPosition, IsPositionIn, old_for};
@@ -15,9 +16,10 @@ use crate::decrypt_command::{is_given_as, names_a_file_twice, positions_for, rea
 use crate::interruption::opening_end;
 use crate::output::{Content, Output, conclude, end_meter, open_both, with_meter};
 use age_cli_args::{ProgressOption, Resuming};
-use age_cli_common::{Announcement, Choice, Ending, read_file};
+use age_ending::{Announcement, Ending};
 use age_file::{FileFault, Position, resume_with};
 use age_fileset::{FileSet, OpenFault};
+use age_identity::{Choice, read_file};
 use age_io::{Meter, Sink};
 use std::alloc::Global;
 

@@ -3,8 +3,8 @@
 ghost use Rattle.std.specs.Prelude.{◌≡◌, ◌≤◌, ◌++◌, ◌∷◌, [], Some, IfOk, OnOk, length, is_some};
 ghost use Rattle.std.specs.Prelude.{true};
 ghost use Rattle.age_fileset.specs.FileSet.{Opened};
-ghost use Rattle.age_cli_common.specs.Endings.{RefusesAtOnce};
-ghost use Rattle.age_cli_common.specs.Orders.{Follows, order_asked};
+ghost use Rattle.age_ending.specs.Endings.{RefusesAtOnce};
+ghost use Rattle.age_identity.specs.Orders.{Follows, order_asked};
 ghost use Rattle.age_cli_args.specs.Requests.{option_text};
 ghost use Rattle.age_cli_args.specs.declared.request.Request.TheVariants.{Drill};
 ghost use Rattle.age_stanza.specs.Grammar.{HasText};
@@ -13,11 +13,10 @@ ghost use Rattle.age_stanza.specs.Parsing.{reading};
 use crate::replaying::Replaying;
 use crate::script::{SCRIPT_MAX, ScriptLine, has_too_many_lines, read_lines};
 use age_cli_args::Drilling;
-use age_cli_common::{
-    Ending, Usage, fill_first, put_bytes, read_file, read_pass, read_up_to, trimmed,
-};
+use age_ending::{Ending, Usage, put_bytes};
 use age_fault::{FileFault, flush_all};
 use age_fileset::{FileSet, OpenFault};
+use age_identity::{fill_first, read_file, read_pass, read_up_to, trimmed};
 use age_io::{Sink, Source};
 use age_keys::{FileKey, KeyFault, Passphrase, PayloadKey, Steps, open_header, payload_key};
 use age_stanza::{HEAD_MAX, HeadParser, HeadStep, Header};

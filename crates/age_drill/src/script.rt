@@ -1,6 +1,6 @@
 //! Scripts of drills: one step a line.
 
-use age_cli_common::{Ending, Usage};
+use age_ending::{Ending, Usage};
 use age_fault::FileFault;
 use std::alloc::Global;
 

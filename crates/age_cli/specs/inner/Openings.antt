@@ -7,11 +7,12 @@ use Rattle.age_cli_args.specs.Requests.{option_text}
 use Rattle.age_cli_args.specs.declared.request.Decrypting.{Decrypting}
 use Rattle.age_file.specs.declared.position.Position.{Position}
 use Rattle.age_file.specs.Resumes.{position_text}
-use Rattle.age_cli_common.specs.Files.{Files}
+use Rattle.age_identity.specs.Files.{Files}
 use Rattle.age_fileset.specs.FileSet.{Event, FilesView}
-use Rattle.age_cli_common.specs.Endings.{EndsEarly, RefusesAtOnce, is_usage, HasReason}
-use Rattle.age_cli_common.specs.Orders.{Follows, random_name}
-use Rattle.age_cli_common.specs.declared.ending.Ending.{Ending}
+use Rattle.age_ending.specs.Endings.{EndsEarly, RefusesAtOnce, is_usage}
+use Rattle.age_identity.specs.Files.{HasReason}
+use Rattle.age_identity.specs.Orders.{Follows, random_name}
+use Rattle.age_ending.specs.declared.ending.Ending.{Ending}
 use Rattle.age_cli_args.specs.declared.request.Encrypting.{Encrypting}
 use Rattle.age_cli.specs.declared.encrypt_command.Random.{Random}
 use Rattle.age_cli.specs.declared.encrypt_command.Material.{Material}

@@ -11,9 +11,9 @@ use Rattle.age_fileset.specs.FileSet.{FilesView}
 use Rattle.age_cli_args.specs.Requests.{option_text}
 use Rattle.age_cli_args.specs.declared.request.Decrypting.{Decrypting}
 use Rattle.age_cli_args.specs.declared.request.ProgressOption.TheVariants.{Silent}
-use Rattle.age_cli_common.specs.Identities.{allows_by, refuses_by}
-use Rattle.age_cli_common.specs.declared.ending.Ending.{Ending}
-use Rattle.age_cli_common.specs.declared.identity.Identity.{Identity}
+use Rattle.age_identity.specs.Identities.{allows_by, refuses_by}
+use Rattle.age_ending.specs.declared.ending.Ending.{Ending}
+use Rattle.age_identity.specs.declared.identity.Identity.{Identity}
 use Rattle.age_cli.specs.Acts.{kept_for}
 use Rattle.age_cli.specs.inner.Endings.{Concludes, opening_end}
 

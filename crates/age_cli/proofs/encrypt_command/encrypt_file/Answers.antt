@@ -3,17 +3,17 @@ use Rattle.age_file.specs.Runs.{ports}
 use Rattle.age_fileset.specs.FileSet.{Opened, Created}
 use Rattle.age_cli_args.specs.Requests.{option_text}
 use Rattle.age_cli_args.specs.declared.request.Request.TheVariants.{Encrypt}
-use Rattle.age_cli_common.specs.Orders.{making, random_name}
-use Rattle.age_cli_common.specs.Files.{Files}
-use Rattle.age_cli_common.specs.Endings.{SourceFails}
-use Rattle.age_cli_common.specs.declared.ending.Ending.{Ending}
-use Rattle.age_cli_common.specs.declared.ending.Ending.TheVariants.{Usage}
+use Rattle.age_identity.specs.Orders.{making, random_name}
+use Rattle.age_identity.specs.Files.{Files}
+use Rattle.age_identity.specs.Files.{SourceFails}
+use Rattle.age_ending.specs.declared.ending.Ending.{Ending}
+use Rattle.age_ending.specs.declared.ending.Ending.TheVariants.{Usage}
 use Rattle.age_cli.specs.Acts.{Paths}
 use Rattle.age_cli.proofs.CommandLemmas.{reason_at}
 use Rattle.age_cli.proofs.ReportLemmas.{unmade}
 use Rattle.age_cli.proofs.ActLemmas.{acts_early, shown_not_silent}
 use Rattle.age_cli.proofs.FinalLemmas.{Found, encrypt_acts}
-use Rattle.age_cli_common.proofs.EventLemmas.{longer, then_did, then_follows}
+use Rattle.age_identity.proofs.EventLemmas.{longer, then_did, then_follows}
 use Rattle.age_cli.proofs.encrypt_command.encrypt_file.Goals as goal
 
 pub returns-in_err-material-clause-acts : goal.returns-in_err-material-clause-acts

@@ -1,5 +1,5 @@
 use Rattle.std.proofs.Common.{◌∙◌, ◌++◌, ap, arith, List, ℕ, drop, refl}
-use Rattle.age_cli_common.proofs.CutLemmas.{cut_in_two, front_length}
+use Rattle.age_identity.proofs.CutLemmas.{cut_in_two, front_length}
 use Rattle.age_cli.proofs.encrypt_command.random_of.Goals as goal
 
 pub returns-clause-parts : goal.returns-clause-parts

@@ -4,12 +4,12 @@ use Rattle.age_file.specs.Runs.{ports}
 use Rattle.age_fileset.specs.FileSet.{Opened, Created}
 use Rattle.age_cli_args.specs.Requests.{option_text}
 use Rattle.age_cli_args.specs.declared.request.Request.TheVariants.{Resume}
-use Rattle.age_cli_common.specs.Orders.{identity_order, preparing, making}
-use Rattle.age_cli_common.specs.Files.{Files}
-use Rattle.age_cli_common.specs.Endings.{SourceFails}
-use Rattle.age_cli_common.specs.declared.ending.Ending.{Ending}
-use Rattle.age_cli_common.specs.declared.ending.Ending.TheVariants.{Usage}
-use Rattle.age_cli_common.specs.inner.Endings.{ending_of}
+use Rattle.age_identity.specs.Orders.{identity_order, preparing, making}
+use Rattle.age_identity.specs.Files.{Files}
+use Rattle.age_identity.specs.Files.{SourceFails}
+use Rattle.age_ending.specs.declared.ending.Ending.{Ending}
+use Rattle.age_ending.specs.declared.ending.Ending.TheVariants.{Usage}
+use Rattle.age_ending.specs.inner.Endings.{ending_of}
 use Rattle.age_fault.specs.declared.fault.FileFault.TheVariants.{BadPosition}
 use Rattle.age_fileset.specs.declared.files.OpenFault.TheVariants as create
 use Rattle.age_cli.specs.Acts.{paths_of}
@@ -19,7 +19,7 @@ use Rattle.age_cli.proofs.ActLemmas.{acts_early, shown_not_silent}
 use Rattle.age_cli.proofs.CommandLemmas.{bad_position, in_order, position_fault, position_reason}
 use Rattle.age_cli.proofs.CommandLemmas.{reason_at, some_files}
 use Rattle.age_cli.proofs.FinalLemmas.{Found, WasEarlier, resume_acts}
-use Rattle.age_cli_common.proofs.EventLemmas.{longer, none_done, then_did, then_follows}
+use Rattle.age_identity.proofs.EventLemmas.{longer, none_done, then_did, then_follows}
 use Rattle.age_cli.proofs.resume_command.resume_file.Goals as goal
 
 pub returns-in_err-choice-clause-acts : goal.returns-in_err-choice-clause-acts

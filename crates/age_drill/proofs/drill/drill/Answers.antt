@@ -1,7 +1,7 @@
 use Rattle.std.proofs.Common.{◌∙◌, ◌∷◌, [], Result, Ok, Err, OnOk}
 use Rattle.std.proofs.lemmas.Result.{IfOk-from_err}
 use Rattle.age_fileset.specs.FileSet.{Opened}
-use Rattle.age_cli_common.proofs.EventLemmas.{then_did, followed, longer}
+use Rattle.age_identity.proofs.EventLemmas.{then_did, followed, longer}
 use Rattle.age_drill.proofs.drill.drill.Goals as goal
 
 always : {T E : Type 0} (r : Result T E) (P : Type 0) → P → OnOk r P

@@ -1,7 +1,7 @@
 use Rattle.std.proofs.Common.{◌∙◌, ◌∷◌, []}
 use Rattle.std.proofs.lemmas.Result.{on_ok_weaker, IfOk-from_err}
 use Rattle.age_fileset.specs.FileSet.{Opened}
-use Rattle.age_cli_common.proofs.EventLemmas.{then_did, then_follows, followed, longer}
+use Rattle.age_identity.proofs.EventLemmas.{then_did, then_follows, followed, longer}
 use Rattle.age_drill.proofs.drill.drill_sealed.Goals as goal
 
 pub returns-in-Some : goal.returns-in-Some

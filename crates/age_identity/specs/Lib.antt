@@ -1,0 +1,4 @@
+pub mod Files
+pub mod Identities
+pub mod Orders
+pub mod inner

@@ -1,0 +1,13 @@
+-- Private: no public contract cites this module.
+-- The pieces in which the first bytes of a source come.
+use Rattle.std.specs.Prelude.{◌≡◌, ℕ, ◌≤◌, List, take, Option}
+use Rattle.std.specs.Io.KnownBytes.{Consumes, IsAtEnd}
+
+-- the first n bytes of a buffer are the next piece of a source
+pub record IsPiece (old new : Option (List ℕ)) (most n : ℕ) (buffer : List ℕ) : Type 0 where
+  -- It has at most as many bytes as were asked for.
+  pub within : n ≤ most
+  -- They are what came next.
+  pub read : Consumes old new (take n buffer)
+  -- It is empty only at the end.
+  pub at_end : n ≡ 0 → IsAtEnd new
