@@ -3,10 +3,10 @@
 ghost use Rattle.std.specs.Prelude.{[], None, true};
 
 use crate::failures::{Action, Failures};
-use crate::host_in::HostIn;
-use crate::host_names::FileId;
-use crate::host_out::HostOut;
-use crate::host_prepare::Prepared;
+use crate::input::HostIn;
+use crate::names::FileId;
+use crate::output::HostOut;
+use crate::prepare::Prepared;
 use age_io::{Durability, Failed, Sink, Source};
 use std::io::{self, Read, Write};
 use std::rt::HostRuntime;

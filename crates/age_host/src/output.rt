@@ -3,11 +3,11 @@
 ghost use Rattle.std.specs.Prelude.{◌≡◌, [], None, true, false};
 ghost use Rattle.std.specs.Io.{WritesAtMost};
 
-use crate::host_lock::{lock, remove_own};
-use crate::host_names::{FileId, Resolved, Stream, above_streams, resolve};
-use crate::host_paths::{OUTPUT_MODE, make_file, open_to_write};
-use crate::host_retry::{TRIES, is_to_retry, too_many_tries};
-use crate::host_sync::{sync_file, sync_folder, sync_stream};
+use crate::lock::{lock, remove_own};
+use crate::names::{FileId, Resolved, Stream, above_streams, resolve};
+use crate::paths::{OUTPUT_MODE, make_file, open_to_write};
+use crate::retry::{TRIES, is_to_retry, too_many_tries};
+use crate::sync::{sync_file, sync_folder, sync_stream};
 use age_io::{Durability, Failed, Sink};
 use std::alloc::Global;
 use std::fs::File;

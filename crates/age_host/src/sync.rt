@@ -1,6 +1,6 @@
 //! Waits until files of the machine have reached the disk.
 
-use crate::host_names::{Stream, is_on_disk};
+use crate::names::{Stream, is_on_disk};
 use std::fs::{self, File};
 use std::io;
 use std::path::PathBuf;

@@ -1,11 +1,11 @@
 //! A file of the machine that is to be replaced later.
 
-use crate::host_lock::lock;
-use crate::host_names::{
+use crate::lock::lock;
+use crate::names::{
     FileId, Node, Resolved, Stream, above_streams, found_at, is_on_disk, resolve,
 };
-use crate::host_paths::open_at_once;
-use crate::host_sync::folder_of;
+use crate::paths::open_at_once;
+use crate::sync::folder_of;
 use std::alloc::Global;
 use std::fs::{self, File, Metadata};
 use std::io;

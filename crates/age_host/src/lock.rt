@@ -1,7 +1,7 @@
 //! Keeps two runs from writing to one file, and from removing what another one writes.
 
-use crate::host_names::{FileId, found_at};
-use crate::host_paths::remove;
+use crate::names::{FileId, found_at};
+use crate::paths::remove;
 use std::fs::{File, TryLockError};
 use std::io;
 use std::rt::HostRuntime;

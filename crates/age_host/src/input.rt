@@ -3,8 +3,8 @@
 ghost use Rattle.std.specs.Prelude.{◌≡◌, None};
 ghost use Rattle.std.specs.Io.{ReadsAtMost};
 
-use crate::host_names::{FileId, Resolved, Stream, above_streams, is_on_disk, is_random, resolve};
-use crate::host_retry::{TRIES, is_to_retry, too_many_tries};
+use crate::names::{FileId, Resolved, Stream, above_streams, is_on_disk, is_random, resolve};
+use crate::retry::{TRIES, is_to_retry, too_many_tries};
 use age_io::{Failed, Source};
 use std::alloc::Global;
 use std::fs::{File, Metadata};

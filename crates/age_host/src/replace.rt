@@ -1,11 +1,11 @@
 //! Replaces a file of the machine as a whole.
 
-use crate::host_lock::{lock, remove_at, remove_own};
-use crate::host_names::{Node, Resolved, found_at, is_on_disk};
-use crate::host_out::HostOut;
-use crate::host_paths::{POSITION_MODE, make_file, open_at_once, open_to_write};
-use crate::host_prepare::Prepared;
-use crate::host_sync::{sync, sync_folder};
+use crate::lock::{lock, remove_at, remove_own};
+use crate::names::{Node, Resolved, found_at, is_on_disk};
+use crate::output::HostOut;
+use crate::paths::{POSITION_MODE, make_file, open_at_once, open_to_write};
+use crate::prepare::Prepared;
+use crate::sync::{sync, sync_folder};
 use age_fault::write_all;
 use age_io::Durability;
 use std::alloc::Global;

@@ -1,6 +1,6 @@
 //! Opens, makes and removes files of the machine.
 
-use crate::host_names::above_streams;
+use crate::names::above_streams;
 use std::fs::{self, File};
 use std::io;
 use std::os::unix::fs::OpenOptionsExt;
