@@ -226,9 +226,6 @@ shut : (o : Option (List ℕ)) → (IsSome o → ⊥) → o ≡ None
 shut None h = refl
 shut (Some x) h = absurd (h (search rules))
 
-some_from : (o : Option (List ℕ)) (x : List ℕ) → o ≡ Some x → IsSome o
-some_from o x e = rw e (search rules)
-
 -- what is left, more than a tag, that doesn't open as the last
 final_wrong : (op : List ℕ → List ℕ → Option (List ℕ)) (texts : List (List ℕ)) (i : ℕ) (rest : List ℕ) (late : Bool)
     → tag_length < length rest → op (nonce_bytes i true) rest ≡ None

@@ -5,7 +5,7 @@ use Rattle.std.proofs.Common.{append-nil}
 use Rattle.std.specs.Prelude.{Option, IfSome}
 use Rattle.std.specs.List.{flat_map}
 use Rattle.std.specs.Borrow.{Bor}
-use Rattle.std.proofs.lemmas.List.{length-append, length-drop, length-take, nil_from_length}
+use Rattle.std.proofs.lemmas.List.{length-append, length-drop, nil_from_length}
 use Rattle.std.proofs.lemmas.Grind.{flat_map-append}
 use Rattle.age_stream.specs.Segment.{Segment, outcome, released, rest_bytes, with_piece, with_end}
 use Rattle.age_stream.specs.Opener.{chunk_bytes, OpenerView, Stands, chunk_texts}
@@ -215,12 +215,6 @@ pub nothing_of : (failed : Bool) (answer : ℕ) (text : List ℕ) → (failed �
     → (failed ≡ true → text ≡ []) → answer ≢ 0 → text ≡ []
 nothing_of true answer text fine none some = none refl
 nothing_of false answer text fine none some = absurd (some (fine refl))
-
--- and then no byte is counted
-pub none_written : (answer n : ℕ) (out : List ℕ) → (answer ≢ 0 → take n out ≡ []) → n ≤ length out
-    → answer ≢ 0 → n ≡ 0
-none_written answer n out nothing most some =
-    omega (arith, most, ap length (nothing some), length-take n out)
 
 -- an opener that is open after a piece was open before
 pub rest_open : (rest : List ℕ) (old new : Status) → (0 < length rest → old ≡ Open)

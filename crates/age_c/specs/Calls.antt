@@ -1,16 +1,16 @@
 -- What the answers of calls mean.
 use Rattle.std.specs.Prelude.{ℕ, ◌==◌, ◌&&◌, nat_le, Option, Some, None, if◌then◌else◌, ◌≡◌, ◌≢◌}
 use Rattle.std.specs.Prelude.{◌≤◌, List, length, take, drop, ◌+◌, ◌%◌}
-use Rattle.age_stream.specs.declared.step.Status.{Status}
-use Rattle.age_stream.specs.declared.step.Status.TheVariants.{Open, LastSeen, Done, Failed}
+use Rattle.age_chunk.specs.ChunkBoxes.{tag_length}
+use Rattle.age_chunk.specs.FaultNumbers.{stream_fault_number}
+use Rattle.age_chunk.specs.Payload.{block_length}
 use Rattle.age_chunk.specs.declared.fault.StreamKind.{StreamKind}
 use Rattle.age_chunk.specs.declared.fault.StreamKind.TheVariants.{ChunkDamaged, ChunkCut, EmptyLast}
 use Rattle.age_chunk.specs.declared.fault.StreamKind.TheVariants.{Truncated, Trailing}
 use Rattle.age_chunk.specs.declared.fault.StreamKind.TheVariants.{TooManyChunks}
-use Rattle.age_chunk.specs.ChunkBoxes.{tag_length}
-use Rattle.age_chunk.specs.FaultNumbers.{stream_fault_number}
-use Rattle.age_chunk.specs.Payload.{block_length}
 use Rattle.age_stream.specs.Laws.{IsTextLength, chunks_for}
+use Rattle.age_stream.specs.declared.step.Status.{Status}
+use Rattle.age_stream.specs.declared.step.Status.TheVariants.{Open, LastSeen, Done, Failed}
 
 -- ---- The numbers that stand for a status, and what calls answer.
 

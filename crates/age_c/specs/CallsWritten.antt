@@ -1,18 +1,18 @@
 -- What a caller may rely on after any calls on one reader.
-use Rattle.std.specs.Prelude.{◌≡◌, ◌≢◌, ◌⊎◌, ℕ, ◌+◌, ◌*◌, ◌<◌, ◌≤◌, Bool, true, false}
-use Rattle.std.specs.Prelude.{List, [], ◌∷◌, ◌++◌, length, drop, Contains}
+use Rattle.std.specs.Prelude.{◌≡◌, ◌≢◌, ◌⊎◌, ℕ, ◌+◌, ◌*◌, ◌<◌, ◌≤◌, Bool, true, false, List, []}
+use Rattle.std.specs.Prelude.{◌∷◌, ◌++◌, length, drop, Contains}
 use Rattle.std.specs.List.{AllByRecursion}
 use Rattle.age_chunk.specs.ChunkBoxes.{tag_length}
 use Rattle.age_chunk.specs.Payload.{chunk_limit, nonce_bytes, chunk_count, chunk_length}
 use Rattle.age_chunk.specs.Payload.{block_length, sealed, payload}
-use Rattle.age_keys.specs.AgeFile.{box, unbox}
 use Rattle.age_stream.specs.Laws.{IsClosed}
 use Rattle.age_stream.specs.Segment.{fresh, Segment}
 use Rattle.age_stream.specs.Headline.{IsAuthentic, IsPrefixOf, IsFirstWrong}
-use Rattle.age_c.specs.declared.reader.Reader.{Reader}
+use Rattle.age_keys.specs.AgeFile.{box, unbox}
 use Rattle.age_c.specs.Calls.{misused}
 use Rattle.age_c.specs.Readers.{Call, AreCalls, GoesTo, last_reader, segment_from, texts_of, IsAt}
 use Rattle.age_c.specs.Readers.{SameFile}
+use Rattle.age_c.specs.declared.reader.Reader.{Reader}
 
 -- what calls gave to a reader that was at this chunk and was given nothing before
 abbrev pub given_by : ℕ → List Call → Segment

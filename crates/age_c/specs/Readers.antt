@@ -1,22 +1,21 @@
 -- A reader, from its start on.
 use Rattle.std.specs.Prelude.{◌≡◌, ℕ, ◌<◌, IsSome, false, List, [], Some, ◌⊎◌, ◌+◌, ◌≤◌, length}
 use Rattle.std.specs.Prelude.{take, drop, ◌≢◌, ◌==◌, Bool, true, ◌∷◌, ◌++◌, if◌then◌else◌}
-use Rattle.age_keys.specs.AgeFile.{unbox}
-use Rattle.age_stream.specs.declared.step.Status.TheVariants.{Open}
+use Rattle.std.specs.List.{flat_map}
+use Rattle.age_stanza.specs.Grammar.{HeadText, header_limit}
+use Rattle.age_stanza.specs.Parsing.{HasHeader, NoFault, IsFault, memory_fault, head_fault_number}
+use Rattle.age_stanza.specs.declared.header.Header.{Header}
+use Rattle.age_chunk.specs.Payload.{chunk_limit, chunk_length, block_length}
 use Rattle.age_stream.specs.Segment.{Segment, Outcome, outcome, released, rest_bytes, fresh}
 use Rattle.age_stream.specs.Segment.{with_piece, with_end}
-use Rattle.age_chunk.specs.Payload.{chunk_limit, chunk_length, block_length}
-use Rattle.age_c.specs.declared.reader.Reader.{Reader}
-use Rattle.age_c.specs.Calls.{reader_status, more, Answers, answer_of, misused}
-use Rattle.age_stanza.specs.declared.header.Header.{Header}
-use Rattle.age_stanza.specs.Grammar.{HeadText, header_limit}
-use Rattle.age_stanza.specs.Parsing.{HasHeader, NoFault, IsFault, memory_fault}
-use Rattle.age_stanza.specs.Parsing.{head_fault_number}
+use Rattle.age_stream.specs.declared.step.Status.TheVariants.{Open}
+use Rattle.age_keys.specs.AgeFile.{unbox}
 use Rattle.age_keys.specs.Keys.{Opens, Refuses, key_fault_number}
 use Rattle.age_keys.specs.declared.fault.KeyFault.{KeyFault}
+use Rattle.age_c.specs.Calls.{reader_status, more, Answers, answer_of, misused}
+use Rattle.age_c.specs.declared.reader.Reader.{Reader}
 use Rattle.age_c.specs.declared.start.StartFault.{StartFault}
 use Rattle.age_c.specs.declared.start.StartFault.TheVariants.{More, Head, Key}
-use Rattle.std.specs.List.{flat_map}
 
 -- ---- What a reader's numbers stand for.
 

@@ -3,9 +3,9 @@ use Rattle.std.specs.Prelude.{◌≡◌, ◌≢◌, ℕ, ◌<◌, ◌≤◌, Lis
 use Rattle.age_chunk.specs.Payload.{block_length, chunk_length}
 use Rattle.age_stream.specs.Segment.{with_end, with_piece, Segment}
 use Rattle.age_stream.specs.declared.step.Status.TheVariants.{Open}
-use Rattle.age_c.specs.declared.stream.Stream.{Stream}
 use Rattle.age_c.specs.Calls.{answer_of}
 use Rattle.age_c.specs.Readers.{CanBeUsed, IsAt, SameFile, reader_outcome, reader_text}
+use Rattle.age_c.specs.declared.stream.Stream.{Stream}
 
 -- the bytes of the block that is open
 abbrev pub held_of : Stream → List ℕ

@@ -4,13 +4,13 @@ use Rattle.std.specs.Prelude.{drop, map, ◌==◌, Bool, true, ◌∷◌, if◌t
 use Rattle.std.specs.List.{enumerate_from, flat_map}
 use Rattle.std.specs.Simd.{first_chunks}
 use Rattle.age_stanza.specs.Grammar.{HeadText}
-use Rattle.age_keys.specs.AgeFile.{box, FileOf}
-use Rattle.age_keys.specs.Scrypt.{IsAllowed, scrypt_head}
 use Rattle.age_chunk.specs.Payload.{chunk_limit, chunk_length, block_length, chunk_count, pair}
 use Rattle.age_chunk.specs.Payload.{block_bytes, payload}
-use Rattle.age_c.specs.declared.writer.Writer.{Writer}
 use Rattle.age_chunk.specs.ChunkBoxes.{tag_length}
+use Rattle.age_keys.specs.AgeFile.{box, FileOf}
+use Rattle.age_keys.specs.Scrypt.{IsAllowed, scrypt_head}
 use Rattle.age_c.specs.Calls.{Answers}
+use Rattle.age_c.specs.declared.writer.Writer.{Writer}
 
 -- ---- What a writer's numbers stand for, and what one call does.
 

@@ -1,6 +1,6 @@
 //! Seals the chunks of a payload.
 
-ghost use Rattle.std.specs.Prelude.{◌≡◌, ◌+◌, ◌<◌, ◌≤◌, [], ◌++◌, length, take, drop, IfOk, IfErr};
+ghost use Rattle.std.specs.Prelude.{◌≡◌, ◌+◌, ◌<◌, ◌≤◌, [], length, take, drop, IfOk, IfErr};
 ghost use Rattle.age_cipher.specs.Aead.{sealing as sealing_with};
 ghost use Rattle.age_chunk.specs.Payload.{chunk_limit, nonce_bytes, chunk_length};
 ghost use Rattle.age_keys.specs.Scrypt.{IsAllowed};

@@ -68,11 +68,6 @@ pub u32_at-lt : (bs : List ℕ) (i : ℕ) → ((k : ℕ) → slice_index bs k < 
 unfolding u32_at
 u32_at-lt bs i h = omega (arith, h (4 * i), h (4 * i + 1), h (4 * i + 2), h (4 * i + 3))
 
--- block 4 * i of a text's keystream has a number
-pub number_fits : (nonce : List ℕ) (counter first i : ℕ) → ((k : ℕ) → slice_index nonce k < 256) → 64 * counter + 256 * i < 2 ^ 38
-    → 16 * first ≡ block_place nonce counter → first + 4 * i < 2 ^ 64
-number_fits nonce counter first i fits room at = omega (arith, u32_at-lt nonce 0 fits)
-
 -- byte m of the four blocks from block 4 * i on is the keystream's byte 256 * i + m
 pub word_byte_is : (key nonce : List ℕ) (counter first i stream : ℕ) (seed words : List ℕ) (m : ℕ)
     → ((k : ℕ) → slice_index nonce k < 256) → 64 * counter + (256 * i + m) < 2 ^ 38 → m < 256

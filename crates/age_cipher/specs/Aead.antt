@@ -3,9 +3,9 @@ use Rattle.std.specs.Prelude.{◌≡◌, ℕ, ◌-◌, ◌%◌, List, [], ◌∷
 use Rattle.std.specs.Prelude.{Option, Some, None, if◌then◌else◌}
 use Rattle.std.specs.List.{concat}
 use Rattle.std.specs.Int.{w64, to_le_bytes}
+use Rattle.std.specs.Str.{bytes_eq}
 use Rattle.age_cipher.specs.Keystream.{ciphertext}
 use Rattle.age_cipher.specs.Poly1305.{poly1305}
-use Rattle.std.specs.Str.{bytes_eq}
 
 -- the one-time key of Poly1305: the first 32 bytes of block 0 (RFC 8439, 2.6)
 unfoldable pub one_time_key : List ℕ → List ℕ → List ℕ

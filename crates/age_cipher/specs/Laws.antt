@@ -1,10 +1,9 @@
 -- Laws over the definitions, by which they can be read against RFC 8439.
-use Rattle.std.specs.Prelude.{◌≡◌, ◌↔◌, ℕ, ◌+◌, ◌/◌, ◌%◌, ◌^◌, ◌<◌, List}
-use Rattle.std.specs.Prelude.{[], ◌∷◌, slice_index}
+use Rattle.std.specs.Prelude.{◌≡◌, ◌↔◌, ℕ, ◌+◌, ◌/◌, ◌%◌, ◌^◌, ◌<◌, List, [], ◌∷◌, slice_index}
 use Rattle.std.specs.Prelude.{Some}
 use Rattle.std.specs.Int.{byte_at}
-use Rattle.rand_core.specs.Steps.{u32_at}
 use Rattle.rand_chacha.specs.Block.{add32, double_rounds}
+use Rattle.rand_core.specs.Steps.{u32_at}
 use Rattle.age_cipher.specs.Keystream.{keystream_byte}
 use Rattle.age_cipher.specs.Aead.{sealing, opening}
 

@@ -3,7 +3,6 @@ use Rattle.std.proofs.Common.{◌≡◌, ◌∙◌, ◌⊎◌, ◌++◌, Option,
 use Rattle.std.proofs.Common.{true, false, true≢false, List}
 use Rattle.std.proofs.Common.{Result, OnOk, IfErr}
 use Rattle.std.specs.Prelude.{IsErr, IsErrAnd}
-use Rattle.age_io.specs.Io.{Adds, Ends, IsOver, Shown as ShownOne}
 use Rattle.age_file.specs.Runs.{Ports}
 use Rattle.age_fileset.specs.FileSet.{Event, FilesView}
 use Rattle.age_cli_args.specs.Requests.{option_text}
@@ -90,13 +89,6 @@ module _ (IsPorts : Ports → Type 0) (shows : Bool) (asked : Request) (before a
         silent = shown.0;
         over = shown.1;
       }
-
--- a meter that was shown that its run is over
-pub is_over : (old new : Option (List ShownOne)) → Adds old new Ends → IsOver new
-is_over None None added = tt
-is_over None (Some now) added = cc
-is_over (Some shown) None added = absurd added
-is_over (Some shown) (Some now) added = (shown, added)
 
 pub shown_not_silent : Shown ≡ Silent → ⊥
 shown_not_silent is = cc

@@ -3,7 +3,7 @@ use Rattle.std.proofs.Common.{◌≡◌, ◌∙◌, ◌⊎◌, ◌++◌, ◌∷�
 use Rattle.std.proofs.Common.{true, false, true≢false, append-nil, List, ℕ, Option, Some, None}
 use Rattle.std.proofs.Common.{Result, Ok, Err, IfOk, IfErr, OnOk}
 use Rattle.std.specs.Prelude.{IsErr, IsErrAnd, is_some, OnErr}
-use Rattle.std.specs.Io.KnownBytes.{Consumes, IsAtEnd}
+use Rattle.std.specs.Io.KnownBytes.{Consumes}
 use Rattle.age_fault.specs.declared.fault.FileFault.{FileFault}
 use Rattle.age_fault.specs.declared.fault.FileFault.TheVariants.{Read, Write, Memory, BadPosition}
 use Rattle.age_fileset.specs.FileSet.{IsMemoryOr, OpenFails, Event, Opened, FilesView}
@@ -84,9 +84,6 @@ module _ (old : Files) (events : List Event) (Failed : Type 0) where
   made_reason shows (create.Fault f) (inl write) unmade = subst (λ (x : FileFault). HasReason old events Failed (Fault x)) (sym write) unmade
   made_reason shows (create.Fault f) (inr memory) unmade = subst (λ (x : FileFault). HasReason old events Failed (Fault x)) (sym memory) tt
 
-  pub memory_reason : (f : OpenFault) → f ≡ create.Fault Memory → HasReason old events Failed (ending_of f)
-  memory_reason f is = subst (λ (x : OpenFault). HasReason old events Failed (ending_of x)) (sym is) tt
-
   pub streams_reason : (shows : Bool) (f : OpenFault) → OpenFails shows Memory f → HasReason old events Failed (ending_of f)
   streams_reason shows SameFile fails = tt
   streams_reason shows (create.Fault f) (inl memory) = subst (λ (x : FileFault). HasReason old events Failed (Fault x)) (sym memory) tt
@@ -117,12 +114,6 @@ pub front_read : (old new : Option (List ℕ)) (bytes : List ℕ) → is_some ol
 front_read None new bytes there read = absurd (true≢false (sym there))
 front_read (Some xs) None bytes there read = absurd read
 front_read (Some xs) (Some ys) bytes there read = (ys, ap Some read)
-
--- and is all of it, where it was read to its end
-pub whole_read : (old new : Option (List ℕ)) (bytes : List ℕ) → is_some old ≡ true → Consumes old new bytes → IsAtEnd new → old ≡ Some bytes
-whole_read None new bytes there read ended = absurd (true≢false (sym there))
-whole_read (Some xs) None bytes there read ended = absurd read
-whole_read (Some xs) (Some ys) bytes there read ended = ap Some (read ∙ (ap (λ t. bytes ++ t) ended ∙ append-nil bytes))
 
 -- a fault of the position or of the old text ends `resume` before its output is made
 pub bad_position : (shows : Bool) (f : OpenFault) (held : Option (List ℕ)) → OpenFails shows Read f ⊎ (f ≡ create.Fault BadPosition)

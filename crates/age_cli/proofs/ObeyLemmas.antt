@@ -21,12 +21,11 @@ use Rattle.age_ending.specs.Endings.{is_usage}
 use Rattle.age_identity.specs.Orders.{Follows, order_asked}
 use Rattle.age_ending.specs.declared.ending.Ending.{Ending}
 use Rattle.age_cli.specs.Acts.{Acts, IsUsage}
-use Rattle.age_cli.specs.Runs.{FailsWriting, IsRefusal, Prints, Reported}
+use Rattle.age_cli.specs.Runs.{FailsWriting, IsRefusal}
 use Rattle.age_io.specs.Io.{SinkView}
 use Rattle.age_cli.specs.Commands.{FailsReport}
 use Rattle.age_cli_args.specs.declared.request.Request.{Request}
 use Rattle.age_ending.specs.declared.ending.Ending.TheVariants.{Words, Usage, Fault, Unsaved}
-use Rattle.age_fault.specs.declared.fault.FileFault.TheVariants.{Write, Memory}
 use Rattle.clap.specs.Kinds.{Kinds}
 use Rattle.clap.specs.declared.error.kind.ErrorKind.TheVariants.{OutOfMemory}
 use Rattle.std.proofs.Common.{ℕ, ◌⊎◌}

@@ -5,22 +5,15 @@ use Rattle.std.proofs.Common.{Result, Ok, Err}
 use Rattle.std.specs.Prelude.{OnErr}
 use Rattle.age_fault.proofs.ByteLemmas.{Appends-then, risen}
 use Rattle.age_fault.specs.Faults.{HasRisen}
-use Rattle.age_ending.specs.Endings.{is_usage, Announces, ReportsEnding, ReportsRest, TakesLine}
+use Rattle.age_ending.specs.Endings.{Announces, ReportsEnding, ReportsRest, TakesLine}
 use Rattle.age_ending.specs.Endings.{Tells, fault_line}
 use Rattle.age_ending.specs.declared.ending.Announcement.{Announcement}
 use Rattle.age_ending.specs.declared.ending.Announcement.TheVariants.{Unmade, Made, Failed}
 use Rattle.age_cli.specs.Acts.{status_by, ending_status}
 use Rattle.age_ending.specs.declared.ending.Ending.{Ending}
 use Rattle.age_ending.specs.declared.ending.Ending.TheVariants.{Words, Usage, Fault, Unsaved}
-use Rattle.age_io.specs.Io.{SinkView, SourceView}
-use Rattle.age_file.specs.Runs.{HeadFails, NoHeadFault}
+use Rattle.age_io.specs.Io.{SinkView}
 use Rattle.age_fault.specs.declared.fault.FileFault.{FileFault}
-use Rattle.age_fault.specs.declared.fault.FileFault.TheVariants.{Head, Key, NonceCut, Stream}
-use Rattle.age_fault.specs.declared.fault.FileFault.TheVariants.{BadPosition, OtherFile, ShortText}
-use Rattle.age_fault.specs.declared.fault.FileFault.TheVariants.{Read, Write, Memory, ReadNeverEnds}
-use Rattle.age_fault.specs.declared.fault.FileFault.TheVariants.{PositionForged, OldTextDiffers}
-use Rattle.age_fileset.specs.FileSet.{IsMemoryOr}
-use Rattle.age_cli.specs.Commands.{FailsReport, seen}
 
 -- an ending has another status than success
 pub failed_status : (e : Ending) → ending_status e ≡ 0 → ⊥
@@ -71,52 +64,3 @@ reported_whole Made (Unsaved fault second) old mid new Quiet same first rest = s
 reported_whole Made (Words text) old mid new Quiet same first rest = tt
 reported_whole Made (Usage usage) old mid new Quiet same first rest = tt
 reported_whole Failed e old mid new Quiet same risen rest = subst (λ (s : SinkView). Leaves e old s) (sym rest) (failed_whole e old mid risen)
-
--- a report that fails has the fault of what was read
-pub report_fails : (old new : SourceView) (f : FileFault) → HeadFails NoHeadFault old new f → FailsReport old.remaining (Fault f)
-report_fails old new (Head fault) h = h.of_all
-report_fails old new Read h = tt
-report_fails old new Memory h = tt
-report_fails old new ReadNeverEnds h = tt
-report_fails old new Write h = tt
-report_fails old new (Key fault) h = absurd h
-report_fails old new (Stream fault) h = absurd h
-report_fails old new NonceCut h = absurd h
-report_fails old new BadPosition h = absurd h
-report_fails old new OtherFile h = absurd h
-report_fails old new ShortText h = absurd h
-report_fails old new PositionForged h = absurd h
-report_fails old new OldTextDiffers h = absurd h
-
--- and one that can't be read has a source that failed
-pub read_fails : (old new : SourceView) (f : FileFault) → HeadFails NoHeadFault old new f → f ≡ Read → HasRisen old.failed new.failed
-read_fails old new f h is = risen _ _ (subst (λ (x : FileFault). HeadFails NoHeadFault old new x) is h).1.0
-
--- so has one of a file of which contracts see nothing
-unseen : (held : Option (List ℕ)) (e : Ending) → FailsReport held e → FailsReport None e
-unseen held (Fault (Head fault)) fails = tt
-unseen held (Fault Read) fails = tt
-unseen held (Fault Memory) fails = tt
-unseen held (Fault ReadNeverEnds) fails = tt
-unseen held (Fault Write) fails = tt
-unseen held (Fault (Key fault)) fails = absurd fails
-unseen held (Fault (Stream fault)) fails = absurd fails
-unseen held (Fault NonceCut) fails = absurd fails
-unseen held (Fault BadPosition) fails = absurd fails
-unseen held (Fault OtherFile) fails = absurd fails
-unseen held (Fault ShortText) fails = absurd fails
-unseen held (Fault PositionForged) fails = absurd fails
-unseen held (Fault OldTextDiffers) fails = absurd fails
-unseen held (Words text) fails = absurd fails
-unseen held (Usage usage) fails = absurd fails
-unseen held (Unsaved fault second) fails = absurd fails
-
-pub seen_fails : (shows : Bool) (held coming : Option (List ℕ)) (e : Ending) → (shows ≡ true → coming ≡ held) → FailsReport coming e
-    → FailsReport (seen shows held) e
-seen_fails true held coming e same fails = subst (λ (h : Option (List ℕ)). FailsReport h e) (same refl) fails
-seen_fails false held coming e same fails = unseen coming e fails
-
--- and a file that can't be opened
-pub open_fails : (held : Option (List ℕ)) (f : FileFault) → IsMemoryOr Read f → FailsReport held (Fault f)
-open_fails held f (inl read) = subst (λ (x : FileFault). FailsReport held (Fault x)) (sym read) tt
-open_fails held f (inr memory) = subst (λ (x : FileFault). FailsReport held (Fault x)) (sym memory) tt

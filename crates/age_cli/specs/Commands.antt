@@ -1,28 +1,28 @@
 -- What the three commands find in the options and the files, and what they report.
 use Rattle.std.specs.Prelude.{◌≡◌, ℕ, List, ◌++◌, length, Option, Some, ◌⊎◌, ◌<◌, ◌==◌, IfSome}
 use Rattle.std.specs.Prelude.{if◌then◌else◌, codes, None, Bool, true, false}
-use Rattle.age_keys.specs.Scrypt.{IsAllowed}
-use Rattle.age_file.specs.Encrypts.{SecretView}
-use Rattle.age_cli_args.specs.Requests.{option_text}
-use Rattle.age_cli_args.specs.declared.request.Encrypting.{Encrypting}
-use Rattle.age_identity.specs.Orders.{random_name}
-use Rattle.age_identity.specs.Identities.{IsPassphraseIn}
-use Rattle.age_identity.specs.Files.{Files}
-use Rattle.age_fileset.specs.FileSet.{or_empty}
-use Rattle.age_file.specs.declared.position.Position.{Position}
-use Rattle.age_file.specs.Resumes.{position_text, NoPosition}
 use Rattle.std.specs.List.{flat_map}
 use Rattle.std.specs.Fmt.{decimal}
-use Rattle.age_file.specs.declared.report.StanzaReport.{StanzaReport}
-use Rattle.age_file.specs.declared.report.Report.{Report}
 use Rattle.std.specs.Io.KnownBytes.{Appends}
+use Rattle.age_keys.specs.Scrypt.{IsAllowed}
 use Rattle.age_fault.specs.declared.fault.FileFault.TheVariants.{Head}
+use Rattle.age_file.specs.Encrypts.{SecretView}
+use Rattle.age_file.specs.Resumes.{position_text, NoPosition}
 use Rattle.age_file.specs.Decrypts.{StopsOutside}
 use Rattle.age_file.specs.Runs.{IsHeadFault}
 use Rattle.age_file.specs.Reports.{IsReport}
+use Rattle.age_file.specs.Reports as file
+use Rattle.age_file.specs.declared.position.Position.{Position}
+use Rattle.age_file.specs.declared.report.Report.{Report}
+use Rattle.age_file.specs.declared.report.StanzaReport.{StanzaReport}
+use Rattle.age_fileset.specs.FileSet.{or_empty}
+use Rattle.age_cli_args.specs.Requests.{option_text}
+use Rattle.age_cli_args.specs.declared.request.Encrypting.{Encrypting}
 use Rattle.age_ending.specs.declared.ending.Ending.{Ending}
 use Rattle.age_ending.specs.declared.ending.Ending.TheVariants.{Fault}
-use Rattle.age_file.specs.Reports as file
+use Rattle.age_identity.specs.Orders.{random_name}
+use Rattle.age_identity.specs.Identities.{IsPassphraseIn}
+use Rattle.age_identity.specs.Files.{Files}
 
 -- ---- What `encrypt` makes a file of.
 

@@ -1,6 +1,6 @@
 -- The headline for OUT: it holds nothing but what the file's writer wrote.
-use Rattle.std.specs.Prelude.{◌≡◌, ◌⊎◌, ℕ, ◌*◌, ◌≤◌, true, List, [], ◌++◌, length}
-use Rattle.std.specs.Prelude.{take, Option, Some}
+use Rattle.std.specs.Prelude.{◌≡◌, ◌⊎◌, ℕ, ◌*◌, ◌≤◌, true, List, [], ◌++◌, length, take, Option}
+use Rattle.std.specs.Prelude.{Some}
 use Rattle.clap.specs.Words.{Text}
 use Rattle.age_stanza.specs.Grammar.{HeadText}
 use Rattle.age_chunk.specs.Payload.{chunk_count, chunk_length, block_length, chunk_limit}
@@ -9,13 +9,13 @@ use Rattle.age_keys.specs.Keys.{Opens}
 use Rattle.age_io.specs.Io.{IsOver, Shown, SinkView}
 use Rattle.age_file.specs.Runs.{Ports, Run, IsFromStart, IsTexts, IsAuthenticRun, HasId, HasTag}
 use Rattle.age_file.specs.declared.position.Position.{Position}
-use Rattle.age_identity.specs.Files.{Files}
-use Rattle.age_identity.specs.declared.identity.Identity.{Identity}
-use Rattle.age_identity.specs.Identities.{allows_by, OpensBy}
 use Rattle.age_cli_args.specs.Requests.{Requests}
 use Rattle.age_cli_args.specs.declared.request.Decrypting.{Decrypting}
-use Rattle.age_cli_args.specs.declared.request.Resuming.{Resuming}
 use Rattle.age_cli_args.specs.declared.request.Request.TheVariants.{Decrypt, Resume}
+use Rattle.age_cli_args.specs.declared.request.Resuming.{Resuming}
+use Rattle.age_identity.specs.Files.{Files}
+use Rattle.age_identity.specs.Identities.{allows_by, OpensBy}
+use Rattle.age_identity.specs.declared.identity.Identity.{Identity}
 use Rattle.age_cli.specs.Runs.{World, Runs}
 use Rattle.age_cli.specs.Commands.{IsPositionIn}
 

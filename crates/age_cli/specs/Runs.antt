@@ -3,18 +3,18 @@ use Rattle.std.specs.Prelude.{◌≡◌, ◌⊎◌, ℕ, Bool, true, List, [], O
 use Rattle.std.specs.Prelude.{Result, OnOk, IfErr, IsErrAnd}
 use Rattle.std.specs.Io.KnownBytes.{Appends}
 use Rattle.clap.specs.Words.{Text}
+use Rattle.age_io.specs.Io.{SinkView}
+use Rattle.age_fault.specs.Faults.{HasRisen}
+use Rattle.age_fault.specs.declared.fault.FileFault.TheVariants.{Read, Write, Memory}
+use Rattle.age_file.specs.Runs.{Ports}
+use Rattle.age_fileset.specs.FileSet.{FilesView}
 use Rattle.age_cli_args.specs.Requests.{IsForHelp, Requests, option_text}
 use Rattle.age_cli_args.specs.declared.request.Request.{Request}
 use Rattle.age_cli_args.specs.declared.request.Request.TheVariants.{Inspect, Drill}
-use Rattle.age_io.specs.Io.{SinkView}
-use Rattle.age_file.specs.Runs.{Ports}
-use Rattle.age_fault.specs.Faults.{HasRisen}
-use Rattle.age_fault.specs.declared.fault.FileFault.TheVariants.{Read, Write, Memory}
-use Rattle.age_fileset.specs.FileSet.{FilesView}
 use Rattle.age_ending.specs.Endings.{ReportsEnding}
-use Rattle.age_identity.specs.Files.{IsUnread}
 use Rattle.age_ending.specs.declared.ending.Ending.{Ending}
 use Rattle.age_ending.specs.declared.ending.Ending.TheVariants.{Fault}
+use Rattle.age_identity.specs.Files.{IsUnread}
 use Rattle.age_cli.specs.Acts.{Acts, IsUsage, status_by}
 use Rattle.age_cli.specs.Commands.{Reports, ReportsFile, FailsReport, seen}
 

@@ -1,25 +1,25 @@
 -- What the words of a command line ask for.
-use Rattle.std.specs.Prelude.{◌≡◌, ◌⊎◌, Bool, true, false, List, [], bytes_eq, Option, Some, codes}
-use Rattle.std.specs.Prelude.{◌≤◌, ℕ, None, option_map, if◌then◌else◌}
+use Rattle.std.specs.Prelude.{◌≡◌, ◌⊎◌, Bool, false, List, [], bytes_eq, Option, Some, codes, ◌≤◌}
+use Rattle.std.specs.Prelude.{ℕ, None, option_map, if◌then◌else◌}
 use Rattle.std.specs.Option.{option_map_or}
+use Rattle.std.specs.Borrow.{Bor}
+use Rattle.std.specs.Str.Parse.{IsNumeral, digits_value, without_leading_plus}
 use Rattle.clap.specs.Words.{Row, Text, one_of, fault_of, subcommand_of, first_of}
 use Rattle.clap.specs.Kinds.{Kinds, IsAmong}
 use Rattle.clap.specs.declared.error.kind.ErrorKind.TheVariants.{DisplayHelp, DisplayVersion}
-use Rattle.age_cli_args.specs.Commands.{age_tool}
-use Rattle.std.specs.Borrow.{Bor}
-use Rattle.std.specs.Str.Parse.{IsNumeral, digits_value, without_leading_plus}
 use Rattle.age_io.specs.declared.durability.Durability.{Durability}
 use Rattle.age_io.specs.declared.durability.Durability.TheVariants.{Synced, Buffered}
-use Rattle.age_cli_args.specs.declared.request.ProgressOption.{ProgressOption}
-use Rattle.age_cli_args.specs.declared.request.ProgressOption.TheVariants.{Shown, Silent}
+use Rattle.age_cli_args.specs.Commands.{age_tool}
+use Rattle.age_cli_args.specs.declared.request.Decrypting.{Decrypting}
+use Rattle.age_cli_args.specs.declared.request.Drilling.{Drilling}
 use Rattle.age_cli_args.specs.declared.request.Encrypting.{Encrypting}
 use Rattle.age_cli_args.specs.declared.request.IdentityOptions.{IdentityOptions}
-use Rattle.age_cli_args.specs.declared.request.Decrypting.{Decrypting}
-use Rattle.age_cli_args.specs.declared.request.Resuming.{Resuming}
-use Rattle.age_cli_args.specs.declared.request.Drilling.{Drilling}
+use Rattle.age_cli_args.specs.declared.request.ProgressOption.{ProgressOption}
+use Rattle.age_cli_args.specs.declared.request.ProgressOption.TheVariants.{Shown, Silent}
 use Rattle.age_cli_args.specs.declared.request.Request.{Request}
 use Rattle.age_cli_args.specs.declared.request.Request.TheVariants.{Inspect, Decrypt, Resume}
 use Rattle.age_cli_args.specs.declared.request.Request.TheVariants.{Encrypt, Drill}
+use Rattle.age_cli_args.specs.declared.request.Resuming.{Resuming}
 
 -- ---- What the words after the program's name ask for, by the definitions of the parser of command
 -- lines.

@@ -1,16 +1,16 @@
 -- How a run ends, and the lines that it reports.
-use Rattle.std.specs.Prelude.{◌≡◌, ◌⊎◌, ℕ, Bool, true, false, List, [], ◌++◌, codes, decimal, nat_le}
-use Rattle.std.specs.Prelude.{Option, Some, None, Result, Ok, Err, IsErrAnd, if◌then◌else◌}
+use Rattle.std.specs.Prelude.{◌≡◌, ◌⊎◌, ℕ, Bool, true, false, List, [], ◌++◌, codes, decimal}
+use Rattle.std.specs.Prelude.{nat_le, Option, Some, None, Result, Ok, Err, IsErrAnd, if◌then◌else◌}
 use Rattle.std.specs.Io.KnownBytes.{Appends}
 use Rattle.age_io.specs.Io.{SinkView}
 use Rattle.age_fault.specs.Faults.{fault_number, name_of, fault_place, HasRisen}
 use Rattle.age_fault.specs.declared.fault.FileFault.{FileFault}
 use Rattle.age_fault.specs.declared.fault.FileFault.TheVariants.{Read, Write, Memory}
 use Rattle.age_fileset.specs.FileSet.{Event}
-use Rattle.age_ending.specs.declared.ending.Ending.{Ending}
-use Rattle.age_ending.specs.declared.ending.Ending.TheVariants.{Words, Usage, Fault, Unsaved}
 use Rattle.age_ending.specs.declared.ending.Announcement.{Announcement}
 use Rattle.age_ending.specs.declared.ending.Announcement.TheVariants.{Unmade, Made, Failed}
+use Rattle.age_ending.specs.declared.ending.Ending.{Ending}
+use Rattle.age_ending.specs.declared.ending.Ending.TheVariants.{Words, Usage, Fault, Unsaved}
 
 -- ---- How runs end.
 

@@ -1,6 +1,6 @@
 //! A sink of one's own.
 
-ghost use Rattle.std.specs.Prelude.{◌≡◌, ℕ, [], None, true, false};
+ghost use Rattle.std.specs.Prelude.{[], None, true, false};
 
 use age_file::{Failed, Sink};
 

@@ -1,16 +1,16 @@
 -- The numbers, names and places of faults.
 use Rattle.std.specs.Prelude.{◌≡◌, ◌⊎◌, ℕ, ◌^◌, ◌-◌, ◌<◌, List, [], ◌∷◌, Option, Some, None, codes}
 use Rattle.std.specs.Prelude.{Bool, true, get_or, ◌+◌, ◌++◌, length, Result, MatchResult, OnErr}
+use Rattle.std.specs.Io.KnownBytes.{Appends}
+use Rattle.age_stanza.specs.Parsing as head
+use Rattle.age_chunk.specs.FaultNumbers as stream
+use Rattle.age_keys.specs.Keys as key
 use Rattle.age_io.specs.Io.{one_more, SinkView}
 use Rattle.age_fault.specs.declared.fault.FileFault.{FileFault}
 use Rattle.age_fault.specs.declared.fault.FileFault.TheVariants.{Head, Key, NonceCut, Stream}
 use Rattle.age_fault.specs.declared.fault.FileFault.TheVariants.{BadPosition, OtherFile, ShortText}
 use Rattle.age_fault.specs.declared.fault.FileFault.TheVariants.{Read, Write, Memory, ReadNeverEnds}
 use Rattle.age_fault.specs.declared.fault.FileFault.TheVariants.{PositionForged, OldTextDiffers}
-use Rattle.std.specs.Io.KnownBytes.{Appends}
-use Rattle.age_stanza.specs.Parsing as head
-use Rattle.age_keys.specs.Keys as key
-use Rattle.age_chunk.specs.FaultNumbers as stream
 
 abbrev pub fault_number : FileFault → ℕ
 fault_number (Head fault) = head.head_fault_number fault.kind

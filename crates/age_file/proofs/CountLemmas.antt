@@ -77,11 +77,6 @@ pub chain_if_on : (keep : PositionPolicy) (chunks : List (List ℕ)) (chunk : Li
 chain_if_on Kept chunks chunk = ap Some (chain_on chunks chunk)
 chain_if_on Dropped chunks chunk = refl
 
--- the chain over no chunk
-pub no_chain : replicate 32 0 ≡ chain []
-unfolding chain
-no_chain = refl
-
 module _ (sealing : List ℕ → List ℕ → List ℕ) (opening : List ℕ → List ℕ → Option (List ℕ))
     (valid : IsChunkBox sealing opening) (n : ℕ) (positive : 0
     < n) (keep : PositionPolicy) where

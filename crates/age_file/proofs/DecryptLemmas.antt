@@ -16,7 +16,7 @@ use Rattle.age_io.specs.Io.{SourceView, SinkView}
 use Rattle.age_file.specs.inner.Readers.{Pulled, Stage}
 use Rattle.age_keys.specs.AgeFile.{unbox}
 use Rattle.age_file.specs.inner.Payloads.{DecryptsPayload, SegmentFails, SegmentDone, HasCounted}
-use Rattle.age_file.specs.Decrypts.{StartFails, DecryptsKeyed, DecryptStops, Decrypts}
+use Rattle.age_file.specs.Decrypts.{StartFails, DecryptsKeyed, DecryptStops}
 use Rattle.age_file.specs.inner.Copies.{StartsAt}
 use Rattle.age_file.specs.Runs.{Run, IsFromStart, segment_of, held, IsRun, PayloadFails, IsDone}
 use Rattle.age_file.specs.Runs.{IsPositionOf, NeverEnds, Ports, NoneFailed}

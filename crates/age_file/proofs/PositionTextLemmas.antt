@@ -165,10 +165,6 @@ module _ (fields id links tag : List ℕ) (d1 : IsDigest id) (d2 : IsDigest link
       (length-field links d2)
       after_first
 
-  after_third : drop 132 fields ≡ codes "\n"
-  after_third = sym (drop-drop 44 88 fields)
-      ∙ back_is (field_text tag) (codes "\n") (drop 88 fields) 44 (length-field tag d3) after_second
-
   pub second_field : take 44 (drop 44 fields) ≡ field_text links
   second_field = front_is (field_text links) (field_text tag ++ codes "\n") (drop 44 fields) 44
       (length-field links d2) after_first
@@ -176,9 +172,6 @@ module _ (fields id links tag : List ℕ) (d1 : IsDigest id) (d2 : IsDigest link
   pub third_field : take 44 (drop 88 fields) ≡ field_text tag
   third_field = front_is (field_text tag) (codes "\n") (drop 88 fields) 44 (length-field tag d3)
       after_second
-
-  pub line_feed : get_or fields 132 0 ≡ 10
-  line_feed = sym (get_or-drop 132 fields 0 0) ∙ ap (λ (xs : List ℕ). get_or xs 0 0) after_third
 
 one_element : (xs : List ℕ) → length xs ≡ 1 → get_or xs 0 0 ≡ 10 → xs ≡ 10 ∷ []
 one_element [] size is = absurd (omega (arith, size))

@@ -4,8 +4,8 @@ use Rattle.std.specs.Fmt.{decimal}
 use Rattle.std.specs.Simd.{first_chunks}
 use Rattle.sha2.specs.Sha256.{sha256}
 use Rattle.age_stanza.specs.Text.{base64_text}
-use Rattle.age_chunk.specs.Payload.{chunk_length}
 use Rattle.age_kdf.specs.Derivation.{hmac}
+use Rattle.age_chunk.specs.Payload.{chunk_length}
 
 -- the chain over chunks, one link a chunk: each is the digest of the link before it and the chunk
 abbrev pub link : List ℕ → List ℕ → List ℕ

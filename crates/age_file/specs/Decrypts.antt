@@ -3,25 +3,25 @@ use Rattle.std.specs.Prelude.{Option, ◌≢◌, ◌⊎◌, ℕ, ◌<◌, ◌≤
 use Rattle.std.specs.Prelude.{true, Result, IfOk, IfErr, IfSome, OnOk, IsSomeAnd, MatchResult, Ok}
 use Rattle.std.specs.Prelude.{Err}
 use Rattle.std.specs.Io.KnownBytes.{Consumes, IsAtEnd, Appends}
-use Rattle.age_io.specs.Io.{SourceView, SinkView}
-use Rattle.age_stanza.specs.declared.header.Header.{Header}
 use Rattle.age_stanza.specs.Grammar.{HeadText}
+use Rattle.age_stanza.specs.declared.header.Header.{Header}
+use Rattle.age_chunk.specs.Payload.{chunk_count, chunk_length, chunk_limit}
+use Rattle.age_stream.specs.Laws.{IsClosed}
+use Rattle.age_keys.specs.Keys.{Opens, Refuses, IsScryptNotAlone}
+use Rattle.age_keys.specs.AgeFile.{box, unbox, FileOf}
 use Rattle.age_keys.specs.declared.fault.KeyFault.{KeyFault}
 use Rattle.age_keys.specs.declared.fault.KeyFault.TheVariants.{Memory as KeyMemory}
-use Rattle.age_keys.specs.Keys.{Opens, Refuses, IsScryptNotAlone}
-use Rattle.age_file.specs.Runs.{pull_room, InHeader, HeadFails, NeverEnds, Ports, NoneFailed, Run}
-use Rattle.age_file.specs.Runs.{IsFromStart, WritesNone, StopsInPayload, IsDone, IsPositionOf}
-use Rattle.age_file.specs.Runs.{ports, IsRun}
+use Rattle.age_io.specs.Io.{SourceView, SinkView}
 use Rattle.age_fault.specs.declared.fault.FileFault.{FileFault}
 use Rattle.age_fault.specs.declared.fault.FileFault.TheVariants.{Key, NonceCut, Read, Write, Memory}
 use Rattle.age_fault.specs.declared.fault.FileFault.TheVariants.{ReadNeverEnds}
-use Rattle.age_chunk.specs.Payload.{chunk_count, chunk_length, chunk_limit}
-use Rattle.age_stream.specs.Laws.{IsClosed}
-use Rattle.age_keys.specs.AgeFile.{box, unbox, FileOf}
-use Rattle.age_file.specs.declared.position.PositionPolicy.{PositionPolicy}
-use Rattle.age_file.specs.declared.position.Position.{Position}
+use Rattle.age_file.specs.Runs.{pull_room, InHeader, HeadFails, NeverEnds, Ports, NoneFailed, Run}
+use Rattle.age_file.specs.Runs.{IsFromStart, WritesNone, StopsInPayload, IsDone, IsPositionOf}
+use Rattle.age_file.specs.Runs.{ports, IsRun}
 use Rattle.age_file.specs.declared.decryption.Done.{Done}
 use Rattle.age_file.specs.declared.decryption.Stopped.{Stopped}
+use Rattle.age_file.specs.declared.position.Position.{Position}
+use Rattle.age_file.specs.declared.position.PositionPolicy.{PositionPolicy}
 use Rattle.age_file.specs.declared.position.PositionPolicy.TheVariants.{Kept, Dropped}
 
 -- ---- What was read up to a payload.

@@ -1,26 +1,26 @@
 -- Calls in a row, and what comes back of what was encrypted.
 use Rattle.std.specs.Prelude.{◌≡◌, ◌⊎◌, ℕ, List, [], ◌∷◌, ◌≤◌, Option, Some, IfSome, IsSomeAnd}
 use Rattle.std.specs.Prelude.{Result, MatchResult, ◌*◌, take, length}
-use Rattle.age_stream.specs.declared.step.Status.TheVariants.{Done as AllDone}
+use Rattle.base64.specs.GeneralPurpose.{IsBytes}
+use Rattle.age_stanza.specs.declared.header.Header.{Header}
+use Rattle.age_chunk.specs.Payload.{chunk_count, chunk_length, chunk_limit}
 use Rattle.age_stream.specs.Headline.{IsPrefixOf}
+use Rattle.age_stream.specs.Laws.{IsClosed}
+use Rattle.age_stream.specs.declared.step.Status.TheVariants.{Done as AllDone}
+use Rattle.age_keys.specs.Scrypt.{PassphraseIdentity, IsAllowed, IsPassphraseKey, PassphraseRefuses}
+use Rattle.age_keys.specs.AgeFile.{box, unbox}
+use Rattle.age_keys.specs.declared.fault.KeyFault.{KeyFault}
 use Rattle.age_file.specs.Runs.{Run, IsFromStart, run_outcome, run_text, held, IsTexts}
 use Rattle.age_file.specs.Runs.{IsAuthenticRun, IsPositionOf, CarriesText, Ports, IsRun, IsDone}
 use Rattle.age_file.specs.Resumes.{IsSame, IsOldText, ResumePorts, ResumeEnds, ResumeStops}
 use Rattle.age_file.specs.Resumes.{IsBoundTo, IsFrom}
-use Rattle.age_file.specs.declared.position.Position.{Position}
-use Rattle.age_stanza.specs.declared.header.Header.{Header}
-use Rattle.age_chunk.specs.Payload.{chunk_count, chunk_length, chunk_limit}
-use Rattle.age_keys.specs.declared.fault.KeyFault.{KeyFault}
 use Rattle.age_file.specs.Decrypts.{DecryptEnds, DecryptStops, IsWhole, StopsOutside}
+use Rattle.age_file.specs.Encrypts.{SecretView, AgeFile, Encrypts}
 use Rattle.age_file.specs.declared.decryption.Done.{Done}
 use Rattle.age_file.specs.declared.decryption.Stopped.{Stopped}
-use Rattle.age_file.specs.declared.position.PositionPolicy.{PositionPolicy}
-use Rattle.base64.specs.GeneralPurpose.{IsBytes}
-use Rattle.age_stream.specs.Laws.{IsClosed}
-use Rattle.age_keys.specs.Scrypt.{PassphraseIdentity, IsAllowed, IsPassphraseKey, PassphraseRefuses}
-use Rattle.age_keys.specs.AgeFile.{box, unbox}
-use Rattle.age_file.specs.Encrypts.{SecretView, AgeFile, Encrypts}
 use Rattle.age_file.specs.declared.encryption.Written.{Written}
+use Rattle.age_file.specs.declared.position.Position.{Position}
+use Rattle.age_file.specs.declared.position.PositionPolicy.{PositionPolicy}
 
 -- ---- Runs in a row: a decryption, and then resumed ones, each of which has the output of the run
 -- before as its old text.

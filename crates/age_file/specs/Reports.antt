@@ -1,13 +1,13 @@
 -- What a report says of a file's bytes (C2SP age.md, "Payload", for the length of the plaintext).
-use Rattle.std.specs.Prelude.{◌≡◌, ℕ, ◌-◌, ◌≤◌, List, [], ◌++◌, length, map}
-use Rattle.std.specs.Prelude.{Option, slice_index_or, MatchOption}
+use Rattle.std.specs.Prelude.{◌≡◌, ℕ, ◌-◌, ◌≤◌, List, [], ◌++◌, length, map, Option, slice_index_or}
+use Rattle.std.specs.Prelude.{MatchOption}
 use Rattle.std.specs.Io.KnownBytes.{Consumes, IsAtEnd}
-use Rattle.age_stanza.specs.declared.header.Stanza.{Stanza}
-use Rattle.age_stanza.specs.declared.header.Header.{Header}
 use Rattle.age_stanza.specs.Grammar.{HeadText}
+use Rattle.age_stanza.specs.declared.header.Header.{Header}
+use Rattle.age_stanza.specs.declared.header.Stanza.{Stanza}
 use Rattle.age_stream.specs.Laws.{IsTextLength}
-use Rattle.age_file.specs.declared.report.StanzaReport.{StanzaReport}
 use Rattle.age_file.specs.declared.report.Report.{Report}
+use Rattle.age_file.specs.declared.report.StanzaReport.{StanzaReport}
 
 -- a stanza's type, how many arguments follow it, and the length of its body
 abbrev pub stanza_report : Stanza → StanzaReport

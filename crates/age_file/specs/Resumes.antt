@@ -2,31 +2,31 @@
 use Rattle.std.specs.Prelude.{◌≡◌, ◌≢◌, ℕ, List, ◌++◌, length, codes, ◌*◌, ◌≤◌, take, Option, Some}
 use Rattle.std.specs.Prelude.{◌⊎◌, ◌/◌, ◌+◌, ◌<◌, None, true, Result, IfOk, IfErr, OnOk}
 use Rattle.std.specs.Prelude.{MatchResult, IsSomeAnd}
+use Rattle.std.specs.Io.KnownBytes.{Consumes, Appends, IsAtEnd}
 use Rattle.base64.specs.GeneralPurpose.{IsBytes}
 use Rattle.age_stanza.specs.Text.{base64_text}
-use Rattle.age_file.specs.declared.position.Position.{Position}
-use Rattle.age_file.specs.Bindings.{position_front, chain_over, file_id}
-use Rattle.age_stream.specs.Headline.{IsPrefixOf}
-use Rattle.age_chunk.specs.Payload.{chunk_length, block_length, chunk_count}
-use Rattle.age_file.specs.Runs.{CarriesText, Ports, Run, HasId, HasTag, pull_room, IsByAllPulls}
-use Rattle.age_file.specs.Runs.{Reads, GivesPosition, WritesNone, StopsInPayload, IsDone}
-use Rattle.age_file.specs.Runs.{NoneFailed, ReadFailed, WriteFailed, OpenedFile, IsTagged}
-use Rattle.std.specs.Io.KnownBytes.{Consumes, Appends, IsAtEnd}
-use Rattle.age_io.specs.Io.{SourceView}
 use Rattle.age_stanza.specs.declared.header.Header.{Header}
+use Rattle.age_chunk.specs.Payload.{chunk_length, block_length, chunk_count}
 use Rattle.age_chunk.specs.declared.fault.StreamKind.TheVariants.{Truncated}
+use Rattle.age_stream.specs.Headline.{IsPrefixOf}
+use Rattle.age_stream.specs.Laws.{IsClosed}
+use Rattle.age_keys.specs.AgeFile.{box, unbox}
 use Rattle.age_keys.specs.declared.fault.KeyFault.{KeyFault}
+use Rattle.age_io.specs.Io.{SourceView}
 use Rattle.age_fault.specs.Faults.{HasFailed}
-use Rattle.age_file.specs.Decrypts.{StartFails, IsWhole, WritesText, StopsOutside}
-use Rattle.age_file.specs.declared.position.PositionPolicy.{PositionPolicy}
-use Rattle.age_file.specs.declared.decryption.Done.{Done}
-use Rattle.age_file.specs.declared.decryption.Stopped.{Stopped}
 use Rattle.age_fault.specs.declared.fault.FileFault.{FileFault}
 use Rattle.age_fault.specs.declared.fault.FileFault.TheVariants.{Stream, OtherFile, ShortText, Read}
 use Rattle.age_fault.specs.declared.fault.FileFault.TheVariants.{Write, ReadNeverEnds}
 use Rattle.age_fault.specs.declared.fault.FileFault.TheVariants.{PositionForged, OldTextDiffers}
-use Rattle.age_stream.specs.Laws.{IsClosed}
-use Rattle.age_keys.specs.AgeFile.{box, unbox}
+use Rattle.age_file.specs.Bindings.{position_front, chain_over, file_id}
+use Rattle.age_file.specs.Runs.{CarriesText, Ports, Run, HasId, HasTag, pull_room, IsByAllPulls}
+use Rattle.age_file.specs.Runs.{Reads, GivesPosition, WritesNone, StopsInPayload, IsDone}
+use Rattle.age_file.specs.Runs.{NoneFailed, ReadFailed, WriteFailed, OpenedFile, IsTagged}
+use Rattle.age_file.specs.Decrypts.{StartFails, IsWhole, WritesText, StopsOutside}
+use Rattle.age_file.specs.declared.decryption.Done.{Done}
+use Rattle.age_file.specs.declared.decryption.Stopped.{Stopped}
+use Rattle.age_file.specs.declared.position.Position.{Position}
+use Rattle.age_file.specs.declared.position.PositionPolicy.{PositionPolicy}
 
 -- ---- The text of a position. Not of the age format.
 

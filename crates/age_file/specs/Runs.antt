@@ -1,29 +1,29 @@
 -- A run: what was read, what was written, and how it ended.
 use Rattle.std.specs.Prelude.{◌≡◌, ℕ, List, ◌⊎◌, ◌^◌, ◌*◌, ◌<◌, ◌≤◌, ◌++◌, length, Option, IfSome}
 use Rattle.std.specs.Prelude.{◌/◌, min, [], take, None, IsSomeAnd, Bool, true, false}
-use Rattle.age_stanza.specs.declared.header.Header.{Header}
-use Rattle.age_keys.specs.Keys.{position_key, Opens}
-use Rattle.age_file.specs.Bindings.{file_id, position_tag, chain_over}
-use Rattle.age_file.specs.declared.position.Position.{Position}
-use Rattle.age_io.specs.Io.{SourceView, SinkView}
-use Rattle.age_fault.specs.Faults.{HasFailed}
 use Rattle.std.specs.Io.KnownBytes.{Consumes, IsAtEnd, Appends}
-use Rattle.age_stanza.specs.declared.fault.HeadKind.TheVariants.{HeadCut}
-use Rattle.age_stanza.specs.declared.fault.HeadFault.{HeadFault}
 use Rattle.age_stanza.specs.Grammar.{header_limit, HeadText}
 use Rattle.age_stanza.specs.Parsing.{HasHeader, NoFault, IsFault, line_after}
+use Rattle.age_stanza.specs.declared.fault.HeadFault.{HeadFault}
+use Rattle.age_stanza.specs.declared.fault.HeadKind.TheVariants.{HeadCut}
+use Rattle.age_stanza.specs.declared.header.Header.{Header}
 use Rattle.age_chunk.specs.Payload.{chunk_length, chunk_count, block_length, chunk_limit}
-use Rattle.age_fault.specs.declared.fault.FileFault.{FileFault}
-use Rattle.age_fault.specs.declared.fault.FileFault.TheVariants.{Head, Read, Memory, ReadNeverEnds}
-use Rattle.age_fault.specs.declared.fault.FileFault.TheVariants.{Stream, Write}
-use Rattle.age_stream.specs.declared.step.Status.TheVariants.{Done, Failed}
 use Rattle.age_stream.specs.Opener.{has_failed}
 use Rattle.age_stream.specs.Segment.{Segment, Outcome, outcome, released}
 use Rattle.age_stream.specs.Headline.{IsPrefixOf, IsAuthentic}
+use Rattle.age_stream.specs.declared.step.Status.TheVariants.{Done, Failed}
+use Rattle.age_keys.specs.Keys.{position_key, Opens}
 use Rattle.age_keys.specs.AgeFile.{box, unbox}
+use Rattle.age_io.specs.Io.{SourceView, SinkView}
+use Rattle.age_fault.specs.Faults.{HasFailed}
+use Rattle.age_fault.specs.declared.fault.FileFault.{FileFault}
+use Rattle.age_fault.specs.declared.fault.FileFault.TheVariants.{Head, Read, Memory, ReadNeverEnds}
+use Rattle.age_fault.specs.declared.fault.FileFault.TheVariants.{Stream, Write}
+use Rattle.age_file.specs.Bindings.{file_id, position_tag, chain_over}
+use Rattle.age_file.specs.declared.decryption.Stopped.{Stopped}
+use Rattle.age_file.specs.declared.position.Position.{Position}
 use Rattle.age_file.specs.declared.position.PositionPolicy.{PositionPolicy}
 use Rattle.age_file.specs.declared.position.PositionPolicy.TheVariants.{Kept, Dropped}
-use Rattle.age_file.specs.declared.decryption.Stopped.{Stopped}
 
 -- ---- Whether a position is a file's, and was made under its key.
 

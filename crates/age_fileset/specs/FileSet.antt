@@ -1,13 +1,13 @@
 -- Sets of files.
 use Rattle.std.specs.Prelude.{ℕ, List, ◌≡◌, ◌⊎◌, Bool, false, [], Option, Some, None, ◌≢◌, ◌-◌, ◌^◌}
 use Rattle.std.specs.Prelude.{find, option_map, Result, OnOk, OnErr}
+use Rattle.std.specs.Str.{bytes_eq}
+use Rattle.age_io.specs.Io.{Holding}
 use Rattle.age_io.specs.declared.durability.Durability.{Durability}
 use Rattle.age_fault.specs.declared.fault.FileFault.{FileFault}
 use Rattle.age_fault.specs.declared.fault.FileFault.TheVariants.{Memory}
 use Rattle.age_fileset.specs.declared.files.OpenFault.{OpenFault}
 use Rattle.age_fileset.specs.declared.files.OpenFault.TheVariants.{SameFile, Fault}
-use Rattle.std.specs.Str.{bytes_eq}
-use Rattle.age_io.specs.Io.{Holding}
 use Rattle.age_fileset.specs.declared.mem_entry.MemEntry.{MemEntry}
 
 -- ---- What was done with a set of files.

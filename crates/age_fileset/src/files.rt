@@ -1,7 +1,7 @@
 //! Files by their names.
 
 ghost use Rattle.std.specs.Prelude.{◌≡◌, ◌≢◌, ◌⊎◌, ℕ, Bool, true, false, List, [], ◌∷◌};
-ghost use Rattle.std.specs.Prelude.{◌++◌, Option, None};
+ghost use Rattle.std.specs.Prelude.{◌++◌, None};
 ghost use Rattle.std.specs.Prelude.{Some, IfOk, IfErr, IfSome, IsOkUnless, OnOk, OnErr, is_some};
 ghost use Rattle.std.specs.Prelude.{option_map, length};
 ghost use Rattle.age_fileset.specs.FileSet.{FilesView, IsMemoryOr, OpenFails, or_empty, Opened};

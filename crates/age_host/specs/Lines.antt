@@ -1,8 +1,7 @@
 -- The lines that show how far a run is.
-use Rattle.std.specs.Prelude.{◌≡◌, ◌⊎◌, ℕ, ◌+◌, ◌-◌, ◌*◌, ◌/◌, ◌%◌, ◌^◌, min}
-use Rattle.std.specs.Prelude.{Bool, List, ◌++◌, length}
-use Rattle.std.specs.Prelude.{take, codes, decimal, nat_eq, nat_lt, nat_le, Option, None, Some}
-use Rattle.std.specs.Prelude.{if◌then◌else◌}
+use Rattle.std.specs.Prelude.{◌≡◌, ◌⊎◌, ℕ, ◌+◌, ◌-◌, ◌*◌, ◌/◌, ◌%◌, ◌^◌, min, Bool, List, ◌++◌}
+use Rattle.std.specs.Prelude.{length, take, codes, decimal, nat_eq, nat_lt, nat_le, Option, None}
+use Rattle.std.specs.Prelude.{Some, if◌then◌else◌}
 use Rattle.std.specs.Io.KnownBytes.{Appends}
 use Rattle.age_io.specs.Io.{one_more, SinkView}
 

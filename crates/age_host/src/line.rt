@@ -1,7 +1,7 @@
 //! The line that shows how far a run is.
 
-ghost use Rattle.std.specs.Prelude.{◌≡◌, ℕ, ◌+◌, ◌-◌, ◌^◌, ◌≤◌, ◌<◌, ◌++◌};
-ghost use Rattle.std.specs.Prelude.{[], Option, length, decimal};
+ghost use Rattle.std.specs.Prelude.{◌≡◌, ◌+◌, ◌^◌, ◌≤◌, ◌<◌, ◌++◌};
+ghost use Rattle.std.specs.Prelude.{length, decimal};
 ghost use Rattle.age_host.specs.Lines.{percentage, measure_of, amount, padded, count_line};
 ghost use Rattle.age_host.specs.Lines.{progress_line};
 ghost use Rattle.age_host.specs.Lines.{mark};

@@ -1,7 +1,7 @@
 //! A meter that shows how far a run is.
 
-ghost use Rattle.std.specs.Prelude.{◌≡◌, ℕ, ◌+◌, Option, None, Some, true, false, ◌||◌};
-ghost use Rattle.std.specs.Prelude.{if◌then◌else◌, codes};
+ghost use Rattle.std.specs.Prelude.{◌≡◌, ◌+◌, None, Some, true, false};
+ghost use Rattle.std.specs.Prelude.{codes};
 ghost use Rattle.age_io.specs.Io.{with_more};
 ghost use Rattle.age_host.specs.Lines.{progress_line, mark, first_mark, is_due, Shows};
 

@@ -1,23 +1,23 @@
 -- What opens a file, and how it is chosen.
 use Rattle.std.specs.Prelude.{◌≡◌, ℕ, ◌-◌, ◌==◌, ◌&&◌, nat_lt, List, ◌++◌, length, take}
 use Rattle.std.specs.Prelude.{slice_index, Option, Some, None, if◌then◌else◌, option_map}
+use Rattle.std.specs.declared.vec.Vec.{Vec}
 use Rattle.clap.specs.Words.{Text}
 use Rattle.age_stanza.specs.declared.header.Header.{Header}
-use Rattle.age_keys.specs.declared.fault.KeyFault.{KeyFault}
 use Rattle.age_keys.specs.Keys.{SpellsKey}
 use Rattle.age_keys.specs.Scrypt.{IsAllowed, IsPassphraseKey, PassphraseRefuses, passphrase_steps}
 use Rattle.age_keys.specs.X25519.{Shared, IsSharedKey, SharedRefuses}
-use Rattle.age_identity.specs.declared.identity.Identity.{Identity}
-use Rattle.age_identity.specs.declared.identity.Identity.TheVariants.{ByPassphrase, ByFileKey}
-use Rattle.age_identity.specs.declared.identity.Identity.TheVariants.{ByShared}
-use Rattle.age_identity.specs.Files.{Files}
+use Rattle.age_keys.specs.declared.fault.KeyFault.{KeyFault}
 use Rattle.age_cli_args.specs.Requests.{option_text}
 use Rattle.age_cli_args.specs.declared.request.IdentityOptions.{IdentityOptions}
-use Rattle.std.specs.declared.vec.Vec.{Vec}
+use Rattle.age_identity.specs.Files.{Files}
+use Rattle.age_identity.specs.Orders.{opening_event, identity_order}
 use Rattle.age_identity.specs.declared.choice.Choice.{Choice}
 use Rattle.age_identity.specs.declared.choice.Choice.TheVariants.{PassphraseFile, FileKey}
 use Rattle.age_identity.specs.declared.choice.Choice.TheVariants.{SharedFile}
-use Rattle.age_identity.specs.Orders.{opening_event, identity_order}
+use Rattle.age_identity.specs.declared.identity.Identity.{Identity}
+use Rattle.age_identity.specs.declared.identity.Identity.TheVariants.{ByPassphrase, ByFileKey}
+use Rattle.age_identity.specs.declared.identity.Identity.TheVariants.{ByShared}
 
 -- ---- What opens a file, as the options and the files make it.
 

@@ -1,7 +1,7 @@
 -- The age file of a text (C2SP age.md).
 use Rattle.std.specs.Prelude.{◌≡◌, ℕ, List, [], ◌++◌, length, Option}
-use Rattle.age_stanza.specs.declared.header.Header.{Header}
 use Rattle.age_stanza.specs.Grammar.{HeadText}
+use Rattle.age_stanza.specs.declared.header.Header.{Header}
 use Rattle.age_cipher.specs.Aead.{sealing, opening}
 use Rattle.age_chunk.specs.Payload.{payload, chunk_length}
 use Rattle.age_keys.specs.Keys.{IsMacOf, payload_key}

@@ -2,19 +2,19 @@
 -- and what opening a header with them may return.
 use Rattle.std.specs.Prelude.{ℕ, ◌≡◌, Bool, true, false, nat_lt, ◌&&◌, List, [], ◌∷◌, length, codes}
 use Rattle.std.specs.Prelude.{replicate, Ok, ◌⊎◌, ◌+◌, ◌≤◌, Result, IfErr}
+use Rattle.std.specs.List.{list_any}
+use Rattle.std.specs.Str.{bytes_eq}
+use Rattle.std.specs.Bool.{OnTrue}
+use Rattle.hex.specs.Hex.{decode_sized}
+use Rattle.age_stanza.specs.Grammar.{mac_text}
+use Rattle.age_stanza.specs.declared.header.Header.{Header}
+use Rattle.age_stanza.specs.declared.header.Stanza.{Stanza}
+use Rattle.age_kdf.specs.Derivation.{hmac, hkdf32}
+use Rattle.age_cipher.specs.Aead.{sealing}
 use Rattle.age_keys.specs.declared.fault.KeyFault.{KeyFault}
 use Rattle.age_keys.specs.declared.fault.KeyFault.TheVariants.{ScryptNotAlone, BadScrypt}
 use Rattle.age_keys.specs.declared.fault.KeyFault.TheVariants.{WorkTooHigh, NoMatch, WrongKey}
 use Rattle.age_keys.specs.declared.fault.KeyFault.TheVariants.{MacMismatch, BadX25519, Memory}
-use Rattle.std.specs.List.{list_any}
-use Rattle.std.specs.Str.{bytes_eq}
-use Rattle.hex.specs.Hex.{decode_sized}
-use Rattle.age_stanza.specs.declared.header.Stanza.{Stanza}
-use Rattle.age_stanza.specs.declared.header.Header.{Header}
-use Rattle.age_stanza.specs.Grammar.{mac_text}
-use Rattle.age_kdf.specs.Derivation.{hmac, hkdf32}
-use Rattle.age_cipher.specs.Aead.{sealing}
-use Rattle.std.specs.Bool.{OnTrue}
 
 -- ---- How a refusal is numbered among all faults.
 

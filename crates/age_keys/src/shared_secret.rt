@@ -1,6 +1,6 @@
 //! A shared secret, which finds the file key in X25519 stanzas.
 
-ghost use Rattle.std.specs.Prelude.{◌≡◌, ◌++◌, Any, IfSome, IfNone, MatchResult};
+ghost use Rattle.std.specs.Prelude.{◌≡◌, ◌++◌, Any, IfSome, IfNone};
 ghost use Rattle.std.specs.Bool.{OnTrue, OnFalse};
 ghost use Rattle.std.specs.List.{list_any, AllByRecursion};
 ghost use Rattle.age_keys.specs.X25519.{is_x25519, shared_wrap_key, OpensTo, StaysShut};

@@ -1,18 +1,18 @@
 -- What a contract sees of a parser, and laws over the definitions alone.
-use Rattle.age_stanza.specs.declared.parser.State.{State}
-use Rattle.age_stanza.specs.declared.parser.State.TheVariants.{Open, Done, Failed}
-use Rattle.age_stanza.specs.Parsing.{Parsing, reading, complete, refused, memory_fault, HasHeader}
-use Rattle.age_stanza.specs.Parsing.{IsFault, IsOpen, FeedsParser}
 use Rattle.std.specs.Prelude.{◌≡◌, ◌⊎◌, ℕ, List, [], ◌∷◌, ◌++◌, Result, ◌+◌, ◌*◌, ◌/◌, ◌%◌, length}
 use Rattle.std.specs.Prelude.{codes, slice_index}
 use Rattle.std.specs.List.{concat}
-use Rattle.age_stanza.specs.declared.head_step.HeadStep.{HeadStep}
-use Rattle.age_stanza.specs.declared.fault.HeadFault.{HeadFault}
 use Rattle.base64.specs.GeneralPurpose.{IsBytes, engine_symbols}
 use Rattle.base64.specs.Engines.{standard_no_pad}
-use Rattle.age_stanza.specs.declared.header.Header.{Header}
+use Rattle.age_stanza.specs.Parsing.{Parsing, reading, complete, refused, memory_fault, HasHeader}
+use Rattle.age_stanza.specs.Parsing.{IsFault, IsOpen, FeedsParser}
 use Rattle.age_stanza.specs.Text.{base64_text}
 use Rattle.age_stanza.specs.Grammar.{Spells, HeadText, mac_text}
+use Rattle.age_stanza.specs.declared.fault.HeadFault.{HeadFault}
+use Rattle.age_stanza.specs.declared.head_step.HeadStep.{HeadStep}
+use Rattle.age_stanza.specs.declared.header.Header.{Header}
+use Rattle.age_stanza.specs.declared.parser.State.{State}
+use Rattle.age_stanza.specs.declared.parser.State.TheVariants.{Open, Done, Failed}
 
 -- ---- What a contract sees of a parser.
 

@@ -1,9 +1,9 @@
 -- What the header's text is made of: the letters of an argument and base64.
 use Rattle.std.specs.Prelude.{ℕ, List}
-use Rattle.age_stanza.specs.declared.argument.Letters.{Letters}
-use Rattle.age_stanza.specs.declared.argument.Letters.TheVariants.{Short, Long}
 use Rattle.base64.specs.GeneralPurpose.{encode_of}
 use Rattle.base64.specs.Engines.{standard_no_pad}
+use Rattle.age_stanza.specs.declared.argument.Letters.{Letters}
+use Rattle.age_stanza.specs.declared.argument.Letters.TheVariants.{Short, Long}
 
 -- ---- What a contract sees of an argument.
 

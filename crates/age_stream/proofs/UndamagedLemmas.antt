@@ -8,7 +8,7 @@ use Rattle.std.specs.List.{enumerate_from, AllByRecursion}
 use Rattle.std.specs.Simd.{first_chunks}
 use Rattle.std.proofs.lemmas.Grind.{flat_map-append}
 use Rattle.std.proofs.lemmas.List.{length-append, length-drop, length-take, append-nil}
-use Rattle.std.proofs.lemmas.List.{append_assoc, get_or_at, drop_all, take_at, drop_at, drop-drop}
+use Rattle.std.proofs.lemmas.List.{append_assoc, get_or_at, take_at, drop_at, drop-drop}
 use Rattle.std.proofs.lemmas.List.{take_all, get_or-map, length-map, get_or_append_left}
 use Rattle.std.proofs.lemmas.List.{length_push, get_or_push, get_or-drop}
 use Rattle.std.proofs.lemmas.List.FromFn.{length-enumerate_from, get_or-enumerate_from}
@@ -281,9 +281,6 @@ module _ (sealing : List ℕ → List ℕ → List ℕ) (opening : List ℕ → 
 
       one_whole : whole_blocks n tail ≡ tail ∷ []
       one_whole = ap (λ (c : ℕ). first_chunks (n + tag_length) c tail) one_count ∙ ap (λ (x : List ℕ). x ∷ []) (take_all (n + tag_length) tail (omega (arith, full)))
-
-      none_left : rest_bytes n tail ≡ []
-      none_left = ap (λ (c : ℕ). drop (c * (n + tag_length)) tail) one_count ∙ drop_all (1 * (n + tag_length)) tail (omega (arith, full))
 
       blocks_are : whole_blocks n bytes ≡ blocks_of k ds ++ tail ∷ []
       blocks_are = whole_of k ds tail ds_full ∙ ap (λ (ys : List (List ℕ)). blocks_of k ds ++ ys) one_whole

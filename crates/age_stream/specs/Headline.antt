@@ -3,17 +3,17 @@ use Rattle.std.specs.Prelude.{◌≡◌, ◌≢◌, ℕ, ◌+◌, ◌-◌, ◌<�
 use Rattle.std.specs.Prelude.{Contains, Some, None, if◌then◌else◌, ◌*◌, ◌≤◌, true, ◌++◌, length}
 use Rattle.std.specs.Prelude.{take, drop, IsSome, ◌⊎◌, map}
 use Rattle.std.specs.Str.{bytes_eq}
+use Rattle.std.specs.List.{AllByRecursion, flat_map}
+use Rattle.std.specs.Borrow.{Bor}
 use Rattle.age_chunk.specs.ChunkBoxes.{Seals, OpensBlock, tag_length}
 use Rattle.age_chunk.specs.Payload.{nonce_bytes, chunks, sealed, chunk_limit, payload, chunk_count}
+use Rattle.age_chunk.specs.declared.fault.StreamKind.TheVariants.{ChunkDamaged, TooManyChunks}
 use Rattle.age_stream.specs.Segment.{Segment, outcome, failed, block_at, stop, is_tried, standing}
 use Rattle.age_stream.specs.Segment.{accepts}
-use Rattle.age_stream.specs.declared.step.Status.{Status}
-use Rattle.age_chunk.specs.declared.fault.StreamKind.TheVariants.{ChunkDamaged, TooManyChunks}
-use Rattle.std.specs.List.{AllByRecursion, flat_map}
-use Rattle.age_stream.specs.declared.step.Status.TheVariants.{Done}
-use Rattle.std.specs.Borrow.{Bor}
 use Rattle.age_stream.specs.declared.delivery.Delivery.{Delivery}
 use Rattle.age_stream.specs.declared.delivery.Delivery.TheVariants.{Piece, End, Restart}
+use Rattle.age_stream.specs.declared.step.Status.{Status}
+use Rattle.age_stream.specs.declared.step.Status.TheVariants.{Done}
 
 -- ---- Each block in its place: what a segment gives where its blocks are compared with the
 -- writer's. A chunk has n bytes.

@@ -3,16 +3,16 @@ use Rattle.std.specs.Prelude.{ℕ, List, [], Option, Some, None, ◌≡◌, ◌+
 use Rattle.std.specs.Prelude.{take, Bool, true, false, Result, Ok, Err, if◌then◌else◌, ◌-◌, ◌<◌}
 use Rattle.std.specs.Prelude.{◌++◌, min, IfOk, IfErr, OnOk, OnErr, IfSome, IfNone}
 use Rattle.std.specs.Borrow.{Bor}
+use Rattle.std.specs.List.{flat_map}
+use Rattle.age_chunk.specs.ChunkBoxes.{OpensBlock, tag_length, text_length, Seals}
+use Rattle.age_chunk.specs.Payload.{chunk_limit}
+use Rattle.age_chunk.specs.declared.fault.StreamFault.{StreamFault}
+use Rattle.age_stream.specs.Segment.{Segment, outcome, rest_bytes, released, with_piece, with_end}
+use Rattle.age_stream.specs.Headline.{ReleasesWritten}
+use Rattle.age_stream.specs.declared.opener.OpenerState.{OpenerState}
 use Rattle.age_stream.specs.declared.step.Status.{Status}
 use Rattle.age_stream.specs.declared.step.Status.TheVariants.{Open, Failed, Done}
-use Rattle.age_chunk.specs.declared.fault.StreamFault.{StreamFault}
-use Rattle.age_stream.specs.declared.opener.OpenerState.{OpenerState}
-use Rattle.age_chunk.specs.ChunkBoxes.{OpensBlock, tag_length, text_length, Seals}
-use Rattle.age_stream.specs.Segment.{Segment, outcome, rest_bytes, released, with_piece, with_end}
-use Rattle.std.specs.List.{flat_map}
 use Rattle.age_stream.specs.declared.step.Step.{Step}
-use Rattle.age_chunk.specs.Payload.{chunk_limit}
-use Rattle.age_stream.specs.Headline.{ReleasesWritten}
 
 -- ---- What a call lends.
 

@@ -8,8 +8,8 @@ use Rattle.age_stream.specs.Headline.{HoldsWritten}
 use Rattle.age_stream.specs.Opener.{OpenerView, Stands, text_of_piece, text_at_end}
 use Rattle.age_stream.specs.declared.delivery.Delivery.{Delivery}
 use Rattle.age_stream.specs.declared.delivery.Delivery.TheVariants.{Piece, End, Restart}
-use Rattle.age_stream.specs.declared.replay.ReplayState.{ReplayState}
 use Rattle.age_stream.specs.declared.replay.Drill.{Drill}
+use Rattle.age_stream.specs.declared.replay.ReplayState.{ReplayState}
 
 -- ---- What a replay stands for. A chunk has n bytes.
 

@@ -2,8 +2,8 @@
 use Rattle.std.specs.Prelude.{[]}
 use Rattle.std.specs.Borrow.{RattleType}
 use mir.Syntax.{named}
-use Rattle.age_stream.specs.contracts.opener.Opener.{the_row as the_opener_row}
 use Rattle.age_chunk.specs.declared.chunk_box.ChunkBox.{Ghosts}
+use Rattle.age_stream.specs.contracts.opener.Opener.{the_row as the_opener_row}
 use Rattle.age_stream.specs.contracts.sealer.Sealer.{the_row as the_sealer_row}
 
 -- ---- The opener's type, as the logic holds it.

@@ -2,18 +2,18 @@
 use Rattle.std.specs.Prelude.{◌≡◌, ℕ, ◌-◌, List, [], ◌∷◌, Option, Some, None, length, min, Bool}
 use Rattle.std.specs.Prelude.{nat_lt, ◌==◌, ◌&&◌, ◌||◌, if◌then◌else◌, ◌<◌, ◌++◌, take, true, false}
 use Rattle.std.specs.Prelude.{Result, IfOk, IfErr, IfSome, OnOk, OnErr, ◌+◌, ◌*◌, ◌≤◌}
+use Rattle.std.specs.Borrow.{Bor}
+use Rattle.std.specs.declared.vec.Vec.{Vec}
 use Rattle.age_chunk.specs.Payload.{chunk_limit, last_index, last_chunk, sealed_before_last}
 use Rattle.age_chunk.specs.Payload.{block_bytes, payload, chunk_count}
+use Rattle.age_chunk.specs.ChunkBoxes.{Seals, text_length, OpensBlock, tag_length}
+use Rattle.age_chunk.specs.FaultNumbers.{stream_fault_number}
 use Rattle.age_chunk.specs.declared.fault.StreamFault.{StreamFault}
 use Rattle.age_chunk.specs.declared.fault.StreamKind.TheVariants.{TooManyChunks}
-use Rattle.age_stream.specs.declared.sealer.SealerState.{SealerState}
-use Rattle.std.specs.Borrow.{Bor}
-use Rattle.age_chunk.specs.ChunkBoxes.{Seals, text_length, OpensBlock, tag_length}
-use Rattle.age_stream.specs.declared.step.Step.{Step}
 use Rattle.age_stream.specs.Opener.{chunk_bytes}
-use Rattle.std.specs.declared.vec.Vec.{Vec}
-use Rattle.age_chunk.specs.FaultNumbers.{stream_fault_number}
 use Rattle.age_stream.specs.Laws.{GivesBack, IsClosed}
+use Rattle.age_stream.specs.declared.sealer.SealerState.{SealerState}
+use Rattle.age_stream.specs.declared.step.Step.{Step}
 use Rattle.age_stream.specs.declared.whole_text.SealFault.{SealFault}
 use Rattle.age_stream.specs.declared.whole_text.SealFault.TheVariants.{Stream, Memory}
 

@@ -6,14 +6,14 @@ use Rattle.std.specs.List.{flat_map}
 use Rattle.std.specs.Simd.{first_chunks}
 use Rattle.age_chunk.specs.ChunkBoxes.{OpensBlock, tag_length}
 use Rattle.age_chunk.specs.Payload.{nonce_bytes, chunk_limit}
-use Rattle.age_stream.specs.declared.step.Status.{Status}
-use Rattle.age_stream.specs.declared.step.Status.TheVariants.{Open, LastSeen, Done, Failed}
 use Rattle.age_chunk.specs.declared.fault.StreamKind.{StreamKind}
 use Rattle.age_chunk.specs.declared.fault.StreamKind.TheVariants.{ChunkDamaged, ChunkCut, EmptyLast}
 use Rattle.age_chunk.specs.declared.fault.StreamKind.TheVariants.{Truncated, Trailing}
 use Rattle.age_chunk.specs.declared.fault.StreamKind.TheVariants.{TooManyChunks}
 use Rattle.age_stream.specs.declared.delivery.Delivery.{Delivery}
 use Rattle.age_stream.specs.declared.delivery.Delivery.TheVariants.{Piece, End, Restart}
+use Rattle.age_stream.specs.declared.step.Status.{Status}
+use Rattle.age_stream.specs.declared.step.Status.TheVariants.{Open, LastSeen, Done, Failed}
 
 -- ---- What an opener makes of a segment: the bytes that came from one start up to the next. A
 -- chunk has n bytes, its block n + tag_length.

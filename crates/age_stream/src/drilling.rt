@@ -1,5 +1,5 @@
 //! Whole lists of deliveries.
-ghost use Rattle.std.specs.Prelude.{◌-◌, ◌<◌, ◌≤◌, length, IfOk, OnErr};
+ghost use Rattle.std.specs.Prelude.{◌<◌, ◌≤◌, length, IfOk, OnErr};
 ghost use Rattle.std.specs.List.{flat_map};
 ghost use Rattle.age_stream.specs.Replay.{IsHeldAfter, bytes_in};
 ghost use Rattle.age_stream.specs.Headline.{HoldsWritten};

@@ -1,12 +1,11 @@
 -- What a row of a table of headers says of the definitions.
 use Rattle.std.specs.Prelude.{◌≡◌, ◌⊎◌, ℕ, List, take, Some}
-use Rattle.age_stanza.specs.declared.header.Header.{Header}
-use Rattle.age_stanza.specs.declared.fault.HeadFault.{HeadFault}
-use Rattle.age_stanza.specs.declared.fault.HeadKind.TheVariants.{HeadCut}
 use Rattle.age_stanza.specs.Grammar.{HeadText}
 use Rattle.age_stanza.specs.Parsing.{head_fault_number, head_fault_place, HasHeader, NoFault}
-use Rattle.age_stanza.specs.Parsing.{IsFault, line_after}
-use Rattle.age_stanza.specs.Parsing.{memory_fault}
+use Rattle.age_stanza.specs.Parsing.{IsFault, line_after, memory_fault}
+use Rattle.age_stanza.specs.declared.fault.HeadFault.{HeadFault}
+use Rattle.age_stanza.specs.declared.fault.HeadKind.TheVariants.{HeadCut}
+use Rattle.age_stanza.specs.declared.header.Header.{Header}
 
 -- a header of so many bytes stands in front
 pub record Accepts (bytes : List ℕ) (size : ℕ) : Type 0 where

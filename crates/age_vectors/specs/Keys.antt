@@ -1,7 +1,7 @@
 -- A key that the definitions find in the header of a text.
 use Rattle.std.specs.Prelude.{ℕ, List, take}
-use Rattle.age_stanza.specs.declared.header.Header.{Header}
 use Rattle.age_stanza.specs.Grammar.{HeadText}
+use Rattle.age_stanza.specs.declared.header.Header.{Header}
 use Rattle.age_keys.specs.Keys.{Opens}
 
 -- a header stands in front of the text, and the key may be answered for it, by the unlocker's

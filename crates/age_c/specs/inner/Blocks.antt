@@ -1,14 +1,14 @@
 -- What the parts of a call do to an opener and to a reader. Only private functions cite this.
 use Rattle.std.specs.Prelude.{◌≡◌, ◌≢◌, ℕ, List, [], ◌++◌, Some, true, false}
-use Rattle.age_stream.specs.declared.step.Status.{Status}
-use Rattle.age_stream.specs.declared.step.Status.TheVariants.{Open, Done}
+use Rattle.age_chunk.specs.Payload.{chunk_length}
 use Rattle.age_stream.specs.Opener.{OpenerView, Stands, has_failed}
 use Rattle.age_stream.specs.Segment.{Segment, released}
-use Rattle.age_chunk.specs.Payload.{chunk_length}
-use Rattle.age_c.specs.declared.reader.Reader.{Reader}
+use Rattle.age_stream.specs.declared.step.Status.{Status}
+use Rattle.age_stream.specs.declared.step.Status.TheVariants.{Open, Done}
 use Rattle.age_c.specs.Calls.{answer_of, reader_status}
 use Rattle.age_c.specs.Readers.{SameFile}
 use Rattle.age_c.specs.inner.Keys.{opens}
+use Rattle.age_c.specs.declared.reader.Reader.{Reader}
 
 -- an opener was given what makes each segment the next one, and passed on this text
 pub record PassesOn (next : Segment → Segment) (old new : OpenerView (List ℕ)) (text : List ℕ)

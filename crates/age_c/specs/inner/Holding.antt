@@ -1,8 +1,8 @@
 -- How bytes are held. Only private functions cite this.
 use Rattle.std.specs.Prelude.{◌≡◌, ℕ, ◌+◌, ◌-◌, List, ◌++◌, length, min, take}
 use Rattle.age_chunk.specs.Payload.{block_length}
-use Rattle.age_c.specs.declared.stream.Stream.{Stream}
 use Rattle.age_c.specs.Streams.{held_of}
+use Rattle.age_c.specs.declared.stream.Stream.{Stream}
 
 -- so many bytes of a piece came after those that are held
 pub record HoldsPiece (piece : List ℕ) (count : ℕ) (old new : Stream) : Type 0 where

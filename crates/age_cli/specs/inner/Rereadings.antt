@@ -1,6 +1,6 @@
 -- How a position is found by reading the input once more. What only private code cites.
-use Rattle.std.specs.Prelude.{◌≡◌, ◌≢◌, ◌⊎◌, ℕ, Bool, true, List, Option, Some, is_some}
-use Rattle.std.specs.Prelude.{None, Result, Err, IfOk, IfErr, IsSomeAnd, if◌then◌else◌}
+use Rattle.std.specs.Prelude.{◌≡◌, ◌≢◌, ◌⊎◌, ℕ, Bool, true, List, Option, Some, is_some, None}
+use Rattle.std.specs.Prelude.{Result, Err, IfOk, IfErr, IsSomeAnd, if◌then◌else◌}
 use Rattle.age_io.specs.Io.{SourceView, SinkView}
 use Rattle.age_file.specs.Decrypts.{IsFoundAgain, DecryptEnds, DecryptStops}
 use Rattle.age_file.specs.Runs.{Ports, Run}
@@ -11,8 +11,8 @@ use Rattle.age_fileset.specs.FileSet.{FilesView}
 use Rattle.age_cli_args.specs.Requests.{option_text}
 use Rattle.age_cli_args.specs.declared.request.Decrypting.{Decrypting}
 use Rattle.age_cli_args.specs.declared.request.ProgressOption.TheVariants.{Silent}
-use Rattle.age_identity.specs.Identities.{allows_by, refuses_by}
 use Rattle.age_ending.specs.declared.ending.Ending.{Ending}
+use Rattle.age_identity.specs.Identities.{allows_by, refuses_by}
 use Rattle.age_identity.specs.declared.identity.Identity.{Identity}
 use Rattle.age_cli.specs.Acts.{kept_for}
 use Rattle.age_cli.specs.inner.Endings.{Concludes, opening_end}

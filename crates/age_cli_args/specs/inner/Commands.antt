@@ -1,15 +1,15 @@
 -- The commands of the program, as its parser of command lines sees them.
 use Rattle.std.specs.Prelude.{◌≡◌, Bool, true, false, codes, List, [], ◌∷◌}
 use Rattle.clap.specs.Words.{App, Rule, Text, app_of, new_app, new_rule, with_rule, with_subcommand}
-use Rattle.age_cli_args.specs.Commands.{option_rule, required_rule, number_rule, flag_rule}
-use Rattle.age_cli_args.specs.declared.commands.Argument.{Argument}
-use Rattle.age_cli_args.specs.declared.commands.Subcommand.{Subcommand}
-use Rattle.age_cli_args.specs.declared.commands.Given.{Given}
-use Rattle.age_cli_args.specs.declared.commands.Given.TheVariants.{Value, File, Number, Flag}
-use Rattle.age_cli_args.specs.declared.commands.Given.TheVariants.{Operand, Word}
 use Rattle.clap.specs.Simple.{on_top}
 use Rattle.clap.specs.declared.builder.command.Command.TheViews.{out-Command}
 use Rattle.clap.specs.declared.builder.command.Command.{Command}
+use Rattle.age_cli_args.specs.Commands.{option_rule, required_rule, number_rule, flag_rule}
+use Rattle.age_cli_args.specs.declared.commands.Argument.{Argument}
+use Rattle.age_cli_args.specs.declared.commands.Given.{Given}
+use Rattle.age_cli_args.specs.declared.commands.Given.TheVariants.{Value, File, Number, Flag}
+use Rattle.age_cli_args.specs.declared.commands.Given.TheVariants.{Operand, Word}
+use Rattle.age_cli_args.specs.declared.commands.Subcommand.{Subcommand}
 
 -- some option of the command reaches its subcommands
 abbrev pub has_globals : Command → Bool

@@ -1,7 +1,7 @@
 -- The fault of a file that a lower layer's fault is.
+use Rattle.age_stanza.specs.declared.fault.HeadFault.{HeadFault}
 use Rattle.age_stanza.specs.declared.fault.HeadKind.{HeadKind}
 use Rattle.age_stanza.specs.declared.fault.HeadKind.TheVariants.{Memory as HeadMemory}
-use Rattle.age_stanza.specs.declared.fault.HeadFault.{HeadFault}
 use Rattle.age_keys.specs.declared.fault.KeyFault.{KeyFault}
 use Rattle.age_keys.specs.declared.fault.KeyFault.TheVariants.{Memory as KeyMemory}
 use Rattle.age_fault.specs.declared.fault.FileFault.{FileFault}

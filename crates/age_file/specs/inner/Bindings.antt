@@ -1,8 +1,8 @@
 -- What binds a position to its file and to the text before it. Not of the age format.
 use Rattle.std.specs.Prelude.{ℕ, List, Option, Some, None}
+use Rattle.age_file.specs.Bindings.{link, chain}
 use Rattle.age_file.specs.declared.position.PositionPolicy.{PositionPolicy}
 use Rattle.age_file.specs.declared.position.PositionPolicy.TheVariants.{Kept, Dropped}
-use Rattle.age_file.specs.Bindings.{link, chain}
 
 -- the chain where positions are kept, and none where they are dropped
 abbrev pub chain_if : PositionPolicy → List (List ℕ) → Option (List ℕ)

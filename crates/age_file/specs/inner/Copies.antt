@@ -3,31 +3,31 @@
 use Rattle.std.specs.Prelude.{◌≡◌, ℕ, ◌^◌, ◌<◌, ◌≤◌, List, [], ◌++◌, length, Option, Result, Bool}
 use Rattle.std.specs.Prelude.{Ok, Err, true, false, ◌+◌, ◌*◌, ◌≢◌, Some, IsSome, MatchResult}
 use Rattle.std.specs.Io.KnownBytes.{IsAtEnd, Appends}
-use Rattle.age_io.specs.Io.{SourceView}
-use Rattle.age_stanza.specs.declared.header.Header.{Header}
-use Rattle.age_stanza.specs.Grammar.{HeadText}
+use Rattle.std.specs.Simd.{first_chunks}
 use Rattle.sha2.specs.Hashers.{Holds256}
 use Rattle.sha2.specs.declared.Sha256.{Sha256}
+use Rattle.age_stanza.specs.Grammar.{HeadText}
+use Rattle.age_stanza.specs.declared.header.Header.{Header}
+use Rattle.age_chunk.specs.Payload.{chunk_limit, chunk_length}
+use Rattle.age_chunk.specs.declared.fault.StreamKind.TheVariants.{Truncated}
+use Rattle.age_stream.specs.Headline.{IsPrefixOf}
 use Rattle.age_keys.specs.Keys.{Opens}
+use Rattle.age_io.specs.Io.{SourceView}
 use Rattle.age_fault.specs.Faults.{HasFailed}
-use Rattle.age_file.specs.Bindings.{file_id, chain}
-use Rattle.age_file.specs.inner.Readers.{ReaderView, Pulled, PullFails, reader_view, WriterView}
-use Rattle.age_file.specs.declared.start.Unlocked.{Unlocked}
 use Rattle.age_fault.specs.declared.fault.FileFault.{FileFault}
 use Rattle.age_fault.specs.declared.fault.FileFault.TheVariants.{NonceCut, Read, ReadNeverEnds}
 use Rattle.age_fault.specs.declared.fault.FileFault.TheVariants.{Stream, ShortText, Write}
 use Rattle.age_fault.specs.declared.fault.FileFault.TheVariants.{OldTextDiffers}
+use Rattle.age_file.specs.Bindings.{file_id, chain}
+use Rattle.age_file.specs.inner.Readers.{ReaderView, Pulled, PullFails, reader_view, WriterView}
 use Rattle.age_file.specs.Runs.{pull_room}
-use Rattle.age_chunk.specs.declared.fault.StreamKind.TheVariants.{Truncated}
-use Rattle.std.specs.Simd.{first_chunks}
-use Rattle.age_stream.specs.Headline.{IsPrefixOf}
 use Rattle.age_file.specs.inner.Bindings.{link_if, chain_if}
-use Rattle.age_file.specs.declared.position.PositionPolicy.{PositionPolicy}
-use Rattle.age_file.specs.declared.position.PositionPolicy.TheVariants.{Kept}
 use Rattle.age_file.specs.inner.Unread.{Unread}
 use Rattle.age_file.specs.declared.position.Position.{Position}
+use Rattle.age_file.specs.declared.position.PositionPolicy.{PositionPolicy}
+use Rattle.age_file.specs.declared.position.PositionPolicy.TheVariants.{Kept}
+use Rattle.age_file.specs.declared.start.Unlocked.{Unlocked}
 use Rattle.age_file.specs.declared.tally.Tally.{Tally}
-use Rattle.age_chunk.specs.Payload.{chunk_limit, chunk_length}
 
 -- ---- What was read up to a payload.
 

@@ -2,17 +2,17 @@
 -- Decrypting, around the payload.
 use Rattle.std.specs.Prelude.{ℕ, List, [], Option, ◌≡◌, Some, None, IsSomeAnd, Result, Ok, Err}
 use Rattle.age_cipher.specs.Aead.{sealing, opening}
+use Rattle.age_chunk.specs.Payload.{chunk_length}
 use Rattle.age_keys.specs.Keys.{payload_key, position_key}
+use Rattle.age_fault.specs.declared.fault.FileFault.{FileFault}
 use Rattle.age_file.specs.inner.Payloads.{DecryptsPayload}
 use Rattle.age_file.specs.inner.Readers.{Stage}
 use Rattle.age_file.specs.Bindings.{position_tag}
+use Rattle.age_file.specs.declared.decryption.Done.{Done}
+use Rattle.age_file.specs.declared.decryption.Stopped.{Stopped}
 use Rattle.age_file.specs.declared.position.Position.{Position}
 use Rattle.age_file.specs.declared.start.Unlocked.{Unlocked}
 use Rattle.age_file.specs.declared.tally.Tally.{Tally}
-use Rattle.age_file.specs.declared.decryption.Done.{Done}
-use Rattle.age_file.specs.declared.decryption.Stopped.{Stopped}
-use Rattle.age_fault.specs.declared.fault.FileFault.{FileFault}
-use Rattle.age_chunk.specs.Payload.{chunk_length}
 
 -- ---- How a payload key seals and opens a chunk, without associated data (RFC 8439, 2.8).
 

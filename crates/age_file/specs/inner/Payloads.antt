@@ -3,19 +3,19 @@
 use Rattle.std.specs.Prelude.{◌≡◌, ℕ, ◌-◌, ◌/◌, ◌<◌, ◌≤◌, min, List, ◌++◌, length, Option, ◌+◌, ◌*◌}
 use Rattle.std.specs.Prelude.{◌^◌, Result, MatchResult, OnOk, Bool, true, false, ◌⊎◌, []}
 use Rattle.std.specs.Simd.{first_chunks}
-use Rattle.age_stream.specs.Segment.{Segment, outcome, released, with_piece, with_end}
-use Rattle.age_file.specs.inner.Bindings.{chain_if}
-use Rattle.age_file.specs.declared.position.PositionPolicy.{PositionPolicy}
-use Rattle.age_file.specs.declared.tally.Tally.{Tally}
 use Rattle.std.specs.Io.KnownBytes.{Appends, IsAtEnd}
-use Rattle.age_stream.specs.declared.step.Status.TheVariants.{Failed, Done}
+use Rattle.age_stream.specs.Segment.{Segment, outcome, released, with_piece, with_end}
 use Rattle.age_stream.specs.Headline.{IsPrefixOf}
 use Rattle.age_stream.specs.Opener.{has_failed, OpenerView, Stands}
-use Rattle.age_file.specs.Runs.{NoneFailed, ReadFailed, WriteFailed, pull_room}
-use Rattle.age_file.specs.inner.Readers.{Stage, ports_at, Pulled, WriterView}
+use Rattle.age_stream.specs.declared.step.Status.TheVariants.{Failed, Done}
+use Rattle.age_fault.specs.Faults.{HasFailed}
 use Rattle.age_fault.specs.declared.fault.FileFault.{FileFault}
 use Rattle.age_fault.specs.declared.fault.FileFault.TheVariants.{Stream, Read, Write, ReadNeverEnds}
-use Rattle.age_fault.specs.Faults.{HasFailed}
+use Rattle.age_file.specs.inner.Bindings.{chain_if}
+use Rattle.age_file.specs.Runs.{NoneFailed, ReadFailed, WriteFailed, pull_room}
+use Rattle.age_file.specs.inner.Readers.{Stage, ports_at, Pulled, WriterView}
+use Rattle.age_file.specs.declared.position.PositionPolicy.{PositionPolicy}
+use Rattle.age_file.specs.declared.tally.Tally.{Tally}
 
 -- ---- How a run's tally counts the chunks that were written. A chunk has n bytes.
 

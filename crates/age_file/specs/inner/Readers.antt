@@ -2,23 +2,23 @@
 -- A source and a sink, and what was pulled.
 use Rattle.std.specs.Prelude.{◌≡◌, ℕ, ◌+◌, ◌*◌, ◌^◌, ◌<◌, ◌≤◌, List, [], ◌++◌, length, Option}
 use Rattle.std.specs.Prelude.{Result, Ok, Err, Bool, true, false, ◌⊎◌, take, drop, Some, None}
-use Rattle.age_io.specs.Io.{SourceView, SinkView}
-use Rattle.age_file.specs.Runs.{Ports, ports, pull_room, StopsAtHeader, EndsInHeader}
-use Rattle.age_file.specs.inner.Unread.{Unread}
-use Rattle.age_file.specs.declared.tally.Tally.{Tally}
-use Rattle.age_file.specs.declared.reader.Reader.{Reader}
-use Rattle.age_file.specs.declared.reader.Writer.{Writer}
 use Rattle.std.specs.Io.KnownBytes.{Consumes, IsAtEnd}
 use Rattle.sha2.specs.Hashers.{Holds256}
 use Rattle.age_stanza.specs.Grammar.{HeadText}
-use Rattle.age_fault.specs.Faults.{HasFailed}
-use Rattle.age_file.specs.declared.head.Head.{Head}
-use Rattle.age_fault.specs.declared.fault.FileFault.{FileFault}
-use Rattle.age_fault.specs.declared.fault.FileFault.TheVariants.{Read, ReadNeverEnds}
 use Rattle.age_stanza.specs.Parsing.{HasHeader, IsFault, memory_fault, reading}
 use Rattle.age_stanza.specs.declared.fault.HeadFault.{HeadFault}
 use Rattle.age_stanza.specs.declared.header.Header.{Header}
+use Rattle.age_io.specs.Io.{SourceView, SinkView}
+use Rattle.age_fault.specs.Faults.{HasFailed}
+use Rattle.age_fault.specs.declared.fault.FileFault.{FileFault}
+use Rattle.age_fault.specs.declared.fault.FileFault.TheVariants.{Read, ReadNeverEnds}
+use Rattle.age_file.specs.Runs.{Ports, ports, pull_room, StopsAtHeader, EndsInHeader}
+use Rattle.age_file.specs.inner.Unread.{Unread}
+use Rattle.age_file.specs.declared.head.Head.{Head}
 use Rattle.age_file.specs.declared.head.HeadReader.{HeadReader}
+use Rattle.age_file.specs.declared.reader.Reader.{Reader}
+use Rattle.age_file.specs.declared.reader.Writer.{Writer}
+use Rattle.age_file.specs.declared.tally.Tally.{Tally}
 
 -- ---- Where a run stands, by its reader and its writer.
 

@@ -1,9 +1,9 @@
 -- Whether a position is a file's, and was made under its key.
 use Rattle.std.specs.Prelude.{◌≡◌, ◌≢◌, ℕ, List, Result, MatchResult}
-use Rattle.age_file.specs.declared.position.Position.{Position}
 use Rattle.age_fault.specs.declared.fault.FileFault.{FileFault}
 use Rattle.age_fault.specs.declared.fault.FileFault.TheVariants.{OtherFile, PositionForged}
 use Rattle.age_file.specs.Runs.{IsTagged}
+use Rattle.age_file.specs.declared.position.Position.{Position}
 
 -- why a position is refused, for a file of this id, key and nonce
 abbrev pub PositionRefused : Position → List ℕ → List ℕ → List ℕ → FileFault → Type 0

@@ -2,9 +2,9 @@
 -- What scrypt works on.
 use Rattle.std.specs.Prelude.{◌≡◌, ℕ, List, [], ◌∷◌, ◌++◌, slice_index, ◌<◌, length, ◌*◌, ◌%◌, ◌^◌}
 use Rattle.std.specs.Prelude.{◌≤◌, vec_len, vec_capacity}
+use Rattle.std.specs.declared.vec.Vec.{Vec}
 use Rattle.age_scrypt.specs.Scrypt.{quarter, part, v_block, work_factor_limit}
 use Rattle.age_scrypt.specs.declared.part.Part.{Part}
-use Rattle.std.specs.declared.vec.Vec.{Vec}
 
 -- ---- Sixteen words in four vectors of four.
 

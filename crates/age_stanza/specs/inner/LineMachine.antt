@@ -6,27 +6,27 @@ use Rattle.std.specs.Prelude.{◌&&◌, ◌||◌, if◌then◌else◌, List, [],
 use Rattle.std.specs.Prelude.{Option, Some, None, Result, Ok, Err, ◌/◌, ◌%◌, ◌≤◌, ◌<◌, take}
 use Rattle.std.specs.List.{list_all, starts_with, flat_map}
 use Rattle.std.specs.Result.{result_ok}
+use Rattle.std.specs.Str.{bytes_eq}
+use Rattle.std.specs.Simd.{first_chunks}
 use Rattle.base64.specs.GeneralPurpose.{decode_of, IsBytes}
 use Rattle.base64.specs.Engines.{standard_no_pad}
-use Rattle.std.specs.Str.{bytes_eq}
-use Rattle.age_stanza.specs.declared.header.Stanza.{Stanza}
-use Rattle.age_stanza.specs.declared.header.Header.{Header}
+use Rattle.age_stanza.specs.Grammar.{version, line, argument_line, header_limit, HeadText}
+use Rattle.age_stanza.specs.Parsing.{armor, memory_fault, IsLine, AreLines, stanzas_text}
+use Rattle.age_stanza.specs.Parsing.{line_after, HasHeader, IsFault}
+use Rattle.age_stanza.specs.Text.{base64_text}
+use Rattle.age_stanza.specs.declared.fault.HeadFault.{HeadFault}
 use Rattle.age_stanza.specs.declared.fault.HeadKind.{HeadKind}
 use Rattle.age_stanza.specs.declared.fault.HeadKind.TheVariants.{NotAge, Armored, BadStanzaLine}
 use Rattle.age_stanza.specs.declared.fault.HeadKind.TheVariants.{BadBody, BadEndLine, NoStanza}
 use Rattle.age_stanza.specs.declared.fault.HeadKind.TheVariants.{Memory}
-use Rattle.age_stanza.specs.declared.fault.HeadFault.{HeadFault}
-use Rattle.age_stanza.specs.declared.place.Place.{Place}
-use Rattle.age_stanza.specs.declared.place.Place.TheVariants.{Start, Between, InBody}
-use Rattle.age_stanza.specs.declared.place.Next.{Next}
-use Rattle.age_stanza.specs.declared.place.Next.TheVariants.{Go, Done}
-use Rattle.age_stanza.specs.Grammar.{version, line, argument_line, header_limit, HeadText}
-use Rattle.age_stanza.specs.Parsing.{armor, memory_fault, IsLine, AreLines, stanzas_text}
-use Rattle.age_stanza.specs.Parsing.{line_after, HasHeader, IsFault}
-use Rattle.std.specs.Simd.{first_chunks}
-use Rattle.age_stanza.specs.Text.{base64_text}
 use Rattle.age_stanza.specs.declared.head_step.HeadStep.{HeadStep}
 use Rattle.age_stanza.specs.declared.head_step.HeadStep.TheVariants.{More, Ready}
+use Rattle.age_stanza.specs.declared.header.Header.{Header}
+use Rattle.age_stanza.specs.declared.header.Stanza.{Stanza}
+use Rattle.age_stanza.specs.declared.place.Next.{Next}
+use Rattle.age_stanza.specs.declared.place.Next.TheVariants.{Go, Done}
+use Rattle.age_stanza.specs.declared.place.Place.{Place}
+use Rattle.age_stanza.specs.declared.place.Place.TheVariants.{Start, Between, InBody}
 
 -- a list of bytes, else none
 abbrev pub only_bytes : Option (List ℕ) → Option (List ℕ)

@@ -1,6 +1,6 @@
 -- The steps of a replay. Only private functions cite this.
-use Rattle.std.specs.Prelude.{◌≡◌, ◌+◌, ◌-◌, ◌<◌, ◌≤◌, ℕ, List, length, take}
-use Rattle.std.specs.Prelude.{Option, IfSome, IfNone, vec_len, vec_capacity}
+use Rattle.std.specs.Prelude.{◌≡◌, ◌+◌, ◌-◌, ◌<◌, ◌≤◌, ℕ, List, length, take, Option, IfSome}
+use Rattle.std.specs.Prelude.{IfNone, vec_len, vec_capacity}
 use Rattle.age_chunk.specs.ChunkBoxes.{OpensBlock, text_length}
 use Rattle.age_stream.specs.Segment.{Standing, with_piece}
 use Rattle.age_stream.specs.Opener.{whole_text}
