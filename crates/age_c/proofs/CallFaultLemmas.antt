@@ -44,7 +44,7 @@ fault_by n false is some = absurd (some (ap (λ (b : Bool). if b then n else 0) 
 pub fault_from : (n : ℕ) → answer_of n ≢ 0 → IsFault n
 fault_from n some = fault_by n (nat_le 17 n && nat_le n 22) refl some
 
--- so the numbers are those of a refusal
+-- so the numbers stand for a refusal
 abbrev IsRefused : ℕ → ℕ → Type 0
 IsRefused n chunk = (f : StreamFault) × (reader_status n chunk ≡ Some (Failed f))
 
@@ -212,7 +212,7 @@ pub answer_by : (r : Reader) (c : Call) → IsCall r c → c.answer ≢ misused
 answer_by r c (inl idle) other = absurd (other idle.0)
 answer_by r c (inr taken) other = taken.1.answer_is
 
--- what is known of each call: its answer, and that its fault is that of all calls
+-- what is known of each call: its answer, and that all calls have its fault
 pub record IsKnown (k : List ℕ) (whole : Segment) (c : Call) : Type 0 where
   pub answer : c.answer ≢ misused → c.answer ≡ answer_of c.after.state
   pub fault : (f : StreamFault) → reader_status c.after.state c.after.fault_chunk ≡ Some (Failed f)

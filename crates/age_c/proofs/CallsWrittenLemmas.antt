@@ -46,7 +46,7 @@ segment_parts : (before : List Call) (one : Call) (later : List Call) (s : Segme
 segment_parts [] one later s = refl
 segment_parts (c ∷ before) one later s = segment_parts before one later (next c s)
 
--- what is left of a text after so many bytes
+-- what is left of a text after this many bytes
 rest_of : (n : ℕ) (text : List ℕ) → n ≤ length text → (more rest : List ℕ)
     → (take n text ++ more) ++ rest ≡ text → more ++ rest ≡ drop n text
 rest_of n text within more rest e =

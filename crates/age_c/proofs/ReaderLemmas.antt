@@ -110,7 +110,7 @@ rest_at r r' status o o' s rest view same key index code shut old_code stands h 
     (stands (subst (λ (o : OpenerView (List ℕ)). Stands opens chunk_length o s) (sym view)
     (stands_of r status s old_code h)))
 
--- fewer bytes than a block, where none were held, give no text
+-- fewer bytes than a block, if none were held, give no text
 no_text : (chunk : Option (Bor (List ℕ))) (held new : List ℕ) (taken : ℕ)
     → IfSome chunk (λ c. (length c.now ≡ chunk_length) × (length held + taken ≡ block_length)
     × (new ≡ [])) → held ≡ [] → taken < block_length
@@ -222,7 +222,7 @@ pub rest_open : (rest : List ℕ) (old new : Status) → (0 < length rest → ol
 rest_open [] old new more none is_open = sym (none refl) ∙ is_open
 rest_open (byte ∷ rest) old new more none is_open = more (omega arith)
 
--- an answer of 0 is that of no refusal
+-- an answer of 0 means no refusal
 pub done_of : (failed : Bool) (answer state : ℕ) → (failed ≡ true → answer ≢ 0)
     → (failed ≡ false → state ≡ 3) → answer ≡ 0 → state ≡ 3
 done_of true answer state some done zero = absurd (some refl zero)

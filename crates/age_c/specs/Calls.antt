@@ -45,7 +45,7 @@ answer_of state = if nat_le 17 state && nat_le state 22 then state else 0
 
 -- ---- What the answer of a call means.
 
--- so many bytes were put at the front of a slice, whose bytes were `before`, and are `after`
+-- this many bytes were put at the front of a slice, whose bytes were `before`, and are `after`
 pub record PutsFront (count : ℕ) (before after : List ℕ) : Type 0 where
   -- they fit
   pub most : count ≤ length after
@@ -73,8 +73,8 @@ pub record Answers {State : Type 0} (Fits : Type 0) (Does : ℕ → List ℕ →
 
 -- ---- What the length of a file says of its text.
 
--- how a payload of so many bytes ends, if no text has one: with no block, with a tag alone, or with
--- a part of a tag
+-- how a payload of this many bytes ends, if no text has one: with no block, with a tag alone, or
+-- with a part of a tag
 abbrev pub ends_as : ℕ → StreamKind
 ends_as size =
     if size % block_length == 0 then Truncated

@@ -91,8 +91,8 @@ module _ (r : Reader) (text : List ℕ) (start : ℕ) where
   pub record AreRight (calls : List Call) : Type 0 where
     -- what was written is the beginning of the text from that chunk on
     pub prefix : AreCallsAuthentic calls → IsPrefixOf (texts_of calls) text_there
-    -- where the last call is an end that answered 0, it is all of that, and the chunk begins
-    -- within the text: so then the length of the text is known
+    -- if the last call is an end that answered 0, it is all of that, and the chunk begins within
+    -- the text: so then the length of the text is known
     pub done : AreCallsAuthentic calls → (before : List Call) (last : Call)
         → calls ≡ before ++ last ∷ [] → last.is_end ≡ true → last.answer ≡ 0
         → (texts_of calls ≡ text_there) × (start * chunk_length ≤ length text)
@@ -104,8 +104,8 @@ module _ (r : Reader) (text : List ℕ) (start : ℕ) where
     pub refused : AreCallsAuthentic calls → (i : ℕ) (before : List Call) (wrong : Call)
         (later : List Call) → calls ≡ before ++ wrong ∷ later → GiveBlocks r text start before i
         → GivesWrong r text i wrong → IsRefusedAt i before wrong later
-    -- 17 says that a block isn't the writer's, the one whose number the reader has, and that
-    -- those before it are
+    -- 17 says that a block isn't the writer's, the one whose number the reader has, and that those
+    -- before it are
     pub damaged : AreCallsAuthentic calls → AllByRecursion (λ (c : Call). c.answer ≡ 17
         → IsFirstWrong (box r.file_key r.nonce) chunk_length text (given_by start calls)
         c.after.fault_chunk) calls

@@ -41,7 +41,7 @@ pub record SameFile (was now : Reader) : Type 0 where
   pub nonce : now.nonce ≡ was.nonce
   pub payload_at : now.payload_at ≡ was.payload_at
 
--- the numbers are those of a status, at a chunk that a payload may have
+-- the numbers stand for a status, at a chunk that a payload may have
 pub record CanBeUsed (r : Reader) : Type 0 where
   pub status : IsSome (reader_status r.state r.fault_chunk)
   pub chunk : r.chunk < chunk_limit
@@ -125,8 +125,8 @@ pub record TakesEnd (rest : List ℕ) (old : Reader) (answer : ℕ) (text : List
   pub takes : TakesBlock (after_end rest) old answer text new
   pub done : answer ≡ 0 → new.state ≡ 3
 
--- the reader is at a chunk as if it had been given nothing: what it was given before, a fault and an
--- end are forgotten
+-- the reader is at a chunk as if it had been given nothing: what it was given before, a fault and
+-- an end are forgotten
 pub record GoesTo (chunk : ℕ) (old new : Reader) : Type 0 where
   pub at : IsAt new (fresh chunk)
   pub unrefused : new.fault_chunk ≡ 0
@@ -138,7 +138,8 @@ pub record IsBlockCall (r : Reader) (block out : List ℕ) : Type 0 where
   pub whole : length block ≡ block_length
   pub room : chunk_length ≤ length out
 
--- the same of an end: what is left is shorter than a block
+-- the call of an end isn't misused: the reader can be used, what is left is shorter than a block,
+-- and there is room for its text
 pub record IsEndCall (r : Reader) (rest out : List ℕ) : Type 0 where
   pub usable : CanBeUsed r
   pub short : length rest < block_length

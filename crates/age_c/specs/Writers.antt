@@ -14,7 +14,7 @@ use Rattle.age_c.specs.declared.writer.Writer.{Writer}
 
 -- ---- What a writer's numbers stand for, and what one call does.
 
--- the numbers are those of a writer that isn't finished, at a chunk that a payload may have
+-- the numbers stand for a writer that isn't finished, at a chunk that a payload may have
 pub record CanSeal (w : Writer) : Type 0 where
   pub unfinished : w.state ≡ 1
   pub chunk : w.chunk < chunk_limit
@@ -72,7 +72,7 @@ pub record IsChunkCall (w : Writer) (chunk out : List ℕ) : Type 0 where
   pub whole : length chunk ≡ chunk_length
   pub room : block_length ≤ length out
 
--- the same of the last chunk, which has a byte, unless the whole text has none
+-- a call for the last chunk that isn't misused: it has a byte, unless the whole text has none
 pub record IsLastCall (w : Writer) (rest out : List ℕ) : Type 0 where
   pub usable : CanSeal w
   pub short : length rest ≤ chunk_length

@@ -53,7 +53,7 @@ pub(crate) fn put(bytes: &[u8], out: &mut [u8]) -> usize
     bytes.len()
 }
 
-/// The same of a text that may be lent.
+/// Puts a text, if one is lent, at the front of `out`.
 fn put_chunk(chunk: Option<&[u8]>, out: &mut [u8]) -> usize
     requires { length (chunk_bytes chunk) ≤ length out.old }
     ensures text { take result out.new ≡ chunk_bytes chunk.entry }
@@ -120,8 +120,8 @@ fn end_opener(opener: &mut PayloadOpener<'_>, out: &mut [u8]) -> usize
     }
 }
 
-/// Gives a byte of a piece, if it has one, to a reader that is open to no more, and returns how many
-/// it gave.
+/// Gives a byte of a piece, if it has one, to a reader that is open to no more, and returns how
+/// many it gave.
 // not inlined: beside another opener its buffer would double what a call takes of the stack
 #[inline(never)]
 pub(crate) fn refuse_more(reader: &mut Reader, status: Status, piece: &[u8]) -> usize

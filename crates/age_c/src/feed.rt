@@ -79,7 +79,7 @@ fn finish(stream: &mut Stream, status: Status, out: &mut [u8]) -> usize
     open_last(&mut stream.reader, status, &stream.block[..held], out)
 }
 
-/// The status of a stream that can be used, with so much room for text.
+/// The status of a stream that can be used, with this much room for text.
 fn stream_status(stream: &Stream, room: usize) -> Option<Status>
     ensures status { IfSome result (λ status.
         reader_status stream.now.reader.state stream.now.reader.fault_chunk ≡ Some status) }

@@ -9,8 +9,8 @@ ghost use Rattle.age_c.specs.Writers.{AnswersAreSealCalls, CallsArePayload, File
 /// [`age_c_end`](crate::age_c_end) on a reader that was just begun, or went to a chunk, while no
 /// block opens except as the writer of a text sealed it, what was written is the beginning of that
 /// text from that chunk on, and all of it if the last call is an end that answered 0; then the
-/// chunk begins within the text, so that its length is known. An undamaged payload gives all of
-/// it, and 0 each time. The first block that isn't the writer's is refused with 17.
+/// chunk begins within the text, so that its length is known. An undamaged payload gives all of it,
+/// and 0 each time. The first block that isn't the writer's is refused with 17.
 pub fn calls_are_written()
     ensures { CallsAreWritten }
 {}
@@ -29,8 +29,8 @@ pub fn calls_are_payload()
     ensures { CallsArePayload }
 {}
 
-/// The same with what [`age_c_seal_passphrase`](crate::age_c_seal_passphrase) wrote before them:
-/// all of it is the age file of the text.
+/// What [`age_c_seal_passphrase`](crate::age_c_seal_passphrase) wrote, followed by what such calls
+/// write, is the age file of the text.
 pub fn files_are_whole()
     ensures { FilesAreWhole }
 {}
@@ -41,9 +41,9 @@ pub fn answers_are_calls()
     ensures { AnswersAreCalls }
 {}
 
-/// What [`age_c_seal_block`](crate::age_c_seal_block) and
-/// [`age_c_seal_end`](crate::age_c_seal_end) promise makes each use of them one of the calls that
-/// [`calls_are_payload`] and [`files_are_whole`] speak of.
+/// What [`age_c_seal_block`](crate::age_c_seal_block) and [`age_c_seal_end`](crate::age_c_seal_end)
+/// promise makes each use of them one of the calls that [`calls_are_payload`] and
+/// [`files_are_whole`] speak of.
 pub fn answers_are_seal_calls()
     ensures { AnswersAreSealCalls }
 {}

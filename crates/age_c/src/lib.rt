@@ -2,8 +2,8 @@
 //! numbers in the caller's memory, so that nothing has to be freed.
 //!
 //! A header is opened by a passphrase, a file key or a shared secret, and then a [`Reader`] takes
-//! the blocks of the payload one after the other. A [`Writer`] begins with the header of
-//! a passphrase, and then seals chunk after chunk.
+//! the blocks of the payload one after the other. A [`Writer`] begins with the header of a
+//! passphrase, and then seals chunk after chunk.
 //!
 //! Each function may be called with any numbers in a reader or writer, and with slices of any
 //! length. What doesn't fit is answered with [`MISUSED`], and then nothing is changed.

@@ -14,7 +14,7 @@ fn failed_at(kind: StreamKind, chunk: u64) -> Option<Status>
     Some(Status::Failed(StreamFault { kind, chunk }))
 }
 
-/// The status of these numbers; `None` where they are those of no status.
+/// The status of these numbers; `None` if they stand for none.
 pub(crate) fn status_of(state: u32, fault_chunk: u64) -> Option<Status>
     ensures { result ≡ reader_status state fault_chunk }
 {
@@ -47,7 +47,7 @@ pub(crate) fn numbers_of(status: Status) -> (u32, u64)
     }
 }
 
-/// The number of a reader's state as an answer: 0 where it wasn't refused.
+/// The number of a reader's state as an answer: 0 if it wasn't refused.
 pub(crate) fn answer_of(state: u32) -> u32
     ensures { result ≡ answer_of state }
 {

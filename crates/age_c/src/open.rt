@@ -19,7 +19,7 @@ pub extern "C" fn age_c_version() -> u32
     10_100
 }
 
-/// Opens the header that `front` begins with by a passphrase of 1 to 65,536 bytes, where the work
+/// Opens the header that `front` begins with by a passphrase of 1 to 65,536 bytes, if the work
 /// factor is at most `max_work`, 1 to 22.
 #[unsafe(no_mangle)]
 pub extern "C" fn age_c_open_passphrase(

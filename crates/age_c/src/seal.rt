@@ -89,7 +89,7 @@ pub extern "C" fn age_c_seal_block(
 }
 
 /// Seals what is left of the text, 0 to 65,536 bytes, as the last chunk into `out`, which has room
-/// for 16 bytes more. It has no byte only where the whole text has none.
+/// for 16 bytes more. It has no byte only if the whole text has none.
 #[unsafe(no_mangle)]
 pub extern "C" fn age_c_seal_end(
     writer: &mut Writer,

@@ -20,9 +20,9 @@ fn go_to(reader: &mut Reader, chunk: u64)
     reader.fault_chunk = 0;
 }
 
-/// Goes to a chunk by its number, below 2^48: the next block is that of this chunk. A fault or an
-/// end that came before is forgotten. Whether the text has such a chunk isn't known here: where it
-/// has none, the blocks that follow are refused.
+/// Goes to a chunk by its number, below 2^48: the next block is this chunk's. A fault or an end
+/// that came before is forgotten. Whether the text has such a chunk isn't known here: if it has
+/// none, the blocks that follow are refused.
 #[unsafe(no_mangle)]
 pub extern "C" fn age_c_seek(reader: &mut Reader, chunk: u64) -> u32
     ensures goes { result ≡ 0 → GoesTo chunk reader.old reader.new }

@@ -15,14 +15,14 @@ const BLOCK: u64 = BLOCK_LEN as u64;
 
 const TAG: u64 = TAG_LEN as u64;
 
-/// The number of the last chunk of a text of so many bytes.
+/// The number of the last chunk of a text of this many bytes.
 fn last_chunk_of(text_len: u64) -> u64
     ensures { result + 1 ≡ chunks_for text_len }
 {
     text_len.saturating_sub(1) / CHUNK
 }
 
-/// How a payload of so many bytes ends that is no text's.
+/// How a payload of this many bytes ends that is no text's.
 fn ends_as(size: u64) -> StreamKind
     ensures { result ≡ ends_as size }
 {
@@ -36,7 +36,7 @@ fn ends_as(size: u64) -> StreamKind
     StreamKind::ChunkCut
 }
 
-/// The length of the text of a file that has so many bytes, and the number of its last chunk, if
+/// The length of the text of a file that has this many bytes, and the number of its last chunk, if
 /// the file is whole; nothing is opened. The payload begins where the reader says. The answer is 0,
 /// or the number of the fault with which a file of this length ends, 18 to 20.
 #[unsafe(no_mangle)]

@@ -8,8 +8,7 @@ use thiserror::Error;
 /// Why a payload, or a text to be sealed, was refused.
 #[derive(Clone, Copy, Debug, PartialEq, Eq, Error)]
 pub enum StreamKind {
-    /// A whole block, or the last one, opens neither as its chunk nor as the
-    /// last.
+    /// A whole block, or the last one, opens neither as its chunk nor as the last.
     #[error("chunk damaged")]
     ChunkDamaged,
     /// The input ended with 1 to 15 bytes of a block, fewer than a tag.
@@ -30,8 +29,7 @@ pub enum StreamKind {
 }
 
 impl StreamKind {
-    /// The kind's number in the list of all faults: 17 to 22 in the order of
-    /// the variants.
+    /// The kind's number in the list of all faults: 17 to 22 in the order of the variants.
     pub fn number(&self) -> u8
         ensures { result ≡ stream_fault_number self.now }
     {
@@ -57,8 +55,7 @@ pub struct StreamFault {
 }
 
 impl StreamFault {
-    /// The fault's number: 17 to 22 in the order of the variants of
-    /// [`StreamKind`].
+    /// The fault's number: 17 to 22 in the order of the variants of [`StreamKind`].
     pub fn number(&self) -> u8
         ensures { result ≡ stream_fault_number self.now.kind }
     {

@@ -25,7 +25,7 @@ end_is_tag key nonce aad text block e =
     ap (λ b. drop (length b - 16) b) e ∙ end_of_sealing key nonce aad text
     ∙ ap (tag key nonce aad) (sym (ap (λ b. take (length b - 16) b) e ∙ front_of_sealing key nonce aad text))
 
--- and where it is, the block is the sealing of what the front deciphers to
+-- and if it is, the block is the sealing of what the front deciphers to
 pub sealed_by_tag : (key nonce aad block : List ℕ) (n : ℕ) → drop n block ≡ tag key nonce aad (take n block)
     → block ≡ sealing key nonce aad (ciphertext key nonce 1 (take n block))
 unfolding sealing

@@ -34,7 +34,7 @@ pub record IsDrawn (g : ChaCha) (n : ℕ) (words : List ℕ) (now : ChaCha) : Ty
   pub drawn : (k : ℕ) → k < n → slice_index words k ≡ word_on g k
   pub generator : now ≡ generator_on g n
 
--- none yet, where the generator was set to a block's first word
+-- none yet, if the generator was set to a block's first word
 pub drawn_none : (old now : ChaCha) (number place : ℕ) (words : List ℕ) → place ≡ 16 * number → now ≡ record old { word_pos = place % 2 ^ 68 }
     → IsDrawn (record old { word_pos = 16 * number }) 0 words now
 unfolding generator_on

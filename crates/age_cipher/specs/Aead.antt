@@ -25,8 +25,8 @@ mac_data aad cipher = concat (
 unfoldable pub tag : List ℕ → List ℕ → List ℕ → List ℕ → List ℕ
 tag key nonce aad cipher = poly1305 (one_time_key key nonce) (mac_data aad cipher)
 
--- the greatest length of a block, a text with its tag (a limit of this library: that of a block of
--- an age file, far below that of RFC 8439)
+-- the greatest length of a block, a text with its tag (a limit of this library: no block of an age
+-- file is longer; RFC 8439 allows far more)
 abbrev pub block_limit : ℕ
 block_limit = 65552
 
@@ -47,8 +47,8 @@ DistinctSealings =
     → sealing key nonce aad text ≡ sealing key nonce aad other → text ≡ other
 
 -- ---- What a block opens to, computed. The definition of opening is the sealing alone: a block
--- opens to a text where it is that text's sealing. The law `OpensSealings` says that this computes
--- it. It is for crates above, whose boxes may use it.
+-- opens to a text if it is that text's sealing. The law `OpensSealings` says that this computes it.
+-- It is for crates above, whose boxes may use it.
 
 -- all but the last 16 bytes is deciphered and sealed again, and the block compared with that
 unfoldable pub opening : List ℕ → List ℕ → List ℕ → List ℕ → Option (List ℕ)

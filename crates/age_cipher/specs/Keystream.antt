@@ -13,7 +13,7 @@ use Rattle.rand_core.specs.Steps.{u32_at}
 abbrev pub stream_number : List ℕ → ℕ
 stream_number nonce = u32_at nonce 1 + u32_at nonce 2 * 2 ^ 32
 
--- the place in that stream of the first word of block `counter`, where a block has 16 words
+-- the place in that stream of the first word of block `counter`; a block has 16 words
 abbrev pub block_place : List ℕ → ℕ → ℕ
 block_place nonce counter = 16 * (counter + u32_at nonce 0 * 2 ^ 32)
 

@@ -16,7 +16,7 @@ state key counter nonce =
     ∷ u32_at key 4 ∷ u32_at key 5 ∷ u32_at key 6 ∷ u32_at key 7
     ∷ counter ∷ u32_at nonce 0 ∷ u32_at nonce 1 ∷ u32_at nonce 2 ∷ []
 
--- word k of a block: that of the state after ten double rounds, plus that of the state before
+-- word k of a block: the state's word after ten double rounds, plus its word before them
 abbrev pub state_word : List ℕ → ℕ → ℕ
 state_word x k = add32 (slice_index (double_rounds 10 x) k) (slice_index x k)
 
@@ -31,7 +31,7 @@ KeystreamIsBlocks = (key nonce : List ℕ) (counter j : ℕ)
     → ((k : ℕ) → slice_index nonce k < 256) → counter + j / 64 < 2 ^ 32
     → keystream_byte key nonce counter j ≡ block_byte key (counter + j / 64) nonce (j % 64)
 
--- a block opens to a text exactly where it is that text's sealing
+-- a block opens to a text exactly if it is that text's sealing
 abbrev pub OpensSealings : Type 0
 OpensSealings = (key nonce aad block text : List ℕ)
     → (opening key nonce aad block ≡ Some text) ↔ (block ≡ sealing key nonce aad text)

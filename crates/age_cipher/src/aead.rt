@@ -105,8 +105,8 @@ fn is_tag(tag: &[u8; 16], bytes: &[u8]) -> bool
 }
 
 /// Opens a block in place (RFC 8439, 2.8). `block` must have 16 to 65,552 bytes. The result is true
-/// if and only if the block is the sealing of some text. That text then stands before the tag, whose
-/// 16 bytes stay. If the result is false, the whole block is as it was.
+/// if and only if the block is the sealing of some text. That text then stands before the tag,
+/// whose 16 bytes stay. If the result is false, the whole block is as it was.
 ///
 /// It doesn't commit to a key: whoever knows two keys can make a block that opens under both.
 pub fn open_in_place(key: &[u8; 32], nonce: &[u8; 12], aad: &[u8], block: &mut [u8]) -> bool

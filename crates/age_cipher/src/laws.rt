@@ -3,8 +3,8 @@
 ghost use Rattle.age_cipher.specs.Aead.{DistinctSealings};
 ghost use Rattle.age_cipher.specs.Laws.{KeystreamIsBlocks, OpensSealings};
 
-/// Under one key, nonce and associated data different texts seal to different blocks. This is a
-/// law over the definitions: the call does nothing.
+/// Under one key, nonce and associated data different texts seal to different blocks. This is a law
+/// over the definitions: the call does nothing.
 pub fn sealings_are_distinct()
     ensures { DistinctSealings }
 {}
@@ -15,7 +15,7 @@ pub fn keystream_is_blocks()
     ensures { KeystreamIsBlocks }
 {}
 
-/// A block opens to a text exactly where it is that text's sealing. This is a law over the
+/// A block opens to a text exactly if it is that text's sealing. This is a law over the
 /// definitions: the call does nothing.
 pub fn opens_sealings()
     ensures { OpensSealings }

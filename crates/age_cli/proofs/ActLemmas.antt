@@ -21,7 +21,7 @@ use Rattle.age_cli.proofs.CommandLemmas.{not_well, this_error, just_error}
 use Rattle.age_identity.proofs.EventLemmas.{longer}
 use Rattle.std.proofs.lemmas.Result.{IfErr-weaker}
 
--- where no file differs, none but the outputs does
+-- if no file differs, none but the outputs does
 pub spares_kept : (asked : Request) (old new : Files) → new ≡ old → Spares asked old new
 spares_kept (Encrypt e) old new kept = λ q to save. ap (λ (f : Files). f q) kept
 spares_kept (Decrypt d) old new kept = λ q to save. ap (λ (f : Files). f q) kept

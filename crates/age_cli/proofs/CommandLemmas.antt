@@ -1,4 +1,4 @@
--- What is so where a command or a step of one ends early, and of what a step read.
+-- What holds if a command or a step of one ends early, and of what a step read.
 use Rattle.std.proofs.Common.{◌≡◌, ◌∙◌, ◌⊎◌, ◌++◌, ◌∷◌, [], inl, inr, ap, sym, subst, refl, Bool}
 use Rattle.std.proofs.Common.{true, false, true≢false, append-nil, List, ℕ, Option, Some, None}
 use Rattle.std.proofs.Common.{Result, Ok, Err, IfOk, IfErr, OnOk}
@@ -68,7 +68,8 @@ streams_early shows (create.Fault f) (inl memory) = inr (inr memory)
 streams_early shows (create.Fault f) (inr memory) = inr (inr memory)
 
 module _ (old : Files) (events : List Event) (Failed : Type 0) where
-  -- a fault of a source has a reason, and so have those of files that can't be opened, made or told apart
+  -- a fault of a source has a reason, and so does the fault of a file that can't be opened, made or
+  -- told from another
   pub source_reason : (f : FileFault) → IsMemoryOr Read f → (f ≡ Read → Failed) → HasReason old events Failed (Fault f)
   source_reason f (inl read) failed = subst (λ (x : FileFault). HasReason old events Failed (Fault x)) (sym read) (inr (failed read))
   source_reason f (inr memory) failed = subst (λ (x : FileFault). HasReason old events Failed (Fault x)) (sym memory) tt
@@ -103,7 +104,7 @@ pub last_missing : (old : Files) (Failed : Type 0) (before after : List Event) (
     → IsUnread old after Failed
 last_missing old Failed before after name last missing = inl (record { front = before; name = name; last = last; missing = missing })
 
--- it isn't the command line's where contracts see the files
+-- it isn't the command line's if contracts see the files
 pub created_fault : (shows : Bool) (other : FileFault) (f : OpenFault) → OpenFails shows other f → shows ≡ true → is_usage (ending_of f) ≡ false
 created_fault shows other SameFile fails shown = absurd (true≢false (sym shown ∙ fails))
 created_fault shows other (create.Fault f) fails shown = refl
@@ -127,7 +128,7 @@ not_bad shows SameFile fails bad = cc
 not_bad shows (create.Fault f) (inl read) bad = let same = ap create.Fault (sym read) ∙ bad in cc
 not_bad shows (create.Fault f) (inr memory) bad = let same = ap create.Fault (sym memory) ∙ bad in cc
 
--- and isn't the command line's where contracts see the files
+-- and isn't the command line's if contracts see the files
 pub position_fault : (shows : Bool) (f : OpenFault) → OpenFails shows Read f ⊎ (f ≡ create.Fault BadPosition) → shows ≡ true → is_usage (ending_of f) ≡ false
 position_fault shows f (inl early) shown = created_fault shows Read f early shown
 position_fault shows f (inr bad) shown = ap (λ (x : OpenFault). is_usage (ending_of x)) bad

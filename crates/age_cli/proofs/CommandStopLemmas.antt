@@ -1,4 +1,4 @@
--- What stands where a command stopped, step by step.
+-- What holds after a command stopped, step by step.
 use Rattle.std.proofs.Common.{◌≡◌, ◌∙◌, ℕ, inl, inr, refl, ap, sym, subst, List, [], length, Option}
 use Rattle.std.proofs.Common.{Some, None, false, true≢false}
 use Rattle.std.specs.Prelude.{◌==◌, IsSomeAnd}
@@ -28,11 +28,11 @@ none_out : (new : Option (List ℕ)) (out : List ℕ) (written : ℕ) → Append
 none_out None out written put count none = absurd put
 none_out (Some ys) out written put count none = ap Some (put ∙ nil_from_length out (sym count ∙ none))
 
--- so many bytes were written
+-- this many bytes were written
 abbrev pub Written : Option (List ℕ) → Option (List ℕ) → ℕ → List ℕ → Type 0
 Written old new written out = Appends old new out × (written ≡ length out)
 
--- where nothing was written, the sink holds nothing, as before
+-- if nothing was written, the sink holds nothing, as before
 pub holds_nothing : (old new : Option (List ℕ)) (written : ℕ) (out : List ℕ) → old ≡ Some [] → Written old new written out → written ≡ 0 → new ≡ Some []
 holds_nothing old new written out empty put none = none_out new out written (subst (λ (o : Option (List ℕ)). Appends o new out) empty put.0) put.1 none
 
@@ -42,7 +42,7 @@ some_out new out written put count some nothing =
     let none : [] ≡ out = subst (λ (n : Option (List ℕ)). Appends (Some []) n out) nothing put in
     true≢false (sym (ap (λ (n : ℕ). n == 0) (count ∙ ap (λ (xs : List ℕ). length xs) (sym none))) ∙ some)
 
--- where something was written, it holds that
+-- if something was written, it holds that
 pub holds_something : (old new : Option (List ℕ)) (written : ℕ) (out : List ℕ) → old ≡ Some [] → Written old new written out → (written == 0) ≡ false
     → new ≡ Some [] → ⊥
 holds_something old new written out empty put some =
@@ -52,7 +52,7 @@ holds_something old new written out empty put some =
 none_written : (old new : Ports) (stopped : Stopped) → WritesNone old new stopped → Written old.sink.taken new.sink.taken stopped.written []
 none_written old new stopped w = (subst (λ (s : SinkView). Appends old.sink.taken s.taken []) (sym w.sink) (Appends-nil _), w.written)
 
--- where memory was refused, an encryption wrote nothing
+-- if memory was refused, an encryption wrote nothing
 pub sealed_nothing : (s : SecretView) (old new : Ports) (f : FileFault) → f ≡ fault.Memory → EncryptFails s old new f → new.sink.taken ≡ old.sink.taken
 sealed_nothing s old new f is fails = ap (λ (p : Ports). p.sink.taken) (subst (λ (x : FileFault). EncryptFails s old new x) is fails)
 
@@ -92,7 +92,7 @@ module _ (keep : PositionPolicy) (A : Header → List ℕ → Type 0) (p : Posit
   resume_wrote None (inr (inr h)) = old_new h.copied h.writes
   resume_wrote (Some r) h = (held r, (h.2.is.wrote, h.2.is.count), (λ text begins auth. h.2.begins text (auth r h.0 h.2.is)))
 
--- an ending is the same seen from before the output was made, where the position goes elsewhere
+-- an ending is the same seen from before the output was made, if the position goes elsewhere
 pub ends_from : (f : FileFault) (name : Option Text) (p : Option Position) (old mid new : Files) (e : Ending) → ((q : Text) → name ≡ Some q → mid q ≡ old q)
     → EndsOf f name p mid new e → EndsOf f name p old new e
 ends_from f (Some n) (Some p) old mid new (Fault x) same h = h

@@ -74,7 +74,7 @@ is_read identity input before after written r coming there is =
 abbrev HoldsNoMore : Option (List ℕ) → Option (List ℕ) → List ℕ → Type 0
 HoldsNoMore old new text = (new ≡ old) ⊎ ((bytes : List ℕ) × (new ≡ Some bytes) × IsPrefixOf bytes text)
 
--- OUT where it is whole
+-- OUT, if it is whole
 whole_out : (IsPorts : Ports → Type 0) (keep : PositionPolicy) (identity : Identity) (input new : Option (List ℕ)) (text : List ℕ) → is_some input ≡ true
     → ((r : Run) → IsFromStart r → IsRead identity input r → IsAuthenticRun r text) → Ran IsPorts (decrypt_engine keep identity).ends input new → new ≡ Some text
 whole_out IsPorts keep identity input new text there auth o =
@@ -86,7 +86,7 @@ whole_out IsPorts keep identity input new text there auth o =
     let all : held r ≡ text = ends.1.all text (auth r ends.0 read) in
     o.took ∙ (appended o.before.sink.taken o.after.sink.taken (held r) o.empty is.wrote ∙ ap Some all)
 
--- OUT where it stopped
+-- OUT, if the run stopped
 held_stop : (IsPorts : Ports → Type 0) (keep : PositionPolicy) (identity : Identity) (input old new : Option (List ℕ)) (position : Option Position)
     (fault : FileFault) (text : List ℕ)
     → is_some input ≡ true → ((r : Run) → IsFromStart r → IsRead identity input r → IsAuthenticRun r text)
@@ -101,7 +101,7 @@ held_stop IsPorts keep identity input old new position fault text there auth (in
 held_stop IsPorts keep identity input old new position fault text there auth (inr (taken, ran, left, none, write)) =
     ⊎_elim (λ same. inl same) (λ put. inr (text, put ∙ whole_out IsPorts keep identity input taken text there auth ran, ([], append-nil text))) left
 
--- ---- of a decryption that goes on from a position
+-- ---- A decryption from a position.
 
 some_of : (a : Option (List ℕ)) → is_some a ≡ true → (all : List ℕ) × (a ≡ Some all)
 some_of None t = absurd (true≢false (sym t))
@@ -159,7 +159,7 @@ module _ (identity : Identity) (p : Position) (input old_text : Option (List ℕ
             (is_read identity input before.main after.main written r coming there is);
       }
 
-  -- OUT where it is whole
+  -- OUT, if it is whole
   whole_resumed : (IsPorts : Ports → Type 0) (keep : PositionPolicy) (new : Option (List ℕ)) → Ran IsPorts (resume_engine IsPorts keep identity p old_text).ends input new
       → new ≡ Some text
   whole_resumed IsPorts keep new o =
@@ -173,7 +173,7 @@ module _ (identity : Identity) (p : Position) (input old_text : Option (List ℕ
       (authentic_run (resume_ports o.before first) (resume_ports o.after last) done.written r o.coming o.promise.4 ends.0 is) in
       o.took ∙ (appended o.before.sink.taken o.after.sink.taken (held r) o.empty is.wrote ∙ ap Some all)
 
-  -- OUT where it stopped
+  -- OUT, if the run stopped
   resumed_stop : (IsPorts : Ports → Type 0) (keep : PositionPolicy) (old new : Option (List ℕ)) (position : Option Position) (fault : FileFault)
       → IsLeft IsPorts (resume_engine IsPorts keep identity p old_text) position fault input old new
       ⊎ IsUnclosed IsPorts (resume_engine IsPorts keep identity p old_text) position fault input old new

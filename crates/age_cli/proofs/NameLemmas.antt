@@ -16,7 +16,7 @@ none_same one (name, is, other_is) = cc
 same_none : (other : Option Text) → IsSameName None other → ⊥
 same_none other (name, one_is, is) = cc
 
--- of `resume`: those of `decrypt`
+-- the names of `resume`: the names of `decrypt`
 pub resumed : (r : Resuming) → Twice (Decrypt r.decrypting) → Twice (Resume r)
 resumed r (inl (inl none)) = absurd (none_same _ none)
 resumed r (inl (inr (inl same))) = inl (inr (inl same))

@@ -46,7 +46,7 @@ some_words ws test is false_here none =
     let zero : (length ws == 0) ≡ true = rw (some_texts ws none) refl in
     true≢false (sym zero ∙ (sym is ∙ false_here))
 
--- help or the version is asked for where its text is the refusal
+-- help or the version is asked for if its text is the refusal
 pub for_help : (words : List Text) (e : Error) → HasKind (refusals words) e → IsForOutput (kind_of e) → IsForHelp words
 for_help words e (inl memory) (inl help) = let no = sym memory ∙ help in cc
 for_help words e (inl memory) (inr version) = let no = sym memory ∙ version in cc
@@ -57,7 +57,7 @@ pub help_done : {A P : Type 0} (r : Result A Ending) (Q : Type 0) → (IsOk r �
 help_done (Ok x) Q asked printed = (asked refl, printed)
 help_done (Err e) Q asked printed = tt
 
--- and so where it can't be written
+-- and so if it can't be written
 pub help_fails : (r : Result (Unit {0}) Ending) (Unprinted Asked Help : Type 0) (old new : SinkView) → (Asked → Help)
     → IfErr r (λ e. (IsRefusal e × Unprinted) ⊎ (Asked × FailsWriting old new e)) → IfErr r (λ e. (IsRefusal e × Unprinted) ⊎ (Help × FailsWriting old new e))
 help_fails (Ok x) Unprinted Asked Help old new help fails = tt
@@ -78,7 +78,7 @@ no_help (Ok x) Help Printed Unprinted old new done fails unasked = absurd (unask
 no_help (Err e) Help Printed Unprinted old new done (inl refused) unasked = refused
 no_help (Err e) Help Printed Unprinted old new done (inr (help, writing)) unasked = absurd (unasked help)
 
--- words that make a request are refused only where memory was
+-- words that make a request are refused only if memory was
 pub asked_fails : (words : List Text) (e : Error) → HasKind (refusals words) e → (asked : Request) → Requests words asked → kind_of e ≡ OutOfMemory
 asked_fails words e (inl memory) asked made = memory
 asked_fails words e (inr among) asked (name, rows, asks, is) = absurd (subst (λ (ks : Kinds). IsAmong (kind_of e) ks) asks.taken among)

@@ -26,7 +26,7 @@ pub failed_by : (r : Result (Unit {0}) Ending) (status : ℕ) → status ≡ sta
 failed_by (Ok done) status is = tt
 failed_by (Err e) status is = λ zero. failed_status e (sym is ∙ zero)
 
--- where nothing is announced, the sink is as it was
+-- if nothing is announced, the sink is as it was
 pub unmade : {A : Type 0} (r : Result A Ending) (old new : SinkView) (Quiet : Type 0) → Quiet → Tells Unmade r old new Quiet
 unmade (Ok done) old new Quiet quiet = quiet
 unmade (Err ending) old new Quiet quiet = quiet

@@ -69,7 +69,7 @@ unread : (keep other : PositionPolicy) (i : Identity) (before after : Ports) (ru
 unread keep other i before after None s none stops = stops
 unread keep other i before after (Some r) s none stops = absurd (none-some r.file.key none)
 
--- one that isn't read again ended as if positions had been kept where one is to be saved
+-- one that isn't read again ended as if positions had been kept when one is to be saved
 pub stopped_so : (reread : Bool) (end : Result Done Stopped) (key : Option (List ℕ)) (keep other : PositionPolicy) (i : Identity) (before after : Ports)
     → again_of reread end key ≡ None → (reread ≡ false → keep ≡ other)
     → (d : DecryptsKeyed keep (allows_by i) (refuses_by i) before after end key)

@@ -56,7 +56,7 @@ pub record Engine : Type 1 where
   pub stops : Option Position → FileFault → Ports → Ports → Type 0
   pub touches : FileFault → Option (List ℕ) → Type 0
 
--- that of `encrypt`, which has no position; it touches nothing if memory was refused
+-- the engine of `encrypt`, which has no position; it touches nothing if memory was refused
 abbrev pub encrypt_engine : SecretView → Engine
 encrypt_engine secret = record {
   ends = λ before after. (written : Written) × Encrypts secret before after written;
@@ -64,7 +64,7 @@ encrypt_engine secret = record {
   touches = λ fault taken. fault ≡ Memory → ⊥;
 }
 
--- that of `decrypt`, which names its run; it touches nothing if nothing was written
+-- the engine of `decrypt`, which names its run; it touches nothing if nothing was written
 abbrev pub decrypt_engine : PositionPolicy → Identity → Engine
 decrypt_engine keep i = record {
   ends = λ before after. (done : Done) × (run : Run)
@@ -91,7 +91,7 @@ module _ (IsPorts : Ports → Type 0) where
       × IsPorts (ports last after.sink) × (old_text ≡ first.remaining)
       × Promise (resume_ports before first) (resume_ports after last)
 
-  -- that of `resume`, from a position and the old text
+  -- the engine of `resume`, from a position and the old text
   abbrev pub resume_engine : PositionPolicy → Identity → Position → Option (List ℕ) → Engine
   resume_engine keep i from old_text = record {
     ends = Beside old_text (λ before after. (done : Done) × (run : Run)
@@ -102,7 +102,7 @@ module _ (IsPorts : Ports → Type 0) where
     touches = λ fault taken. taken ≡ Some [] → ⊥;
   }
 
-  -- it ran over files of the set: its source gave this input, and its sink, empty before, took this
+  -- the engine ran: it read from this input, and wrote this to an output that was empty
   pub record Ran (Promise : Ports → Ports → Type 0) (input taken : Option (List ℕ)) : Type 0 where
     pub before : Ports
     pub after : Ports
@@ -115,7 +115,7 @@ module _ (IsPorts : Ports → Type 0) where
 
 -- ---- What becomes of OUT and of the file of `--save`, by the engine that a command runs.
 
--- positions are kept where one is to be saved
+-- positions are kept if one is to be saved
 abbrev pub kept_for : Option Text → PositionPolicy
 kept_for (Some name) = Kept
 kept_for None = Dropped
@@ -133,7 +133,7 @@ SaveFails (Some name) (Some position) old new fault = (new name ≡ old name)
     × (IsMemoryOr Write fault ⊎ (fault ≡ Read))
 SaveFails name position old new fault = ⊥
 
--- the fault is reported, and the position is saved; or it is reported with that of a save that
+-- the fault is reported, and the position is saved; or it is reported with the fault of a save that
 -- failed
 abbrev pub EndsOf : FileFault → Option Text → Option Position → Files → Files → Ending → Type 0
 EndsOf fault name position old new (Fault f) = (f ≡ fault) × IsSaved name position old new
@@ -247,14 +247,14 @@ module _ (IsPorts : Ports → Type 0) where
       × engine.ends before after
 
   -- What stands before and after a command; `shows` says whether contracts see the files, `Failed`
-  -- that a source of these failed, `Unshown` that the progress is as it was, and `Over` that the last
-  -- that was shown of it is that it is over.
+  -- that a source of these failed, `Unshown` that the progress is as it was, and `Over` that the
+  -- last that was shown of it is that it is over.
   pub record Acts (shows : Bool) (asked : Request) (before after : FilesView)
       (Failed Unshown Over : Type 0) (ended : Result (Unit {0}) Ending) : Type 0 where
     -- OUT holds what the engine promises for what the names stood for at the call.
     pub done : OnOk ended (shows ≡ true → OfEngine asked before.entries
         (λ engine paths. WritesOut IsPorts engine paths before.entries after.entries))
-    -- The engine ran, also where contracts don't see the files.
+    -- The engine ran, also if contracts don't see the files.
     pub ran : OnOk ended (OfSomeEngine asked HasEngineEnded)
     -- Nothing differs, and 26 and 27 have a reason; or OUT holds what the engine promises for a
     -- stop, and the file of `--save` its position.
@@ -264,10 +264,10 @@ module _ (IsPorts : Ports → Type 0) where
         (λ engine paths. LeavesOut IsPorts engine paths before.entries after.entries ending))
     -- A command line that is refused changes no file.
     pub usage : IfErr ended (λ e. IsUsage e → after.entries ≡ before.entries)
-    -- Where contracts see the files, it is refused for this alone.
+    -- If contracts see the files, it is refused for this alone.
     pub blamed : shows ≡ true → IfErr ended (λ e. IsUsage e
         → NamesTwice (order_asked asked).apart ⊎ GivesNone asked before.entries)
-    -- However it ended, no file but OUT and that of `--save` differs.
+    -- However it ended, no file but OUT and the file of `--save` differs.
     pub spares : shows ≡ true → Spares asked before.entries after.entries
     -- What is opened and made, also of the machine's files, is a beginning of the command's order.
     pub order : Follows (order_asked asked).whole before.events after.events
@@ -276,8 +276,8 @@ module _ (IsPorts : Ports → Type 0) where
     -- If the command line is refused, it is a beginning of that.
     pub order_usage : IfErr ended
         (λ e. IsUsage e → Follows (order_asked asked).done before.events after.events)
-    -- Where contracts see the files it is then only what the words are judged by: the output has to
-    -- be opened to find that it is another file.
+    -- If contracts see the files it is then only what the words are judged by: the output has to be
+    -- opened to find that it is another file.
     pub order_shown : shows ≡ true → IfErr ended
         (λ e. IsUsage e → Follows (order_asked asked).judged before.events after.events)
     -- Names that have to differ are refused before a file is opened.

@@ -42,7 +42,7 @@ pub record MakesSecret (asked : Encrypting) (old : Files) (secret : SecretView) 
   pub within : IsAllowed secret.pass secret.log
   pub random_is : IsRandomIn (old (random_name (option_text asked.random))) secret
 
--- ---- Where `resume` goes on.
+-- ---- Where `resume` begins.
 
 -- the position in a file
 abbrev pub IsPositionIn : Option (List ℕ) → Position → Type 0
@@ -88,7 +88,7 @@ Reports input_old input_new output_old output_new =
 abbrev pub IsReportOf : Option (List ℕ) → Report → Type 0
 IsReportOf held r = (bytes : List ℕ) × (held ≡ Some bytes) × IsReport bytes r
 
--- a report was written, that of the file, where contracts see the files
+-- a report was written, which is the file's if contracts see the files
 abbrev pub ReportsFile : Bool → Option (List ℕ) → Option (List ℕ) → Option (List ℕ) → Type 0
 ReportsFile shows held output_old output_new =
     (r : Report) × (shows ≡ true → IsReportOf held r)

@@ -20,8 +20,8 @@ use Rattle.age_cli.specs.Runs.{World, Runs}
 use Rattle.age_cli.specs.Commands.{IsPositionIn}
 
 -- a beginning of the input, as a run may have read it: a header that opens, the payload nonce, the
--- blocks before the run's first chunk, and bytes after them; and all of the input where it was read
--- to its end. A block has 65,552 bytes.
+-- blocks before the run's first chunk, and bytes after them; and all of the input if it was read to
+-- its end. A block has 65,552 bytes.
 pub record IsRead (identity : Identity) (input : Option (List ℕ)) (r : Run) : Type 0 where
   pub text : HeadText r.file.header r.file.header_bytes
   pub opens : Opens (allows_by identity) r.file.header r.file.key
@@ -43,9 +43,9 @@ pub record KeepsOut (old new : Option (List ℕ)) (status : ℕ) (text : List �
   pub safe : (new ≡ old) ⊎ ((held : List ℕ) × (new ≡ Some held) × IsPrefixOf held text)
   pub whole : status ≡ 0 → new ≡ Some text
 
--- ---- of a decryption that goes on from a position
+-- ---- A decryption from a position.
 
--- a run begins at the position, which is that of its file
+-- a run begins at the position, which is its file's
 pub record BeginsAt (p : Position) (r : Run) : Type 0 where
   pub index : r.first ≡ p.index
   pub own : HasId p r.file
@@ -81,8 +81,9 @@ DecryptKeepsOut words before after status =
     → IsWritersInput d before.files.entries text
     → KeepsOut (before.files.entries d.to.now) (after.files.entries d.to.now) status text
 
--- The same of `resume`, while the old text begins with the chunks of the plaintext before the
--- position.
+-- Whatever the status, `resume` leaves OUT as it was or with a beginning of the plaintext, while no
+-- block of IN opens except as its writer sealed it and the old text begins with the chunks of the
+-- plaintext before the position; and 0 means all of the plaintext.
 abbrev pub ResumeKeepsOut : List Text → (before after : World) → ℕ → Type 0
 ResumeKeepsOut words before after status =
     (r : Resuming) (text : List ℕ) → Requests words (Resume r)

@@ -50,8 +50,8 @@ pub record Reported (ended : Result (Unit {0}) Ending) (Report Unprinted : Type 
   pub unprinted : IfErr ended (λ e. FailsWriting output_old output_new e ⊎ Unprinted)
 
 -- `shows` says whether contracts see the files, `IsPorts` which are the ports of those, and
--- `Failed` that a source of them failed. `Unread`, `Unprinted` and `Unshown` say that the input, the
--- output and the progress are as they were, and `Over` that the progress is over.
+-- `Failed` that a source of them failed. `Unread`, `Unprinted` and `Unshown` say that the input,
+-- the output and the progress are as they were, and `Over` that the progress is over.
 module _ (words : List Text) (shows : Bool) (IsPorts : Ports → Type 0) (before after : World)
     (Failed Unread Unprinted Unshown Over : Type 0) (ended : Result (Unit {0}) Ending) where
   -- Without words the input is reported.
@@ -128,7 +128,7 @@ pub record Runs (words : List Text) (shows : Bool) (IsPorts : Ports → Type 0)
   pub status_is : status ≡ status_by ended
   -- If all was done, nothing goes to `faults`.
   pub quiet : OnOk ended Quiet
-  -- Otherwise the line of a fault does, or those of two, unless the sink fails.
+  -- Otherwise the line of a fault does, or the lines of two, unless the sink fails.
   pub reported : IfErr ended
       (λ e. ReportsEnding e faults_old.taken faults_new.taken faults_old.failed faults_new.failed)
   pub obeys : Obeys words shows IsPorts before after Failed Unread Unprinted Unshown Over ended

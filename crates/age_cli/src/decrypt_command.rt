@@ -72,7 +72,7 @@ pub(crate) fn names_a_file_twice<F: FileSet>(files: &F, asked: &Decrypting<'_>) 
     is_read(files, asked, save)
 }
 
-/// Positions are kept where one is to be saved.
+/// Positions are kept if one is to be saved.
 pub(crate) fn positions_for(save: Option<&str>) -> PositionPolicy
     ensures { result ≡ kept_for (option_text save.entry) }
 {
@@ -82,8 +82,8 @@ pub(crate) fn positions_for(save: Option<&str>) -> PositionPolicy
     }
 }
 
-/// The bytes of the file of what opens the input, if it has one. That isn't read if two files that
-/// have to differ are one, or two of the names of what is read stand for one stream.
+/// Reads the passphrase or shared-secret file, if the options name one. Refuses first if two names
+/// that must differ are one file, or two names of what is read stand for one stream.
 pub(crate) fn read_secret<F: FileSet>(
     alloc: Global,
     files: &mut F,
@@ -110,7 +110,7 @@ fn can_reread<F: FileSet>(files: &F, source: &F::In, save: Option<&str>) -> bool
     save.is_some() && files.can_reread(source)
 }
 
-/// Positions are dropped where the input can be read once more to find one.
+/// Positions are dropped if the input can be read once more to find one.
 fn positions_at_first(is_reread: bool, save: Option<&str>) -> PositionPolicy
     ensures dropped { is_reread ≡ true → result ≡ Dropped }
     ensures kept { is_reread ≡ false → result ≡ kept_for (option_text save.entry) }
@@ -161,7 +161,7 @@ fn open_text<F: FileSet, P: Meter>(
     }
 }
 
-/// The stop and the key by which the input is read once more, where that is to be done.
+/// The stop and the key by which the input is read once more, if that is to be done.
 fn again_of(
     is_reread: bool,
     end: &Result<Done, Stopped>,
@@ -180,8 +180,8 @@ fn again_of(
 }
 
 /// Decrypts the input into the output, ends that, and saves the position of a stop. Linking the
-/// text for it takes longer than decrypting: where the input can be read again, that is done only
-/// once it stopped.
+/// text for it takes longer than decrypting: if the input can be read again, that is done only once
+/// it stopped.
 fn decrypt_opened<F: FileSet, E: Sink, P: Meter>(
     alloc: Global,
     files: &mut F,

@@ -144,7 +144,7 @@ fn names_out_twice<F: FileSet>(files: &F, asked: &Encrypting<'_>) -> bool
 }
 
 /// What the secret is made of, from the files of the passphrase and of random bytes. These aren't
-/// read where the output is one of the files that are, or a stream would be read twice.
+/// read if the output is one of the files that are, or a stream would be read twice.
 fn read_material<F: FileSet>(
     alloc: Global,
     files: &mut F,

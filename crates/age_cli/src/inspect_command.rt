@@ -38,7 +38,7 @@ fn write_report<I: Source, O: Sink>(
     flush_all(output)
 }
 
-/// The same, as a command.
+/// Inspects as a command does.
 pub(crate) fn report<I: Source, O: Sink>(
     alloc: Global,
     input: &mut I,

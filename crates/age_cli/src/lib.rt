@@ -8,7 +8,7 @@
 //!
 //! `encrypt_file`, `decrypt_file` and `resume_file` do what one command asks for, once its words
 //! are read. Each finds what opens or seals the input, opens the files in a fixed order, runs the
-//! engine of `age_file`, and leaves the output, and the position where it is to be saved, as its
+//! engine of `age_file`, and leaves the output, and the position if it is to be saved, as its
 //! contract says, whether it succeeds or stops. An `Ending` says why it did not succeed.
 #![tactic(auto)]
 

@@ -34,7 +34,7 @@ pub(crate) struct Output<'a> {
     pub(crate) to: &'a str,
     /// Where its position goes if it stops.
     pub(crate) save: Option<&'a str>,
-    /// The file of the position at which it begins, which may be that of `save`.
+    /// The file of the position at which it begins, which may be the file of `save`.
     pub(crate) position: Option<&'a str>,
     /// When what was written reaches the disk.
     pub(crate) durability: Durability,
@@ -54,8 +54,8 @@ fn refusal_of<F: FileSet>(files: &F, out: &F::Out, content: Content) -> Option<U
     }
 }
 
-/// Opens the output, unless it turns out to be a file that is read or that of `save`, or can't be
-/// the output for another reason.
+/// Opens the output, unless it turns out to be a file that is read or the file of `save`, or can't
+/// be the output for another reason.
 fn create_out<F: FileSet>(
     alloc: Global,
     files: &mut F,
@@ -77,7 +77,7 @@ fn create_out<F: FileSet>(
 }
 
 /// Prepares the file of `save`, if there is one, unless it turns out to be a file that is read,
-/// other than that of the position.
+/// other than the file of the position.
 fn prepare_save<F: FileSet>(alloc: Global, files: &mut F, asked: &Output<'_>) -> Result<(), Ending>
     ensures kept { (F.view files.new).entries ≡ (F.view files.old).entries }
     ensures noted { (F.view files.new).events
@@ -117,8 +117,8 @@ pub(crate) fn open_both<F: FileSet>(
     Ok((source, out))
 }
 
-/// An input of which a meter is shown the length, where the set of files can say it, and then how
-/// much is read.
+/// An input of which a meter is shown the length, if the set of files can say it, and then how much
+/// is read.
 pub(crate) fn with_meter<F: FileSet, M: Meter>(
     files: &F,
     source: F::In,
@@ -140,7 +140,7 @@ pub(crate) fn end_meter<M: Meter>(meter: &mut M)
     meter.end();
 }
 
-/// Ends the output where the engine stopped: with what was written, or as it was.
+/// Ends the output if the engine stopped: with what was written, or as it was.
 pub(crate) fn leave<F: FileSet>(
     files: &mut F,
     out: F::Out,

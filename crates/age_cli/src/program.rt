@@ -27,7 +27,7 @@ use clap::Error;
 use clap::error::ErrorKind;
 use std::alloc::Global;
 
-/// Help and the version go to the output where they are asked for; other arguments are refused.
+/// Help and the version go to the output if they are asked for; other arguments are refused.
 fn answer_refusal<O: Sink>(alloc: Global, error: Error, output: &mut O) -> Result<(), Ending>
     ensures asked { IsOk result → IsForOutput (kind_of error) }
     ensures prints { OnOk result (Prints (O.view output.old) (O.view output.new)) }
@@ -105,7 +105,7 @@ fn status(ending: &Ending) -> u8
 /// `drill` delivers the payload of IN by a script, and writes a line for each line of it. Help that
 /// is asked for goes to the output, with status 0.
 ///
-/// With `--progress`, `progress` is shown how many bytes IN has, where the set of files can say so,
+/// With `--progress`, `progress` is shown how many bytes IN has, if the set of files can say so,
 /// and how many of them each pull gave, and then that the reading is over, before a fault is
 /// reported.
 pub fn run<F: FileSet, I: Source, O: Sink, E: Sink, P: Meter>(

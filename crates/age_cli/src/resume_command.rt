@@ -49,8 +49,8 @@ fn read_position<F: FileSet>(
     }
 }
 
-/// Whether two files that have to differ are one: those of a decryption; the earlier output must
-/// differ from IN, OUT and the file of `--save`, and OUT from the position.
+/// Whether two files that have to differ are one: those that `decrypt` tells apart; the earlier
+/// output must differ from IN, OUT and the file of `--save`, and OUT from the position.
 fn names_one_twice<F: FileSet>(files: &F, asked: &Resuming<'_>) -> bool
     ensures twice { NamesTwice (order_asked (Resume asked.now)).apart → result ≡ true }
     ensures shown { F.shows_bytes ≡ true → result ≡ true
@@ -72,8 +72,8 @@ fn names_one_twice<F: FileSet>(files: &F, asked: &Resuming<'_>) -> bool
     files.is_same(asked.old, others.to)
 }
 
-/// Opens the earlier output. Where the position has no chunk before it, a missing one counts as
-/// empty: a run that stops before its first chunk makes none.
+/// Opens the earlier output. If the position has no chunk before it, a missing one counts as empty:
+/// a run that stops before its first chunk makes none.
 fn open_old<F: FileSet>(
     alloc: Global,
     files: &mut F,

@@ -63,7 +63,7 @@ none_given : (o : Option (Bor Text)) → is_some o ≡ false → option_map (λ 
 none_given None h = refl
 none_given (Some s) h = cc
 
--- where there is no value there is no text to be read, and the other way round
+-- if there is no value there is no text to be read, and the other way round
 pub no_text : (f : Found) (id : Text) (o : Option (Bor Text)) → option_map (λ (s : Bor Text). s.now) o ≡ first_value f id → is_some o ≡ false
     → one_text f id ≡ None
 no_text f id o is none = none_read (matched_of f id) (sym is ∙ none_given o none)

@@ -24,7 +24,7 @@ use Rattle.age_cli_args.specs.declared.request.Resuming.{Resuming}
 -- ---- What the words after the program's name ask for, by the definitions of the parser of command
 -- lines.
 
--- the kinds of refusal of the words, none where they are taken
+-- the kinds of refusal of the words, none if they are taken
 unfoldable pub refusals : List Text → Kinds
 refusals words = fault_of age_tool words
 
@@ -47,7 +47,7 @@ is_given id rows = option_map_or (λ t. bytes_eq t (codes "true")) (one_of id ro
 
 -- ---- What a command asks for, by what stands for each of its arguments.
 
--- the number from 1 to 22 that a text spells, or this one where there is no text
+-- the number from 1 to 22 that a text spells, or this one if there is no text
 abbrev pub IsNumber : ℕ → Option Text → ℕ → Type 0
 IsNumber default None n = n ≡ default
 IsNumber default (Some text) n = IsNumeral 10 (without_leading_plus text)

@@ -17,7 +17,7 @@ use std::alloc::{AllocError, Global};
 /// How an argument of a command is given.
 #[derive(Clone, Copy)]
 enum Given {
-    /// `--ID VALUE`, where the help shows this word for the value.
+    /// `--ID VALUE`; the help shows this word for the value.
     Value(&'static str),
     /// `--ID FILE`, which has to be there.
     File,

@@ -174,11 +174,11 @@ fn request_of<'a>(name: &str, matches: &ArgMatches<'a>) -> Option<Request<'a>>
 }
 
 /// Reads what the arguments after the program's name ask for. It fails with the error of the parser
-/// of command lines: for arguments that no command takes, where help or the version is asked for,
-/// and where memory is refused.
+/// of command lines: for arguments that no command takes, if help or the version is asked for, and
+/// if memory is refused.
 ///
-/// `None` never comes up: each command has an argument for all that it takes, and numbers outside
-/// 1 to 22 are refused. The parser of command lines doesn't promise this, so callers must handle it.
+/// `None` never comes up: each command has an argument for all that it takes, and numbers outside 1
+/// to 22 are refused. The parser of command lines doesn't promise this, so callers must handle it.
 pub fn read_request<'a>(alloc: Global, words: &'a [&'a str]) -> Result<Option<Request<'a>>, Error>
     ensures asked { IfOk result (λ o. IfSome o (Requests (texts words.now))) }
     ensures unasked { IfOk result (λ o. IfNone o ((r : Request) → Requests (texts words.now) r → ⊥)) }

@@ -16,13 +16,13 @@ pub enum ProgressOption {
 pub struct Encrypting<'a> {
     /// The path of the passphrase file (`--pass`).
     pub pass: &'a str,
-    /// The work factor's logarithm, 1 to 22; 18 where `--log` isn't given.
+    /// The work factor's logarithm, 1 to 22; 18 if `--log` isn't given.
     pub log: u32,
-    /// The path of the file of random bytes, where `--random` is given.
+    /// The path of the file of random bytes, if `--random` is given.
     pub random: Option<&'a str>,
-    /// When OUT reaches the disk: later, where `--no-sync` is given.
+    /// When OUT reaches the disk: later, if `--no-sync` is given.
     pub durability: Durability,
-    /// Whether progress is shown: where `--progress` is given.
+    /// Whether progress is shown: if `--progress` is given.
     pub progress: ProgressOption,
     /// The path of the plaintext (IN).
     pub from: &'a str,
@@ -34,13 +34,13 @@ pub struct Encrypting<'a> {
 /// checked yet.
 #[derive(Clone, Copy)]
 pub struct IdentityOptions<'a> {
-    /// The path of the passphrase file, where `--pass` is given.
+    /// The path of the passphrase file, if `--pass` is given.
     pub pass: Option<&'a str>,
-    /// The file key's digits, where `--file-key` is given; they may be malformed.
+    /// The file key's digits, if `--file-key` is given; they may be malformed.
     pub file_key: Option<&'a str>,
-    /// The path of the file of the shared secret, where `--shared` is given.
+    /// The path of the file of the shared secret, if `--shared` is given.
     pub shared: Option<&'a str>,
-    /// The greatest work factor's logarithm that is accepted, 1 to 22; 22 where `--max-log` isn't
+    /// The greatest work factor's logarithm that is accepted, 1 to 22; 22 if `--max-log` isn't
     /// given.
     pub max_log: u32,
 }
@@ -50,11 +50,11 @@ pub struct IdentityOptions<'a> {
 pub struct Decrypting<'a> {
     /// What opens the file.
     pub identity: IdentityOptions<'a>,
-    /// The path that a stop's position is saved to, where `--save` is given.
+    /// The path that a stop's position is saved to, if `--save` is given.
     pub save: Option<&'a str>,
-    /// When OUT and the saved position reach the disk: later, where `--no-sync` is given.
+    /// When OUT and the saved position reach the disk: later, if `--no-sync` is given.
     pub durability: Durability,
-    /// Whether progress is shown: where `--progress` is given.
+    /// Whether progress is shown: if `--progress` is given.
     pub progress: ProgressOption,
     /// The path of the age file (IN).
     pub from: &'a str,
@@ -78,7 +78,7 @@ pub struct Resuming<'a> {
 pub struct Drilling<'a> {
     /// Whether the payload is in the clear (`--clear`).
     pub clear: bool,
-    /// The path of the passphrase file, where `--pass` is given.
+    /// The path of the passphrase file, if `--pass` is given.
     pub pass: Option<&'a str>,
     /// The path of the script (SCRIPT).
     pub script: &'a str,

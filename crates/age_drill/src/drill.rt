@@ -47,7 +47,7 @@ fn read_script<F: FileSet>(alloc: Global, files: &mut F, name: &str) -> Result<V
 }
 
 /// The header that a parser finds at the beginning of a file, and its length. `read` is how reading
-/// those bytes ended: its fault comes only where the bytes before it have none.
+/// those bytes ended: its fault comes only if the bytes before it have none.
 fn find_header(
     parser: &mut HeadParser,
     bytes: &[u8],
@@ -98,7 +98,7 @@ fn payload_after(
 }
 
 /// The key of a file's payload, and where in the bytes the payload begins. Faults come in the order
-/// of the bytes: that of reading after those of the header and the key.
+/// of the bytes: a fault of reading after those of the header and the key.
 fn open_payload(
     alloc: Global,
     unlock: &Passphrase<'_>,
@@ -266,7 +266,7 @@ fn deliver_sealed<S: Source, O: Sink>(
     deliver_payload(alloc, &key, payload, script, output)
 }
 
-/// Delivers a payload from a file that was opened, in the clear where no passphrase is given.
+/// Delivers a payload from a file that was opened, in the clear if no passphrase is given.
 fn deliver_opened<S: Source + Drop, O: Sink>(
     alloc: Global,
     unlock: Option<&Passphrase<'_>>,
@@ -283,7 +283,7 @@ fn deliver_opened<S: Source + Drop, O: Sink>(
     }
 }
 
-/// Drills a payload, in the clear where no passphrase is given.
+/// Drills a payload, in the clear if no passphrase is given.
 fn drill<F: FileSet, O: Sink>(
     alloc: Global,
     files: &mut F,

@@ -13,7 +13,7 @@ const LINES_MAX: usize = 1_000;
 /// What a line of a script asks for.
 #[derive(Clone, Copy)]
 pub(crate) enum ScriptLine {
-    /// To deliver so many bytes of the payload, from this one on.
+    /// To deliver this many bytes of the payload, from this one on.
     Piece { offset: usize, len: usize },
     /// To invert all bits of this byte of the payload.
     Flip { offset: usize },

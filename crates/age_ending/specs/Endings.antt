@@ -64,8 +64,8 @@ ReportsEnding (Usage usage) old new failed_old failed_new = Unit {0}
 abbrev pub TakesLine : FileFault → (old new : SinkView) → Type 0
 TakesLine fault old new = Appends old.taken new.taken (fault_line fault) × (new.failed ≡ old.failed)
 
--- what an announcement left: nothing, if it wasn't made, which is what `Quiet` says; the line of the
--- fault that ended the run; or a sink that failed
+-- what an announcement left: nothing, if it wasn't made, which is what `Quiet` says; the line of
+-- the fault that ended the run; or a sink that failed
 abbrev pub Announces : Announcement → Ending → (old new : SinkView) → (Quiet : Type 0) → Type 0
 Announces Unmade ending old new Quiet = Quiet
 Announces Made (Fault fault) old new Quiet = TakesLine fault old new

@@ -37,7 +37,7 @@ pub enum Usage {
     Unread,
 }
 
-/// How a run ended that didn't do what it was asked.
+/// Why a run failed.
 #[derive(Debug, Drop)]
 pub enum Ending {
     /// The parser of command lines refuses the arguments, with this text.

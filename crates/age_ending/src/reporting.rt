@@ -197,7 +197,7 @@ fn report_second<E: Sink>(faults: &mut E, ending: &Ending)
     }
 }
 
-/// Reports why a run ended, where the sink takes it, apart from what is announced.
+/// Reports why a run ended, if the sink takes it, apart from what is announced.
 pub fn report_ending<E: Sink>(faults: &mut E, ending: &Ending, announcement: Announcement)
     ensures { ReportsRest announcement ending.now (E.view faults.old) (E.view faults.new) }
 {

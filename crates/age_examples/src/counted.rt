@@ -32,7 +32,7 @@ impl<S: Source> Counted<S> {
         Counted { inner, count: 0 }
     }
 
-    /// How many bytes came, or the greatest number where there were more.
+    /// How many bytes came, or the greatest number if there were more.
     pub fn count(&self) -> u64
         ensures { result ≡ self.now.1 }
     {

@@ -13,8 +13,8 @@ const STEP: usize = 65_536;
 /// The plaintext of an age file in memory. A plaintext is shorter than its file, so the file's
 /// length is room enough.
 ///
-/// Where it is the file of some plaintext, which the unlocker opens, and undamaged, that plaintext
-/// is returned, or one of the faults that have nothing to do with the file. A fault of the file
+/// If it is the file of some plaintext, which the unlocker opens, and undamaged, that plaintext is
+/// returned, or one of the faults that have nothing to do with the file. A fault of the file
 /// returns no bytes at all, so nobody takes a cut plaintext for a whole one.
 pub fn text_of<U: Unlock>(alloc: Global, unlock: &U, file: Vec<u8>) -> Result<Vec<u8>, FileFault>
     ensures undamaged { (text : List ℕ)

@@ -32,7 +32,7 @@ pub enum FileFault {
     /// The payload, or the text to be sealed, was refused at this chunk (17 to 22).
     #[error("{0}")]
     Stream(StreamFault),
-    /// The text is not that of a position (23).
+    /// The text isn't a position's (23).
     #[error("bad position")]
     BadPosition,
     /// The position belongs to another file (24).

@@ -1,4 +1,4 @@
--- A position that is found by reading again is that of the run.
+-- A position that is found by reading again is the run's.
 use Rattle.std.proofs.Common.{◌≡◌, ℕ, ◌/◌, ◌<◌, ◌≤◌, min, List, [], ◌++◌, length, Option, Some}
 use Rattle.std.proofs.Common.{refl, sym, ap, subst, ◌∙◌, arith, append_assoc, true, false, ◌*◌}
 use Rattle.std.specs.Simd.{first_chunks}
@@ -65,7 +65,7 @@ fronts one A B was now before after bytes r q shown again a b =
       record { header_bytes = sym same.1; nonce = sym both.0; behind = both.1 },
     )
 
--- the file's parts are those of the run
+-- the file's parts are the run's
 carried : (r q : Run) (p : Position) (limit : r.first < chunk_limit) → q.file.key ≡ r.file.key
     → q.file.header_bytes ≡ r.file.header_bytes → q.file.nonce ≡ r.file.nonce
     → IsPrefixOf r.out (run_text r) → held q ≡ held r

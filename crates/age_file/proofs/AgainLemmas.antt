@@ -42,7 +42,7 @@ module _ (Allows : Header → List ℕ → Type 0) (Refused : Header → KeyFaul
           here = subst (GivesPosition Kept (IsPositionOf r)) is s.1.here;
         }
 
--- A sink that was made for so many bytes refuses only once it took them, and sends on what it took
+-- A sink that was made for this many bytes refuses only once it took them, and sends on what it took
 -- only if it took fewer.
 module _ (Allows : Header → List ℕ → Type 0) (Refused : Header → KeyFault → Type 0)
     (old new : SourceView) (before after : SinkView) (written : ℕ) (took : List ℕ) (left : ℕ)

@@ -102,7 +102,7 @@ module _ (text : List ℕ) (few : chunk_count chunk_length text ≤ chunk_limit)
       run_right text keep A (NeverEnds old.source.remaining new.source.remaining) old new stopped r
       empty f.1 (from_start r f.0 text few auth)
 
--- ---- a resumed one, where the old text begins the text
+-- ---- a resumed one, if the old text begins the text
 
 module _ (text : List ℕ) (few : chunk_count chunk_length text ≤ chunk_limit) (A : Header → List ℕ
     → Type 0) (R : Header → KeyFault

@@ -328,7 +328,7 @@ module _ (sealing : List ℕ → List ℕ → List ℕ) (opening : List ℕ → 
       ∙ ap (λ (k : ℕ). chain_if keep (first_chunks n k (base ++ released opening n next)))
       (sym old))))
 
-  -- what is known of the text where it was not written
+  -- what is known of the text if it was not written
   cut_len : (base : List ℕ) (s next : Segment) (out unwritten : List ℕ)
       → released opening n next ≡ released opening n s ++ (out ++ unwritten)
       → length (base ++ released opening n next) - length unwritten
@@ -432,7 +432,7 @@ module _ (sealing : List ℕ → List ℕ → List ℕ) (opening : List ℕ → 
             ∙ ap (λ (k : ℕ). chain_if keep (first_chunks n k text')) (sym (index ∙ old)))));
       }
 
-  -- the end, of whose text so much was written
+  -- the end, of whose text this much was written
   pub mark_end : (base : List ℕ) (s : Segment) (out unwritten : List ℕ) (was now : Tally)
       → length base ≡ s.start * n → released opening n (with_end s)
       ≡ released opening n s ++ (out ++ unwritten)

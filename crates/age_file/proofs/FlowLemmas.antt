@@ -38,7 +38,7 @@ FlowFails opener old new left unwritten ReadNeverEnds = (left ≡ []) × (unwrit
 FlowFails opener old new left unwritten other = ⊥
 
 module _ {B : Type 0} (opening : B → List ℕ → List ℕ → Option (List ℕ)) (n : ℕ) where
-  -- of what was unread and what was pulled, so much was fed, and the rest was left
+  -- of what was unread and what was pulled, this much was fed, and the rest was left
   pub record Flows (a b : OpenerView B) (old new : Stage) (left unwritten : List ℕ) : Type 0 where
     pub fed : List ℕ
     pub fresh : List ℕ
@@ -97,7 +97,7 @@ module _ {B : Type 0} (opening : B → List ℕ → List ℕ → Option (List �
       (was now : WriterView) (piece : List ℕ) (is : piece ≡ u.bytes)
       (pulls : v.pulls ≡ u.pulls)
       (p : GoesOn a b old (stage (reader_view source u) was)) where
-    -- so much of the piece that was unread was fed
+    -- this much of the piece that was unread was fed
     fed_on : (fed left unwritten : List ℕ) → piece ≡ fed ++ left
         → Releases opening n (λ s. with_piece s fed) b c was now unwritten
         → Flows a c old (stage (reader_view source v) now) left unwritten
@@ -164,7 +164,7 @@ module _ {B : Type 0} (opening : B → List ℕ → List ℕ → Option (List �
           why = feed_fails f.left f.unwritten fault f.answered;
         }
 
-  -- where all was fed, the next piece is pulled
+  -- if all was fed, the next piece is pulled
   module _ (a b : OpenerView B) (old : Stage) (x z : ReaderView) (now : WriterView)
       (used : x.unread.bytes ≡ []) (p : GoesOn a b old (stage x now)) where
     pulled_on : (result : Result Bool FileFault) → Refills x z result

@@ -48,7 +48,7 @@ module _ (op : List ℕ → List ℕ → Option (List ℕ)) (n k : ℕ) where
       ∙ (sym e ∙ ap (λ (t : List ℕ). released op n (segment k t false))
       (sym (append-nil fed) ∙ ap (λ (t : List ℕ). fed ++ t) (sym none))))
 
-  -- what was not written of the text of some bytes was not written of that of more
+  -- what was not written of the text of some bytes was not written of the text of more bytes
   less : (fed left out unwritten : List ℕ) → released op n (segment k fed false) ≡ out ++ unwritten
       → 0 < length unwritten
       → length out < length (released op n (segment k (fed ++ left) false))
@@ -107,7 +107,7 @@ module _ {B : Type 0} (sealing : B → List ℕ → List ℕ → List ℕ) (open
         marked (sealing K) (opening K) (valid K) n positive keep base (next (fresh k)) last more
         o.out unwritten now.tally is e m
 
-    -- an opener that has no fault, where all was fed
+    -- an opener that has no fault, if all was fed
     sound : (o : OpenerView B) (fed left : List ℕ) → left ≡ []
         → o.status ≡ (outcome (opening K) n (segment k fed false)).status
         → has_failed o.status ≡ false → has_failed

@@ -178,7 +178,7 @@ one_element [] size is = absurd (omega (arith, size))
 one_element (x ∷ []) size is = ap (λ (k : ℕ). k ∷ []) is
 one_element (x ∷ y ∷ xs) size is = absurd (omega (arith, size))
 
--- fields that were read are those of what they say
+-- fields that were read are the texts of what they say
 pub fields_are : (fields id links tag : List ℕ) → length fields ≡ 133
     → take 44 fields ≡ field_text id → take 44 (drop 44 fields) ≡ field_text links
     → take 44 (drop 88 fields) ≡ field_text tag → get_or fields 132 0 ≡ 10

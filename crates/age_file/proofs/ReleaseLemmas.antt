@@ -174,7 +174,7 @@ module _ {B : Type 0} (opening : B → List ℕ → List ℕ → Option (List �
       unwritten was now len h.timely (stands s h).timely
       (texts s h) (chunk_few chunk) (lent_flat chunk ∙ lent) some index chain_same m
 
-  -- a call that took the front of a piece and lent a chunk, of which so much was written
+  -- a call that took the front of a piece and lent a chunk, of which this much was written
   pub fed_front : (old new : OpenerView B) (was now : WriterView) (piece : List ℕ) (taken : ℕ)
       (chunk : Option (Bor (List ℕ))) (out unwritten : List ℕ)
       → new.key ≡ old.key

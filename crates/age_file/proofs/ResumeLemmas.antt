@@ -87,7 +87,7 @@ old_of p coming now pulled copied read front le text b =
     prefix_trans copied (take (p.index * chunk_length) text) text begins
     (take_prefix (p.index * chunk_length) text)
 
--- the old text is that of the position
+-- the old text is the position's
 old_text_of : (p : Position) (copied : List ℕ) → length copied ≡ p.index * chunk_length
     → chain (first_chunks chunk_length p.index copied) ≡ p.chain → IsOldText p copied
 old_text_of p copied size same = record { size = size; same = same }
@@ -482,7 +482,7 @@ module _ (keep : PositionPolicy) (Allows : Header → List ℕ → Type 0) (Refu
           (never_end (stage m s1.writer) (head ++ f.0) all f.2.why.0)
       skipped_fails m position other at f = absurd f
 
-      -- the position is that from which the run began, where nothing was decrypted
+      -- the position is that from which the run began, if nothing was decrypted
       same_position : (next : Position)
           → IsPositionAt unlocked s1.writer.tally.index
           (chain (first_chunks chunk_length p.index c.out)) next → IsSame p next

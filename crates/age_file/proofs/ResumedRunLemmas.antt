@@ -33,7 +33,7 @@ authentic_of text p r few at old c auth =
       authentic = auth;
     }
 
--- the position that a run began from, where the old text begins a text
+-- the position that a run began from, if the old text begins a text
 pub same_carries : (p q : Position) (copied text : List ℕ) → IsOldText p copied
     → IsPrefixOf copied text → IsSame p q
     → CarriesText text q

@@ -1,4 +1,4 @@
--- What a run wrote of a text, where what opens is the writer's; and its position.
+-- What a run wrote of a text, if what opens is the writer's; and its position.
 use Rattle.std.proofs.Common.{◌≡◌, ℕ, ◌*◌, ◌<◌, ◌≤◌, ◌/◌, min, List, ◌++◌, length, take, Option}
 use Rattle.std.proofs.Common.{Some, None, sym, ap, subst, ◌∙◌}
 use Rattle.std.proofs.Common.{arith, append_assoc}
@@ -73,7 +73,7 @@ from_start r from text few auth =
       authentic = auth;
     }
 
--- the run's tally is that of what it wrote
+-- the run's tally counts what it wrote
 pub position_is : (r : Run) (unlocked : Unlocked) (index : ℕ) (p : Position) → r.first < chunk_limit
     → r.file.key ≡ unlocked.key
     → r.file.nonce ≡ unlocked.nonce → unlocked.id ≡ file_id r.file.header_bytes r.file.nonce
@@ -108,7 +108,7 @@ position_is r unlocked index p limit key nonce id begins is at =
           );
     }
 
--- and it is handed out where it was kept
+-- and it is handed out if it was kept
 pub position_given : (keep : PositionPolicy) (r : Run) (unlocked : Unlocked) (index : ℕ)
     (position : Option Position) → r.first < chunk_limit
     → r.file.key ≡ unlocked.key → r.file.nonce ≡ unlocked.nonce

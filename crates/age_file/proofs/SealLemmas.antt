@@ -32,7 +32,7 @@ step_len_le m held piece = grind (arith, nat_tests)
 pub step_len_some : (m : ℕ) (held piece : List ℕ) → 0 < length piece → 0 < step_len m held piece
 step_len_some m held piece h = grind (arith, nat_tests, h)
 
--- a sealer that was never refused is refused only at the last chunk that a payload may have, where
+-- a sealer that was never refused is refused only at the last chunk that a payload may have, if
 -- it is full and more comes
 pub record IsAtLimit {B : Type 0} (n : ℕ) (s : SealerView B) (piece : List ℕ) : Type 0 where
   pub more : 0 < length piece
@@ -65,7 +65,7 @@ too_long n s piece positive limit text holds =
     sym (tail ∙ ap (λ (k : ℕ). length text - k * n) index) ∙ limit.full in
     omega (arith, limit.more, before, exact, positive, length-append text piece)
 
--- the front of a piece that a sealer took, where what it lent was written but for a part that
+-- the front of a piece that a sealer took, if what it lent was written but for a part that
 -- wasn't
 pub some_sealed : {B : Type 0} (sealing : B → List ℕ → List ℕ → List ℕ) (n : ℕ)
     (old new : SealerView B) (was now : WriterView) (piece : List ℕ) (taken : ℕ)

@@ -36,7 +36,7 @@ dries_then x y z p q fault f g = record {
   why = pull_fails x y z fault f.unfailed g.why;
 }
 
--- where no byte came
+-- if no byte came
 pub dries_same : (x y z : ReaderView) (p : List ℕ) (fault : FileFault) → Passes x y p
     → Dries y z [] fault → Dries x z p fault
 dries_same x y z p fault f g =

@@ -88,7 +88,7 @@ module _ (Allows : Header → List ℕ → Type 0) (Refused : Header → KeyFaul
   key_to_start a b h front rest BadX25519 stops text consumed few refuses =
       (h, front, rest, text, consumed, λ e. cc, refuses, few)
 
-  -- what was pulled where a nonce fell short
+  -- what was pulled if a nonce fell short
   short_pulled : (a : Option (List ℕ)) (y z : ReaderView) (front : List ℕ) (u : UsesShort y z)
       → Pulled a y.source.remaining y.unread.pulls (front ++ y.unread.bytes)
       → Pulled a z.source.remaining z.unread.pulls (front ++ u.0)

@@ -57,7 +57,7 @@ same_front a b x y len e = (
   sym (drop_at a x (length b) len) ∙ (ap (drop (length b)) e ∙ drop_at b y (length b) refl),
 )
 
--- a key whose MAC is the header's is refused for want of memory alone
+-- a key whose MAC is the header's is refused only if memory runs out
 for_memory : (h : Header) (key : List ℕ) (fault : KeyFault) → IsMacOf h key → RefusesKey h key fault
     → fault ≡ KeyMemory
 for_memory h key MacMismatch mac refused = absurd (refused mac)
@@ -301,7 +301,7 @@ own_authentic key nonce text few closed k below =
     (segment k (drop (k * block_length) (payload (box key nonce) chunk_length text)) true)
     (record { below = below; bytes = refl; ended = refl; timely = refl })
 
--- blocks that are those of a segment are as authentic
+-- the blocks of a segment are as authentic
 pub authentic_as : (text : List ℕ) (k : ℕ) (key nonce own_key own_nonce bytes all : List ℕ)
     (ended : Bool) → key ≡ own_key → nonce ≡ own_nonce → bytes
     ≡ all → ended ≡ true
@@ -354,7 +354,7 @@ module _ (one : OneHeader) (Allows : Header → List ℕ → Type 0) (Refused : 
   payload_undamaged never ReadNeverEnds is f = tt
   payload_undamaged never other is f = absurd f
 
-  -- and where it was read to its end, gave its text
+  -- and if it was read to its end, gave its text
   pub run_writes : r.copied ≡ take (r.first * chunk_length) text → IsDone Allows old new written r
       → WritesText old.sink.taken new.sink.taken written text
   run_writes old_text d =

@@ -14,7 +14,7 @@ link so_far chunk = sha256 (so_far ++ chunk)
 unfoldable pub chain : List (List ℕ) → List ℕ
 chain chunks = fold link (replicate 32 0) chunks
 
--- the chain over so many chunks of a text, the first ones
+-- the chain over this many chunks of a text, the first ones
 abbrev pub chain_over : ℕ → List ℕ → List ℕ
 chain_over count text = chain (first_chunks chunk_length count text)
 

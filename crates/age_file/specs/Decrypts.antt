@@ -49,12 +49,13 @@ StartFails Allows Refused old new fault = HeadFails (IsEarly Allows) old new fau
 
 -- ---- What a decryption did.
 
--- what a decryption promises where it ended
+-- what a decryption promises if it ended
 abbrev pub DecryptEnds : (Header → List ℕ → Type 0) → Ports → Ports → Done → Run → Type 0
 DecryptEnds Allows old new done r = IsFromStart r × IsDone Allows old new done.written r
     × NoneFailed old new
 
--- what it promises where it stopped: before the payload, nothing was written; or in the payload
+-- what a decryption promises if it stopped: before the payload, nothing was written; or in the
+-- payload
 abbrev pub DecryptStops : PositionPolicy → (Header → List ℕ → Type 0) → (Header → KeyFault → Type 0)
     → Ports → Ports → Option Run → Stopped → Type 0
 DecryptStops keep Allows Refused old new None stopped = WritesNone old new stopped
@@ -63,7 +64,7 @@ DecryptStops keep Allows Refused old new (Some r) stopped = IsFromStart r
     × StopsInPayload keep Allows (NeverEnds old.source.remaining new.source.remaining) old new
     stopped r
 
--- exactly this text was written, of so many bytes
+-- exactly this text was written, and its bytes are this many
 abbrev pub WritesText : Option (List ℕ) → Option (List ℕ) → ℕ → List ℕ → Type 0
 WritesText old new written text = Appends old new text × (written ≡ length text)
 
@@ -82,7 +83,7 @@ pub record IsWhole (Allows : Header → List ℕ → Type 0) (Refused : Header �
   pub only : (k : List ℕ) → Allows header k → k ≡ key
   pub never : (fault : KeyFault) → Refused header fault → fault ≡ KeyMemory
 
--- and its last block, where that is full, doesn't open as one before the last
+-- and its last block, if that is full, doesn't open as one before the last
 pub record IsUndamagedFile (Allows : Header → List ℕ → Type 0) (Refused : Header → KeyFault → Type 0)
     (coming : Option (List ℕ)) (text : List ℕ) : Type 0 where
   pub whole : IsWhole Allows Refused coming text
@@ -96,7 +97,7 @@ StopsOutside Memory = Unit {0}
 StopsOutside ReadNeverEnds = Unit {0}
 StopsOutside other = ⊥
 
--- what a decryption promises, where positions are kept or dropped: its run, if it came to the
+-- what a decryption promises, whether positions are kept or dropped: its run, if it came to the
 -- payload; how it ended and how it stopped; that the text of an age file that is undamaged is
 -- written, unless reading, writing or memory fails; that the sink sent on what it took; and that
 -- the sink keeps its label
@@ -112,7 +113,7 @@ pub record Decrypts (keep : PositionPolicy) (Allows : Header → List ℕ → Ty
   pub settled : OnOk result (new.sink.settled ≡ true)
   pub named : new.sink.label ≡ old.sink.label
 
--- the key that opened the file, where it came to its payload
+-- the key that opened the file, if it came to its payload
 abbrev pub FindsKey : Option Run → Option (List ℕ) → Type 0
 FindsKey None key = key ≡ None
 FindsKey (Some r) key = key ≡ Some r.file.key
@@ -123,7 +124,7 @@ pub record DecryptsKeyed (keep : PositionPolicy) (Allows : Header → List ℕ �
     (key : Option (List ℕ)) : Type 0 where
   pub is : Decrypts keep Allows Refused old new result
   pub found : FindsKey is.run key
-  -- where it came to its payload there is a position, whether it is kept or not
+  -- if it came to its payload there is a position, whether it is kept or not
   pub due : IfSome is.run (λ r. (p : Position) × IsPositionOf r p)
 
 -- ---- Where a run stopped, found by reading its file once more.
@@ -141,7 +142,7 @@ IsElsewhere run written fault (Err stopped) = ((stopped.written ≢ written) ⊎
     × (stopped.fault ≢ Write) × (fault ≡ fault_again stopped.fault)
 
 module _ (Allows : Header → List ℕ → Type 0) where
-  -- the position of a run over what was read again, which wrote so many bytes
+  -- the position of a run over what was read again, which wrote this many bytes
   pub record IsFoundAgain (old new : SourceView) (written : ℕ) (p : Position) : Type 0 where
     pub run : Run
     pub from_start : IsFromStart run
@@ -159,7 +160,7 @@ module _ (Allows : Header → List ℕ → Type 0) where
     pub decrypts : Decrypts Kept Allows Refused (ports old before) (ports new after) result
     pub elsewhere : IsElsewhere decrypts.run written fault result
 
-  -- what a search for the position after so many bytes promises
+  -- what a search for the position after this many bytes promises
   abbrev pub FindsPosition : (Header → KeyFault → Type 0) → SourceView → SourceView → ℕ
       → Result Position FileFault → Type 0
   FindsPosition Refused old new written (Ok p) = IsFoundAgain old new written p

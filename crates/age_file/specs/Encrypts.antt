@@ -49,8 +49,8 @@ abbrev pub without_last : SecretView → (front text : List ℕ) → List ℕ
 without_last s front text = (front ++ s.nonce)
     ++ block_bytes (sealed_before_last (box s.key s.nonce) chunk_length text)
 
--- why it stopped, after this text was read and these bytes were written. Where a pull failed, or
--- the source never ended, the last block is missing: they are no whole file
+-- why it stopped, after this text was read and these bytes were written. If a pull failed, or the
+-- source never ended, the last block is missing: they are no whole file
 abbrev pub WhyStopped : SecretView → Ports → Ports → (front text out : List ℕ) → FileFault
     → Type 0
 WhyStopped s old new front text out (Stream fault) = (2 ^ 64 < length text)
@@ -72,7 +72,7 @@ pub record EncryptsFront (s : SecretView) (old new : Ports) (fault : FileFault) 
   pub prefix : IsPrefixOf out file
   pub why : WhyStopped s old new is.front text out fault
 
--- want of memory comes before anything was read or written
+-- memory runs out before anything is read or written
 abbrev pub EncryptFails : SecretView → Ports → Ports → FileFault → Type 0
 EncryptFails s old new Memory = new ≡ old
 EncryptFails s old new fault = EncryptsFront s old new fault

@@ -25,8 +25,8 @@ use Rattle.age_file.specs.declared.position.PositionPolicy.{PositionPolicy}
 -- ---- Runs in a row: a decryption, and then resumed ones, each of which has the output of the run
 -- before as its old text.
 
--- a resumed run and the position that it began from; where it stopped in the blocks that are
--- skipped, no bytes are after them
+-- a resumed run and the position that it began from; if it stopped in the blocks that are skipped,
+-- no bytes are after them
 pub record ResumedRun : Type 0 where
   pub position : Position
   pub run : Run
@@ -60,7 +60,7 @@ AllFollow text first [] = IsFromStart first × IsAuthenticRun first text
     × IsPrefixOf first.out (run_text first)
 AllFollow text first (r ∷ earlier) = FollowsOn text first earlier r × AllFollow text first earlier
 
--- then what the last one wrote begins the text, and is all of it where it ended; so does what one
+-- what the last of such runs wrote begins the text, and is all of it if it ended; so does what one
 -- more run wrote that stopped while it copied that output; and a position that the last one handed
 -- out carries the chain over the text's first chunks
 pub record WritesRight (text : List ℕ) (first : Run) (runs : List ResumedRun) : Type 0 where
@@ -83,8 +83,8 @@ pub record TookBeginning (text : List ℕ) (taken : Option (List ℕ)) : Type 0 
   pub shown : taken ≡ Some out
   pub begins : IsPrefixOf out text
 
--- the sink took all of the text where the call is done, and else its beginning; and a position that
--- is handed out is right
+-- the sink took all of the text if the call is done, and else its beginning; and a position that is
+-- handed out is right
 abbrev pub AnswersRight : List ℕ → Option (List ℕ) → Result Done Stopped → Type 0
 AnswersRight text taken result = MatchResult result (λ done. taken ≡ Some text)
     (λ stopped. TookBeginning text taken × IfSome stopped.position (CarriesText text))
@@ -171,7 +171,7 @@ pub record Bound (text : List ℕ) (p : Position) (r : Run) : Type 0 where
   pub copied : r.copied ≡ take (p.index * chunk_length) text
   pub begins : IsPrefixOf (held r) text
 
--- of every resumed run; and where the call is done, all of the text was written
+-- of every resumed run; and if the call is done, all of the text was written
 module _ (Who : Type 0) (Allows : Who → Header → List ℕ → Type 0) where
   abbrev pub RunsAreBound : Type 0
   RunsAreBound = (who : Who) (text : List ℕ) (p : Position) (old new : ResumePorts) (written : ℕ)
@@ -196,7 +196,7 @@ pub record IsSecret (s : SecretView) : Type 0 where
 abbrev pub passphrase_identity : SecretView → ℕ → PassphraseIdentity
 passphrase_identity s max_log = record { pass = s.pass; max_log = max_log }
 
--- the age file of a secret and a text is a whole one for the secret's passphrase, where the limit
+-- the age file of a secret and a text is a whole one for the secret's passphrase, if the limit
 -- allows its work factor
 abbrev pub AgeFileIsWhole : Type 0
 AgeFileIsWhole = (s : SecretView) (max_log : ℕ) (text bytes : List ℕ) → IsSecret s → s.log ≤ max_log
@@ -212,7 +212,7 @@ pub record WasEncrypted (s : SecretView) (text : List ℕ) (old new : Ports) (wr
   pub done : Encrypts s old new written
 
 -- then a decryption of what the sink took, with the same passphrase, gives the text back, or stops
--- as reading, writing or want of memory may stop it
+-- as reading, writing or running out of memory may stop it
 abbrev pub RoundTrip : Type 0
 RoundTrip = (keep : PositionPolicy) (s : SecretView) (max_log : ℕ) (text : List ℕ)
     (was file now last : Ports) (written : Written) (result : Result Done Stopped)

@@ -17,11 +17,11 @@ stanza_report s = record {
   body = length s.body;
 }
 
--- a plaintext of p bytes has a nonce of 16 bytes and a payload of so many bytes together
+-- a plaintext of p bytes has a nonce of 16 bytes and a payload of this many bytes together
 abbrev pub IsPlain : ℕ → ℕ → Type 0
 IsPlain rest p = (16 ≤ rest) × IsTextLength (rest - 16) p
 
--- the one plaintext's length that so many bytes would hold, or none
+-- the one plaintext's length that this many bytes would hold, or none
 abbrev pub IsPlainOf : ℕ → Option ℕ → Type 0
 IsPlainOf rest plain = MatchOption plain ((p : ℕ) → IsPlain rest p → ⊥) (IsPlain rest)
 

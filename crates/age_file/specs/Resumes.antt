@@ -120,7 +120,7 @@ NeverEndTogether old new = (bytes : List ℕ) × (texts : List ℕ)
     × IsByAllPulls (length bytes + length texts)
 
 module _ (Allows : Header → List ℕ → Type 0) (p : Position) (old new : ResumePorts) where
-  -- what a resumed decryption promises where it ended
+  -- what a resumed decryption promises if it ended
   abbrev pub ResumeEnds : Done → Run → Type 0
   ResumeEnds done r = IsFrom p old.old new.old r × (new.old.failed ≡ old.old.failed)
       × IsDone Allows old.main new.main done.written r × NoneFailed old.main new.main
@@ -149,7 +149,7 @@ module _ (Allows : Header → List ℕ → Type 0) (p : Position) (old new : Res
   CopyFails pulled copied other = ⊥
 
   -- all of it up to the position was copied, and isn't the text that the position was made for; or
-  -- not so much was copied
+  -- less was copied
   abbrev pub InOldFails : (pulled copied : List ℕ) → FileFault → Type 0
   InOldFails pulled copied OldTextDiffers = (length copied ≡ p.index * chunk_length)
       × (chain_over p.index copied ≢ p.chain)
@@ -167,7 +167,8 @@ module _ (Allows : Header → List ℕ → Type 0) (p : Position) (old new : Res
     pub nowhere : stopped.position ≡ None
     pub why : InOldFails writes.pulled copied stopped.fault
 
-  -- While blocks are skipped, the file ends after so many whole ones, or no more comes of it
+  -- While blocks are skipped, the file ends, after a number of whole ones that the fault names, or
+  -- no more comes of it
   abbrev pub InSkippedFails : (skipped : List ℕ) → FileFault → Type 0
   InSkippedFails skipped (Stream fault) = (fault.kind ≡ Truncated)
       × (fault.chunk ≡ length skipped / block_length) × IsAtEnd new.main.source.remaining
@@ -192,7 +193,8 @@ module _ (Allows : Header → List ℕ → Type 0) (p : Position) (old new : Res
     pub here : GivesPosition keep (IsSame p) stopped.position
     pub why : InSkippedFails skipped stopped.fault
 
-  -- what it promises where it stopped: before the payload, which its run would name; or in it
+  -- what a resumed decryption promises if it stopped: before the payload, which its run would name;
+  -- or in it
   abbrev pub ResumeStops : PositionPolicy → (Header → KeyFault → Type 0) → Option Run → Stopped → Type 0
   ResumeStops keep Refused None stopped =
       (WritesNone old.main new.main stopped × (new.old ≡ old.old)
@@ -206,7 +208,7 @@ module _ (Allows : Header → List ℕ → Type 0) (p : Position) (old new : Res
 
 -- the source is an age file of this text, and the unlocker has its key and no other; the position
 -- is this file's, of a chunk that the text has, and carries its chain; the old text is the text's
--- before that chunk; and the last block, where that is full, doesn't open as one before the last
+-- before that chunk; and the last block, if that is full, doesn't open as one before the last
 pub record IsUndamagedRest (Allows : Header → List ℕ → Type 0)
     (Refused : Header → KeyFault → Type 0) (p : Position) (coming old_coming : Option (List ℕ))
     (text : List ℕ) : Type 0 where
@@ -220,10 +222,10 @@ pub record IsUndamagedRest (Allows : Header → List ℕ → Type 0)
 
 -- ---- What a resumed decryption promises.
 
--- where positions are kept or dropped: its run, if it came to the payload; how it ended and how it
--- stopped; that the text of an age file that is undamaged, from a position of it, is written whole,
--- unless reading, writing or memory fails; that the sink sent on what it took; and that the sink
--- keeps its label
+-- what a resumed decryption promises, whether positions are kept or dropped: its run, if it came to
+-- the payload; how it ended and how it stopped; that the text of an age file that is undamaged,
+-- from a position of it, is written whole, unless reading, writing or memory fails; that the sink
+-- sent on what it took; and that the sink keeps its label
 pub record ResumesText (keep : PositionPolicy) (Allows : Header → List ℕ → Type 0)
     (Refused : Header → KeyFault → Type 0) (p : Position) (old new : ResumePorts)
     (result : Result Done Stopped) : Type 0 where

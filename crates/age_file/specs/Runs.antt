@@ -80,7 +80,7 @@ pub record EndsInHeader (bytes : List ℕ) : Type 0 where
   pub no_fault : NoFault bytes
   pub short : length bytes < header_limit
 
--- they do, and were cut there
+-- the bytes end within a header, and were cut there
 abbrev pub IsCut : List ℕ → HeadFault → Type 0
 IsCut bytes fault = EndsInHeader bytes
     × (fault ≡ record { kind = HeadCut; line = line_after bytes })
@@ -89,7 +89,7 @@ IsCut bytes fault = EndsInHeader bytes
 abbrev pub IsHeadFault : List ℕ → HeadFault → Type 0
 IsHeadFault bytes fault = (HasHeader bytes → ⊥) × (IsFault bytes fault ⊎ IsCut bytes fault)
 
--- the fault is that of the bytes that were read, and so of all that the source had
+-- the bytes that were read have this fault, and so has all that the source had
 pub record ReportsFault (old new : Option (List ℕ)) (fault : HeadFault) : Type 0 where
   pub bytes : List ℕ
   pub consumed : Consumes old new bytes
@@ -97,7 +97,7 @@ pub record ReportsFault (old new : Option (List ℕ)) (fault : HeadFault) : Type
   pub reports : IsFault bytes fault ⊎ (IsAtEnd new × IsCut bytes fault)
   pub of_all : IfSome old (λ all. IsHeadFault all fault)
 
--- so many bytes came by 2^63 pulls, each of which gave some
+-- this many bytes came by 2^63 pulls, each of which gave some
 abbrev pub IsByAllPulls : ℕ → Type 0
 IsByAllPulls count = (2 ^ 63 ≤ count) × (count ≤ pull_room * 2 ^ 63)
 
@@ -109,7 +109,7 @@ NeverEnds old new = (bytes : List ℕ) × Consumes old new bytes × IsByAllPulls
 abbrev pub InHeader : Option (List ℕ) → Option (List ℕ) → Type 0
 InHeader old new = (bytes : List ℕ) × Consumes old new bytes × EndsInHeader bytes
 
--- the same, or they begin with a header
+-- the bytes that came end within a header and hold no fault so far, or they begin with a header
 abbrev pub NoHeadFault : Option (List ℕ) → Option (List ℕ) → Type 0
 NoHeadFault old new = (bytes : List ℕ) × Consumes old new bytes
     × (EndsInHeader bytes ⊎ HasHeader bytes)
@@ -176,8 +176,8 @@ pub record Reads (Allows : Header → List ℕ → Type 0) (old new : Option (Li
   pub size : length f.nonce ≡ 16
   pub read : Consumes old new ((f.header_bytes ++ f.nonce) ++ rest)
 
--- the run matches what was read and written: so many bytes, the old text and then the beginning of
--- the text that was released
+-- the run matches what was read and written: this many bytes, the old text and then the beginning
+-- of the text that was released
 pub record IsRun (Allows : Header → List ℕ → Type 0) (old new : Ports) (written : ℕ) (r : Run)
     : Type 0 where
   pub reads : Reads Allows old.source.remaining new.source.remaining r.file (r.skipped ++ r.bytes)
@@ -207,7 +207,7 @@ pub record IsAuthenticRun (r : Run) (text : List ℕ) : Type 0 where
 abbrev pub CarriesText : List ℕ → Position → Type 0
 CarriesText text p = (p.index * chunk_length ≤ length text) × (p.chain ≡ chain_over p.index text)
 
--- where a reader may go on: the whole chunks that were written, copied or released as not last,
+-- where a reader may continue: the whole chunks that were written, copied or released as not last,
 -- with the file's id, the chain over those chunks, and the tag; of an authentic run, that chain is
 -- the text's
 pub record IsPositionOf (r : Run) (p : Position) : Type 0 where

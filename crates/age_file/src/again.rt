@@ -42,7 +42,7 @@ impl Took {
     {}
 }
 
-/// A sink that takes so many bytes and keeps none of them; then it refuses more, and to send them
+/// A sink that takes this many bytes and keeps none of them; then it refuses more, and to send them
 /// on.
 #[derive(Drop)]
 struct Limit {
@@ -54,7 +54,7 @@ struct Limit {
 }
 
 impl Limit {
-    /// A sink for so many bytes.
+    /// A sink for this many bytes.
     fn new(most: u128) -> Limit
         ensures left { result.left ≡ most }
         ensures took { result.took.bytes ≡ [] }
@@ -115,7 +115,7 @@ impl Sink for Limit {
     }
 }
 
-/// What is reported where the position of a stop isn't found: that memory was refused, or that the
+/// What is reported if the position of a stop isn't found: that memory was refused, or that the
 /// file couldn't be read again.
 fn fault_again(fault: FileFault) -> FileFault
     ensures { result ≡ fault_again fault }
@@ -126,11 +126,11 @@ fn fault_again(fault: FileFault) -> FileFault
     }
 }
 
-/// The position of a stop that dropped it, after so many bytes of the text: the file is read again
-/// from its start, and its text is checked and linked once more up to them, but written nowhere. No
-/// more of it is read than the chunk after them takes.
+/// The position of a stop that dropped it, after this many bytes of the text: the file is read
+/// again from its start, and its text is checked and linked once more up to them, but written
+/// nowhere. No more of it is read than the chunk after them takes.
 ///
-/// It refuses with `Memory` (28), and with `Read` (26) where the second reading ends elsewhere.
+/// It refuses with `Memory` (28), and with `Read` (26) if the second reading ends elsewhere.
 #[tactic(auto, using(crate::proofs::AgainLemmas::ended_again, crate::proofs::AgainLemmas::stopped_elsewhere))]
 pub fn position_after<U: Unlock, S: Source>(
     alloc: Global,

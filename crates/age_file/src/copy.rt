@@ -49,7 +49,7 @@ fn copy_chunk<S: Source, O: Sink>(
     Ok(())
 }
 
-/// Copies so many chunks of an old text from its start.
+/// Copies this many chunks of an old text from its start.
 pub(crate) fn copy_chunks<S: Source, O: Sink>(
     reader: &mut Reader<'_, S>,
     chunks: u64,

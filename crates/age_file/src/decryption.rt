@@ -22,7 +22,7 @@ use age_stanza::one_header;
 use std::alloc::Global;
 use thiserror::Error;
 
-/// A file was decrypted to its end, into so many bytes.
+/// A file was decrypted to its end, into this many bytes.
 #[derive(Clone, Copy, Debug, PartialEq, Eq)]
 pub struct Done {
     /// How many bytes were written.
@@ -155,8 +155,8 @@ pub fn decrypt_with<U: Unlock, S: Source, O: Sink>(
     decrypt_keyed(alloc, positions, unlock, reader, writer).0
 }
 
-/// The same, with the key that opened the file, where its payload was reached: with it the file is
-/// read again.
+/// Decrypts as [`decrypt_with`] does, and returns the key that opened the file too, if its payload
+/// was reached: with it the file is read again.
 pub fn decrypt_keyed<U: Unlock, S: Source, O: Sink>(
     alloc: Global,
     positions: PositionPolicy,

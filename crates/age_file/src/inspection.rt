@@ -73,7 +73,7 @@ fn reports_of(alloc: Global, stanzas: Stanzas) -> Result<StanzaReports, AllocErr
     Ok(reports)
 }
 
-/// The length of the plaintext that a nonce and a payload of so many bytes hold.
+/// The length of the plaintext that a nonce and a payload of this many bytes hold.
 fn plain_of(rest: u128) -> Option<u128>
     requires { rest < 2 ^ 127 }
     ensures { IsPlainOf rest result }
@@ -85,7 +85,7 @@ fn plain_of(rest: u128) -> Option<u128>
 }
 
 /// Reads a source to its end, and reports what it holds: the header's length, its stanzas, how many
-/// bytes follow it, and the length of the plaintext that so many bytes hold
+/// bytes follow it, and the length of the plaintext that this many bytes hold
 /// (<https://c2sp.org/age#header>, <https://c2sp.org/age#payload>).
 ///
 /// Refuses with the header's fault (1 to 8), `Read` (26), `Memory` (28) and `ReadNeverEnds` (29).

@@ -10,8 +10,7 @@ use age_stream::CHUNK_LEN;
 use std::alloc::{AllocError, Global};
 use std::marker::Model;
 
-/// The most pulls of one call, over all its sources. Those that gave bytes so often are taken for
-/// ones that never end.
+/// After this many pulls that gave bytes, a call decides that its sources never end.
 const MOST_PULLS: u64 = 9_223_372_036_854_775_808;
 
 /// How many bytes are pulled at once, at most: a chunk's, so that a pull of a text that is
@@ -91,7 +90,7 @@ impl Intake {
         self.from = self.to;
     }
 
-    /// Pulls, where all bytes were used. False: the source is at its end.
+    /// Pulls, if all bytes were used. False: the source is at its end.
     pub(crate) fn refill<S: Source>(&mut self, source: &mut S) -> Result<bool, FileFault>
         requires { self.old.bytes ≡ [] }
         ensures { Refills (reader_view (S.view source.old) self.old)

@@ -8,9 +8,9 @@ use age_stanza::one_header;
 
 /// A decryption that stopped, and any number of resumed ones, each with the output of the one
 /// before as its old text: while no block opens except as the writer of a text sealed it, every
-/// output begins the text, the last is all of it where its run ended, a run that stops while it
-/// copies that output wrote a beginning of the text too, and each position that is handed out
-/// carries the chain over the text's first chunks.
+/// output begins the text, the last is all of it if its run ended, a run that stops while it copies
+/// that output wrote a beginning of the text too, and each position that is handed out carries the
+/// chain over the text's first chunks.
 pub fn runs_in_a_row()
     ensures { RunsInARow }
 {}
@@ -18,24 +18,24 @@ pub fn runs_in_a_row()
 /// Calls of [`decrypt`](crate::decrypt) and then of [`resume`](crate::resume), by unlockers of one
 /// kind, each resumed one with what the sink of the call before took as its old text: while no
 /// block opens except as the writer of a text sealed it, what each call's sink took begins the
-/// text, is all of it where the call is done, and each position that is handed out carries the
-/// chain over the text's first chunks. Of each call no more is assumed than what its contract
-/// promises, and that its sink had taken nothing before.
+/// text, is all of it if the call is done, and each position that is handed out carries the chain
+/// over the text's first chunks. Of each call no more is assumed than what its contract promises,
+/// and that its sink had taken nothing before.
 pub fn calls_in_a_row<U: Unlock>()
     ensures { CallsInARow U U.allows U.refuses }
 {}
 
-/// Bound positions: where a position carries the chain over a text's first chunks, the bytes that
-/// were copied of the old text have that chain only if they are these chunks, and no block opens
-/// except as the writer of that text sealed it, then the copied bytes are the text's, what a
-/// resumed run wrote begins the text, and it is all of the text where the call is done.
+/// Bound positions: if a position carries the chain over a text's first chunks, the bytes that were
+/// copied of the old text have that chain only if they are these chunks, and no block opens except
+/// as the writer of that text sealed it, then the copied bytes are the text's, what a resumed run
+/// wrote begins the text, and it is all of the text if the call is done.
 pub fn bound_positions<U: Unlock>()
     ensures runs { RunsAreBound U U.allows }
     ensures done { DoneIsBound U U.allows }
 {}
 
 /// The age file of a secret and a text is one that the secret's passphrase opens, and nothing but
-/// running out of memory may be returned for its header, where the limit is no less than its work
+/// running out of memory may be returned for its header, if the limit is no less than its work
 /// factor.
 pub fn age_file_is_whole()
     ensures { AgeFileIsWhole }
@@ -54,7 +54,7 @@ pub fn round_trip()
     passphrase_opens();
 }
 
-/// Reading again: where a decryption dropped its position and stopped in its payload, and is read
+/// Reading again: if a decryption dropped its position and stopped in its payload, and is read
 /// again over the same bytes, by the key that it found, a position that
 /// [`position_after`](crate::position_after) finds after as many bytes as it wrote is the one with
 /// which it would have stopped, had it kept positions.

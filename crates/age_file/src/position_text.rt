@@ -35,7 +35,7 @@ fn text_of(alloc: Global, position: &Position) -> Result<Vec<u8>, AllocError>
     Ok(text)
 }
 
-/// The number that digits spell, without leading zeros, where it is an index.
+/// The number that digits spell, without leading zeros, if it is an index.
 fn number_of(digits: &[u8]) -> Option<u64>
     ensures limit { IfSome result (λ index. index < chunk_limit) }
     ensures some { IfSome result (λ index. digits.now ≡ decimal index) }

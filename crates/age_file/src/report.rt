@@ -25,7 +25,7 @@ pub struct Report {
     pub stanzas: StanzaReports,
     /// How many bytes follow the header.
     pub rest: u128,
-    /// The length of the plaintext that so many bytes hold, or none where no valid payload has that
+    /// The length of the plaintext that this many bytes hold, or none if no valid payload has that
     /// length.
     pub plain: Option<u128>,
 }

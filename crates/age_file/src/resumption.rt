@@ -122,7 +122,7 @@ pub fn resume<U: Unlock, S: Source, L: Source, O: Sink>(
 ///
 /// Up to the payload nonce it stops as [`decrypt_with`](crate::decrypt_with) does. Then it stops
 /// with `OtherFile` (24) if the position belongs to another file, and with `PositionForged` (30) if
-/// its tag isn't that of the file's key; nothing was written. `ShortText` (25) means that the
+/// its tag wasn't made under the file's key; nothing was written. `ShortText` (25) means that the
 /// earlier output ended before the position, and `OldTextDiffers` (31) that its chunks aren't those
 /// that the position was made for; what was copied stays. `Truncated` (20), with its chunk, means
 /// that the source ends in the blocks that are skipped. Otherwise it stops as `decrypt_with` does.

@@ -28,7 +28,7 @@ fn skip_block<S: Source>(reader: &mut Reader<'_, S>) -> Result<bool, FileFault>
     Ok(true)
 }
 
-/// Passes over so many blocks, unopened.
+/// Passes over this many blocks, unopened.
 pub(crate) fn skip_blocks<S: Source>(
     reader: &mut Reader<'_, S>,
     blocks: u64,

@@ -8,7 +8,7 @@ ghost use Rattle.age_chunk.specs.Payload.{chunk_limit};
 use crate::position::{PositionPolicy, next_link};
 
 /// How far a run has come: how many bytes it wrote, how many whole chunks before the last these
-/// make from the start of the text, and the chain over those, where positions are kept.
+/// make from the start of the text, and the chain over those, if positions are kept.
 #[derive(Clone, Copy)]
 pub(crate) struct Tally {
     pub(crate) written: u128,
@@ -38,7 +38,7 @@ impl Tally {
         }
     }
 
-    /// The chain over one chunk more, where it is kept.
+    /// The chain over one chunk more, if it is kept.
     pub(crate) fn chain_over(&self, chunk: &[u8]) -> Option<[u8; 32]>
         ensures { result ≡ link_if self.now.chain chunk.now }
     {
@@ -48,7 +48,7 @@ impl Tally {
         }
     }
 
-    /// Drops the chain where positions aren't kept.
+    /// Drops the chain if positions aren't kept.
     pub(crate) fn keep(&mut self, positions: PositionPolicy)
         ensures written { self.new.written ≡ self.old.written }
         ensures index { self.new.index ≡ self.old.index }

@@ -25,24 +25,23 @@ pub data Event : Type 0 where
 -- ---- What contracts see of a set of files, the faults that it returns, and what it reads of a
 -- file that may be missing.
 
--- the bytes of the entry of each name, where there is one; and what was opened, prepared, created,
--- replaced and closed, in order, whether it succeeded or not: that also where the entries aren't
--- shown
+-- the bytes of the entry of each name, if there is one; and what was opened, prepared, created,
+-- replaced and closed, in order, whether it succeeded or not, even if the entries aren't shown
 pub record FilesView : Type 0 where
   pub entries : List ℕ → Option (List ℕ)
   pub events : List Event
 
--- this fault, or want of memory
+-- this fault, or memory ran out
 abbrev pub IsMemoryOr : FileFault → FileFault → Type 0
 IsMemoryOr other fault = (fault ≡ other) ⊎ (fault ≡ Memory)
 
--- this fault, or want of memory; or it is in use and can't be shared, which never comes of a set that
--- shows its entries
+-- this fault, or memory ran out; or the file is in use and can't be shared, which a set that shows
+-- its entries never reports
 abbrev pub OpenFails : Bool → FileFault → OpenFault → Type 0
 OpenFails shows other SameFile = shows ≡ false
 OpenFails shows other (Fault fault) = IsMemoryOr other fault
 
--- what a file holds; nothing where there is none
+-- what a file holds; nothing if there is none
 abbrev pub or_empty : Option (List ℕ) → Option (List ℕ)
 or_empty None = Some []
 or_empty (Some bytes) = Some bytes
@@ -74,7 +73,7 @@ pub record Shelf : Type 0 where
   pub room : ℕ
   pub events : List Event
 
--- the sink of a new file that holds at most so many bytes
+-- the sink of a new file that holds at most this many bytes
 abbrev pub empty_with : ℕ → Holding
 empty_with room = record {
   held = [];

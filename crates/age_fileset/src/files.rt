@@ -65,18 +65,18 @@ pub trait FileSet {
         one == other
     }
 
-    /// Refuses names of which two stand for one stream, which gives each of its bytes once: a pipe, a
-    /// socket or a terminal, or standard input, whatever it is. No entry that a set shows is one. It
-    /// opens nothing, and refuses with `Memory` (28) too.
+    /// Refuses names of which two stand for one stream, which gives each of its bytes once: a pipe,
+    /// a socket or a terminal, or standard input, whatever it is. No entry that a set shows is one.
+    /// It opens nothing, and refuses with `Memory` (28) too.
     fn check_streams(&self, _alloc: Global, _names: &[Option<&str>]) -> Result<(), OpenFault>
         ensures { IfErr result (OpenFails shows_bytes FileFault.Memory) }
     {
         Ok(())
     }
 
-    /// Opens a file to be read. Refuses with `Read` (26) where it can't be, with `Memory` (28), and
-    /// where it is a stream that was opened before, which never comes of a set that shows its
-    /// entries: that refuses with `Read` only where there is none.
+    /// Opens a file to be read. Refuses with `Read` (26) if it can't be, with `Memory` (28), and if
+    /// it is a stream that was opened before, which never comes of a set that shows its entries:
+    /// that refuses with `Read` only if there is none.
     fn open(&mut self, alloc: Global, name: &str) -> Result<Self::In, OpenFault>
         ensures kept { (view self.new).entries ≡ (view self.old).entries }
         ensures noted { (view self.new).events ≡ (view self.old).events ++ Opened name.now ∷ [] }
@@ -88,7 +88,7 @@ pub trait FileSet {
         ensures faults { IfErr result (OpenFails shows_bytes FileFault.Read) };
 
     /// Opens a file to be read. One that isn't there counts as empty. Refuses as `open` does, with
-    /// `Read` (26) where it is there and can't be opened; a set that shows its entries refuses with
+    /// `Read` (26) if it is there and can't be opened; a set that shows its entries refuses with
     /// `Memory` (28) alone.
     fn open_or_empty(&mut self, alloc: Global, name: &str) -> Result<Self::In, OpenFault>
         ensures kept { (view self.new).entries ≡ (view self.old).entries }
@@ -98,8 +98,8 @@ pub trait FileSet {
         ensures shown { shows_bytes ≡ true → IfErr result (λ f. f ≡ Fault FileFault.Memory) }
         ensures faults { IfErr result (OpenFails shows_bytes FileFault.Read) };
 
-    /// How many bytes a file that was opened still has to give, where the set can say; none of a
-    /// pipe or a terminal.
+    /// How many bytes a file that was opened still has to give, if the set can say; none of a pipe
+    /// or a terminal.
     fn length(&self, _source: &Self::In) -> Option<u64>
         ensures shown { shows_bytes ≡ true → IfSome result (λ n.
             option_map length (Self.In.view _source.now).remaining ≡ Some n) }
@@ -113,9 +113,9 @@ pub trait FileSet {
     }
 
     /// Sets a file that was opened under this name back to its start: the file that was opened,
-    /// whatever the name stands for now. It changes nothing of the set. Refuses with `Read` (26)
-    /// where it can't, and with `Memory` (28); a set that shows its entries refuses with `Read` only
-    /// where there is none.
+    /// whatever the name stands for now. It changes nothing of the set. Refuses with `Read` (26) if
+    /// it can't, and with `Memory` (28); a set that shows its entries refuses with `Read` only if
+    /// there is none.
     fn reread(&self, alloc: Global, name: &str, source: &mut Self::In) -> Result<(), FileFault>
         ensures again { OnOk result (shows_bytes ≡ true
             → (Self.In.view source.new).remaining ≡ (view self.now).entries name.now) }
@@ -123,21 +123,21 @@ pub trait FileSet {
             → (view self.now).entries name.now ≡ None) }
         ensures faults { IfErr result (IsMemoryOr FileFault.Read) };
 
-    /// Prepares that a file is replaced later, once the files to be read are open: tries, as far as
-    /// this changes nothing, whether it can be. Refuses with `Write` (27) where it can't, with
-    /// `Memory` (28), and where it is one that was opened or created before, other than that of
-    /// `spared`; a set that shows its entries refuses with `Memory` alone. A file that is created
-    /// after this is refused where it is the prepared one.
+    /// Prepares for a file to be replaced later, once the files to be read are open: checks, as far
+    /// as this changes nothing, that it can be. Refuses with `Write` (27) if it can't, with
+    /// `Memory` (28), and as the same file if it was opened or created before, unless it is the
+    /// file of `spared`. A set that shows its entries refuses with `Memory` alone. A file that is
+    /// created after this is refused if it is the prepared one.
     fn prepare(&mut self, alloc: Global, name: &str, spared: Option<&str>) -> Result<(), OpenFault>
         ensures kept { (view self.new).entries ≡ (view self.old).entries }
         ensures noted { (view self.new).events ≡ (view self.old).events ++ Prepared name.now ∷ [] }
         ensures shown { shows_bytes ≡ true → IfErr result (λ f. f ≡ Fault FileFault.Memory) }
         ensures faults { IfErr result (OpenFails shows_bytes FileFault.Write) };
 
-    /// Opens a file to be written, and makes it where there is none. No entry changes until it is
-    /// closed. Refuses with `Write` (27) where it can't be, with `Memory` (28), and where it is one
-    /// that was opened, prepared or created before, which never comes of a set that shows its
-    /// entries; a file that it made is gone again then.
+    /// Opens a file to be written, and makes it if there is none. No entry changes until it is
+    /// closed. Refuses with `Write` (27) if it can't be, with `Memory` (28), and if it is one that
+    /// was opened, prepared or created before, which never comes of a set that shows its entries; a
+    /// file that it made is gone again then.
     fn create(&mut self, alloc: Global, name: &str) -> Result<Self::Out, OpenFault>
         ensures kept { (view self.new).entries ≡ (view self.old).entries }
         ensures made { IfOk result (λ o. shows_bytes ≡ true
@@ -145,8 +145,8 @@ pub trait FileSet {
         ensures noted { (view self.new).events ≡ (view self.old).events ++ Created name.now ∷ [] }
         ensures faults { IfErr result (OpenFails shows_bytes FileFault.Write) };
 
-    /// Whether a file that was created is that of standard error, to which lines of progress and
-    /// faults go. None is in a set that shows its entries.
+    /// Whether a file that was created is standard error's, to which lines of progress and faults
+    /// go. None is in a set that shows its entries.
     fn is_for_faults(&self, _out: &Self::Out) -> bool
         ensures shown { shows_bytes ≡ true → result ≡ false }
     {
@@ -161,7 +161,7 @@ pub trait FileSet {
     }
 
     /// Ends a file that was created, with exactly the bytes that its sink took, in place of what it
-    /// held, and waits until they have reached the disk where that is asked for and the machine can
+    /// held, and waits until they have reached the disk if that is asked for and the machine can
     /// wait. Refuses with `Write` (27); it is then as it was, or holds the bytes that its sink
     /// took.
     fn close(&mut self, out: Self::Out, durability: Durability) -> Result<(), FileFault>
@@ -176,7 +176,7 @@ pub trait FileSet {
         ensures faults { IsOkUnless result FileFault.Write };
 
     /// Ends a file that was created and into which nothing was put: it is as it was before
-    /// `create`, and where there was none, there is none, also on the disk where that is asked for.
+    /// `create`, and if there was none, there is none, also on the disk if that is asked for.
     fn discard(&mut self, out: Self::Out, durability: Durability)
         ensures kept { (shows_bytes ≡ true → (Self.Out.view out).taken ≡ Some [])
             → (view self.new).entries ≡ (view self.old).entries }
@@ -185,7 +185,7 @@ pub trait FileSet {
         ensures noted { (view self.new).events ≡ (view self.old).events ++ Closed durability ∷ [] };
 
     /// Makes a file of these bytes, and waits for the disk as `close` does. One of the name is
-    /// replaced atomically where its folder lets a new one be made beside it; else it is written
+    /// replaced atomically if its folder lets a new one be made beside it; else it is written
     /// directly. Refuses with `Write` (27) and with `Memory` (28); no entry has changed then,
     /// though a file that is written directly may hold a part of the bytes.
     fn replace(

@@ -18,8 +18,8 @@ use age_stanza::Bytes;
 use std::alloc::Global;
 use std::marker::Model;
 
-/// Files over memory, whose names and bytes contracts see: the list of them, the names
-/// that can't be written, and how many bytes a file that is written can hold.
+/// Files over memory, whose names and bytes contracts see: the list of them, the names that can't
+/// be written, and how many bytes a file that is written can hold.
 #[derive(Debug, Drop)]
 pub struct MemFiles {
     entries: Vec<MemEntry>,
@@ -102,7 +102,7 @@ impl MemFiles {
         }
     }
 
-    /// Puts a file there, in place of one of its name. Where memory is refused nothing changes.
+    /// Puts a file there, in place of one of its name. If memory is refused nothing changes.
     pub fn put(&mut self, alloc: Global, name: &str, bytes: Vec<u8>) -> Result<(), Memory>
         ensures puts { PutsEntry name.now bytes.items result self.old.entries self.new.entries }
         ensures kept { self.new ≡ record self.old { entries = self.new.entries } }
@@ -116,14 +116,14 @@ impl MemFiles {
         }
     }
 
-    /// The bytes of a file, where it is there.
+    /// The bytes of a file, if it is there.
     pub fn get(&self, name: &str) -> Option<&[u8]>
         ensures { option_map (λ s. s.now) result ≡ entry_of self.now.entries name.now }
     {
         bytes_of(self.entries.as_slice(), name)
     }
 
-    /// Refuses each later attempt to create or replace a file of this name. Where memory is refused
+    /// Refuses each later attempt to create or replace a file of this name. If memory is refused
     /// nothing changes.
     pub fn refuse(&mut self, alloc: Global, name: &str) -> Result<(), Memory>
         ensures ok { OnOk result
@@ -199,7 +199,7 @@ impl FileSet for MemFiles {
 
     ghost view = { λ f. record { entries = entry_of f.entries; events = f.events } };
 
-    /// Opens a copy of a file's bytes. Refuses with `Read` (26) exactly where no file has the name.
+    /// Opens a copy of a file's bytes. Refuses with `Read` (26) exactly if no file has the name.
     fn open(&mut self, alloc: Global, name: &str) -> Result<MemSource, OpenFault>
         ensures kept { self.new
             ≡ record self.old { events = self.old.events ++ Opened name.now ∷ [] } }
@@ -215,7 +215,7 @@ impl FileSet for MemFiles {
         }
     }
 
-    /// Opens a copy of a file's bytes, or of none where no file has the name.
+    /// Opens a copy of a file's bytes, or of none if no file has the name.
     fn open_or_empty(&mut self, alloc: Global, name: &str) -> Result<MemSource, OpenFault>
         ensures kept { self.new
             ≡ record self.old { events = self.old.events ++ Opened name.now ∷ [] } }
@@ -243,8 +243,8 @@ impl FileSet for MemFiles {
         true
     }
 
-    /// Opens a copy of the file's bytes once more. Refuses with `Read` (26) exactly where no file
-    /// has the name.
+    /// Opens a copy of the file's bytes once more. Refuses with `Read` (26) exactly if no file has
+    /// the name.
     fn reread(&self, alloc: Global, name: &str, source: &mut MemSource) -> Result<(), FileFault>
         ensures again { OnOk result (entry_of self.now.entries name.now ≡ Some source.new.left) }
         ensures missing { IsErrOf result FileFault.Read
@@ -276,7 +276,7 @@ impl FileSet for MemFiles {
     }
 
     /// Gives a sink with the room that was given for it; the entry is made when it is closed.
-    /// Refuses with `Write` (27) exactly where the name is one that can't be written.
+    /// Refuses with `Write` (27) exactly if the name is one that can't be written.
     fn create(&mut self, alloc: Global, name: &str) -> Result<MemOut, OpenFault>
         ensures made { IfOk result (λ o. o ≡ (name.now, empty_with self.old.room)) }
         ensures refused { IsErrOf result (Fault FileFault.Write)
@@ -293,8 +293,7 @@ impl FileSet for MemFiles {
         Ok(new_out(alloc, name, self.room)?)
     }
 
-    /// Puts what the sink took under its name. That takes no memory where a file of the name is
-    /// there.
+    /// Puts what the sink took under its name. That takes no memory if a file of the name is there.
     fn close(&mut self, out: MemOut, durability: Durability) -> Result<(), FileFault>
         ensures puts { PutsEntry out.0 out.1.held result self.old.entries self.new.entries }
         ensures there { is_some (entry_of self.old.entries out.0) ≡ true → IsOk result }
@@ -321,8 +320,8 @@ impl FileSet for MemFiles {
         let _dropped = out;
     }
 
-    /// Refuses with `Write` (27) exactly where the name is one that can't be written, or where the
-    /// bytes are more than there is room for.
+    /// Refuses with `Write` (27) exactly if the name is one that can't be written, or if the bytes
+    /// are more than there is room for.
     fn replace(
         &mut self,
         alloc: Global,

@@ -5,7 +5,7 @@ use Rattle.std.specs.Prelude.{Some, if◌then◌else◌}
 use Rattle.std.specs.Io.KnownBytes.{Appends}
 use Rattle.age_io.specs.Io.{one_more, SinkView}
 
--- how much of a length was read, in hundredths, and 100 where more was read than that
+-- how much of a length was read, in hundredths, and 100 if more was read than that
 abbrev pub percentage : ℕ → ℕ → ℕ
 percentage length count = if nat_eq length 0 then 100 else min 100 (count * 100 / length)
 
@@ -14,7 +14,7 @@ pub record Measure : Type 0 where
   pub size : ℕ
   pub name : List ℕ
 
--- the greatest unit that is no more than so many bytes
+-- the greatest unit that is no more than this many bytes
 abbrev pub measure_of : ℕ → Measure
 measure_of bytes = if nat_lt bytes (2 ^ 10) then record { size = 1; name = codes "B" }
     else if nat_lt bytes (2 ^ 20) then record { size = 2 ^ 10; name = codes "KiB" }
@@ -22,7 +22,7 @@ measure_of bytes = if nat_lt bytes (2 ^ 10) then record { size = 1; name = codes
     else if nat_lt bytes (2 ^ 40) then record { size = 2 ^ 30; name = codes "GiB" }
     else record { size = 2 ^ 40; name = codes "TiB" }
 
--- so many bytes in units of a size, to the tenth below; bytes are whole
+-- this many bytes in units of a size, to the tenth below; bytes are whole
 abbrev pub amount : ℕ → ℕ → List ℕ
 amount size bytes = if nat_eq size 1 then decimal bytes
     else decimal (bytes / size) ++ (codes "." ++ decimal (bytes % size * 10 / size))
@@ -36,7 +36,7 @@ abbrev pub count_line : List ℕ → ℕ → List ℕ
 count_line end count = padded 6 (amount (measure_of count).size count)
     ++ (codes " " ++ ((measure_of count).name ++ end))
 
--- the line for a count of bytes, of a length where that is known and no less; it ends in a carriage
+-- the line for a count of bytes, of a length if that is known and no less; it ends in a carriage
 -- return, so that the next one is written over it, and covers a longer line that it is written over
 abbrev pub progress_line : Option ℕ → ℕ → List ℕ
 progress_line None count = count_line (codes "\r") count
@@ -47,8 +47,8 @@ progress_line (Some length) count = if nat_lt length count
     ++ (codes " of " ++ (amount (measure_of length).size length
     ++ (codes " " ++ ((measure_of length).name ++ codes "\r"))))))
 
--- the percentage, or how often 64 MiB were read where no length is known, or after all percentages
--- where more than the length was read
+-- the percentage, or how often 64 MiB were read if no length is known, or after all percentages if
+-- more than the length was read
 abbrev pub mark : Option ℕ → ℕ → ℕ
 mark None count = count / 2 ^ 26
 mark (Some length) count = if nat_lt length count then 101 + count / 2 ^ 26
@@ -59,7 +59,7 @@ abbrev pub first_mark : Option ℕ → ℕ
 first_mark None = 1
 first_mark (Some length) = 0
 
--- whether a line is due, where the next is due at that mark
+-- whether a line is due, if the next is due at that mark
 abbrev pub is_due : Option ℕ → ℕ → ℕ → Bool
 is_due length next count = nat_le next (mark length count)
 

@@ -40,7 +40,7 @@ fn show_text<W: fmt::Write>(
     Ok(left)
 }
 
-/// Quotes are harmless, and a backslash has to be told from the one that begins a code.
+/// Quotes are harmless, and a backslash must differ from the one that begins a code.
 fn show_char<W: fmt::Write>(c: char, f: &mut Formatter<W>) -> fmt::Result {
     match c {
         '\'' => f.write_str("'"),
@@ -49,7 +49,7 @@ fn show_char<W: fmt::Write>(c: char, f: &mut Formatter<W>) -> fmt::Result {
     }
 }
 
-/// The same, for bytes that are no text.
+/// Shows bytes that are no text.
 fn show_bytes<W: fmt::Write>(
     bytes: &[u8],
     left: usize,

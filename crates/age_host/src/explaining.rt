@@ -1,4 +1,4 @@
-//! What people are told after a run, besides the line of its fault.
+//! What people read after a run, besides the line of its fault.
 
 use crate::escaped::Escaped;
 use crate::failures::{Amount, Failure, Failures};
@@ -46,7 +46,7 @@ pub fn explain<O: Sink>(rt: &HostRuntime, heard: &Heard<O>, failures: &Failures<
     }
 }
 
-/// Says what the machine answered, if the fault is that of the failure.
+/// Says what the machine answered, if the fault came of the failure.
 fn explain_fault(rt: &HostRuntime, fault: Reported, failure: Option<Failure<'_>>) {
     if let Some(failure) = failure
         && failure.action.fault_number() == fault.number

@@ -1,4 +1,4 @@
-//! What the machine answered where a run failed, for a line that says so.
+//! What the machine answered when a run failed, for a line that says so.
 
 ghost use Rattle.std.specs.Prelude.{◌≡◌, ◌⊎◌, codes, IfSome};
 
@@ -67,7 +67,7 @@ impl<'w> fmt::Display for Failure<'w> {
     }
 }
 
-/// Where std says a kind of its own, the system's words for it.
+/// If std says a kind of its own, the system's words for it.
 fn kind_text(kind: io::ErrorKind) -> Option<&'static str> {
     match kind {
         io::ErrorKind::NotFound => Some("No such file or directory"),
@@ -96,7 +96,7 @@ fn show_error<W: fmt::Write>(error: io::Error, f: &mut Formatter<W>) -> fmt::Res
     }
 }
 
-/// Two names of one file; only one, where the other isn't known.
+/// Two names of one file; only one, if the other isn't known.
 #[derive(Clone, Copy)]
 pub(crate) struct Twice<'w> {
     one: &'w str,
@@ -154,7 +154,7 @@ impl<'w> Failures<'w> {
         }
     }
 
-    /// The same name, as it ends a word of the command line.
+    /// The name as it ends a word of the command line.
     pub(crate) fn word(&self, name: &str) -> &'w str
         ensures { (result.now ≡ name.now) ⊎ (result.now ≡ codes "/dev/urandom") }
     {
@@ -202,7 +202,7 @@ impl<'w> Failures<'w> {
         self.twice.set(Some(Twice { one, other }));
     }
 
-    /// Keeps a name of a file that is also that of standard error, or of some other name.
+    /// Keeps a name of a file that is also standard error's, or has some other name.
     pub(crate) fn note_used(&self, one: &str, is_for_faults: bool) {
         let other = if is_for_faults { Some(FAULTS) } else { None };
         let one = self.word(one);

@@ -23,7 +23,7 @@ use std::rt::HostRuntime;
 /// The machine's files. Contracts see what was done with them, and none of their bytes. A name is a
 /// path; `/dev/stdin`, `/dev/stdout`, `/dev/stderr` and their names under `/dev/fd` and
 /// `/proc/self/fd` are the streams that the program was started with. Two regular files or pipes
-/// are one where device and inode say so, and two block devices where their number does. Character
+/// are one if device and inode say so, and two block devices if their number does. Character
 /// devices and sockets are open to all that write. What is read and gives each of its bytes once is
 /// opened once: a pipe, a socket, a terminal and the like, and standard input, whatever it is.
 #[derive(Drop)]
@@ -160,7 +160,7 @@ impl<'r, 'w> HostFiles<'r, 'w> {
         replace_apart(alloc, self.rt, opened, prepared, id, bytes, durability)
     }
 
-    /// Keeps a file that was prepared, where it is none of those that are open.
+    /// Keeps a file that was prepared, if it is none of those that are open.
     fn admit_prepared(&mut self, prepared: Prepared) -> Result<(), OpenFault>
         ensures kept { self.new.log ≡ self.old.log }
         ensures faults { IfErr result (OpenFails false Write) }
@@ -181,7 +181,7 @@ impl<'r, 'w> HostFiles<'r, 'w> {
     }
 }
 
-/// Keeps the name of what was refused, where that is a file of another name too.
+/// Keeps the name of what was refused, if that is a file of another name too.
 fn note_same(
     failures: &Failures<'_>,
     name: &str,
@@ -200,7 +200,7 @@ fn is_for_faults(rt: &HostRuntime, id: Option<FileId>) -> bool {
     id.is_some() && id == FileId::of_stream(rt, Stream::Faults)
 }
 
-/// What is done to open an output: one is made where there is none.
+/// What is done to open an output: one is made if there is none.
 fn opening(rt: &HostRuntime, name: &str) -> Action {
     match found_at(rt, name) {
         Ok(None) => Action::Create,
@@ -214,7 +214,7 @@ fn is_one_file(rt: &HostRuntime, one: &str, other: &str) -> bool {
     one.is_some() && one == FileId::at(rt, other)
 }
 
-/// Keeps a stream, where it is none of those that were kept before.
+/// Keeps a stream, if it is none of those that were kept before.
 fn keep_stream(kept: &mut Vec<StreamId>, stream: StreamId) -> Result<(), OpenFault>
     ensures { IfErr result (OpenFails false Read) }
 {
@@ -282,7 +282,7 @@ fn keep(opened: &mut Vec<FileId>, id: Option<FileId>) -> Result<(), AllocError> 
     Ok(())
 }
 
-/// Keeps which file was opened to be written, where it is none of those that were opened before.
+/// Keeps which file was opened to be written, if it is none of those that were opened before.
 fn admit(opened: &mut Vec<FileId>, id: Option<FileId>) -> Result<(), OpenFault>
     ensures apart { (one : FileId) → id ≡ Some one → Contains opened.old.items one
         → result ≡ Err SameFile }
@@ -297,8 +297,8 @@ fn admit(opened: &mut Vec<FileId>, id: Option<FileId>) -> Result<(), OpenFault>
     }
 }
 
-/// Keeps a file that was opened to be written, where it is none of those that were opened or
-/// prepared before; otherwise it is as it was before.
+/// Keeps a file that was opened to be written, if it is none of those that were opened or prepared
+/// before; otherwise it is as it was before.
 fn admit_out<'r, 'w>(
     rt: &HostRuntime,
     opened: &mut Vec<FileId>,

@@ -1,7 +1,7 @@
 //! What to do after a fault, in a sentence.
 
-/// What to do after the fault of a number, where there is something; `is_first_line` says that it
-/// is one of a header's first line. docs/FAULTS.md has the same sentences.
+/// What to do after the fault of a number, if there is something; `is_first_line` says that it is
+/// one of a header's first line. docs/FAULTS.md has the same sentences.
 pub(crate) fn hint_of(number: u8, is_first_line: bool) -> Option<&'static str> {
     match number {
         7 | 8 if is_first_line => Some("this is perhaps no age file: its first line doesn't end"),

@@ -28,7 +28,7 @@ enum Origin {
 }
 
 impl Origin {
-    /// Reads, and tries again where the machine says to.
+    /// Reads, and tries again if the machine says to.
     fn read(&mut self, rt: &HostRuntime, into: &mut [u8]) -> io::Result<usize>
         ensures { ReadsAtMost result into.new }
     {
@@ -132,8 +132,8 @@ impl HostIn {
         self.left
     }
 
-    /// Whether it can be read once more from its start. Standard input can't: where it stood at first
-    /// isn't known.
+    /// Whether it can be read once more from its start. Standard input can't: where it stood at
+    /// first isn't known.
     pub(crate) fn can_reread(&self) -> bool {
         match &self.origin {
             Origin::File(file) => file.metadata().is_ok_and(|metadata| is_on_disk(&metadata)),

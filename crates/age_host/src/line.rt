@@ -110,7 +110,7 @@ fn percentage(length: u64, count: u64) -> u64
     (count as u128 * 100 / length as u128).min(100) as u64
 }
 
-/// The line for a count of bytes out of so many.
+/// The line for a count of bytes out of this many.
 fn share_line(length: u64, count: u64) -> Line
     requires { count ≤ length }
     ensures { result.items ≡ progress_line (Some length) count }
@@ -133,7 +133,7 @@ fn share_line(length: u64, count: u64) -> Line
     line
 }
 
-/// The line for a count of bytes, of a length where that is known.
+/// The line for a count of bytes, of a length if that is known.
 pub(crate) fn line_of(length: Option<u64>, count: u64) -> Line
     ensures { result.items ≡ progress_line length count }
 {
@@ -144,8 +144,8 @@ pub(crate) fn line_of(length: Option<u64>, count: u64) -> Line
     }
 }
 
-/// The percentage, or how often 64 MiB were read where no length is known, or after all percentages
-/// where more than the length was read.
+/// The percentage, or how often 64 MiB were read if no length is known, or after all percentages if
+/// more than the length was read.
 pub(crate) fn mark_of(length: Option<u64>, count: u64) -> u64
     ensures mark { result ≡ mark length count }
     ensures small { result ≤ 2 ^ 39 }

@@ -6,8 +6,8 @@ use std::fs::{File, TryLockError};
 use std::io;
 use std::rt::HostRuntime;
 
-/// Takes a regular file for this run alone, as long as it is open. Fails where another run has it.
-/// Where the file system has no locks, every run may have it.
+/// Takes a regular file for this run alone, as long as it is open. Fails if another run has it. If
+/// the file system has no locks, every run may have it.
 pub(crate) fn lock(file: &File) -> io::Result<()> {
     if !file.metadata()?.is_file() {
         return Ok(());
@@ -22,8 +22,8 @@ pub(crate) fn lock(file: &File) -> io::Result<()> {
 }
 
 /// Removes a file that this run made at a path, unless another run has it, or another file is there
-/// by now. Where the file system has no locks it stays: another run may be writing to it. Says
-/// whether it is gone.
+/// by now. If the file system has no locks it stays: another run may be writing to it. Says whether
+/// it is gone.
 pub(crate) fn remove_own(rt: &HostRuntime, file: &File, path: &str) -> bool {
     let is_alone = matches!(file.try_lock(), Ok(()));
     is_alone && remove_at(rt, file, path)
@@ -39,7 +39,7 @@ pub(crate) fn remove_at(rt: &HostRuntime, file: &File, path: &str) -> bool {
     is_there
 }
 
-/// Whether a file is the one at a path, where no link is followed.
+/// Whether a file is the one at a path, without following a link.
 fn is_at(rt: &HostRuntime, file: &File, path: &str) -> bool {
     match (file.metadata(), found_at(rt, path)) {
         (Ok(own), Ok(Some(there))) => FileId::of(&own) == FileId::of(&there),

@@ -49,7 +49,7 @@ impl Stream {
         }
     }
 
-    /// Fails where the program was started without this stream.
+    /// Fails if the program was started without this stream.
     pub(crate) fn check(self, rt: &HostRuntime) -> io::Result<()> {
         match self {
             Stream::Input => check_open(rt.stdin().as_fd()),
@@ -59,7 +59,7 @@ impl Stream {
     }
 }
 
-/// Fails where nothing is open at a descriptor.
+/// Fails if nothing is open at a descriptor.
 fn check_open(descriptor: BorrowedFd<'_>) -> io::Result<()> {
     descriptor.try_clone_to_owned()?;
     Ok(())
@@ -140,13 +140,13 @@ impl FileId {
         }
     }
 
-    /// The id of the file to which a stream leads that is open. Fails where the system doesn't show
-    /// that, as where there is no /proc: what is read could be overwritten.
+    /// The id of the file to which a stream leads that is open. Fails if the system doesn't show
+    /// that, as when there is no /proc: what is read could be overwritten.
     pub(crate) fn of_open_stream(rt: &HostRuntime, stream: Stream) -> io::Result<Option<FileId>> {
         Ok(FileId::of(&fs::metadata(rt, stream.path())?))
     }
 
-    /// The id of the file to which a stream leads, where that is known.
+    /// The id of the file to which a stream leads, if that is known.
     pub(crate) fn of_stream(rt: &HostRuntime, stream: Stream) -> Option<FileId> {
         FileId::at(rt, stream.path())
     }
@@ -155,7 +155,7 @@ impl FileId {
 /// Identifies what gives each of its bytes once, whatever its names.
 #[derive(Clone, Copy, PartialEq, Eq)]
 pub(crate) enum StreamId {
-    /// Standard input, where it is a file that others can open: it is read on from where it stands.
+    /// Standard input, if it is a file that others can open: it is read on from where it stands.
     Input,
     /// A terminal, or another device that is read byte by byte, by its number.
     Device(u64),
@@ -168,7 +168,7 @@ const CONTROLLING_TERMINAL: u64 = 0x500;
 
 impl StreamId {
     /// The stream to which a name leads, before it is opened: `None` for what can be read twice.
-    /// Fails where memory is refused.
+    /// Fails if memory is refused.
     pub(crate) fn at(alloc: Global, rt: &HostRuntime, name: &str) -> io::Result<Option<StreamId>> {
         match resolve(alloc, rt, name) {
             Ok(Resolved::Path(_)) => Ok(StreamId::found(rt, name)),
@@ -263,9 +263,8 @@ pub(crate) fn found_at(rt: &HostRuntime, path: &str) -> io::Result<Option<Metada
 /// The highest descriptor of a standard stream.
 const STREAM_MAX: i32 = 2;
 
-/// The same file at a descriptor that is no standard stream's. Where the program was started
-/// without one of these, the system gives its descriptor to the next file that is opened, and what
-/// is meant for the stream would go there.
+/// Moves a file to a descriptor above 2. If the program was started with a standard stream closed,
+/// the next file opened would take its place, and output meant for the stream would go there.
 pub(crate) fn above_streams(file: File) -> io::Result<File> {
     if file.as_raw_fd() > STREAM_MAX {
         Ok(file)

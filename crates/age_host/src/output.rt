@@ -28,8 +28,8 @@ struct OutFile {
     // What it held is still there, beyond the bytes that were written.
     is_stale: bool,
     written: u64,
-    // Its length is that of what was written, as long as nobody else changes it. What the system
-    // makes up, as files of /proc, says another.
+    // Its length is how much was written, as long as nobody else changes it. Files that the system
+    // makes up, as in /proc, have another.
     has_length: bool,
 }
 
@@ -45,7 +45,7 @@ enum Target {
 }
 
 impl Target {
-    /// Writes, and tries again where the machine says to.
+    /// Writes, and tries again if the machine says to.
     fn write(&mut self, rt: &HostRuntime, from: &[u8]) -> io::Result<usize>
         ensures { WritesAtMost result from.now }
     {
@@ -76,7 +76,7 @@ impl Target {
 pub struct HostOut {
     rt: HostRuntime,
     target: Target,
-    // Which file it is, where that is known.
+    // Which file it is, if that is known.
     id: Option<FileId>,
     failed: u64,
     failing: bool,
@@ -98,7 +98,7 @@ fn is_regular(file: &File) -> io::Result<bool> {
 }
 
 impl OutFile {
-    /// Opens a file without emptying it, or makes it where there is none.
+    /// Opens a file without emptying it, or makes it if there is none.
     fn open(rt: &HostRuntime, name: &str, path: PathBuf) -> io::Result<OutFile> {
         match open_to_write(rt, name)? {
             Some(file) => OutFile::of_found(above_streams(file)?),
@@ -119,7 +119,7 @@ impl OutFile {
         })
     }
 
-    /// Makes a file at a path that is no link, and where there is none.
+    /// Makes a file at a path that holds neither a file nor a link.
     fn make(rt: &HostRuntime, path: PathBuf) -> io::Result<OutFile> {
         let file = make_file(rt, path.as_str(), OUTPUT_MODE)?;
         Ok(OutFile {
@@ -141,9 +141,9 @@ impl OutFile {
         Ok(())
     }
 
-    // The first bytes are written before the rest is cut off, so that a first write that fails
-    // changes nothing. Where they can't be cut off, the bytes count as written, and what comes next
-    // tries again and fails.
+    /// The first bytes are written before the rest is cut off, so that a first write that fails
+    /// changes nothing. If they can't be cut off, the bytes count as written, and what comes next
+    /// tries again and fails.
     fn write(&mut self, from: &[u8]) -> io::Result<usize>
         ensures { WritesAtMost result from.now }
     {
@@ -163,7 +163,7 @@ impl OutFile {
         Ok(n)
     }
 
-    /// Sees whether its length is that of the first bytes that were written.
+    /// Sees whether it is as long as the first bytes that were written.
     fn see_length(&mut self) {
         if let Ok(own) = self.file.metadata()
             && !self.is_stale
@@ -172,8 +172,7 @@ impl OutFile {
         }
     }
 
-    /// Fails where it is shorter than what was written: the next bytes would leave a hole before
-    /// them.
+    /// Fails if it is shorter than what was written: the next bytes would leave a hole before them.
     fn check_kept(&self) -> io::Result<()> {
         let own = self.file.metadata()?;
         if own.is_file() && self.has_length && own.len() < self.written {
@@ -182,7 +181,7 @@ impl OutFile {
         Ok(())
     }
 
-    /// Whether it still holds what it held, or nothing where it was made.
+    /// Whether it still holds what it held, or nothing if it was made.
     fn is_untouched(&self) -> bool {
         match self.file.metadata() {
             Ok(there) if !self.is_stale => there.len() == 0,
@@ -190,7 +189,7 @@ impl OutFile {
         }
     }
 
-    /// Takes it for this run alone. Fails where another run has it, or where its name leads to it no
+    /// Takes it for this run alone. Fails if another run has it, or if its name leads to it no
     /// longer, as when another run that had made it has removed it.
     fn claim(&self, rt: &HostRuntime, name: &str) -> io::Result<()> {
         lock(&self.file)?;
@@ -209,7 +208,7 @@ impl OutFile {
         self.check_whole()
     }
 
-    /// Fails where another program has removed its last name meanwhile, or changed its length.
+    /// Fails if another program has removed its last name meanwhile, or changed its length.
     fn check_whole(&self) -> io::Result<()> {
         let own = self.file.metadata()?;
         if !own.is_file() {
@@ -224,7 +223,7 @@ impl OutFile {
         Ok(())
     }
 
-    /// Waits until it, and its name where opening made it, have reached the disk.
+    /// Waits until it, and its name if opening made it, have reached the disk.
     fn reach_disk(&self, rt: &HostRuntime) -> io::Result<()> {
         sync_file(&self.file)?;
         match &self.made {
@@ -258,7 +257,7 @@ fn changed_length() -> io::Error {
     io::Error::other("another program changed its length")
 }
 
-/// Cuts off what a regular file holds after so many bytes.
+/// Cuts off what a regular file holds after this many bytes.
 fn cut_file(file: &File, len: u64) -> io::Result<()> {
     if is_regular(file)? {
         file.set_len(len)?;
@@ -285,15 +284,15 @@ impl HostOut {
         self.error
     }
 
-    /// Standard error, for the lines of faults. Puts fail where the program was started without it.
+    /// Standard error, for the lines of faults. Puts fail if the program was started without it.
     pub fn faults(rt: &HostRuntime) -> HostOut
         ensures { result ≡ (0, false) }
     {
         HostOut::new(rt, Target::Faults(rt.stderr()), None)
     }
 
-    /// Opens what a name stands for without emptying it, or makes a file where there is none.
-    /// Nothing can be written to standard input.
+    /// Opens what a name stands for without emptying it, or makes a file if there is none. Nothing
+    /// can be written to standard input.
     pub(crate) fn open(alloc: Global, rt: &HostRuntime, name: &str) -> io::Result<HostOut> {
         match resolve(alloc, rt, name)? {
             Resolved::Path(path) => HostOut::of_file(rt, OutFile::open(rt, name, path)?),
@@ -331,7 +330,7 @@ impl HostOut {
         }
     }
 
-    /// Which file it is, where that is known.
+    /// Which file it is, if that is known.
     pub(crate) fn id(&self) -> Option<FileId> {
         self.id
     }
@@ -368,7 +367,7 @@ impl HostOut {
         }
     }
 
-    /// Ends it with what was written. Where each put failed, it is as it was before it was opened.
+    /// Ends it with what was written. If each put failed, it is as it was before it was opened.
     pub(crate) fn close(self, rt: &HostRuntime, durability: Durability) -> io::Result<()> {
         if self.has_only_failed() {
             self.discard(rt, durability);
@@ -381,7 +380,7 @@ impl HostOut {
         }
     }
 
-    /// Ends it where nothing was written, as it was before it was opened.
+    /// Ends it if nothing was written, as it was before it was opened.
     pub(crate) fn discard(self, rt: &HostRuntime, durability: Durability) {
         if let Target::File(out) = self.target {
             out.remove_made(rt, durability);
@@ -389,7 +388,7 @@ impl HostOut {
     }
 }
 
-/// What the machine answered where it took no byte.
+/// What the machine answered when it took no byte.
 fn error_of(put: io::Result<usize>) -> io::Error {
     match put {
         Ok(_) => io::Error::from(io::ErrorKind::WriteZero),
@@ -429,7 +428,7 @@ impl Sink for HostOut {
         }
     }
 
-    // The machine's files have no buffer of the program's.
+    /// The machine's files have no buffer of the program's.
     fn flush(&mut self) -> Result<(), Failed> {
         self.failing = false;
         Ok(())

@@ -6,22 +6,22 @@ use std::io;
 use std::os::unix::fs::OpenOptionsExt;
 use std::rt::HostRuntime;
 
-/// Who may do what with a new output, where the umask allows it.
+/// Who may do what with a new output, if the umask allows it.
 pub(crate) const OUTPUT_MODE: u32 = 0o666;
 
 /// Who may do what with a new position: its owner alone, since it holds digests of the plaintext,
 /// against which guesses can be tried.
 pub(crate) const POSITION_MODE: u32 = 0o600;
 
-/// Opens a file to be written without emptying it; `None` where there is none. It is opened as one
+/// Opens a file to be written without emptying it; `None` if there is none. It is opened as one
 /// that may have to be made: so the system refuses a file or a pipe of somebody else's in a sticky
-/// folder, where it guards these.
+/// folder, if it guards these.
 pub(crate) fn open_to_write(rt: &HostRuntime, name: &str) -> io::Result<Option<File>> {
     open_there(rt, name, false)
 }
 
-/// Opens it to be read too, where that is allowed: then a pipe that has come to its place isn't
-/// waited for.
+/// Opens it to be read too, if that is allowed: then a pipe that has come to its place isn't waited
+/// for.
 pub(crate) fn open_at_once(rt: &HostRuntime, name: &str) -> io::Result<Option<File>> {
     match open_there(rt, name, true) {
         Err(error) if error.kind() == io::ErrorKind::PermissionDenied => open_to_write(rt, name),
@@ -44,7 +44,7 @@ fn open_there(rt: &HostRuntime, name: &str, is_read: bool) -> io::Result<Option<
     }
 }
 
-/// Makes a file where there is none, at a path that is no link.
+/// Makes a file if there is none, at a path that is no link.
 pub(crate) fn make_file(rt: &HostRuntime, path: &str, mode: u32) -> io::Result<File> {
     let mut options = File::options();
     let made = options
@@ -59,7 +59,7 @@ pub(crate) fn make_file(rt: &HostRuntime, path: &str, mode: u32) -> io::Result<F
     file
 }
 
-/// Removes a file that was made, where that is allowed.
+/// Removes a file that was made, if that is allowed.
 pub(crate) fn remove(rt: &HostRuntime, path: &str) {
     let _ = fs::remove_file(rt, path);
 }

@@ -1,9 +1,7 @@
 //! A file of the machine that is to be replaced later.
 
 use crate::lock::lock;
-use crate::names::{
-    FileId, Node, Resolved, Stream, above_streams, found_at, is_on_disk, resolve,
-};
+use crate::names::{FileId, Node, Resolved, Stream, above_streams, found_at, is_on_disk, resolve};
 use crate::paths::open_at_once;
 use crate::sync::folder_of;
 use std::alloc::Global;
@@ -28,12 +26,12 @@ enum Found {
 enum Folder {
     /// Its path, without links.
     Path(PathBuf),
-    /// What it is, where it has no such path, as where that is longer than the system takes.
+    /// What it is, if it has no such path, as when that is longer than the system takes.
     Node(Node),
 }
 
 impl Folder {
-    /// The folder that a path leads into. Fails where that isn't known.
+    /// The folder that a path leads into. Fails if that isn't known.
     fn of(rt: &HostRuntime, path: &PathBuf) -> io::Result<Folder> {
         match fs::canonicalize(rt, folder_of(path)) {
             Ok(folder) => Ok(Folder::Path(folder)),
@@ -56,7 +54,7 @@ impl Folder {
 pub(crate) struct Prepared {
     name: String,
     resolved: Resolved,
-    // The folder that its path leads into, where a path leads to it.
+    // The folder that its path leads into, if a path leads to it.
     folder: Option<Folder>,
     found: Found,
     // A file that it may be although that is open.
@@ -65,8 +63,8 @@ pub(crate) struct Prepared {
 
 impl Prepared {
     /// Judges where a name leads, and tries whether a file there can be written, as far as this
-    /// changes nothing: a pipe isn't opened, since that would wait for its reader, and where there
-    /// is no file, only its folder has to be there.
+    /// changes nothing: a pipe isn't opened, since that would wait for its reader, and if there is
+    /// no file, only its folder has to be there.
     pub(crate) fn new(
         alloc: Global,
         rt: &HostRuntime,
@@ -88,7 +86,7 @@ impl Prepared {
         })
     }
 
-    /// Takes the file that was found for this run alone. Fails where another run has it.
+    /// Takes the file that was found for this run alone. Fails if another run has it.
     pub(crate) fn claim(&self) -> io::Result<()> {
         match &self.found {
             Found::File(file) => lock(file),
@@ -125,8 +123,8 @@ impl Prepared {
         self.name.as_str() == name
     }
 
-    /// The pipe or the device to which the name led, where it was one, with that name: no path may
-    /// lead to it, as where the name is that of a descriptor.
+    /// The pipe or the device to which the name led, if it was one, with that name: no path may
+    /// lead to it, as when the name is that of a descriptor.
     pub(crate) fn device(&self) -> Option<(&str, Node)> {
         match self.found {
             Found::Device(node) => Some((self.name.as_str(), node)),
@@ -139,7 +137,7 @@ impl Prepared {
         &self.resolved
     }
 
-    /// Which file is there now, where that is known, unless it may be open.
+    /// Which file is there now, if that is known, unless it may be open.
     pub(crate) fn id(&self, rt: &HostRuntime) -> Option<FileId> {
         let found = match self.found {
             Found::Device(_) => FileId::at(rt, self.name.as_str()),
@@ -157,7 +155,7 @@ fn folder_in(rt: &HostRuntime, resolved: &Resolved, found: &Found) -> io::Result
     }
 }
 
-/// Which file is there, where that is known.
+/// Which file is there, if that is known.
 fn id_in(rt: &HostRuntime, resolved: &Resolved) -> Option<FileId> {
     match resolved {
         Resolved::Stream(stream) => FileId::of_stream(rt, *stream),
@@ -168,7 +166,7 @@ fn id_in(rt: &HostRuntime, resolved: &Resolved) -> Option<FileId> {
     }
 }
 
-/// Fails where a stream can't be written.
+/// Fails if a stream can't be written.
 fn check_stream(rt: &HostRuntime, stream: Stream) -> io::Result<Found> {
     if let Stream::Input = stream {
         return Err(io::Error::from(io::ErrorKind::Unsupported));
@@ -177,7 +175,7 @@ fn check_stream(rt: &HostRuntime, stream: Stream) -> io::Result<Found> {
     Ok(Found::Nothing)
 }
 
-/// Fails where a file can't be written, by the name that leads to it and by its path.
+/// Fails if a file can't be written, by the name that leads to it and by its path.
 fn check_path(rt: &HostRuntime, name: &str, path: &PathBuf) -> io::Result<Found> {
     match fs::metadata(rt, name) {
         Ok(found) => check_found(rt, name, path, &found),
@@ -189,7 +187,7 @@ fn check_path(rt: &HostRuntime, name: &str, path: &PathBuf) -> io::Result<Found>
     }
 }
 
-/// Fails where the file to which a name leads can't be written, or isn't the one at the path.
+/// Fails if the file to which a name leads can't be written, or isn't the one at the path.
 fn check_found(
     rt: &HostRuntime,
     name: &str,
@@ -212,7 +210,7 @@ fn check_found(
     }
 }
 
-/// Fails where no file can be made at a path, since it has no name or its folder isn't there.
+/// Fails if no file can be made at a path, since it has no name or its folder isn't there.
 fn check_folder(rt: &HostRuntime, path: &PathBuf) -> io::Result<()> {
     if path.as_str().is_empty() || path.as_str().ends_with('/') {
         return Err(io::Error::from(io::ErrorKind::IsADirectory));

@@ -12,11 +12,10 @@ use age_io::{Meter, Sink};
 /// A meter that shows how far a run is on one line of a sink, which each later line is written
 /// over, as it ends in a carriage return.
 ///
-/// Where the length is known a line is due as the percentage rises, and otherwise, or after more was
-/// read than that, with each 64 MiB.
-/// A contract sees the sink, the length, how many bytes were read, the percentage or the number of
-/// times 64 MiB at which the next line is due, and whether there is a line to end. What the sink
-/// fails to take is left out.
+/// If the length is known a line is due as the percentage rises, and otherwise, or after more was
+/// read than that, with each 64 MiB. A contract sees the sink, the length, how many bytes were
+/// read, the percentage or the number of times 64 MiB at which the next line is due, and whether
+/// there is a line to end. What the sink fails to take is left out.
 #[derive(Debug, Drop)]
 pub struct ProgressLine<O: Sink> {
     sink: O,
@@ -72,7 +71,7 @@ impl<O: Sink> Meter for ProgressLine<O> {
         };
     }
 
-    /// Writes a line, where one is due.
+    /// Writes a line, if one is due.
     fn advance(&mut self, bytes: u64)
         ensures quiet { is_due self.old.length self.old.next self.new.count ≡ false
             → self.new ≡ record self.old { count = with_more bytes self.old.count } }
@@ -96,7 +95,7 @@ impl<O: Sink> Meter for ProgressLine<O> {
         }
     }
 
-    /// Ends the line with a line feed, where one was due.
+    /// Ends the line with a line feed, if one was due.
     fn end(&mut self)
         ensures quiet { self.old.shown ≡ false → self.new ≡ self.old }
         ensures ended { self.new ≡ record self.old { sink = self.new.sink; shown = false } }

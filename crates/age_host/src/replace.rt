@@ -72,8 +72,8 @@ impl Beside {
         }
     }
 
-    /// Fills it, and puts it in the place of the file at a path. Fails where it isn't in the folder
-    /// that was prepared, as where its path has come to lead elsewhere before it was made.
+    /// Fills it, and puts it in the place of the file at a path. Fails if it isn't in the folder
+    /// that was prepared, as when its path has come to lead elsewhere before it was made.
     fn place(
         &mut self,
         rt: &HostRuntime,
@@ -92,8 +92,8 @@ impl Beside {
 }
 
 /// Puts a new file of these bytes in the place of the one at a path, which stays as it is until the
-/// new one is whole. The new one is its owner's alone, whoever may read the old one: what lets others
-/// do that can't all be seen.
+/// new one is whole. The new one is its owner's alone, whoever may read the old one: what lets
+/// others do that can't all be seen.
 fn replace_beside(
     alloc: Global,
     rt: &HostRuntime,
@@ -159,8 +159,8 @@ fn if_found(opened: Option<File>, found: Node) -> io::Result<File> {
 }
 
 /// The pipe or the device that was found at a name, open to be written. A pipe isn't waited for: it
-/// is open to be read too for a moment, and what is written then fails where nobody else reads it.
-/// Of a pipe that this run may not read a reader is waited for: the system opens it in no other way
+/// is open to be read too for a moment, and what is written then fails if nobody else reads it. Of
+/// a pipe that this run may not read a reader is waited for: the system opens it in no other way
 /// without one.
 fn open_device(rt: &HostRuntime, name: &str, found: Node) -> io::Result<File> {
     if !fs::metadata(rt, name)?.file_type().is_fifo() {
@@ -232,7 +232,7 @@ fn replace_at(
 }
 
 /// Puts a file of these bytes where a name led. A regular file stays as it is until the new one is
-/// whole, where its folder allows that.
+/// whole, if its folder allows that.
 pub(crate) fn replace(
     alloc: Global,
     rt: &HostRuntime,

@@ -15,7 +15,7 @@ fn is_unsupported(error: &io::Error) -> bool {
     )
 }
 
-/// Waits until a file has reached the disk. Where the machine can't wait, nothing is waited for.
+/// Waits until a file has reached the disk. If the machine can't wait, nothing is waited for.
 pub(crate) fn sync(file: &File) -> io::Result<()> {
     match file.sync_all() {
         Err(error) if !is_unsupported(&error) => Err(error),
@@ -23,7 +23,7 @@ pub(crate) fn sync(file: &File) -> io::Result<()> {
     }
 }
 
-/// Waits until a file has reached the disk, where it is of a kind that can.
+/// Waits until a file has reached the disk, if it is of a kind that can.
 pub(crate) fn sync_file(file: &File) -> io::Result<()> {
     if is_on_disk(&file.metadata()?) {
         sync(file)?;
@@ -31,8 +31,8 @@ pub(crate) fn sync_file(file: &File) -> io::Result<()> {
     Ok(())
 }
 
-/// Waits until the names in the folder of a path have reached the disk. Fails where the folder
-/// can't be read.
+/// Waits until the names in the folder of a path have reached the disk. Fails if the folder can't
+/// be read.
 pub(crate) fn sync_folder(rt: &HostRuntime, path: &PathBuf) -> io::Result<()> {
     sync(&File::open(rt, folder_of(path))?)
 }
@@ -46,8 +46,8 @@ pub(crate) fn folder_of(path: &PathBuf) -> &str {
 }
 
 /// Waits until what went to a stream has reached the disk, if it leads to a file that can. Another
-/// descriptor of that file serves, whether it can be read or written. Fails where the system
-/// doesn't show where the stream leads.
+/// descriptor of that file serves, whether it can be read or written. Fails if the system doesn't
+/// show where the stream leads.
 pub(crate) fn sync_stream(rt: &HostRuntime, stream: Stream) -> io::Result<()> {
     let path = stream.path();
     if is_on_disk(&fs::metadata(rt, path)?) {

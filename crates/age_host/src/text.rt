@@ -7,7 +7,7 @@ ghost use Rattle.age_host.specs.Lines.{Shows};
 
 use age_io::{Failed, Sink};
 
-/// Writes a text, in one put where the sink takes it so, and sends it on.
+/// Writes a text, in one put if the sink takes it so, and sends it on.
 fn put_all<O: Sink>(sink: &mut O, text: &[u8]) -> Result<(), Failed>
     ensures whole { OnOk result (Appends (O.view sink.old).taken (O.view sink.new).taken text.now) }
     ensures same { OnOk result ((O.view sink.new).failed ≡ (O.view sink.old).failed) }

@@ -1,4 +1,4 @@
-//! What people are told of a command line that says too little, or can't be read.
+//! What people read if a command line says too little, or can't be read.
 
 use crate::escaped::Escaped;
 use std::env::{Env, FillError};

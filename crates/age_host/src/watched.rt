@@ -104,7 +104,7 @@ impl<'r, 'w> WatchedOut<'r, 'w> {
         }
     }
 
-    /// Which file it is, where that is known.
+    /// Which file it is, if that is known.
     pub(crate) fn id(&self) -> Option<FileId> {
         self.sink.id()
     }
@@ -154,7 +154,7 @@ impl<'r, 'w> WatchedOut<'r, 'w> {
         closed
     }
 
-    /// Ends it where nothing was written.
+    /// Ends it if nothing was written.
     pub(crate) fn discard(self, rt: &HostRuntime, durability: Durability) {
         self.sink.discard(rt, durability);
     }

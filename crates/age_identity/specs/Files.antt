@@ -20,20 +20,20 @@ Files = Text → Option (List ℕ)
 abbrev pub SparesBut : Text → Files → Files → Type 0
 SparesBut to old new = (q : Text) → (q ≡ to → ⊥) → new q ≡ old q
 
--- only what stands under these two names may differ, where they are given
+-- only what stands under these two names may differ, if they are given
 abbrev pub SparesBoth : Option Text → Option Text → Files → Files → Type 0
 SparesBoth to save old new = (q : Text) → (to ≡ Some q → ⊥) → (save ≡ Some q → ⊥)
     → new q ≡ old q
 
 -- ---- The first bytes of a source.
 
--- so many bytes, or all that came before the end
+-- this many bytes, or all that came before the end
 pub record AreFirst (old new : Option (List ℕ)) (most : ℕ) (bytes : List ℕ) : Type 0 where
   pub read : Consumes old new bytes
   pub within : length bytes ≤ most
   pub at_end : length bytes < most → IsAtEnd new
 
--- ---- Why a command ends before its output is written, where contracts see the files.
+-- ---- Why a command ends before its output is written, if contracts see the files.
 
 -- a source, whose views are these, failed
 pub record SourceFails {In : Type 0} (read : In → SourceView) : Type 0 where

@@ -71,22 +71,22 @@ OpensBy old u identity = IsIdentity old (option_text u.pass) (option_text u.file
 
 -- ---- What opens a file, as one of the options says.
 
--- the file that a choice names, where it names one
+-- the file that a choice names, if it names one
 abbrev pub file_of : Choice → Option Text
 file_of (PassphraseFile name max_log) = Some name.now
 file_of (FileKey known) = None
 file_of (SharedFile name) = Some name.now
 
--- the bytes of a file that was read, where it wasn't too long
+-- the bytes of a file that was read, if it wasn't too long
 abbrev pub file_bytes : {Z : Type 0} → Option (Vec ℕ Z) → Option (List ℕ)
 file_bytes = option_map (λ v. v.items)
 
--- these bytes are what the file of this name holds, where there are such
+-- these bytes are what the file of this name holds, if there are such
 abbrev pub IsSecretIn : Files → Option Text → Option (List ℕ) → Type 0
 IsSecretIn old (Some name) (Some bytes) = old name ≡ Some bytes
 IsSecretIn old name bytes = Unit {0}
 
--- what the file of this name holds, where a name is given
+-- what the file of this name holds, if a name is given
 abbrev pub held_for : Files → Option Text → Option (List ℕ)
 held_for old (Some name) = old name
 held_for old None = None

@@ -17,8 +17,8 @@ pub record Follows (order old new : List Event) : Type 0 where
   pub did : new ≡ old ++ done
   pub front : order ≡ done ++ rest
 
--- a file is opened, where one is named; one is prepared to be replaced; one is created and ended;
--- one is replaced; and what was written reaches the disk then or later
+-- a file is opened, if one is named; one is prepared to be replaced; one is created and ended; one
+-- is replaced; and what was written reaches the disk then or later
 abbrev pub opening_event : Option Text → List Event
 opening_event (Some name) = Opened name ∷ []
 opening_event None = []
@@ -35,7 +35,7 @@ abbrev pub replacing : Option Text → Durability → List Event
 replacing (Some name) durability = Replaced name durability ∷ []
 replacing None durability = []
 
--- what opens the input, where its file is named: of a passphrase or of a shared secret
+-- what opens the input, if its file is named: of a passphrase or of a shared secret
 abbrev pub identity_order : Option Text → Option Text → List Event
 identity_order pass shared = opening_event pass ++ opening_event shared
 
@@ -50,7 +50,7 @@ abbrev pub IsOneOf : Option Text → List (Option Text) → Type 0
 IsOneOf one [] = ⊥
 IsOneOf one (other ∷ others) = IsSameName one other ⊎ IsOneOf one others
 
--- a name that has to differ from others, where they are given
+-- a name that has to differ from others, if they are given
 pub record Apart : Type 0 where
   pub name : Option Text
   pub others : List (Option Text)
@@ -67,7 +67,7 @@ NamesTwice (a ∷ rest) = IsOneOf a.name a.others ⊎ NamesTwice rest
 -- these names have to differ.
 
 -- the names that have to differ, and what a command opens, creates and replaces: what its arguments
--- are judged by; where it ends well; and with all that a stop may add
+-- are judged by; if it ends well; and with all that a stop may add
 pub record Order : Type 0 where
   pub apart : List Apart
   pub judged : List Event
@@ -78,13 +78,13 @@ pub record Order : Type 0 where
 abbrev pub reading_order : List Event → Order
 reading_order opened = record { apart = []; judged = opened; done = opened; whole = opened }
 
--- the file of random bytes, where none is named
+-- the file of random bytes, if none is named
 abbrev pub random_name : Option Text → Text
 random_name None = codes "/dev/urandom"
 random_name (Some name) = name
 
--- the two files by which the arguments are judged, the position, the old text, the input, the file of
--- the next position, the output; where it stops the next position, as far as these are named. The
+-- the two files by which the arguments are judged, the position, the old text, the input, the file
+-- of the next position, the output; if it stops the next position, as far as these are named. The
 -- output is none of the files that are read, the next position goes to no other file than that of
 -- the position, and the old text isn't the input.
 abbrev pub writing_order : Option Text → Option Text → Option Text → Option Text → Option Text

@@ -33,7 +33,7 @@ pub enum Choice<'a> {
 }
 
 impl<'a> Choice<'a> {
-    /// What the one option says that is given. Refuses none and more than one, and a bad file key.
+    /// The choice made by the single identity option. Refuses none, several, and a bad file key.
     pub fn of(options: &IdentityOptions<'a>) -> Result<Choice<'a>, Usage>
         ensures chooses { IfOk result (Chooses options.now) }
         ensures none { IfErr result (λ _. (old : Files) (identity : Identity)
@@ -50,8 +50,8 @@ impl<'a> Choice<'a> {
         }
     }
 
-    /// The bytes of the file, where one is named; `None` also where it is longer than a secret. At
-    /// most one byte more is pulled.
+    /// The bytes of the file, if one is named; `None` also if it is longer than a secret. At most
+    /// one byte more is pulled.
     pub fn read<F: FileSet>(
         &self,
         alloc: Global,

@@ -1,5 +1,5 @@
-//! What opens a file: the passphrase, file key or shared secret that the options name, and the first
-//! bytes of a source.
+//! What opens a file: the passphrase, file key or shared secret that the options name, and the
+//! first bytes of a source.
 //!
 //! Its definitions say in which order a command opens, creates and replaces the files that its
 //! arguments name, and why it may end before its output is written.

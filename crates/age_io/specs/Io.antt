@@ -7,16 +7,16 @@ use Rattle.age_io.specs.declared.failed.Failed.{Failed}
 -- ---- What a contract sees of a source, and of a sink. Of one that shows no bytes, `Consumes` and
 -- `Appends` hold whatever the bytes.
 
--- the bytes that are still to come, where they are shown, how many pulls have failed, and whether
--- the last one did; the count stays at the greatest value of its type
+-- the bytes that are still to come, if they are shown, how many pulls have failed, and whether the
+-- last one did; the count stays at the greatest value of its type
 pub record SourceView : Type 0 where
   pub remaining : Option (List ℕ)
   pub failed : ℕ
   pub failing : Bool
 
--- the bytes that were taken, where they are shown, how many puts and flushes have failed, whether
--- the last of them did, the name that the sink goes by, and whether what was taken was sent on;
--- true of a sink that doesn't say
+-- the bytes that were taken, if they are shown, how many puts and flushes have failed, whether the
+-- last of them did, the name that the sink goes by, and whether what was taken was sent on; true of
+-- a sink that doesn't say
 pub record SinkView : Type 0 where
   pub taken : Option (List ℕ)
   pub failed : ℕ
@@ -26,33 +26,33 @@ pub record SinkView : Type 0 where
 
 -- ---- What a meter counts.
 
--- a count after so many bytes more; it stays at the greatest value of its type
+-- a count after this many bytes more; it stays at the greatest value of its type
 abbrev pub with_more : ℕ → ℕ → ℕ
 with_more bytes count = min (count + bytes) (2 ^ 64 - 1)
 
--- a meter's count after so many bytes more, where it counts
+-- a meter's count after this many bytes more, if it counts
 abbrev pub counted : ℕ → Option ℕ → Option ℕ
 counted bytes count = option_map (with_more bytes) count
 
--- a meter's count as a run begins, where it counts
+-- a meter's count as a run begins, if it counts
 abbrev pub begun : Option ℕ → Option ℕ
 begun count = option_map (λ _. 0) count
 
--- a meter's count after a pull: that of the bytes that it gave is added, and nothing if it failed
+-- a meter's count after a pull: the bytes that it gave are added, and nothing if it failed
 abbrev pub pulled : {E : Type 0} → Result ℕ E → Option ℕ → Option ℕ
 pulled (Ok bytes) count = counted bytes count
 pulled (Err failed) count = count
 
 -- ---- What a meter was shown.
 
--- that a run begins, with its length, where that is known; that so many bytes more were read; that
+-- that a run begins, with its length, if that is known; that this many bytes more were read; that
 -- the run is over
 pub data Shown : Type 0 where
   Begins : Option ℕ → Shown
   Advances : ℕ → Shown
   Ends : Shown
 
--- what a meter was shown grows by this, where contracts see it
+-- what a meter was shown grows by this, if contracts see it
 abbrev pub Adds : Option (List Shown) → Option (List Shown) → Shown → Type 0
 Adds None now more = now ≡ None
 Adds (Some shown) None more = ⊥
@@ -85,7 +85,7 @@ pub record Feeding : Type 0 where
   pub failures : ℕ
   pub failing : Bool
 
--- a pull into a slice of so many bytes
+-- a pull into a slice of this many bytes
 abbrev pub Pulls : Feeding → ℕ → Result ℕ Failed → Feeding → Type 0
 Pulls old room (Ok n) new = (old.fail_call ≢ Some old.calls)
     × (n ≡ min (min old.step room) (length old.left))
@@ -114,7 +114,7 @@ pub record Holding : Type 0 where
   pub failing : Bool
   pub settled : Bool
 
--- a put of these bytes; it fails by plan, or where there are bytes and no room
+-- a put of these bytes; it fails by plan, or if there are bytes and no room
 abbrev pub Puts : Holding → List ℕ → Result ℕ Failed → Holding → Type 0
 Puts old from (Ok n) new = (old.fail_call ≢ Some old.calls)
     × (n ≡ min (min old.step (length from)) (old.room - length old.held))

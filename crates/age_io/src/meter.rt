@@ -6,18 +6,18 @@ ghost use Rattle.age_io.specs.Io.{begun, counted, Adds, Advances, Begins, Ends, 
 /// Counts how far a run is. It returns nothing, so that code that is generic over one can only
 /// report to it.
 pub trait Meter {
-    // How many bytes were read since the run began, where it counts them.
+    // How many bytes were read since the run began, if it counts them.
     ghost count: { Self → Option ℕ };
 
-    // What it was shown, in order, where a contract sees that.
+    // What it was shown, in order, if a contract sees that.
     ghost shown: { Self → Option (List Shown) } = { λ _. None };
 
-    /// A run begins, which reads as many bytes as `length` says, where that is known.
+    /// A run begins, which reads as many bytes as `length` says, if that is known.
     fn begin(&mut self, length: Option<u64>)
         ensures count { count self.new ≡ begun (count self.old) }
         ensures shown { Adds (shown self.old) (shown self.new) (Begins length) };
 
-    /// So many bytes more were read.
+    /// This many bytes more were read.
     fn advance(&mut self, bytes: u64)
         ensures count { count self.new ≡ counted bytes (count self.old) }
         ensures shown { Adds (shown self.old) (shown self.new) (Advances bytes) };
@@ -47,7 +47,7 @@ impl<M: Meter> Meter for &mut M {
     }
 }
 
-/// A meter, where one is wanted; `None` counts nothing.
+/// A meter, if one is wanted; `None` counts nothing.
 impl<M: Meter> Meter for Option<M> {
     ghost count = { option_and_then M.count };
 

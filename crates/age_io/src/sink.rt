@@ -12,9 +12,9 @@ use std::marker::Model;
 
 /// Where bytes go.
 pub trait Sink {
-    // The bytes that were taken, where they are shown, how many puts and flushes have failed,
-    // whether the last of them did, the name that the sink goes by, so that a set of files can say
-    // where its bytes end up, and whether what was taken was sent on; a put may undo that.
+    // The bytes that were taken, if they are shown, how many puts and flushes have failed, whether
+    // the last of them did, the name that the sink goes by, so that a set of files can say where
+    // its bytes end up, and whether what was taken was sent on; a put may undo that.
     ghost view: { Self → SinkView };
 
     /// Takes bytes from the beginning of a slice, and returns how many: at least one, unless the

@@ -11,8 +11,8 @@ use std::marker::Model;
 
 /// Where bytes come from.
 pub trait Source {
-    // The bytes that are still to come, where they are shown, how many pulls have failed, and
-    // whether the last one did.
+    // The bytes that are still to come, if they are shown, how many pulls have failed, and whether
+    // the last one did.
     ghost view: { Self → SourceView };
 
     /// Puts the next bytes at the beginning of a slice, and returns how many: none only at the end,

@@ -11,7 +11,7 @@ use Rattle.sha2.specs.Sha256.{sha256}
 unfoldable pub key_with_zeros : List ℕ → List ℕ
 key_with_zeros key = key ++ replicate (64 - length key) 0
 
--- K: the key as a block, where a key longer than a block stands as its digest first
+-- K: the key as a block; a key longer than a block is replaced by its digest first
 unfoldable pub key_block : List ℕ → List ℕ
 key_block key = key_with_zeros (if nat_le (length key) 64 then key else sha256 key)
 
@@ -27,7 +27,7 @@ hmac key text =
 -- ---- HKDF-SHA-256 (RFC 5869) with an output of 32 bytes, which is the first block of its expand
 -- step.
 
--- the salt: where none is given, as many zeros as a digest has bytes (section 2.2)
+-- the salt: if none is given, as many zeros as a digest has bytes (section 2.2)
 abbrev pub salt_or_zeros : List ℕ → List ℕ
 salt_or_zeros [] = replicate 32 0
 salt_or_zeros (b ∷ bs) = b ∷ bs
@@ -50,7 +50,7 @@ hkdf32 ikm salt info = expanded_key (extracted_key salt ikm) info
 unfoldable pub pbkdf2_block : List ℕ → List ℕ → ℕ → List ℕ
 pbkdf2_block pass salt i = hmac pass (salt ++ to_be_bytes w32 i)
 
--- the greatest length of a key in bytes (a limit of this library, far below that of RFC 8018)
+-- the greatest length of a key in bytes (a limit of this library; RFC 8018 allows far more)
 abbrev pub derived_key_limit : ℕ
 derived_key_limit = 65536
 

@@ -4,7 +4,7 @@
 //! the header; HKDF makes the header's MAC key and the payload key out of the file key; PBKDF2 with
 //! one iteration is the first and the last step of scrypt. All of them stand on SHA-256 alone.
 //!
-//! Each result is that of the standard's formula on lists of bytes, for keys, salts and messages
+//! Each result is what the standard's formula gives on lists of bytes, for keys, salts and messages
 //! of every length. No call takes memory: a message of several parts goes into a running digest
 //! part by part and is nowhere joined.
 #![tactic(auto)]
@@ -75,9 +75,9 @@ pub fn hmac(key: &[u8], parts: &[&[u8]]) -> [u8; 32]
     hmac_of_block(&key_block(key), parts)
 }
 
-/// The 32 bytes that HKDF-SHA-256 derives from input keying material (RFC 5869), by its
-/// extract step and the first block of its expand step. An empty salt means no salt, for which
-/// 32 zero bytes stand (RFC 5869, section 2.2).
+/// The 32 bytes that HKDF-SHA-256 derives from input keying material (RFC 5869), by its extract
+/// step and the first block of its expand step. An empty salt means no salt, for which 32 zero
+/// bytes stand (RFC 5869, section 2.2).
 pub fn hkdf32(ikm: &[u8], salt: &[u8], info: &[u8]) -> [u8; 32]
     ensures { result ≡ hkdf32 ikm.now salt.now info.now }
 {
@@ -95,8 +95,8 @@ fn pbkdf2_block(block: &[u8; 64], salt: &[u8], i: u32) -> [u8; 32]
     hmac_of_block(block, &[salt, &i.to_be_bytes()])
 }
 
-/// Fills `out` with the key that PBKDF2-HMAC-SHA-256 derives in one iteration (RFC 8018,
-/// section 5.2). `out` has at most 65,536 bytes; what it held doesn't matter.
+/// Fills `out` with the key that PBKDF2-HMAC-SHA-256 derives in one iteration (RFC 8018, section
+/// 5.2). `out` has at most 65,536 bytes; what it held doesn't matter.
 pub fn pbkdf2_once(pass: &[u8], salt: &[u8], out: &mut [u8])
     requires { length out.old ≤ derived_key_limit }
     ensures { out.new ≡ pbkdf2_once pass.now salt.now (length out.old) }

@@ -22,7 +22,7 @@ around ss i s lt is =
     sym (take-append-drop i ss)
     ∙ ap (λ (rest : List Stanza). take i ss ++ rest) (drop_more ss i s lt ∙ ap (λ (x : Stanza). x ∷ drop (i + 1) ss) (sym is))
 
--- a stanza is that of one share
+-- a stanza has one share
 one_share : (s : Stanza) (share other body rest : List ℕ) → IsX25519Stanza s share body → IsX25519Stanza s other rest → share ≡ other
 one_share s share other body rest is is_too =
     one_text share other is.share_bytes is_too.share_bytes (ap (λ (args : List (List ℕ)). get_or args 1 []) (sym is.args ∙ is_too.args))

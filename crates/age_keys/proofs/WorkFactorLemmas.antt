@@ -29,7 +29,7 @@ value_of_digit c h =
     let high = h.1 in
     grind (arith, nat_tests)
 
--- one digit more, where both numbers stop at a limit
+-- one digit more, if both numbers stop at a limit
 pub next_number : (ds : List ℕ) (i m n : ℕ) → AllDigits 10 ds → i < length ds → n ≡ min (digits_value 10 (take i ds)) m
     → min (min (n * 10) m + (get_or ds i 0 - 48)) m ≡ min (digits_value 10 (take (i + 1) ds)) m
 next_number ds i m n all lt so_far =
@@ -43,7 +43,7 @@ not_less n (c ∷ cs) =
     let rest = not_less (n * 10 + digit_value c) cs in
     omega arith
 
--- where the first character is a zero
+-- if the first character is a zero
 pub zero_first : (ds : List ℕ) → take 1 ds ≡ 48 ∷ [] → get_or ds 0 0 ≡ 48
 zero_first [] e = cc
 zero_first (d ∷ ds) e = cc

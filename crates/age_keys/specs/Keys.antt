@@ -35,7 +35,7 @@ key_fault_number Memory = 28
 unfoldable pub header_mac : List ℕ → Header → List ℕ
 header_mac key h = hmac (hkdf32 key [] (codes "header")) (mac_text h)
 
--- the header's MAC is that of the file key
+-- the header's MAC was made under the file key
 abbrev pub IsMacOf : Header → List ℕ → Type 0
 IsMacOf h key = h.mac ≡ header_mac key h
 
@@ -85,7 +85,7 @@ pub record Opens (Allows : Header → List ℕ → Type 0) (h : Header) (key : L
   pub alone : ¬ IsScryptNotAlone h
   -- the unlocker allows the key
   pub allowed : Allows h key
-  -- the header's MAC is that of the key
+  -- the header's MAC was made under the key
   pub mac : IsMacOf h key
   pub size : length key ≡ 16
 
@@ -100,11 +100,12 @@ pub record Refuses (Allows : Header → List ℕ → Type 0) (Refused : Header �
     (h : Header) (fault : KeyFault) : Type 0 where
   -- a scrypt stanza beside another is refused as such
   pub not_alone : IsScryptNotAlone h → fault ≡ ScryptNotAlone
-  -- any other header is refused with the unlocker's fault, or with that of a key that it allows
+  -- any other header is refused with the unlocker's fault, or with the fault of a key that it
+  -- allows
   pub alone : ¬ IsScryptNotAlone h
       → Refused h fault ⊎ ((key : List ℕ) × Allows h key × RefusesKey h key fault)
 
--- nothing but the key and want of memory may be returned for the header
+-- nothing but the key and running out of memory may be returned for the header
 pub record AllowsAlone (Allows : Header → List ℕ → Type 0) (Refused : Header → KeyFault → Type 0)
     (h : Header) (key : List ℕ) : Type 0 where
   -- no scrypt stanza stands beside another
@@ -115,7 +116,7 @@ pub record AllowsAlone (Allows : Header → List ℕ → Type 0) (Refused : Head
   pub no_other : (other : List ℕ) → Allows h other → other ≡ key
   -- it refuses the header only if memory is refused
   pub never : (fault : KeyFault) → Refused h fault → fault ≡ Memory
-  -- the header's MAC is that of the key
+  -- the header's MAC was made under the key
   pub mac : IsMacOf h key
 
 -- ---- How much work opening a header takes, by a count of scrypt's steps.

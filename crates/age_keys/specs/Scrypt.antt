@@ -47,7 +47,7 @@ pub record OnlyScrypt (h : Header) : Type 0 where
   pub body : List ℕ
   pub valid : IsScryptStanza stanza salt log body
 
--- such a stanza, as it is written
+-- a scrypt stanza, as it is written
 unfoldable pub scrypt_stanza : List ℕ → ℕ → List ℕ → Stanza
 scrypt_stanza salt log body =
     record { args = codes "scrypt" ∷ base64_text salt ∷ decimal log ∷ []; body = body }
@@ -101,8 +101,8 @@ passphrase_steps w = 2 * 2 ^ w.max_log
 
 -- ---- Laws over the definitions alone.
 
--- the passphrase that a header was made for finds the file key in it and nothing else, where the
--- limit allows the work factor
+-- the passphrase that a header was made for finds the file key in it and nothing else, if the limit
+-- allows the work factor
 abbrev pub PassphraseOpens : Type 0
 PassphraseOpens =
     (w : PassphraseIdentity) (log : ℕ) (salt key : List ℕ) → 1 ≤ log

@@ -23,7 +23,7 @@ pub enum KeyFault {
     /// The body of no stanza opens.
     #[error("wrong key")]
     WrongKey,
-    /// The header's MAC isn't that of the file key.
+    /// The header's MAC wasn't made under the file key.
     #[error("header MAC mismatch")]
     MacMismatch,
     /// An X25519 stanza isn't valid, or the shared secret is zero.
@@ -35,8 +35,8 @@ pub enum KeyFault {
 }
 
 impl KeyFault {
-    /// The fault's number in the list of all faults: 9 to 15 in the order of the variants, and
-    /// 28 for memory.
+    /// The fault's number in the list of all faults: 9 to 15 in the order of the variants, and 28
+    /// for memory.
     pub fn number(&self) -> u8
         ensures { result ≡ key_fault_number self.now }
     {
@@ -52,8 +52,8 @@ impl KeyFault {
         }
     }
 
-    /// Whether it is found by looking at the header, before a body is tried: then no step of
-    /// scrypt was made.
+    /// Whether it is found by looking at the header, before a body is tried: then no step of scrypt
+    /// was made.
     pub fn is_before_work(&self) -> bool
         ensures { result ≡ is_before_work self.now }
     {

@@ -4,8 +4,8 @@
 ghost use Rattle.age_keys.specs.Scrypt.{PassphraseOpens};
 
 /// The passphrase that a header of [`scrypt_header`](crate::scrypt_header) was made for opens it,
-/// where the limit is no less than its work factor: nothing but the file key and running out of
-/// memory may be returned for it.
+/// if the limit is no less than its work factor: nothing but the file key and running out of memory
+/// may be returned for it.
 pub fn passphrase_opens()
     ensures { PassphraseOpens }
 {}

@@ -69,9 +69,9 @@ pub(crate) fn mac_of(alloc: Global, header: &Header, key: &FileKey) -> Result<[u
 ///
 /// It refuses, in this order, a scrypt stanza beside another stanza ([`KeyFault::ScryptNotAlone`]),
 /// whatever the unlocker refuses, running out of memory for the text that the MAC covers, and a MAC
-/// that isn't that of the key ([`KeyFault::MacMismatch`]). The unlocker's steps of scrypt are
-/// counted, and there is none before a fault that
-/// [is found before any work](KeyFault::is_before_work).
+/// that wasn't made under the key ([`KeyFault::MacMismatch`]). The unlocker's steps of scrypt are
+/// counted, and there is none before a fault that [is found before any
+/// work](KeyFault::is_before_work).
 pub fn open_header<U: Unlock>(
     alloc: Global,
     header: &Header,

@@ -1,4 +1,4 @@
-//! The keys of what follows a header: that of the payload, and that of positions in it.
+//! The keys of what follows a header: the payload's, and the key of positions in it.
 
 ghost use Rattle.std.specs.Prelude.{◌≡◌, []};
 ghost use Rattle.age_cipher.specs.Aead.{sealing as sealing_with, opening as opening_with};

@@ -58,7 +58,7 @@ fn are_digits(characters: &[u8]) -> bool
     characters.iter().all(u8::is_ascii_digit)
 }
 
-/// Whether characters are those of a work factor: decimal digits, of which the first isn't zero.
+/// Whether characters spell a work factor: decimal digits, of which the first isn't zero.
 fn is_work_factor(characters: &[u8]) -> bool
     ensures { IsTrue result ↔ IsWorkFactor characters.now }
 {
@@ -68,7 +68,7 @@ fn is_work_factor(characters: &[u8]) -> bool
     }
 }
 
-/// The number that the characters spell, or the greatest `u32` where it is above that.
+/// The number that the characters spell, or the greatest `u32` if it is above that.
 fn number_of(characters: &[u8]) -> u32
     requires { IsWorkFactor characters.now }
     ensures { result ≡ min (digits_value 10 characters.now) 4294967295 }
@@ -87,13 +87,13 @@ fn number_of(characters: &[u8]) -> u32
 #[derive(Clone, Copy)]
 pub(crate) struct ScryptStanza {
     pub salt: [u8; 16],
-    /// The work factor, or the greatest `u32` where it is above that.
+    /// The work factor, or the greatest `u32` if it is above that.
     pub log: u32,
     pub body: [u8; 32],
 }
 
 impl ScryptStanza {
-    /// Reads a stanza of type `scrypt`; `None` where it isn't valid. The body's length is checked
+    /// Reads a stanza of type `scrypt`; `None` if it isn't valid. The body's length is checked
     /// before it is opened, so that no body opens under many passphrases.
     pub(crate) fn read(stanza: &Stanza) -> Option<ScryptStanza>
         ensures read { IfSome result (λ read. (log : ℕ) × (read.log ≡ min log 4294967295)

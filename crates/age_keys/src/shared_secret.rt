@@ -63,7 +63,7 @@ fn hkdf_salt(share: &[u8; 32], recipient: &[u8; 32]) -> [u8; 64]
 /// It finds the file key in the first X25519 stanza of a header that opens
 /// (<https://c2sp.org/age#x25519-recipient-stanza>); stanzas of other types are passed over. It
 /// refuses, in this order, a header without an X25519 stanza ([`KeyFault::NoMatch`]), one with an
-/// X25519 stanza of another shape, or any where the secret is zero ([`KeyFault::BadX25519`]), and a
+/// X25519 stanza of another shape, or any if the secret is zero ([`KeyFault::BadX25519`]), and a
 /// header none of whose X25519 stanzas opens ([`KeyFault::WrongKey`]). It takes no memory.
 #[derive(Drop)]
 pub struct SharedSecret {
@@ -98,7 +98,7 @@ impl SharedSecret {
         age_kdf::hkdf32(&self.secret, &salt, b"age-encryption.org/v1/X25519")
     }
 
-    /// The file key in a stanza; `None` where there is none.
+    /// The file key in a stanza; `None` if there is none.
     fn key_in(&self, stanza: &Stanza) -> Option<FileKey>
         ensures key { IfSome result (OpensTo self.now stanza.now) }
         ensures none { IfNone result (StaysShut self.now stanza.now) }

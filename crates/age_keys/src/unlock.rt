@@ -57,8 +57,8 @@ impl KnownKey {
         KnownKey(bytes)
     }
 
-    /// The key that 32 hexadecimal digits of either case spell, two for each byte; `None` for
-    /// any other text.
+    /// The key that 32 hexadecimal digits of either case spell, two for each byte; `None` for any
+    /// other text.
     pub fn read(text: &str) -> Option<KnownKey>
         ensures key { IfSome result (λ key. SpellsKey text.now key) }
         ensures none { IfNone result ((key : List ℕ) → SpellsKey text.now key → ⊥) }

@@ -9,7 +9,7 @@ use thiserror::Error;
 pub struct Memory;
 
 impl Memory {
-    /// The number of this fault among those of all crates.
+    /// The number of this fault in the list of all crates' faults.
     pub fn number(&self) -> u8
         ensures { result ≡ 28 }
     {

@@ -31,8 +31,8 @@ fn xor_blocks(x: &[u32], y: &[u32], to: &mut [u32])
     }
 }
 
-/// The place in a table of `n` blocks of the one that the turned block `x` names. The lowest
-/// word says it, since 2^32 is a multiple of `n`, and it is where it was before the turn.
+/// The place in a table of `n` blocks of the one that the turned block `x` names. The lowest word
+/// says it, since 2^32 is a multiple of `n`, and it is where it was before the turn.
 fn place_of(x: &[u32], n: usize) -> usize
     requires x { length x.now ≡ 256 }
     requires count { IsCount n }

@@ -56,7 +56,7 @@ impl Steps {
         }
     }
 
-    // One more step.
+    /// One more step.
     fn tick(&mut self)
         ensures { self.new ≡ self.old + 1 }
     {

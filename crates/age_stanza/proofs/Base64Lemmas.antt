@@ -19,7 +19,7 @@ decoded_of_text : (s b : List ℕ) → IsBytes b → s ≡ base64_text b → dec
 unfolding base64_text
 decoded_of_text s b h e = rw e (decode_of-encode_of standard_no_pad b refl h)
 
--- the text of n bytes has so many characters
+-- the text of n bytes has this many characters
 pub characters_of : (s b : List ℕ) (n : ℕ) → length b ≡ n → s ≡ base64_text b → length s ≡ (4 * n + 2) / 3
 characters_of s b n len e = ap length e ∙ length-text b ∙ ap (λ k. (4 * k + 2) / 3) len
 

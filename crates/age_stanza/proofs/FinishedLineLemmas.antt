@@ -60,7 +60,7 @@ line_after-line front l lined =
 pub begun_number : (place : Place) (lines : ℕ) (l : List ℕ) → LeadTo place lines → IsLine l → lines + 1 ≡ line_after (bytes_before place ++ l)
 begun_number place lines l led lined = led.line_count ∙ sym (line_after-begun (bytes_before place) l lined)
 
--- the line of the last byte, where that is the LF of a finished line
+-- the line of the last byte, if that is the LF of a finished line
 last_finished : (held : List ℕ) (lines n : ℕ) → AreLines held → length held ≡ n + 1 → lines + 1 ≡ line_after held → lines ≡ line_after (take n held)
 last_finished held lines n (inl none) size line_count =
     let nothing = ap length none in
@@ -77,7 +77,7 @@ pub finished_number : (place : Place) (lines n : ℕ) → LeadTo place lines →
 finished_number place lines n led size =
     rw append-nil (last_finished (bytes_before place) lines n led.are_lines (rw append-nil at size) led.line_count)
 
--- the line of the last byte, where that is a character of the begun line
+-- the line of the last byte, if that is a character of the begun line
 pub begun_number_of_last : (place : Place) (lines n : ℕ) (l : List ℕ) → LeadTo place lines → IsLine l → (l ≡ [] → ⊥) → length (bytes_before place ++ l) ≡ n + 1
     → lines + 1 ≡ line_after (take n (bytes_before place ++ l))
 begun_number_of_last place lines n [] led lined some size = absurd (some refl)
@@ -162,7 +162,7 @@ longer_partial place bytes lines l more known lined fits room =
       within = room;
     }
 
--- the same, where so much is held
+-- the same, if this much is held
 pub whole_partial : (place : Place) (bytes lines : ℕ) (l more held : List ℕ) → IsPartial place l bytes lines → bytes_before place ++ l ≡ held → IsLine more
     → IsBytes more
     → length held + length more ≤ 1048576 → IsPartial place (l ++ more) (bytes + length more) lines

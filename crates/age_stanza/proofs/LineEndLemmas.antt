@@ -45,7 +45,7 @@ no_part_from mark n (x ∷ xs) e = elim (chosen (eqb x mark) (Some n) (position_
   | inr h ↦ (eqb-false x mark h.0, no_part_from mark (n + 1) xs h.1)
 ]
 
--- where no mark stands, all is one part
+-- if no mark stands, all is one part
 pub no_part : (mark : ℕ) (xs : List ℕ) → position (λ c. eqb c mark) xs ≡ None → AllByRecursion (λ c. c ≡ mark → ⊥) xs
 no_part mark xs e = no_part_from mark 0 xs (sym (position_from-zero (λ c. eqb c mark) xs) ∙ e)
 
@@ -56,7 +56,7 @@ FirstLine xs i = FirstPart 10 xs i
 pub first_line : (xs : List ℕ) (i : ℕ) → position (λ c. eqb c 10) xs ≡ Some i → FirstLine xs i
 first_line xs i e = first_part 10 xs i e
 
--- where no LF stands, all is one line
+-- if no LF stands, all is one line
 pub no_line : (xs : List ℕ) → position (λ c. eqb c 10) xs ≡ None → IsLine xs
 no_line xs e = no_part 10 xs e
 

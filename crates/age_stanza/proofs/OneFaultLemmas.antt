@@ -141,7 +141,7 @@ nothing_walked : walk Start 1 [] [] ≡ unfinished
 unfolding walk
 nothing_walked = refl
 
--- where a walk over the lines before is over, they end in no place
+-- if a walk over the lines before is over, they end in no place
 same_elsewhere : (before l : List ℕ) (k k' : HeadKind) → (walk Start 1 [] before ≡ unfinished → ⊥) → RefusesLine before l k → RefusesLine before l k' → k ≡ k'
 same_elsewhere before l k k' over r r' =
     let some : before ≡ [] → ⊥ = λ none. over (ap (walk Start 1 []) none ∙ nothing_walked) in

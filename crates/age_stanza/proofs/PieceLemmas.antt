@@ -23,7 +23,7 @@ use Rattle.age_stanza.proofs.CompleteLemmas.{text_walk}
 pub kept : (held piece : List ℕ) (room : ℕ) → length held + room ≡ 1048576 → held ++ take room piece ≡ take 1048576 (held ++ piece)
 kept held piece room fits = rw (← fits) (sym (take-append-add held piece room))
 
--- where no header is found, none stands in front of the joined pieces
+-- if no header is found, none stands in front of the joined pieces
 pub no_header : (held piece : List ℕ) (room : ℕ) → length held + room ≡ 1048576
     → ((h : Header) (rest : List ℕ) → walk Start 1 [] (held ++ take room piece) ≡ ready h rest → ⊥) → HasHeader (held ++ piece) → ⊥
 no_header held piece room fits none has =

@@ -56,8 +56,7 @@ abbrev pub OneFault : Type 0
 OneFault = (bytes : List ℕ) (fault other : HeadFault) → IsBytes bytes → IsFault bytes fault
     → IsFault bytes other → fault ≡ other
 
--- the 64 characters of the base64 that a header is written in are those of RFC 4648, section 4, in
--- their order
+-- a header's base64 is written in the 64 characters of RFC 4648, section 4, in their order
 abbrev pub Alphabet : Type 0
 Alphabet =
     engine_symbols standard_no_pad

@@ -30,7 +30,7 @@ head_fault_number HeadTooLong = 7
 head_fault_number HeadCut = 8
 head_fault_number Memory = 28
 
--- want of memory has no line
+-- running out of memory has no line
 abbrev pub line_of : HeadKind → ℕ → Option ℕ
 line_of Memory n = None
 line_of kind n = Some n
@@ -38,9 +38,9 @@ line_of kind n = Some n
 abbrev pub head_fault_place : HeadFault → Option ℕ
 head_fault_place fault = line_of fault.kind fault.line
 
--- ---- The first fault of bytes that begin no header (C2SP age.md, "Header"): a line is faulty
--- where no header's text goes on after it. Which kind is reported is this crate's own choice, and
--- follows from where the line stands.
+-- ---- The first fault of bytes that begin no header (C2SP age.md, "Header"): a line is faulty if
+-- no header's text goes on after it. Which kind is reported is this crate's own choice, and follows
+-- from where the line stands.
 
 -- some header's text begins with these bytes
 abbrev pub Begins : List ℕ → Type 0
@@ -89,7 +89,7 @@ armor = codes "-----BEGIN AGE ENCRYPTED FILE-----"
 
 -- what is reported of such a line, by its place
 pub record RefusesLine (before l : List ℕ) (kind : HeadKind) : Type 0 where
-  -- the first line is that of an armored file, or of no age file
+  -- the first line is an armored file's, or no age file's
   pub first : before ≡ []
       → kind ≡ (if bytes_eq l armor || bytes_eq l (armor ++ 13 ∷ []) then Armored else NotAge)
   -- a line after the version line and whole stanzas
@@ -119,14 +119,14 @@ IsLineFault bytes fault = (before : List ℕ) × (l : List ℕ) × FirstFault by
     × (fault.line ≡ line_after before) × RefusesLine before l fault.kind
 
 -- what is reported of bytes that begin with no header, by the first of them, as many as a header
--- has at most: the first faulty line; else, where there are so many, that the header is too long,
--- on the line of the last of them
+-- has at most: the first faulty line; else, if there are that many, that the header is too long, on
+-- the line of the last of them
 abbrev pub IsFault : List ℕ → HeadFault → Type 0
 IsFault bytes fault = IsLineFault (take header_limit bytes) fault
     ⊎ (NoFault (take header_limit bytes) × (length (take header_limit bytes) ≡ header_limit)
     × (fault ≡ record { kind = HeadTooLong; line = line_after (take (header_limit - 1) bytes) }))
 
--- want of memory belongs to no line
+-- running out of memory belongs to no line
 abbrev pub memory_fault : HeadFault
 memory_fault = record { kind = Memory; line = 0 }
 
@@ -149,7 +149,7 @@ IsParsing (refused fault) = Unit {0}
 abbrev pub IsOpen : Parsing → Type 0
 IsOpen parsing = parsing ≢ complete
 
--- what is returned for a piece, and what the parser then is: a header exactly where a prefix of the
+-- what is returned for a piece, and what the parser then is: a header exactly if a prefix of the
 -- joined bytes is its text; else the first fault of the joined bytes; else more is asked for. An
 -- empty piece is refused only after an earlier refusal, which stays
 abbrev pub FeedsParser : Parsing → List ℕ → Result HeadStep HeadFault → Parsing → Type 0

@@ -11,7 +11,7 @@ use crate::argument::{Argument, Arguments};
 use crate::valid::is_argument;
 use std::alloc::{AllocError, Global};
 
-/// Adds an argument. False where its characters aren't valid; then nothing changes.
+/// Adds an argument. False if its characters aren't valid; then nothing changes.
 fn push_valid(alloc: Global, args: &mut Arguments, characters: &[u8]) -> Result<bool, AllocError>
     ensures pushed { IfOk result (λ r. r ≡ true → IsArgument characters.now
         × (args.new ≡ args.old ++ characters.now ∷ [])) }
@@ -31,7 +31,7 @@ fn argument_end(letters: &[u8]) -> Option<usize>
     letters.iter().position(|c| *c == b' ')
 }
 
-/// Adds the arguments that letters hold, parted by single spaces. False where one isn't valid.
+/// Adds the arguments that letters hold, parted by single spaces. False if one isn't valid.
 fn push_all(alloc: Global, args: &mut Arguments, letters: &[u8]) -> Result<bool, AllocError>
     ensures all { IfOk result
         (λ r. r ≡ true → arguments_from args.old [] letters.now ≡ Some args.new) }
@@ -55,8 +55,7 @@ fn spaces_in(letters: &[u8]) -> usize
     letters.iter().filter(|c| **c == b' ').count()
 }
 
-/// The arguments that letters hold, parted by single spaces, or `None` where one
-/// isn't valid.
+/// The arguments that letters hold, parted by single spaces, or `None` if one isn't valid.
 fn arguments_in(alloc: Global, letters: &[u8]) -> Result<Option<Arguments>, AllocError>
     ensures { IfOk result (λ r. r ≡ arguments_from [] [] letters.now) }
 {
@@ -68,7 +67,7 @@ fn arguments_in(alloc: Global, letters: &[u8]) -> Result<Option<Arguments>, Allo
     }
 }
 
-/// The arguments of a line, without its LF; `None` where it is no argument line.
+/// The arguments of a line, without its LF; `None` if it is no argument line.
 #[tactic(auto, unfolding(crate::specs::inner::LineMachine::arguments_of))]
 pub(crate) fn arguments_of(alloc: Global, line: &[u8]) -> Result<Option<Arguments>, AllocError>
     ensures { IfOk result (λ r. r ≡ spec_arguments_of line.now) }

@@ -15,8 +15,8 @@ use crate::valid::text_len;
 use base64::engine::general_purpose::STANDARD_NO_PAD;
 use std::alloc::{AllocError, Global};
 
-/// How many bytes of a header's text follow what its MAC covers: a space, the
-/// MAC's 43 characters and LF.
+/// How many bytes of a header's text follow what its MAC covers: a space, the MAC's 43 characters
+/// and LF.
 const AFTER_MAC_TEXT: usize = 45;
 
 /// Writes the text of no more bytes than one line spells.
@@ -105,8 +105,8 @@ fn whole_text(alloc: Global, header: &Header, len: usize) -> Result<Vec<u8>, All
     Ok(out)
 }
 
-/// The text of a header that [`is_header`](crate::is_header), as the C2SP page
-/// defines it. All memory is taken at once; the only fault is a refusal of it
+/// The text of a header that [`is_header`](crate::is_header), as the C2SP page defines it. All
+/// memory is taken at once; the only fault is a refusal of it
 /// ([`HeadKind::Memory`](crate::HeadKind::Memory)).
 pub fn encode_head(alloc: Global, header: &Header) -> Result<Vec<u8>, HeadFault>
     requires { HasText header.now }
@@ -120,9 +120,9 @@ pub fn encode_head(alloc: Global, header: &Header) -> Result<Vec<u8>, HeadFault>
 }
 
 /// The part of a header's text that its MAC covers: from the version line up to and with the `---`
-/// of the end line, without the space that follows (<https://c2sp.org/age#header-mac>). It
-/// requires [`is_header`](crate::is_header). All memory is taken at once; the only fault is a
-/// refusal of it ([`HeadKind::Memory`](crate::HeadKind::Memory)).
+/// of the end line, without the space that follows (<https://c2sp.org/age#header-mac>). It requires
+/// [`is_header`](crate::is_header). All memory is taken at once; the only fault is a refusal of it
+/// ([`HeadKind::Memory`](crate::HeadKind::Memory)).
 pub fn mac_text(alloc: Global, header: &Header) -> Result<Vec<u8>, HeadFault>
     requires { HasText header.now }
     ensures text { IfOk result (λ bytes. bytes.items ≡ mac_text header.now) }

@@ -13,11 +13,11 @@ pub enum HeadKind {
     /// The first line isn't the version line.
     #[error("not an age file")]
     NotAge,
-    /// The first line is that of an armored file, which isn't read.
+    /// The first line is an armored file's, which isn't read.
     #[error("armored")]
     Armored,
-    /// A line after the version line or a whole stanza is neither a valid
-    /// argument line nor begins with `---`.
+    /// A line after the version line or a whole stanza is neither a valid argument line nor begins
+    /// with `---`.
     #[error("bad stanza line")]
     BadStanzaLine,
     /// A line of a body isn't canonical base64 of at most 64 characters.
@@ -29,8 +29,7 @@ pub enum HeadKind {
     /// The end line came before any stanza.
     #[error("no stanza")]
     NoStanza,
-    /// [`HEAD_MAX`](crate::HEAD_MAX) bytes hold no whole header and no faulty
-    /// line.
+    /// [`HEAD_MAX`](crate::HEAD_MAX) bytes hold no whole header and no faulty line.
     #[error("header too long")]
     HeadTooLong,
     /// The input ended inside the header.
@@ -42,8 +41,8 @@ pub enum HeadKind {
 }
 
 impl HeadKind {
-    /// The kind's number in the list of all faults: 1 to 8 in the order of the
-    /// variants, and 28 for memory.
+    /// The kind's number in the list of all faults: 1 to 8 in the order of the variants, and 28 for
+    /// memory.
     pub fn number(&self) -> u8
         ensures { result ≡ head_fault_number self.now }
     {
@@ -71,8 +70,7 @@ impl From<AllocError> for HeadKind {
     }
 }
 
-/// A refusal, and the number of the line that it came at, from 1 (0 where
-/// memory was refused).
+/// A refusal, and the number of the line that it came at, from 1 (0 if memory was refused).
 #[derive(Clone, Copy, Debug, PartialEq, Eq)]
 pub struct HeadFault {
     /// What is wrong.
@@ -82,15 +80,15 @@ pub struct HeadFault {
 }
 
 impl HeadFault {
-    /// The fault's number: 1 to 8 for what is wrong with a header, in the order
-    /// of the variants of [`HeadKind`], and 28 where memory was refused.
+    /// The fault's number: 1 to 8 for what is wrong with a header, in the order of the variants of
+    /// [`HeadKind`], and 28 if memory was refused.
     pub fn number(&self) -> u8
         ensures { result ≡ head_fault_number self.now.kind }
     {
         self.kind.number()
     }
 
-    /// The line of the fault, from 1. `None` where memory was refused.
+    /// The line of the fault, from 1. `None` if memory was refused.
     pub fn place(&self) -> Option<u64>
         ensures { result ≡ head_fault_place self.now }
     {
@@ -101,8 +99,8 @@ impl HeadFault {
     }
 }
 
-/// The kind's text and the line, as `bad stanza line at line 3`; of a refusal of
-/// memory the kind's text alone.
+/// The kind's text and the line, as `bad stanza line at line 3`; of a refusal of memory the kind's
+/// text alone.
 impl fmt::Display for HeadFault {
     fn fmt<W: fmt::Write>(&self, f: &mut fmt::Formatter<W>) -> fmt::Result {
         match self.place() {

@@ -1,12 +1,10 @@
 //! The text header of an age file, version 1 (<https://c2sp.org/age#header>).
 //!
-//! A header is a text of lines that end with LF alone. Its first line is
-//! `age-encryption.org/v1`. One or more recipient stanzas follow, each an
-//! argument line (`-> ` and arguments parted by single spaces) and a body in
-//! base64 (RFC 4648, section 4, without padding, canonical), wrapped at 64
-//! characters, whose last line is shorter than 64 and may be empty. The end
-//! line is `--- ` and the 43 characters of the header's MAC. The binary
-//! payload follows at once.
+//! A header is a text of lines that end with LF alone. Its first line is `age-encryption.org/v1`.
+//! One or more recipient stanzas follow, each an argument line (`-> ` and arguments parted by
+//! single spaces) and a body in base64 (RFC 4648, section 4, without padding, canonical), wrapped
+//! at 64 characters, whose last line is shorter than 64 and may be empty. The end line is `--- `
+//! and the 43 characters of the header's MAC. The binary payload follows at once.
 //!
 //! A [`Header`] has recipient [`Stanzas`] and a MAC. A [`Stanza`] has [`Arguments`], each an
 //! [`Argument`], and a body, which is [`Bytes`]. Each of the three is a [`List`].
@@ -46,6 +44,5 @@ pub use parser::HeadParser;
 pub use text::read_base64;
 pub use valid::{is_argument, is_header};
 
-/// The greatest length of a header in bytes, from the version line to the end
-/// line's LF.
+/// The greatest length of a header in bytes, from the version line to the end line's LF.
 pub const HEAD_MAX: usize = 1_048_576;

@@ -69,7 +69,7 @@ impl<T: Drop> List<T> {
         self.items.is_empty()
     }
 
-    /// Adds an element at the end. Where memory is refused the list stays as it was.
+    /// Adds an element at the end. If memory is refused the list stays as it was.
     pub fn push(&mut self, item: T) -> Result<(), AllocError>
         ensures ok { OnOk result (self.new ≡ self.old ++ item ∷ []) }
         ensures err { OnErr result (self.new ≡ self.old) }
@@ -89,7 +89,7 @@ impl<T: Copy> List<T> {
         })
     }
 
-    /// Adds copies of some elements at the end. Where memory is refused the list stays as it was.
+    /// Adds copies of some elements at the end. If memory is refused the list stays as it was.
     pub fn extend_from_slice(&mut self, more: &[T]) -> Result<(), AllocError>
         ensures ok { OnOk result (self.new ≡ self.old ++ more.now) }
         ensures err { OnErr result (self.new ≡ self.old) }

@@ -14,9 +14,9 @@ use std::alloc::Global;
 use std::marker::Model;
 use std::mem;
 
-/// What an open parser holds: the place of the line that isn't finished, which has what the finished
-/// lines held, and the characters of that line. No finished line is kept as it came. A contract sees
-/// the bytes that came.
+/// What an open parser holds: the place of the line that isn't finished, which has what the
+/// finished lines held, and the characters of that line. No finished line is kept as it came. A
+/// contract sees the bytes that came.
 #[derive(Drop)]
 pub(crate) struct PartialHeader {
     place: Place,
@@ -146,8 +146,7 @@ impl PartialHeader {
         }
     }
 
-    /// The fault of a header that reached the limit: its line is that of the
-    /// last byte.
+    /// The fault of a header that reached the limit: its line is the last byte's.
     pub(crate) fn too_long_fault(&self) -> HeadFault
         requires { length self.now ≡ header_limit }
         ensures { result ≡ record {

@@ -1,5 +1,5 @@
-//! Base64 without padding, and canonical: the unused low bits of the last
-//! character are zero (RFC 4648, sections 3.5 and 4).
+//! Base64 without padding, and canonical: the unused low bits of the last character are zero (RFC
+//! 4648, sections 3.5 and 4).
 
 ghost use Rattle.std.specs.Prelude.{◌≡◌, ◌≢◌, ◌≤◌, ℕ, List, length, take, Some, None};
 ghost use Rattle.std.specs.Prelude.{IfSome};
@@ -26,9 +26,9 @@ pub(crate) fn decode_line(line: &[u8], room: &mut [u8]) -> Option<usize>
     STANDARD_NO_PAD.decode_slice_unchecked(line, room).ok()
 }
 
-/// Reads as many bytes as there is room for, at most 32, out of a text in
-/// canonical base64 without padding (RFC 4648, sections 3.5 and 4). False means
-/// that the text isn't that of so many bytes, and leaves `bytes` as they were.
+/// Reads as many bytes as there is room for, at most 32, out of a text in canonical base64 without
+/// padding (RFC 4648, sections 3.5 and 4). False means that the text doesn't spell this many bytes,
+/// and leaves `bytes` as they were.
 #[tactic(none)]
 pub fn read_base64(characters: &[u8], bytes: &mut [u8]) -> bool
     requires { length bytes.old ≤ 32 }
@@ -51,8 +51,7 @@ pub fn read_base64(characters: &[u8], bytes: &mut [u8]) -> bool
     }
 }
 
-/// The 32 bytes that an end line, without its LF, spells; `None` where it is no
-/// end line.
+/// The 32 bytes that an end line, without its LF, spells; `None` if it is no end line.
 pub(crate) fn mac_of(line: &[u8]) -> Option<[u8; 32]>
     ensures { result ≡ spec_mac_of line.now }
 {

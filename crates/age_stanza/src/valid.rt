@@ -82,7 +82,7 @@ fn room_after_stanza(room: usize, stanza: &Stanza) -> Option<usize>
     room_after_body(left, stanza.body.as_slice())
 }
 
-/// The length of a header's text, where it is within the limit.
+/// The length of a header's text, if it is within the limit.
 pub(crate) fn text_len(header: &Header) -> Option<usize>
     ensures { IsHeaderLength header.now result }
 {
@@ -95,9 +95,8 @@ pub(crate) fn text_len(header: &Header) -> Option<usize>
     Some(HEAD_MAX - left)
 }
 
-/// Whether a header has a text: one or more stanzas, each with one or more
-/// arguments, which are all valid ([`is_argument`]), and a text of no more
-/// than [`HEAD_MAX`] bytes.
+/// Whether a header has a text: one or more stanzas, each with one or more arguments, which are all
+/// valid ([`is_argument`]), and a text of no more than [`HEAD_MAX`] bytes.
 pub fn is_header(header: &Header) -> bool
     ensures { IsTrue result ↔ HasText header.now }
 {

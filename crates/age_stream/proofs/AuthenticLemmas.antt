@@ -31,7 +31,7 @@ module _ (sealing : List ℕ → List ℕ → List ℕ) (opening : List ℕ → 
       ∙ ap (λ (b : Bool). record { start = r.start; bytes = r.bytes; ended = r.ended; late = b }) rest.timely) in
       subst (IsAuthentic sealing opening n text) (sym is) (rest_authentic sealing opening valid n positive text few s.start rest.below closed)
 
-  -- where the deliveries are whole, they leave one segment, of all bytes and ended
+  -- if the deliveries are whole, they leave one segment, of all bytes and ended
   whole_standing : (deliveries : List Delivery) (w : AreWhole (payload sealing n text) deliveries)
       → standing opening n deliveries ≡ record {
         given_up = [];

@@ -1,4 +1,4 @@
--- Where more room is asked for, more bytes than a tag has came.
+-- If more room is asked for, more bytes than a tag has came.
 use Rattle.std.proofs.Common.{inl, inr, ◌≡◌, ℕ, ◌<◌, ◌≤◌, ◌+◌, ◌*◌, ◌/◌, refl, ap, sym, ◌∙◌, List}
 use Rattle.std.proofs.Common.{[], ◌∷◌, ◌++◌, length, take, drop, get_or, arith}
 use Rattle.std.specs.Prelude.{Option, Result, Ok, Err, OnErr}

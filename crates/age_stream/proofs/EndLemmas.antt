@@ -27,7 +27,7 @@ module _ {B : Type 0} {n : ℕ} {g : _} (opening : B → List ℕ → List ℕ �
   by_answer o (Ok len) t = t.2
   by_answer o (Err f) t = ap (flat_map (λ (t : List ℕ). t)) t.1
 
-  -- the outcome of the whole segment is that of the end, after the texts so far
+  -- the outcome of the whole segment is the end's, after the texts so far
   finishes : (s : Segment) (o : Outcome) (answer : Result ℕ StreamFault) → OpenerEndsAs o old answer new
       → (outcome (opening old.key.now) (text_length n) (with_end s)).texts ≡ (outcome (opening old.key.now) (text_length n) s).texts ++ o.texts
       → (outcome (opening old.key.now) (text_length n) (with_end s)).index ≡ o.index → (outcome (opening old.key.now) (text_length n) (with_end s)).status ≡ o.status

@@ -130,7 +130,7 @@ slice_get_end (x ∷ xs) y zero h = absurd (omega arith)
 slice_get_end (x ∷ xs) y (suc k) h = slice_get_end xs y k (omega arith)
 
 module _ (opening : List ℕ → List ℕ → Option (List ℕ)) where
-  -- where all these blocks open as before the last, the next ones go on from there
+  -- if all these blocks open as before the last, the next ones go on from there
   on_step : (o : Option (List ℕ)) (xs ys : List (List ℕ)) (i : ℕ) → (length (front_texts opening (i + 1) xs) ≡ length xs
       → front_texts opening (i + 1) (xs ++ ys) ≡ front_texts opening (i + 1) xs ++ front_texts opening (i + 1 + length xs) ys)
       → length (text_then opening o (front_texts opening (i + 1) xs)) ≡ suc (length xs)
@@ -146,7 +146,7 @@ module _ (opening : List ℕ → List ℕ → Option (List ℕ)) where
   front_on [] ys i h = let e : i ≡ i + 0 = omega arith in ap (λ (k : ℕ). front_texts opening k ys) e
   front_on (x ∷ xs) ys i h = on_step (text_before_last opening i x) xs ys i (λ g. front_on xs ys (i + 1) g) h
 
-  -- where some block doesn't, more blocks change nothing
+  -- if some block doesn't, more blocks change nothing
   stays_step : (o : Option (List ℕ)) (xs ys : List (List ℕ)) (i : ℕ) → (length (front_texts opening (i + 1) xs) < length xs
       → front_texts opening (i + 1) (xs ++ ys) ≡ front_texts opening (i + 1) xs)
       → length (text_then opening o (front_texts opening (i + 1) xs)) < suc (length xs)
@@ -159,7 +159,7 @@ module _ (opening : List ℕ → List ℕ → Option (List ℕ)) where
   front_stays [] ys i h = absurd (omega arith)
   front_stays (x ∷ xs) ys i h = stays_step (text_before_last opening i x) xs ys i (λ g. front_stays xs ys (i + 1) g) h
 
-  -- the texts before, and then those of an outcome
+  -- the texts before, and then an outcome's
   abbrev pub prepend : List (List ℕ) → Outcome → Outcome
   prepend texts o = record { texts = texts ++ o.texts; index = o.index; status = o.status }
 
@@ -396,7 +396,7 @@ module _ (opening : List ℕ → List ℕ → Option (List ℕ)) (n : ℕ) where
       let here = past_place s e ∙ ap (λ (t : Bool). final_block opening texts i (rest_bytes n s.bytes) s.late t) is in
       carry_bytes here (e0 ∙ past_place next e) (rest_bytes_after texts i (rest_bytes n s.bytes) s.late some)
 
-  -- a piece, where the segment is open no more
+  -- a piece, if the segment is open no more
   pub after_piece : (s : Segment) (p : List ℕ) → (s.ended ≡ false → s.late ≡ false) → ((outcome opening n s).status ≡ Open → ⊥)
       → IsAfterBytes (nat_lt 0 (length p)) (outcome opening n s) (outcome opening n (with_piece s p))
   after_piece s p timely shut =

@@ -1,4 +1,4 @@
--- What is held after a list of deliveries, where what opens is the writer's.
+-- What is held after a list of deliveries, if what opens is the writer's.
 use Rattle.std.proofs.Common.{inl, inr, ◌≡◌, ℕ, ◌<◌, ◌≤◌, ◌+◌, ◌*◌, refl, ap, sym, subst, ◌∙◌, List}
 use Rattle.std.proofs.Common.{[], ◌∷◌, ◌++◌, length, take, Bool, true, false, arith}
 use Rattle.std.specs.Prelude.{Option, cond, min, nat_lt, nat_le, map}
@@ -33,7 +33,7 @@ module _ (sealing : List ℕ → List ℕ → List ℕ) (opening : List ℕ → 
   abbrev Good : Segment → Type 0
   Good = IsAuthentic sealing opening n text
 
-  -- where the current segment begins, the text before it is that of the writer
+  -- the text before the current segment is the writer's
   record IsSound (s : Standing) : Type 0 where
     small : s.segment.start < chunk_limit
     fits : s.segment.start * n ≤ length text

@@ -76,7 +76,7 @@ closed_stays opening n s timely shut = (
   settled_end (outcome opening n s) (outcome opening n (with_end s)) (after_end opening n s shut),
 )
 
--- the index is that of the block at which the segment stands
+-- the index is the number of the block at which the segment stands
 index_of : (opening : List ℕ → List ℕ → Option (List ℕ)) (n : ℕ) (s : Segment) → (outcome opening n s).index
     ≡ s.start + length (front_texts opening s.start (whole_blocks n s.bytes))
 index_of opening n s =

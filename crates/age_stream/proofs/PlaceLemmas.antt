@@ -1,4 +1,4 @@
--- Each block in its place, where what opens is the writer's.
+-- Each block in its place, if what opens is the writer's.
 use Rattle.std.proofs.Common.{inl, inr, ◌≡◌, ℕ, zero, suc, ◌<◌, ◌≤◌, ◌+◌, ◌*◌, ◌-◌, ◌/◌, refl, ap}
 use Rattle.std.proofs.Common.{sym, subst, ◌∙◌, List, [], ◌∷◌, ◌++◌, length, take, drop}
 use Rattle.std.proofs.Common.{get_or, Bool, true, false, arith, rules}
@@ -101,7 +101,7 @@ kinds a b i j e = ap (λ (s : Status). kind_of s a) e
 places : (a b : StreamKind) (i j : ℕ) → failed a i ≡ failed b j → i ≡ j
 places a b i j e = ap place_of e
 
--- a choice of four, of which the last is the same where it is reached
+-- a choice of four, of which the last is the same if it is reached
 four : {A : Type 0} (b0 b1 b2 : Bool) (w x y u v : A) → (b0 ≡ false → b1 ≡ false → b2 ≡ false → u ≡ v)
     → cond b0 w (cond b1 x (cond b2 y u)) ≡ cond b0 w (cond b1 x (cond b2 y v))
 four true b1 b2 w x y u v f = refl
@@ -372,7 +372,7 @@ module _ (sealing : List ℕ → List ℕ → List ℕ) (opening : List ℕ → 
         (λ _. by_test Right (length rest == tag_length && nat_lt 0 at) _ _ (λ _. right_kind texts EmptyLast at (λ e. cc) (λ e. cc))
         (λ _. by_test Right (length rest == 0) _ _ (λ _. right_kind texts Truncated at (λ e. cc) (λ e. cc)) (λ _. last)))
 
-    -- it stands at a chunk that a payload may have, where the text reaches its start
+    -- it stands at a chunk that a payload may have, if the text reaches its start
     pub low_within : s.start < chunk_limit → s.start * n ≤ length text → at < chunk_limit
     low_within limit fits = (front_carries sealing opening valid n text few positive blocks s.start fits auth.front).small limit
 

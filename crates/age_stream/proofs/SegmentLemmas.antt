@@ -1,4 +1,4 @@
--- What a segment releases, where what opens is the writer's.
+-- What a segment releases, if what opens is the writer's.
 use Rattle.std.proofs.Common.{take-add, inl, inr, ◌≡◌, ℕ, suc, ◌<◌, ◌≤◌, ◌+◌, ◌*◌, ◌-◌, ◌/◌, ◌^◌}
 use Rattle.std.proofs.Common.{refl, ap, sym, subst, ◌∙◌, List, [], ◌∷◌, ◌++◌, length, take}
 use Rattle.std.proofs.Common.{drop, get_or, Bool, true, false, arith, rules}

@@ -1,5 +1,7 @@
--- What holds a buffer of n bytes, at most those of a whole block, is short enough for a reference to it. The sizes are as the layout of a struct gives them: each field
--- begins at a multiple of its alignment, and so does what follows the struct. Without these lemmas the search takes seconds at each call that lends one.
+-- What holds a buffer of n bytes, at most a whole block's, is short enough for a reference to it.
+-- The sizes are as the layout of a struct gives them: each field begins at a multiple of its
+-- alignment, and so does what follows the struct. Without these lemmas the search takes seconds at
+-- each call that lends one.
 use Rattle.std.proofs.Common.{ℕ, ◌+◌, ◌*◌, ◌<◌, ◌≤◌, arith}
 use Rattle.age_chunk.specs.Payload.{block_length}
 use prog.Memory.{up}

@@ -11,7 +11,7 @@ use Rattle.age_stream.proofs.LawLemmas.{sealed_grows, payload_is_longer}
 pub take_on : (k t : ℕ) (xs : List ℕ) → take k xs ++ take t (take (length xs - k) (drop k xs)) ≡ take (k + t) xs
 take_on k t xs = ap (λ (ys : List ℕ). take k xs ++ take t ys) (take_rest xs k) ∙ sym (take-add k t xs)
 
--- those of a part of the text have room where the whole payload has
+-- the blocks of a part of the text have room if the whole payload has
 pub front_fits : (sealing : List ℕ → List ℕ → List ℕ) (opening : List ℕ → List ℕ → Option (List ℕ)) → IsChunkBox sealing opening → (n : ℕ) → 0 < n
     → (text : List ℕ) (k : ℕ)
     → length (block_bytes (sealed_before_last sealing n (take k text))) ≤ length text + chunk_count n text * tag_length

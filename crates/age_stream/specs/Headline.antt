@@ -15,7 +15,7 @@ use Rattle.age_stream.specs.declared.delivery.Delivery.TheVariants.{Piece, End, 
 use Rattle.age_stream.specs.declared.step.Status.{Status}
 use Rattle.age_stream.specs.declared.step.Status.TheVariants.{Done}
 
--- ---- Each block in its place: what a segment gives where its blocks are compared with the
+-- ---- Each block in its place: what a segment gives when its blocks are compared with the
 -- writer's. A chunk has n bytes.
 
 -- the chunk that was sealed as this block at this nonce, if any: blocks are compared, and none is
@@ -28,7 +28,7 @@ sealed_as (pair ∷ pairs) (chunk ∷ chunks) nonce block =
     else sealed_as pairs chunks nonce block
 
 module _ (sealing : Seals) (n : ℕ) (text : List ℕ) where
-  -- in place of opening, comparing with the writer's blocks
+  -- comparing with the writer's blocks, in place of opening
   abbrev pub compared : OpensBlock
   compared = sealed_as (sealed sealing n text) (chunks n text)
 
@@ -41,8 +41,8 @@ module _ (sealing : Seals) (n : ℕ) (text : List ℕ) where
         (nonce_bytes i last, block_at n s.bytes (i - s.start))
 
 module _ (sealing : Seals) (opening : OpensBlock) (n : ℕ) (text : List ℕ) where
-  -- the outcome is that of comparing blocks with the writer's; one is refused as damaged where it
-  -- is the first that is none, and there are never too many
+  -- the outcome is what comparing blocks with the writer's gives; a block is refused as damaged if
+  -- it is the first that isn't the writer's, and there are never too many
   pub record IsInPlace (s : Segment) (status : Status) : Type 0 where
     pub compares : outcome opening n s ≡ outcome (compared sealing n text) n s
     pub damaged : (i : ℕ) → status ≡ failed ChunkDamaged i

@@ -21,7 +21,7 @@ use Rattle.age_stream.specs.declared.step.Status.TheVariants.{Done, Open, Failed
 
 -- ---- How long a text and its payload are, in chunks of 65,536 bytes (C2SP age.md, "Payload").
 
--- how many chunks a text of so many bytes has
+-- how many chunks a text of this many bytes has
 abbrev pub chunks_for : ℕ → ℕ
 chunks_for len = (len - 1) / chunk_length + 1
 
@@ -30,7 +30,7 @@ abbrev pub IsTextLength : ℕ → ℕ → Type 0
 IsTextLength size len =
     (len + tag_length * chunks_for len ≡ size) × (chunks_for len ≤ chunk_limit)
 
--- the length of the texts whose payload has so many bytes, or none where no payload has
+-- the length of the texts whose payload has this many bytes, or none if no payload has
 abbrev pub IsTextLengthOf : ℕ → Option ℕ → Type 0
 IsTextLengthOf size len =
     MatchOption len ((l : ℕ) → IsTextLength size l → ⊥) (IsTextLength size)
@@ -71,8 +71,8 @@ SealsChunks = (sealing : Seals) (n : ℕ) (text : List ℕ) (parts : List (List 
       sealing (nonce_bytes i (i + 1 == length parts)) (slice_index_or parts i []),
     ))
 
--- ---- Where the headline's premise is met: the payload of a writer, delivered as it is. A chunk
--- has n bytes.
+-- ---- When the headline's premise is met: the payload of a writer, delivered as it is. A chunk has
+-- n bytes.
 
 -- the bytes come once, in any pieces, and then an end
 pub record AreWhole (bytes : List ℕ) (deliveries : List Delivery) : Type 0 where
@@ -80,7 +80,7 @@ pub record AreWhole (bytes : List ℕ) (deliveries : List Delivery) : Type 0 whe
   pub are : deliveries ≡ map Piece pieces ++ End ∷ []
   pub join : flat_map (λ (piece : Bor (List ℕ)). piece.now) pieces ≡ bytes
 
--- where these bytes are delivered whole, the text is held, and its end was reported
+-- if these bytes are delivered whole, the text is held, and its end was reported
 abbrev pub GivesBack : OpensBlock → ℕ → List ℕ → List ℕ → Type 0
 GivesBack opening n bytes text = (deliveries : List Delivery) → AreWhole bytes deliveries
     → (text_held opening n (standing opening n deliveries) ≡ text)
@@ -194,7 +194,7 @@ PayloadIsLonger = OfAllBoxes (λ sealing opening. (n : ℕ) (text : List ℕ)
     × (length (block_bytes (sealed_before_last sealing n text))
     ≡ last_index n text * (n + tag_length)))
 
--- the payload without its last block of a text begins that of the text and more
+-- the payload of a text, without its last block, begins the payload of the text and more
 abbrev pub SealedGrows : Type 0
 SealedGrows = (sealing : Seals) (n : ℕ) (text more : List ℕ) → 0 < n
     → IsPrefixOf (block_bytes (sealed_before_last sealing n text))
@@ -204,7 +204,7 @@ SealedGrows = (sealing : Seals) (n : ℕ) (text more : List ℕ) → 0 < n
 abbrev pub counted_chunks : OpensBlock → ℕ → Segment → List (List ℕ)
 counted_chunks opening n s = take ((outcome opening n s).index - s.start) (outcome opening n s).texts
 
--- after a base of so many whole chunks as stand before the segment, the chunks that it counts are
+-- after a base of as many whole chunks as stand before the segment, the chunks that it counts are
 -- the first of all text so far; while it is open they are all that it released
 pub record IsCounted (opening : OpensBlock) (n : ℕ) (base : List ℕ) (s : Segment) : Type 0 where
   pub count : s.start + length (counted_chunks opening n s) ≡ (outcome opening n s).index

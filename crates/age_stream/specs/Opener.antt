@@ -44,8 +44,8 @@ abbrev pub has_failed : Status → Bool
 has_failed (Failed fault) = true
 has_failed other = false
 
--- it was given this segment: it stands where the outcome says, and holds what is left after all
--- whole blocks
+-- an opener was given this segment: it stands where the outcome says, and holds what is left after
+-- all whole blocks
 pub record Stands {B : Type 0} (opening : B → OpensBlock) (n : ℕ) (o : OpenerView B)
     (s : Segment) : Type 0 where
   pub index : o.index ≡ (outcome (opening o.key) n s).index
@@ -53,7 +53,7 @@ pub record Stands {B : Type 0} (opening : B → OpensBlock) (n : ℕ) (o : Opene
   pub held : o.status ≡ Open → o.held ≡ rest_bytes n s.bytes
   pub timely : s.ended ≡ false → s.late ≡ false
 
--- what an opener was given of a piece: what it took, or all where it refused
+-- what an opener was given of a piece: what it took, or all of it if it refused
 abbrev pub given : {T : Type 0} → (T → ℕ) → Result T StreamFault → List ℕ → List ℕ
 given taken (Ok step) piece = take (taken step) piece
 given taken (Err fault) piece = piece
@@ -78,7 +78,7 @@ abbrev pub while_open : Status → ℕ → ℕ
 while_open Open len = len
 while_open other len = 0
 
--- how much text so many bytes hold: of each whole block what isn't its tag
+-- how much text this many bytes hold: of each whole block what isn't its tag
 abbrev pub whole_text : ℕ → ℕ → ℕ
 whole_text n len = len / (n + tag_length) * n
 
@@ -176,7 +176,7 @@ module _ {B : Type 0} (opening : B → OpensBlock) (size : ℕ) (old : OpenerVie
     pub text : (s : Segment) → Stands opening (text_length size) old s
         → released (opening old.key) (text_length size) (with_end s)
         ≡ released (opening old.key) (text_length size) s ++ handed_bytes answer
-    -- it is as long as what was held without a tag, or empty where no block was open
+    -- it is as long as what was held without a tag, or empty if no block was open
     pub len : IfOk answer (λ text. length text.now ≡ text_at_end old)
     -- a fault that came before comes again
     pub again : IfErr answer

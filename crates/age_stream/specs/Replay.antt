@@ -71,10 +71,10 @@ module _ {B : Type 0} (sealing : B → Seals) (opening : B → OpensBlock) (n : 
     pub written : OnOk answer ((deliveries : List Delivery) → Replays opening n old deliveries
         → HoldsWritten (sealing old.key) (opening old.key) n (deliveries ++ delivery ∷ [])
         new.text new.opener.status)
-    -- where memory is refused nothing changes
+    -- if memory is refused nothing changes
     pub err : OnErr answer (new ≡ old)
-    -- memory is refused only where the delivery could release more text than there is room for:
-    -- never at a restart, nor after the last chunk or a fault
+    -- memory is refused only if the delivery could release more text than there is room for: never
+    -- at a restart, nor after the last chunk or a fault
     pub memory : OnErr answer (IsCramped n old delivery)
     -- what room there is stays
     pub capacity : old.capacity ≤ new.capacity

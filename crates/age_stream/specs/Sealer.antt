@@ -47,7 +47,7 @@ module _ {B : Type 0} {n : ℕ} {g : _} where
     finished = s.finished;
   }
 
--- it was given this text: it holds the last chunk, after so many others
+-- a sealer was given this text: it holds the last chunk, and its index is that chunk's
 pub record Holds {B : Type 0} (n : ℕ) (s : SealerView B) (text : List ℕ) : Type 0 where
   pub index : s.index ≡ last_index n text
   pub held : s.held ≡ last_chunk n text
@@ -146,20 +146,20 @@ module _ {B : Type 0} (sealing : B → Seals) (size : ℕ) (old : SealerView B) 
     pub fits : OnOk answer (old.failed ≡ false)
     -- the open chunk is one that a payload may have
     pub limit : old.index < chunk_limit
-    -- it is refused only where a feed was, with the same fault
+    -- it is refused only if a feed was, with the same fault
     pub refused : IfErr answer (λ fault. (old.failed ≡ true) × (fault ≡ too_many old.index))
 
 -- ---- How a whole text is sealed, and why it isn't. A chunk has n bytes.
 
 -- it has more than 2^48 chunks, which is reported at the last that a payload may have; or memory
--- was refused, where the payload has more bytes than there was room for
+-- was refused, if the payload has more bytes than there was room for
 abbrev pub SealRefuses : ℕ → List ℕ → ℕ → SealFault → Type 0
 SealRefuses n text room (Stream fault) = (chunk_limit * n < length text)
     × (fault ≡ too_many (chunk_limit - 1))
 SealRefuses n text room Memory = room < length text + chunk_count n text * tag_length
 
 module _ (sealing : Seals) (n : ℕ) (text : List ℕ) where
-  -- what `seal_into` does with the bytes before the call, where there is so much room for more
+  -- what `seal_into` does with the bytes before the call, if there is this much room for more
   pub record AppendsPayload (old : List ℕ) (room : ℕ) (answer : Result (Unit {0}) SealFault)
       (new : List ℕ) : Type 0 where
     -- the payload is appended

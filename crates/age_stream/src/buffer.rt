@@ -4,7 +4,7 @@ ghost use Rattle.age_chunk.specs.Payload.{block_length};
 
 use arrayvec::ArrayVec;
 
-// Appends bytes to a buffer that has room for them.
+/// Appends bytes to a buffer that has room for them.
 pub(crate) fn push_bytes<const SEALED: usize>(buffer: &mut ArrayVec<u8, SEALED>, bytes: &[u8])
     requires room { length buffer.old.items + length bytes.now ≤ SEALED }
     requires limit { SEALED ≤ block_length }

@@ -28,7 +28,7 @@ pub fn drill<B: ChunkBox, const SEALED: usize>(
     ensures written { IfOk result (λ drill. HoldsWritten (B.sealing key.now) (B.opening key.now)
         (text_length SEALED) events.now drill.text.items drill.status) }
 
-    // Memory is refused only where more bytes are delivered than a tag has.
+    // Memory is refused only if more bytes are delivered than a tag has.
     ensures memory { OnErr result (tag_length < length (flat_map bytes_in events.now)) }
 {
     let mut replay = Replay::<B, SEALED>::new(alloc, key);

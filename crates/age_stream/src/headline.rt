@@ -7,14 +7,13 @@ ghost use Rattle.age_chunk.specs.ChunkBoxes.{tag_length, text_length};
 
 use age_chunk::ChunkBox;
 
-/// While no delivered block opens at a nonce except as the writer of a text
-/// sealed it there, what is held is the beginning of the text, the end is
-/// reported only with all of it, and an undamaged payload, or its rest from a
-/// held chunk on, gives all of the text. Each block stands in its place: the
-/// outcome is that of comparing blocks with the writer's, so that
-/// [`ChunkDamaged`](crate::StreamKind::ChunkDamaged) stands at the first that
-/// is none, and [`TooManyChunks`](crate::StreamKind::TooManyChunks) never
-/// comes. The same of one segment, after the text before its start.
+/// While no delivered block opens at a nonce except as the writer of a text sealed it there, what
+/// is held is the beginning of the text, the end is reported only with all of it, and an undamaged
+/// payload, or its rest from a held chunk on, gives all of the text. Each block stands in its
+/// place: the outcome is what comparing blocks with the writer's gives, so that
+/// [`ChunkDamaged`](crate::StreamKind::ChunkDamaged) comes at the first that isn't the writer's,
+/// and [`TooManyChunks`](crate::StreamKind::TooManyChunks) never comes. All of this holds of one
+/// segment too, after the text before its start.
 pub fn held_is_written<B: ChunkBox, const SEALED: usize>()
     requires least { tag_length < SEALED }
     ensures held { (key : B) (deliveries : List Delivery)

@@ -21,15 +21,13 @@ pub fn pieces_join()
     ensures { PiecesJoin }
 {}
 
-/// With more bytes the text that was released only grows, and the index never
-/// falls.
+/// With more bytes the text that was released only grows, and the index never falls.
 pub fn released_grows()
     ensures { ReleasedGrows }
 {}
 
-/// A segment that was given nothing is open. Once it isn't open, more bytes
-/// and an end release nothing, and a refusal stays. After an end it isn't
-/// open, and it stands at the same chunk.
+/// A segment that was given nothing is open. Once it isn't open, more bytes and an end release
+/// nothing, and a refusal stays. After an end it isn't open, and it stands at the same chunk.
 pub fn closed_stays()
     ensures fresh { FreshIsOpen }
     ensures closed { ClosedStays }
@@ -41,8 +39,8 @@ pub fn released_is_written()
     ensures { ReleasedIsWritten }
 {}
 
-/// A payload is longer than its text by a tag for each chunk, and the blocks
-/// before the last are whole.
+/// A payload is longer than its text by a tag for each chunk, and the blocks before the last are
+/// whole.
 pub fn payload_is_longer()
     ensures { PayloadIsLonger }
 {}
@@ -52,39 +50,38 @@ pub fn lengths_are_one()
     ensures { LengthsAreOne }
 {}
 
-/// The payload without its last block of a text begins that of the text and
-/// more.
+/// The payload of a text, without its last block, begins the payload of the text and more.
 pub fn sealed_grows()
     ensures { SealedGrows }
 {}
 
-/// The index of a segment counts the whole chunks before the text: after
-/// a base of `start` whole chunks, what was released of the blocks before the
-/// last joins to the first `index` chunks of all text so far.
+/// The index of a segment counts the whole chunks before the text: after a base of `start` whole
+/// chunks, what was released of the blocks before the last joins to the first `index` chunks of all
+/// text so far.
 pub fn chunks_are_counted()
     ensures { ChunksAreCounted }
 {}
 
-/// The payload of a text, delivered in any pieces and then an end, meets the
-/// premise of the headline, if the last chunk is short or its block doesn't
-/// open as one before the last. So does its rest from a chunk on, and that
-/// rest after a restart, if each segment that was given up before met it.
+/// The payload of a text, delivered in any pieces and then an end, meets the premise of the
+/// headline, if the last chunk is short or its block doesn't open as one before the last. So does
+/// its rest from a chunk on, and that rest after a restart, if each segment that was given up
+/// before met it.
 pub fn undamaged_is_authentic()
     ensures whole { WholeIsAuthentic }
     ensures rest { RestIsAuthentic }
     ensures after { UndamagedIsAuthentic }
 {}
 
-/// The payload of a text, delivered in any pieces and then an end, is held as
-/// that text, with the status [`Done`](crate::Status::Done), if the last chunk
-/// is short or its block doesn't open as one before the last.
+/// The payload of a text, delivered in any pieces and then an end, is held as that text, with the
+/// status [`Done`](crate::Status::Done), if the last chunk is short or its block doesn't open as
+/// one before the last.
 pub fn round_trip()
     ensures { PayloadRoundTrip }
 {}
 
-/// With [`ClearBox`](crate::ClearBox) every text of at most 2^48 chunks meets
-/// what [`undamaged_is_authentic`] and [`round_trip`] ask of a text: delivered
-/// undamaged, its payload meets the premise of the headline and gives it back.
+/// With [`ClearBox`](crate::ClearBox) every text of at most 2^48 chunks meets what
+/// [`undamaged_is_authentic`] and [`round_trip`] ask of a text: delivered undamaged, its payload
+/// meets the premise of the headline and gives it back.
 pub fn clear_is_sealable()
     ensures { ClearIsSealable }
 {}

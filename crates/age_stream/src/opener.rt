@@ -40,7 +40,7 @@ impl<'k, B: ChunkBox, const SEALED: usize> OpenerState<'k, B, SEALED> {
     ghost use Rattle.age_stream.specs.inner.OpenerSteps.{OpenerEndsAs, EndsNone};
     ghost use Rattle.age_stream.specs.Opener.{held_bytes};
 
-    // Empties the buffer of a text that was lent.
+    /// Empties the buffer of a text that was lent.
     fn reclaim(&mut self)
         ensures buffer { self.new.buffer.items ≡ held_bytes self.old }
         ensures lent { self.new.lent ≡ false }
@@ -53,7 +53,7 @@ impl<'k, B: ChunkBox, const SEALED: usize> OpenerState<'k, B, SEALED> {
         }
     }
 
-    // Tries the block in the buffer, as one before the last and then as the last.
+    /// Tries the block in the buffer, as one before the last and then as the last.
     fn try_block(&mut self) -> Result<(), StreamFault>
         requires full { length self.old.buffer.items ≡ SEALED }
         requires open { self.old.status ≡ Status.Open }
@@ -77,7 +77,7 @@ impl<'k, B: ChunkBox, const SEALED: usize> OpenerState<'k, B, SEALED> {
         Err(self.fail(StreamKind::ChunkDamaged))
     }
 
-    // Takes what the block has room for, and tries the block that is full.
+    /// Takes what the block has room for, and tries the block that is full.
     fn take_open(&mut self, piece: &[u8]) -> Result<(usize, bool), StreamFault>
         requires { self.old.status ≡ Status.Open }
         ensures part { length (held_bytes self.old) + length piece.now < SEALED
@@ -101,7 +101,7 @@ impl<'k, B: ChunkBox, const SEALED: usize> OpenerState<'k, B, SEALED> {
         Ok((room, true))
     }
 
-    // Takes nothing more.
+    /// Takes nothing more.
     fn take_closed(&mut self, piece: &[u8]) -> Result<(usize, bool), StreamFault>
         requires { self.old.status ≢ Status.Open }
         ensures { TakesNone self.old piece.now result self.new }
@@ -117,7 +117,7 @@ impl<'k, B: ChunkBox, const SEALED: usize> OpenerState<'k, B, SEALED> {
         }
     }
 
-    // Takes what it takes of a piece, and says whether a text then stands in the buffer.
+    /// Takes what it takes of a piece, and says whether a text then stands in the buffer.
     fn advance(&mut self, piece: &[u8]) -> Result<(usize, bool), StreamFault>
         ensures { OpenerAdvances B.sealing B.opening self.old piece.now result self.new }
     {
@@ -127,7 +127,7 @@ impl<'k, B: ChunkBox, const SEALED: usize> OpenerState<'k, B, SEALED> {
         }
     }
 
-    // Tries what is held as the last block.
+    /// Tries what is held as the last block.
     fn end_open(&mut self) -> Result<usize, StreamFault>
         requires { self.old.status ≡ Status.Open }
         ensures ends { OpenerEndsAs (final_block (B.opening self.old.key.now) [] self.old.index
@@ -155,7 +155,7 @@ impl<'k, B: ChunkBox, const SEALED: usize> OpenerState<'k, B, SEALED> {
         Err(self.fail(StreamKind::ChunkDamaged))
     }
 
-    // An end where no block is open.
+    /// An end if no block is open.
     fn end_closed(&mut self) -> Result<usize, StreamFault>
         requires { self.old.status ≢ Status.Open }
         ensures { EndsNone self.old result self.new }
@@ -167,7 +167,7 @@ impl<'k, B: ChunkBox, const SEALED: usize> OpenerState<'k, B, SEALED> {
         Ok(0)
     }
 
-    // Ends, and says how many bytes at the beginning of the buffer are the last text.
+    /// Ends, and says how many bytes at the beginning of the buffer are the last text.
     fn close(&mut self) -> Result<usize, StreamFault>
         ensures { OpenerCloses B.sealing B.opening self.old result self.new }
     {
@@ -177,7 +177,7 @@ impl<'k, B: ChunkBox, const SEALED: usize> OpenerState<'k, B, SEALED> {
         }
     }
 
-    // Fails for good, and holds nothing more.
+    /// Fails for good, and holds nothing more.
     fn fail(&mut self, kind: StreamKind) -> StreamFault
         ensures status { self.new.status ≡ failed kind self.old.index }
         ensures fault { Status.Failed result ≡ failed kind self.old.index }
@@ -195,13 +195,13 @@ impl<'k, B: ChunkBox, const SEALED: usize> OpenerState<'k, B, SEALED> {
 }
 
 /// Opens a payload that comes in pieces, however they are cut (<https://c2sp.org/age#payload>). A
-/// whole block is tried at the nonce of a chunk that isn't the last, and then at that of the last
-/// one; what is left at the end of the input is tried as the last alone. A text is lent only once
-/// its tag was checked.
+/// whole block is tried at the nonce of a chunk that isn't the last, and then at the nonce of the
+/// last one; what is left at the end of the input is tried as the last alone. A text is lent only
+/// once its tag was checked.
 ///
-/// A contract sees the key, the bytes of the block that is open, the chunk's
-/// number and the status. They are what the outcome of a segment says: of all
-/// bytes since the opener was made, and of the end of the input.
+/// A contract sees the key, the bytes of the block that is open, the chunk's number and the status.
+/// They are what the outcome of a segment says: of all bytes since the opener was made, and of the
+/// end of the input.
 #[derive(Drop)]
 pub struct Opener<'k, B: ChunkBox, const SEALED: usize> {
     state: OpenerState<'k, B, SEALED>,
@@ -231,8 +231,8 @@ impl<'k, B: ChunkBox, const SEALED: usize> Opener<'k, B, SEALED> {
         Opener::at(key, 0)
     }
 
-    /// An opener of a payload from a chunk on, by the chunk's number, which is
-    /// below [`CHUNK_LIMIT`]. Takes no memory.
+    /// An opener of a payload from a chunk on, by the chunk's number, which is below
+    /// [`CHUNK_LIMIT`]. Takes no memory.
     pub fn at(key: &'k B, index: u64) -> Self
         requires least { tag_length < SEALED }
         requires most { SEALED ≤ block_length }
@@ -244,9 +244,9 @@ impl<'k, B: ChunkBox, const SEALED: usize> Opener<'k, B, SEALED> {
         Opener::between(key, index, Status::Open)
     }
 
-    /// An opener that holds no byte of the block that is open, by the number
-    /// of its chunk, which is below [`CHUNK_LIMIT`], and its status: for
-    /// a caller that keeps both itself between two calls. Takes no memory.
+    /// An opener that holds no byte of the block that is open, by the number of its chunk, which is
+    /// below [`CHUNK_LIMIT`], and its status: for a caller that keeps both itself between two
+    /// calls. Takes no memory.
     pub fn between(key: &'k B, index: u64, status: Status) -> Self
         requires least { tag_length < SEALED }
         requires most { SEALED ≤ block_length }
@@ -265,8 +265,8 @@ impl<'k, B: ChunkBox, const SEALED: usize> Opener<'k, B, SEALED> {
         }
     }
 
-    /// The number of the chunk at which it stands: the one that it started
-    /// at, and one more for each chunk that was opened as not the last.
+    /// The number of the chunk at which it stands: the one that it started at, and one more for
+    /// each chunk that was opened as not the last.
     pub fn index(&self) -> u64
         ensures index { result ≡ self.now.index }
         ensures limit { result < chunk_limit }
@@ -281,16 +281,15 @@ impl<'k, B: ChunkBox, const SEALED: usize> Opener<'k, B, SEALED> {
         self.state.status
     }
 
-    /// Whether a call was refused. Then each call is refused with the same
-    /// fault.
+    /// Whether a call was refused. Then each call is refused with the same fault.
     pub fn has_failed(&self) -> bool
         ensures { result ≡ has_failed self.now.status }
     {
         matches!(self.state.status, Status::Failed(_))
     }
 
-    /// How many bytes of the block that is open are held: fewer than a block
-    /// has, and none once no block is open.
+    /// How many bytes of the block that is open are held: fewer than a block has, and none once no
+    /// block is open.
     pub fn held_len(&self) -> usize
         ensures len { result ≡ length self.now.held }
         ensures below { result < SEALED }
@@ -304,7 +303,7 @@ impl<'k, B: ChunkBox, const SEALED: usize> Opener<'k, B, SEALED> {
         }
     }
 
-    // How many bytes a chunk has.
+    /// How many bytes a chunk has.
     pub(crate) fn chunk_len(&self) -> u64
         ensures len { result ≡ text_length SEALED }
         ensures most { result ≤ chunk_length }
@@ -315,14 +314,13 @@ impl<'k, B: ChunkBox, const SEALED: usize> Opener<'k, B, SEALED> {
         (SEALED - TAG_LEN) as u64
     }
 
-    /// Takes bytes of the payload, up to the end of the block that is open,
-    /// and lends the text of a block that is full. Takes nothing of an empty
-    /// piece. A full block that opens neither as its chunk nor as the last is
-    /// [`ChunkDamaged`](StreamKind::ChunkDamaged), one that opens as chunk
+    /// Takes bytes of the payload, up to the end of the block that is open, and lends the text of a
+    /// block that is full. Takes nothing of an empty piece. A full block that opens neither as its
+    /// chunk nor as the last is [`ChunkDamaged`](StreamKind::ChunkDamaged), one that opens as chunk
     /// number [`CHUNK_LIMIT`] less one and not the last is
-    /// [`TooManyChunks`](StreamKind::TooManyChunks), and bytes after the last
-    /// chunk are [`Trailing`](StreamKind::Trailing). After a refusal each call
-    /// is refused with the same fault.
+    /// [`TooManyChunks`](StreamKind::TooManyChunks), and bytes after the last chunk are
+    /// [`Trailing`](StreamKind::Trailing). After a refusal each call is refused with the same
+    /// fault.
     pub fn feed(&mut self, piece: &[u8]) -> Result<Step<'_>, StreamFault>
         // The opener, once the loan has ended.
         ensures* after { sem 𝓛 (Rests (opener_row B.row SEALED.row B.ChunkBox) self.entry
@@ -346,14 +344,12 @@ impl<'k, B: ChunkBox, const SEALED: usize> Opener<'k, B, SEALED> {
         })
     }
 
-    /// The input ended: what is held is tried as the last chunk, and its text
-    /// is lent. The text is empty if the last chunk came before. Nothing held
-    /// is [`Truncated`](StreamKind::Truncated), fewer bytes than a tag has
-    /// are [`ChunkCut`](StreamKind::ChunkCut), and a tag alone after other
-    /// chunks is [`EmptyLast`](StreamKind::EmptyLast): a writer makes no empty
-    /// chunk but for the empty text. What doesn't open is
-    /// [`ChunkDamaged`](StreamKind::ChunkDamaged). After a refusal each call is
-    /// refused with the same fault.
+    /// The input ended: what is held is tried as the last chunk, and its text is lent. The text is
+    /// empty if the last chunk came before. Nothing held is [`Truncated`](StreamKind::Truncated),
+    /// fewer bytes than a tag has are [`ChunkCut`](StreamKind::ChunkCut), and a tag alone after
+    /// other chunks is [`EmptyLast`](StreamKind::EmptyLast): a writer makes no empty chunk but for
+    /// the empty text. What doesn't open is [`ChunkDamaged`](StreamKind::ChunkDamaged). After a
+    /// refusal each call is refused with the same fault.
     pub fn end(&mut self) -> Result<&[u8], StreamFault>
         // The opener, once the loan has ended.
         ensures* after { sem 𝓛 (Rests (opener_row B.row SEALED.row B.ChunkBox) self.entry
@@ -365,7 +361,7 @@ impl<'k, B: ChunkBox, const SEALED: usize> Opener<'k, B, SEALED> {
     }
 }
 
-// Opens the block in the buffer in place.
+/// Opens the block in the buffer in place.
 fn open_in<B: ChunkBox, const SEALED: usize>(
     key: &B,
     index: u64,
@@ -384,7 +380,7 @@ fn open_in<B: ChunkBox, const SEALED: usize>(
     key.open_at(&nonce_of(index, last), buffer.as_mut_slice())
 }
 
-// Whether so many bytes, at an end, are a chunk without text after others, which no writer makes.
+/// Whether this many bytes, at an end, are a chunk without text after others, which no writer makes.
 fn is_empty_last(len: usize, index: u64) -> bool
     ensures { result ≡ (len == tag_length && nat_lt 0 index) }
 {

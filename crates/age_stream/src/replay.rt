@@ -43,7 +43,7 @@ impl<'k, B: ChunkBox, const SEALED: usize> ReplayState<'k, B, SEALED> {
     ghost use Rattle.age_stream.specs.Segment.{after_delivery};
     ghost use Rattle.age_stream.specs.declared.delivery.Delivery.TheVariants.{End, Restart};
 
-    // Feeds the beginning of a piece, and returns how much was taken, unless the opener refused it.
+    /// Feeds the beginning of a piece, and returns how much was taken, unless the opener refused it.
     fn feed_once(&mut self, piece: &[u8]) -> Option<usize>
         requires some { 0 < length piece.now }
         requires room { self.old.opener.status ≡ Status.Open → vec_len self.old.text
@@ -61,7 +61,7 @@ impl<'k, B: ChunkBox, const SEALED: usize> ReplayState<'k, B, SEALED> {
         }
     }
 
-    // Feeds a whole piece, for whose text there is room.
+    /// Feeds a whole piece, for whose text there is room.
     fn feed_all(&mut self, piece: &[u8])
         requires { self.old.opener.status ≡ Status.Open → vec_len self.old.text
             + whole_text (text_length SEALED) (length self.old.opener.held + length piece.now)
@@ -79,7 +79,7 @@ impl<'k, B: ChunkBox, const SEALED: usize> ReplayState<'k, B, SEALED> {
         }
     }
 
-    // How much text a piece releases at most.
+    /// How much text a piece releases at most.
     fn piece_room(&self, piece: &[u8]) -> usize
         ensures { result ≡ text_of_piece (text_length SEALED) self.now.opener (length piece.now) }
     {
@@ -89,7 +89,7 @@ impl<'k, B: ChunkBox, const SEALED: usize> ReplayState<'k, B, SEALED> {
         }
     }
 
-    // How much text an end releases, if it releases any.
+    /// How much text an end releases, if it releases any.
     fn end_room(&self) -> usize
         ensures { result ≡ text_at_end self.now.opener }
     {
@@ -99,7 +99,7 @@ impl<'k, B: ChunkBox, const SEALED: usize> ReplayState<'k, B, SEALED> {
         }
     }
 
-    // Takes a piece. Its text is made room for first.
+    /// Takes a piece. Its text is made room for first.
     fn take_piece(&mut self, piece: &[u8]) -> Result<(), Memory>
         ensures fed { OnOk result
             (Goes B.opening self.old self.new (λ s. with_bytes s piece.now)) }
@@ -117,7 +117,7 @@ impl<'k, B: ChunkBox, const SEALED: usize> ReplayState<'k, B, SEALED> {
         Ok(())
     }
 
-    // Ends the opener, for whose last text there is room.
+    /// Ends the opener, for whose last text there is room.
     fn end_opener(&mut self)
         requires { vec_len self.old.text + text_at_end self.old.opener
             ≤ vec_capacity self.old.text }
@@ -131,7 +131,7 @@ impl<'k, B: ChunkBox, const SEALED: usize> ReplayState<'k, B, SEALED> {
         }
     }
 
-    // Takes an end. Its text is made room for first.
+    /// Takes an end. Its text is made room for first.
     fn take_end(&mut self) -> Result<(), Memory>
         ensures ended { OnOk result (Goes B.opening self.old self.new
             (λ s. after_delivery (B.opening self.old.key.now) (text_length SEALED) s End)) }
@@ -149,7 +149,7 @@ impl<'k, B: ChunkBox, const SEALED: usize> ReplayState<'k, B, SEALED> {
         Ok(())
     }
 
-    // Whether so many chunks are held.
+    /// Whether this many chunks are held.
     fn reaches(&self, k: u64) -> bool
         ensures answer { result ≡ (nat_lt k chunk_limit
             && nat_le (k * text_length SEALED) (length self.now.text.items)) }
@@ -158,7 +158,7 @@ impl<'k, B: ChunkBox, const SEALED: usize> ReplayState<'k, B, SEALED> {
         k < CHUNK_LIMIT && k * self.opener.chunk_len() <= self.text.len() as u64
     }
 
-    // Starts again at a chunk, where the text reaches it.
+    /// Starts again at a chunk, if the text reaches it.
     fn restart(&mut self, k: u64)
         ensures restarted { Goes B.opening self.old self.new
             (λ s. after_delivery (B.opening self.old.key.now) (text_length SEALED) s (Restart k)) }
@@ -173,7 +173,7 @@ impl<'k, B: ChunkBox, const SEALED: usize> ReplayState<'k, B, SEALED> {
         }
     }
 
-    // One delivery, for what it was given before.
+    /// One delivery, for what it was given before.
     fn deliver(&mut self, delivery: &Delivery<'_>) -> Result<(), Memory>
         ensures stands { OnOk result (Goes B.opening self.old self.new (λ s.
             after_delivery (B.opening self.old.key.now) (text_length SEALED) s delivery.now)) }
@@ -193,7 +193,7 @@ impl<'k, B: ChunkBox, const SEALED: usize> ReplayState<'k, B, SEALED> {
         }
     }
 
-    // The same, for each list of deliveries that it was given.
+    /// The same, for each list of deliveries that it was given.
     fn take(&mut self, delivery: &Delivery<'_>) -> Result<(), Memory>
         ensures { TakesDelivery B.sealing B.opening (text_length SEALED)
             (replay_view self.old) delivery.now result (replay_view self.new) }
@@ -202,11 +202,11 @@ impl<'k, B: ChunkBox, const SEALED: usize> ReplayState<'k, B, SEALED> {
     }
 }
 
-/// Feeds deliveries to an opener, and holds the text that it released. A
-/// restart cuts the text to the chunks before it and makes a new opener.
+/// Feeds deliveries to an opener, and holds the text that it released. A restart cuts the text to
+/// the chunks before it and makes a new opener.
 ///
-/// A contract sees the key, the opener of the current segment, the text that
-/// is held and the number of restarts that were refused.
+/// A contract sees the key, the opener of the current segment, the text that is held and the number
+/// of restarts that were refused.
 #[derive(Drop)]
 pub struct Replay<'k, B: ChunkBox, const SEALED: usize> {
     state: ReplayState<'k, B, SEALED>,
@@ -269,7 +269,7 @@ impl<'k, B: ChunkBox, const SEALED: usize> Replay<'k, B, SEALED> {
         self.state.refused
     }
 
-    // What it holds, with its text.
+    /// What it holds, with its text.
     pub(crate) fn into_drill(self) -> Drill
         ensures text { result.text.items ≡ self.entry.text }
         ensures status { result.status ≡ self.entry.opener.status }
@@ -287,11 +287,10 @@ impl<'k, B: ChunkBox, const SEALED: usize> Replay<'k, B, SEALED> {
         }
     }
 
-    /// Takes a delivery: all bytes of a piece unless a fault comes, which then
-    /// is the status; an end; or a restart at chunk k, which is refused where
-    /// k is [`CHUNK_LIMIT`] or more or fewer than k whole chunks are held.
-    /// Where memory is refused nothing changes. While no block opens except as the
-    /// writer of a text sealed it, what is held is the beginning of that text, and
+    /// Takes a delivery: all bytes of a piece unless a fault comes, which then is the status; an
+    /// end; or a restart at chunk k, which is refused if k is [`CHUNK_LIMIT`] or more or fewer than
+    /// k whole chunks are held. If memory is refused nothing changes. While no block opens except
+    /// as the writer of a text sealed it, what is held is the beginning of that text, and
     /// [`Done`](Status::Done) comes only with all of it.
     pub fn take(&mut self, delivery: &Delivery<'_>) -> Result<(), Memory>
         ensures { TakesDelivery B.sealing B.opening (text_length SEALED)
@@ -301,7 +300,7 @@ impl<'k, B: ChunkBox, const SEALED: usize> Replay<'k, B, SEALED> {
     }
 }
 
-// Appends bytes to a text that has room for them.
+/// Appends bytes to a text that has room for them.
 fn push_text(text: &mut Vec<u8>, bytes: &[u8])
     requires { vec_len text.old + length bytes.now ≤ vec_capacity text.old }
     ensures items { text.new.items ≡ text.old.items ++ bytes.now }
@@ -311,7 +310,7 @@ fn push_text(text: &mut Vec<u8>, bytes: &[u8])
     let _ = text.extend_from_slice(bytes);
 }
 
-// Appends what is lent, if anything is, to a text that has room for it.
+/// Appends what is lent, if anything is, to a text that has room for it.
 pub(crate) fn push_lent(text: &mut Vec<u8>, chunk: Option<&[u8]>)
     requires { vec_len text.old + length (chunk_bytes chunk) ≤ vec_capacity text.old }
     ensures items { text.new.items ≡ text.old.items ++ chunk_bytes chunk.entry }

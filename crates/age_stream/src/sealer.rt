@@ -33,7 +33,7 @@ impl<'k, B: ChunkBox, const SEALED: usize> SealerState<'k, B, SEALED> {
     ghost use Rattle.age_stream.specs.inner.SealerSteps.{Steps, SealerAdvances, SealerSealsLast};
     ghost use Rattle.age_chunk.specs.Payload.{sealed_before_last, block_bytes, payload};
 
-    // Empties the buffer of a block that was lent, and puts the byte beside it first.
+    /// Empties the buffer of a block that was lent, and puts the byte beside it first.
     fn reclaim(&mut self)
         ensures held { held_text self.new ≡ held_text self.old }
         ensures buffer { self.new.buffer.items ≡ held_text self.old }
@@ -48,7 +48,7 @@ impl<'k, B: ChunkBox, const SEALED: usize> SealerState<'k, B, SEALED> {
         }
     }
 
-    // Why no further byte is taken.
+    /// Why no further byte is taken.
     fn refusal(&self) -> StreamFault
         ensures { result ≡ too_many self.now.index }
     {
@@ -58,7 +58,8 @@ impl<'k, B: ChunkBox, const SEALED: usize> SealerState<'k, B, SEALED> {
         }
     }
 
-    // Takes what it takes of a piece, and says whether the buffer then is a block to lend.
+    /// Takes the beginning of a piece; returns how many bytes, and whether the buffer now holds a
+    /// sealed block.
     fn step(&mut self, piece: &[u8]) -> Result<(usize, bool), StreamFault>
         requires { self.old.finished ≡ false }
         ensures { Steps B.sealing self.old piece.now result self.new }
@@ -86,7 +87,7 @@ impl<'k, B: ChunkBox, const SEALED: usize> SealerState<'k, B, SEALED> {
         Ok((1, true))
     }
 
-    // The same, for each text that the sealer may have been given.
+    /// The same, for each text that the sealer may have been given.
     fn advance(&mut self, piece: &[u8]) -> Result<(usize, bool), StreamFault>
         requires { self.old.finished ≡ false }
         ensures { SealerAdvances B.sealing self.old piece.now result self.new }
@@ -94,7 +95,7 @@ impl<'k, B: ChunkBox, const SEALED: usize> SealerState<'k, B, SEALED> {
         self.step(piece)
     }
 
-    // Seals what is held as the last chunk, in place.
+    /// Seals what is held as the last chunk, in place.
     fn close(&mut self) -> Result<(), StreamFault>
         requires { self.old.finished ≡ false }
         ensures last { SealerSealsLast self.old result self.new }
@@ -110,7 +111,7 @@ impl<'k, B: ChunkBox, const SEALED: usize> SealerState<'k, B, SEALED> {
         Ok(())
     }
 
-    // The same, for each text that the sealer may have been given.
+    /// The same, for each text that the sealer may have been given.
     fn close_text(&mut self) -> Result<(), StreamFault>
         requires { self.old.finished ≡ false }
         ensures last { SealerSealsLast self.old result self.new }
@@ -127,8 +128,8 @@ impl<'k, B: ChunkBox, const SEALED: usize> SealerState<'k, B, SEALED> {
 /// Seals a text that comes in pieces, however they are cut (<https://c2sp.org/age#payload>). A
 /// whole chunk is sealed once a byte after it came, since only then it isn't the last.
 ///
-/// A contract sees the key, the text of the chunk that is open, its number,
-/// and whether the sealer was refused or finished.
+/// A contract sees the key, the text of the chunk that is open, its number, and whether the sealer
+/// was refused or finished.
 #[derive(Drop)]
 pub struct Sealer<'k, B: ChunkBox, const SEALED: usize> {
     state: SealerState<'k, B, SEALED>,
@@ -172,16 +173,14 @@ impl<'k, B: ChunkBox, const SEALED: usize> Sealer<'k, B, SEALED> {
         self.state.finished
     }
 
-    /// Whether a byte was refused. Then each call is refused with the same
-    /// fault.
+    /// Whether a byte was refused. Then each call is refused with the same fault.
     pub fn has_failed(&self) -> bool
         ensures { result ≡ self.now.failed }
     {
         self.state.failed
     }
 
-    /// The number of the chunk that is open: how many blocks were lent before
-    /// it.
+    /// The number of the chunk that is open: how many blocks were lent before it.
     pub fn index(&self) -> u64
         ensures index { result ≡ self.now.index }
         ensures limit { result < chunk_limit }
@@ -189,8 +188,8 @@ impl<'k, B: ChunkBox, const SEALED: usize> Sealer<'k, B, SEALED> {
         self.state.index
     }
 
-    /// How many bytes of the text of the open chunk are held. After the last
-    /// chunk was sealed, the length of its block.
+    /// How many bytes of the text of the open chunk are held. After the last chunk was sealed, the
+    /// length of its block.
     pub fn held_len(&self) -> usize
         ensures len { result ≡ length self.now.held }
         ensures fits { result ≤ SEALED }
@@ -202,11 +201,10 @@ impl<'k, B: ChunkBox, const SEALED: usize> Sealer<'k, B, SEALED> {
         }
     }
 
-    /// Takes bytes of the text: what the open chunk has room for, or, after
-    /// a chunk that is full, one. That byte begins the next chunk, and the
-    /// full one is sealed as not the last and lent. Takes nothing of an empty
-    /// piece. [`TooManyChunks`](StreamKind::TooManyChunks) where a byte would
-    /// need chunk number [`CHUNK_LIMIT`]; then each call is refused so.
+    /// Takes bytes of the text: what the open chunk has room for, or, after a chunk that is full,
+    /// one. That byte begins the next chunk, and the full one is sealed as not the last and lent.
+    /// Takes nothing of an empty piece. [`TooManyChunks`](StreamKind::TooManyChunks) if a byte
+    /// would need chunk number [`CHUNK_LIMIT`]; then each call is refused so.
     pub fn feed(&mut self, piece: &[u8]) -> Result<Step<'_>, StreamFault>
         requires { self.old.finished ≡ false }
         // The sealer, once the loan has ended.
@@ -230,8 +228,8 @@ impl<'k, B: ChunkBox, const SEALED: usize> Sealer<'k, B, SEALED> {
         })
     }
 
-    /// Seals what is held as the last chunk, and lends its block. Refused
-    /// only where a feed was, with the same fault.
+    /// Seals what is held as the last chunk, and lends its block. Refused only if a feed was, with
+    /// the same fault.
     pub fn finish(&mut self) -> Result<&[u8], StreamFault>
         requires { self.old.finished ≡ false }
         // The sealer, once the loan has ended.
@@ -244,7 +242,7 @@ impl<'k, B: ChunkBox, const SEALED: usize> Sealer<'k, B, SEALED> {
     }
 }
 
-// Puts the tag after the text in the buffer, and seals both in place.
+/// Puts the tag after the text in the buffer, and seals both in place.
 fn seal_in<B: ChunkBox, const SEALED: usize>(
     key: &B,
     index: u64,

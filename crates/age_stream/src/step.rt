@@ -15,15 +15,15 @@ pub enum Status {
     Failed(StreamFault),
 }
 
-/// How many bytes of a piece a call took, where that led, and what it lends
-/// until the next call: a sealer's block or an opener's text, if one came.
+/// How many bytes of a piece a call took, where that led, and what it lends until the next call: a
+/// sealer's block or an opener's text, if one came.
 #[derive(Debug, Drop)]
 pub struct Step<'a> {
     /// How many bytes of the piece were taken, from its beginning.
     pub taken: usize,
     /// The number of the chunk at which it then stands.
     pub index: u64,
-    /// The block of a sealer, tag included, or the text of an opener; `None`
-    /// where no chunk was finished.
+    /// The block of a sealer, tag included, or the text of an opener; `None` if no chunk was
+    /// finished.
     pub chunk: Option<&'a [u8]>,
 }

@@ -26,8 +26,7 @@ pub enum SealFault {
 }
 
 impl SealFault {
-    /// The fault's number in the list of all faults: that of the sealer's
-    /// refusal, which is 22, or 28 for memory.
+    /// The fault's number in the list of all faults: 22 if the sealer refused, or 28 for memory.
     pub fn number(&self) -> u8
         ensures { result ≡ seal_fault_number self.now }
     {
@@ -37,8 +36,7 @@ impl SealFault {
         }
     }
 
-    /// The chunk of the sealer's refusal, from 0. `None` where memory was
-    /// refused.
+    /// The chunk of the sealer's refusal, from 0. `None` if memory was refused.
     pub fn place(&self) -> Option<u64>
         ensures { result ≡ seal_fault_place self.now }
     {
@@ -83,10 +81,9 @@ pub fn seal_all<B: ChunkBox, const SEALED: usize>(
     Ok(out)
 }
 
-/// Appends the payload of a text, in chunks of `SEALED - TAG_LEN` bytes. Memory is
-/// asked for once, before anything is sealed, and only where there is no room
-/// for the payload. That aside, only a text of more than 2^48 chunks is
-/// refused. A refusal adds nothing.
+/// Appends the payload of a text, in chunks of `SEALED - TAG_LEN` bytes. Memory is asked for once,
+/// before anything is sealed, and only if there is no room for the payload. That aside, only a text
+/// of more than 2^48 chunks is refused. A refusal adds nothing.
 pub fn seal_into<B: ChunkBox, const SEALED: usize>(
     key: &B,
     text: &[u8],
@@ -109,7 +106,7 @@ pub fn seal_into<B: ChunkBox, const SEALED: usize>(
     Ok(())
 }
 
-// Appends the payload of a text if there is room for it, so that no memory is requested.
+/// Appends the payload of a text if there is room for it, so that no memory is requested.
 fn seal_within<B: ChunkBox, const SEALED: usize>(
     key: &B,
     text: &[u8],
@@ -134,8 +131,8 @@ fn seal_within<B: ChunkBox, const SEALED: usize>(
     Ok(())
 }
 
-// How many bytes the payload of a text has, in chunks of so many bytes, unless it is too long for
-// any memory.
+/// How many bytes the payload of a text has, in chunks of this many bytes, unless it is too long for
+/// any memory.
 fn payload_len(text_len: usize, chunk_len: usize) -> Option<usize>
     requires { 0 < chunk_len }
     ensures len { IfSome result

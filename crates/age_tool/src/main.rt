@@ -1,6 +1,6 @@
 //! Reads and writes age files: passes its arguments, the machine's files and its standard streams
-//! to `age_cli::run`, says what the machine answered where that is why it failed, and exits with
-//! the status that it returns.
+//! to `age_cli::run`, says what the machine answered if that is why it failed, and exits with the
+//! status that it returns.
 #![tactic(auto)]
 
 use age_cli::run;

@@ -7,7 +7,7 @@ use Rattle.age_stanza.specs.declared.fault.HeadFault.{HeadFault}
 use Rattle.age_stanza.specs.declared.fault.HeadKind.TheVariants.{HeadCut}
 use Rattle.age_stanza.specs.declared.header.Header.{Header}
 
--- a header of so many bytes stands in front
+-- a header of this many bytes stands in front
 pub record Accepts (bytes : List ℕ) (size : ℕ) : Type 0 where
   pub header : Header
   pub text : HeadText header (take size bytes)

@@ -373,7 +373,7 @@ fn enciphers_to(
     &*text == wanted
 }
 
-// Seals a text in a block, and opens the block again.
+/// Seals a text in a block, and opens the block again.
 fn seals_to(
     key: &[u8; 32],
     nonce: &[u8; 12],
@@ -452,8 +452,8 @@ pub fn rfc_chacha() -> bool
         )
 }
 
-/// The tags of RFC 8439, 2.5.2 and A.3. Those of A.3 from the fifth on need
-/// the last reduction or a long carry.
+/// The tags of RFC 8439, 2.5.2 and A.3. The tags of A.3 from the fifth on need the last reduction
+/// or a long carry.
 pub fn rfc_poly1305() -> bool
     ensures section_2_5_2 { IsTrue result → poly1305 FORUM_KEY FORUM ≡ TAG_2_5_2 }
     ensures appendix_3_1 { IsTrue result → poly1305 ZERO_KEY (replicate 64 0) ≡ TAG_A_3_1 }

@@ -28,7 +28,7 @@ const LAST_OF_ALL: &[u8; 20] = b"XXXX\0\0\0\0\0\xff\xff\xff\xff\xff\xff\x01\0\0\
 const ONE_TOO_MANY: &[u8; 20] = b"XXXX\0\0\0\0\0\xff\xff\xff\xff\xff\xff\0\0\0\0\0";
 
 /// The worked rows of a payload: whole texts, and what is held under cuts, swaps, repeats, restarts
-/// and bytes after the end. False too where memory is refused.
+/// and bytes after the end. False also if memory is refused.
 pub fn delivery_rows(alloc: Global) -> bool {
     sealing_rows(alloc)
         && two_letters_in_two_pieces()
@@ -39,7 +39,7 @@ pub fn delivery_rows(alloc: Global) -> bool {
         && at_the_greatest_number()
 }
 
-// Whole texts and their payloads.
+/// Whole texts and their payloads.
 fn sealing_rows(alloc: Global) -> bool {
     is_sealed(alloc, b"abcdefgh", EIGHT)
         && is_sealed(alloc, b"abcdefghij", TEN)
@@ -47,7 +47,7 @@ fn sealing_rows(alloc: Global) -> bool {
         && two_letters_in_one_piece(alloc)
 }
 
-// At one byte a chunk.
+/// At one byte a chunk.
 fn two_letters_in_one_piece(alloc: Global) -> bool {
     match seal_all::<ClearBox, 17>(alloc, &ClearBox, b"ab") {
         Ok(sealed) => {
@@ -64,7 +64,7 @@ fn is_sealed(alloc: Global, text: &[u8], payload: &[u8]) -> bool {
     }
 }
 
-// A block is lent with the byte after it, and the last by `finish`.
+/// A block is lent with the byte after it, and the last by `finish`.
 fn two_letters_in_two_pieces() -> bool {
     let key = ClearBox;
     let mut sealer = Sealer::<ClearBox, 17>::new(&key);
@@ -78,7 +78,7 @@ fn two_letters_in_two_pieces() -> bool {
     matches!(sealer.finish(), Ok(block) if block == LETTER_B.as_slice())
 }
 
-// Whether these deliveries leave this text, at this chunk, with this status.
+/// Whether these deliveries leave this text, at this chunk, with this status.
 fn leaves(
     alloc: Global,
     deliveries: &[Delivery<'_>],
@@ -107,7 +107,7 @@ pub(crate) fn failed(kind: StreamKind, chunk: u64) -> Status {
     Status::Failed(StreamFault { kind, chunk })
 }
 
-// Blocks in another order, twice, with a byte more, and an empty last chunk.
+/// Blocks in another order, twice, with a byte more, and an empty last chunk.
 fn damage_rows(alloc: Global) -> bool {
     let (first, second) = EIGHT.split_at(20);
     leaves(
@@ -147,12 +147,12 @@ fn damage_rows(alloc: Global) -> bool {
     )
 }
 
-// A block that the writer didn't seal is released where it opens.
+/// A block that the writer didn't seal is released if it opens.
 fn is_forged_block_released(alloc: Global) -> bool {
     leaves(alloc, &[Delivery::Piece(FORGED)], b"XXXX", 1, Status::Open)
 }
 
-// The transfer starts again, at a chunk that is held or beyond it.
+/// The transfer starts again, at a chunk that is held or beyond it.
 fn restart_rows(alloc: Global) -> bool {
     let (first, second) = EIGHT.split_at(20);
     let whole = Delivery::Piece(EIGHT);
@@ -179,7 +179,7 @@ fn restart_rows(alloc: Global) -> bool {
         && leaves(alloc, &in_second, text, 1, Status::Done)
 }
 
-// The pieces may be single bytes.
+/// The pieces may be single bytes.
 fn byte_by_byte(alloc: Global) -> bool {
     let key = ClearBox;
     let mut replay = Replay::<ClearBox, 20>::new(alloc, &key);
@@ -199,7 +199,7 @@ fn are_bytes_taken(replay: &mut Replay<'_, ClearBox, 20>, bytes: &[u8]) -> bool 
     true
 }
 
-// A block at the greatest number is the last one, or one too many.
+/// A block at the greatest number is the last one, or one too many.
 fn at_the_greatest_number() -> bool {
     let key = ClearBox;
     let limit = CHUNK_LIMIT - 1;

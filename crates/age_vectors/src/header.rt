@@ -61,8 +61,8 @@ const ARMOR: &[u8; 35] = b"-----BEGIN AGE ENCRYPTED FILE-----\n";
 
 const ARMOR_CR: &[u8; 36] = b"-----BEGIN AGE ENCRYPTED FILE-----\r\n";
 
-/// The header that some bytes begin with and its length, or the fault, where the bytes come in
-/// pieces of `step` bytes and then end.
+/// The header that some bytes begin with and its length, or the fault, if the bytes come in pieces
+/// of `step` bytes and then end.
 pub(crate) fn parsed(alloc: Global, bytes: &[u8], step: usize) -> Result<(usize, Header), HeadFault>
     requires { 0 < step }
     ensures ok { IfOk result (λ found. HeadText found.1 (take found.0 bytes.now)) }
@@ -89,7 +89,7 @@ fn accepts_long(alloc: Global, bytes: &[u8]) -> bool {
     })
 }
 
-/// Whether a header has one stanza, of the argument `x` and so many zero bytes.
+/// Whether a header has one stanza, of the argument `x` and this many zero bytes.
 fn is_of_zeros(header: &Header, zeros: usize) -> bool {
     let [stanza] = header.stanzas.as_slice() else {
         return false;
@@ -225,8 +225,8 @@ fn limit_rows(alloc: Global) -> Result<bool, AllocError> {
     )
 }
 
-/// The rows of the grammar and of its faults, of cut headers, and of headers at the limit of
-/// their length. False too where memory is refused.
+/// The rows of the grammar and of its faults, of cut headers, and of headers at the limit of their
+/// length. False also if memory is refused.
 pub fn header_rows(alloc: Global) -> bool
     ensures accepted { IsTrue result → AcceptedRows }
     ensures first_lines { IsTrue result → FirstLineRows }

@@ -7,8 +7,8 @@ use age_stream::{ChunkBox, ClearBox, Delivery, Status, StreamKind, drill, seal_a
 use std::alloc::Global;
 
 /// What a drill leaves of hostile bytes: a payload cut at every byte, with its blocks in every
-/// order, started again at every chunk, and with each of its bits inverted. False too where memory
-/// is refused.
+/// order, started again at every chunk, and with each of its bits inverted. False also if memory is
+/// refused.
 pub fn hostile_rows(alloc: Global) -> bool {
     are_cuts_right(alloc)
         && are_orders_right(alloc)
@@ -16,7 +16,7 @@ pub fn hostile_rows(alloc: Global) -> bool {
         && are_bits_right(alloc)
 }
 
-// (A loop takes less to prove than a closure.)
+/// (A loop takes less to prove than a closure.)
 fn are_cuts_right(alloc: Global) -> bool {
     for cut in 0..59 {
         if !is_cut_right(alloc, cut) {
@@ -53,7 +53,7 @@ struct Expected<'a> {
     refused: u64,
 }
 
-// Whether these deliveries leave this, with their pieces whole and byte by byte.
+/// Whether these deliveries leave this, with their pieces whole and byte by byte.
 fn leaves<B: ChunkBox>(
     alloc: Global,
     key: &B,
@@ -84,7 +84,7 @@ fn leaves_at_once<B: ChunkBox>(
     }
 }
 
-// The same deliveries with each piece cut into single bytes, or nothing where memory is refused.
+/// These deliveries with each piece cut into single bytes, or nothing if memory is refused.
 fn by_bytes<'a>(alloc: Global, events: &[Delivery<'a>]) -> Option<Vec<Delivery<'a>>> {
     let mut cut = Vec::new(alloc);
     for event in events {
@@ -111,7 +111,7 @@ fn push_bytes<'a>(cut: &mut Vec<Delivery<'a>>, piece: &'a [u8]) -> bool {
     true
 }
 
-// The payload cut after so many bytes.
+/// The payload cut after this many bytes.
 fn is_cut_right(alloc: Global, cut: usize) -> bool {
     let index = cut as u64 / 20;
     let status = match cut {
@@ -143,7 +143,7 @@ fn is_cut_right(alloc: Global, cut: usize) -> bool {
     )
 }
 
-// The three blocks in each order.
+/// The three blocks in each order.
 fn is_order_right(alloc: Global, order: usize) -> bool {
     let (first, rest) = TEN.split_at(20);
     let (second, third) = rest.split_at(20);
@@ -178,8 +178,8 @@ fn is_order_right(alloc: Global, order: usize) -> bool {
     )
 }
 
-// The whole payload, then again from each chunk on; there is no chunk 3, and a restart there
-// changes nothing.
+/// The whole payload, then again from each chunk on; there is no chunk 3, and a restart there
+/// changes nothing.
 fn is_restart_right(alloc: Global, k: u64) -> bool {
     let (_, from_second) = TEN.split_at(20);
     let (_, from_third) = TEN.split_at(40);
@@ -207,7 +207,7 @@ fn is_restart_right(alloc: Global, k: u64) -> bool {
     )
 }
 
-// The same text under a real key, with each bit of its payload inverted alone.
+/// A text under a real key, with each bit of its payload inverted alone.
 fn are_bits_right(alloc: Global) -> bool {
     let key = payload_key(&FileKey::new([7; 16]), &[9; 16]);
     let Ok(sealed) = seal_all::<PayloadKey, 20>(alloc, &key, b"abcdefghij") else {

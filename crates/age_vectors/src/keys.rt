@@ -48,7 +48,7 @@ fn answer<U: Unlock>(alloc: Global, header: &Header, unlock: &U) -> Result<[u8; 
     }
 }
 
-/// The same of the header in a text; 0 where none stands there.
+/// Whether the header in a text opens; 0 if the text has none.
 pub(crate) fn opened<U: Unlock>(alloc: Global, text: &[u8], unlock: &U) -> Result<[u8; 16], u8>
     ensures { IfOk result (OpensIn (U.allows unlock.now) text.now) }
 {
@@ -58,8 +58,8 @@ pub(crate) fn opened<U: Unlock>(alloc: Global, text: &[u8], unlock: &U) -> Resul
     }
 }
 
-/// Whether a text's header opens to the file key of all headers here. Where it does, it does so by
-/// the definitions.
+/// Whether a text's header opens to the file key of all headers here. If it does, it does so by the
+/// definitions.
 pub(crate) fn is_opened<U: Unlock>(alloc: Global, text: &[u8], unlock: &U) -> bool
     ensures { IsTrue result → OpensIn (U.allows unlock.now) text.now FILE_KEY }
 {
@@ -77,7 +77,7 @@ fn by_passphrase(alloc: Global, text: &[u8], pass: &[u8], max_log: u32) -> Resul
     }
 }
 
-/// Whether `scrypt_header` makes Python's header. Where it does, the definition gives it.
+/// Whether `scrypt_header` makes Python's header. If it does, the definition gives it.
 fn writes_python_s_header(alloc: Global) -> bool
     ensures { IsTrue result → HeadText (scrypt_head (codes "kudebafon") 1 SALT FILE_KEY) WRITTEN }
 {
@@ -129,7 +129,8 @@ fn refuses(alloc: Global, stanzas: &[u8], number: u8) -> bool {
     }
 }
 
-/// The same of one stanza of these arguments, with a body of 32 zero bytes.
+/// Whether one stanza of these arguments, with a body of 32 zero bytes, is refused with this
+/// number.
 fn refuses_one(alloc: Global, arguments: &[u8], number: u8) -> Result<bool, AllocError> {
     let mut stanza = Vec::from_slice(alloc, b"-> ")?;
     stanza.extend_from_slice(arguments)?;
@@ -181,7 +182,7 @@ fn stanza_rows(alloc: Global) -> bool {
         && refuses(alloc, b"-> X25519\n\n-> x scrypt\n\n", 12)
 }
 
-/// The same header with another body in its one stanza.
+/// A header with another body in its one stanza.
 fn with_body(
     alloc: Global,
     stanza: &Stanza,
@@ -200,8 +201,8 @@ fn with_body(
     Ok(Header { stanzas, mac })
 }
 
-/// Whether a header is refused for its MAC, where the MAC has one bit inverted, and for its
-/// body, where the body has.
+/// Whether a header is refused for its MAC, if the MAC has one bit inverted, and for its body, if
+/// the body has.
 fn is_noticed(alloc: Global, bit: usize) -> Result<bool, AllocError>
     requires { bit < 256 }
 {
@@ -228,8 +229,8 @@ fn is_noticed(alloc: Global, bit: usize) -> Result<bool, AllocError>
 }
 
 /// The rows of passphrases and known keys: a header that Python made, opened and written; each
-/// shape that is refused, with its number; each bit of the MAC and of the body inverted. False too
-/// where memory is refused. True says that the definition gives Python's header.
+/// shape that is refused, with its number; each bit of the MAC and of the body inverted. False also
+/// if memory is refused. True says that the definition gives Python's header.
 pub fn key_rows(alloc: Global) -> bool
     ensures { IsTrue result → HeadText (scrypt_head (codes "kudebafon") 1 SALT FILE_KEY) WRITTEN }
 {

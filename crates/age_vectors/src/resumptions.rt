@@ -1,5 +1,5 @@
-// Decryptions that go on: from each stop of a decryption, and from the position after two chunks
-// while one pull, one put or the flush fails. The positions are Python's.
+// Resumed decryptions: from each stop of a decryption, and from the position after two chunks while
+// one pull, one put or the flush fails. The positions are Python's.
 use crate::stops::{Example, Failure, LOG, PASS, POSITIONS, STEP, decrypted, has_text, is_front};
 use age_file::{Done, MemSink, MemSource, Position, Stopped, resume};
 use age_keys::Passphrase;
@@ -17,7 +17,7 @@ struct Rest<'a> {
     old_pull: Option<u64>,
 }
 
-// How much of the text so many puts took: the copy goes piece by piece of the old text, and chunk
+// How much of the text this many puts took: the copy goes piece by piece of the old text, and chunk
 // by chunk.
 const AFTER_PUTS: [usize; 24] = [
     0, 10_000, 20_000, 30_000, 40_000, 50_000, 60_000, 65_536, 70_000, 80_000, 90_000, 100_000,
@@ -25,7 +25,7 @@ const AFTER_PUTS: [usize; 24] = [
     196_608, 200_000,
 ];
 
-// What a resumed run answers, and what it writes.
+/// What a resumed run answers, and what it writes.
 fn resumed(alloc: Global, rest: &Rest<'_>) -> Option<(Result<Done, Stopped>, Vec<u8>)> {
     let unlock = Passphrase::new(PASS, LOG)?;
     let mut source = MemSource::new(rest.file.to_vec(alloc).ok()?, STEP, rest.failure.pull());
@@ -42,9 +42,9 @@ fn resumed(alloc: Global, rest: &Rest<'_>) -> Option<(Result<Done, Stopped>, Vec
     Some((answer, sink.into_bytes()))
 }
 
-/// Whether each stop of a decryption with a position can be gone on from; whether positions and old
-/// texts of other kinds are refused; and whether a resumed run stops as it has to where one call
-/// fails, and can be gone on from in its turn.
+/// Whether a decryption can be resumed from each stop with a position; whether positions and old
+/// texts of other kinds are refused; and whether a resumed run stops as it has to if one call
+/// fails, and can be resumed in its turn.
 pub(crate) fn resume_rows(alloc: Global, example: &Example) -> bool {
     let Some(text) = POSITIONS.get(2) else {
         return false;
@@ -70,7 +70,7 @@ pub(crate) fn resume_rows(alloc: Global, example: &Example) -> bool {
         && fails_too_late(alloc, example, &rest)
 }
 
-// Whether the run writes the whole text.
+/// Whether the run writes the whole text.
 fn goes_on(alloc: Global, example: &Example, rest: &Rest<'_>) -> bool {
     match resumed(alloc, rest) {
         Some((Ok(done), text)) => {
@@ -80,7 +80,7 @@ fn goes_on(alloc: Global, example: &Example, rest: &Rest<'_>) -> bool {
     }
 }
 
-// Whether a run with what was handed out and written before writes the whole text.
+/// Whether a run with what was handed out and written before writes the whole text.
 fn goes_on_from(alloc: Global, example: &Example, position: Position, old: &[u8]) -> bool {
     let rest = Rest {
         file: example.file.as_slice(),
@@ -92,7 +92,7 @@ fn goes_on_from(alloc: Global, example: &Example, position: Position, old: &[u8]
     goes_on(alloc, example, &rest)
 }
 
-// The first pull gives header and nonce.
+/// The first pull gives header and nonce.
 fn goes_on_from_each_stop(alloc: Global, example: &Example) -> bool {
     for pull in 1..22 {
         if !goes_on_from_stop(alloc, example, Failure::Pull(pull)) {
@@ -124,7 +124,7 @@ fn goes_on_from_stop(alloc: Global, example: &Example, failure: Failure) -> bool
     }
 }
 
-// Whether the run stops with this fault, and hands out no position; and what it wrote.
+/// Whether the run stops with this fault, and hands out no position; and what it wrote.
 fn refused(alloc: Global, rest: &Rest<'_>, number: u8) -> Option<Vec<u8>> {
     let (answer, text) = resumed(alloc, rest)?;
     match answer {
@@ -143,7 +143,7 @@ fn writes_none(alloc: Global, rest: &Rest<'_>, number: u8) -> bool {
     }
 }
 
-// Whether the run stops with this fault, without a position, after so many bytes of the old text.
+/// Whether the run stops with this fault, without a position, after this many bytes of the old text.
 fn writes_old(alloc: Global, rest: &Rest<'_>, number: u8, len: usize) -> bool {
     match refused(alloc, rest, number) {
         Some(text) => is_front(text.as_slice(), len, rest.old),
@@ -151,7 +151,7 @@ fn writes_old(alloc: Global, rest: &Rest<'_>, number: u8, len: usize) -> bool {
     }
 }
 
-// Positions whose tag isn't theirs: with another index, or of zeros alone.
+/// Positions whose tag isn't theirs: with another index, or of zeros alone.
 fn refuses_others(alloc: Global, rest: &Rest<'_>) -> bool {
     let mut earlier = rest.position;
     earlier.index = 1;
@@ -178,7 +178,7 @@ fn refuses_others(alloc: Global, rest: &Rest<'_>) -> bool {
         )
 }
 
-// The last byte of the payload nonce is another.
+/// The last byte of the payload nonce is another.
 fn refuses_another_file(alloc: Global, rest: &Rest<'_>) -> bool {
     let Ok(mut other) = rest.file.to_vec(alloc) else {
         return false;
@@ -196,8 +196,8 @@ fn refuses_another_file(alloc: Global, rest: &Rest<'_>) -> bool {
     )
 }
 
-// An old text that is as long as it has to be, one that is a byte short, and one whose last byte
-// before the position is another.
+/// An old text that is as long as it has to be, one that is a byte short, and one whose last byte
+/// before the position is another.
 fn refuses_old_texts(alloc: Global, example: &Example, rest: &Rest<'_>) -> bool {
     let (Some(enough), Some(short)) = (rest.old.get(..131_072), rest.old.get(..131_071)) else {
         return false;
@@ -230,8 +230,8 @@ fn refuses_old_texts(alloc: Global, example: &Example, rest: &Rest<'_>) -> bool 
     ) && writes_old(alloc, &changed, 31, 131_072)
 }
 
-// Twenty-one pulls give the file, and one more finds the end; fourteen give the old text. Fifteen
-// puts take the copy, eight the rest, and the flush is one more call.
+/// Twenty-one pulls give the file, and one more finds the end; fourteen give the old text. Fifteen
+/// puts take the copy, eight the rest, and the flush is one more call.
 fn stops_in_turn(alloc: Global, example: &Example, rest: &Rest<'_>) -> bool {
     for pull in 0..22 {
         if !stops(alloc, example, rest, Failure::Pull(pull), read_after(pull)) {
@@ -251,7 +251,7 @@ fn stops_in_turn(alloc: Global, example: &Example, rest: &Rest<'_>) -> bool {
     true
 }
 
-// The calls after those that a run makes.
+/// The calls after those that a run makes.
 fn fails_too_late(alloc: Global, example: &Example, rest: &Rest<'_>) -> bool {
     goes_on(
         alloc,
@@ -277,7 +277,7 @@ fn fails_too_late(alloc: Global, example: &Example, rest: &Rest<'_>) -> bool {
     )
 }
 
-// How much of the text stands after so many pulls of the file.
+/// How much of the text stands after this many pulls of the file.
 fn read_after(pulls: u64) -> usize {
     match pulls {
         0 => 0,
@@ -290,8 +290,8 @@ fn put_after(puts: u64) -> usize {
     AFTER_PUTS.get(puts as usize).copied().unwrap_or(0)
 }
 
-// Whether the run stops after so much of the text, with a position exactly where the copy was
-// made, from which it can be gone on.
+/// Whether the run stops after this much of the text, with a position exactly if the copy was made,
+/// from which it can be resumed.
 fn stops(alloc: Global, example: &Example, rest: &Rest<'_>, failure: Failure, len: usize) -> bool {
     let Some((Err(stopped), text)) = resumed(alloc, &Rest { failure, ..*rest }) else {
         return false;
@@ -309,7 +309,7 @@ fn stops(alloc: Global, example: &Example, rest: &Rest<'_>, failure: Failure, le
         && is_front(text.as_slice(), len, example.text.as_slice())
 }
 
-// All that was pulled of the old text is written, and there is no position.
+/// All that was pulled of the old text is written, and there is no position.
 fn stops_in_old(alloc: Global, rest: &Rest<'_>, pull: u64) -> bool {
     let failing = Rest {
         old_pull: Some(pull),

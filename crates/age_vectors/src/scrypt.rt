@@ -10,7 +10,7 @@ const SCRYPT_CASE_3: [u8; 32] = [
     0xfd, 0xa8, 0xfb, 0xba, 0x90, 0x4f, 0x8e, 0x3e, 0xa9, 0xb5, 0x43, 0xf6, 0x54, 0x5d, 0xa1, 0xf2,
 ];
 
-/// The third case of RFC 7914, section 12, by the first 32 bytes of its output. False also where
+/// The third case of RFC 7914, section 12, by the first 32 bytes of its output. False also if
 /// memory was refused.
 pub fn rfc_scrypt(alloc: Global) -> bool
     ensures { IsTrue result

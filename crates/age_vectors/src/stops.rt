@@ -80,7 +80,7 @@ impl Failure {
         }
     }
 
-    // The number of the fault that it makes.
+    /// The number of the fault that it makes.
     pub(crate) fn number(&self) -> u8 {
         match self {
             Failure::None => 0,
@@ -90,11 +90,11 @@ impl Failure {
     }
 }
 
-/// Whether an encryption and a decryption of 200,000 bytes stop as they have to where one pull, one
+/// Whether an encryption and a decryption of 200,000 bytes stop as they have to if one pull, one
 /// put or the flush fails, each in turn, until a run ends with no stop: with the fault of the
 /// source or of the sink, after as many bytes of the whole output as could be written by then, and
-/// a decryption with the position there, from which another run makes the whole text. The same of a
-/// run that goes on from a position. False too where memory is refused.
+/// a decryption with the position there, from which another run makes the whole text. So does a
+/// resumed run. False also if memory is refused.
 pub fn stop_rows(alloc: Global) -> bool {
     let Some(example) = make_example(alloc) else {
         return false;
@@ -114,7 +114,7 @@ fn make_example(alloc: Global) -> Option<Example> {
     Some(Example { text, file })
 }
 
-// What an encryption answers, and what it writes.
+/// What an encryption answers, and what it writes.
 fn encrypted(
     alloc: Global,
     text: &[u8],
@@ -127,7 +127,7 @@ fn encrypted(
     Some((answer, sink.into_bytes()))
 }
 
-// What a decryption answers, and what it writes.
+/// What a decryption answers, and what it writes.
 pub(crate) fn decrypted(
     alloc: Global,
     file: &[u8],
@@ -140,8 +140,8 @@ pub(crate) fn decrypted(
     Some((answer, sink.into_bytes()))
 }
 
-// Twenty pulls give bytes, and one more finds the end. The front takes one put, each of three
-// blocks seven, the last block one, and the flush is one more call.
+/// Twenty pulls give bytes, and one more finds the end. The front takes one put, each of three
+/// blocks seven, the last block one, and the flush is one more call.
 fn encrypt_rows(alloc: Global, example: &Example) -> bool {
     for pull in 0..21 {
         if !stops_encrypting(alloc, example, Failure::Pull(pull), sealed_after(pull)) {
@@ -157,7 +157,7 @@ fn encrypt_rows(alloc: Global, example: &Example) -> bool {
         && encrypts_all(alloc, example, Failure::Put(24))
 }
 
-// Twenty-one pulls give bytes, and one more finds the end. There is no front to put.
+/// Twenty-one pulls give bytes, and one more finds the end. There is no front to put.
 fn decrypt_rows(alloc: Global, example: &Example) -> bool {
     for pull in 0..22 {
         if !stops_decrypting(alloc, example, Failure::Pull(pull), opened_after(pull)) {
@@ -173,13 +173,13 @@ fn decrypt_rows(alloc: Global, example: &Example) -> bool {
         && decrypts_all(alloc, example, Failure::Put(23))
 }
 
-// How much of the file so many pulls make: a block is sealed once a byte after its chunk came.
+/// How much of the file this many pulls make: a block is sealed once a byte after its chunk came.
 fn sealed_after(pulls: u64) -> usize {
     let text = (pulls as u128 * 10_000).min(200_000);
     (165 + text.saturating_sub(1) / CHUNK * BLOCK) as usize
 }
 
-// How much of the file so many puts took.
+/// How much of the file this many puts took.
 fn file_after(puts: u64) -> usize {
     if puts == 0 {
         return 0;
@@ -188,19 +188,19 @@ fn file_after(puts: u64) -> usize {
     (165 + blocks).min(200_229) as usize
 }
 
-// How much of the text so many pulls make: a block is opened once it is whole. The last one waits
-// for the end.
+/// How much of the text this many pulls make: a block is opened once it is whole. The last one waits
+/// for the end.
 fn opened_after(pulls: u64) -> usize {
     let file = (pulls as u128 * 10_000).min(200_229);
     (file.saturating_sub(165) / BLOCK * CHUNK) as usize
 }
 
-// How much of the text so many puts took.
+/// How much of the text this many puts took.
 fn text_after(puts: u64) -> usize {
     (puts as u128 / 7 * CHUNK + puts as u128 % 7 * 10_000).min(200_000) as usize
 }
 
-// Whether these are so many bytes from the front of others.
+/// Whether these are this many bytes from the front of others.
 pub(crate) fn is_front(bytes: &[u8], len: usize, whole: &[u8]) -> bool {
     bytes.len() == len && whole.starts_with(bytes)
 }
@@ -238,8 +238,8 @@ fn stops_decrypting(alloc: Global, example: &Example, failure: Failure, len: usi
     }
 }
 
-// A position is there from the moment the payload nonce was read, with the first pull, and its
-// index counts the chunks that were wholly written.
+/// A position is there from the moment the payload nonce was read, with the first pull, and its
+/// index counts the chunks that were wholly written.
 fn is_position_right(
     alloc: Global,
     failure: Failure,

@@ -15,7 +15,7 @@ pub record PassesOn (next : Segment → Segment) (old new : OpenerView (List ℕ
     : Type 0 where
   -- its key stays
   pub key : new.key ≡ old.key
-  -- where it stood for a segment, it stands for the next
+  -- if it stood for a segment, it stands for the next
   pub stands : (s : Segment) → Stands opens chunk_length old s
       → Stands opens chunk_length new (next s)
   -- the text is what the next segment releases more
@@ -33,7 +33,7 @@ pub record Keeps (chunk : ℕ) (is : Status) (old new : Reader) : Type 0 where
   pub status : reader_status new.state new.fault_chunk ≡ Some is
   -- it is at the chunk
   pub index : new.chunk ≡ chunk
-  -- where nothing was refused, the answer is 0
+  -- if nothing was refused, the answer is 0
   pub unfailed : has_failed is ≡ false → answer_of new.state ≡ 0
   -- after a refusal it isn't
   pub failed : has_failed is ≡ true → answer_of new.state ≢ 0

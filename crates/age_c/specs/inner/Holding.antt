@@ -4,7 +4,7 @@ use Rattle.age_chunk.specs.Payload.{block_length}
 use Rattle.age_c.specs.Streams.{held_of}
 use Rattle.age_c.specs.declared.stream.Stream.{Stream}
 
--- so many bytes of a piece came after those that are held
+-- this many bytes of a piece came after those that are held
 pub record HoldsPiece (piece : List ℕ) (count : ℕ) (old new : Stream) : Type 0 where
   pub count_is : count ≡ min (length piece) (block_length - old.held)
   pub bytes : take (old.held + count) new.block ≡ held_of old ++ take count piece

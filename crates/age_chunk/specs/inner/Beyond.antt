@@ -1,6 +1,6 @@
 -- How a box that meets its law only on bytes, as one made of tables does, is continued to all lists
--- of numbers. `proofs/BeyondLemmas.antt` proves that it then meets the law of `ChunkBox`. No code cites
--- this: it shows that the law asks no more of a box than what it does with bytes.
+-- of numbers. `proofs/BeyondLemmas.antt` proves that it then meets the law of `ChunkBox`. No code
+-- cites this: it shows that the law asks no more of a box than what it does with bytes.
 use Rattle.std.specs.Prelude.{◌≡◌, ℕ, ◌+◌, List, ◌++◌, length, take, replicate, Some, None, nat_lt}
 use Rattle.std.specs.Prelude.{nat_le, ◌&&◌, Bool, true, not, if◌then◌else◌}
 use Rattle.std.specs.List.{list_all}

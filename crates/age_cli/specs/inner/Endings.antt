@@ -39,7 +39,7 @@ opening_end (Ok done) = Ok tt
 opening_end (Err s) =
     Err (record { fault = s.fault; position = s.position; is_untouched = s.written == 0 })
 
--- where it says that nothing was written, its sink took nothing
+-- if it says that nothing was written, its sink took nothing
 abbrev pub IsFaithful : Result (Unit {0}) Interruption → SinkView → Type 0
 IsFaithful engine sink = IfErr engine (λ stop. stop.is_untouched ≡ true → sink.taken ≡ Some [])
 

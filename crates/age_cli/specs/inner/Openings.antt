@@ -1,5 +1,5 @@
--- Private: no public contract cites this module.
--- How files are opened, and the random bytes of an encryption.
+-- Private: no public contract cites this module. How files are opened, and the random bytes of an
+-- encryption.
 use Rattle.std.specs.Prelude.{◌≡◌, ◌⊎◌, Some, Option, None, ◌++◌, true, false, Bool, List, Result}
 use Rattle.std.specs.Prelude.{IfOk, OnOk, OnErr, IfErr, ℕ, length}
 use Rattle.clap.specs.Words.{Text}
@@ -18,15 +18,14 @@ use Rattle.age_cli.specs.declared.encrypt_command.Random.{Random}
 
 -- ---- The names of the files that are read.
 
--- a name is that of the input, or of the file of what opens it
+-- a name is the input's, or that of the passphrase or shared-secret file
 abbrev pub IsReadAs : Decrypting → Text → Type 0
 IsReadAs d name = (d.from.now ≡ name)
     ⊎ ((option_text d.identity.pass ≡ Some name) ⊎ (option_text d.identity.shared ≡ Some name))
 
 -- ---- The bytes under each name, and what a command changes.
 
--- the position stands in the file of this name, where both are there, and nothing differs where one
--- isn't
+-- the position stands in the file of this name, if both are there, and nothing differs if one isn't
 abbrev pub Saves : Option Text → Option Position → Files → Files → Type 0
 Saves (Some name) (Some position) old new = new name ≡ Some (position_text position)
 Saves None position old new = new ≡ old
@@ -49,7 +48,7 @@ pub record OpensFiles {A : Type 0} (shows : Bool) (order whole : List Event) (ol
   pub early : IfErr result EndsEarly
   -- It had a reason.
   pub reason : shows ≡ true → IfErr result (HasReason old.entries new.events Failed)
-  -- The command line is not to blame where contracts see the files.
+  -- The command line is not to blame if contracts see the files.
   pub fault : shows ≡ true → IfErr result (λ ending. is_usage ending ≡ false)
 
 -- the files by which a command line is judged were opened, `order` being the events of that, and
@@ -66,7 +65,7 @@ pub record Judges {A : Type 0} (shows : Bool) (order : List Event) (old new : Fi
   pub followed : Follows order old.events new.events
   -- Names that have to differ are refused before a file is opened.
   pub apart : IsTwice → RefusesAtOnce old.events new.events result
-  -- The command line is refused for this alone where contracts see the files.
+  -- The command line is refused for this alone if contracts see the files.
   pub blamed : shows ≡ true → IfErr result (λ ending. is_usage ending ≡ true → Blame)
   -- It ended early.
   pub early : IfErr result EndsEarly

@@ -17,7 +17,7 @@ use Rattle.age_identity.specs.declared.identity.Identity.{Identity}
 use Rattle.age_cli.specs.Acts.{kept_for}
 use Rattle.age_cli.specs.inner.Endings.{Concludes, opening_end}
 
--- that of a run over these bytes, by this key, which wrote so many bytes
+-- the position of a run over these bytes, by this key, which wrote this many bytes
 abbrev pub IsFoundIn : Option (List ℕ) → List ℕ → ℕ → Position → Type 0
 IsFoundIn bytes key written p = (old : SourceView) × (new : SourceView)
     × (old.remaining ≡ bytes) × IsFoundAgain (λ _ k. k ≡ key) old new written p
@@ -26,8 +26,8 @@ IsFoundIn bytes key written p = (old : SourceView) × (new : SourceView)
 abbrev pub stopped_at : Stopped → Position → Stopped
 stopped_at s p = record { fault = s.fault; written = s.written; position = Some p }
 
--- the stop and the key by which the input is read once more, where that is to be done: it came to
--- the payload
+-- the stop and the key by which the input is read once more, if that is to be done: it came to the
+-- payload
 abbrev pub again_of : Bool → Result Done Stopped → Option (List ℕ) → Option (Stopped × List ℕ)
 again_of reread (Err s) (Some key) = if reread then Some (s, key) else None
 again_of reread end key = None
@@ -53,7 +53,7 @@ pub record HoldsInput (d : Decrypting) (before : Ports) (old : FilesView) : Type
   pub other : d.from.now ≢ before.sink.label
 
 -- What was opened was decrypted, and OUT was ended. `decrypted` is how it ended; of a stop, it has
--- the position that is saved, where contracts see the files and IN and OUT are two of them.
+-- the position that is saved, if contracts see the files and IN and OUT are two of them.
 pub record DecryptsOpened (IsPorts : Ports → Type 0) (shows : Bool) (d : Decrypting)
     (identity : Identity) (before : Ports) (old new : FilesView) (Unshown Over : Type 0)
     (result : Result (Unit {0}) Ending) : Type 0 where

@@ -5,7 +5,7 @@ use age_host::ProgressLine;
 use age_io::{MemSink, MemSource};
 use std::alloc::Global;
 
-/// The room of a file that is written, where it isn't to be full.
+/// The room of a file that is written, if it isn't to be full.
 const ROOM: usize = 300_000;
 
 /// The file of work factor 10 of a text has a header of 150 bytes.
@@ -81,13 +81,14 @@ fn put(alloc: Global, files: &mut MemFiles, name: &str, bytes: &[u8]) -> bool {
     }
 }
 
-/// Puts a file of so many bytes 7 there.
+/// Puts a file of this many bytes 7 there.
 fn put_sevens(alloc: Global, files: &mut MemFiles, name: &str, len: usize) -> bool {
     let mut bytes = Vec::new(alloc);
     bytes.resize(len, 7).is_ok() && files.put(alloc, name, bytes).is_ok()
 }
 
-/// A passphrase; the file key, the stanza's salt and the payload nonce; an input of so many bytes.
+/// A passphrase; the file key, the stanza's salt and the payload nonce; an input of this many
+/// bytes.
 fn files_of(alloc: Global, len: usize) -> Option<MemFiles> {
     let mut files = MemFiles::new(alloc, ROOM);
     let random = b"the file key...!the scrypt salt!the payload nonc";
@@ -122,7 +123,7 @@ fn encrypts(alloc: Global, files: &mut MemFiles, ended: Ended<'_>) -> bool {
     ends(alloc, files, &words, ended)
 }
 
-/// Whether a text of so many bytes is encrypted to a file of this length with this report, and
+/// Whether a text of this many bytes is encrypted to a file of this length with this report, and
 /// decrypted again, by its passphrase and by its file key.
 fn is_there_and_back(alloc: Global, len: usize, file: usize, report: &[u8]) -> bool {
     let Some(mut files) = files_of(alloc, len) else {
@@ -177,7 +178,7 @@ fn copy(alloc: Global, from: &MemFiles, to: &mut MemFiles, name: &str) -> bool {
     }
 }
 
-/// The age file of 200,000 bytes, and its passphrase, where a file that is written has this room.
+/// The age file of 200,000 bytes, and its passphrase, if a file that is written has this room.
 fn sealed_files(alloc: Global, room: usize) -> Option<MemFiles> {
     let mut made = files_of(alloc, 200_000)?;
     let mut files = MemFiles::new(alloc, room);
@@ -221,7 +222,7 @@ fn is_after_two_chunks(files: &MemFiles) -> bool {
     }
 }
 
-/// Whether what stopped goes on to the whole text, in files of more room.
+/// Whether what stopped is resumed to the whole text, in files of more room.
 fn goes_on(alloc: Global, stopped: &MemFiles) -> bool {
     let mut files = MemFiles::new(alloc, ROOM);
     copy(alloc, stopped, &mut files, "OUT")
@@ -233,7 +234,7 @@ fn goes_on(alloc: Global, stopped: &MemFiles) -> bool {
         && are_same(&files, "WHOLE", "TEXT")
 }
 
-/// Whether a decryption stops where its output is full, and goes on from there.
+/// Whether a decryption stops where its output is full, and is resumed from there.
 fn is_saved_and_resumed(alloc: Global) -> bool {
     let Some(mut files) = sealed_files(alloc, 150_000) else {
         return false;
@@ -275,7 +276,7 @@ fn is_told_unwritten(alloc: Global) -> bool {
         && files.get("OTHER").is_none()
 }
 
-/// The same of an encryption.
+/// Whether an encryption reports each pull of its input.
 fn is_encryption_told(alloc: Global) -> bool {
     let Some(mut files) = files_of(alloc, 3) else {
         return false;

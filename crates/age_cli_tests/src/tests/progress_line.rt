@@ -77,7 +77,7 @@ fn shows_runs(rt: HostRuntime) -> Result<(), Fail> {
     Ok(())
 }
 
-// The sink's calls are a put and a flush of each line. A put fails, or a flush.
+/// The sink's calls are a put and a flush of each line. A put fails, or a flush.
 #[test]
 fn goes_on_behind_a_failed_line(rt: HostRuntime) -> Result<(), Fail> {
     for (call, wanted) in [
@@ -122,7 +122,7 @@ fn pull_in_turn<M: Meter + Drop>(rt: &impl Abort, alloc: Global, meter: M) -> Re
     Ok(())
 }
 
-// It reports to a meter, and to one that may be there.
+/// It reports to a meter, and to one that may be there.
 #[test]
 fn counts_what_a_source_gives(rt: HostRuntime) -> Result<(), Fail> {
     let alloc = rt.alloc();

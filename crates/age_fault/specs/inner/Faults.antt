@@ -7,7 +7,7 @@ use Rattle.age_keys.specs.declared.fault.KeyFault.TheVariants.{Memory as KeyMemo
 use Rattle.age_fault.specs.declared.fault.FileFault.{FileFault}
 use Rattle.age_fault.specs.declared.fault.FileFault.TheVariants.{Head, Key, Memory}
 
--- a header's fault; want of memory is one case, whichever layer it came from
+-- a header's fault; running out of memory is one case, whichever layer it came from
 abbrev pub fault_by_kind : HeadKind → HeadFault → FileFault
 fault_by_kind HeadMemory fault = Memory
 fault_by_kind kind fault = Head fault

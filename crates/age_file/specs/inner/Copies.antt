@@ -1,5 +1,4 @@
--- Private: no public contract cites this module.
--- Copying the old text, and skipping its blocks.
+-- Private: no public contract cites this module. Copying the old text, and skipping its blocks.
 use Rattle.std.specs.Prelude.{◌≡◌, ℕ, ◌^◌, ◌<◌, ◌≤◌, List, [], ◌++◌, length, Option, Result, Bool}
 use Rattle.std.specs.Prelude.{Ok, Err, true, false, ◌+◌, ◌*◌, ◌≢◌, Some, IsSome, MatchResult}
 use Rattle.std.specs.Io.KnownBytes.{IsAtEnd, Appends}
@@ -98,7 +97,7 @@ pub record Dries (old new : ReaderView) (bytes : List ℕ) (fault : FileFault) :
   pub used : new.unread.bytes ≡ []
   pub why : PullFails old new fault
 
--- so many bytes were passed over, or the source ended before, or failed
+-- this many bytes were passed over, or the source ended before, or failed
 abbrev pub SkipsBlock : ℕ → ReaderView → ReaderView → Result Bool FileFault → Type 0
 SkipsBlock n old new (Ok true) = (bytes : List ℕ) × (length bytes ≡ n) × Passes old new bytes
 SkipsBlock n old new (Ok false) = (bytes : List ℕ) × (length bytes < n) × Passes old new bytes
@@ -124,7 +123,7 @@ SkipFails n blocks old new ReadNeverEnds = (bytes : List ℕ) × (length bytes <
     × Dries old new bytes ReadNeverEnds
 SkipFails n blocks old new other = ⊥
 
--- so many blocks of n bytes were passed over
+-- this many blocks of n bytes were passed over
 abbrev pub SkipsBlocks : ℕ → ℕ → ReaderView → ReaderView → Result (Unit {0}) FileFault → Type 0
 SkipsBlocks n blocks old new (Ok done) = (bytes : List ℕ) × (length bytes ≡ blocks * n)
     × Passes old new bytes
@@ -142,7 +141,7 @@ pub record CanCopy (t : Tally) : Type 0 where
   pub kept : IsSome t.chain
 
 -- what was written of the old text, fewer bytes than were to be copied: all that the source gave,
--- or its front where the sink failed
+-- or its front if the sink failed
 abbrev pub FailsInCopy : ReaderView → ReaderView → WriterView → WriterView → List ℕ → FileFault
     → Type 0
 FailsInCopy old new was now out ShortText = Passes old new out × (new.unread.bytes ≡ [])
@@ -162,7 +161,7 @@ ChunkGoes n old new was now out = (length out ≡ n) × Passes old new out
     × (now.tally.index ≡ was.tally.index + 1)
     × (now.tally.chain ≡ link_if was.tally.chain out)
 
--- so many chunks were copied, and the chain is over them
+-- this many chunks were copied, and the chain is over them
 abbrev pub ChunksGo : ℕ → ℕ → ReaderView → ReaderView → WriterView → WriterView → List ℕ → Type 0
 ChunksGo n chunks old new was now out = (length out ≡ chunks * n) × Passes old new out
     × (now.sink.failed ≡ was.sink.failed)
@@ -183,7 +182,7 @@ abbrev pub CopiesChunk : ℕ → ReaderView → ReaderView → WriterView → Wr
     → Result (Unit {0}) FileFault → Type 0
 CopiesChunk n old new was now result = Copies (ChunkGoes n old new was now) n old new was now result
 
--- so many were
+-- all chunks before a position were copied
 abbrev pub CopiesAll : ℕ → ℕ → ReaderView → ReaderView → WriterView → WriterView
     → Result (Unit {0}) FileFault → Type 0
 CopiesAll n chunks old new was now result = Copies (ChunksGo n chunks old new was now) (chunks * n)
@@ -197,7 +196,7 @@ TextFails n chunks links old new was now out OldTextDiffers = ChunksGo n chunks 
 TextFails n chunks links old new was now out fault = (length out < chunks * n)
     × FailsInCopy old new was now out fault
 
--- so many chunks were copied, which have this chain; it goes on where positions are kept
+-- this many chunks were copied, which have this chain; it goes on if positions are kept
 abbrev pub TextGoes : PositionPolicy → ℕ → ℕ → List ℕ → ReaderView → ReaderView → WriterView
     → WriterView → List ℕ → Type 0
 TextGoes keep n chunks links old new was now out = (length out ≡ chunks * n) × Passes old new out

@@ -1,5 +1,4 @@
--- Private: no public contract cites this module.
--- Decrypting, around the payload.
+-- Private: no public contract cites this module. Decrypting, around the payload.
 use Rattle.std.specs.Prelude.{ℕ, List, [], Option, ◌≡◌, Some, None, IsSomeAnd, Result, Ok, Err}
 use Rattle.age_cipher.specs.Aead.{sealing, opening}
 use Rattle.age_chunk.specs.Payload.{chunk_length}
@@ -24,7 +23,7 @@ opens key nonce block = opening key nonce [] block
 
 -- ---- What a decryption did.
 
--- where it is known: the position of this index and chain, in the file that was unlocked
+-- if it is known: the position of this index and chain, in the file that was unlocked
 pub record IsPositionAt (unlocked : Unlocked) (index : ℕ) (links : List ℕ) (p : Position)
     : Type 0 where
   pub index_is : p.index ≡ index
@@ -38,7 +37,7 @@ PositionAt unlocked index (Some links) position =
     IsSomeAnd position (IsPositionAt unlocked index links)
 PositionAt unlocked index None position = position ≡ None
 
--- how a run ended: with what was written, and where it stopped with a position
+-- how a run ended: with what was written, and a position if it stopped
 abbrev pub EndsAs : Unlocked → Tally → Result (Unit {0}) FileFault → Result Done Stopped → Type 0
 EndsAs unlocked p (Ok done) result = result ≡ Ok (record { written = p.written })
 EndsAs unlocked p (Err fault) result =

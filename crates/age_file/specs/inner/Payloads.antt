@@ -1,5 +1,4 @@
--- Private: no public contract cites this module.
--- Decrypting a payload.
+-- Private: no public contract cites this module. Decrypting a payload.
 use Rattle.std.specs.Prelude.{◌≡◌, ℕ, ◌-◌, ◌/◌, ◌<◌, ◌≤◌, min, List, ◌++◌, length, Option, ◌+◌, ◌*◌}
 use Rattle.std.specs.Prelude.{◌^◌, Result, MatchResult, OnOk, Bool, true, false, ◌⊎◌, []}
 use Rattle.std.specs.Simd.{first_chunks}
@@ -19,7 +18,7 @@ use Rattle.age_file.specs.declared.tally.Tally.{Tally}
 
 -- ---- How a run's tally counts the chunks that were written. A chunk has n bytes.
 
--- where the index has risen, one more chunk is counted, with its link
+-- if the index has risen, one more chunk is counted, with its link
 pub record AdvancesTally (index : ℕ) (links : Option (List ℕ)) (risen : ℕ) (link : Option (List ℕ))
     (new : Tally) : Type 0 where
   pub further : index < risen → (new.index ≡ risen) × (new.chain ≡ link)
@@ -103,8 +102,8 @@ module _ (opening : List ℕ → List ℕ → Option (List ℕ)) (n : ℕ) where
 
 module _ {B : Type 0} (opening : B → List ℕ → List ℕ → Option (List ℕ)) (n : ℕ) where
   -- for each segment that the opener stood for, it stands for the next, whose text is more by what
-  -- was written and what wasn't; after any base, the tally goes on counting the chunks that
-  -- were written
+  -- was written and what wasn't; after any base, the tally goes on counting the chunks that were
+  -- written
   pub record Releases (next : Segment → Segment) (old new : OpenerView B) (was now : WriterView)
       (unwritten : List ℕ) : Type 0 where
     pub out : List ℕ

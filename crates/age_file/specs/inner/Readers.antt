@@ -1,5 +1,4 @@
--- Private: no public contract cites this module.
--- A source and a sink, and what was pulled.
+-- Private: no public contract cites this module. A source and a sink, and what was pulled.
 use Rattle.std.specs.Prelude.{◌≡◌, ℕ, ◌+◌, ◌*◌, ◌^◌, ◌<◌, ◌≤◌, List, [], ◌++◌, length, Option}
 use Rattle.std.specs.Prelude.{Result, Ok, Err, Bool, true, false, ◌⊎◌, take, drop, Some, None}
 use Rattle.std.specs.Io.KnownBytes.{Consumes, IsAtEnd}
@@ -73,14 +72,14 @@ SameWriter old new = new.sink.ghost_name ≡ old.sink.ghost_name
 
 -- ---- What pulls into the intake did.
 
--- from its start a source gave these bytes by so many pulls, each of which gave some
+-- from its start a source gave these bytes by this many pulls, each of which gave some
 pub record Pulled (start now : Option (List ℕ)) (pulls : ℕ) (bytes : List ℕ) : Type 0 where
   pub consumed : Consumes start now bytes
   pub each_gave : pulls ≤ length bytes
   pub small : length bytes ≤ pull_room * pulls
   pub most : pulls ≤ 2 ^ 63
 
--- why a source gave nothing: the pull failed, or none was made, after so many that gave some
+-- why a source gave nothing: the pull failed, or none was made, since 2^63 gave some
 abbrev pub PullFails : ReaderView → ReaderView → FileFault → Type 0
 PullFails old new Read = HasFailed old.source.failed new.source.failed new.source.failing
 PullFails old new ReadNeverEnds = (new.unread.pulls ≡ 2 ^ 63)
@@ -96,7 +95,7 @@ Refilled old new (Ok false) = (new.unread.bytes ≡ []) × (new.unread.pulls ≡
 Refilled old new (Err fault) = (new.unread.bytes ≡ []) × (new.unread.pulls ≡ old.unread.pulls)
     × PullFails old new fault
 
--- one pull, where no byte was left: what was pulled from any start is now that and the fresh bytes
+-- one pull, if no byte was left: what was pulled from any start is now that and the fresh bytes
 pub record Refills (old new : ReaderView) (result : Result Bool FileFault) : Type 0 where
   pub answered : Refilled old new result
   pub pulled : (start : Option (List ℕ)) (bytes : List ℕ)
@@ -115,7 +114,7 @@ pub record ReadsHead (old : SourceView) (new : ReaderView) (head : Head) : Type 
   pub last : StopsAtHeader old.remaining new.source.remaining
   pub unfailed : new.source.failed ≡ old.failed
 
--- the rest of a source was read to its end: so many bytes, those in the intake among them
+-- the rest of a source was read to its end: this many bytes, those in the intake among them
 pub record CountsRest (old new : ReaderView) (count : ℕ) : Type 0 where
   pub counts : (start : Option (List ℕ)) (used : List ℕ)
       → Pulled start old.source.remaining old.unread.pulls (used ++ old.unread.bytes)

@@ -1,5 +1,4 @@
--- Private: no public contract cites this module.
--- Encrypting.
+-- Private: no public contract cites this module. Encrypting.
 use Rattle.std.specs.Prelude.{◌≡◌, ℕ, List, ◌++◌, length, Result, MatchResult, ◌+◌, ◌-◌, ◌*◌, ◌^◌}
 use Rattle.std.specs.Prelude.{◌<◌, ◌≤◌, [], IfOk, IfErr, OnOk, true, false}
 use Rattle.std.specs.Io.KnownBytes.{Appends, Consumes, IsAtEnd}
@@ -101,7 +100,7 @@ module _ {B : Type 0} (sealing : B → List ℕ → List ℕ → List ℕ) (n : 
   SealFails old was now piece other = ⊥
 
   -- of a piece the sealer was fed the front; its blocks grew by what was written, and by what
-  -- wasn't where the sink failed
+  -- wasn't if the sink failed
   pub record SealsSome (old new : SealerView B) (was now : WriterView)
       (piece fed left unwritten : List ℕ) : Type 0 where
     pub out : List ℕ
@@ -134,7 +133,7 @@ module _ {B : Type 0} (sealing : B → List ℕ → List ℕ → List ℕ) (n : 
         × GoesOn old new fed)
         (SealFails old was now piece)
 
--- the last block of what the sealer holds: what of it was written, and what wasn't where the sink
+-- the last block of what the sealer holds: what of it was written, and what wasn't if the sink
 -- failed
 module _ {B : Type 0} (sealing : B → List ℕ → List ℕ → List ℕ) (n : ℕ) where
   pub record SealsRest (old : SealerView B) (was now : WriterView)
@@ -150,7 +149,7 @@ module _ {B : Type 0} (sealing : B → List ℕ → List ℕ → List ℕ) (n : 
 
 -- ---- a whole source
 
--- so much was read from a source, and so much written
+-- this much was read from a source, and this much written
 pub record ReadsWrites (old new : Ports) (written_old written_new : ℕ) (text out : List ℕ)
     : Type 0 where
   pub read : Consumes old.source.remaining new.source.remaining text
@@ -159,7 +158,7 @@ pub record ReadsWrites (old new : Ports) (written_old written_new : ℕ) (text o
   pub small : length text ≤ 2 ^ 80
 
 module _ (sealing : List ℕ → List ℕ → List ℕ) (n : ℕ) where
-  -- why a source wasn't sealed to its end; where no more came of it, the blocks before the last of
+  -- why a source wasn't sealed to its end; if no more came of it, the blocks before the last of
   -- what did were written
   abbrev pub SealingFails : Ports → Ports → (text out : List ℕ) → FileFault → Type 0
   SealingFails old new text out (Stream fault) = (chunk_limit * n < length text)

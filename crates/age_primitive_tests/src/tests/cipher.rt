@@ -72,7 +72,7 @@ const COUNTING_TAG: [u8; 16] = [
     0xa2, 0x70, 0xb4, 0x65, 0x41, 0x7a, 0xd2, 0xde, 0x86, 0xb2, 0xe5, 0x7a, 0x6e, 0x34, 0x37, 0x63,
 ];
 
-// Enciphers the first bytes of a text, of each length in turn; the bytes after them stay.
+/// Enciphers the first bytes of a text, of each length in turn; the bytes after them stay.
 fn enciphers_each_length(rt: &impl Abort, counter: u32, keystream: &[u8])
     requires reaches { 64 * counter + length keystream.now ≤ 2 ^ 38 }
     requires short { length keystream.now ≤ 320 }
@@ -94,7 +94,7 @@ fn every_length(rt: HostRuntime) {
     enciphers_each_length(&rt, 4_294_967_291, &KEYSTREAM_AT_THE_END);
 }
 
-// The product is 2^130 - 2. Without the last reduction the tag would be fe and fifteen ff.
+/// The product is 2^130 - 2. Without the last reduction the tag would be fe and fifteen ff.
 #[test]
 fn last_reduction(rt: HostRuntime) {
     let mut key = [0; 32];
@@ -104,7 +104,7 @@ fn last_reduction(rt: HostRuntime) {
     assert_eq!(rt; poly1305(&key, &[&[0xff; 16]]), wanted);
 }
 
-// The sum with the key's second half passes 2^128.
+/// The sum with the key's second half passes 2^128.
 #[test]
 fn last_sum(rt: HostRuntime) {
     let mut key = [0xff; 32];
@@ -154,7 +154,7 @@ fn filled(alloc: Global, byte: u8, n: usize) -> Result<Vec<u8>, AllocError>
 // How many bytes a block has at most.
 const LONGEST: usize = 65_552;
 
-// Seals a block of bytes 7, and opens it changed and unchanged.
+/// Seals a block of bytes 7, and opens it changed and unchanged.
 fn seals_and_opens(rt: &impl Abort, block: &mut [u8], before: &mut [u8])
     requires size { (48 ≤ length block.old) × (length block.old ≤ block_limit) }
     requires same { length before.old ≡ length block.old }

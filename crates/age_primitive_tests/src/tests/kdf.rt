@@ -66,7 +66,7 @@ fn no_salt_is_zeros(rt: HostRuntime) {
     );
 }
 
-// The block of number i, from 1, by its formula.
+/// The block of number i, from 1, by its formula.
 fn block(i: [u8; 4]) -> [u8; 32] {
     hmac(b"pleaseletmein", &[b"SodiumChloride", &i])
 }

@@ -1,5 +1,4 @@
--- Private: no public contract cites this module.
--- What scrypt works on.
+-- Private: no public contract cites this module. What scrypt works on.
 use Rattle.std.specs.Prelude.{◌≡◌, ℕ, List, [], ◌∷◌, ◌++◌, slice_index, ◌<◌, length, ◌*◌, ◌%◌, ◌^◌}
 use Rattle.std.specs.Prelude.{◌≤◌, vec_len, vec_capacity}
 use Rattle.std.specs.declared.vec.Vec.{Vec}
@@ -64,7 +63,7 @@ pub record IsTable (b : List ℕ) (n : ℕ) (table : List ℕ) : Type 0 where
 
 -- ---- The memory that ROMix works in. A block has 256 words.
 
--- N of the RFC: so many blocks a table may have
+-- N of the RFC: how many blocks a table may have
 pub record IsCount (n : ℕ) : Type 0 where
   -- There is one to look up.
   pub some : 0 < n

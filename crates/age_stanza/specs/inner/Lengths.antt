@@ -1,5 +1,5 @@
--- Private: no public contract cites this module.
--- How long texts are, and what they leave of some room.
+-- Private: no public contract cites this module. How long texts are, and what they leave of some
+-- room.
 use Rattle.std.specs.Prelude.{◌≡◌, ℕ, ◌+◌, ◌<◌, ◌≤◌, length, Option, Some, None}
 use Rattle.std.specs.List.{AllByRecursion}
 use Rattle.base64.specs.GeneralPurpose.{IsBytes}
@@ -20,8 +20,8 @@ abbrev pub LeavesAfterStanza : ℕ → Stanza → Option ℕ → Type 0
 LeavesAfterStanza room s (Some left) = (left + length (stanza_text s) ≡ room) × IsBytes s.body
 LeavesAfterStanza room s None = room < length (stanza_text s)
 
--- the length of a header's text, where it is within the limit; and what the types show of the MAC
--- and of the bytes
+-- the length of a header's text, if it is within the limit; and what the types show of the MAC and
+-- of the bytes
 abbrev pub IsHeaderLength : Header → Option ℕ → Type 0
 IsHeaderLength h (Some size) = (size ≡ length (head_text h)) × (size ≤ header_limit)
     × (length h.mac ≡ 32) × IsBytes h.mac × AllByRecursion (λ s. IsBytes s.body) h.stanzas

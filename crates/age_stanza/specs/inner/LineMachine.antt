@@ -1,6 +1,5 @@
--- Private: no public contract cites this module.
--- A machine that reads a header line by line, on lists: what the parser's code computes. Proofs tie
--- it to the definitions.
+-- Private: no public contract cites this module. A machine that reads a header line by line, on
+-- lists: what the parser's code computes. Proofs tie it to the definitions.
 use Rattle.std.specs.Prelude.{◌≡◌, ◌⊎◌, ℕ, ◌+◌, ◌==◌, nat_eq, nat_lt, nat_le, Bool, true, false}
 use Rattle.std.specs.Prelude.{◌&&◌, ◌||◌, if◌then◌else◌, List, [], ◌∷◌, ◌++◌, length, drop, codes}
 use Rattle.std.specs.Prelude.{Option, Some, None, Result, Ok, Err, ◌/◌, ◌%◌, ◌≤◌, ◌<◌, take}
@@ -90,7 +89,7 @@ pub data Walked : Type 0 where
   ready : Header → List ℕ → Walked
   faulty : HeadFault → Walked
 
--- a refusal in this line; want of memory has none
+-- a refusal in this line; running out of memory has no line
 abbrev pub fault_at : HeadKind → ℕ → HeadFault
 fault_at Memory n = memory_fault
 fault_at kind n = record { kind = kind; line = n }
@@ -145,7 +144,7 @@ HasWholeLines Start = Unit {0}
 HasWholeLines (Between ss) = Unit {0}
 HasWholeLines (InBody ss args body) = length body % 48 ≡ 0
 
--- so many finished lines led to this place
+-- this many finished lines led to this place
 pub record LeadTo (place : Place) (lines : ℕ) : Type 0 where
   pub reaches : (rest : List ℕ)
       → walk Start 1 [] (bytes_before place ++ rest) ≡ walk place (lines + 1) [] rest

@@ -13,7 +13,7 @@ use crate::list::Bytes;
 use crate::text::{LINE_BYTES, decode_line, mac_of};
 use std::alloc::Global;
 
-/// The first line: the version, an armored file's first line, or that of no age file.
+/// The first line: the version, an armored file's first line, or no age file's.
 #[tactic(auto, unfolding(crate::specs::inner::LineMachine::step))]
 fn first(alloc: Global, line: &[u8]) -> Result<Next, HeadKind>
     ensures { Gives result (step_of Place.Start line.now) }

@@ -1,5 +1,4 @@
--- Private: no public contract cites this module.
--- The steps of an opener.
+-- Private: no public contract cites this module. The steps of an opener.
 use Rattle.std.specs.Prelude.{ℕ, ◌+◌, Bool, true, false, ◌&&◌, ◌==◌, nat_lt, List, [], ◌∷◌, ◌++◌}
 use Rattle.std.specs.Prelude.{length, Option, Some, None, ◌≢◌, ◌≡◌, ◌-◌, ◌≤◌, ◌<◌, min, take, ⊤}
 use Rattle.std.specs.Prelude.{Result, Ok, Err, MatchResult, IfOk, IfErr, OnOk, if◌then◌else◌}
@@ -85,7 +84,7 @@ module _ (opening : List ℕ → List ℕ → Option (List ℕ)) where
 
 -- ---- The steps of an opener on its buffer.
 
--- so many bytes in front of the buffer
+-- this many bytes in front of the buffer
 abbrev pub front_bytes : Result ℕ StreamFault → List ℕ → List ℕ
 front_bytes (Ok len) buffer = take len buffer
 front_bytes (Err fault) buffer = []
@@ -124,7 +123,7 @@ module _ {B : Type 0} {n : ℕ} {g : _} where
         × (length new.buffer.items ≡ n))
         (λ fault. (new.status ≡ Failed fault) × (outcome.texts ≡ []))
 
-  -- what `take_none` does with a piece, where no block is open
+  -- what `take_none` does with a piece, if no block is open
   pub record TakesNone (old : OpenerState B n g) (piece : List ℕ)
       (answer : Result (ℕ × Bool) StreamFault) (new : OpenerState B n g) : Type 0 where
     -- the key stays
@@ -148,7 +147,7 @@ module _ {B : Type 0} {n : ℕ} {g : _} where
     -- an empty piece changes nothing
     pub still : length piece ≡ 0 → opener_view new ≡ opener_view old
 
-  -- an end came; so many bytes in front of the buffer are the text that it gave
+  -- an end came; this many bytes in front of the buffer are the text that it gave
   pub record OpenerEndsAs (outcome : Outcome) (old : OpenerState B n g) (answer : Result ℕ StreamFault)
       (new : OpenerState B n g) : Type 0 where
     pub key : new.key ≡ old.key
@@ -160,7 +159,7 @@ module _ {B : Type 0} {n : ℕ} {g : _} where
         × (flat_map (λ (text : List ℕ). text) outcome.texts ≡ take len new.buffer.items))
         (λ fault. (new.status ≡ Failed fault) × (outcome.texts ≡ []))
 
-  -- what `end_none` does, where no block is open
+  -- what `end_none` does, if no block is open
   pub record EndsNone (old : OpenerState B n g) (answer : Result ℕ StreamFault)
       (new : OpenerState B n g) : Type 0 where
     -- an end comes at the chunk at which the opener stands, and releases no text
@@ -211,7 +210,7 @@ module _ {B : Type 0} {n : ℕ} {g : _} (sealing : B → Seals) (opening : B →
     pub fault : IfErr answer (λ fault. new.status ≡ Failed fault)
     -- the key stays
     pub key : new.key ≡ old.key
-    -- a text in the buffer is that of a whole block
+    -- a text in the buffer is a whole block's
     pub full : IfOk answer (λ a. a.1 ≡ true → length new.buffer.items ≡ n)
     -- bytes are taken up to the end of the block that is open
     pub taken : IfOk answer (λ a. a.0 ≡ min (n - length (held_bytes old)) (length piece))
@@ -268,7 +267,7 @@ module _ {B : Type 0} {n : ℕ} {g : _} (sealing : B → Seals) (opening : B →
     pub unfailed : OnOk answer (has_failed old.status ≡ false)
     -- the key stays
     pub key : new.key ≡ old.key
-    -- the text is as long as what was held without a tag, or empty where no block was open
+    -- the text is as long as what was held without a tag, or empty if no block was open
     pub len : IfOk answer (λ len. len ≡ text_at_end (opener_view old))
     -- it is in the buffer, and no longer than what was held
     pub fits : IfOk answer

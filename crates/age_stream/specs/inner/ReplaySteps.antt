@@ -17,7 +17,7 @@ module _ {B : Type 0} {n : ℕ} {g : _} (opening : B → OpensBlock) where
   Goes old new step = (s : Standing) → IsReplayAt opening (text_length n) (replay_view old) s
       → IsReplayAt opening (text_length n) (replay_view new) (step s)
 
-  -- what `feed_once` does with a piece: it takes so many bytes, unless the opener refuses it
+  -- what `feed_once` does with a piece: it takes this many bytes, unless the opener refuses it
   pub record ReplayFeeds (old : ReplayState B n g) (piece : List ℕ) (answer : Option ℕ)
       (new : ReplayState B n g) : Type 0 where
     -- some bytes are taken, at most the piece

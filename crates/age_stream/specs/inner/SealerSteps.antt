@@ -1,5 +1,4 @@
--- Private: no public contract cites this module.
--- The steps of a sealer.
+-- Private: no public contract cites this module. The steps of a sealer.
 use Rattle.std.specs.Prelude.{◌≡◌, ℕ, ◌+◌, ◌≤◌, ◌<◌, List, [], ◌++◌, length, take, Bool, true}
 use Rattle.std.specs.Prelude.{false, Option, Some, None, MatchOption, if◌then◌else◌, Result, IfOk}
 use Rattle.std.specs.Prelude.{OnOk, IfErr, OnErr}
@@ -115,7 +114,7 @@ module _ {B : Type 0} {n : ℕ} {g : _} (old : SealerState B n g) where
     -- which holds the block
     pub after : OnOk answer ((new.failed ≡ false) × (new.index ≡ old.index)
         × (held_text new ≡ new.buffer.items))
-    -- it is refused where a feed was, with the same fault
+    -- it is refused if a feed was, with the same fault
     pub fault : IfErr answer (λ fault. (old.failed ≡ true) × (fault ≡ too_many old.index))
     -- and all else stays
     pub err : OnErr answer (IsRefused (sealer_view old) (sealer_view new))

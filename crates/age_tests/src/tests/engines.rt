@@ -153,7 +153,7 @@ fn plan_of(step: usize, room: usize) -> Plan
 /// How a run ended, with what it handed out.
 #[derive(Clone, Copy)]
 struct Outcome {
-    /// The fault's number, or 0 where there is none.
+    /// The fault's number, or 0 if there is none.
     number: u8,
     place: Option<u64>,
     written: u128,
@@ -183,8 +183,8 @@ fn outcome_of(answer: &Result<Done, Stopped>, written: &[u8], text: &[u8]) -> Op
     }
 }
 
-/// Whether a run ended with this fault, 0 for none, after so many bytes, and handed out the
-/// position after so many chunks of the long text, or none.
+/// Whether a run ended with this fault, 0 for none, after this many bytes, and handed out the
+/// position after this many chunks of the long text, or none.
 fn ends(outcome: &Option<Outcome>, number: u8, written: usize, chunks: Option<usize>) -> bool {
     match outcome {
         Some(it) if it.number == number && it.written == written as u128 => {
@@ -198,7 +198,7 @@ fn ends(outcome: &Option<Outcome>, number: u8, written: usize, chunks: Option<us
     }
 }
 
-/// Whether it is the position after so many chunks of the long text.
+/// Whether it is the position after this many chunks of the long text.
 fn is_after(position: &Position, index: usize) -> bool {
     if index > 2 {
         return false;
@@ -258,7 +258,7 @@ fn hello_cut(alloc: Global, len: usize) -> Option<Outcome> {
     }
 }
 
-// The header has 76 bytes; what follows 92 is held as the last chunk.
+/// The header has 76 bytes; what follows 92 is held as the last chunk.
 #[test]
 fn a_file_cut_at_each_byte(rt: HostRuntime) {
     for len in 0..113 {
@@ -276,7 +276,7 @@ fn a_file_cut_at_each_byte(rt: HostRuntime) {
     }
 }
 
-/// How the decryption of the file of `hello` ends where one byte is another; it ought to write
+/// How the decryption of the file of `hello` ends if one byte is another; it ought to write
 /// nothing.
 fn hello_changed(alloc: Global, at: usize) -> Option<Outcome> {
     match hello_file(alloc) {
@@ -343,7 +343,7 @@ fn another_key(rt: HostRuntime) {
     assert!(rt; ends(&outcome, 14, 0, None));
 }
 
-/// How the decryption of `hello` ends where this pull fails.
+/// How the decryption of `hello` ends if this pull fails.
 fn hello_pulled(alloc: Global, fail_pull: u64) -> Option<Outcome> {
     let plan = Plan {
         step: 7,
@@ -354,7 +354,7 @@ fn hello_pulled(alloc: Global, fail_pull: u64) -> Option<Outcome> {
     hello(alloc, &plan)
 }
 
-// Seventeen pulls give bytes, and one more finds the end.
+/// Seventeen pulls give bytes, and one more finds the end.
 #[test]
 fn each_pull_fails_in_turn(rt: HostRuntime) {
     for call in 0..18 {
@@ -367,14 +367,14 @@ fn each_pull_fails_in_turn(rt: HostRuntime) {
     assert!(rt; ends(&hello_pulled(rt.alloc(), 18), 0, 5, None));
 }
 
-// A stop hands out no position where positions are dropped.
+/// A stop hands out no position if positions are dropped.
 #[test]
 fn dropped_positions(rt: HostRuntime) {
     let outcome = hello_under(rt.alloc(), KEY, PositionPolicy::Dropped, 2);
     assert!(rt; ends(&outcome, 27, 2, None));
 }
 
-/// How the decryption of `hello` ends where this put fails.
+/// How the decryption of `hello` ends if this put fails.
 fn hello_put(alloc: Global, fail_put: u64) -> Option<Outcome> {
     let plan = Plan {
         step: 2,
@@ -385,7 +385,7 @@ fn hello_put(alloc: Global, fail_put: u64) -> Option<Outcome> {
     hello(alloc, &plan)
 }
 
-// Three puts of two bytes at most, and a flush.
+/// Three puts of two bytes at most, and a flush.
 #[test]
 fn each_put_and_the_flush_fail_in_turn(rt: HostRuntime) {
     assert!(rt; ends(&hello_put(rt.alloc(), 0), 27, 0, Some(0)));
@@ -395,7 +395,7 @@ fn each_put_and_the_flush_fail_in_turn(rt: HostRuntime) {
     assert!(rt; ends(&hello_put(rt.alloc(), 4), 0, 5, None));
 }
 
-/// How the decryption of the long text's file ends, cut after so many bytes.
+/// How the decryption of the long text's file ends, cut after this many bytes.
 fn long_run(alloc: Global, cut: usize, plan: &Plan) -> Option<Outcome> {
     match example_of(alloc, 200_000) {
         Some(example) => match example.file.as_slice().get(..cut) {
@@ -423,7 +423,7 @@ fn a_file_of_four_chunks(rt: HostRuntime) {
     assert!(rt; ends(&outcome, 0, 200_000, None));
 }
 
-// The index counts whole chunks that were wholly written.
+/// The index counts whole chunks that were wholly written.
 #[test]
 fn positions_where_the_sink_is_full(rt: HostRuntime) {
     for (room, index) in [
@@ -464,7 +464,7 @@ fn two_chunks(alloc: Global, more: &[u8]) -> Option<Outcome> {
     }
 }
 
-// A last chunk of 65,536 bytes is written, and isn't counted.
+/// A last chunk of 65,536 bytes is written, and isn't counted.
 #[test]
 fn a_byte_after_a_full_last_chunk(rt: HostRuntime) {
     assert!(rt; ends(&two_chunks(rt.alloc(), b""), 0, 131_072, None));

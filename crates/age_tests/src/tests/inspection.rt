@@ -22,7 +22,7 @@ fn file_with(alloc: Global, rest: usize) -> Option<Vec<u8>> {
     Some(bytes)
 }
 
-/// The report on a file of so many bytes after its header, or none where the source has failed.
+/// The report on a file of this many bytes after its header, or none if the source has failed.
 fn inspected(
     alloc: Global,
     rest: usize,
@@ -57,8 +57,8 @@ fn reports(alloc: Global, rest: usize, step: usize, plain: Option<u128>) -> bool
     }
 }
 
-// Nonce and payload of R bytes: 16 and, for each chunk, its plaintext and 16; no plaintext has an
-// empty last chunk but the empty one.
+/// Nonce and payload of R bytes: 16 and, for each chunk, its plaintext and 16; no plaintext has an
+/// empty last chunk but the empty one.
 #[test]
 fn the_length_of_the_plaintext(rt: HostRuntime) {
     for (rest, plain) in [

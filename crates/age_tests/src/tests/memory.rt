@@ -86,7 +86,7 @@ fn what_is_written_before_a_failure_is_counted(rt: HostRuntime) {
     assert!(rt; sink.into_bytes().as_slice() == b"abcde".as_slice());
 }
 
-/// Whether a source gives so many bytes to a pull of two.
+/// Whether a source gives this many bytes to a pull of two.
 fn gives(source: &mut Reading<&[u8]>, len: usize) -> bool {
     let mut into = [0u8; 2];
     source.pull(&mut into) == Ok(len)

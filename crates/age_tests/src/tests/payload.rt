@@ -139,8 +139,8 @@ fn is_taken(replay: &mut Replay<'_, ClearBox, 20>, delivery: &Delivery<'_>) -> b
             && replay.take(delivery).is_ok()
 }
 
-// Run it with each allocation refused in turn (checks/allocations): a refused growth is
-// reported and changes nothing, and the next call takes the same delivery.
+/// Run it with each allocation refused in turn (checks/allocations): a refused growth is reported
+/// and changes nothing, and the next call takes the same delivery.
 #[test]
 fn a_refused_growth_changes_nothing(rt: HostRuntime) {
     let key = ClearBox;
@@ -172,7 +172,7 @@ fn drills_eight(alloc: Global, events: &[Delivery<'_>]) -> Result<bool, Memory> 
     Ok(holds_eight(&held))
 }
 
-// The same of a whole drill, which then begins again.
+/// A whole drill that is refused memory begins again.
 #[test]
 fn a_refused_drill_is_told(rt: HostRuntime) {
     let (_, second) = SEALED_8.split_at(20);

@@ -1,5 +1,5 @@
-// A text of 200,000 bytes at work factor 10: its decryption stops where the sink is full, and goes
-// on from there.
+// A text of 200,000 bytes at work factor 10: its decryption stops where the sink is full, and is
+// resumed from there.
 use age_file::{Done, MemSink, MemSource, Position, Secret, Stopped, decrypt, encrypt, resume};
 use age_keys::Passphrase;
 use std::alloc::Global;
@@ -56,7 +56,7 @@ fn is_after_two_chunks(alloc: Global, position: &Position) -> bool {
     }
 }
 
-/// Whether the decryption of a file stops after 150,000 bytes of its text, and goes on to the
+/// Whether the decryption of a file stops after 150,000 bytes of its text, and is resumed to the
 /// whole.
 fn stops_and_goes_on(alloc: Global, file: &[u8], text: &[u8]) -> bool {
     let Some((Err(stopped), old)) = decrypted(alloc, file, 150_000) else {

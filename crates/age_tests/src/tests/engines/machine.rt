@@ -72,7 +72,7 @@ fn a_read_that_fails_is_told_and_counted(rt: HostRuntime) {
     assert!(rt; source.pull(&mut into) == Ok(0) && source.failures() == 1);
 }
 
-/// Whether a decryption of `hello` whose writer fails at this call holds so many bytes then.
+/// Whether a decryption of `hello` whose writer fails at this call holds this many bytes then.
 fn stops_at_write(alloc: Global, file: &[u8], fail_call: u32, len: usize) -> bool {
     let mut held = [0u8; 5];
     let mut source = Reading::new(file);
@@ -87,7 +87,7 @@ fn stops_at_write(alloc: Global, file: &[u8], fail_call: u32, len: usize) -> boo
     }
 }
 
-// One write takes the whole text, and a flush follows it.
+/// One write takes the whole text, and a flush follows it.
 #[test]
 fn a_writer_fails_in_a_decryption(rt: HostRuntime) {
     let Some(file) = hello_file(rt.alloc()) else {

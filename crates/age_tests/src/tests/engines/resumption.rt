@@ -1,4 +1,4 @@
-//! Decryptions that go on from a position.
+//! Decryptions that resume at a position.
 
 ghost use Rattle.std.specs.Prelude.{◌<◌};
 
@@ -14,7 +14,7 @@ struct Rest<'a> {
     position: &'a Position,
 }
 
-/// How a run ends that goes on over memory, into a sink of this room, and ought to write this text.
+/// How a run ends that resumes over memory, into a sink of this room, and ought to write this text.
 fn resumed(alloc: Global, rest: &Rest<'_>, text: &[u8], room: usize) -> Option<Outcome> {
     match rest.old.to_vec(alloc) {
         Ok(bytes) => {
@@ -85,8 +85,8 @@ const FILE_LEN: usize = 200_156;
 
 const TEXT_LEN: usize = 200_000;
 
-/// How a run ends over so much of the long text's file, from this position and so much of the text,
-/// into a sink of this room.
+/// How a run ends over this much of the long text's file, from this position and this much of the
+/// text, into a sink of this room.
 fn long_rest(
     alloc: Global,
     position: &Position,
@@ -223,13 +223,13 @@ fn from_the_start_without_an_old_text(rt: HostRuntime) {
     assert!(rt; ends(&outcome, 0, TEXT_LEN, None));
 }
 
-/// Whether a run over so much of the file ends at this chunk, after the old text.
+/// Whether a run over this much of the file ends at this chunk, after the old text.
 fn ends_early(alloc: Global, file_len: usize, chunk: u64) -> bool {
     let outcome = long_rest(alloc, &after_two(), file_len, TEXT_LEN, TEXT_LEN);
     ends(&outcome, 20, 131_072, Some(2)) && matches!(outcome, Some(it) if it.place == Some(chunk))
 }
 
-// The header and the nonce have 92 bytes, a block of a whole chunk 65,552.
+/// The header and the nonce have 92 bytes, a block of a whole chunk 65,552.
 #[test]
 fn a_file_that_ends_early(rt: HostRuntime) {
     for (len, chunk) in [
@@ -244,7 +244,7 @@ fn a_file_that_ends_early(rt: HostRuntime) {
     }
 }
 
-// A stop in the copy has no position, one after it the next.
+/// A stop in the copy has no position, one after it the next.
 #[test]
 fn a_sink_that_is_full(rt: HostRuntime) {
     for (room, chunks) in [

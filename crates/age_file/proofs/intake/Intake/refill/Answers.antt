@@ -7,7 +7,7 @@ use Rattle.age_file.specs.inner.Readers.{Pulled}
 use Rattle.age_file.specs.Runs.{pull_room}
 use Rattle.age_file.proofs.intake.Intake.refill.Goals as goal
 
--- the pulls go on with a piece, or stay where it is empty
+-- the pulls go on with a piece, or stay if it is empty
 goes_on : (start old new : Option (List ℕ)) (pulls now : ℕ) (bytes piece : List ℕ)
     → Consumes old new piece → now ≤ pulls + length piece
     → length piece + pull_room * pulls ≤ pull_room * now → now ≤ 2 ^ 63
