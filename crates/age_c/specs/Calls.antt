@@ -1,4 +1,4 @@
--- What the answers of calls mean.
+-- What the answer of a call means.
 use Rattle.std.specs.Prelude.{ℕ, ◌==◌, ◌&&◌, nat_le, Option, Some, None, if◌then◌else◌, ◌≡◌, ◌≢◌}
 use Rattle.std.specs.Prelude.{◌≤◌, List, length, take, drop, ◌+◌, ◌%◌}
 use Rattle.age_chunk.specs.ChunkBoxes.{tag_length}

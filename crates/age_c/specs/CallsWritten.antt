@@ -14,6 +14,8 @@ use Rattle.age_c.specs.Readers.{Call, AreCalls, GoesTo, last_reader, segment_fro
 use Rattle.age_c.specs.Readers.{SameFile}
 use Rattle.age_c.specs.declared.reader.Reader.{Reader}
 
+-- ---- What calls gave, and what they answered.
+
 -- what calls gave to a reader that was at this chunk and was given nothing before
 abbrev pub given_by : ℕ → List Call → Segment
 given_by start calls = segment_from (fresh start) calls
@@ -33,12 +35,14 @@ pub record IsRefusedAt (i : ℕ) (before : List Call) (wrong : Call) (later : Li
     : Type 0 where
   -- the calls before it answered 0
   pub zero : AllAnswer 0 before
-  -- it answered 17
+  -- the wrong one answered 17
   pub there : wrong.answer ≡ 17
   -- the reader after it says which block it was
   pub chunk : wrong.after.fault_chunk ≡ i
-  -- so it stays
+  -- the calls after it stay refused
   pub stays : AllByRecursion (StaysRefused i) later
+
+-- ---- Which blocks are the writer's.
 
 -- a text that was sealed for this reader's file
 module _ (r : Reader) (text : List ℕ) where
@@ -64,6 +68,8 @@ module _ (r : Reader) (text : List ℕ) where
     pub rest : c.is_end ≡ true
         → (tag_length < length c.bytes) × (length c.bytes < block_length)
     pub wrong : (last : Bool) → ¬ IsBlock i last c.bytes
+
+-- ---- What a caller may rely on.
 
 -- calls on the reader since it was at this chunk
 module _ (r : Reader) (text : List ℕ) (start : ℕ) where
@@ -112,8 +118,10 @@ module _ (r : Reader) (text : List ℕ) (start : ℕ) where
     -- 22 never comes
     pub few : AreCallsAuthentic calls → AllByRecursion (λ (c : Call). c.answer ≢ 22) calls
 
--- the headline for a caller: so it is after any calls on a reader that is at a chunk and was given
--- nothing, as one that was just begun is at chunk 0, for every text of at most 2^48 chunks
+-- ---- The headline for a caller.
+
+-- all of that holds after any calls on a reader that is at a chunk and was given nothing, as one
+-- that was just begun is at chunk 0, for every text of at most 2^48 chunks
 abbrev pub CallsAreWritten : Type 0
 CallsAreWritten = (r : Reader) (start : ℕ) → IsAt r (fresh start) → start < chunk_limit
     → (calls : List Call) → AreCalls r calls
@@ -126,7 +134,7 @@ pub record Part : Type 0 where
   pub begun : Reader
   pub calls : List Call
 
--- these were made one after the other, and nothing else changed the reader
+-- seeks and calls were made one after the other, and nothing else changed the reader
 abbrev pub AreParts : Reader → List Part → Type 0
 AreParts r [] = Unit {0}
 AreParts r (p ∷ parts) = (p.chunk < chunk_limit) × GoesTo p.chunk r p.begun

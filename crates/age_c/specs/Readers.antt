@@ -1,4 +1,4 @@
--- A reader, from its start on.
+-- How a reader begins, and what one call and a list of calls do to it.
 use Rattle.std.specs.Prelude.{◌≡◌, ℕ, ◌<◌, IsSome, false, List, [], Some, ◌⊎◌, ◌+◌, ◌≤◌, length}
 use Rattle.std.specs.Prelude.{take, drop, ◌≢◌, ◌==◌, Bool, true, ◌∷◌, ◌++◌, if◌then◌else◌}
 use Rattle.std.specs.List.{flat_map}
@@ -100,7 +100,7 @@ abbrev pub IsStartRefusal : (Header → List ℕ → Type 0) → (Header → Key
 IsStartRefusal Allows Refused front answer = (fault : StartFault) × (answer ≡ start_fault_number fault)
     × StartRefuses Allows Refused front fault
 
--- ---- What one call does to a reader, and what a list of calls does.
+-- ---- What one call does to a reader.
 
 -- the segment after a block, and after the end
 abbrev pub after_block : List ℕ → Segment → Segment
@@ -144,6 +144,8 @@ pub record IsEndCall (r : Reader) (rest out : List ℕ) : Type 0 where
   pub usable : CanBeUsed r
   pub short : length rest < block_length
   pub room : chunk_length ≤ length out
+
+-- ---- What a list of calls does.
 
 -- a call: whether it is an end, what it was given, what it answered and wrote, and the reader after
 -- it

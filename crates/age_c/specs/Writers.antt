@@ -1,4 +1,4 @@
--- A writer.
+-- How a writer begins a file, what one call and a list of calls do, and that the file is whole.
 use Rattle.std.specs.Prelude.{◌≡◌, ◌≢◌, ℕ, ◌+◌, ◌*◌, ◌<◌, ◌≤◌, false, List, [], ◌++◌, length, take}
 use Rattle.std.specs.Prelude.{drop, map, ◌==◌, Bool, true, ◌∷◌, if◌then◌else◌}
 use Rattle.std.specs.List.{enumerate_from, flat_map}
@@ -12,7 +12,7 @@ use Rattle.age_keys.specs.Scrypt.{IsAllowed, scrypt_head}
 use Rattle.age_c.specs.Calls.{Answers}
 use Rattle.age_c.specs.declared.writer.Writer.{Writer}
 
--- ---- What a writer's numbers stand for, and what one call does.
+-- ---- What a writer's numbers stand for.
 
 -- the numbers stand for a writer that isn't finished, at a chunk that a payload may have
 pub record CanSeal (w : Writer) : Type 0 where
@@ -34,6 +34,42 @@ blocks_of w text = block_bytes
 pub record SameKeys (was now : Writer) : Type 0 where
   pub file_key : now.file_key ≡ was.file_key
   pub nonce : now.nonce ≡ was.nonce
+
+-- ---- How a file is begun.
+
+-- the random bytes that a file is made of: the file key, the stanza's salt and the payload's nonce
+abbrev pub key_in : List ℕ → List ℕ
+key_in random = take 16 random
+
+abbrev pub salt_in : List ℕ → List ℕ
+salt_in random = take 16 (drop 16 random)
+
+abbrev pub nonce_in : List ℕ → List ℕ
+nonce_in random = take 16 (drop 32 random)
+
+-- the bytes are what stands before the payload: the header's text and the payload's nonce
+pub record IsFileFront (pass : List ℕ) (work : ℕ) (key salt nonce bytes : List ℕ) : Type 0 where
+  pub front : List ℕ
+  pub head : HeadText (scrypt_head pass work salt key) front
+  pub parts : bytes ≡ front ++ nonce
+  pub size : length nonce ≡ 16
+
+-- these bytes, of the random bytes, stand before the payload, and the writer was given no text
+pub record BeginsFileFrom (pass : List ℕ) (work : ℕ) (random bytes : List ℕ) (w : Writer)
+    : Type 0 where
+  pub front : IsFileFront pass work (key_in random) (salt_in random) (nonce_in random) bytes
+  pub key : w.file_key ≡ key_in random
+  pub nonce : w.nonce ≡ nonce_in random
+  pub start : HasSealed w []
+
+-- a call that isn't misused has a passphrase and a work factor within the limits, 48 random bytes,
+-- and room for what stands before the payload
+pub record IsStartCall (pass : List ℕ) (work : ℕ) (random out : List ℕ) : Type 0 where
+  pub allowed : IsAllowed pass work
+  pub bytes : length random ≡ 48
+  pub room : 256 ≤ length out
+
+-- ---- What one call does to a writer.
 
 -- the chunk was sealed as one before the last, and one more may follow
 pub record SealsChunk (chunk : List ℕ) (old : Writer) (bytes : List ℕ) (new : Writer)
@@ -78,38 +114,6 @@ pub record IsLastCall (w : Writer) (rest out : List ℕ) : Type 0 where
   pub short : length rest ≤ chunk_length
   pub some : length rest ≡ 0 → w.chunk ≡ 0
   pub room : length rest + tag_length ≤ length out
-
--- the random bytes that a file is made of: the file key, the stanza's salt and the payload's nonce
-abbrev pub key_in : List ℕ → List ℕ
-key_in random = take 16 random
-
-abbrev pub salt_in : List ℕ → List ℕ
-salt_in random = take 16 (drop 16 random)
-
-abbrev pub nonce_in : List ℕ → List ℕ
-nonce_in random = take 16 (drop 32 random)
-
--- the bytes are what stands before the payload: the header's text and the payload's nonce
-pub record IsFileFront (pass : List ℕ) (work : ℕ) (key salt nonce bytes : List ℕ) : Type 0 where
-  pub front : List ℕ
-  pub head : HeadText (scrypt_head pass work salt key) front
-  pub parts : bytes ≡ front ++ nonce
-  pub size : length nonce ≡ 16
-
--- so are these, of the random bytes, and the writer was given no text
-pub record BeginsFileFrom (pass : List ℕ) (work : ℕ) (random bytes : List ℕ) (w : Writer)
-    : Type 0 where
-  pub front : IsFileFront pass work (key_in random) (salt_in random) (nonce_in random) bytes
-  pub key : w.file_key ≡ key_in random
-  pub nonce : w.nonce ≡ nonce_in random
-  pub start : HasSealed w []
-
--- a call that isn't misused has a passphrase and a work factor within the limits, 48 random bytes,
--- and room for what stands before the payload
-pub record IsStartCall (pass : List ℕ) (work : ℕ) (random out : List ℕ) : Type 0 where
-  pub allowed : IsAllowed pass work
-  pub bytes : length random ≡ 48
-  pub room : 256 ≤ length out
 
 -- ---- What a list of calls of a writer does.
 

@@ -1,4 +1,4 @@
--- The AEAD of ChaCha20 and Poly1305 (RFC 8439, 2.8).
+-- What the AEAD of ChaCha20 and Poly1305 seals a text to (RFC 8439, 2.8), and opens a block to.
 use Rattle.std.specs.Prelude.{◌≡◌, ℕ, ◌-◌, ◌%◌, List, [], ◌∷◌, ◌++◌, length, replicate, take}
 use Rattle.std.specs.Prelude.{Option, Some, None, if◌then◌else◌}
 use Rattle.std.specs.List.{concat}
@@ -6,6 +6,8 @@ use Rattle.std.specs.Int.{w64, to_le_bytes}
 use Rattle.std.specs.Str.{bytes_eq}
 use Rattle.age_cipher.specs.Keystream.{ciphertext}
 use Rattle.age_cipher.specs.Poly1305.{poly1305}
+
+-- ---- The sealing of a text.
 
 -- the one-time key of Poly1305: the first 32 bytes of block 0 (RFC 8439, 2.6)
 unfoldable pub one_time_key : List ℕ → List ℕ → List ℕ

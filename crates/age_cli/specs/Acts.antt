@@ -1,4 +1,4 @@
--- What a command does.
+-- What a command does with files, done or stopped.
 use Rattle.std.specs.Prelude.{◌≡◌, ℕ, true, Result, Ok, Err, if◌then◌else◌, List, [], Option, Some}
 use Rattle.std.specs.Prelude.{◌⊎◌, is_some, None, Bool, ◌++◌, OnOk, IfErr, IsErrAnd}
 use Rattle.clap.specs.Words.{Text}
@@ -42,7 +42,7 @@ IsUsage ending = is_usage ending ≡ true
 abbrev pub ending_status : Ending → ℕ
 ending_status e = if is_usage e then 2 else 1
 
--- and 0 if all was done
+-- the status is 0 if all was done
 abbrev pub status_by : {A : Type 0} → Result A Ending → ℕ
 status_by (Ok done) = 0
 status_by (Err e) = ending_status e
@@ -160,13 +160,13 @@ module _ (IsPorts : Ports → Type 0) (engine : Engine) where
       × Ran IsPorts (engine.stops position fault) input taken
       × ((new ≡ old) ⊎ ((new ≡ taken) × engine.touches fault taken))
 
-  -- or it ended, and OUT could not be closed, and is as it was or whole
+  -- the engine ended, but OUT could not be closed, and is as it was or whole
   abbrev pub IsUnclosed : Option Position → FileFault → (input old new : Option (List ℕ)) → Type 0
   IsUnclosed position fault input old new = (taken : Option (List ℕ))
       × Ran IsPorts engine.ends input taken × ((new ≡ old) ⊎ (new ≡ taken))
       × (position ≡ None) × (fault ≡ Write)
 
-  -- it stopped so, and then the position was saved
+  -- the command stopped in one of these ways, and then the position was saved
   pub record LeavesOut (p : Paths) (old new : Files) (ending : Ending) : Type 0 where
     pub there : is_some (old p.from) ≡ true
     pub position : Option Position
@@ -241,7 +241,7 @@ module _ (IsPorts : Ports → Type 0) where
       × P (resume_engine IsPorts (kept_for (option_text d.save)) identity position old_text)
   OfSomeEngine other P = Unit {0}
 
-  -- it ended, over a source and a sink of the files
+  -- the engine ended, over a source and a sink of the files
   abbrev pub HasEngineEnded : Engine → Type 0
   HasEngineEnded engine = (before : Ports) × (after : Ports) × IsPorts before × IsPorts after
       × engine.ends before after

@@ -1,4 +1,4 @@
--- What the three commands find in the options and the files, and what they report.
+-- What commands find in the options and the files, and what `inspect` reports.
 use Rattle.std.specs.Prelude.{◌≡◌, ℕ, List, ◌++◌, length, Option, Some, ◌⊎◌, ◌<◌, ◌==◌, IfSome}
 use Rattle.std.specs.Prelude.{if◌then◌else◌, codes, None, Bool, true, false}
 use Rattle.std.specs.List.{flat_map}

@@ -1,4 +1,4 @@
--- The headline for OUT: it holds nothing but what the file's writer wrote.
+-- When OUT holds nothing but what the file's writer wrote: the headline at the command line.
 use Rattle.std.specs.Prelude.{◌≡◌, ◌⊎◌, ℕ, ◌*◌, ◌≤◌, true, List, [], ◌++◌, length, take, Option}
 use Rattle.std.specs.Prelude.{Some}
 use Rattle.clap.specs.Words.{Text}
@@ -18,6 +18,8 @@ use Rattle.age_identity.specs.Identities.{allows_by, OpensBy}
 use Rattle.age_identity.specs.declared.identity.Identity.{Identity}
 use Rattle.age_cli.specs.Runs.{World, Runs}
 use Rattle.age_cli.specs.Commands.{IsPositionIn}
+
+-- ---- A decryption from the start.
 
 -- a beginning of the input, as a run may have read it: a header that opens, the payload nonce, the
 -- blocks before the run's first chunk, and bytes after them; and all of the input if it was read to
@@ -63,7 +65,7 @@ abbrev pub IsWritersOld : Option (List ℕ) → Position → List ℕ → Type 0
 IsWritersOld held p text = (all : List ℕ) → held ≡ Some all
     → (p.index * chunk_length ≤ length text) × IsPrefixOf (take (p.index * chunk_length) text) all
 
--- both, for the position in the file of `--position`
+-- both hold for the position in the file of `--position`
 pub record IsWritersResumption (asked : Resuming) (old : Files) (text : List ℕ) : Type 0 where
   pub few : chunk_count chunk_length text ≤ chunk_limit
   pub old_text : (p : Position) → IsPositionIn (old asked.position.now) p
@@ -71,7 +73,7 @@ pub record IsWritersResumption (asked : Resuming) (old : Files) (text : List ℕ
   pub rest : (p : Position) → IsPositionIn (old asked.position.now) p
       → IsWritersRest asked.decrypting old p text
 
--- ---- of a run
+-- ---- A run.
 
 -- Whatever the status, OUT is as it was or holds a beginning of the plaintext, while no block of IN
 -- opens except as its writer sealed it; and 0 means all of the plaintext.

@@ -1,4 +1,4 @@
--- What follows of a run from what its parts promise.
+-- What follows for a run from what its parts promise.
 use Rattle.std.specs.Prelude.{◌≡◌, ℕ, Bool, List, Option, Result, IfErr, IsErrAnd}
 use Rattle.clap.specs.Words.{Text}
 use Rattle.age_io.specs.Io.{IsOver, Shown}

@@ -1,4 +1,4 @@
--- What a run does.
+-- What a run does with its words, its files and its streams, and what its status says.
 use Rattle.std.specs.Prelude.{◌≡◌, ◌⊎◌, ℕ, Bool, true, List, [], Option, Some, None, is_some}
 use Rattle.std.specs.Prelude.{Result, OnOk, IfErr, IsErrAnd}
 use Rattle.std.specs.Io.KnownBytes.{Appends}

@@ -38,7 +38,7 @@ fn write_report<I: Source, O: Sink>(
     flush_all(output)
 }
 
-/// Inspects as a command does.
+/// Writes the report of the input; a fault is the command's ending.
 pub(crate) fn report<I: Source, O: Sink>(
     alloc: Global,
     input: &mut I,

@@ -106,6 +106,6 @@ IsRequest name rows (Drill d) = (name ≡ codes "drill") × IsDrilling rows d
 IsRequest name rows (Inspect file) = (name ≡ codes "inspect")
     × (option_text file ≡ first_of (codes "FILE") rows)
 
--- the words ask for this
+-- the words ask for this request
 abbrev pub Requests : List Text → Request → Type 0
 Requests words r = (name : Text) × (rows : List Row) × Asks words name rows × IsRequest name rows r

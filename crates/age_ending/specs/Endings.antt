@@ -1,4 +1,4 @@
--- How a run ends, and the lines that it reports.
+-- How a run ends if it isn't done, and which lines report it.
 use Rattle.std.specs.Prelude.{◌≡◌, ◌⊎◌, ℕ, Bool, true, false, List, [], ◌++◌, codes, decimal}
 use Rattle.std.specs.Prelude.{nat_le, Option, Some, None, Result, Ok, Err, IsErrAnd, if◌then◌else◌}
 use Rattle.std.specs.Io.KnownBytes.{Appends}
@@ -12,7 +12,7 @@ use Rattle.age_ending.specs.declared.ending.Announcement.TheVariants.{Unmade, Ma
 use Rattle.age_ending.specs.declared.ending.Ending.{Ending}
 use Rattle.age_ending.specs.declared.ending.Ending.TheVariants.{Words, Usage, Fault, Unsaved}
 
--- ---- How runs end.
+-- ---- How a run ends.
 
 -- the command line was refused
 abbrev pub is_usage : Ending → Bool
@@ -73,8 +73,8 @@ Announces Made (Unsaved fault second) old new Quiet = TakesLine fault old new
 Announces Made other old new Quiet = ⊥
 Announces Failed ending old new Quiet = HasRisen old.failed new.failed
 
--- and what was reported after it: the ending, if it wasn't made; and otherwise the line of a second
--- fault, unless the first couldn't be put
+-- what was reported after an announcement: the ending, if none was made; and otherwise the line of
+-- a second fault, unless the first couldn't be put
 abbrev pub ReportsRest : Announcement → Ending → (old new : SinkView) → Type 0
 ReportsRest Unmade ending old new = ReportsEnding ending old.taken new.taken old.failed new.failed
 ReportsRest Made (Unsaved fault second) old new = TakesLine second old new

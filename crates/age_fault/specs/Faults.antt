@@ -1,4 +1,4 @@
--- The numbers, names and places of faults.
+-- How a fault is numbered, named and placed, and what a write that fails leaves.
 use Rattle.std.specs.Prelude.{◌≡◌, ◌⊎◌, ℕ, ◌^◌, ◌-◌, ◌<◌, List, [], ◌∷◌, Option, Some, None, codes}
 use Rattle.std.specs.Prelude.{Bool, true, get_or, ◌+◌, ◌++◌, length, Result, MatchResult, OnErr}
 use Rattle.std.specs.Io.KnownBytes.{Appends}
@@ -11,6 +11,8 @@ use Rattle.age_fault.specs.declared.fault.FileFault.TheVariants.{Head, Key, Nonc
 use Rattle.age_fault.specs.declared.fault.FileFault.TheVariants.{BadPosition, OtherFile, ShortText}
 use Rattle.age_fault.specs.declared.fault.FileFault.TheVariants.{Read, Write, Memory, ReadNeverEnds}
 use Rattle.age_fault.specs.declared.fault.FileFault.TheVariants.{PositionForged, OldTextDiffers}
+
+-- ---- The number, the name and the place of a fault.
 
 abbrev pub fault_number : FileFault → ℕ
 fault_number (Head fault) = head.head_fault_number fault.kind
@@ -49,6 +51,8 @@ abbrev pub fault_place : FileFault → Option ℕ
 fault_place (Head fault) = head.head_fault_place fault
 fault_place (Stream fault) = Some fault.chunk
 fault_place other = None
+
+-- ---- Counts of failures.
 
 -- a count of failures rose by one, or stayed at its greatest value, and the last call is the one
 -- that failed: no call came after it

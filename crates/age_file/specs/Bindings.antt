@@ -7,6 +7,8 @@ use Rattle.age_stanza.specs.Text.{base64_text}
 use Rattle.age_kdf.specs.Derivation.{hmac}
 use Rattle.age_chunk.specs.Payload.{chunk_length}
 
+-- ---- The chain over a text.
+
 -- the chain over chunks, one link a chunk: each is the digest of the link before it and the chunk
 abbrev pub link : List ℕ → List ℕ → List ℕ
 link so_far chunk = sha256 (so_far ++ chunk)
@@ -17,6 +19,8 @@ chain chunks = fold link (replicate 32 0) chunks
 -- the chain over this many chunks of a text, the first ones
 abbrev pub chain_over : ℕ → List ℕ → List ℕ
 chain_over count text = chain (first_chunks chunk_length count text)
+
+-- ---- The file, and the tag of a position.
 
 -- what identifies a file: the digest of its header's bytes and its payload nonce
 unfoldable pub file_id : List ℕ → List ℕ → List ℕ

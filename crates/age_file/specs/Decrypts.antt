@@ -1,4 +1,4 @@
--- What a decryption promises.
+-- What a decryption promises, done or stopped, and what reading its file again finds.
 use Rattle.std.specs.Prelude.{Option, ◌≢◌, ◌⊎◌, ℕ, ◌<◌, ◌≤◌, List, ◌++◌, length, ◌≡◌, Some, None}
 use Rattle.std.specs.Prelude.{true, Result, IfOk, IfErr, IfSome, OnOk, IsSomeAnd, MatchResult, Ok}
 use Rattle.std.specs.Prelude.{Err}
@@ -47,7 +47,7 @@ StartFails Allows Refused old new NonceCut = InNonce Allows old.remaining new.re
     × IsAtEnd new.remaining
 StartFails Allows Refused old new fault = HeadFails (IsEarly Allows) old new fault
 
--- ---- What a decryption did.
+-- ---- How a decryption ended.
 
 -- what a decryption promises if it ended
 abbrev pub DecryptEnds : (Header → List ℕ → Type 0) → Ports → Ports → Done → Run → Type 0
@@ -64,9 +64,7 @@ DecryptStops keep Allows Refused old new (Some r) stopped = IsFromStart r
     × StopsInPayload keep Allows (NeverEnds old.source.remaining new.source.remaining) old new
     stopped r
 
--- exactly this text was written, and its bytes are this many
-abbrev pub WritesText : Option (List ℕ) → Option (List ℕ) → ℕ → List ℕ → Type 0
-WritesText old new written text = Appends old new text × (written ≡ length text)
+-- ---- A file that is undamaged.
 
 -- the source is an age file of this text, and the unlocker yields its key and no other, and can
 -- fail only by running out of memory
@@ -83,19 +81,26 @@ pub record IsWhole (Allows : Header → List ℕ → Type 0) (Refused : Header �
   pub only : (k : List ℕ) → Allows header k → k ≡ key
   pub never : (fault : KeyFault) → Refused header fault → fault ≡ KeyMemory
 
--- and its last block, if that is full, doesn't open as one before the last
+-- the source is such a file, and its last block, if that is full, doesn't open as one before the
+-- last
 pub record IsUndamagedFile (Allows : Header → List ℕ → Type 0) (Refused : Header → KeyFault → Type 0)
     (coming : Option (List ℕ)) (text : List ℕ) : Type 0 where
   pub whole : IsWhole Allows Refused coming text
   pub closed : IsClosed (box whole.key whole.nonce) (unbox whole.key whole.nonce) chunk_length text
 
--- the faults that can stop its decryption all the same
+-- the faults that can stop the decryption of an undamaged file all the same
 abbrev pub StopsOutside : FileFault → Type 0
 StopsOutside Read = Unit {0}
 StopsOutside Write = Unit {0}
 StopsOutside Memory = Unit {0}
 StopsOutside ReadNeverEnds = Unit {0}
 StopsOutside other = ⊥
+
+-- ---- What a decryption promises.
+
+-- exactly this text was written, and its bytes are this many
+abbrev pub WritesText : Option (List ℕ) → Option (List ℕ) → ℕ → List ℕ → Type 0
+WritesText old new written text = Appends old new text × (written ≡ length text)
 
 -- what a decryption promises, whether positions are kept or dropped: its run, if it came to the
 -- payload; how it ended and how it stopped; that the text of an age file that is undamaged is
@@ -112,6 +117,8 @@ pub record Decrypts (keep : PositionPolicy) (Allows : Header → List ℕ → Ty
       (λ stopped. StopsOutside stopped.fault)
   pub settled : OnOk result (new.sink.settled ≡ true)
   pub named : new.sink.label ≡ old.sink.label
+
+-- ---- A decryption that hands out the key.
 
 -- the key that opened the file, if it came to its payload
 abbrev pub FindsKey : Option Run → Option (List ℕ) → Type 0

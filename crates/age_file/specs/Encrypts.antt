@@ -1,4 +1,4 @@
--- What an encryption promises.
+-- What an encryption promises: which file it writes of a text, or how much of it.
 use Rattle.std.specs.Prelude.{ℕ, List, ◌≡◌, ◌-◌, ◌^◌, ◌<◌, ◌≤◌, ◌++◌, length}
 use Rattle.std.specs.Io.KnownBytes.{Consumes, Appends, IsAtEnd}
 use Rattle.age_chunk.specs.Payload.{chunk_limit, chunk_count, chunk_length, sealed_before_last}
@@ -23,7 +23,7 @@ pub record SecretView : Type 0 where
   pub key : List ℕ
   pub nonce : List ℕ
 
--- ---- What an encryption did.
+-- ---- The age file of a text, and how an encryption ended with it.
 
 -- the bytes are the age file of the text for the passphrase: its header has one scrypt stanza
 abbrev pub AgeFile : SecretView → List ℕ → List ℕ → Type 0
@@ -42,6 +42,8 @@ pub record Encrypts (s : SecretView) (old new : Ports) (written : Written) : Typ
   pub plain_is : written.plain ≡ length text
   pub file_is : written.file ≡ length file
   pub none_failed : NoneFailed old new
+
+-- ---- How an encryption stopped.
 
 -- the file of a text without its last block: the header's text, the payload nonce, and the blocks
 -- before the last

@@ -1,4 +1,4 @@
--- Calls in a row, and what comes back of what was encrypted.
+-- What several calls together promise: a decryption and its resumptions, or both directions.
 use Rattle.std.specs.Prelude.{◌≡◌, ◌⊎◌, ℕ, List, [], ◌∷◌, ◌≤◌, Option, Some, IfSome, IsSomeAnd}
 use Rattle.std.specs.Prelude.{Result, MatchResult, ◌*◌, take, length}
 use Rattle.base64.specs.GeneralPurpose.{IsBytes}
@@ -140,12 +140,12 @@ module _ (Who : Type 0) (Allows : Who → Header → List ℕ → Type 0)
   AreInARow first (c ∷ earlier) = (c.old.old.remaining ≡ taken first earlier)
       × AreInARow first earlier
 
-  -- and the run of each, if it came to its payload, is authentic for one text
+  -- the run of each call, if it came to its payload, is authentic for one text
   abbrev pub AreTexts : List ℕ → FirstCall → List NextCall → Type 0
   AreTexts text first [] = IfSome first.run (IsTexts text)
   AreTexts text first (c ∷ earlier) = IfSome c.run (IsTexts text) × AreTexts text first earlier
 
-  -- then each of the calls answers right
+  -- each of the calls answers right
   abbrev pub AllAnswerRight : List ℕ → FirstCall → List NextCall → Type 0
   AllAnswerRight text first [] = AnswersRight text first.new.sink.taken first.result
   AllAnswerRight text first (c ∷ earlier) = AnswersRight text c.new.main.sink.taken c.result
@@ -166,12 +166,12 @@ pub record BindsTo (text : List ℕ) (p : Position) (r : Run) : Type 0 where
   pub to : IsBoundTo p r.copied text
   pub authentic : IsTexts text r
 
--- then the copied bytes are the text's, and what was written begins it
+-- the copied bytes are the text's, and what was written begins it
 pub record Bound (text : List ℕ) (p : Position) (r : Run) : Type 0 where
   pub copied : r.copied ≡ take (p.index * chunk_length) text
   pub begins : IsPrefixOf (held r) text
 
--- of every resumed run; and if the call is done, all of the text was written
+-- every resumed run is bound so; and if the call is done, all of the text was written
 module _ (Who : Type 0) (Allows : Who → Header → List ℕ → Type 0) where
   abbrev pub RunsAreBound : Type 0
   RunsAreBound = (who : Who) (text : List ℕ) (p : Position) (old new : ResumePorts) (written : ℕ)

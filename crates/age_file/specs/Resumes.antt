@@ -1,4 +1,4 @@
--- What resuming at a position promises.
+-- What resuming at a position promises: from the text of the position to the end of the payload.
 use Rattle.std.specs.Prelude.{◌≡◌, ◌≢◌, ℕ, List, ◌++◌, length, codes, ◌*◌, ◌≤◌, take, Option, Some}
 use Rattle.std.specs.Prelude.{◌⊎◌, ◌/◌, ◌+◌, ◌<◌, None, true, Result, IfOk, IfErr, OnOk}
 use Rattle.std.specs.Prelude.{MatchResult, IsSomeAnd}
@@ -65,7 +65,7 @@ pub record IsOldText (p : Position) (copied : List ℕ) : Type 0 where
   pub size : length copied ≡ p.index * chunk_length
   pub same : chain_over p.index copied ≡ p.chain
 
--- ---- What a resumed decryption did.
+-- ---- What a resumed decryption reads and writes before its payload.
 
 -- the ports of a decryption, and what is seen of the old text's source
 pub record ResumePorts : Type 0 where

@@ -1,4 +1,4 @@
--- A run: what was read, what was written, and how it ended.
+-- What a run read and wrote, where a reader may continue after it, and how it ended.
 use Rattle.std.specs.Prelude.{◌≡◌, ℕ, List, ◌⊎◌, ◌^◌, ◌*◌, ◌<◌, ◌≤◌, ◌++◌, length, Option, IfSome}
 use Rattle.std.specs.Prelude.{◌/◌, min, [], take, None, IsSomeAnd, Bool, true, false}
 use Rattle.std.specs.Io.KnownBytes.{Consumes, IsAtEnd, Appends}
@@ -24,26 +24,6 @@ use Rattle.age_file.specs.declared.decryption.Stopped.{Stopped}
 use Rattle.age_file.specs.declared.position.Position.{Position}
 use Rattle.age_file.specs.declared.position.PositionPolicy.{PositionPolicy}
 use Rattle.age_file.specs.declared.position.PositionPolicy.TheVariants.{Kept, Dropped}
-
--- ---- Whether a position is a file's, and was made under its key.
-
--- a file whose header was opened and whose nonce was read
-pub record OpenedFile : Type 0 where
-  pub header : Header
-  pub header_bytes : List ℕ
-  pub key : List ℕ
-  pub nonce : List ℕ
-
--- the tag was made under the position key of a file of this key and nonce
-abbrev pub IsTagged : Position → List ℕ → List ℕ → Type 0
-IsTagged p key nonce = p.tag ≡ position_tag (position_key key nonce) p.index p.file_id p.chain
-
--- the id of a position is the file's, and its tag was made under the file's key
-abbrev pub HasId : Position → OpenedFile → Type 0
-HasId p f = p.file_id ≡ file_id f.header_bytes f.nonce
-
-abbrev pub HasTag : Position → OpenedFile → Type 0
-HasTag p f = IsTagged p f.key f.nonce
 
 -- ---- What an engine's contract sees of its source and sink.
 
@@ -133,8 +113,15 @@ HeadFails Sound old new ReadNeverEnds = Sound old.remaining new.remaining
     × NeverEnds old.remaining new.remaining
 HeadFails Sound old new other = ⊥
 
--- ---- Runs: what was read of an age file, and what was written. A decryption is a run that begins
+-- ---- A run: what was read of an age file, and what was written. A decryption is a run that begins
 -- with chunk 0; a resumed one begins with the chunk of its position, after the old text.
+
+-- a file whose header was opened and whose nonce was read
+pub record OpenedFile : Type 0 where
+  pub header : Header
+  pub header_bytes : List ℕ
+  pub key : List ℕ
+  pub nonce : List ℕ
 
 -- a run: the file that was opened, the chunk that the run begins with, the old text that was copied
 -- and the blocks that were skipped before it, the bytes that were read after them, whether the
@@ -148,7 +135,7 @@ pub record Run : Type 0 where
   pub ended : Bool
   pub out : List ℕ
 
--- it begins with the file's first chunk
+-- a run begins with the file's first chunk
 pub record IsFromStart (r : Run) : Type 0 where
   pub zero : r.first ≡ 0
   pub none_copied : r.copied ≡ []
@@ -188,20 +175,32 @@ pub record IsRun (Allows : Header → List ℕ → Type 0) (old new : Ports) (wr
   pub count : written ≡ length (held r)
   pub prefix : IsPrefixOf r.out (run_text r)
 
--- the end of the source was not seen, and what came has no fault
-abbrev pub HasNoFault : Run → Type 0
-HasNoFault r = (r.ended ≡ false) × (has_failed (run_outcome r).status ≡ false)
+-- ---- A run that is authentic.
 
 -- every block that is tried and opens is one that the writer of this text sealed there
 abbrev pub IsTexts : List ℕ → Run → Type 0
 IsTexts text r = IsAuthentic (box r.file.key r.file.nonce) (unbox r.file.key r.file.nonce)
     chunk_length text (segment_of r)
 
--- and the old text is that text's before the chunk that the run begins with
+-- the blocks of a run are a text's, and the old text is that text's before the chunk that the run
+-- begins with
 pub record IsAuthenticRun (r : Run) (text : List ℕ) : Type 0 where
   pub few : chunk_count chunk_length text ≤ chunk_limit
   pub old_text : r.copied ≡ take (r.first * chunk_length) text
   pub authentic : IsTexts text r
+
+-- ---- Where a reader may continue: positions.
+
+-- the tag was made under the position key of a file of this key and nonce
+abbrev pub IsTagged : Position → List ℕ → List ℕ → Type 0
+IsTagged p key nonce = p.tag ≡ position_tag (position_key key nonce) p.index p.file_id p.chain
+
+-- the id of a position is the file's, and its tag was made under the file's key
+abbrev pub HasId : Position → OpenedFile → Type 0
+HasId p f = p.file_id ≡ file_id f.header_bytes f.nonce
+
+abbrev pub HasTag : Position → OpenedFile → Type 0
+HasTag p f = IsTagged p f.key f.nonce
 
 -- a position stands after chunks of a text, and carries the chain over them
 abbrev pub CarriesText : List ℕ → Position → Type 0
@@ -222,11 +221,17 @@ abbrev pub GivesPosition : PositionPolicy → (Position → Type 0) → Option P
 GivesPosition Kept Is position = IsSomeAnd position Is
 GivesPosition Dropped Is position = position ≡ None
 
+-- ---- How a run ended.
+
 -- a stop before anything was written: it has no position
 pub record WritesNone (old new : Ports) (stopped : Stopped) : Type 0 where
   pub sink : new.sink ≡ old.sink
   pub written : stopped.written ≡ 0
   pub position : stopped.position ≡ None
+
+-- the end of the source was not seen, and what came has no fault
+abbrev pub HasNoFault : Run → Type 0
+HasNoFault r = (r.ended ≡ false) × (has_failed (run_outcome r).status ≡ false)
 
 -- when each fault comes in a payload. Unless the sink failed, all text was written; no more came
 -- only if what did has no fault; and if the sink failed, some text was not written, or the end of

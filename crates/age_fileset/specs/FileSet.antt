@@ -1,4 +1,4 @@
--- Sets of files.
+-- What contracts see of a set of files, and what a set over memory does.
 use Rattle.std.specs.Prelude.{ℕ, List, ◌≡◌, ◌⊎◌, Bool, false, [], Option, Some, None, ◌≢◌, ◌-◌, ◌^◌}
 use Rattle.std.specs.Prelude.{find, option_map, Result, OnOk, OnErr}
 use Rattle.std.specs.Str.{bytes_eq}

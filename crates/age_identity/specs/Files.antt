@@ -1,5 +1,4 @@
--- The names of files, the bytes under each, the first bytes of a source, and why a command ends
--- before its output is written.
+-- What a command changes under which names, and why it may end before its output is written.
 use Rattle.std.specs.Prelude.{◌≡◌, ◌⊎◌, ℕ, ◌<◌, ◌≤◌, List, [], ◌∷◌, ◌++◌, length, Option, Some}
 use Rattle.std.specs.Prelude.{None}
 use Rattle.std.specs.Io.KnownBytes.{Consumes, IsAtEnd}

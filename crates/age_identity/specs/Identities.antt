@@ -1,4 +1,4 @@
--- What opens a file, and how it is chosen.
+-- What opens a file, by the options and by the files that they name.
 use Rattle.std.specs.Prelude.{◌≡◌, ℕ, ◌-◌, ◌==◌, ◌&&◌, nat_lt, List, ◌++◌, length, take}
 use Rattle.std.specs.Prelude.{slice_index, Option, Some, None, if◌then◌else◌, option_map}
 use Rattle.std.specs.declared.vec.Vec.{Vec}
@@ -19,7 +19,7 @@ use Rattle.age_identity.specs.declared.identity.Identity.{Identity}
 use Rattle.age_identity.specs.declared.identity.Identity.TheVariants.{ByPassphrase, ByFileKey}
 use Rattle.age_identity.specs.declared.identity.Identity.TheVariants.{ByShared}
 
--- ---- What opens a file, as the options and the files make it.
+-- ---- What opens a file, by all options together.
 
 -- the keys that a passphrase with its limit, a file key or a shared secret may find in a header,
 -- and the faults
@@ -69,7 +69,7 @@ abbrev pub OpensBy : Files → IdentityOptions → Identity → Type 0
 OpensBy old u identity = IsIdentity old (option_text u.pass) (option_text u.file_key) (option_text u.shared)
     u.max_log identity
 
--- ---- What opens a file, as one of the options says.
+-- ---- What opens a file, by the one option that is chosen.
 
 -- the file that a choice names, if it names one
 abbrev pub file_of : Choice → Option Text

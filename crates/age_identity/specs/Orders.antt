@@ -1,4 +1,4 @@
--- In which order files are opened, created and closed.
+-- In which order a command opens, makes and closes files, and which names have to differ.
 use Rattle.std.specs.Prelude.{◌≡◌, List, [], ◌∷◌, ◌++◌, Option, Some, None, ◌⊎◌, codes}
 use Rattle.clap.specs.Words.{Text}
 use Rattle.age_io.specs.declared.durability.Durability.{Durability}

@@ -1,4 +1,4 @@
--- What a contract sees of sources, sinks and meters.
+-- What contracts see of sources, sinks and meters, and what those over memory do.
 use Rattle.std.specs.Prelude.{ℕ, List, Option, Bool, ◌+◌, ◌-◌, ◌^◌, min, option_map, Result, Ok}
 use Rattle.std.specs.Prelude.{Err, ◌≡◌, [], ◌∷◌, ◌++◌, Some, None, ◌≢◌, ◌⊎◌, length, take, drop}
 use Rattle.std.specs.Prelude.{true, false}

@@ -1,5 +1,4 @@
--- The keys of an age file (C2SP age.md, "File key", "Header MAC", "Payload", "Recipient stanza"),
--- and what opening a header with them may return.
+-- The keys of an age file, and what opening a header with them may return.
 use Rattle.std.specs.Prelude.{ℕ, ◌≡◌, Bool, true, false, nat_lt, ◌&&◌, List, [], ◌∷◌, length, codes}
 use Rattle.std.specs.Prelude.{replicate, Ok, ◌⊎◌, ◌+◌, ◌≤◌, Result, IfErr}
 use Rattle.std.specs.List.{list_any}
@@ -15,18 +14,6 @@ use Rattle.age_keys.specs.declared.fault.KeyFault.{KeyFault}
 use Rattle.age_keys.specs.declared.fault.KeyFault.TheVariants.{ScryptNotAlone, BadScrypt}
 use Rattle.age_keys.specs.declared.fault.KeyFault.TheVariants.{WorkTooHigh, NoMatch, WrongKey}
 use Rattle.age_keys.specs.declared.fault.KeyFault.TheVariants.{MacMismatch, BadX25519, Memory}
-
--- ---- How a refusal is numbered among all faults.
-
-abbrev pub key_fault_number : KeyFault → ℕ
-key_fault_number ScryptNotAlone = 9
-key_fault_number BadScrypt = 10
-key_fault_number WorkTooHigh = 11
-key_fault_number NoMatch = 12
-key_fault_number WrongKey = 13
-key_fault_number MacMismatch = 14
-key_fault_number BadX25519 = 15
-key_fault_number Memory = 28
 
 -- ---- The keys of an age file (C2SP age.md, "File key", "Header MAC", "Payload", "Recipient
 -- stanza").
@@ -51,7 +38,7 @@ position_key key nonce = hkdf32 key nonce (codes "age-tool position v2")
 unfoldable pub wrapped_key : List ℕ → List ℕ → List ℕ
 wrapped_key wrap_key key = sealing wrap_key (replicate 12 0) [] key
 
--- ---- types of stanzas
+-- ---- The types of stanzas.
 
 -- the first argument of a stanza is its type
 abbrev pub has_type : List ℕ → List (List ℕ) → Bool
@@ -71,7 +58,7 @@ scrypt_not_alone h = nat_lt 1 (length h.stanzas) && has_scrypt h
 abbrev pub IsScryptNotAlone : Header → Type 0
 IsScryptNotAlone h = scrypt_not_alone h ≡ true
 
--- ---- a file key as text
+-- ---- A file key as text.
 
 -- the text spells the 16 bytes of the key, each by two hexadecimal digits of either case
 abbrev pub SpellsKey : List ℕ → List ℕ → Type 0
@@ -136,3 +123,15 @@ pub record Counts (most : ℕ) (result : Result (List ℕ) KeyFault) (old new : 
   pub before : IfErr result (λ fault. OnTrue (is_before_work fault) (new ≡ old))
   -- and never more steps than these
   pub within : new ≤ old + most
+
+-- ---- How a refusal is numbered among all faults.
+
+abbrev pub key_fault_number : KeyFault → ℕ
+key_fault_number ScryptNotAlone = 9
+key_fault_number BadScrypt = 10
+key_fault_number WorkTooHigh = 11
+key_fault_number NoMatch = 12
+key_fault_number WrongKey = 13
+key_fault_number MacMismatch = 14
+key_fault_number BadX25519 = 15
+key_fault_number Memory = 28

@@ -1,4 +1,4 @@
--- Passphrases (C2SP age.md, "The scrypt recipient type").
+-- What a passphrase finds in a header (C2SP age.md, "The scrypt recipient type").
 use Rattle.std.specs.Prelude.{◌≡◌, ◌≢◌, ℕ, List, [], ◌∷◌, ◌++◌, length, take, codes, ◌*◌, ◌^◌, ◌<◌}
 use Rattle.std.specs.Prelude.{◌≤◌, true, false}
 use Rattle.std.specs.Fmt.{decimal}
@@ -14,7 +14,7 @@ use Rattle.age_keys.specs.declared.fault.KeyFault.TheVariants.{ScryptNotAlone, B
 use Rattle.age_keys.specs.declared.fault.KeyFault.TheVariants.{WorkTooHigh, NoMatch, WrongKey}
 use Rattle.age_keys.specs.declared.fault.KeyFault.TheVariants.{Memory}
 
--- ---- The scrypt stanza (C2SP age.md, "The scrypt recipient type").
+-- ---- The scrypt stanza.
 
 -- the key that a file key is wrapped under: scrypt of the passphrase, salted with a label and the
 -- stanza's salt

@@ -1,4 +1,4 @@
--- Shared secrets (C2SP age.md, "The X25519 recipient type").
+-- What a shared secret finds in a header (C2SP age.md, "The X25519 recipient type").
 use Rattle.std.specs.Prelude.{◌≡◌, ℕ, Bool, true, false, List, [], ◌∷◌, length, codes, ◌⊎◌, ◌++◌}
 use Rattle.std.specs.Prelude.{Any, replicate}
 use Rattle.std.specs.List.{list_any, AllByRecursion}
@@ -11,7 +11,7 @@ use Rattle.age_keys.specs.Keys.{has_type, wrapped_key}
 use Rattle.age_keys.specs.declared.fault.KeyFault.{KeyFault}
 use Rattle.age_keys.specs.declared.fault.KeyFault.TheVariants.{NoMatch, BadX25519, WrongKey}
 
--- ---- The X25519 stanza (C2SP age.md, "The X25519 recipient type"). X25519 itself stays outside.
+-- ---- The X25519 stanza. X25519 itself stays outside.
 
 abbrev pub is_x25519 : Stanza → Bool
 is_x25519 s = has_type (codes "X25519") s.args
@@ -31,8 +31,7 @@ ReadRefuses s BadX25519 = (is_x25519 s ≡ true)
     × ((share body : List ℕ) → IsX25519Stanza s share body → ⊥)
 ReadRefuses s other = ⊥
 
--- ---- What a shared secret finds in a header, and what it refuses (C2SP age.md, "The X25519
--- recipient type").
+-- ---- What a shared secret finds in a header, and what it refuses.
 
 -- a shared secret, and the recipient for whom the stanzas are
 pub record Shared : Type 0 where
@@ -52,7 +51,7 @@ pub record OpensTo (x : Shared) (s : Stanza) (key : List ℕ) : Type 0 where
   pub stanza : IsX25519Stanza s share body
   pub opens : body ≡ wrapped_key (shared_wrap_key x share) key
 
--- it opens to no key
+-- the stanza's body opens to no key
 abbrev pub StaysShut : Shared → Stanza → Type 0
 StaysShut x s = (key : List ℕ) → ¬ OpensTo x s key
 

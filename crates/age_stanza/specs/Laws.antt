@@ -1,4 +1,4 @@
--- What a contract sees of a parser, and laws over the definitions alone.
+-- What holds of all headers, faults and parsers, whatever the code does.
 use Rattle.std.specs.Prelude.{◌≡◌, ◌⊎◌, ℕ, List, [], ◌∷◌, ◌++◌, Result, ◌+◌, ◌*◌, ◌/◌, ◌%◌, length}
 use Rattle.std.specs.Prelude.{codes, slice_index}
 use Rattle.std.specs.List.{concat}

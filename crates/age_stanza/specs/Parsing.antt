@@ -1,4 +1,4 @@
--- What a parser of headers has come to, what a call does to it, and which fault it reports.
+-- Which fault bytes have that are no header, and what a parser of headers says of its pieces.
 use Rattle.std.specs.Prelude.{ℕ, Option, Some, None, ◌≡◌, ◌≢◌, ◌⊎◌, ◌+◌, ◌-◌, ◌==◌, nat_eq, ◌||◌}
 use Rattle.std.specs.Prelude.{true, false, if◌then◌else◌, List, [], ◌∷◌, ◌++◌, length, take, codes}
 use Rattle.std.specs.Prelude.{count_by, ◌<◌, ◌≤◌, Result, Ok, Err}
@@ -16,27 +16,6 @@ use Rattle.age_stanza.specs.declared.head_step.HeadStep.{HeadStep}
 use Rattle.age_stanza.specs.declared.head_step.HeadStep.TheVariants.{More, Ready}
 use Rattle.age_stanza.specs.declared.header.Header.{Header}
 use Rattle.age_stanza.specs.declared.header.Stanza.{Stanza}
-
--- ---- How a fault is numbered among all faults, and the line that it reports.
-
-abbrev pub head_fault_number : HeadKind → ℕ
-head_fault_number NotAge = 1
-head_fault_number Armored = 2
-head_fault_number BadStanzaLine = 3
-head_fault_number BadBody = 4
-head_fault_number BadEndLine = 5
-head_fault_number NoStanza = 6
-head_fault_number HeadTooLong = 7
-head_fault_number HeadCut = 8
-head_fault_number Memory = 28
-
--- running out of memory has no line
-abbrev pub line_of : HeadKind → ℕ → Option ℕ
-line_of Memory n = None
-line_of kind n = Some n
-
-abbrev pub head_fault_place : HeadFault → Option ℕ
-head_fault_place fault = line_of fault.kind fault.line
 
 -- ---- The first fault of bytes that begin no header (C2SP age.md, "Header"): a line is faulty if
 -- no header's text goes on after it. Which kind is reported is this crate's own choice, and follows
@@ -103,6 +82,8 @@ pub record RefusesLine (before l : List ℕ) (kind : HeadKind) : Type 0 where
 -- the line that follows some bytes
 abbrev pub line_after : List ℕ → ℕ
 line_after bytes = 1 + count_by (λ c. c == 10) bytes
+
+-- ---- Which fault is reported of bytes.
 
 -- the bytes begin with a header
 abbrev pub HasHeader : List ℕ → Type 0
@@ -171,3 +152,24 @@ Cuts (reading held) fault new = (fault ≡ record { kind = HeadCut; line = line_
     × (new ≡ refused fault) × (¬ HasHeader held) × NoFault held
 Cuts complete fault new = Unit {0}
 Cuts (refused earlier) fault new = (fault ≡ earlier) × (new ≡ refused earlier)
+
+-- ---- How a fault is numbered among all faults, and the line that it reports.
+
+abbrev pub head_fault_number : HeadKind → ℕ
+head_fault_number NotAge = 1
+head_fault_number Armored = 2
+head_fault_number BadStanzaLine = 3
+head_fault_number BadBody = 4
+head_fault_number BadEndLine = 5
+head_fault_number NoStanza = 6
+head_fault_number HeadTooLong = 7
+head_fault_number HeadCut = 8
+head_fault_number Memory = 28
+
+-- running out of memory has no line
+abbrev pub line_of : HeadKind → ℕ → Option ℕ
+line_of Memory n = None
+line_of kind n = Some n
+
+abbrev pub head_fault_place : HeadFault → Option ℕ
+head_fault_place fault = line_of fault.kind fault.line

@@ -1,4 +1,4 @@
--- What the header's text is made of: the letters of an argument and base64.
+-- What a header's text is made of: the letters of an argument, and base64.
 use Rattle.std.specs.Prelude.{ℕ, List}
 use Rattle.base64.specs.GeneralPurpose.{encode_of}
 use Rattle.base64.specs.Engines.{standard_no_pad}

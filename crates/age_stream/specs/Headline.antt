@@ -1,4 +1,4 @@
--- The headline: what is held is what was written.
+-- When what is held is what was written: the premises of the headline, and the headline.
 use Rattle.std.specs.Prelude.{◌≡◌, ◌≢◌, ℕ, ◌+◌, ◌-◌, ◌<◌, Bool, false, ◌&&◌, List, [], ◌∷◌}
 use Rattle.std.specs.Prelude.{Contains, Some, None, if◌then◌else◌, ◌*◌, ◌≤◌, true, ◌++◌, length}
 use Rattle.std.specs.Prelude.{take, drop, IsSome, ◌⊎◌, map}
@@ -15,44 +15,7 @@ use Rattle.age_stream.specs.declared.delivery.Delivery.TheVariants.{Piece, End, 
 use Rattle.age_stream.specs.declared.step.Status.{Status}
 use Rattle.age_stream.specs.declared.step.Status.TheVariants.{Done}
 
--- ---- Each block in its place: what a segment gives when its blocks are compared with the
--- writer's. A chunk has n bytes.
-
--- the chunk that was sealed as this block at this nonce, if any: blocks are compared, and none is
--- opened
-abbrev pub sealed_as : List (List ℕ × List ℕ) → List (List ℕ) → OpensBlock
-sealed_as [] chunks nonce block = None
-sealed_as (pair ∷ pairs) [] nonce block = None
-sealed_as (pair ∷ pairs) (chunk ∷ chunks) nonce block =
-    if bytes_eq pair.0 nonce && bytes_eq pair.1 block then Some chunk
-    else sealed_as pairs chunks nonce block
-
-module _ (sealing : Seals) (n : ℕ) (text : List ℕ) where
-  -- comparing with the writer's blocks, in place of opening
-  abbrev pub compared : OpensBlock
-  compared = sealed_as (sealed sealing n text) (chunks n text)
-
-  -- block number i is none of the writer's, and those before it are the writer's, each at its
-  -- number
-  pub record IsFirstWrong (s : Segment) (i : ℕ) : Type 0 where
-    pub before : (j : ℕ) → s.start + j < i → Contains (sealed sealing n text)
-        (nonce_bytes (s.start + j) false, block_at n s.bytes j)
-    pub there : (last : Bool) → ¬ Contains (sealed sealing n text)
-        (nonce_bytes i last, block_at n s.bytes (i - s.start))
-
-module _ (sealing : Seals) (opening : OpensBlock) (n : ℕ) (text : List ℕ) where
-  -- the outcome is what comparing blocks with the writer's gives; a block is refused as damaged if
-  -- it is the first that isn't the writer's, and there are never too many
-  pub record IsInPlace (s : Segment) (status : Status) : Type 0 where
-    pub compares : outcome opening n s ≡ outcome (compared sealing n text) n s
-    pub damaged : (i : ℕ) → status ≡ failed ChunkDamaged i
-        → IsFirstWrong sealing n text s i
-    pub few : (i : ℕ) → status ≢ failed TooManyChunks i
-
--- ---- What the deliveries may hold, and what then holds of the text.
-
-abbrev pub IsPrefixOf : List ℕ → List ℕ → Type 0
-IsPrefixOf xs ys = (rest : List ℕ) × (xs ++ rest ≡ ys)
+-- ---- The premise: what opens is the writer's. A chunk has n bytes.
 
 module _ (sealing : Seals) (opening : OpensBlock) (n : ℕ) (text : List ℕ) where
   -- if the block opens at the nonce, the writer of the text sealed it there
@@ -69,12 +32,15 @@ module _ (sealing : Seals) (opening : OpensBlock) (n : ℕ) (text : List ℕ) wh
     pub last : is_tried (stop opening n s) ≡ true
         → IsWriters (nonce_bytes (stop opening n s).index true) (stop opening n s).block
 
-  -- each segment of the deliveries is so, those that were given up too
+  -- each segment of the deliveries is authentic, those that were given up too
   abbrev pub AreAuthentic : List Delivery → Type 0
   AreAuthentic deliveries =
       AllByRecursion IsAuthentic (standing opening n deliveries).given_up
       × IsAuthentic (standing opening n deliveries).segment
 
+-- ---- An undamaged payload.
+
+module _ (sealing : Seals) (opening : OpensBlock) (n : ℕ) (text : List ℕ) where
   -- the deliveries may be anything up to a restart at k that is accepted, or up to the beginning
   abbrev pub IsStart : ℕ → List Delivery → Type 0
   IsStart k front =
@@ -82,7 +48,7 @@ module _ (sealing : Seals) (opening : OpensBlock) (n : ℕ) (text : List ℕ) wh
       ⊎ ((earlier : List Delivery) × (front ≡ earlier ++ Restart k ∷ [])
       × (accepts opening n (standing opening n earlier) k ≡ true))
 
-  -- then come the writer's blocks from k on, in any pieces, and an end
+  -- after that start come the writer's blocks from k on, in any pieces, and an end
   pub record IsUndamaged (k : ℕ) (deliveries : List Delivery) : Type 0 where
     pub front : List Delivery
     pub pieces : List (Bor (List ℕ))
@@ -99,6 +65,45 @@ module _ (sealing : Seals) (opening : OpensBlock) (n : ℕ) (text : List ℕ) wh
     pub ended : s.ended ≡ true
     pub timely : s.late ≡ false
 
+-- ---- Each block in its place: what a segment gives when its blocks are compared with the
+-- writer's.
+
+-- the chunk that was sealed as this block at this nonce, if any: blocks are compared, and none is
+-- opened
+abbrev pub sealed_as : List (List ℕ × List ℕ) → List (List ℕ) → OpensBlock
+sealed_as [] chunks nonce block = None
+sealed_as (pair ∷ pairs) [] nonce block = None
+sealed_as (pair ∷ pairs) (chunk ∷ chunks) nonce block =
+    if bytes_eq pair.0 nonce && bytes_eq pair.1 block then Some chunk
+    else sealed_as pairs chunks nonce block
+
+module _ (sealing : Seals) (n : ℕ) (text : List ℕ) where
+  -- comparing with the writer's blocks, in place of opening
+  abbrev pub compared : OpensBlock
+  compared = sealed_as (sealed sealing n text) (chunks n text)
+
+  -- block number i isn't the writer's, and each block before it is, at its own number
+  pub record IsFirstWrong (s : Segment) (i : ℕ) : Type 0 where
+    pub before : (j : ℕ) → s.start + j < i → Contains (sealed sealing n text)
+        (nonce_bytes (s.start + j) false, block_at n s.bytes j)
+    pub there : (last : Bool) → ¬ Contains (sealed sealing n text)
+        (nonce_bytes i last, block_at n s.bytes (i - s.start))
+
+module _ (sealing : Seals) (opening : OpensBlock) (n : ℕ) (text : List ℕ) where
+  -- the outcome is what comparing blocks with the writer's gives; a block is refused as damaged if
+  -- it is the first that isn't the writer's, and there are never too many
+  pub record IsInPlace (s : Segment) (status : Status) : Type 0 where
+    pub compares : outcome opening n s ≡ outcome (compared sealing n text) n s
+    pub damaged : (i : ℕ) → status ≡ failed ChunkDamaged i
+        → IsFirstWrong sealing n text s i
+    pub few : (i : ℕ) → status ≢ failed TooManyChunks i
+
+-- ---- What then holds of the text.
+
+abbrev pub IsPrefixOf : List ℕ → List ℕ → Type 0
+IsPrefixOf xs ys = (rest : List ℕ) × (xs ++ rest ≡ ys)
+
+module _ (sealing : Seals) (opening : OpensBlock) (n : ℕ) (text : List ℕ) where
   -- what is held is the beginning of the text, its end is reported only with all of it and only of
   -- a segment that starts within it, what is undamaged gives all of it and its end, and each block
   -- of the current segment stands in its place
@@ -109,6 +114,8 @@ module _ (sealing : Seals) (opening : OpensBlock) (n : ℕ) (text : List ℕ) wh
     pub within : status ≡ Done → s.start * n ≤ length text
     pub whole : Undamaged → (held ≡ text) × (status ≡ Done)
     pub place : IsInPlace sealing opening n text s status
+
+-- ---- The headline.
 
 module _ (sealing : Seals) (opening : OpensBlock) (n : ℕ) where
   -- the headline: for every text of at most 2^48 chunks, while no delivered block opens except as

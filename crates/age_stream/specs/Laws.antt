@@ -1,4 +1,4 @@
--- Laws over the definitions alone.
+-- What follows from the definitions alone: lengths, chunks, when the headline's premise is met.
 use Rattle.std.specs.Prelude.{◌≡◌, ℕ, ◌+◌, ◌-◌, ◌*◌, ◌/◌, ◌≤◌, List, length, Option, MatchOption}
 use Rattle.std.specs.Prelude.{◌<◌, ◌==◌, ◌⊎◌, [], ◌∷◌, ◌++◌, slice_index_or, true, false, None, map}
 use Rattle.std.specs.Prelude.{◌≢◌, Bool, take}
@@ -119,17 +119,17 @@ UndamagedIsAuthentic = OfAllSealable (λ sealing opening n text. (k : ℕ)
     → AllByRecursion (IsAuthentic sealing opening n text) (standing opening n rest.front).given_up
     → AreAuthentic sealing opening n text deliveries)
 
--- so are deliveries of a whole payload
+-- deliveries of a whole payload are authentic
 abbrev pub WholeIsAuthentic : Type 0
 WholeIsAuthentic = OfAllSealable (λ sealing opening n text. (deliveries : List Delivery)
     → AreWhole (payload sealing n text) deliveries → AreAuthentic sealing opening n text deliveries)
 
--- and the payload gives its text back
+-- a sealable payload gives its text back
 abbrev pub PayloadRoundTrip : Type 0
 PayloadRoundTrip = OfAllSealable (λ sealing opening n text.
     GivesBack opening n (payload sealing n text) text)
 
--- in the clear every text of at most 2^48 chunks is so
+-- in the clear every text of at most 2^48 chunks is sealable
 abbrev pub ClearIsSealable : Type 0
 ClearIsSealable = (n : ℕ) (text : List ℕ) → 0 < n → chunk_count n text ≤ chunk_limit
     → IsSealable clear_sealing clear_opening n text
@@ -163,7 +163,7 @@ abbrev pub FreshIsOpen : Type 0
 FreshIsOpen = (opening : OpensBlock) (n k : ℕ)
     → outcome opening n (fresh k) ≡ record { texts = []; index = k; status = Open }
 
--- it released no more, and stands at the same chunk; a refusal stays
+-- a segment released no more, and stands at the same chunk; a refusal stays
 pub record IsSettled (old new : Outcome) : Type 0 where
   pub texts : new.texts ≡ old.texts
   pub index : new.index ≡ old.index
@@ -216,7 +216,7 @@ pub record IsCounted (opening : OpensBlock) (n : ℕ) (base : List ℕ) (s : Seg
       ≡ take i (first_chunks n s.start base ++ counted_chunks opening n s)
   pub all : (outcome opening n s).status ≡ Open → counted_chunks opening n s ≡ (outcome opening n s).texts
 
--- so it is of every segment under a valid box, whatever its blocks are
+-- every segment under a valid box is counted, whatever its blocks are
 abbrev pub ChunksAreCounted : Type 0
 ChunksAreCounted = OfAllBoxes (λ sealing opening. (n : ℕ) (base : List ℕ) (s : Segment)
     → length base ≡ s.start * n → IsCounted opening n base s)

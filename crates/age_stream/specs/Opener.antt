@@ -1,4 +1,4 @@
--- The opener.
+-- What an opener stands for, what its calls answer, and what it is after them.
 use Rattle.std.specs.Prelude.{ℕ, List, [], Option, Some, None, ◌≡◌, ◌+◌, ◌*◌, ◌/◌, ◌∷◌, length}
 use Rattle.std.specs.Prelude.{take, Bool, true, false, Result, Ok, Err, if◌then◌else◌, ◌-◌, ◌<◌}
 use Rattle.std.specs.Prelude.{◌++◌, min, IfOk, IfErr, OnOk, OnErr, IfSome, IfNone}
@@ -21,9 +21,15 @@ abbrev pub chunk_bytes : Option (Bor (List ℕ)) → List ℕ
 chunk_bytes None = []
 chunk_bytes (Some chunk) = chunk.now
 
+-- the text that is lent, or none
+abbrev pub chunk_texts : Option (Bor (List ℕ)) → List (List ℕ)
+chunk_texts None = []
+chunk_texts (Some chunk) = chunk.now ∷ []
+
 -- ---- What an opener stands for, and what its calls answer. A chunk has n bytes.
 
--- its key, the bytes of the block that is open, the chunk at which it stands, and its status
+-- an opener's key, the bytes of the block that is open, the chunk at which it stands, and its
+-- status
 pub record OpenerView (B : Type 0) : Type 0 where
   pub key : B
   pub held : List ℕ
@@ -67,11 +73,6 @@ handed texts (Err fault) = []
 abbrev pub handed_bytes : Result (Bor (List ℕ)) StreamFault → List ℕ
 handed_bytes (Ok text) = text.now
 handed_bytes (Err fault) = []
-
--- the text that is lent, or none
-abbrev pub chunk_texts : Option (Bor (List ℕ)) → List (List ℕ)
-chunk_texts None = []
-chunk_texts (Some chunk) = chunk.now ∷ []
 
 -- the number while the opener is open, else 0
 abbrev pub while_open : Status → ℕ → ℕ

@@ -1,4 +1,4 @@
--- Replays and drills.
+-- What text a replay holds after any deliveries, and what a drill answers.
 use Rattle.std.specs.Prelude.{◌≡◌, ◌<◌, ◌≤◌, ◌+◌, ℕ, List, [], ◌∷◌, ◌++◌, length, vec_capacity}
 use Rattle.std.specs.Prelude.{Result, OnOk, OnErr}
 use Rattle.age_chunk.specs.ChunkBoxes.{Seals, OpensBlock}
@@ -13,8 +13,8 @@ use Rattle.age_stream.specs.declared.replay.ReplayState.{ReplayState}
 
 -- ---- What a replay stands for. A chunk has n bytes.
 
--- its key, the opener of the current segment, the text that is held, how many bytes there is room
--- for with no more memory, and how many restarts were refused
+-- a replay's key, the opener of the current segment, the text that is held, how many bytes there is
+-- room for with no more memory, and how many restarts were refused
 pub record ReplayView (B : Type 0) : Type 0 where
   pub key : B
   pub opener : OpenerView B
@@ -81,15 +81,15 @@ module _ {B : Type 0} (sealing : B → Seals) (opening : B → OpensBlock) (n : 
     -- its key stays
     pub key : new.key ≡ old.key
 
+-- ---- What a drill answers. A chunk has n bytes.
+
 -- the bytes of a delivery
 abbrev pub bytes_in : Delivery → List ℕ
 bytes_in (Piece piece) = piece.now
 bytes_in End = []
 bytes_in (Restart k) = []
 
--- ---- What a drill answers. A chunk has n bytes.
-
--- it is what the definition holds after these deliveries
+-- a drill answers what the definition holds after these deliveries
 pub record IsHeldAfter (opening : OpensBlock) (n : ℕ) (deliveries : List Delivery)
     (drill : Drill) : Type 0 where
   pub text : drill.text.items ≡ text_held opening n (standing opening n deliveries)

@@ -1,4 +1,4 @@
--- The types of the opener and of the sealer, as the logic holds them.
+-- The types of an opener and of a sealer, as the logic holds them.
 use Rattle.std.specs.Prelude.{[]}
 use Rattle.std.specs.Borrow.{RattleType}
 use mir.Syntax.{named}

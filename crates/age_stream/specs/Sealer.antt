@@ -1,4 +1,4 @@
--- The sealer.
+-- What a sealer stands for, what its calls answer, and how a whole text is sealed.
 use Rattle.std.specs.Prelude.{◌≡◌, ℕ, ◌-◌, List, [], ◌∷◌, Option, Some, None, length, min, Bool}
 use Rattle.std.specs.Prelude.{nat_lt, ◌==◌, ◌&&◌, ◌||◌, if◌then◌else◌, ◌<◌, ◌++◌, take, true, false}
 use Rattle.std.specs.Prelude.{Result, IfOk, IfErr, IfSome, OnOk, OnErr, ◌+◌, ◌*◌, ◌≤◌}
@@ -19,8 +19,8 @@ use Rattle.age_stream.specs.declared.whole_text.SealFault.TheVariants.{Stream, M
 
 -- ---- What a sealer stands for, and what its calls answer. A chunk has n bytes.
 
--- its key, the text of the chunk that is open, that chunk's number, whether it was refused, and
--- whether the last chunk was sealed
+-- a sealer's key, the text of the chunk that is open, that chunk's number, whether it was refused,
+-- and whether the last chunk was sealed
 pub record SealerView (B : Type 0) : Type 0 where
   pub key : B
   pub held : List ℕ
@@ -69,7 +69,7 @@ step_len n held piece =
 -- ---- What a sealer's calls answer, and what it is once a call returned and what was lent is back.
 -- A chunk has n bytes.
 
--- it holds what it held, and was refused
+-- a sealer holds what it held, and was refused
 pub record IsRefused {B : Type 0} (old new : SealerView B) : Type 0 where
   pub key : new.key ≡ old.key
   pub held : new.held ≡ old.held
@@ -151,8 +151,8 @@ module _ {B : Type 0} (sealing : B → Seals) (size : ℕ) (old : SealerView B) 
 
 -- ---- How a whole text is sealed, and why it isn't. A chunk has n bytes.
 
--- it has more than 2^48 chunks, which is reported at the last that a payload may have; or memory
--- was refused, if the payload has more bytes than there was room for
+-- a text has more than 2^48 chunks, which is reported at the last that a payload may have; or
+-- memory was refused, if the payload has more bytes than there was room for
 abbrev pub SealRefuses : ℕ → List ℕ → ℕ → SealFault → Type 0
 SealRefuses n text room (Stream fault) = (chunk_limit * n < length text)
     × (fault ≡ too_many (chunk_limit - 1))
@@ -184,12 +184,14 @@ module _ (sealing : Seals) (opening : OpensBlock) (n : ℕ) (text : List ℕ) wh
     -- a refusal has a reason; there was no room before
     pub refused : IfErr answer (SealRefuses n text 0)
 
--- its number in the list of all faults
+-- ---- How a refusal is numbered among all faults.
+
+-- the number of a refusal in the list of all faults
 abbrev pub seal_fault_number : SealFault → ℕ
 seal_fault_number (Stream fault) = stream_fault_number fault.kind
 seal_fault_number Memory = 28
 
--- its chunk, if it has one
+-- the chunk of a refusal, if it has one
 abbrev pub seal_fault_place : SealFault → Option ℕ
 seal_fault_place (Stream fault) = Some fault.chunk
 seal_fault_place Memory = None

@@ -1,4 +1,4 @@
--- What a segment of a payload holds: the bytes from one start to the next, in any deliveries.
+-- What an opener makes of a payload, and what text is held after any deliveries of it.
 use Rattle.std.specs.Prelude.{ℕ, ◌+◌, ◌*◌, ◌/◌, Bool, true, false, not, ◌||◌, ◌&&◌, ◌==◌, nat_lt}
 use Rattle.std.specs.Prelude.{List, [], ◌∷◌, ◌++◌, length, take, drop, Option, Some, None, is_some}
 use Rattle.std.specs.Prelude.{is_none, if◌then◌else◌, nat_le, min}

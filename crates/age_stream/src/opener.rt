@@ -117,7 +117,8 @@ impl<'k, B: ChunkBox, const SEALED: usize> OpenerState<'k, B, SEALED> {
         }
     }
 
-    /// Takes what it takes of a piece, and says whether a text then stands in the buffer.
+    /// Takes the beginning of a piece; returns how many bytes, and whether the buffer now holds a
+    /// text.
     fn advance(&mut self, piece: &[u8]) -> Result<(usize, bool), StreamFault>
         ensures { OpenerAdvances B.sealing B.opening self.old piece.now result self.new }
     {
@@ -155,7 +156,7 @@ impl<'k, B: ChunkBox, const SEALED: usize> OpenerState<'k, B, SEALED> {
         Err(self.fail(StreamKind::ChunkDamaged))
     }
 
-    /// An end if no block is open.
+    /// Takes an end if no block is open.
     fn end_closed(&mut self) -> Result<usize, StreamFault>
         requires { self.old.status ≢ Status.Open }
         ensures { EndsNone self.old result self.new }
@@ -380,7 +381,8 @@ fn open_in<B: ChunkBox, const SEALED: usize>(
     key.open_at(&nonce_of(index, last), buffer.as_mut_slice())
 }
 
-/// Whether this many bytes, at an end, are a chunk without text after others, which no writer makes.
+/// Whether this many bytes, at an end, are a chunk without text after others, which no writer
+/// makes.
 fn is_empty_last(len: usize, index: u64) -> bool
     ensures { result ≡ (len == tag_length && nat_lt 0 index) }
 {

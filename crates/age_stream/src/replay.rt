@@ -43,7 +43,8 @@ impl<'k, B: ChunkBox, const SEALED: usize> ReplayState<'k, B, SEALED> {
     ghost use Rattle.age_stream.specs.Segment.{after_delivery};
     ghost use Rattle.age_stream.specs.declared.delivery.Delivery.TheVariants.{End, Restart};
 
-    /// Feeds the beginning of a piece, and returns how much was taken, unless the opener refused it.
+    /// Feeds the beginning of a piece, and returns how much was taken, unless the opener refused
+    /// it.
     fn feed_once(&mut self, piece: &[u8]) -> Option<usize>
         requires some { 0 < length piece.now }
         requires room { self.old.opener.status ≡ Status.Open → vec_len self.old.text
@@ -193,7 +194,8 @@ impl<'k, B: ChunkBox, const SEALED: usize> ReplayState<'k, B, SEALED> {
         }
     }
 
-    /// The same, for each list of deliveries that it was given.
+    /// Takes a delivery, as `deliver` does; the contract is about each list of deliveries that it
+    /// was given.
     fn take(&mut self, delivery: &Delivery<'_>) -> Result<(), Memory>
         ensures { TakesDelivery B.sealing B.opening (text_length SEALED)
             (replay_view self.old) delivery.now result (replay_view self.new) }

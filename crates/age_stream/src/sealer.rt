@@ -87,7 +87,8 @@ impl<'k, B: ChunkBox, const SEALED: usize> SealerState<'k, B, SEALED> {
         Ok((1, true))
     }
 
-    /// The same, for each text that the sealer may have been given.
+    /// Takes the beginning of a piece, as `step` does; the contract is about each text that the
+    /// sealer may have been given.
     fn advance(&mut self, piece: &[u8]) -> Result<(usize, bool), StreamFault>
         requires { self.old.finished ≡ false }
         ensures { SealerAdvances B.sealing self.old piece.now result self.new }
@@ -111,7 +112,8 @@ impl<'k, B: ChunkBox, const SEALED: usize> SealerState<'k, B, SEALED> {
         Ok(())
     }
 
-    /// The same, for each text that the sealer may have been given.
+    /// Seals the last chunk, as `close` does; the contract is about each text that the sealer may
+    /// have been given.
     fn close_text(&mut self) -> Result<(), StreamFault>
         requires { self.old.finished ≡ false }
         ensures last { SealerSealsLast self.old result self.new }

@@ -131,8 +131,8 @@ fn seal_within<B: ChunkBox, const SEALED: usize>(
     Ok(())
 }
 
-/// How many bytes the payload of a text has, in chunks of this many bytes, unless it is too long for
-/// any memory.
+/// How many bytes the payload of a text has, in chunks of this many bytes, unless it is too long
+/// for any memory.
 fn payload_len(text_len: usize, chunk_len: usize) -> Option<usize>
     requires { 0 < chunk_len }
     ensures len { IfSome result

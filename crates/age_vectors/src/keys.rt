@@ -48,7 +48,8 @@ fn answer<U: Unlock>(alloc: Global, header: &Header, unlock: &U) -> Result<[u8; 
     }
 }
 
-/// Whether the header in a text opens; 0 if the text has none.
+/// The file key that the header in a text opens to, or its fault's number; 0 if the text has no
+/// header.
 pub(crate) fn opened<U: Unlock>(alloc: Global, text: &[u8], unlock: &U) -> Result<[u8; 16], u8>
     ensures { IfOk result (OpensIn (U.allows unlock.now) text.now) }
 {

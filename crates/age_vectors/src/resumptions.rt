@@ -62,7 +62,7 @@ pub(crate) fn resume_rows(alloc: Global, example: &Example) -> bool {
         failure: Failure::None,
         old_pull: None,
     };
-    goes_on_from_each_stop(alloc, example)
+    resumes_from_each_stop(alloc, example)
         && goes_on(alloc, example, &rest)
         && refuses_others(alloc, &rest)
         && refuses_old_texts(alloc, example, &rest)
@@ -81,7 +81,7 @@ fn goes_on(alloc: Global, example: &Example, rest: &Rest<'_>) -> bool {
 }
 
 /// Whether a run with what was handed out and written before writes the whole text.
-fn goes_on_from(alloc: Global, example: &Example, position: Position, old: &[u8]) -> bool {
+fn resumes_from(alloc: Global, example: &Example, position: Position, old: &[u8]) -> bool {
     let rest = Rest {
         file: example.file.as_slice(),
         old,
@@ -93,21 +93,21 @@ fn goes_on_from(alloc: Global, example: &Example, position: Position, old: &[u8]
 }
 
 /// The first pull gives header and nonce.
-fn goes_on_from_each_stop(alloc: Global, example: &Example) -> bool {
+fn resumes_from_each_stop(alloc: Global, example: &Example) -> bool {
     for pull in 1..22 {
-        if !goes_on_from_stop(alloc, example, Failure::Pull(pull)) {
+        if !resumes_from_stop(alloc, example, Failure::Pull(pull)) {
             return false;
         }
     }
     for put in 0..23 {
-        if !goes_on_from_stop(alloc, example, Failure::Put(put)) {
+        if !resumes_from_stop(alloc, example, Failure::Put(put)) {
             return false;
         }
     }
     true
 }
 
-fn goes_on_from_stop(alloc: Global, example: &Example, failure: Failure) -> bool {
+fn resumes_from_stop(alloc: Global, example: &Example, failure: Failure) -> bool {
     match decrypted(alloc, example.file.as_slice(), failure) {
         Some(
             (
@@ -119,7 +119,7 @@ fn goes_on_from_stop(alloc: Global, example: &Example, failure: Failure) -> bool
                 ),
                 text,
             ),
-        ) => goes_on_from(alloc, example, position, text.as_slice()),
+        ) => resumes_from(alloc, example, position, text.as_slice()),
         _ => false,
     }
 }
@@ -143,7 +143,8 @@ fn writes_none(alloc: Global, rest: &Rest<'_>, number: u8) -> bool {
     }
 }
 
-/// Whether the run stops with this fault, without a position, after this many bytes of the old text.
+/// Whether the run stops with this fault, without a position, after this many bytes of the old
+/// text.
 fn writes_old(alloc: Global, rest: &Rest<'_>, number: u8, len: usize) -> bool {
     match refused(alloc, rest, number) {
         Some(text) => is_front(text.as_slice(), len, rest.old),
@@ -300,7 +301,7 @@ fn stops(alloc: Global, example: &Example, rest: &Rest<'_>, failure: Failure, le
         None => len < 131_072,
         Some(position) => {
             has_text(alloc, &position, POSITIONS.get(len / CHUNK_LEN))
-                && goes_on_from(alloc, example, position, text.as_slice())
+                && resumes_from(alloc, example, position, text.as_slice())
         }
     };
     goes_on

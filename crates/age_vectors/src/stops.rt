@@ -188,8 +188,8 @@ fn file_after(puts: u64) -> usize {
     (165 + blocks).min(200_229) as usize
 }
 
-/// How much of the text this many pulls make: a block is opened once it is whole. The last one waits
-/// for the end.
+/// How much of the text this many pulls make: a block is opened once it is whole. The last one
+/// waits for the end.
 fn opened_after(pulls: u64) -> usize {
     let file = (pulls as u128 * 10_000).min(200_229);
     (file.saturating_sub(165) / BLOCK * CHUNK) as usize

@@ -1,5 +1,5 @@
--- Private: no public contract cites this module. How files are opened, and the random bytes of an
--- encryption.
+-- How files are opened, and the random bytes of an encryption. Private: no public contract cites
+-- this module.
 use Rattle.std.specs.Prelude.{◌≡◌, ◌⊎◌, Some, Option, None, ◌++◌, true, false, Bool, List, Result}
 use Rattle.std.specs.Prelude.{IfOk, OnOk, OnErr, IfErr, ℕ, length}
 use Rattle.clap.specs.Words.{Text}
@@ -23,7 +23,7 @@ abbrev pub IsReadAs : Decrypting → Text → Type 0
 IsReadAs d name = (d.from.now ≡ name)
     ⊎ ((option_text d.identity.pass ≡ Some name) ⊎ (option_text d.identity.shared ≡ Some name))
 
--- ---- The bytes under each name, and what a command changes.
+-- ---- The position that is saved.
 
 -- the position stands in the file of this name, if both are there, and nothing differs if one isn't
 abbrev pub Saves : Option Text → Option Position → Files → Files → Type 0

@@ -251,7 +251,7 @@ fn saved_and_resumed(rt: HostRuntime) {
 }
 
 /// Whether a stop whose position can't be saved reports that too.
-fn is_told_unsaved(alloc: Global) -> bool {
+fn reports_unsaved(alloc: Global) -> bool {
     let Some(mut files) = sealed_files(alloc, 150_000) else {
         return false;
     };
@@ -263,7 +263,7 @@ fn is_told_unsaved(alloc: Global) -> bool {
 }
 
 /// Whether an output that can't be made is a fault of writing, and a missing input one of reading.
-fn is_told_unwritten(alloc: Global) -> bool {
+fn reports_unwritten(alloc: Global) -> bool {
     let Some(mut files) = sealed_files(alloc, ROOM) else {
         return false;
     };
@@ -276,8 +276,8 @@ fn is_told_unwritten(alloc: Global) -> bool {
         && files.get("OTHER").is_none()
 }
 
-/// Whether an encryption reports each pull of its input.
-fn is_encryption_told(alloc: Global) -> bool {
+/// Whether an encryption whose output can't be made is a fault of writing.
+fn reports_unwritten_encryption(alloc: Global) -> bool {
     let Some(mut files) = files_of(alloc, 3) else {
         return false;
     };
@@ -288,9 +288,9 @@ fn is_encryption_told(alloc: Global) -> bool {
 
 #[test]
 fn names_that_are_refused(rt: HostRuntime) {
-    assert!(rt; is_told_unsaved(rt.alloc()));
-    assert!(rt; is_told_unwritten(rt.alloc()));
-    assert!(rt; is_encryption_told(rt.alloc()));
+    assert!(rt; reports_unsaved(rt.alloc()));
+    assert!(rt; reports_unwritten(rt.alloc()));
+    assert!(rt; reports_unwritten_encryption(rt.alloc()));
 }
 
 /// Whether names that have to differ are refused, and no file is made.

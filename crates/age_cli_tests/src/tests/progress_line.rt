@@ -79,7 +79,7 @@ fn shows_runs(rt: HostRuntime) -> Result<(), Fail> {
 
 /// The sink's calls are a put and a flush of each line. A put fails, or a flush.
 #[test]
-fn goes_on_behind_a_failed_line(rt: HostRuntime) -> Result<(), Fail> {
+fn continues_after_a_failed_line(rt: HostRuntime) -> Result<(), Fail> {
     for (call, wanted) in [
         (0, " 50 %  5 of 10 B\r 80 %  8 of 10 B\r\n"),
         (

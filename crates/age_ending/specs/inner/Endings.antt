@@ -1,5 +1,5 @@
--- Private: no public contract cites this module. How runs end, and what a call leaves that puts
--- bytes into a sink.
+-- How runs end, and what a call leaves that puts bytes into a sink. Private: no public contract
+-- cites this module.
 use Rattle.std.specs.Prelude.{◌≡◌, ℕ, List, Result, OnOk, OnErr}
 use Rattle.std.specs.Io.KnownBytes.{Appends}
 use Rattle.age_io.specs.Io.{SinkView}

@@ -1,4 +1,5 @@
--- Private: no public contract cites this module. Copying the old text, and skipping its blocks.
+-- What reading the nonce, skipping blocks and copying the old text do. Private: no public contract
+-- cites this module.
 use Rattle.std.specs.Prelude.{◌≡◌, ℕ, ◌^◌, ◌<◌, ◌≤◌, List, [], ◌++◌, length, Option, Result, Bool}
 use Rattle.std.specs.Prelude.{Ok, Err, true, false, ◌+◌, ◌*◌, ◌≢◌, Some, IsSome, MatchResult}
 use Rattle.std.specs.Io.KnownBytes.{IsAtEnd, Appends}

@@ -1,4 +1,4 @@
--- Private: no public contract cites this module. Decrypting, around the payload.
+-- How a decryption ends, around its payload. Private: no public contract cites this module.
 use Rattle.std.specs.Prelude.{ℕ, List, [], Option, ◌≡◌, Some, None, IsSomeAnd, Result, Ok, Err}
 use Rattle.age_cipher.specs.Aead.{sealing, opening}
 use Rattle.age_chunk.specs.Payload.{chunk_length}

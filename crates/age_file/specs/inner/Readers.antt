@@ -1,4 +1,5 @@
--- Private: no public contract cites this module. A source and a sink, and what was pulled.
+-- Where a run stands, what pulls into the intake did, and a header that is being read. Private: no
+-- public contract cites this module.
 use Rattle.std.specs.Prelude.{◌≡◌, ℕ, ◌+◌, ◌*◌, ◌^◌, ◌<◌, ◌≤◌, List, [], ◌++◌, length, Option}
 use Rattle.std.specs.Prelude.{Result, Ok, Err, Bool, true, false, ◌⊎◌, take, drop, Some, None}
 use Rattle.std.specs.Io.KnownBytes.{Consumes, IsAtEnd}

@@ -1,4 +1,4 @@
--- Private: no public contract cites this module. Encrypting.
+-- What encrypting does, call by call. Private: no public contract cites this module.
 use Rattle.std.specs.Prelude.{◌≡◌, ℕ, List, ◌++◌, length, Result, MatchResult, ◌+◌, ◌-◌, ◌*◌, ◌^◌}
 use Rattle.std.specs.Prelude.{◌<◌, ◌≤◌, [], IfOk, IfErr, OnOk, true, false}
 use Rattle.std.specs.Io.KnownBytes.{Appends, Consumes, IsAtEnd}
@@ -17,7 +17,7 @@ use Rattle.age_file.specs.inner.Readers.{WriterView}
 use Rattle.age_file.specs.Runs.{IsByAllPulls, Ports, NoneFailed, ReadFailed, WriteFailed}
 use Rattle.age_file.specs.declared.encryption.Written.{Written}
 
--- ---- What an encryption did.
+-- ---- What stands before the payload.
 
 -- what stands before the payload: the header's text and the payload nonce
 pub record BeginsFile (s : SecretView) (bytes : List ℕ) : Type 0 where
@@ -147,7 +147,7 @@ module _ {B : Type 0} (sealing : B → List ℕ → List ℕ → List ℕ) (n : 
     pub answered : MatchResult result (λ _. (unwritten ≡ []) × (now.sink.failed ≡ was.sink.failed))
         (λ fault. (fault ≡ Write) × HasFailed was.sink.failed now.sink.failed now.sink.failing)
 
--- ---- a whole source
+-- ---- A whole source.
 
 -- this much was read from a source, and this much written
 pub record ReadsWrites (old new : Ports) (written_old written_new : ℕ) (text out : List ℕ)

@@ -1,5 +1,5 @@
--- Private: no public contract cites this module. The pieces in which the first bytes of a source
--- come.
+-- The pieces in which the first bytes of a source come. Private: no public contract cites this
+-- module.
 use Rattle.std.specs.Prelude.{◌≡◌, ℕ, ◌≤◌, List, take, Option}
 use Rattle.std.specs.Io.KnownBytes.{Consumes, IsAtEnd}
 

@@ -130,7 +130,7 @@ fn low_work_factors(rt: HostRuntime) -> Result<(), Fail> {
 /// Run it with each allocation refused in turn (checks/allocations): the call that met the refusal
 /// says so, and the next one makes the key.
 #[test]
-fn a_refusal_is_told(rt: HostRuntime) -> Result<(), Fail> {
+fn reports_a_refusal(rt: HostRuntime) -> Result<(), Fail> {
     let mut steps = Steps::new();
     match derive(rt.alloc(), b"correct horse", &NO_SALT, 1, &mut steps) {
         Ok(key) => assert_eq!(rt; key, KEYS_AT_1[0]),

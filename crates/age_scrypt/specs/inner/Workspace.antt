@@ -1,4 +1,4 @@
--- Private: no public contract cites this module. What scrypt works on.
+-- What scrypt works on. Private: no public contract cites this module.
 use Rattle.std.specs.Prelude.{◌≡◌, ℕ, List, [], ◌∷◌, ◌++◌, slice_index, ◌<◌, length, ◌*◌, ◌%◌, ◌^◌}
 use Rattle.std.specs.Prelude.{◌≤◌, vec_len, vec_capacity}
 use Rattle.std.specs.declared.vec.Vec.{Vec}
@@ -83,7 +83,7 @@ pub record HasTableRoom {Z : Type 0} (n : ℕ) (table : Vec ℕ Z) : Type 0 wher
 pub record AreBlocks (x y : List ℕ) : Type 0 where
   -- X is one block.
   pub x_len : length x ≡ 256
-  -- So is the other.
+  -- Y is one block.
   pub y_len : length y ≡ 256
 
 -- the memory for a key of n blocks, which its caller takes

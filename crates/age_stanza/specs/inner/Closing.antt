@@ -1,5 +1,5 @@
--- Private: no public contract cites this module. What a step leaves of a parser that isn't open any
--- more.
+-- What a step leaves of a parser that isn't open any more. Private: no public contract cites this
+-- module.
 use Rattle.std.specs.Prelude.{Option, Some, None, Result, Ok, Err}
 use Rattle.age_stanza.specs.declared.fault.HeadFault.{HeadFault}
 use Rattle.age_stanza.specs.declared.head_step.HeadStep.{HeadStep}

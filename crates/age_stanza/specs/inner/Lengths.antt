@@ -1,5 +1,5 @@
--- Private: no public contract cites this module. How long texts are, and what they leave of some
--- room.
+-- How long texts are, and what they leave of some room. Private: no public contract cites this
+-- module.
 use Rattle.std.specs.Prelude.{◌≡◌, ℕ, ◌+◌, ◌<◌, ◌≤◌, length, Option, Some, None}
 use Rattle.std.specs.List.{AllByRecursion}
 use Rattle.base64.specs.GeneralPurpose.{IsBytes}

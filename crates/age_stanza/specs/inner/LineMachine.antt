@@ -1,5 +1,5 @@
--- Private: no public contract cites this module. A machine that reads a header line by line, on
--- lists: what the parser's code computes. Proofs tie it to the definitions.
+-- A machine that reads a header line by line, on lists: what the parser's code computes. Proofs tie
+-- it to the definitions. Private: no public contract cites this module.
 use Rattle.std.specs.Prelude.{◌≡◌, ◌⊎◌, ℕ, ◌+◌, ◌==◌, nat_eq, nat_lt, nat_le, Bool, true, false}
 use Rattle.std.specs.Prelude.{◌&&◌, ◌||◌, if◌then◌else◌, List, [], ◌∷◌, ◌++◌, length, drop, codes}
 use Rattle.std.specs.Prelude.{Option, Some, None, Result, Ok, Err, ◌/◌, ◌%◌, ◌≤◌, ◌<◌, take}

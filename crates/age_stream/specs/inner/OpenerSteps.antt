@@ -1,4 +1,4 @@
--- Private: no public contract cites this module. The steps of an opener.
+-- The steps of an opener. Private: no public contract cites this module.
 use Rattle.std.specs.Prelude.{ℕ, ◌+◌, Bool, true, false, ◌&&◌, ◌==◌, nat_lt, List, [], ◌∷◌, ◌++◌}
 use Rattle.std.specs.Prelude.{length, Option, Some, None, ◌≢◌, ◌≡◌, ◌-◌, ◌≤◌, ◌<◌, min, take, ⊤}
 use Rattle.std.specs.Prelude.{Result, Ok, Err, MatchResult, IfOk, IfErr, OnOk, if◌then◌else◌}
@@ -123,7 +123,7 @@ module _ {B : Type 0} {n : ℕ} {g : _} where
         × (length new.buffer.items ≡ n))
         (λ fault. (new.status ≡ Failed fault) × (outcome.texts ≡ []))
 
-  -- what `take_none` does with a piece, if no block is open
+  -- what `take_closed` does with a piece, if no block is open
   pub record TakesNone (old : OpenerState B n g) (piece : List ℕ)
       (answer : Result (ℕ × Bool) StreamFault) (new : OpenerState B n g) : Type 0 where
     -- the key stays
@@ -159,7 +159,7 @@ module _ {B : Type 0} {n : ℕ} {g : _} where
         × (flat_map (λ (text : List ℕ). text) outcome.texts ≡ take len new.buffer.items))
         (λ fault. (new.status ≡ Failed fault) × (outcome.texts ≡ []))
 
-  -- what `end_none` does, if no block is open
+  -- what `end_closed` does, if no block is open
   pub record EndsNone (old : OpenerState B n g) (answer : Result ℕ StreamFault)
       (new : OpenerState B n g) : Type 0 where
     -- an end comes at the chunk at which the opener stands, and releases no text

@@ -112,7 +112,7 @@ fn the_greatest_chunk_is_the_last(rt: HostRuntime) {
     assert!(rt; nonce_of(1, true) == *b"\0\0\0\0\0\0\0\0\0\0\x01\x01");
 }
 
-fn are_told(alloc: Global, refused: &SealFault) -> bool {
+fn are_reported(alloc: Global, refused: &SealFault) -> bool {
     match format!(in alloc; "{refused}, {}", SealFault::Memory) {
         Ok(text) => { text.as_str() == "too many chunks at chunk 281474976710655, out of memory" }
         Err(_) => false,
@@ -124,7 +124,7 @@ fn why_a_text_is_not_sealed(rt: HostRuntime) {
     let refused = SealFault::Stream(TOO_MANY);
     assert!(rt; refused.number() == 22 && refused.place() == Some(CHUNK_LIMIT - 1));
     assert!(rt; SealFault::Memory.number() == 28 && SealFault::Memory.place() == None);
-    assert!(rt; are_told(rt.alloc(), &refused));
+    assert!(rt; are_reported(rt.alloc(), &refused));
 }
 
 /// Whether a delivery is taken, at once or after a refusal that changes nothing.
@@ -172,9 +172,9 @@ fn drills_eight(alloc: Global, events: &[Delivery<'_>]) -> Result<bool, Memory> 
     Ok(holds_eight(&held))
 }
 
-/// A whole drill that is refused memory begins again.
+/// A whole drill that is refused memory says so, and then begins again.
 #[test]
-fn a_refused_drill_is_told(rt: HostRuntime) {
+fn reports_a_refused_drill(rt: HostRuntime) {
     let (_, second) = SEALED_8.split_at(20);
     let events = [
         Delivery::Piece(SEALED_8),

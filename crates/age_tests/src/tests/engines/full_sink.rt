@@ -58,7 +58,7 @@ fn is_after_two_chunks(alloc: Global, position: &Position) -> bool {
 
 /// Whether the decryption of a file stops after 150,000 bytes of its text, and is resumed to the
 /// whole.
-fn stops_and_goes_on(alloc: Global, file: &[u8], text: &[u8]) -> bool {
+fn stops_and_resumes(alloc: Global, file: &[u8], text: &[u8]) -> bool {
     let Some((Err(stopped), old)) = decrypted(alloc, file, 150_000) else {
         return false;
     };
@@ -86,5 +86,5 @@ fn a_sink_of_150_000_bytes(rt: HostRuntime) {
         return;
     };
     assert!(rt; file.len() == 200_230);
-    assert!(rt; stops_and_goes_on(rt.alloc(), file.as_slice(), text.as_slice()));
+    assert!(rt; stops_and_resumes(rt.alloc(), file.as_slice(), text.as_slice()));
 }

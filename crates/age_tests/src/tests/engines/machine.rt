@@ -52,7 +52,7 @@ impl<T: Write> Write for FailsAt<T> {
 }
 
 #[test]
-fn a_flush_that_fails_is_told_and_counted(rt: HostRuntime) {
+fn reports_and_counts_a_failed_flush(rt: HostRuntime) {
     let mut held = [0u8; 3];
     let mut sink = Writing::new(FailsAt::new(held.as_mut_slice(), 1));
     assert!(rt; sink.put(b"ab") == Ok(2));
@@ -63,7 +63,7 @@ fn a_flush_that_fails_is_told_and_counted(rt: HostRuntime) {
 }
 
 #[test]
-fn a_read_that_fails_is_told_and_counted(rt: HostRuntime) {
+fn reports_and_counts_a_failed_read(rt: HostRuntime) {
     let mut source = Reading::new(FailsAt::new(b"ab".as_slice(), 1));
     let mut into = [0u8; 1];
     assert!(rt; source.pull(&mut into) == Ok(1));

@@ -119,7 +119,7 @@ fn rest_of<'a>(
 }
 
 #[test]
-fn a_stop_is_gone_on_from(rt: HostRuntime) {
+fn a_stop_is_resumed(rt: HostRuntime) {
     for len in [131_072, 150_000, TEXT_LEN] {
         let outcome = long_rest(rt.alloc(), &after_two(), FILE_LEN, len, TEXT_LEN);
         assert!(rt; ends(&outcome, 0, TEXT_LEN, None), "at {len}");
