@@ -35,7 +35,7 @@ pub record IsRefusedAt (i : ℕ) (before : List Call) (wrong : Call) (later : Li
     : Type 0 where
   -- the calls before it answered 0
   pub zero : AllAnswer 0 before
-  -- the wrong one answered 17
+  -- the wrong call answered 17
   pub there : wrong.answer ≡ 17
   -- the reader after it says which block it was
   pub chunk : wrong.after.fault_chunk ≡ i

@@ -54,7 +54,8 @@ pub record IsFileFront (pass : List ℕ) (work : ℕ) (key salt nonce bytes : Li
   pub parts : bytes ≡ front ++ nonce
   pub size : length nonce ≡ 16
 
--- these bytes, of the random bytes, stand before the payload, and the writer was given no text
+-- the bytes are what stands before the payload, made with these random bytes, and the writer was
+-- given no text
 pub record BeginsFileFrom (pass : List ℕ) (work : ℕ) (random bytes : List ℕ) (w : Writer)
     : Type 0 where
   pub front : IsFileFront pass work (key_in random) (salt_in random) (nonce_in random) bytes

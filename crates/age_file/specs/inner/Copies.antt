@@ -183,7 +183,7 @@ abbrev pub CopiesChunk : ℕ → ReaderView → ReaderView → WriterView → Wr
     → Result (Unit {0}) FileFault → Type 0
 CopiesChunk n old new was now result = Copies (ChunkGoes n old new was now) n old new was now result
 
--- all chunks before a position were copied
+-- a number of chunks was copied
 abbrev pub CopiesAll : ℕ → ℕ → ReaderView → ReaderView → WriterView → WriterView
     → Result (Unit {0}) FileFault → Type 0
 CopiesAll n chunks old new was now result = Copies (ChunksGo n chunks old new was now) (chunks * n)
