@@ -42,17 +42,17 @@ fn measure_of(bytes: u64) -> Measure
 
 /// Appends a text for which there is room.
 fn push(line: &mut Line, text: &[u8])
-    requires { length progress_line.old.items + length text.now ≤ 256 }
-    ensures { progress_line.new.items ≡ progress_line.old.items ++ text.now }
+    requires { length line.old.items + length text.now ≤ 256 }
+    ensures { line.new.items ≡ line.old.items ++ text.now }
 {
     line.try_extend_from_slice(text).unwrap();
 }
 
 /// Appends a number in decimal.
 fn push_number(line: &mut Line, number: u64)
-    requires { length progress_line.old.items + 40 ≤ 256 }
-    ensures text { progress_line.new.items ≡ progress_line.old.items ++ decimal number }
-    ensures short { length progress_line.new.items ≤ length progress_line.old.items + 40 }
+    requires { length line.old.items + 40 ≤ 256 }
+    ensures text { line.new.items ≡ line.old.items ++ decimal number }
+    ensures short { length line.new.items ≤ length line.old.items + 40 }
 {
     let mut digits = Buffer::new();
     push(line, digits.format(number).as_bytes());
@@ -79,9 +79,9 @@ fn amount_in(size: u64, bytes: u64) -> Line
 /// Appends a text after as many spaces as it is short of the width.
 fn push_padded(line: &mut Line, width: usize, text: &[u8])
     requires width { width ≤ 6 }
-    requires room { length progress_line.old.items + (length text.now + 6) ≤ 256 }
-    ensures text { progress_line.new.items ≡ progress_line.old.items ++ padded width text.now }
-    ensures short { length progress_line.new.items ≤ length progress_line.old.items + (length text.now + 6) }
+    requires room { length line.old.items + (length text.now + 6) ≤ 256 }
+    ensures text { line.new.items ≡ line.old.items ++ padded width text.now }
+    ensures short { length line.new.items ≤ length line.old.items + (length text.now + 6) }
 {
     push(line, &b"      "[..width.saturating_sub(text.len())]);
     push(line, text);

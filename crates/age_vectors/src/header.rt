@@ -11,7 +11,7 @@ use std::alloc::{AllocError, Global};
 const SMALLEST: &[u8; 76] =
     b"age-encryption.org/v1\n-> x\n\n--- AAAAAAAAAAAAAAAAAAAAAAAAAAAAAAAAAAAAAAAAAAA\n";
 
-/// The same, and a byte of the payload.
+/// The smallest header, and a byte of the payload.
 const SMALLEST_AND_ONE: &[u8; 77] =
     b"age-encryption.org/v1\n-> x\n\n--- AAAAAAAAAAAAAAAAAAAAAAAAAAAAAAAAAAAAAAAAAAA\nZ";
 
@@ -20,7 +20,7 @@ const FULL_LINE: &[u8; 141] = b"age-encryption.org/v1\n-> x\n\
         AAAAAAAAAAAAAAAAAAAAAAAAAAAAAAAAAAAAAAAAAAAAAAAAAAAAAAAAAAAAAAAA\n\n\
         --- AAAAAAAAAAAAAAAAAAAAAAAAAAAAAAAAAAAAAAAAAAA\n";
 
-/// The same without the empty line.
+/// A body of 48 zero bytes, without the empty line.
 const NO_EMPTY_LINE: &[u8; 140] = b"age-encryption.org/v1\n-> x\n\
         AAAAAAAAAAAAAAAAAAAAAAAAAAAAAAAAAAAAAAAAAAAAAAAAAAAAAAAAAAAAAAAA\n\
         --- AAAAAAAAAAAAAAAAAAAAAAAAAAAAAAAAAAAAAAAAAAA\n";

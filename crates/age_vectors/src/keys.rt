@@ -25,7 +25,7 @@ const WRITTEN: [u8; 149] = *b"age-encryption.org/v1\n-> scrypt EBESExQVFhcYGRobH
         1z3f/yTFiUXDwVbiU/TZ2AupEaKH6mWRdiP4zJo1RGw\n\
         --- j2RWCWPgvXImsyfN390ggNwin5ht9nxij7u+aGwWgss\n";
 
-/// The same at work factor 10.
+/// The header of that passphrase at work factor 10.
 const AT_TEN: &[u8; 150] = b"age-encryption.org/v1\n-> scrypt EBESExQVFhcYGRobHB0eHw 10\n\
         Qh59WLlLxJRIkowFnzt99qkc7x6EgdHELDUQmvHY874\n\
         --- 2qY5AgJS48JZMvxeEOs4EKHsGHn1+dq7Rvg3gLXzgBM\n";

@@ -25,7 +25,7 @@ pub const X25519_HEADER: [u8; 168] =
         jZAdkj7SfLxba9aaDaLOH15VqHxjezbflkA4yhWbOAQ\n\
         --- bFHWTtINPd+NDhBKPJJS9Mjszxl4rvMbhTUfrtdiPco\n";
 
-/// Two, of which the second opens.
+/// A header of two X25519 stanzas, of which the second opens.
 const SECOND: &[u8] =
     b"age-encryption.org/v1\n-> X25519 AQIDBAUGBwgJCgsMDQ4PEBESExQVFhcYGRobHB0eHyA\n\
         j3qlNpeG/TXms2TPf47danvdz6ztdPR3yBvwF3MZghI\n\
@@ -33,7 +33,7 @@ const SECOND: &[u8] =
         saYyWtf1wzZgzf9vl9J/7nBFmW0FB4AEmpbiUeNVh+o\n\
         --- bXk/jjBCNQusHcRRx8swxJZE7qK3Mqd7ifEGAgCYmUo\n";
 
-/// The same, and another stanza between them.
+/// A header of those two, and another stanza between them.
 const OTHER_BETWEEN: &[u8] =
     b"age-encryption.org/v1\n-> X25519 AQIDBAUGBwgJCgsMDQ4PEBESExQVFhcYGRobHB0eHyA\n\
         j3qlNpeG/TXms2TPf47danvdz6ztdPR3yBvwF3MZghI\n-> x\n\n\
