@@ -10,21 +10,21 @@ ghost use Rattle.age_stanza.specs.Parsing.{memory_fault};
 use crate::argument::Argument;
 use crate::fault::HeadFault;
 use crate::header::{Header, Stanza};
-use crate::text::LINE_BYTES;
+use crate::lengths::{COLUMNS, LINE_BYTES, MAC_CHARACTERS, VERSION};
 use crate::valid::text_len;
 use base64::engine::general_purpose::STANDARD_NO_PAD;
 use std::alloc::{AllocError, Global};
 
-/// How many bytes of a header's text follow what its MAC covers: a space, the MAC's 43 characters
-/// and LF.
-const AFTER_MAC_TEXT: usize = 45;
+/// How many bytes of a header's text follow what its MAC covers: a space, the MAC's characters and
+/// LF.
+const AFTER_MAC_TEXT: usize = 1 + MAC_CHARACTERS + 1;
 
 /// Writes the text of no more bytes than one line spells.
 fn put_text(out: &mut Vec<u8>, bytes: &[u8]) -> Result<(), AllocError>
     requires { length bytes.now ≤ 48 }
     ensures { OnOk result (out.new.items ≡ out.old.items ++ base64_text bytes.now) }
 {
-    let mut characters = [0u8; 64];
+    let mut characters = [0u8; COLUMNS];
     let Ok(len) = STANDARD_NO_PAD.encode_slice(bytes, &mut characters) else {
         unreachable!();
     };
@@ -89,7 +89,8 @@ fn front_text(alloc: Global, header: &Header, len: usize) -> Result<Vec<u8>, All
     ensures { IfOk result (λ bytes. bytes.items ≡ mac_text header.now) }
 {
     let mut out = Vec::with_capacity(alloc, len)?;
-    out.extend_from_slice(b"age-encryption.org/v1\n")?;
+    out.extend_from_slice(VERSION)?;
+    out.push(b'\n')?;
     put_stanzas(&mut out, header.stanzas.as_slice())?;
     out.extend_from_slice(b"---")?;
     Ok(out)

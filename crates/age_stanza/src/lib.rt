@@ -23,6 +23,7 @@ mod fault;
 mod head_step;
 mod header;
 mod laws;
+mod lengths;
 mod list;
 mod parser;
 mod partial;

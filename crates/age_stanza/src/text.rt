@@ -11,9 +11,6 @@ ghost use Rattle.age_stanza.specs.Text.{base64_text};
 
 use base64::engine::general_purpose::STANDARD_NO_PAD;
 
-/// The most bytes that a line of a body spells, in 64 characters.
-pub(crate) const LINE_BYTES: usize = 48;
-
 /// Reads the bytes of a body's line into `room`, and returns how many there are; `None` if it is no
 /// canonical text. So a line takes no allocation of its own.
 pub(crate) fn decode_line(line: &[u8], room: &mut [u8]) -> Option<usize>

@@ -13,6 +13,7 @@ ghost use Rattle.age_stanza.specs.inner.Lengths.{IsHeaderLength};
 use crate::HEAD_MAX;
 use crate::argument::Argument;
 use crate::header::{Header, Stanza};
+use crate::lengths::{COLUMNS, VERSION};
 
 /// Whether all bytes are visible ASCII characters.
 fn are_visible(bytes: &[u8]) -> bool
@@ -68,7 +69,7 @@ fn room_after_body(room: usize, body: &[u8]) -> Option<usize>
         return None;
     }
     let characters = characters_of(body);
-    room.checked_sub(characters + characters / 64 + 1)
+    room.checked_sub(characters + characters / COLUMNS + 1)
 }
 
 /// What a stanza's text leaves of some room.
@@ -86,7 +87,7 @@ fn room_after_stanza(room: usize, stanza: &Stanza) -> Option<usize>
 pub(crate) fn text_len(header: &Header) -> Option<usize>
     ensures { IsHeaderLength header.now result }
 {
-    let version_line = 22;
+    let version_line = VERSION.len() + 1;
     let end_line = 4 + characters_of(&header.mac) + 1;
     let mut left = HEAD_MAX - version_line - end_line;
     for stanza in header.stanzas.as_slice() {

@@ -4,13 +4,14 @@ ghost use Rattle.age_stanza.specs.inner.LineMachine.{Gives, step as step_of, end
 ghost use Rattle.age_stanza.specs.inner.LineMachine.{argument_line_result, mac_of as spec_mac_of};
 ghost use Rattle.age_stanza.specs.inner.LineMachine.{AddsLine, arguments_of as spec_arguments_of};
 
-use super::{ARMOR, ARMOR_CR, Next, Place, VERSION};
+use super::{ARMOR, ARMOR_CR, Next, Place};
 use crate::argument::Arguments;
 use crate::argument_line::arguments_of;
 use crate::fault::HeadKind;
 use crate::header::{Header, Stanza, Stanzas};
+use crate::lengths::{COLUMNS, LINE_BYTES, VERSION};
 use crate::list::Bytes;
-use crate::text::{LINE_BYTES, decode_line, mac_of};
+use crate::text::{decode_line, mac_of};
 use std::alloc::Global;
 
 /// The first line: the version, an armored file's first line, or no age file's.
@@ -47,14 +48,19 @@ fn begin(alloc: Global, stanzas: Stanzas, line: &[u8]) -> Result<Next, HeadKind>
     let Some(args) = arguments_of(alloc, line)? else {
         return Err(HeadKind::BadStanzaLine);
     };
-    Ok(Next::Go(Place::InBody(stanzas, args, Bytes::new(alloc))))
+    let body = Bytes::new(alloc);
+    Ok(Next::Go(Place::InBody {
+        stanzas,
+        args,
+        body,
+    }))
 }
 
 /// Adds what a line of a body spells.
 fn add_line(body: &mut Bytes, line: &[u8]) -> Result<(), HeadKind>
     ensures { AddsLine body.old line.now result body.new }
 {
-    if line.len() > 64 {
+    if line.len() > COLUMNS {
         return Err(HeadKind::BadBody);
     }
     let mut room = [0; LINE_BYTES];
@@ -65,7 +71,7 @@ fn add_line(body: &mut Bytes, line: &[u8]) -> Result<(), HeadKind>
     Ok(())
 }
 
-/// A line of a body. One of fewer than 64 characters is its last.
+/// A line of a body. One of fewer than [`COLUMNS`] characters is its last.
 fn body_line(
     mut stanzas: Stanzas,
     args: Arguments,
@@ -75,8 +81,12 @@ fn body_line(
     ensures { Gives result (step_of (Place.InBody stanzas args body) line.now) }
 {
     add_line(&mut body, line)?;
-    if line.len() == 64 {
-        return Ok(Next::Go(Place::InBody(stanzas, args, body)));
+    if line.len() == COLUMNS {
+        return Ok(Next::Go(Place::InBody {
+            stanzas,
+            args,
+            body,
+        }));
     }
     stanzas.push(Stanza { args, body })?;
     Ok(Next::Go(Place::Between(stanzas)))
@@ -96,6 +106,10 @@ pub(crate) fn step(alloc: Global, place: Place, line: &[u8]) -> Result<Next, Hea
                 begin(alloc, stanzas, line)
             }
         }
-        Place::InBody(stanzas, args, body) => body_line(stanzas, args, body, line),
+        Place::InBody {
+            stanzas,
+            args,
+            body,
+        } => body_line(stanzas, args, body, line),
     }
 }

@@ -16,9 +16,9 @@ added : (ss : List Stanza) (args : List (List ℕ)) (body l more new : List ℕ)
 unfolding step
 added ss args body l more new le is new-is = rw (le-ltb 64 (length l) le, is, new-is) (added_is ss args body more (nat_eq (length l) 64))
 
-pub returns-then-line-gt64 : goal.returns-then-line-gt64
+pub returns-then-line-gt-COLUMNS : goal.returns-then-line-gt-COLUMNS
 unfolding step
-returns-then-line-gt64 c = inr (λ ss args. rw (lt-ltb 64 (length c.args.line.now) c.if-line-gt64.true) refl)
+returns-then-line-gt-COLUMNS c = inr (λ ss args. rw (lt-ltb 64 (length c.args.line.now) c.if-line-gt-COLUMNS.true) refl)
 
 pub returns-in_default : goal.returns-in_default
 unfolding step
