@@ -10,8 +10,8 @@ use Rattle.std.proofs.lemmas.Bool.{le-leb, leb-true, and_parts}
 use Rattle.std.proofs.lemmas.Option.{cond_some}
 use Rattle.age_chunk.specs.ChunkBoxes.{Seals, OpensBlock, IsChunkBox, tag_length, text_length}
 use Rattle.age_chunk.specs.Payload.{chunk_length, block_length}
-use Rattle.age_chunk.specs.inner.Beyond.{are_bytes, is_text, is_block, IsChunkBoxOnBytes, no_tag}
-use Rattle.age_chunk.specs.inner.Beyond.{sealing_beyond, opening_beyond}
+use Rattle.age_chunk.specs.Beyond.{are_bytes, is_text, is_block, IsChunkBoxOnBytes, no_tag}
+use Rattle.age_chunk.specs.Beyond.{sealing_beyond, opening_beyond}
 
 by_cases : {P : Type 0} (b : Bool) → (b ≡ true → P) → (b ≡ false → P) → P
 by_cases true left right = left refl

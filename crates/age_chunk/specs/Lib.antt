@@ -1,4 +1,5 @@
 pub mod ChunkBoxes
 pub mod Payload
+pub mod Beyond
 pub mod FaultNumbers
 pub mod inner

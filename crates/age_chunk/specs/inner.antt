@@ -1,2 +1,1 @@
-pub mod Beyond
 pub mod ClearLaw

@@ -3,44 +3,39 @@
 ghost use Rattle.std.specs.Prelude.{◌≡◌, Some, None};
 ghost use Rattle.age_chunk.specs.FaultNumbers.{stream_fault_number};
 
+use std::alloc::AllocError;
 use thiserror::Error;
 
-/// Why a payload, or a text to be sealed, was refused.
+/// Why a payload, or a text to be sealed, was refused. Each kind is its number in the list of all
+/// faults.
 #[derive(Clone, Copy, Debug, PartialEq, Eq, Error)]
 pub enum StreamKind {
     /// A whole block, or the last one, opens neither as its chunk nor as the last.
     #[error("chunk damaged")]
-    ChunkDamaged,
+    ChunkDamaged = 17,
     /// The input ended with 1 to 15 bytes of a block, fewer than a tag.
     #[error("chunk cut")]
-    ChunkCut,
+    ChunkCut = 18,
     /// The last chunk is empty though chunks came before it.
     #[error("empty last chunk")]
-    EmptyLast,
+    EmptyLast = 19,
     /// The input ended before the last chunk.
     #[error("payload truncated")]
-    Truncated,
+    Truncated = 20,
     /// Bytes came after the last chunk.
     #[error("bytes after the last chunk")]
-    Trailing,
+    Trailing = 21,
     /// A further chunk would be number [`CHUNK_LIMIT`](crate::CHUNK_LIMIT).
     #[error("too many chunks")]
-    TooManyChunks,
+    TooManyChunks = 22,
 }
 
 impl StreamKind {
-    /// The kind's number in the list of all faults: 17 to 22 in the order of the variants.
+    /// The kind's number in the list of all faults.
     pub fn number(&self) -> u8
         ensures { result ≡ stream_fault_number self.now }
     {
-        match self {
-            StreamKind::ChunkDamaged => 17,
-            StreamKind::ChunkCut => 18,
-            StreamKind::EmptyLast => 19,
-            StreamKind::Truncated => 20,
-            StreamKind::Trailing => 21,
-            StreamKind::TooManyChunks => 22,
-        }
+        *self as u8
     }
 }
 
@@ -55,7 +50,7 @@ pub struct StreamFault {
 }
 
 impl StreamFault {
-    /// The fault's number: 17 to 22 in the order of the variants of [`StreamKind`].
+    /// The fault's number in the list of all faults: that of its kind.
     pub fn number(&self) -> u8
         ensures { result ≡ stream_fault_number self.now.kind }
     {
@@ -88,5 +83,11 @@ impl Memory {
         ensures { result ≡ None }
     {
         None
+    }
+}
+
+impl From<AllocError> for Memory {
+    fn from(_e: AllocError) -> Memory {
+        Memory
     }
 }

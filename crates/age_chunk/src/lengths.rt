@@ -1,4 +1,4 @@
-//! How long a chunk is, and how many a payload has.
+//! How long a chunk is, how many a payload has, and the nonce before them.
 
 /// How many bytes of text a whole chunk has: 64 KiB.
 pub const CHUNK_LEN: usize = 65_536;
@@ -11,3 +11,7 @@ pub const BLOCK_LEN: usize = CHUNK_LEN + TAG_LEN;
 
 /// How many chunks a payload has at most, 2^48.
 pub const CHUNK_LIMIT: u64 = 281_474_976_710_656;
+
+/// How many bytes the nonce has that stands before a payload, and salts its key
+/// (<https://c2sp.org/age#payload>).
+pub const PAYLOAD_NONCE_LEN: usize = 16;

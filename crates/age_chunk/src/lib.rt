@@ -9,11 +9,13 @@
 mod chunk_box;
 mod clear_box;
 mod fault;
+mod laws;
 mod lengths;
 mod nonce;
 
 pub use chunk_box::ChunkBox;
 pub use clear_box::ClearBox;
 pub use fault::{Memory, StreamFault, StreamKind};
-pub use lengths::{BLOCK_LEN, CHUNK_LEN, CHUNK_LIMIT, TAG_LEN};
+pub use laws::valid_beyond;
+pub use lengths::{BLOCK_LEN, CHUNK_LEN, CHUNK_LIMIT, PAYLOAD_NONCE_LEN, TAG_LEN};
 pub use nonce::nonce_of;

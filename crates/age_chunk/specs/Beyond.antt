@@ -1,11 +1,11 @@
 -- How a box that meets its law only on bytes, as one made of tables does, is continued to all lists
--- of numbers. `proofs/BeyondLemmas.antt` proves that it then meets the law of `ChunkBox`. No code
--- cites this: it shows that the law asks no more of a box than what it does with bytes.
-use Rattle.std.specs.Prelude.{◌≡◌, ℕ, ◌+◌, List, ◌++◌, length, take, replicate, Some, None, nat_lt}
-use Rattle.std.specs.Prelude.{nat_le, ◌&&◌, Bool, true, not, if◌then◌else◌}
+-- of numbers.
+use Rattle.std.specs.Prelude.{◌≡◌, ℕ, ◌+◌, List, ◌++◌, length, take, replicate, Some}
+use Rattle.std.specs.Prelude.{None, nat_lt, nat_le, ◌&&◌, Bool, true, not, if◌then◌else◌}
 use Rattle.std.specs.List.{list_all}
 use Rattle.std.specs.Str.{bytes_eq}
-use Rattle.age_chunk.specs.ChunkBoxes.{Seals, OpensBlock, tag_length, text_length}
+use Rattle.age_chunk.specs.ChunkBoxes.{Seals, OpensBlock, IsChunkBox, tag_length}
+use Rattle.age_chunk.specs.ChunkBoxes.{text_length}
 use Rattle.age_chunk.specs.Payload.{chunk_length, block_length}
 
 abbrev pub are_bytes : List ℕ → Bool
@@ -48,3 +48,8 @@ opening_beyond opening nonce block =
     let is_sealed = not (is_text nonce front) && bytes_eq (front ++ no_tag) block in
     if is_block nonce block then opening nonce block
     else (if is_sealed then Some front else None)
+
+-- continued so, a box that meets the law on bytes meets it
+abbrev pub BytesSuffice : Type 0
+BytesSuffice = (sealing : Seals) (opening : OpensBlock) → IsChunkBoxOnBytes sealing opening
+    → IsChunkBox (sealing_beyond sealing) (opening_beyond opening)
