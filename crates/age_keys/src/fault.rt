@@ -3,53 +3,45 @@
 ghost use Rattle.std.specs.Prelude.{◌≡◌, None};
 ghost use Rattle.age_keys.specs.Keys.{is_before_work, key_fault_number};
 
+use std::alloc::AllocError;
 use thiserror::Error;
 
-/// Why a header wasn't opened. No refusal changes anything.
+/// Why a header wasn't opened. No refusal changes anything. Each fault is its number in the list of
+/// all faults.
 #[derive(Clone, Copy, Debug, PartialEq, Eq, Error)]
 pub enum KeyFault {
     /// A stanza of type `scrypt` stands beside another stanza.
     #[error("scrypt stanza not alone")]
-    ScryptNotAlone,
+    ScryptNotAlone = 9,
     /// The scrypt stanza isn't valid: its arguments, or the length of its body.
     #[error("bad scrypt stanza")]
-    BadScrypt,
+    BadScrypt = 10,
     /// The scrypt stanza's work factor is above the limit.
     #[error("work factor too high")]
-    WorkTooHigh,
+    WorkTooHigh = 11,
     /// No stanza is of the type that is looked for.
     #[error("no matching stanza")]
-    NoMatch,
+    NoMatch = 12,
     /// The body of no stanza opens.
     #[error("wrong key")]
-    WrongKey,
-    /// The header's MAC wasn't made under the file key.
+    WrongKey = 13,
+    /// The header's MAC isn't that of the file key.
     #[error("header MAC mismatch")]
-    MacMismatch,
+    MacMismatch = 14,
     /// An X25519 stanza isn't valid, or the shared secret is zero.
     #[error("bad X25519 stanza")]
-    BadX25519,
+    BadX25519 = 15,
     /// A growth of memory was refused.
     #[error("out of memory")]
-    Memory,
+    Memory = 28,
 }
 
 impl KeyFault {
-    /// The fault's number in the list of all faults: 9 to 15 in the order of the variants, and 28
-    /// for memory.
+    /// The fault's number in the list of all faults.
     pub fn number(&self) -> u8
         ensures { result ≡ key_fault_number self.now }
     {
-        match self {
-            KeyFault::ScryptNotAlone => 9,
-            KeyFault::BadScrypt => 10,
-            KeyFault::WorkTooHigh => 11,
-            KeyFault::NoMatch => 12,
-            KeyFault::WrongKey => 13,
-            KeyFault::MacMismatch => 14,
-            KeyFault::BadX25519 => 15,
-            KeyFault::Memory => 28,
-        }
+        *self as u8
     }
 
     /// Whether it is found by looking at the header, before a body is tried: then no step of scrypt
@@ -72,5 +64,25 @@ impl KeyFault {
         ensures { result ≡ None }
     {
         None
+    }
+}
+
+impl From<AllocError> for KeyFault {
+    ghost use Rattle.age_keys.specs.declared.fault.KeyFault.TheVariants.{Memory as MemoryFault};
+
+    ghost from_gives = { λ _ e. e ≡ MemoryFault };
+
+    fn from(_e: AllocError) -> KeyFault {
+        KeyFault::Memory
+    }
+}
+
+impl From<age_scrypt::Memory> for KeyFault {
+    ghost use Rattle.age_keys.specs.declared.fault.KeyFault.TheVariants.{Memory as MemoryFault};
+
+    ghost from_gives = { λ _ e. e ≡ MemoryFault };
+
+    fn from(_e: age_scrypt::Memory) -> KeyFault {
+        KeyFault::Memory
     }
 }

@@ -45,10 +45,7 @@ pub(crate) fn wrap_key(
     let mut labelled = [0; 44];
     labelled[..28].copy_from_slice(LABEL);
     labelled[28..].copy_from_slice(salt);
-    match age_scrypt::derive(alloc, pass, &labelled, log, steps) {
-        Ok(key) => Ok(key),
-        Err(_) => Err(KeyFault::Memory),
-    }
+    Ok(age_scrypt::derive(alloc, pass, &labelled, log, steps)?)
 }
 
 /// Whether all characters are decimal digits.
@@ -203,9 +200,7 @@ pub fn scrypt_header(
     ensures memory { IfErr result (λ fault. fault ≡ Memory) }
 {
     let wrap_key = wrap_key(alloc, pass, salt, log, &mut Steps::new())?;
-    let Ok(mut header) = header_of(alloc, salt, log, &wrapped_key(&wrap_key, key)) else {
-        return Err(KeyFault::Memory);
-    };
+    let mut header = header_of(alloc, salt, log, &wrapped_key(&wrap_key, key))?;
     header.mac = mac_of(alloc, &header, key)?;
     Ok(header)
 }

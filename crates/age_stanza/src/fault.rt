@@ -7,56 +7,46 @@ use std::alloc::AllocError;
 use std::{error, fmt};
 use thiserror::Error;
 
-/// Why a header was refused.
+/// Why a header was refused. Each kind is its number in the list of all faults.
 #[derive(Clone, Copy, Debug, PartialEq, Eq, Error)]
 pub enum HeadKind {
     /// The first line isn't the version line.
     #[error("not an age file")]
-    NotAge,
-    /// The first line is an armored file's, which isn't read.
+    NotAge = 1,
+    /// The first line is that of an armored file, which isn't read.
     #[error("armored")]
-    Armored,
-    /// A line after the version line or a whole stanza is neither a valid argument line nor begins
-    /// with `---`.
+    Armored = 2,
+    /// A line after the version line or a whole stanza is neither a valid
+    /// argument line nor begins with `---`.
     #[error("bad stanza line")]
-    BadStanzaLine,
+    BadStanzaLine = 3,
     /// A line of a body isn't canonical base64 of at most 64 characters.
     #[error("bad body")]
-    BadBody,
+    BadBody = 4,
     /// A line that begins with `---` isn't a valid end line.
     #[error("bad end line")]
-    BadEndLine,
+    BadEndLine = 5,
     /// The end line came before any stanza.
     #[error("no stanza")]
-    NoStanza,
-    /// [`HEAD_MAX`](crate::HEAD_MAX) bytes hold no whole header and no faulty line.
+    NoStanza = 6,
+    /// [`HEAD_MAX`](crate::HEAD_MAX) bytes hold no whole header and no faulty
+    /// line.
     #[error("header too long")]
-    HeadTooLong,
+    HeadTooLong = 7,
     /// The input ended inside the header.
     #[error("header cut")]
-    HeadCut,
+    HeadCut = 8,
     /// A growth of memory was refused.
     #[error("out of memory")]
-    Memory,
+    Memory = 28,
 }
 
 impl HeadKind {
-    /// The kind's number in the list of all faults: 1 to 8 in the order of the variants, and 28 for
-    /// memory.
+    /// The kind's number in the list of all faults.
     pub fn number(&self) -> u8
         ensures { result ≡ head_fault_number self.now }
     {
-        match self {
-            HeadKind::NotAge => 1,
-            HeadKind::Armored => 2,
-            HeadKind::BadStanzaLine => 3,
-            HeadKind::BadBody => 4,
-            HeadKind::BadEndLine => 5,
-            HeadKind::NoStanza => 6,
-            HeadKind::HeadTooLong => 7,
-            HeadKind::HeadCut => 8,
-            HeadKind::Memory => 28,
-        }
+        *self as u8
     }
 }
 
@@ -80,8 +70,7 @@ pub struct HeadFault {
 }
 
 impl HeadFault {
-    /// The fault's number: 1 to 8 for what is wrong with a header, in the order of the variants of
-    /// [`HeadKind`], and 28 if memory was refused.
+    /// The fault's number in the list of all faults: that of its kind.
     pub fn number(&self) -> u8
         ensures { result ≡ head_fault_number self.now.kind }
     {
