@@ -8,6 +8,7 @@
 
 mod durability;
 mod failed;
+mod failures;
 mod mem_sink;
 mod mem_source;
 mod meter;
@@ -17,6 +18,7 @@ mod source;
 
 pub use durability::Durability;
 pub use failed::{Failed, Memory};
+pub use failures::Failures;
 pub use mem_sink::MemSink;
 pub use mem_source::MemSource;
 pub use meter::Meter;

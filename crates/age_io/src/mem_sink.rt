@@ -6,6 +6,7 @@ ghost use Rattle.std.specs.Io.KnownBytes.{WriteAppends, Keeps};
 ghost use Rattle.age_io.specs.Io.{Holding, Puts, Flushes};
 
 use crate::failed::{Failed, Memory};
+use crate::failures::Failures;
 use crate::sink::Sink;
 use std::alloc::Global;
 use std::marker::Model;
@@ -20,8 +21,7 @@ pub struct MemSink {
     step: usize,
     fail_call: Option<u64>,
     calls: u64,
-    failed: u64,
-    failing: bool,
+    failures: Failures,
     settled: bool,
 }
 
@@ -34,8 +34,8 @@ impl Model for MemSink {
       step = s.step;
       fail_call = s.fail_call;
       calls = s.calls;
-      failures = s.failed;
-      failing = s.failing;
+      failures = s.failures.count;
+      failing = s.failures.last;
       settled = s.settled;
     } };
 
@@ -72,8 +72,7 @@ impl MemSink {
             step,
             fail_call,
             calls: 0,
-            failed: 0,
-            failing: false,
+            failures: Failures::none(),
             settled: false,
         })
     }
@@ -112,15 +111,12 @@ impl Sink for MemSink {
         self.calls = call.saturating_add(1);
         let n = self.step.min(from.len()).min(self.room - self.held.len());
         if self.fail_call == Some(call) || (n == 0 && !from.is_empty()) {
-            self.failed = self.failed.saturating_add(1);
-            self.failing = true;
-            return Err(Failed);
+            return self.failures.note(Err(Failed));
         }
-        self.failing = false;
         // The room was reserved.
         self.held.extend_from_slice(&from[..n]).unwrap();
         self.settled = false;
-        Ok(n)
+        self.failures.note(Ok(n))
     }
 
     fn flush(&mut self) -> Result<(), Failed>
@@ -131,16 +127,13 @@ impl Sink for MemSink {
         let call = self.calls;
         self.calls = call.saturating_add(1);
         if self.fail_call == Some(call) {
-            self.failed = self.failed.saturating_add(1);
-            self.failing = true;
-            return Err(Failed);
+            return self.failures.note(Err(Failed));
         }
-        self.failing = false;
         self.settled = true;
-        Ok(())
+        self.failures.note(Ok(()))
     }
 
     fn failures(&self) -> u64 {
-        self.failed
+        self.failures.count
     }
 }

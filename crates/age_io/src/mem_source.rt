@@ -6,6 +6,7 @@ ghost use Rattle.std.specs.Io.KnownBytes.{ReadConsumes};
 ghost use Rattle.age_io.specs.Io.{Feeding, Pulls};
 
 use crate::failed::Failed;
+use crate::failures::Failures;
 use crate::source::Source;
 use std::marker::Model;
 
@@ -18,8 +19,7 @@ pub struct MemSource {
     step: usize,
     fail_call: Option<u64>,
     calls: u64,
-    failed: u64,
-    failing: bool,
+    failures: Failures,
 }
 
 impl Model for MemSource {
@@ -30,8 +30,8 @@ impl Model for MemSource {
       step = s.step;
       fail_call = s.fail_call;
       calls = s.calls;
-      failures = s.failed;
-      failing = s.failing;
+      failures = s.failures.count;
+      failing = s.failures.last;
     } };
 
     ghost invariant = { λ s. (s.at ≤ length s.bytes.items) × (0 < s.step) };
@@ -57,8 +57,7 @@ impl MemSource {
             step,
             fail_call,
             calls: 0,
-            failed: 0,
-            failing: false,
+            failures: Failures::none(),
         }
     }
 
@@ -97,19 +96,16 @@ impl Source for MemSource {
         let call = self.calls;
         self.calls = call.saturating_add(1);
         if self.fail_call == Some(call) {
-            self.failed = self.failed.saturating_add(1);
-            self.failing = true;
-            return Err(Failed);
+            return self.failures.note(Err(Failed));
         }
         let n = self.step.min(into.len()).min(self.bytes.len() - self.at);
         let end = self.at + n;
         copy_front(&self.bytes[self.at..], into, n);
         self.at = end;
-        self.failing = false;
-        Ok(n)
+        self.failures.note(Ok(n))
     }
 
     fn failures(&self) -> u64 {
-        self.failed
+        self.failures.count
     }
 }

@@ -7,6 +7,7 @@ ghost use Rattle.age_io.specs.Io.{one_more, SinkView};
 ghost use Rattle.std.specs.Coded.{coded_ℕ, coded×, coded_bool};
 
 use crate::failed::Failed;
+use crate::failures::Failures;
 use std::io::Write;
 use std::marker::Model;
 
@@ -50,8 +51,7 @@ pub trait Sink {
 #[derive(Debug, Drop)]
 pub struct Writing<W: Write> {
     inner: W,
-    failed: u64,
-    failing: bool,
+    failures: Failures,
 }
 
 impl<W: Write> Model for Writing<W> {
@@ -59,7 +59,7 @@ impl<W: Write> Model for Writing<W> {
 
     ghost coded = { coded× W.code (coded× coded_ℕ coded_bool) };
 
-    ghost view = { λ s. (s.inner, (s.failed, s.failing)) };
+    ghost view = { λ s. (s.inner, (s.failures.count, s.failures.last)) };
 }
 
 impl<W: Write> Writing<W> {
@@ -69,8 +69,7 @@ impl<W: Write> Writing<W> {
     {
         Writing {
             inner,
-            failed: 0,
-            failing: false,
+            failures: Failures::none(),
         }
     }
 }
@@ -85,34 +84,19 @@ impl<W: Write> Sink for Writing<W> {
     } };
 
     fn put(&mut self, from: &[u8]) -> Result<usize, Failed> {
-        match self.inner.write(from) {
-            Ok(n) if n > 0 || from.is_empty() => {
-                self.failing = false;
-                Ok(n)
-            }
-            _ => {
-                self.failed = self.failed.saturating_add(1);
-                self.failing = true;
-                Err(Failed)
-            }
-        }
+        let taken = match self.inner.write(from) {
+            Ok(n) if n > 0 || from.is_empty() => Ok(n),
+            _ => Err(Failed),
+        };
+        self.failures.note(taken)
     }
 
     fn flush(&mut self) -> Result<(), Failed> {
-        match self.inner.flush() {
-            Ok(()) => {
-                self.failing = false;
-                Ok(())
-            }
-            Err(_) => {
-                self.failed = self.failed.saturating_add(1);
-                self.failing = true;
-                Err(Failed)
-            }
-        }
+        let flushed = self.inner.flush();
+        self.failures.note(flushed.map_err(|_| Failed))
     }
 
     fn failures(&self) -> u64 {
-        self.failed
+        self.failures.count
     }
 }

@@ -6,6 +6,7 @@ ghost use Rattle.age_io.specs.Io.{one_more, SourceView};
 ghost use Rattle.std.specs.Coded.{coded_ℕ, coded×, coded_bool};
 
 use crate::failed::Failed;
+use crate::failures::Failures;
 use std::io::Read;
 use std::marker::Model;
 
@@ -37,8 +38,7 @@ pub trait Source {
 #[derive(Debug, Drop)]
 pub struct Reading<R: Read> {
     inner: R,
-    failed: u64,
-    failing: bool,
+    failures: Failures,
 }
 
 impl<R: Read> Model for Reading<R> {
@@ -46,7 +46,7 @@ impl<R: Read> Model for Reading<R> {
 
     ghost coded = { coded× R.code (coded× coded_ℕ coded_bool) };
 
-    ghost view = { λ s. (s.inner, (s.failed, s.failing)) };
+    ghost view = { λ s. (s.inner, (s.failures.count, s.failures.last)) };
 }
 
 impl<R: Read> Reading<R> {
@@ -56,8 +56,7 @@ impl<R: Read> Reading<R> {
     {
         Reading {
             inner,
-            failed: 0,
-            failing: false,
+            failures: Failures::none(),
         }
     }
 }
@@ -70,20 +69,11 @@ impl<R: Read> Source for Reading<R> {
     } };
 
     fn pull(&mut self, into: &mut [u8]) -> Result<usize, Failed> {
-        match self.inner.read(into) {
-            Ok(n) => {
-                self.failing = false;
-                Ok(n)
-            }
-            Err(_) => {
-                self.failed = self.failed.saturating_add(1);
-                self.failing = true;
-                Err(Failed)
-            }
-        }
+        let read = self.inner.read(into);
+        self.failures.note(read.map_err(|_| Failed))
     }
 
     fn failures(&self) -> u64 {
-        self.failed
+        self.failures.count
     }
 }

@@ -15,7 +15,8 @@ returns-clause-bytes c =
     c.copy_front.ensures.front in
     let came : take n c.copy_front.new.into ≡ take n (drop at items) =
     front ∙ ap (take n) (take_rest c.deref.result.now at)
-    ∙ ap (λ (t : List ℕ). take n (drop at t)) c.deref.ensures.value in (
+    ∙ ap (λ (t : List ℕ). take n (drop at t)) c.deref.ensures.value in
+    rw c.note-2.ensures.result (
       sym (ap (λ (s : Feeding). s.left) c.self.view_is)
           ∙ sym (ap (λ (t : List ℕ). t ++ drop (at + n) items) came
           ∙ ap (λ (t : List ℕ). take n (drop at items) ++ t) (sym (drop-drop n at items))

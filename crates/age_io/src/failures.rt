@@ -1,0 +1,41 @@
+//! How many calls of a source or a sink failed.
+
+ghost use Rattle.std.specs.Prelude.{◌≡◌, false, MatchResult, is_err};
+ghost use Rattle.age_io.specs.Io.{one_more};
+
+use crate::failed::Failed;
+
+/// How many calls of a source or a sink have failed, and whether the last one did.
+#[derive(Clone, Copy, Debug, PartialEq, Eq)]
+pub struct Failures {
+    /// How many have failed. It stays at the greatest value of its type.
+    pub count: u64,
+    /// Whether the last one did.
+    pub last: bool,
+}
+
+impl Failures {
+    /// Those of a source or a sink that no call was made of.
+    pub fn none() -> Failures
+        ensures { result ≡ record { count = 0; last = false } }
+    {
+        Failures {
+            count: 0,
+            last: false,
+        }
+    }
+
+    /// Counts a call, and hands on its result.
+    pub fn note<T>(&mut self, call: Result<T, Failed>) -> Result<T, Failed>
+        ensures result { result ≡ call }
+        ensures counted { MatchResult call (λ _. self.new.count ≡ self.old.count)
+            (λ _. self.new.count ≡ one_more self.old.count) }
+        ensures last { self.new.last ≡ is_err call }
+    {
+        self.last = call.is_err();
+        if self.last {
+            self.count = self.count.saturating_add(1);
+        }
+        call
+    }
+}
