@@ -1,7 +1,7 @@
 -- A step of a replay.
 use Rattle.std.proofs.Common.{◌≡◌, ℕ, ◌<◌, ◌+◌, ◌*◌, refl, ap, sym, subst, ◌∙◌, List, [], ◌∷◌, ◌++◌}
 use Rattle.std.proofs.Common.{length, take, Bool, true, false, arith}
-use Rattle.std.specs.Prelude.{Option, Some, None, cond, min, nat_lt, nat_le, ◌&&◌, ◌||◌}
+use Rattle.std.specs.Prelude.{Result, Ok, Err, OnErr, Option, Some, None, cond, min, nat_lt, nat_le, ◌&&◌, ◌||◌}
 use Rattle.std.specs.List.{flat_map}
 use Rattle.std.specs.Borrow.{Bor}
 use Rattle.std.proofs.lemmas.Grind.{flat_map-append}
@@ -21,6 +21,10 @@ use Rattle.age_stream.specs.Headline.{HoldsWritten, IsRight, IsUndamaged}
 use Rattle.age_stream.specs.declared.delivery.Delivery.{Delivery}
 use Rattle.age_stream.specs.declared.step.Status.{Status}
 use Rattle.age_stream.proofs.HeldLemmas.{held_right, standing_more}
+
+pub on_err : {A E : Type 0} {P : Type 0} (r : Result A E) → P → OnErr r P
+on_err (Ok a) p = tt
+on_err (Err e) p = p
 
 pub lent_flat : (chunk : Option (Bor (List ℕ))) → flat_map (λ (t : List ℕ). t) (chunk_texts chunk) ≡ chunk_bytes chunk
 lent_flat None = refl

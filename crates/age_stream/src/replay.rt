@@ -111,10 +111,8 @@ impl<'k, B: ChunkBox, const SEALED: usize> ReplayState<'k, B, SEALED> {
         ensures key { self.new.key ≡ self.old.key }
     {
         let room = self.piece_room(piece);
-        match self.text.reserve(room) {
-            Ok(()) => self.feed_all(piece),
-            Err(_) => return Err(Memory),
-        }
+        self.text.reserve(room)?;
+        self.feed_all(piece);
         Ok(())
     }
 
@@ -143,10 +141,8 @@ impl<'k, B: ChunkBox, const SEALED: usize> ReplayState<'k, B, SEALED> {
         ensures key { self.new.key ≡ self.old.key }
     {
         let room = self.end_room();
-        match self.text.reserve(room) {
-            Ok(()) => self.end_opener(),
-            Err(_) => return Err(Memory),
-        }
+        self.text.reserve(room)?;
+        self.end_opener();
         Ok(())
     }
 
@@ -194,8 +190,8 @@ impl<'k, B: ChunkBox, const SEALED: usize> ReplayState<'k, B, SEALED> {
         }
     }
 
-    /// Takes a delivery, as `deliver` does; the contract is about each list of deliveries that it
-    /// was given.
+    // Takes a delivery, for each list of deliveries that it may have been given. A function of its
+    // own so that its proof builds on what `deliver` ensures.
     fn take(&mut self, delivery: &Delivery<'_>) -> Result<(), Memory>
         ensures { TakesDelivery B.sealing B.opening (text_length SEALED)
             (replay_view self.old) delivery.now result (replay_view self.new) }
@@ -319,7 +315,6 @@ pub(crate) fn push_lent(text: &mut Vec<u8>, chunk: Option<&[u8]>)
     ensures capacity { vec_capacity text.old ≤ vec_capacity text.new }
 {
     if let Some(bytes) = chunk {
-        // within the capacity no memory is requested
-        let _ = text.extend_from_slice(bytes);
+        push_text(text, bytes);
     }
 }

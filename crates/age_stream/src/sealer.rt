@@ -87,8 +87,8 @@ impl<'k, B: ChunkBox, const SEALED: usize> SealerState<'k, B, SEALED> {
         Ok((1, true))
     }
 
-    /// Takes the beginning of a piece, as `step` does; the contract is about each text that the
-    /// sealer may have been given.
+    // Makes a step, for each text that the sealer may have been given. A function of its own so that
+    // its proof builds on what `step` ensures, which names no text.
     fn advance(&mut self, piece: &[u8]) -> Result<(usize, bool), StreamFault>
         requires { self.old.finished ≡ false }
         ensures { SealerAdvances B.sealing self.old piece.now result self.new }
@@ -112,8 +112,8 @@ impl<'k, B: ChunkBox, const SEALED: usize> SealerState<'k, B, SEALED> {
         Ok(())
     }
 
-    /// Seals the last chunk, as `close` does; the contract is about each text that the sealer may
-    /// have been given.
+    // Seals the last chunk, of each text that the sealer may have been given. A function of its own
+    // so that its proof builds on what `close` ensures, which names no text.
     fn close_text(&mut self) -> Result<(), StreamFault>
         requires { self.old.finished ≡ false }
         ensures last { SealerSealsLast self.old result self.new }

@@ -1,4 +1,4 @@
-use Rattle.std.proofs.Common.{◌≡◌, ◌<◌, ℕ, List, take, Result, Ok, Err, OnErr, arith, refl, subst}
+use Rattle.std.proofs.Common.{◌≡◌, ◌<◌, ℕ, List, take, arith, refl, subst}
 use Rattle.std.proofs.Common.{sym, ◌∙◌, rules}
 use Rattle.std.proofs.lemmas.List.{take_all, take_more}
 use Rattle.age_stream.specs.declared.delivery.Delivery.{Delivery}
@@ -6,14 +6,10 @@ use Rattle.age_stream.specs.Replay.{Replays}
 use Rattle.age_stream.specs.declared.step.Status.{Status}
 use Rattle.age_stream.specs.Headline.{HoldsWritten}
 use Rattle.age_stream.proofs.CrampedLemmas.{cramped_at}
-use Rattle.age_stream.proofs.ReplayLemmas.{written}
+use Rattle.age_stream.proofs.ReplayLemmas.{on_err, written}
 use Rattle.age_stream.proofs.SizeLemmas.{replay_fits}
 use Rattle.age_stream.proofs.drilling.drill.Goals as goal
 use Rattle.age_chunk.specs.ChunkBoxes.{text_length}
-
-on_err : {A E : Type 0} {P : Type 0} (r : Result A E) → P → OnErr r P
-on_err (Ok a) p = tt
-on_err (Err e) p = p
 
 pub returns-in_err-take-clause-memory : goal.returns-in_err-take-clause-memory
 returns-in_err-take-clause-memory g c =

@@ -1,5 +1,6 @@
 use Rattle.std.proofs.Common.{ℕ, ◌+◌, ◌≤◌, ◌∙◌, vec_len, vec_capacity, refl, subst, arith}
 use Rattle.age_stream.proofs.RoomLemmas.{open_number}
+use Rattle.age_stream.proofs.ReplayLemmas.{on_err}
 use Rattle.age_stream.proofs.SizeLemmas.{replay_state_fits}
 use Rattle.age_stream.proofs.replay.ReplayState.take_piece.Goals as goal
 
@@ -11,7 +12,7 @@ feed_all-requires g c =
     let text = c.reserve.new.self in (
       replay_state_fits c.args.self.now.sizes.1,
       λ open_. subst (λ (k : ℕ). vec_len text + k ≤ vec_capacity text)
-          (c.piece_room-room.ensures ∙ open_number _ _ open_) c.in-Ok.ensures.ok,
+          (c.piece_room-room.ensures ∙ open_number _ _ open_) c.in_ok-reserve.ensures.ok,
     )
 
 pub invariant_of-self : goal.invariant_of-self
@@ -31,14 +32,14 @@ returns-clause-capacity g c = omega (arith, c.reserve.ensures.capacity, c.feed_a
 pub returns-clause-key : goal.returns-clause-key
 returns-clause-key g c = c.feed_all.ensures.key
 
-pub returns-in-Err-clause-err : goal.returns-in-Err-clause-err
-returns-in-Err-clause-err g c = cc (c.in-Err.ensures.err)
+pub returns-in_err-reserve-clause-err : goal.returns-in_err-reserve-clause-err
+returns-in_err-reserve-clause-err g c = on_err c.from_residual.result (cc (c.in_err-reserve.ensures.err))
 
-pub returns-in-Err-clause-cramped : goal.returns-in-Err-clause-cramped
-returns-in-Err-clause-cramped g c = omega (arith, c.in-Err.ensures.full, c.piece_room-room.ensures)
+pub returns-in_err-reserve-clause-cramped : goal.returns-in_err-reserve-clause-cramped
+returns-in_err-reserve-clause-cramped g c = on_err c.from_residual.result (omega (arith, c.in_err-reserve.ensures.full, c.piece_room-room.ensures))
 
-pub returns-in-Err-clause-capacity : goal.returns-in-Err-clause-capacity
-returns-in-Err-clause-capacity g c = c.reserve.ensures.capacity
+pub returns-in_err-reserve-clause-capacity : goal.returns-in_err-reserve-clause-capacity
+returns-in_err-reserve-clause-capacity g c = c.reserve.ensures.capacity
 
-pub returns-in-Err-clause-key : goal.returns-in-Err-clause-key
-returns-in-Err-clause-key g c = refl
+pub returns-in_err-reserve-clause-key : goal.returns-in_err-reserve-clause-key
+returns-in_err-reserve-clause-key g c = refl
