@@ -6,7 +6,7 @@ ghost use Rattle.age_keys.specs.Keys.{payload_key, position_key};
 ghost use Rattle.age_keys.specs.inner.PayloadBox.{box_valid};
 
 use crate::key::FileKey;
-use age_chunk::ChunkBox;
+use age_chunk::{ChunkBox, PAYLOAD_NONCE_LEN};
 use age_cipher::{open_in_place, seal_in_place};
 use std::marker::Model;
 
@@ -43,7 +43,7 @@ impl ChunkBox for PayloadKey {
 
 /// The key of the payload that follows a nonce: HKDF of the file key, salted with the nonce, under
 /// the label `payload` (<https://c2sp.org/age#payload>).
-pub fn payload_key(key: &FileKey, nonce: &[u8; 16]) -> PayloadKey
+pub fn payload_key(key: &FileKey, nonce: &[u8; PAYLOAD_NONCE_LEN]) -> PayloadKey
     ensures { result ≡ payload_key key.now nonce.now }
 {
     PayloadKey {
@@ -53,7 +53,7 @@ pub fn payload_key(key: &FileKey, nonce: &[u8; 16]) -> PayloadKey
 
 /// The key of the tags of positions in a payload: HKDF of the file key, salted with the payload's
 /// nonce, under the label `age-tool position v2`. It is no part of the age format.
-pub fn position_key(key: &FileKey, nonce: &[u8; 16]) -> [u8; 32]
+pub fn position_key(key: &FileKey, nonce: &[u8; PAYLOAD_NONCE_LEN]) -> [u8; 32]
     ensures { result ≡ position_key key.now nonce.now }
 {
     age_kdf::hkdf32(key.bytes(), nonce, b"age-tool position v2")

@@ -185,7 +185,7 @@ fn header_of(
 /// <https://c2sp.org/age#header-mac>).
 ///
 /// It requires a passphrase of 1 to [`PASSPHRASE_LIMIT`](crate::PASSPHRASE_LIMIT) bytes and a work
-/// factor `log` of 1 to [`WORK_FACTOR_LIMIT`](age_scrypt::WORK_FACTOR_LIMIT). The only fault is a
+/// factor `log` of 1 to [`WORK_FACTOR_LIMIT`](crate::WORK_FACTOR_LIMIT). The only fault is a
 /// refusal of memory ([`KeyFault::Memory`]): the passphrase's table takes `1,024 * 2^log` bytes.
 pub fn scrypt_header(
     alloc: Global,
