@@ -8,7 +8,7 @@ use Rattle.age_cli_args.specs.declared.commands.Argument.{Argument}
 use Rattle.age_cli_args.specs.declared.commands.Subcommand.{Subcommand}
 
 pub add_one : (old new : App) (all : List Argument) (i : ℕ) (r : Rule) (d : Argument) → i < length all → new ≡ with_rule old r
-    → r ≡ rule_as (get_or all i d).0.now (get_or all i d).1 → with_all new (drop (i + 1) all) ≡ with_all old (drop i all)
+    → r ≡ rule_as (get_or all i d).id.now (get_or all i d).given → with_all new (drop (i + 1) all) ≡ with_all old (drop i all)
 add_one old new all i r d h e f =
     let next : suc i ≡ i + 1 = omega arith in
     rw (e, f, drop-cons all i d h, next) refl

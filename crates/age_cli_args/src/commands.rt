@@ -11,6 +11,7 @@ ghost use Rattle.age_cli_args.specs.inner.Commands.{rule_as, with_all, app_as, w
 ghost use Rattle.age_cli_args.specs.Requests.{refusals, named};
 
 use crate::help;
+use crate::request::MOST_WORK;
 use clap::{Arg, ArgAction, ArgMatches, Command, Error};
 use std::alloc::{AllocError, Global};
 
@@ -21,7 +22,7 @@ enum Given {
     Value(&'static str),
     /// `--ID FILE`, which has to be there.
     File,
-    /// `--ID N`, for N from 1 to 22.
+    /// `--ID N`, for N from 1 to [`MOST_WORK`].
     Number,
     /// `--ID`.
     Flag,
@@ -31,34 +32,71 @@ enum Given {
     Word,
 }
 
-/// An argument of a command: its name, how it is given, and what the help says of it.
+/// An argument of a command.
 #[derive(Clone, Copy)]
-struct Argument(&'static str, Given, &'static str);
+struct Argument {
+    /// Its name.
+    id: &'static str,
+    /// How it is given.
+    given: Given,
+    /// What the help says of it.
+    help: &'static str,
+}
 
-const PASS: Argument = Argument("pass", Given::Value("FILE"), help::PASS);
+const PASS: Argument = Argument {
+    id: "pass",
+    given: Given::Value("FILE"),
+    help: help::PASS,
+};
 
-const FILE_KEY: Argument = Argument("file-key", Given::Value("HEX"), help::FILE_KEY);
+const FILE_KEY: Argument = Argument {
+    id: "file-key",
+    given: Given::Value("HEX"),
+    help: help::FILE_KEY,
+};
 
-const SHARED: Argument = Argument("shared", Given::Value("FILE"), help::SHARED);
+const SHARED: Argument = Argument {
+    id: "shared",
+    given: Given::Value("FILE"),
+    help: help::SHARED,
+};
 
-const MAX_LOG: Argument = Argument("max-log", Given::Number, help::MAX_LOG);
+const MAX_LOG: Argument = Argument {
+    id: "max-log",
+    given: Given::Number,
+    help: help::MAX_LOG,
+};
 
-const SAVE: Argument = Argument("save", Given::Value("FILE"), help::SAVE);
+const SAVE: Argument = Argument {
+    id: "save",
+    given: Given::Value("FILE"),
+    help: help::SAVE,
+};
 
-const NO_SYNC: Argument = Argument("no-sync", Given::Flag, help::NO_SYNC);
+const NO_SYNC: Argument = Argument {
+    id: "no-sync",
+    given: Given::Flag,
+    help: help::NO_SYNC,
+};
 
-const PROGRESS: Argument = Argument("progress", Given::Flag, help::PROGRESS);
+const PROGRESS: Argument = Argument {
+    id: "progress",
+    given: Given::Flag,
+    help: help::PROGRESS,
+};
 
+#[rattlefmt::skip]
 const ENCRYPT: &[Argument] = &[
-    Argument("pass", Given::File, help::PASS),
-    Argument("log", Given::Number, help::LOG),
-    Argument("random", Given::Value("FILE"), help::RANDOM),
+    Argument { id: "pass", given: Given::File, help: help::PASS },
+    Argument { id: "log", given: Given::Number, help: help::LOG },
+    Argument { id: "random", given: Given::Value("FILE"), help: help::RANDOM },
     NO_SYNC,
     PROGRESS,
-    Argument("IN", Given::Operand, help::PLAIN_IN),
-    Argument("OUT", Given::Operand, help::FILE_OUT),
+    Argument { id: "IN", given: Given::Operand, help: help::PLAIN_IN },
+    Argument { id: "OUT", given: Given::Operand, help: help::FILE_OUT },
 ];
 
+#[rattlefmt::skip]
 const DECRYPT: &[Argument] = &[
     PASS,
     FILE_KEY,
@@ -67,13 +105,14 @@ const DECRYPT: &[Argument] = &[
     SAVE,
     NO_SYNC,
     PROGRESS,
-    Argument("IN", Given::Operand, help::FILE_IN),
-    Argument("OUT", Given::Operand, help::PLAIN_OUT),
+    Argument { id: "IN", given: Given::Operand, help: help::FILE_IN },
+    Argument { id: "OUT", given: Given::Operand, help: help::PLAIN_OUT },
 ];
 
+#[rattlefmt::skip]
 const RESUME: &[Argument] = &[
-    Argument("position", Given::File, help::POSITION),
-    Argument("old", Given::File, help::OLD),
+    Argument { id: "position", given: Given::File, help: help::POSITION },
+    Argument { id: "old", given: Given::File, help: help::OLD },
     PASS,
     FILE_KEY,
     SHARED,
@@ -81,17 +120,21 @@ const RESUME: &[Argument] = &[
     SAVE,
     NO_SYNC,
     PROGRESS,
-    Argument("IN", Given::Operand, help::FILE_IN),
-    Argument("OUT", Given::Operand, help::WHOLE_OUT),
+    Argument { id: "IN", given: Given::Operand, help: help::FILE_IN },
+    Argument { id: "OUT", given: Given::Operand, help: help::WHOLE_OUT },
 ];
 
-const INSPECT: &[Argument] = &[Argument("FILE", Given::Word, help::INSPECTED)];
+#[rattlefmt::skip]
+const INSPECT: &[Argument] = &[
+    Argument { id: "FILE", given: Given::Word, help: help::INSPECTED },
+];
 
+#[rattlefmt::skip]
 const DRILL: &[Argument] = &[
-    Argument("clear", Given::Flag, help::CLEAR),
+    Argument { id: "clear", given: Given::Flag, help: help::CLEAR },
     PASS,
-    Argument("SCRIPT", Given::Operand, help::SCRIPT),
-    Argument("IN", Given::Operand, help::DRILLED),
+    Argument { id: "SCRIPT", given: Given::Operand, help: help::SCRIPT },
+    Argument { id: "IN", given: Given::Operand, help: help::DRILLED },
 ];
 
 /// A command of the program: its name, its arguments, and what the help says before them and after.
@@ -152,12 +195,12 @@ fn required<'a>(alloc: Global, id: &'a str, help: &'a str) -> Arg<'a>
     option(alloc, id, "FILE", help).required(true)
 }
 
-/// `--ID N`, for N from 1 to 22.
+/// `--ID N`, for N from 1 to [`MOST_WORK`].
 fn number<'a>(alloc: Global, id: &'a str, help: &'a str) -> Arg<'a>
     ensures rule { rule_of result ≡ number_rule id.entry.now }
     ensures local { result.global ≡ false }
 {
-    option(alloc, id, "N", help).value_parser(clap::value_parser!(u32).range(1..=22))
+    option(alloc, id, "N", help).value_parser(clap::value_parser!(u32).range(1..=MOST_WORK as i64))
 }
 
 /// `--ID`.
@@ -188,10 +231,10 @@ fn operand<'a>(alloc: Global, id: &'a str, help: &'a str) -> Arg<'a>
 }
 
 fn arg_of<'a>(alloc: Global, argument: &Argument) -> Arg<'a>
-    ensures rule { rule_of result ≡ rule_as argument.now.0.now argument.now.1 }
+    ensures rule { rule_of result ≡ rule_as argument.now.id.now argument.now.given }
     ensures local { result.global ≡ false }
 {
-    let Argument(id, given, help) = *argument;
+    let Argument { id, given, help } = *argument;
     match given {
         Given::Value(name) => option(alloc, id, name, help),
         Given::File => required(alloc, id, help),

@@ -18,7 +18,7 @@ ghost use Rattle.age_cli_args.specs.declared.request.Request.{Request};
 
 use crate::commands::matches_of;
 use crate::request::{
-    Decrypting, Drilling, Encrypting, IdentityOptions, ProgressOption, Request, Resuming,
+    Decrypting, Drilling, Encrypting, IdentityOptions, MOST_WORK, ProgressOption, Request, Resuming,
 };
 use age_io::Durability;
 use clap::{ArgMatches, Error};
@@ -29,7 +29,11 @@ fn within(n: u32) -> Option<u32>
     ensures some { IfSome result (λ m. (m ≡ n) × (1 ≤ n) × (n ≤ 22)) }
     ensures none { IfNone result (1 ≤ n → n ≤ 22 → ⊥) }
 {
-    if n >= 1 && n <= 22 { Some(n) } else { None }
+    if n >= 1 && n <= MOST_WORK {
+        Some(n)
+    } else {
+        None
+    }
 }
 
 /// A number from 1 to 22, or the default if it isn't given. The parser's contract says nothing of a
@@ -116,7 +120,7 @@ fn identity_options<'a>(matches: &ArgMatches<'a>) -> Option<IdentityOptions<'a>>
         pass: text(matches, "pass"),
         file_key: text(matches, "file-key"),
         shared: text(matches, "shared"),
-        max_log: number(matches, "max-log", 22)?,
+        max_log: number(matches, "max-log", MOST_WORK)?,
     })
 }
 

@@ -2,6 +2,9 @@
 
 use age_io::Durability;
 
+/// The greatest work factor's logarithm that can be asked for.
+pub(crate) const MOST_WORK: u32 = 22;
+
 /// Whether progress is shown while IN is read.
 #[derive(Clone, Copy, Debug, PartialEq, Eq)]
 pub enum ProgressOption {

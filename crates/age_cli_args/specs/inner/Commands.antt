@@ -41,7 +41,7 @@ rule_as id Word = new_rule id
 -- a command with these arguments added, one after the other
 abbrev pub with_all : App → List Argument → App
 with_all a [] = a
-with_all a (r ∷ rest) = with_all (with_rule a (rule_as r.0.now r.1)) rest
+with_all a (r ∷ rest) = with_all (with_rule a (rule_as r.id.now r.given)) rest
 
 -- a command as the table says it
 abbrev pub app_as : Subcommand → App
