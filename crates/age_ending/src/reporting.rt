@@ -11,7 +11,7 @@ ghost use Rattle.age_ending.specs.inner.Endings.{PutsAll};
 use crate::ending::{Announcement, Ending, Usage};
 use crate::put::put_bytes;
 use age_fault::{FileFault, flush_all};
-use age_io::{Failed, Sink};
+use age_io::{Failed, Failures, Sink};
 use arrayvec::ArrayVec;
 use itoa::Buffer;
 
@@ -20,8 +20,7 @@ use itoa::Buffer;
 #[derive(Debug, Drop)]
 struct FaultLine {
     bytes: ArrayVec<u8, 128>,
-    failed: u64,
-    failing: bool,
+    failures: Failures,
 }
 
 impl FaultLine {
@@ -30,8 +29,7 @@ impl FaultLine {
     {
         FaultLine {
             bytes: ArrayVec::new(),
-            failed: 0,
-            failing: false,
+            failures: Failures::none(),
         }
     }
 }
@@ -39,33 +37,26 @@ impl FaultLine {
 impl Sink for FaultLine {
     ghost view = { λ line. record {
       taken = Some line.bytes.items;
-      failed = line.failed;
-      failing = line.failing;
+      failed = line.failures.count;
+      failing = line.failures.last;
       label = [];
       settled = true;
     } };
 
     fn put(&mut self, from: &[u8]) -> Result<usize, Failed> {
-        match self.bytes.try_extend_from_slice(from) {
-            Ok(()) => {
-                self.failing = false;
-                Ok(from.len())
-            }
-            Err(_) => {
-                self.failed = self.failed.saturating_add(1);
-                self.failing = true;
-                Err(Failed)
-            }
-        }
+        let taken = match self.bytes.try_extend_from_slice(from) {
+            Ok(()) => Ok(from.len()),
+            Err(_) => Err(Failed),
+        };
+        self.failures.note(taken)
     }
 
     fn flush(&mut self) -> Result<(), Failed> {
-        self.failing = false;
-        Ok(())
+        self.failures.note(Ok(()))
     }
 
     fn failures(&self) -> u64 {
-        self.failed
+        self.failures.count
     }
 }
 

@@ -5,7 +5,7 @@ ghost use Rattle.std.specs.Io.{ReadsAtMost};
 
 use crate::names::{FileId, Resolved, Stream, above_streams, is_on_disk, is_random, resolve};
 use crate::retry::{TRIES, is_to_retry, too_many_tries};
-use age_io::{Failed, Source};
+use age_io::{Failed, Failures, Source};
 use std::alloc::Global;
 use std::fs::{File, Metadata};
 use std::io::{self, Read, Seek, SeekFrom};
@@ -69,8 +69,7 @@ pub struct HostIn {
     origin: Origin,
     // How many bytes are still to come of a regular file.
     left: Option<u64>,
-    failed: u64,
-    failing: bool,
+    failures: Failures,
     // What the machine answered to the last pull that failed.
     error: io::Error,
 }
@@ -80,7 +79,7 @@ impl Model for HostIn {
 
     ghost Value = { ℕ × Bool };
 
-    ghost view = { λ s. (s.failed, s.failing) };
+    ghost view = { λ s. (s.failures.count, s.failures.last) };
 }
 
 impl HostIn {
@@ -116,8 +115,7 @@ impl HostIn {
             rt: *rt,
             origin,
             left,
-            failed: 0,
-            failing: false,
+            failures: Failures::none(),
             error: io::Error::from(io::ErrorKind::Other),
         }
     }
@@ -191,9 +189,8 @@ impl Source for HostIn {
     ghost view = { λ s. record { remaining = None; failed = s.0; failing = s.1 } };
 
     fn pull(&mut self, into: &mut [u8]) -> Result<usize, Failed> {
-        match self.read(into) {
+        let pulled = match self.read(into) {
             Ok(n) => {
-                self.failing = false;
                 if let Some(left) = &mut self.left {
                     *left = left.saturating_sub(n as u64);
                 }
@@ -201,14 +198,13 @@ impl Source for HostIn {
             }
             Err(error) => {
                 self.error = error;
-                self.failed = self.failed.saturating_add(1);
-                self.failing = true;
                 Err(Failed)
             }
-        }
+        };
+        self.failures.note(pulled)
     }
 
     fn failures(&self) -> u64 {
-        self.failed
+        self.failures.count
     }
 }

@@ -8,7 +8,7 @@ use crate::names::{FileId, Resolved, Stream, above_streams, resolve};
 use crate::paths::{OUTPUT_MODE, make_file, open_to_write};
 use crate::retry::{TRIES, is_to_retry, too_many_tries};
 use crate::sync::{sync_file, sync_folder, sync_stream};
-use age_io::{Durability, Failed, Sink};
+use age_io::{Durability, Failed, Failures, Sink};
 use std::alloc::Global;
 use std::fs::File;
 use std::io::{self, IsTerminal, Write};
@@ -78,8 +78,7 @@ pub struct HostOut {
     target: Target,
     // Which file it is, if that is known.
     id: Option<FileId>,
-    failed: u64,
-    failing: bool,
+    failures: Failures,
     // What the machine answered to the last put that failed.
     error: io::Error,
 }
@@ -89,7 +88,7 @@ impl Model for HostOut {
 
     ghost Value = { ℕ × Bool };
 
-    ghost view = { λ s. (s.failed, s.failing) };
+    ghost view = { λ s. (s.failures.count, s.failures.last) };
 }
 
 /// Whether a file is a regular one.
@@ -273,8 +272,7 @@ impl HostOut {
             rt: *rt,
             target,
             id,
-            failed: 0,
-            failing: false,
+            failures: Failures::none(),
             error: io::Error::from(io::ErrorKind::Other),
         }
     }
@@ -362,7 +360,7 @@ impl HostOut {
     /// Whether puts were tried, and none took a byte.
     fn has_only_failed(&self) -> bool {
         match &self.target {
-            Target::File(out) => self.failed > 0 && out.is_untouched(),
+            Target::File(out) => self.failures.count > 0 && out.is_untouched(),
             _ => false,
         }
     }
@@ -414,27 +412,22 @@ impl Sink for HostOut {
     } };
 
     fn put(&mut self, from: &[u8]) -> Result<usize, Failed> {
-        match self.write(from) {
-            Ok(n) if n > 0 || from.is_empty() => {
-                self.failing = false;
-                Ok(n)
-            }
+        let taken = match self.write(from) {
+            Ok(n) if n > 0 || from.is_empty() => Ok(n),
             other => {
                 self.error = error_of(other);
-                self.failed = self.failed.saturating_add(1);
-                self.failing = true;
                 Err(Failed)
             }
-        }
+        };
+        self.failures.note(taken)
     }
 
     /// The machine's files have no buffer of the program's.
     fn flush(&mut self) -> Result<(), Failed> {
-        self.failing = false;
-        Ok(())
+        self.failures.note(Ok(()))
     }
 
     fn failures(&self) -> u64 {
-        self.failed
+        self.failures.count
     }
 }
