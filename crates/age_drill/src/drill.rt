@@ -18,7 +18,10 @@ use age_fault::{FileFault, flush_all};
 use age_fileset::{FileSet, OpenFault};
 use age_identity::{fill_first, read_file, read_pass, read_up_to, trimmed};
 use age_io::{Sink, Source};
-use age_keys::{FileKey, KeyFault, Passphrase, PayloadKey, Steps, open_header, payload_key};
+use age_keys::{
+    FileKey, KeyFault, PAYLOAD_NONCE_LEN, Passphrase, PayloadKey, Steps, WORK_FACTOR_LIMIT,
+    open_header, payload_key,
+};
 use age_stanza::{HEAD_MAX, HeadParser, HeadStep, Header};
 use age_stream::{ClearBox, Delivery, Replay, Status, StreamFault};
 use std::alloc::{AllocError, Global};
@@ -26,14 +29,8 @@ use std::alloc::{AllocError, Global};
 /// The most bytes of a payload.
 const PAYLOAD_MAX: usize = 16_777_216;
 
-/// How many bytes follow a header before the payload.
-const NONCE_LEN: usize = 16;
-
 /// The most bytes of a file that are read: one more than the longest header and payload have.
-const BYTES_MAX: usize = HEAD_MAX + NONCE_LEN + PAYLOAD_MAX + 1;
-
-/// The greatest work factor that is accepted.
-const MAX_LOG: u32 = 22;
+const BYTES_MAX: usize = HEAD_MAX + PAYLOAD_NONCE_LEN + PAYLOAD_MAX + 1;
 
 /// The bytes of the file of a script.
 fn read_script<F: FileSet>(alloc: Global, files: &mut F, name: &str) -> Result<Vec<u8>, Ending>
@@ -91,8 +88,8 @@ fn payload_after(
 {
     let key = key?;
     read?;
-    match bytes[len..].first_chunk::<NONCE_LEN>() {
-        Some(nonce) => Ok((payload_key(&key, nonce), len + NONCE_LEN)),
+    match bytes[len..].first_chunk::<PAYLOAD_NONCE_LEN>() {
+        Some(nonce) => Ok((payload_key(&key, nonce), len + PAYLOAD_NONCE_LEN)),
         None => Err(FileFault::NonceCut),
     }
 }
@@ -320,7 +317,7 @@ fn drill_sealed<F: FileSet, O: Sink>(
     ensures sent { OnOk result ((O.view output.new).settled ≡ true) }
 {
     let pass = read_pass(alloc, files, pass_name)?;
-    match Passphrase::new(trimmed(pass.as_slice()), MAX_LOG) {
+    match Passphrase::new(trimmed(pass.as_slice()), WORK_FACTOR_LIMIT) {
         Some(unlock) => drill(alloc, files, asked, Some(&unlock), output),
         None => Err(Ending::Usage(Usage::BadPassphraseFile)),
     }

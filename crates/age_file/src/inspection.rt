@@ -10,14 +10,12 @@ use crate::head::read_head;
 use crate::intake::Intake;
 use crate::reader::Reader;
 use crate::report::{Report, StanzaReport, StanzaReports};
+use age_chunk::PAYLOAD_NONCE_LEN;
 use age_fault::FileFault;
 use age_io::Source;
 use age_stanza::{Bytes, Stanza, Stanzas};
 use age_stream::text_len_of;
 use std::alloc::{AllocError, Global};
-
-/// The length of a payload nonce.
-const NONCE_LEN: u128 = 16;
 
 /// How many stanzas give their memory back at once.
 const STANZAS_AT_ONCE: usize = 4_096;
@@ -78,10 +76,7 @@ fn plain_of(rest: u128) -> Option<u128>
     requires { rest < 2 ^ 127 }
     ensures { IsPlainOf rest result }
 {
-    if rest < NONCE_LEN {
-        return None;
-    }
-    text_len_of(rest - NONCE_LEN)
+    text_len_of(rest.checked_sub(PAYLOAD_NONCE_LEN as u128)?)
 }
 
 /// Reads a source to its end, and reports what it holds: the header's length, its stanzas, how many

@@ -4,7 +4,7 @@ ghost use Rattle.std.specs.Option.{SomeIff};
 ghost use Rattle.age_keys.specs.Scrypt.{IsAllowed};
 ghost use Rattle.age_file.specs.Encrypts.{SecretView};
 
-use age_keys::PASSPHRASE_LIMIT;
+use age_keys::{PASSPHRASE_LIMIT, WORK_FACTOR_LIMIT};
 use std::marker::Model;
 
 /// What an age file for a passphrase is made of. Salt, file key and payload nonce have to be new
@@ -33,8 +33,8 @@ impl<'a> Model for Secret<'a> {
 }
 
 impl<'a> Secret<'a> {
-    /// The secret of these parts; `None` if the passphrase has no byte or more than
-    /// [`PASSPHRASE_LIMIT`], or the work factor isn't 1 to 22.
+    /// The secret of these parts; `None` where the passphrase has no byte or more than
+    /// [`PASSPHRASE_LIMIT`], or the work factor isn't 1 to [`WORK_FACTOR_LIMIT`].
     pub fn new(
         pass: &'a [u8],
         log: u32,
@@ -51,7 +51,7 @@ impl<'a> Secret<'a> {
               nonce = payload_nonce.now;
             }) }
     {
-        if pass.is_empty() || pass.len() > PASSPHRASE_LIMIT || log < 1 || log > 22 {
+        if pass.is_empty() || pass.len() > PASSPHRASE_LIMIT || log < 1 || log > WORK_FACTOR_LIMIT {
             return None;
         }
         Some(Secret {

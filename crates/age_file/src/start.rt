@@ -11,6 +11,7 @@ ghost use Rattle.age_file.specs.Runs.{pull_room};
 use crate::head::read_head;
 use crate::position::file_id;
 use crate::reader::Reader;
+use age_chunk::PAYLOAD_NONCE_LEN;
 use age_fault::FileFault;
 use age_io::Source;
 use age_keys::{FileKey, Steps, Unlock, open_header};
@@ -21,7 +22,7 @@ use std::alloc::Global;
 #[derive(Drop)]
 pub(crate) struct Unlocked {
     pub(crate) key: FileKey,
-    pub(crate) nonce: [u8; 16],
+    pub(crate) nonce: [u8; PAYLOAD_NONCE_LEN],
     // identifies the file: see `file_id`
     pub(crate) id: [u8; 32],
 }
@@ -40,18 +41,18 @@ pub(crate) fn has_bytes<S: Source>(reader: &mut Reader<'_, S>) -> Result<bool, F
 }
 
 /// Copies as many bytes as there is room for, and returns how many.
-fn copy_some(from: &[u8], into: &mut [u8; 16], have: usize) -> usize
+fn copy_some(from: &[u8], into: &mut [u8; PAYLOAD_NONCE_LEN], have: usize) -> usize
     requires { have ≤ 16 }
     ensures count { result ≡ min (16 - have) (length from.now) }
     ensures bytes { take (have + result) into.new ≡ take have into.old ++ take result from.now }
 {
-    let n = (16 - have).min(from.len());
+    let n = (PAYLOAD_NONCE_LEN - have).min(from.len());
     into[have..have + n].copy_from_slice(&from[..n]);
     n
 }
 
 /// Reads the payload nonce.
-fn take_nonce<S: Source>(reader: &mut Reader<'_, S>) -> Result<[u8; 16], FileFault>
+fn take_nonce<S: Source>(reader: &mut Reader<'_, S>) -> Result<[u8; PAYLOAD_NONCE_LEN], FileFault>
     requires { length reader.old.intake.now.bytes ≤ pull_room }
     ensures found { IfOk result (TakesNonce (view_of_reader S.view reader.old)
         (view_of_reader S.view reader.new)) }
@@ -59,9 +60,9 @@ fn take_nonce<S: Source>(reader: &mut Reader<'_, S>) -> Result<[u8; 16], FileFau
         (view_of_reader S.view reader.new)) }
     ensures same { SameReader reader.old reader.new }
 {
-    let mut nonce = [0; 16];
+    let mut nonce = [0; PAYLOAD_NONCE_LEN];
     let mut have = 0;
-    'parts: while have < 16 {
+    'parts: while have < PAYLOAD_NONCE_LEN {
         if !has_bytes(reader)? {
             return Err(FileFault::NonceCut);
         }
