@@ -8,10 +8,10 @@ ghost use Rattle.age_c.specs.Writers.{WritesOrRefuses, BeginsFileFrom, SealsChun
 
 use crate::MISUSED;
 use crate::blocks::put;
-use crate::sealing::{Random, seal_last, seal_next};
+use crate::sealing::{front_of, seal_last, seal_next, writer_of};
 use crate::writer::Writer;
 use age_chunk::{BLOCK_LEN, CHUNK_LEN, CHUNK_LIMIT};
-use age_keys::Passphrase;
+use age_keys::{FileRandom, Passphrase, RANDOM_LEN};
 use std::alloc::Global;
 
 /// How much room a call asks for what stands before the payload.
@@ -45,17 +45,17 @@ pub extern "C" fn age_c_seal_passphrase(
         writer.old writer.new result written.new out.old out.new }
 {
     *written = 0;
-    let Some(random) = random.as_array::<48>() else {
+    let Some(random) = random.as_array::<RANDOM_LEN>() else {
         return MISUSED;
     };
     if Passphrase::new(pass, work).is_none() || out.len() < FRONT {
         return MISUSED;
     }
-    let random = Random::new(random);
-    match random.front(alloc, pass, work) {
+    let random = FileRandom::of(random);
+    match front_of(alloc, &random, pass, work) {
         Ok(front) => {
             *written = put(front.as_slice(), out);
-            *writer = random.writer();
+            *writer = writer_of(&random);
             0
         }
         Err(fault) => fault.number(),

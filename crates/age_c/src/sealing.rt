@@ -7,80 +7,57 @@ ghost use Rattle.age_keys.specs.Scrypt.{IsAllowed};
 ghost use Rattle.age_c.specs.Readers.{start_fault_number};
 ghost use Rattle.age_c.specs.Calls.{PutsFront};
 ghost use Rattle.age_c.specs.Writers.{IsChunkCall, IsFileFront, IsLastCall, SealsChunk, SealsLast};
-ghost use Rattle.age_c.specs.Writers.{key_in, nonce_in, salt_in};
 ghost use Rattle.age_c.specs.inner.Keys.{key_of_writer};
 ghost use Rattle.age_chunk.specs.ChunkBoxes.{tag_length};
 
 use crate::start::StartFault;
 use crate::writer::Writer;
 use age_chunk::{ChunkBox, TAG_LEN, nonce_of};
-use age_keys::{FileKey, KeyFault, PayloadKey, payload_key, scrypt_header};
+use age_keys::{FileKey, FileRandom, KeyFault, PayloadKey, payload_key, scrypt_header};
 use age_stanza::encode_head;
 use std::alloc::Global;
 
-/// The random bytes that a file is made of.
-#[derive(Drop)]
-pub(crate) struct Random {
-    pub(crate) file_key: [u8; 16],
-    pub(crate) salt: [u8; 16],
-    pub(crate) nonce: [u8; 16],
+/// A writer that was given no text.
+pub(crate) fn writer_of(random: &FileRandom) -> Writer
+    ensures key { result.file_key ≡ random.now.file_key }
+    ensures nonce { result.nonce ≡ random.now.payload_nonce }
+    ensures start { (result.chunk ≡ 0) × (result.state ≡ 1) }
+{
+    Writer {
+        file_key: random.file_key,
+        nonce: random.payload_nonce,
+        chunk: 0,
+        state: 1,
+        unused: [0; 5],
+    }
 }
 
-impl Random {
-    /// The parts of 48 random bytes: the file key, the salt and the payload's nonce.
-    pub(crate) fn new(bytes: &[u8; 48]) -> Random
-        ensures key { result.file_key ≡ key_in bytes.now }
-        ensures salt { result.salt ≡ salt_in bytes.now }
-        ensures nonce { result.nonce ≡ nonce_in bytes.now }
-    {
-        let mut random = Random {
-            file_key: [0; 16],
-            salt: [0; 16],
-            nonce: [0; 16],
-        };
-        random.file_key.copy_from_slice(&bytes[..16]);
-        random.salt.copy_from_slice(&bytes[16..32]);
-        random.nonce.copy_from_slice(&bytes[32..48]);
-        random
-    }
-
-    /// A writer that was given no text.
-    pub(crate) fn writer(&self) -> Writer
-        ensures key { result.file_key ≡ self.now.file_key }
-        ensures nonce { result.nonce ≡ self.now.nonce }
-        ensures start { (result.chunk ≡ 0) × (result.state ≡ 1) }
-    {
-        Writer {
-            file_key: self.file_key,
-            nonce: self.nonce,
-            chunk: 0,
-            state: 1,
-            unused: [0; 5],
-        }
-    }
-
-    /// What stands before the payload: the header's text and the payload's nonce. It fails only if
-    /// memory is refused.
-    pub(crate) fn front(&self, alloc: Global, pass: &[u8], work: u32) -> Result<Vec<u8>, StartFault>
-        requires { IsAllowed pass.now work }
-        ensures front { IfOk result (λ front. IsFileFront pass.now work self.now.file_key
-            self.now.salt self.now.nonce front.items) }
-        ensures size { IfOk result (λ front. length front.items ≤ 256) }
-        ensures memory { IfErr result (λ fault. start_fault_number fault ≡ 28) }
-    {
-        let key = FileKey::new(self.file_key);
-        let header = match scrypt_header(alloc, pass, work, &self.salt, &key) {
-            Ok(header) => header,
-            Err(fault) => return Err(StartFault::Key(fault)),
-        };
-        let mut front = match encode_head(alloc, &header) {
-            Ok(front) => front,
-            Err(fault) => return Err(StartFault::Head(fault)),
-        };
-        match front.extend_from_slice(&self.nonce) {
-            Ok(()) => Ok(front),
-            Err(_) => Err(StartFault::Key(KeyFault::Memory)),
-        }
+/// What stands before the payload: the header's text and the payload's nonce. It fails only if
+/// memory is refused.
+pub(crate) fn front_of(
+    alloc: Global,
+    random: &FileRandom,
+    pass: &[u8],
+    work: u32,
+) -> Result<Vec<u8>, StartFault>
+    requires { IsAllowed pass.now work }
+    ensures front { IfOk result (λ front. IsFileFront pass.now work random.now.file_key
+        random.now.salt random.now.payload_nonce front.items) }
+    ensures size { IfOk result (λ front. length front.items ≤ 256) }
+    ensures memory { IfErr result (λ fault. start_fault_number fault ≡ 28) }
+{
+    let key = FileKey::new(random.file_key);
+    let header = match scrypt_header(alloc, pass, work, &random.salt, &key) {
+        Ok(header) => header,
+        Err(fault) => return Err(StartFault::Key(fault)),
+    };
+    let mut front = match encode_head(alloc, &header) {
+        Ok(front) => front,
+        Err(fault) => return Err(StartFault::Head(fault)),
+    };
+    match front.extend_from_slice(&random.payload_nonce) {
+        Ok(()) => Ok(front),
+        Err(_) => Err(StartFault::Key(KeyFault::Memory)),
     }
 }
 

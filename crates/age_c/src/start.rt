@@ -8,7 +8,7 @@ ghost use Rattle.age_c.specs.inner.Counts.{StartCounts};
 
 use crate::MORE;
 use crate::reader::Reader;
-use age_keys::{FileKey, KeyFault, Steps, Unlock, open_header};
+use age_keys::{FileKey, KeyFault, PAYLOAD_NONCE_LEN, Steps, Unlock, open_header};
 use age_stanza::{HeadFault, HeadParser, HeadStep, Header};
 use std::alloc::Global;
 
@@ -54,7 +54,7 @@ fn read_head(alloc: Global, front: &[u8]) -> Result<Head, StartFault>
     match parser.feed(front) {
         Ok(HeadStep::More) => Err(StartFault::More),
         Ok(HeadStep::Ready { taken, header }) => {
-            if front.len() - taken < 16 {
+            if front.len() - taken < PAYLOAD_NONCE_LEN {
                 return Err(StartFault::More);
             }
             Ok(Head { header, len: taken })
@@ -71,12 +71,13 @@ fn reader_after(key: &FileKey, front: &[u8], len: usize) -> Reader
     ensures payload_at { result.payload_at ≡ len + 16 }
     ensures start { IsAt result (fresh 0) }
 {
-    let mut nonce = [0; 16];
-    nonce.copy_from_slice(&front[len..len + 16]);
+    let payload_at = len + PAYLOAD_NONCE_LEN;
+    let mut nonce = [0; PAYLOAD_NONCE_LEN];
+    nonce.copy_from_slice(&front[len..payload_at]);
     Reader {
         file_key: *key.bytes(),
         nonce,
-        payload_at: len as u64 + 16,
+        payload_at: payload_at as u64,
         chunk: 0,
         fault_chunk: 0,
         state: 1,

@@ -5,10 +5,10 @@ use Rattle.std.proofs.lemmas.List.{length-append}
 use Rattle.age_file.specs.Encrypts.{SecretView}
 use Rattle.age_cli.specs.Commands.{IsRandomIn}
 use Rattle.age_cli.specs.inner.Openings.{IsRandom}
-use Rattle.age_cli.specs.declared.encrypt_command.Random.{Random}
+use Rattle.age_keys.specs.declared.random.FileRandom.{FileRandom}
 
 -- the random bytes at the front of a file are the secret's
-pub random_in : (held : Option (List ℕ)) (bytes rest : List ℕ) (r : Random) (s : SecretView) → held ≡ Some (bytes ++ rest) → IsRandom bytes r
+pub random_in : (held : Option (List ℕ)) (bytes rest : List ℕ) (r : FileRandom) (s : SecretView) → held ≡ Some (bytes ++ rest) → IsRandom bytes r
     → s.key ≡ r.file_key → s.salt ≡ r.salt → s.nonce ≡ r.payload_nonce → IsRandomIn held s
 random_in held bytes rest r s is random key salt nonce =
     let whole : bytes ++ rest ≡ r.file_key ++ (r.salt ++ (r.payload_nonce ++ (random.rest ++ rest))) =

@@ -26,36 +26,23 @@ use age_file::{Secret, Source, encrypt};
 use age_fileset::FileSet;
 use age_identity::{Choice, read_first, trimmed};
 use age_io::{Meter, Sink};
+use age_keys::{FileRandom, RANDOM_LEN};
 use std::alloc::Global;
 
 /// Where random bytes come from if no file is named.
 const RANDOM: &str = "/dev/urandom";
 
-/// The random parts of an age file.
-#[derive(Clone, Copy)]
-struct Random {
-    file_key: [u8; 16],
-    salt: [u8; 16],
-    payload_nonce: [u8; 16],
-}
-
-/// The random parts in bytes: file key, salt and payload nonce.
-fn random_of(bytes: &[u8]) -> Option<Random>
+/// The random parts in the first bytes, if there are enough.
+fn random_of(bytes: &[u8]) -> Option<FileRandom>
     ensures parts { IfSome result (λ r. IsRandom bytes.now r) }
     ensures none { IfNone result (length bytes.now < 48) }
 {
-    let (file_key, rest) = bytes.split_first_chunk::<16>()?;
-    let (salt, rest) = rest.split_first_chunk::<16>()?;
-    let payload_nonce = rest.first_chunk::<16>()?;
-    Some(Random {
-        file_key: *file_key,
-        salt: *salt,
-        payload_nonce: *payload_nonce,
-    })
+    let front = bytes.first_chunk::<RANDOM_LEN>()?;
+    Some(FileRandom::of(front))
 }
 
 /// The random parts, from the first 48 bytes of a source.
-fn random_in<S: Source>(alloc: Global, source: &mut S) -> Result<Random, Ending>
+fn random_in<S: Source>(alloc: Global, source: &mut S) -> Result<FileRandom, Ending>
     ensures read { IfOk result (λ r. (bytes : List ℕ) × Consumes (S.view source.old).remaining
         (S.view source.new).remaining bytes × IsRandom bytes r) }
     ensures short { IfErr result (λ e. is_usage e ≡ true → (bytes : List ℕ)
@@ -64,7 +51,7 @@ fn random_in<S: Source>(alloc: Global, source: &mut S) -> Result<Random, Ending>
     ensures reason { IfErr result (λ e. (old : Files) (events : List Event)
         → HasReason old events (SourceFails S.view) e) }
 {
-    let bytes = read_first(alloc, source, 48)?;
+    let bytes = read_first(alloc, source, RANDOM_LEN)?;
     match random_of(bytes.as_slice()) {
         Some(random) => Ok(random),
         None => Err(Ending::Usage(Usage::BadRandomFile)),
@@ -72,7 +59,7 @@ fn random_in<S: Source>(alloc: Global, source: &mut S) -> Result<Random, Ending>
 }
 
 /// The random parts, from the first 48 bytes of a file.
-fn read_random<F: FileSet>(alloc: Global, files: &mut F, name: &str) -> Result<Random, Ending>
+fn read_random<F: FileSet>(alloc: Global, files: &mut F, name: &str) -> Result<FileRandom, Ending>
     ensures kept { (F.view files.new).entries ≡ (F.view files.old).entries }
     ensures read { IfOk result (λ r. F.shows_bytes ≡ true
         → (bytes : List ℕ) × (rest : List ℕ)
@@ -119,7 +106,7 @@ fn read_pass<F: FileSet>(
 #[derive(Drop)]
 struct Material {
     pass: Vec<u8>,
-    random: Random,
+    random: FileRandom,
 }
 
 /// The name of the file of random bytes.

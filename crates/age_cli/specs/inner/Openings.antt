@@ -9,10 +9,7 @@ use Rattle.age_fileset.specs.FileSet.{Event, FilesView}
 use Rattle.age_cli_args.specs.Requests.{option_text}
 use Rattle.age_cli_args.specs.declared.request.Decrypting.{Decrypting}
 use Rattle.age_cli_args.specs.declared.request.Encrypting.{Encrypting}
-use Rattle.age_ending.specs.Endings.{EndsEarly, RefusesAtOnce, is_usage}
-use Rattle.age_ending.specs.declared.ending.Ending.{Ending}
-use Rattle.age_identity.specs.Files.{Files, HasReason}
-use Rattle.age_identity.specs.Orders.{Follows, random_name}
+use Rattle.age_keys.specs.declared.random.FileRandom.{FileRandom}
 use Rattle.age_cli.specs.declared.encrypt_command.Material.{Material}
 use Rattle.age_cli.specs.declared.encrypt_command.Random.{Random}
 
@@ -75,7 +72,7 @@ pub record Judges {A : Type 0} (shows : Bool) (order : List Event) (old new : Fi
 -- ---- The random parts of an age file in bytes.
 
 -- one after the other, each of 16 bytes
-pub record IsRandom (bytes : List ℕ) (r : Random) : Type 0 where
+pub record IsRandom (bytes : List ℕ) (r : FileRandom) : Type 0 where
   pub rest : List ℕ
   pub parts : bytes ≡ r.file_key ++ (r.salt ++ (r.payload_nonce ++ rest))
   pub key_length : length r.file_key ≡ 16
