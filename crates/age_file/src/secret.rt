@@ -33,7 +33,7 @@ impl<'a> Model for Secret<'a> {
 }
 
 impl<'a> Secret<'a> {
-    /// The secret of these parts; `None` where the passphrase has no byte or more than
+    /// The secret of these parts; `None` if the passphrase has no byte or more than
     /// [`PASSPHRASE_LIMIT`], or the work factor isn't 1 to [`WORK_FACTOR_LIMIT`].
     pub fn new(
         pass: &'a [u8],

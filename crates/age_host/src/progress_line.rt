@@ -75,7 +75,7 @@ impl<O: Sink> Meter for ProgressLine<O> {
     fn advance(&mut self, bytes: u64)
         ensures quiet { is_due self.old.length self.old.next self.new.count ≡ false
             → self.new ≡ record self.old { count = with_more bytes self.old.count } }
-        ensures progress_line { is_due self.old.length self.old.next self.new.count ≡ true
+        ensures line { is_due self.old.length self.old.next self.new.count ≡ true
             → Shows (O.view self.old.sink) (progress_line self.old.length self.new.count)
             (O.view self.new.sink) }
         ensures due { is_due self.old.length self.old.next self.new.count ≡ true
@@ -99,7 +99,7 @@ impl<O: Sink> Meter for ProgressLine<O> {
     fn end(&mut self)
         ensures quiet { self.old.shown ≡ false → self.new ≡ self.old }
         ensures ended { self.new ≡ record self.old { sink = self.new.sink; shown = false } }
-        ensures progress_line { self.old.shown ≡ true
+        ensures line { self.old.shown ≡ true
             → Shows (O.view self.old.sink) (codes "\n") (O.view self.new.sink) }
     {
         if self.shown {

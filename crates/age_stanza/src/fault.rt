@@ -16,8 +16,8 @@ pub enum HeadKind {
     /// The first line is that of an armored file, which isn't read.
     #[error("armored")]
     Armored = 2,
-    /// A line after the version line or a whole stanza is neither a valid
-    /// argument line nor begins with `---`.
+    /// A line after the version line or a whole stanza is neither a valid argument line nor begins
+    /// with `---`.
     #[error("bad stanza line")]
     BadStanzaLine = 3,
     /// A line of a body isn't canonical base64 of at most 64 characters.
@@ -29,8 +29,7 @@ pub enum HeadKind {
     /// The end line came before any stanza.
     #[error("no stanza")]
     NoStanza = 6,
-    /// [`HEAD_MAX`](crate::HEAD_MAX) bytes hold no whole header and no faulty
-    /// line.
+    /// [`HEAD_MAX`](crate::HEAD_MAX) bytes hold no whole header and no faulty line.
     #[error("header too long")]
     HeadTooLong = 7,
     /// The input ended inside the header.

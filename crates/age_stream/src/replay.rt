@@ -190,8 +190,8 @@ impl<'k, B: ChunkBox, const SEALED: usize> ReplayState<'k, B, SEALED> {
         }
     }
 
-    // Takes a delivery, for each list of deliveries that it may have been given. A function of its
-    // own so that its proof builds on what `deliver` ensures.
+    /// Takes a delivery, for each list of deliveries that it may have been given. A function of its
+    /// own so that its proof builds on what `deliver` ensures.
     fn take(&mut self, delivery: &Delivery<'_>) -> Result<(), Memory>
         ensures { TakesDelivery B.sealing B.opening (text_length SEALED)
             (replay_view self.old) delivery.now result (replay_view self.new) }
@@ -304,7 +304,7 @@ fn push_text(text: &mut Vec<u8>, bytes: &[u8])
     ensures items { text.new.items ≡ text.old.items ++ bytes.now }
     ensures capacity { vec_capacity text.old ≤ vec_capacity text.new }
 {
-    // within the capacity no memory is requested
+    /// within the capacity no memory is requested
     let _ = text.extend_from_slice(bytes);
 }
 

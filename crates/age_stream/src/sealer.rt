@@ -16,9 +16,9 @@ use std::marker::Model;
 #[derive(Drop)]
 struct SealerState<'k, B: ChunkBox, const SEALED: usize> {
     key: &'k B,
-    // the text of the chunk that is open; or its block, until the next call
+    /// the text of the chunk that is open; or its block, until the next call
     buffer: ArrayVec<u8, SEALED>,
-    // the next chunk's first byte, while the block is lent
+    /// the next chunk's first byte, while the block is lent
     beside: Option<u8>,
     index: u64,
     failed: bool,
@@ -87,8 +87,8 @@ impl<'k, B: ChunkBox, const SEALED: usize> SealerState<'k, B, SEALED> {
         Ok((1, true))
     }
 
-    // Makes a step, for each text that the sealer may have been given. A function of its own so that
-    // its proof builds on what `step` ensures, which names no text.
+    /// Makes a step, for each text that the sealer may have been given. A function of its own so that
+    /// its proof builds on what `step` ensures, which names no text.
     fn advance(&mut self, piece: &[u8]) -> Result<(usize, bool), StreamFault>
         requires { self.old.finished ≡ false }
         ensures { SealerAdvances B.sealing self.old piece.now result self.new }
@@ -112,8 +112,8 @@ impl<'k, B: ChunkBox, const SEALED: usize> SealerState<'k, B, SEALED> {
         Ok(())
     }
 
-    // Seals the last chunk, of each text that the sealer may have been given. A function of its own
-    // so that its proof builds on what `close` ensures, which names no text.
+    /// Seals the last chunk, of each text that the sealer may have been given. A function of its own
+    /// so that its proof builds on what `close` ensures, which names no text.
     fn close_text(&mut self) -> Result<(), StreamFault>
         requires { self.old.finished ≡ false }
         ensures last { SealerSealsLast self.old result self.new }

@@ -3,15 +3,18 @@
 use Rattle.std.specs.Prelude.{◌≡◌, ◌⊎◌, Some, Option, None, ◌++◌, true, false, Bool, List, Result}
 use Rattle.std.specs.Prelude.{IfOk, OnOk, OnErr, IfErr, ℕ, length}
 use Rattle.clap.specs.Words.{Text}
+use Rattle.age_keys.specs.declared.random.FileRandom.{FileRandom}
 use Rattle.age_file.specs.Resumes.{position_text}
 use Rattle.age_file.specs.declared.position.Position.{Position}
 use Rattle.age_fileset.specs.FileSet.{Event, FilesView}
 use Rattle.age_cli_args.specs.Requests.{option_text}
 use Rattle.age_cli_args.specs.declared.request.Decrypting.{Decrypting}
 use Rattle.age_cli_args.specs.declared.request.Encrypting.{Encrypting}
-use Rattle.age_keys.specs.declared.random.FileRandom.{FileRandom}
+use Rattle.age_ending.specs.Endings.{EndsEarly, RefusesAtOnce, is_usage}
+use Rattle.age_ending.specs.declared.ending.Ending.{Ending}
+use Rattle.age_identity.specs.Files.{Files, HasReason}
+use Rattle.age_identity.specs.Orders.{Follows, random_name}
 use Rattle.age_cli.specs.declared.encrypt_command.Material.{Material}
-use Rattle.age_cli.specs.declared.encrypt_command.Random.{Random}
 
 -- ---- The names of the files that are read.
 
