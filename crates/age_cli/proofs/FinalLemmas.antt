@@ -8,7 +8,6 @@ use Rattle.age_io.specs.Io.{SourceView}
 use Rattle.age_io.specs.declared.durability.Durability.{Durability}
 use Rattle.age_file.specs.Runs.{Ports, ports}
 use Rattle.age_file.specs.Encrypts.{SecretView, Encrypts, EncryptFails}
-use Rattle.age_file.specs.Resumes.{resume_ports, ResumesText}
 use Rattle.age_file.specs.declared.encryption.Written.{Written}
 use Rattle.age_file.specs.declared.decryption.Done.{Done}
 use Rattle.age_file.specs.declared.decryption.Stopped.{Stopped}
@@ -36,7 +35,7 @@ use Rattle.age_cli.specs.Acts.{WritesOut, kept_for}
 use Rattle.age_cli.specs.Commands.{MakesSecret, IsPositionIn, old_for}
 use Rattle.age_cli.specs.declared.interruption.Interruption.{Interruption}
 use Rattle.age_cli.specs.inner.Endings.{Concludes, sealing_end, opening_end}
-use Rattle.age_cli.specs.inner.Rereadings.{DecryptsOpened, HoldsInput}
+use Rattle.age_cli.specs.inner.Rereadings.{DecryptsOpened, HoldsInput, ResumesOpened}
 use Rattle.age_cli.proofs.ActLemmas.{acts_concluded}
 use Rattle.age_cli.proofs.CommandStopLemmas.{the_run}
 use Rattle.age_cli.proofs.EngineLemmas.{Kept, ends_so, kept_sealing, kept_opening, kept_resuming}
@@ -108,38 +107,6 @@ module _ (IsPorts : Ports → Type 0) (shows : Bool) (old opened new : FilesView
       (λ shown empty. subst (λ (n : Result (Unit {0}) Interruption). Kept (encrypt_engine secret) before after n) (sym is) (kept_sealing secret before after sealed ends fails empty))
       concludes noted apart (λ same. cc) silent
 
-  pub resume_acts : (a : Resuming) (keep : PositionPolicy) (identity : Identity) (from : Position) (first last : SourceView) (resumed : Result Done Stopped)
-      → ((files : Files) × OpensBy files a.decrypting.identity identity)
-      → (shows ≡ true → OpensBy old.entries a.decrypting.identity identity)
-      → (shows ≡ true → WasEarlier a from old.entries first)
-      → IsPorts (ports first before.sink) → IsPorts (ports last after.sink)
-      → (shows ≡ true → Found (paths_of a.decrypting) old.entries before)
-      → keep ≡ kept_for (option_text a.decrypting.save) → end ≡ opening_end resumed
-      → ResumesText keep (allows_by identity) (refuses_by identity) from (resume_ports before first) (resume_ports after last) resumed
-      → Concludes shows (option_text a.decrypting.save) a.decrypting.durability after.sink end opened new r
-      → opened.events ≡ old.events ++ (identity_order (option_text a.decrypting.identity.pass) (option_text a.decrypting.identity.shared)
-      ++ ((Opened a.position.now ∷ Opened a.old.now ∷ Opened a.decrypting.from.now ∷ preparing (option_text a.decrypting.save)) ++ Created a.decrypting.to.now ∷ []))
-      → (NamesTwice (order_asked (Resume a)).apart → ⊥) → (a.decrypting.progress ≡ Silent → Unshown) × (Unshown ⊎ Over)
-      → Acts IsPorts shows (Resume a) old new Failed Unshown Over r
-  resume_acts a keep identity from first last resumed by opens earlier first_is last_is found keep_is is promise concludes noted apart silent =
-      let d = a.decrypting in
-      let k = kept_for (option_text d.save) in
-      let engine = resume_engine IsPorts k identity from (old_for from (old.entries a.old.now)) in
-      let did = subst (λ (x : PositionPolicy). ResumesText x (allows_by identity) (refuses_by identity) from (resume_ports before first) (resume_ports after last)
-      resumed) keep_is promise in
-      acts_of_engine IsPorts shows (Resume a) old opened new Failed Unshown Over engine (paths_of d) d.durability before after end r
-      (identity_order (option_text d.identity.pass) (option_text d.identity.shared))
-      (Opened a.position.now ∷ Opened a.old.now ∷ Opened d.from.now ∷ preparing (option_text d.save)) before_is after_is refl refl
-      (λ shown P holds. (identity, opens shown, from, (earlier shown).0, (earlier shown).1, holds))
-      (subst (λ (n : Result (Unit {0}) Interruption). OnOk n (OfSomeEngine IsPorts (Resume a) (HasEngineEnded IsPorts))) (sym is)
-      (opening_ran resumed (λ done so. let of = the_run did.run so in
-      (identity, by, from, first.remaining, (before, after, before_is, after_is, (first, last, first_is, last_is, refl, (done, of.0, of.1)))))
-      did.done)) (λ spared. spared) kept found did.named
-      (λ shown empty. subst (λ (n : Result (Unit {0}) Interruption). Kept engine before after n) (sym is)
-      (kept_resuming IsPorts k identity from (old_for from (old.entries a.old.now)) before after first last did.run resumed first_is last_is (sym (earlier shown).2)
-      did.done did.stopped empty)) concludes noted apart
-      (λ same. apart (inr (inl (inl (d.to.now, same, refl))))) silent
-
 module _ (IsPorts : Ports → Type 0) (shows : Bool) (old opened new : FilesView) (Failed Unshown Over : Type 0) (before : Ports) (before_is : IsPorts before)
     (r : Result (Unit {0}) Ending) (kept : opened.entries ≡ old.entries) where
   pub decrypt_acts : (d : Decrypting) (identity : Identity) → ((files : Files) × OpensBy files d.identity identity)
@@ -162,4 +129,33 @@ module _ (IsPorts : Ports → Type 0) (shows : Bool) (old opened new : FilesView
       (opening_ran did.decrypted (λ done so. let of = the_run did.run so in
       (identity, by, (before, did.after, before_is, did.after_is, (done, of.0, of.1)))) did.done) (λ spared. spared) kept found did.named
       (λ shown empty. kept_opening k identity before did.after did.run did.decrypted did.done (did.stopped shown (holds shown)) empty) did.concludes noted apart
+      (λ same. apart (inr (inl (inl (d.to.now, same, refl))))) (did.silent, did.over)
+
+  pub resume_acts : (a : Resuming) (identity : Identity) (from : Position) (first : SourceView) → ((files : Files) × OpensBy files a.decrypting.identity identity)
+      → (shows ≡ true → OpensBy old.entries a.decrypting.identity identity)
+      → (shows ≡ true → WasEarlier a from old.entries first) → IsPorts (ports first before.sink)
+      → (shows ≡ true → Found (paths_of a.decrypting) old.entries before)
+      → ResumesOpened IsPorts shows a.decrypting identity from first before opened new Unshown Over r
+      → opened.events ≡ old.events ++ (identity_order (option_text a.decrypting.identity.pass) (option_text a.decrypting.identity.shared)
+      ++ ((Opened a.position.now ∷ Opened a.old.now ∷ Opened a.decrypting.from.now ∷ preparing (option_text a.decrypting.save)) ++ Created a.decrypting.to.now ∷ []))
+      → (NamesTwice (order_asked (Resume a)).apart → ⊥) → Acts IsPorts shows (Resume a) old new Failed Unshown Over r
+  resume_acts a identity from first by opens earlier first_is found did noted apart =
+      let d = a.decrypting in
+      let k = kept_for (option_text d.save) in
+      let engine = resume_engine IsPorts k identity from (old_for from (old.entries a.old.now)) in
+      let holds : shows ≡ true → HoldsInput d before opened =
+      λ shown. let f = found shown in record {
+        there = subst (λ (files : Files). is_some (files d.from.now) ≡ true) (sym kept) f.0;
+        gives = f.1 ∙ ap (λ (files : Files). files d.from.now) (sym kept);
+        other = λ e. apart (inl (inr (inl (d.to.now, refl, ap Some (e ∙ f.3)))));
+      } in
+      acts_of_engine IsPorts shows (Resume a) old opened new Failed Unshown Over engine (paths_of d) d.durability before did.after (opening_end did.resumed) r
+      (identity_order (option_text d.identity.pass) (option_text d.identity.shared))
+      (Opened a.position.now ∷ Opened a.old.now ∷ Opened d.from.now ∷ preparing (option_text d.save)) before_is did.after_is refl refl
+      (λ shown P holds. (identity, opens shown, from, (earlier shown).0, (earlier shown).1, holds))
+      (opening_ran did.resumed (λ done so. let of = the_run did.run so in
+      (identity, by, from, first.remaining, (before, did.after, before_is, did.after_is, (first, did.last, first_is, did.last_is, refl, (done, of.0, of.1)))))
+      did.done) (λ spared. spared) kept found did.named
+      (λ shown empty. kept_resuming IsPorts k identity from (old_for from (old.entries a.old.now)) before did.after first did.last did.run did.resumed first_is
+      did.last_is (sym (earlier shown).2) did.done (did.stopped shown (holds shown)) empty) did.concludes noted apart
       (λ same. apart (inr (inl (inl (d.to.now, same, refl))))) (did.silent, did.over)

@@ -6,6 +6,7 @@ pub mod ReportLemmas
 pub mod EngineLemmas
 pub mod ActLemmas
 pub mod RereadLemmas
+pub mod RestLemmas
 pub mod FinalLemmas
 pub mod HeadlineLemmas
 pub mod ObeyLemmas

@@ -12,6 +12,7 @@ use Rattle.age_fault.specs.declared.fault.FileFault.TheVariants as fault
 use Rattle.age_file.proofs.AgainLawLemmas.{stops_kept}
 use Rattle.age_file.specs.Decrypts.{FindsPosition, IsElsewhere, IsFoundAgain, ReadAgain}
 use Rattle.age_file.specs.Decrypts.{fault_again, DecryptStops, DecryptsKeyed, FindsKey}
+use Rattle.age_file.specs.Resumes.{IsOldText, FindsFrom}
 use Rattle.age_file.specs.Runs.{Ports, Run, IsPositionOf}
 use Rattle.age_file.specs.declared.decryption.Done.{Done}
 use Rattle.age_file.specs.declared.decryption.Stopped.{Stopped}
@@ -40,11 +41,11 @@ use Rattle.age_cli.specs.inner.Endings.{Concludes, Left, opening_end}
 use Rattle.age_cli.specs.inner.Rereadings.{again_of, ConcludesAgain, DecryptsOpened, HoldsInput}
 use Rattle.age_cli.specs.inner.Rereadings.{IsFoundIn, stopped_at}
 
-some_of : (o : Option (List ℕ)) → is_some o ≡ true → (bytes : List ℕ) × (o ≡ Some bytes)
+pub some_of : (o : Option (List ℕ)) → is_some o ≡ true → (bytes : List ℕ) × (o ≡ Some bytes)
 some_of None there = absurd (true≢false (sym there))
 some_of (Some bytes) there = (bytes, refl)
 
-kept_some : (save : Option Text) → is_some save ≡ true → Kept ≡ kept_for save
+pub kept_some : (save : Option Text) → is_some save ≡ true → Kept ≡ kept_for save
 kept_some None there = absurd (true≢false (sym there))
 kept_some (Some name) there = refl
 
@@ -106,7 +107,7 @@ module _ (IsPorts : Ports → Type 0) (shows : Bool) (d : Decrypting) (i : Ident
     At keep run p = DecryptStops keep (allows_by i) (refuses_by i) before after run (stopped_at s p)
 
     found_so : (run : Option Run) (p : Position) → FindsKey run (Some key) → DecryptStops Dropped (allows_by i) (refuses_by i) before after run s
-        → HoldsInput d before old → IsFoundIn (old.entries d.from.now) key s.written p → At Kept run p
+        → HoldsInput d before old → IsFoundIn None (old.entries d.from.now) key s.written p → At Kept run p
     found_so None p finds stops holds found = absurd (none-some key (sym finds))
     found_so (Some r) p finds stops holds (first, last, is, again) =
         let bytes = some_of (old.entries d.from.now) holds.there in
@@ -135,7 +136,7 @@ module _ (IsPorts : Ports → Type 0) (shows : Bool) (d : Decrypting) (i : Ident
       over = over;
     }
 
-    pub opened_again : ConcludesAgain shows d after.sink s key old new ending → DecryptsOpened IsPorts shows d i before old new Unshown Over (Err ending)
+    pub opened_again : ConcludesAgain shows d after.sink None s key old new ending → DecryptsOpened IsPorts shows d i before old new Unshown Over (Err ending)
     opened_again (inl (p, found, concludes)) =
         opened_at p (λ shown holds. found_so did.is.run p did.found did.is.stopped holds (found shown (λ e. holds.other (e ∙ did.is.named)))) concludes
     opened_again (inr all) =
@@ -159,9 +160,14 @@ over_again first second third OverAt (inr over) (inl same) = inr (subst OverAt (
 
 -- a position that was found by this key, over these bytes
 pub finds_so : (bytes : Option (List ℕ)) (key : List ℕ) (old new : SourceView) (written : ℕ) (r : Result Position FileFault) → old.remaining ≡ bytes
-    → FindsPosition (λ _ k. k ≡ key) (λ _ _. ⊥) old new written r → IfOk r (IsFoundIn bytes key written)
+    → FindsPosition (λ _ k. k ≡ key) (λ _ _. ⊥) old new written r → IfOk r (IsFoundIn None bytes key written)
 finds_so bytes key old new written (Ok p) is found = (old, new, is, found)
 finds_so bytes key old new written (Err f) is found = tt
+
+pub finds_from : (from : Position) (bytes : Option (List ℕ)) (key : List ℕ) (old new : SourceView) (written : ℕ) (r : Result Position FileFault) → old.remaining ≡ bytes
+    → ((copied : List ℕ) → IsOldText from copied → FindsFrom (λ _ k. k ≡ key) from copied (λ _ _. ⊥) old new written r) → IfOk r (IsFoundIn (Some from) bytes key written)
+finds_from from bytes key old new written (Ok p) is found = (old, new, is, found)
+finds_from from bytes key old new written (Err f) is found = tt
 
 again_fault : (f : FileFault) → IsMemoryOr Read (fault_again f)
 again_fault fault.Memory = inr refl

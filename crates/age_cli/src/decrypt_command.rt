@@ -104,14 +104,14 @@ pub(crate) fn read_secret<F: FileSet>(
 }
 
 /// Whether a position is to be saved, and the input can be read once more to find it.
-fn can_reread<F: FileSet>(files: &F, source: &F::In, save: Option<&str>) -> bool
+pub(crate) fn can_reread<F: FileSet>(files: &F, source: &F::In, save: Option<&str>) -> bool
     ensures { result ≡ true → is_some (option_text save.entry) ≡ true }
 {
     save.is_some() && files.can_reread(source)
 }
 
 /// Positions are dropped if the input can be read once more to find one.
-fn positions_at_first(is_reread: bool, save: Option<&str>) -> PositionPolicy
+pub(crate) fn positions_at_first(is_reread: bool, save: Option<&str>) -> PositionPolicy
     ensures dropped { is_reread ≡ true → result ≡ Dropped }
     ensures kept { is_reread ≡ false → result ≡ kept_for (option_text save.entry) }
 {
@@ -162,7 +162,7 @@ fn open_text<F: FileSet, P: Meter>(
 }
 
 /// The stop and the key by which the input is read once more, if that is to be done.
-fn again_of(
+pub(crate) fn again_of(
     is_reread: bool,
     end: &Result<Done, Stopped>,
     key: Option<KnownKey>,
@@ -218,6 +218,7 @@ fn decrypt_opened<F: FileSet, E: Sink, P: Meter>(
                 source,
                 key,
                 stopped,
+                from: None,
             };
             Err(conclude_again(alloc, files, out, asked, again, faults, announced, progress))
         }

@@ -13,7 +13,7 @@ use crate::interruption::save;
 use crate::output::{end_meter, leave, with_meter};
 use age_cli_args::{Decrypting, ProgressOption};
 use age_ending::{Announcement, Ending, announce};
-use age_file::{FileFault, Position, Stopped, position_after};
+use age_file::{FileFault, Position, Stopped, position_after, resumed_position_after};
 use age_fileset::FileSet;
 use age_io::{Meter, Sink, Source};
 use age_keys::KnownKey;
@@ -25,10 +25,29 @@ pub(crate) struct Again<S: Source> {
     pub(crate) source: S,
     pub(crate) key: KnownKey,
     pub(crate) stopped: Stopped,
+    /// The position that it began from, if it was resumed.
+    pub(crate) from: Option<Position>,
+}
+
+/// The position after this many bytes of the text, by reading its file from its start.
+#[tactic(auto, using(crate::proofs::RereadLemmas::finds_so, crate::proofs::RereadLemmas::fails_so))]
+fn position_in<S: Source>(
+    alloc: Global,
+    from: &Option<Position>,
+    key: &KnownKey,
+    written: u128,
+    source: &mut S,
+) -> Result<Position, FileFault>
+    ensures found { IfOk result (IsFoundIn from.now (S.view source.old).remaining key.now written) }
+    ensures faults { IfErr result (IsMemoryOr Read) }
+{
+    match from {
+        None => position_after(alloc, key, written, source),
+        Some(from) => resumed_position_after(alloc, key, from, written, source),
+    }
 }
 
 /// The position of a stop, by reading the input once more.
-#[tactic(auto, using(crate::proofs::RereadLemmas::finds_so, crate::proofs::RereadLemmas::fails_so))]
 fn find_again<F: FileSet, P: Meter>(
     alloc: Global,
     files: &F,
@@ -36,7 +55,7 @@ fn find_again<F: FileSet, P: Meter>(
     again: Again<F::In>,
     progress: &mut P,
 ) -> Result<Position, FileFault>
-    ensures found { F.shows_bytes ≡ true → IfOk result (IsFoundIn
+    ensures found { F.shows_bytes ≡ true → IfOk result (IsFoundIn again.from
         ((F.view files.now).entries asked.now.from.now) again.key again.stopped.written) }
     ensures faults { IfErr result (IsMemoryOr Read) }
     ensures silent { asked.now.progress ≡ Silent → progress.new ≡ progress.old }
@@ -46,13 +65,15 @@ fn find_again<F: FileSet, P: Meter>(
         mut source,
         key,
         stopped,
+        from,
     } = again;
+    let written = stopped.written;
     files.reread(alloc, asked.from, &mut source)?;
     match asked.progress {
-        ProgressOption::Silent => position_after(alloc, &key, stopped.written, &mut source),
+        ProgressOption::Silent => position_in(alloc, &from, &key, written, &mut source),
         ProgressOption::Shown => {
             let mut metered = with_meter(files, source, &mut *progress);
-            let found = position_after(alloc, &key, stopped.written, &mut metered);
+            let found = position_in(alloc, &from, &key, written, &mut metered);
             drop(metered);
             end_meter(&mut *progress);
             found
@@ -74,8 +95,8 @@ pub(crate) fn conclude_again<F: FileSet, E: Sink, P: Meter>(
 ) -> Ending
     requires { is_some (option_text asked.now.save) ≡ true }
     ensures announced { Announces announced.new result (E.view faults.old) (E.view faults.new) ⊥ }
-    ensures again { ConcludesAgain (F.shows_bytes) asked.now (F.Out.view out) again.stopped
-        again.key (F.view files.old) (F.view files.new) result }
+    ensures again { ConcludesAgain (F.shows_bytes) asked.now (F.Out.view out) again.from
+        again.stopped again.key (F.view files.old) (F.view files.new) result }
     ensures silent { asked.now.progress ≡ Silent → progress.new ≡ progress.old }
     ensures over { (progress.new ≡ progress.old) ⊎ (IsOver (P.shown progress.new)) }
 {

@@ -4,23 +4,34 @@ ghost use Rattle.std.specs.Prelude.{◌≡◌, ◌⊎◌, [], ◌∷◌, ◌++�
 ghost use Rattle.age_fault.specs.declared.fault.FileFault.TheVariants.{Read, BadPosition};
 ghost use Rattle.age_fileset.specs.FileSet.{Opened, OpenFails};
 ghost use Rattle.age_fileset.specs.declared.files.OpenFault.TheVariants as OpenFault;
+ghost use Rattle.age_cli_args.specs.declared.request.ProgressOption.TheVariants.{Silent};
 ghost use Rattle.age_cli_args.specs.declared.request.Request.TheVariants.{Resume};
+ghost use Rattle.age_file.specs.Resumes.{resume_ports, ResumesKeyed};
+ghost use Rattle.age_file.specs.Runs.{ports};
+ghost use Rattle.age_identity.specs.Identities.{allows_by, refuses_by};
 ghost use Rattle.age_identity.specs.Orders.{Follows, NamesTwice, order_asked};
 ghost use Rattle.age_ending.specs.Endings.{Tells};
 ghost use Rattle.age_identity.specs.Files.{SourceFails, IsUnread};
 ghost use Rattle.age_io.specs.Io.{IsOver};
 ghost use Rattle.age_cli.specs.Acts.{Acts, PortsOf};
 ghost use Rattle.age_cli.specs.Commands.{HoldsNoPosition, IsPositionIn, old_for};
+ghost use Rattle.age_cli.specs.inner.Rereadings.{ResumesOpened, key_of, placed};
 
-use crate::decrypt_command::{is_given_as, names_a_file_twice, positions_for, read_secret};
+use crate::decrypt_command::{
+    again_of, can_reread, is_given_as, names_a_file_twice, positions_at_first, read_secret,
+};
 use crate::interruption::opening_end;
 use crate::output::{Content, Output, conclude, end_meter, open_both, with_meter};
-use age_cli_args::{ProgressOption, Resuming};
+use crate::reread::{Again, conclude_again};
+use age_cli_args::{Decrypting, ProgressOption, Resuming};
 use age_ending::{Announcement, Ending};
-use age_file::{FileFault, Position, resume_with};
+use age_file::{
+    Done, FileFault, Position, PositionPolicy, Source, Standing, Stopped, read_again, resume_keyed,
+};
 use age_fileset::{FileSet, OpenFault};
-use age_identity::{Choice, read_file};
+use age_identity::{Choice, Identity, read_file};
 use age_io::{Meter, Sink};
+use age_keys::KnownKey;
 use std::alloc::Global;
 
 /// A position's file has fewer bytes.
@@ -124,6 +135,167 @@ fn open_earlier<F: FileSet>(
     Ok((position, old))
 }
 
+/// Where a resumed decryption stopped, had positions been kept: in the blocks that are skipped it is
+/// where it began.
+fn placed(
+    is_reread: bool,
+    standing: &Standing,
+    position: &Position,
+    end: Result<Done, Stopped>,
+) -> Result<Done, Stopped>
+    ensures { result ≡ placed is_reread standing.now position.now end }
+{
+    match (end, standing) {
+        (Err(stopped), Standing::Skipping) if is_reread => Err(Stopped {
+            position: Some(*position),
+            ..stopped
+        }),
+        (end, _) => end,
+    }
+}
+
+/// The key of the payload that a resumed decryption came to.
+fn key_of(standing: Standing) -> Option<KnownKey>
+    ensures { result ≡ key_of standing }
+{
+    match standing {
+        Standing::InPayload(key) => Some(key),
+        Standing::Before | Standing::Skipping => None,
+    }
+}
+
+/// How a resumed decryption ended, with where it stood and with the input.
+#[derive(Drop)]
+struct Resumed<S: Source> {
+    end: Result<Done, Stopped>,
+    standing: Standing,
+    source: S,
+}
+
+/// Resumes the decryption of the input into the output.
+fn resume_text<F: FileSet, P: Meter>(
+    alloc: Global,
+    files: &F,
+    asked: &Decrypting<'_>,
+    positions: PositionPolicy,
+    identity: &Identity<'_>,
+    position: &Position,
+    mut source: F::In,
+    old: &mut F::In,
+    out: &mut F::Out,
+    progress: &mut P,
+) -> Resumed<F::In>
+    ensures resumed { ResumesKeyed positions (allows_by identity.now) (refuses_by identity.now)
+        position.now
+        (resume_ports (ports (F.In.view source) (F.Out.view out.old)) (F.In.view old.old))
+        (resume_ports (ports (F.In.view result.source) (F.Out.view out.new)) (F.In.view old.new))
+        result.end result.standing }
+    ensures silent { asked.now.progress ≡ Silent → progress.new ≡ progress.old }
+    ensures over { (progress.new ≡ progress.old) ⊎ (IsOver (P.shown progress.new)) }
+{
+    match asked.progress {
+        ProgressOption::Silent => {
+            let (end, standing) = resume_keyed(
+                alloc,
+                positions,
+                identity,
+                position,
+                &mut source,
+                old,
+                out,
+            );
+            Resumed {
+                end,
+                standing,
+                source,
+            }
+        }
+        ProgressOption::Shown => {
+            let mut metered = with_meter(files, source, &mut *progress);
+            let (end, standing) = resume_keyed(
+                alloc,
+                positions,
+                identity,
+                position,
+                &mut metered,
+                old,
+                out,
+            );
+            let (source, _) = metered.into_parts();
+            end_meter(&mut *progress);
+            Resumed {
+                end,
+                standing,
+                source,
+            }
+        }
+    }
+}
+
+/// Resumes the decryption of the input into the output, ends that, and saves the position of a
+/// stop. Where the input can be read again, the text is linked for it only once it stopped.
+fn resume_opened<F: FileSet, E: Sink, P: Meter>(
+    alloc: Global,
+    files: &mut F,
+    asked: &Decrypting<'_>,
+    identity: &Identity<'_>,
+    position: &Position,
+    mut old: F::In,
+    source: F::In,
+    mut out: F::Out,
+    faults: &mut E,
+    announced: &mut Announcement,
+    progress: &mut P,
+) -> Result<(), Ending>
+    ensures announced { Tells announced.new result (E.view faults.old) (E.view faults.new)
+        (faults.new ≡ faults.old) }
+    ensures opened { ResumesOpened (PortsOf F.In.view F.Out.view) (F.shows_bytes) asked.now identity.now
+        position.now (F.In.view old) (ports (F.In.view source) (F.Out.view out)) (F.view files.old)
+        (F.view files.new) (progress.new ≡ progress.old) (IsOver (P.shown progress.new)) result }
+{
+    read_again::<Identity<'_>>();
+    let is_reread = can_reread(files, &source, asked.save);
+    let resumed = resume_text(
+        alloc,
+        files,
+        asked,
+        positions_at_first(is_reread, asked.save),
+        identity,
+        position,
+        source,
+        &mut old,
+        &mut out,
+        &mut *progress,
+    );
+    let Resumed {
+        end,
+        standing,
+        source,
+    } = resumed;
+    let end = placed(is_reread, &standing, position, end);
+    match again_of(is_reread, &end, key_of(standing)) {
+        Some((stopped, key)) => {
+            let again = Again {
+                source,
+                key,
+                stopped,
+                from: Some(*position),
+            };
+            Err(conclude_again(alloc, files, out, asked, again, faults, announced, progress))
+        }
+        None => conclude(
+            alloc,
+            files,
+            out,
+            asked.save,
+            asked.durability,
+            faults,
+            announced,
+            opening_end(end),
+        ),
+    }
+}
+
 /// Continues a decryption as asked. If it stops, the line of its fault is put to `faults`, and then
 /// its position is saved. What `announced` says isn't reported is left to `report_ending`.
 pub fn resume_file<F: FileSet, E: Sink, P: Meter>(
@@ -153,7 +325,7 @@ pub fn resume_file<F: FileSet, E: Sink, P: Meter>(
     ];
     let secret = read_secret(alloc, files, &choice, is_file_named_twice, &read)?;
     let identity = choice.identity(&secret)?;
-    let (position, mut old) = open_earlier(alloc, files, asked)?;
+    let (position, old) = open_earlier(alloc, files, asked)?;
     let output = Output {
         to: wanted.to,
         save: wanted.save,
@@ -161,53 +333,8 @@ pub fn resume_file<F: FileSet, E: Sink, P: Meter>(
         durability: wanted.durability,
         content: Content::Plaintext,
     };
-    let (mut source, mut out) = open_both(alloc, files, wanted.from, &output)?;
-    let positions = positions_for(wanted.save);
-    match wanted.progress {
-        ProgressOption::Silent => {
-            let resumed = resume_with(
-                alloc,
-                positions,
-                &identity,
-                &position,
-                &mut source,
-                &mut old,
-                &mut out,
-            );
-            conclude(
-                alloc,
-                files,
-                out,
-                output.save,
-                output.durability,
-                faults,
-                announced,
-                opening_end(resumed),
-            )
-        }
-        ProgressOption::Shown => {
-            let mut metered = with_meter(files, source, &mut *progress);
-            let resumed = resume_with(
-                alloc,
-                positions,
-                &identity,
-                &position,
-                &mut metered,
-                &mut old,
-                &mut out,
-            );
-            drop(metered);
-            end_meter(&mut *progress);
-            conclude(
-                alloc,
-                files,
-                out,
-                output.save,
-                output.durability,
-                faults,
-                announced,
-                opening_end(resumed),
-            )
-        }
-    }
+    let (source, out) = open_both(alloc, files, wanted.from, &output)?;
+    resume_opened(
+        alloc, files, wanted, &identity, &position, old, source, out, faults, announced, progress,
+    )
 }

@@ -4,7 +4,7 @@ use Rattle.std.proofs.Common.{refl, sym, ap, subst, ◌∙◌, arith, append_ass
 use Rattle.std.specs.Simd.{first_chunks}
 use Rattle.std.proofs.lemmas.List.{length-append}
 use Rattle.std.proofs.Math.Nat.{le-div_iff_mul-le}
-use Rattle.age_chunk.specs.Payload.{chunk_limit, chunk_length}
+use Rattle.age_chunk.specs.Payload.{block_length, chunk_limit, chunk_length}
 use Rattle.age_chunk.proofs.FirstChunkLemmas.{first_chunks-append}
 use Rattle.age_file.proofs.RunLemmas.{writes_of}
 use Rattle.age_stanza.specs.declared.header.Header.{Header}
@@ -14,6 +14,7 @@ use Rattle.age_stream.specs.Segment.{Segment, outcome, released}
 use Rattle.age_io.specs.Io.{SourceView}
 use Rattle.age_keys.specs.declared.fault.KeyFault.{KeyFault}
 use Rattle.age_file.specs.Decrypts.{DecryptStops, IsFoundAgain, ReadAgain}
+use Rattle.age_file.specs.Resumes.{ResumePorts, IsFrom, ResumeStops, IsFoundFrom, RestReadAgain}
 use Rattle.age_file.specs.declared.decryption.Stopped.{Stopped}
 use Rattle.age_file.specs.declared.position.PositionPolicy.TheVariants.{Kept, Dropped}
 use Rattle.age_keys.specs.Keys.{payload_key, position_key}
@@ -209,3 +210,51 @@ read_again one Who Allows Refused who before after r stopped old new bytes p s s
     stops_kept (Allows who) (Refused who) before after r stopped p s
     (same_position one (Allows who) before after stopped.written r old new bytes p s.0 s.1.is shown
     again found)
+
+-- ---- The same for a resumed run.
+
+rest_position : OneHeader → (Allows : Header → List ℕ → Type 0) (p : Position)
+    (before after : ResumePorts) (written : ℕ) (r : Run) (old new : SourceView) (bytes : List ℕ)
+    (next : Position)
+    → IsFrom p before.old after.old r → IsRun Allows before.main after.main written r
+    → before.main.source.remaining ≡ Some bytes → old.remaining ≡ Some bytes
+    → IsFoundFrom (λ _ key. key ≡ r.file.key) p r.copied old new written next
+    → IsPositionOf r next
+rest_position one Allows p before after written r old new bytes next from is shown again found =
+    let q = found.run in
+    let f = fronts one Allows (λ _ key. key ≡ r.file.key) before.main.source.remaining
+    after.main.source.remaining old.remaining new.remaining bytes r q shown again is.reads
+    found.is.reads in
+    let same = f.4 in
+    let passed : length r.skipped ≡ length q.skipped =
+    is.skipped_size ∙ (ap (λ (n : ℕ). n * block_length) (from.index ∙ sym found.rest.0)
+    ∙ sym found.is.skipped_size) in
+    let all : r.skipped ++ (r.bytes ++ f.0) ≡ q.skipped ++ (q.bytes ++ f.1) =
+    sym (append_assoc r.skipped r.bytes f.0)
+    ∙ (same.behind ∙ append_assoc q.skipped q.bytes f.1) in
+    let behind =
+    (same_front r.skipped q.skipped (r.bytes ++ f.0) (q.bytes ++ f.1) passed all).1 in
+    same_stand r q p.index next f.0 f.1 p.within from.index found.rest.0 found.rest.1
+    (is.copied_size ∙ ap (λ (n : ℕ). n * chunk_length) from.index) found.is.reads.opens.allowed
+    same.header_bytes same.nonce behind (sym is.count ∙ found.is.count)
+    (λ e. none_left after.main.source.remaining f.0 f.2 (is.at_end e))
+    (λ e. none_left new.remaining f.1 f.3 (found.is.at_end e)) is.prefix found.is.prefix found.here
+
+pub rest_kept : (Allows : Header → List ℕ → Type 0) (Refused : Header → KeyFault → Type 0)
+    (p : Position) (before after : ResumePorts) (r : Run) (stopped : Stopped) (next : Position)
+    → ResumeStops Allows p before after Dropped Refused (Some r) stopped → IsPositionOf r next
+    → ResumeStops Allows p before after Kept Refused (Some r)
+    (record { fault = stopped.fault; written = stopped.written; position = Some next })
+rest_kept Allows Refused p before after r stopped next s at = (
+  s.0,
+  s.1,
+  record { is = s.2.is; begins = s.2.begins; here = at; why = s.2.why },
+)
+
+pub rest_read_again : OneHeader → (Who : Type 0) (Allows : Who → Header → List ℕ → Type 0)
+    (Refused : Who → Header → KeyFault → Type 0) → RestReadAgain Who Allows Refused
+rest_read_again one Who Allows Refused who p before after r stopped old new bytes next s shown again
+    found =
+    rest_kept (Allows who) (Refused who) p before after r stopped next s
+    (rest_position one (Allows who) p before after stopped.written r old new bytes next s.0 s.2.is
+    shown again found)

@@ -20,7 +20,7 @@ use Rattle.age_file.specs.Decrypts.{StartFails, DecryptsKeyed, DecryptStops}
 use Rattle.age_file.specs.inner.Copies.{StartsAt}
 use Rattle.age_file.specs.Runs.{Run, IsFromStart, segment_of, held, IsRun, PayloadFails, IsDone}
 use Rattle.age_file.specs.Runs.{IsPositionOf, NeverEnds, Ports, NoneFailed}
-use Rattle.age_file.proofs.RunLemmas.{writes_of, writes_all, position_given, position_is}
+use Rattle.age_file.proofs.RunLemmas.{writes_of, writes_all, position_given, position_due}
 use Rattle.age_file.specs.Bindings.{file_id, position_tag, chain}
 use Rattle.std.specs.Simd.{first_chunks}
 use Rattle.age_file.specs.inner.Bindings.{chain_if}
@@ -197,20 +197,8 @@ module _ (keep : PositionPolicy) (Allows : Header → List ℕ → Type 0) (Refu
       (run : Result (Unit {0}) FileFault) (p : IsDecrypted a unlocked old new run)
       → (at : Position) × IsPositionOf p.run at
   due_of a unlocked old new run p =
-      let t = new.writer.tally in
-      let links = chain (first_chunks chunk_length t.index (held p.run)) in
-      let at : Position = record {
-        index = t.index;
-        file_id = unlocked.id;
-        chain = links;
-        tag = position_tag (position_key unlocked.key unlocked.nonce) t.index unlocked.id links;
-        within = t.within;
-      } in (
-        at,
-        position_is p.run unlocked t.index at (first_fits p.run p.from) p.key_is p.nonce_is p.id
-            p.is.prefix p.counts.index
-            (record { index_is = refl; file_id_is = refl; chain_is = refl; tag_is = refl }),
-      )
+      position_due p.run unlocked new.writer.tally.index (first_fits p.run p.from)
+      new.writer.tally.within p.key_is p.nonce_is p.id p.is.prefix p.counts.index
 
   -- the whole run
   pub run_ended : OneHeader → (a : SourceView) (unlocked : Unlocked) (old new : Stage)

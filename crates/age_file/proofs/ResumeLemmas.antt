@@ -4,7 +4,10 @@ use Rattle.std.proofs.Common.{Option, Some, None, refl, inl, inr, sym, ap, subst
 use Rattle.std.proofs.Common.{suc, ◌^◌, arith, append-nil, append_assoc}
 use Rattle.std.specs.Prelude.{Result, MatchResult, Ok, Err}
 use Rattle.age_stanza.specs.Laws.{OneHeader}
-use Rattle.age_file.specs.Resumes.{ResumesText, ResumePorts, WritesOld, IsFrom, IsSame, BeginsWith}
+use Rattle.age_file.specs.Resumes.{ResumesKeyed, ResumePorts, WritesOld, IsFrom, IsSame, BeginsWith}
+use Rattle.age_file.specs.Resumes.{StandsAt}
+use Rattle.age_file.specs.declared.standing.Standing.{Standing}
+use Rattle.age_file.specs.declared.standing.Standing.TheVariants.{Before, Skipping, InPayload}
 use Rattle.age_file.specs.Resumes.{IsOldText, NeverEndTogether, BeforeOldFails, InOldFails}
 use Rattle.age_file.specs.Resumes.{StopsInOld, InSkippedFails, StopsInSkipped, ResumeStops}
 use Rattle.age_file.specs.declared.decryption.Done.{Done}
@@ -30,8 +33,8 @@ use Rattle.age_file.specs.inner.Readers.{ReaderView, reader_view, WriterView, St
 use Rattle.age_file.specs.inner.Payloads.{HasCounted, HasPlace, DecryptsPayload, SegmentFails}
 use Rattle.age_file.specs.inner.Payloads.{SegmentDone}
 use Rattle.age_file.specs.Runs.{Run, segment_of, held, Reads, IsRun, GivesPosition, PayloadFails}
-use Rattle.age_file.specs.Runs.{IsDone, OpenedFile}
-use Rattle.age_file.proofs.RunLemmas.{writes_of, writes_all, position_given}
+use Rattle.age_file.specs.Runs.{IsDone, OpenedFile, IsPositionOf}
+use Rattle.age_file.proofs.RunLemmas.{writes_of, writes_all, position_given, position_due}
 use Rattle.age_file.specs.inner.Verdicts.{PositionRefused}
 use Rattle.age_file.specs.Decrypts.{StartFails}
 use Rattle.age_io.specs.Io.{SourceView, SinkView}
@@ -130,17 +133,23 @@ module _ (keep : PositionPolicy) (Allows : Header → List ℕ → Type 0) (Refu
   abbrev EarlyStop : ResumePorts → ResumePorts → Stopped → Type 0
   EarlyStop old new stopped = ResumeStops Allows p old new keep Refused None stopped
 
-  stopped_with : OneHeader → (old new : ResumePorts) (stopped : Stopped) → EarlyStop old new stopped
+  stopped_with : OneHeader → (old new : ResumePorts) (stopped : Stopped) (standing : Standing)
+      → EarlyStop old new stopped
+      → StandsAt Allows p old new keep Refused None (Err stopped) standing
       → new.main.sink.label ≡ old.main.sink.label
-      → ResumesText keep Allows Refused p old new (Err stopped)
-  stopped_with one old new stopped stops named = record {
-    run = None;
-    done = tt;
-    stopped = stops;
-    undamaged = λ text whole. undamaged_rest one Allows Refused p old new text whole keep None
-        stopped stops;
-    settled = tt;
-    named = named;
+      → ResumesKeyed keep Allows Refused p old new (Err stopped) standing
+  stopped_with one old new stopped standing stops stands named = record {
+    is = record {
+      run = None;
+      done = tt;
+      stopped = stops;
+      undamaged = λ text whole. undamaged_rest one Allows Refused p old new text whole keep None
+          stopped stops;
+      settled = tt;
+      named = named;
+    };
+    stands = stands;
+    due = tt;
   }
 
   -- before the old text
@@ -181,10 +190,11 @@ module _ (keep : PositionPolicy) (Allows : Header → List ℕ → Type 0) (Refu
   stopped_before : OneHeader → (old new : ResumePorts) (fault : FileFault)
       → new.main.sink ≡ old.main.sink → new.old ≡ old.old
       → BeforeOldFails Allows p old new Refused fault
-      → ResumesText keep Allows Refused p old new
-      (Err (record { fault = fault; written = 0; position = None }))
+      → ResumesKeyed keep Allows Refused p old new
+      (Err (record { fault = fault; written = 0; position = None })) Before
   stopped_before one old new fault same text f =
-      stopped_with one old new (record { fault = fault; written = 0; position = None })
+      stopped_with one old new (record { fault = fault; written = 0; position = None }) Before
+      (inl (record { sink = same; written = refl; position = refl }, text, f))
       (inl (record { sink = same; written = refl; position = refl }, text, f))
       (ap (λ (s : SinkView). s.label) same)
 
@@ -192,8 +202,8 @@ module _ (keep : PositionPolicy) (Allows : Header → List ℕ → Type 0) (Refu
   pub stopped_early : OneHeader → (old new : ResumePorts) (fault : FileFault)
       → new.main.sink ≡ old.main.sink → new.old ≡ old.old
       → StartFails Allows Refused old.main.source new.main.source fault
-      → ResumesText keep Allows Refused p old new
-      (Err (record { fault = fault; written = 0; position = None }))
+      → ResumesKeyed keep Allows Refused p old new
+      (Err (record { fault = fault; written = 0; position = None })) Before
   stopped_early one old new fault same text f =
       stopped_before one old new fault same text (before_fails old new fault f)
 
@@ -202,8 +212,8 @@ module _ (keep : PositionPolicy) (Allows : Header → List ℕ → Type 0) (Refu
       (fault : FileFault) → new.main.sink ≡ old.main.sink → new.old ≡ old.old
       → StartsAt Allows old.main.source (reader_view new.main.source u) unlocked
       → PositionRefused p unlocked.id unlocked.key unlocked.nonce fault
-      → ResumesText keep Allows Refused p old new
-      (Err (record { fault = fault; written = 0; position = None }))
+      → ResumesKeyed keep Allows Refused p old new
+      (Err (record { fault = fault; written = 0; position = None })) Before
   refused one old new u unlocked fault same text s f =
       stopped_before one old new fault same text (verdict_fails old new u unlocked fault s f)
 
@@ -339,12 +349,12 @@ module _ (keep : PositionPolicy) (Allows : Header → List ℕ → Type 0) (Refu
 
     pub copy_stopped : OneHeader → (fault : FileFault)
         → CopiesText keep chunk_length p.index p.chain x z first s1.writer (Err fault)
-        → ResumesText keep Allows Refused p (before a first x) (after s1 z)
-        (Err (record { fault = fault; written = s1.writer.tally.written; position = None }))
+        → ResumesKeyed keep Allows Refused p (before a first x) (after s1 z)
+        (Err (record { fault = fault; written = s1.writer.tally.written; position = None })) Before
     copy_stopped one fault c =
         stopped_with one (before a first x) (after s1 z)
-        (record { fault = fault; written = s1.writer.tally.written; position = None })
-        (inr (inl (copy_fails fault c))) c.named
+        (record { fault = fault; written = s1.writer.tally.written; position = None }) Before
+        (inr (inl (copy_fails fault c))) (inr (copy_fails fault c)) c.named
 
     -- ---- a run that went on after the old text
 
@@ -511,18 +521,20 @@ module _ (keep : PositionPolicy) (Allows : Header → List ℕ → Type 0) (Refu
       pub skip_stopped : OneHeader → (m : ReaderView) (fault : FileFault)
           (result : Result Done Stopped) → EndsAs unlocked s1.writer.tally (Err fault) result
           → SkipFails block_length p.index s1.reader m fault
-          → ResumesText keep Allows Refused p (before a first x) (after (stage m s1.writer) z)
-          result
+          → ResumesKeyed keep Allows Refused p (before a first x) (after (stage m s1.writer) z)
+          result Skipping
       skip_stopped one m fault result (next, at, is) f =
           let here = same_given keep next
           (subst (λ (l : Option (List ℕ)). PositionAt unlocked s1.writer.tally.index l next)
           c.answered.4 at) in
           let old = before a first x in
           let new = after (stage m s1.writer) z in
-          subst (λ (r : Result Done Stopped). ResumesText keep Allows Refused p old new r) (sym is)
+          let stops = skipped_fails m next fault here f in
+          subst (λ (r : Result Done Stopped). ResumesKeyed keep Allows Refused p old new r Skipping)
+          (sym is)
           (stopped_with one old new (record
-          { fault = fault; written = s1.writer.tally.written; position = next })
-          (inr (inr (skipped_fails m next fault here f))) c.named)
+          { fault = fault; written = s1.writer.tally.written; position = next }) Skipping
+          (inr (inr stops)) stops c.named)
 
       -- they were
       module _ (m : ReaderView) (passed : List ℕ) (size : length passed ≡ p.index * block_length)
@@ -650,13 +662,36 @@ module _ (keep : PositionPolicy) (Allows : Header → List ℕ → Type 0) (Refu
             (f.0, f.1, never_end s2 (head ++ (b.run.skipped ++ b.run.bytes)) b.pulled f.2)
         decrypted_fails s2 other b f = absurd f
 
+        -- its file is the one that was started
+        key_of : (s2 : Stage) (result : Result (Unit {0}) FileFault) (b : IsDecrypted s2 result)
+            → b.run.file.key ≡ unlocked.key
+        key_of s2 result b = ap (λ (f : OpenedFile). f.key) b.file_is
+
+        nonce_of : (s2 : Stage) (result : Result (Unit {0}) FileFault) (b : IsDecrypted s2 result)
+            → b.run.file.nonce ≡ unlocked.nonce
+        nonce_of s2 result b = ap (λ (f : OpenedFile). f.nonce) b.file_is
+
+        id_of : (s2 : Stage) (result : Result (Unit {0}) FileFault) (b : IsDecrypted s2 result)
+            → unlocked.id ≡ file_id b.run.file.header_bytes b.run.file.nonce
+        id_of s2 result b =
+            s.id ∙ ap (λ (f : OpenedFile). file_id f.header_bytes f.nonce) (sym b.file_is)
+
+        -- so it stands at a position, kept or not
+        due_of : (s2 : Stage) (result : Result (Unit {0}) FileFault) (b : IsDecrypted s2 result)
+            → (next : Position) × IsPositionOf b.run next
+        due_of s2 result b =
+            position_due b.run unlocked s2.writer.tally.index (first_fits s2 result b)
+            s2.writer.tally.within (key_of s2 result b) (nonce_of s2 result b) (id_of s2 result b)
+            b.is.prefix b.counts.index
+
         -- the whole run
         pub rest_ended : OneHeader → (s2 : Stage) (run : Result (Unit {0}) FileFault)
             (result : Result Done Stopped)
             → DecryptsPayload (opens (payload_key unlocked.key unlocked.nonce)) chunk_length p.index
             (stage m s1.writer) s2 run
             → EndsAs unlocked s2.writer.tally run result
-            → ResumesText keep Allows Refused p (before a first x) (after s2 z) result
+            → ResumesKeyed keep Allows Refused p (before a first x) (after s2 z) result
+            (InPayload unlocked.key)
         rest_ended one s2 (Ok done) result d is =
             let b = decrypted s2 (Ok done) d in
             let f = b.answered in
@@ -669,30 +704,31 @@ module _ (keep : PositionPolicy) (Allows : Header → List ℕ → Type 0) (Refu
               done = f.1;
               all = writes_all b.run (first_fits s2 (Ok done) b) f.2 f.1;
             } in
-            subst (λ (r : Result Done Stopped). ResumesText keep Allows Refused p old new r)
+            subst (λ (r : Result Done Stopped). ResumesKeyed keep Allows Refused p old new r
+            (InPayload unlocked.key))
             (sym is)
             (record {
-              run = Some b.run;
-              done = (
-                b.from,
-                c.answered.1.unfailed,
-                all,
-                (f.3.0 ∙ (passes.unfailed ∙ same), f.3.1 ∙ c.answered.2),
-              );
-              stopped = tt;
-              undamaged = λ text whole. undamaged_rest_done one Allows Refused p old new text whole
-                  s2.writer.tally.written b.run b.from all;
-              settled = d.settled;
-              named = b.named;
+              is = record {
+                run = Some b.run;
+                done = (
+                  b.from,
+                  c.answered.1.unfailed,
+                  all,
+                  (f.3.0 ∙ (passes.unfailed ∙ same), f.3.1 ∙ c.answered.2),
+                );
+                stopped = tt;
+                undamaged = λ text whole. undamaged_rest_done one Allows Refused p old new text
+                    whole s2.writer.tally.written b.run b.from all;
+                settled = d.settled;
+                named = b.named;
+              };
+              stands = sym (key_of s2 (Ok done) b);
+              due = due_of s2 (Ok done) b;
             })
         rest_ended one s2 (Err fault) result d (next, at, is) =
             let b = decrypted s2 (Err fault) d in
             let links = subst (λ (l : Option (List ℕ)). PositionAt unlocked s2.writer.tally.index l
             next) b.counts.chain_is at in
-            let key_of = ap (λ (f : OpenedFile). f.key) b.file_is in
-            let nonce_of = ap (λ (f : OpenedFile). f.nonce) b.file_is in
-            let id = s.id ∙ ap (λ (f : OpenedFile). file_id f.header_bytes f.nonce)
-            (sym b.file_is) in
             let fits = first_fits s2 (Err fault) b in
             let old = before a first x in
             let new = after s2 z in
@@ -707,19 +743,25 @@ module _ (keep : PositionPolicy) (Allows : Header → List ℕ → Type 0) (Refu
               record {
                 is = b.is;
                 begins = writes_of b.run fits b.is.prefix;
-                here = position_given keep b.run unlocked s2.writer.tally.index next fits key_of
-                    nonce_of id b.is.prefix b.counts.index links;
+                here = position_given keep b.run unlocked s2.writer.tally.index next fits
+                    (key_of s2 (Err fault) b) (nonce_of s2 (Err fault) b) (id_of s2 (Err fault) b)
+                    b.is.prefix b.counts.index links;
                 why = decrypted_fails s2 fault b b.answered;
               },
             ) in
-            subst (λ (r : Result Done Stopped). ResumesText keep Allows Refused p old new r)
+            subst (λ (r : Result Done Stopped). ResumesKeyed keep Allows Refused p old new r
+            (InPayload unlocked.key))
             (sym is)
             (record {
-              run = Some b.run;
-              done = tt;
-              stopped = stops;
-              undamaged = λ text whole. undamaged_rest one Allows Refused p old new text whole keep
-                  (Some b.run) stopped stops;
-              settled = tt;
-              named = b.named;
+              is = record {
+                run = Some b.run;
+                done = tt;
+                stopped = stops;
+                undamaged = λ text whole. undamaged_rest one Allows Refused p old new text whole
+                    keep (Some b.run) stopped stops;
+                settled = tt;
+                named = b.named;
+              };
+              stands = sym (key_of s2 (Err fault) b);
+              due = due_of s2 (Err fault) b;
             })

@@ -1,6 +1,6 @@
 -- What a run wrote of a text, if what opens is the writer's; and its position.
 use Rattle.std.proofs.Common.{◌≡◌, ℕ, ◌*◌, ◌<◌, ◌≤◌, ◌/◌, min, List, ◌++◌, length, take, Option}
-use Rattle.std.proofs.Common.{Some, None, sym, ap, subst, ◌∙◌}
+use Rattle.std.proofs.Common.{Some, None, refl, sym, ap, subst, ◌∙◌}
 use Rattle.std.proofs.Common.{arith, append_assoc}
 use Rattle.std.specs.Simd.{first_chunks}
 use Rattle.std.proofs.lemmas.List.{length-append}
@@ -121,3 +121,24 @@ position_given Kept r unlocked index (Some p) limit key nonce id begins is at =
     position_is r unlocked index p limit key nonce id begins is at
 position_given Kept r unlocked index None limit key nonce id begins is at = absurd at
 position_given Dropped r unlocked index position limit key nonce id begins is at = at
+
+-- and it stands there whether it was kept or not
+pub position_due : (r : Run) (unlocked : Unlocked) (index : ℕ) → r.first < chunk_limit
+    → index < chunk_limit → r.file.key ≡ unlocked.key → r.file.nonce ≡ unlocked.nonce
+    → unlocked.id ≡ file_id r.file.header_bytes r.file.nonce
+    → IsPrefixOf r.out (run_text r)
+    → index ≡ min (length (held r) / chunk_length) (run_outcome r).index
+    → (at : Position) × IsPositionOf r at
+position_due r unlocked index limit within key nonce id begins is =
+    let links = chain (first_chunks chunk_length index (held r)) in
+    let at : Position = record {
+      index = index;
+      file_id = unlocked.id;
+      chain = links;
+      tag = position_tag (position_key unlocked.key unlocked.nonce) index unlocked.id links;
+      within = within;
+    } in (
+      at,
+      position_is r unlocked index at limit key nonce id begins is
+          (record { index_is = refl; file_id_is = refl; chain_is = refl; tag_is = refl }),
+    )

@@ -141,11 +141,11 @@ abbrev pub fault_again : FileFault → FileFault
 fault_again Memory = Memory
 fault_again other = Read
 
--- a second reading came to its end or stopped, after another number of bytes or before its payload;
--- it never stopped because the sink refused
+-- a second reading came to its end or stopped, after fewer bytes or before its payload; it never
+-- stopped because the sink refused
 abbrev pub IsElsewhere : Option Run → ℕ → FileFault → Result Done Stopped → Type 0
-IsElsewhere run written fault (Ok done) = (done.written ≢ written) × (fault ≡ Read)
-IsElsewhere run written fault (Err stopped) = ((stopped.written ≢ written) ⊎ (run ≡ None))
+IsElsewhere run written fault (Ok done) = (done.written < written) × (fault ≡ Read)
+IsElsewhere run written fault (Err stopped) = ((stopped.written < written) ⊎ (run ≡ None))
     × (stopped.fault ≢ Write) × (fault ≡ fault_again stopped.fault)
 
 module _ (Allows : Header → List ℕ → Type 0) where

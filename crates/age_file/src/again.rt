@@ -1,13 +1,23 @@
 //! Where a run stopped, found by reading its file once more.
 
 ghost use Rattle.std.specs.Prelude.{◌≡◌, ◌+◌, ℕ, List, [], ◌∷◌, ◌++◌, length, Some, true, nat_lt};
+ghost use Rattle.std.specs.Prelude.{◌⊎◌, IfErr};
+ghost use Rattle.age_fault.specs.declared.fault.FileFault.TheVariants.{Read, Memory};
 ghost use Rattle.std.specs.Borrow.{ftrue};
 ghost use Rattle.std.specs.Coded.{coded_list, coded_ℕ};
 ghost use Rattle.age_io.specs.Io.{one_more};
 ghost use Rattle.age_file.specs.Decrypts.{FindsPosition, fault_again};
+ghost use Rattle.age_file.specs.Resumes.{IsOldText, FindsFrom};
+ghost use Rattle.age_file.specs.Runs.{ports};
+ghost use Rattle.age_file.specs.inner.Decrypts.{ReadsRest};
 
-use crate::decryption::decrypt_with;
+use crate::decryption::{Done, Stopped, decrypt_with, open_payload};
+use crate::intake::Intake;
 use crate::position::{Position, PositionPolicy};
+use crate::reader::{Reader, Writer};
+use crate::skip::skip_blocks;
+use crate::start::start;
+use crate::tally::Tally;
 use age_fault::FileFault;
 use age_io::{Failed, Sink, Source};
 use age_keys::Unlock;
@@ -118,7 +128,8 @@ impl Sink for Limit {
 /// What is reported if the position of a stop isn't found: that memory was refused, or that the
 /// file couldn't be read again.
 fn fault_again(fault: FileFault) -> FileFault
-    ensures { result ≡ fault_again fault }
+    ensures is { result ≡ fault_again fault }
+    ensures either { (result ≡ Read) ⊎ (result ≡ Memory) }
 {
     match fault {
         FileFault::Memory => FileFault::Memory,
@@ -153,4 +164,73 @@ pub fn position_after<U: Unlock, S: Source>(
         return Err(fault_again(stopped.fault));
     }
     Ok(position)
+}
+
+/// Decrypts the rest of a file from a position on. The old text before it counts as written.
+fn decrypt_rest<U: Unlock, S: Source, O: Sink>(
+    alloc: Global,
+    unlock: &U,
+    position: &Position,
+    reader: &mut S,
+    writer: &mut O,
+) -> Result<Done, Stopped>
+    ensures { (copied : List ℕ) → IsOldText position.now copied → ReadsRest (U.allows unlock.now)
+        (U.refuses unlock.now) position.now copied
+        (ports (S.view reader.old) (O.view writer.old))
+        (ports (S.view reader.new) (O.view writer.new)) result }
+{
+    let Ok(mut intake) = Intake::new(alloc) else {
+        return Err(Stopped::early(FileFault::Memory));
+    };
+    let mut reader = Reader {
+        source: reader,
+        intake: &mut intake,
+    };
+    let unlocked = match start(alloc, unlock, &mut reader) {
+        Ok(unlocked) => unlocked,
+        Err(fault) => return Err(Stopped::early(fault)),
+    };
+    match skip_blocks(&mut reader, position.index) {
+        Ok(()) => {}
+        Err(fault) => return Err(Stopped::early(fault)),
+    }
+    let mut writer = Writer {
+        sink: writer,
+        tally: Tally::at(position),
+    };
+    open_payload(&unlocked, position.index, &mut reader, &mut writer)
+}
+
+/// The position of a resumed decryption that dropped it and stopped in its payload, after so many
+/// bytes of the text, those of its old text among them. The file is read again from its start, and
+/// checked and linked from the position on that the run began from; its old text isn't read again.
+///
+/// It refuses as [`position_after`] does.
+pub fn resumed_position_after<U: Unlock, S: Source>(
+    alloc: Global,
+    unlock: &U,
+    position: &Position,
+    written: u128,
+    reader: &mut S,
+) -> Result<Position, FileFault>
+    ensures found { (copied : List ℕ) → IsOldText position.now copied → FindsFrom
+        (U.allows unlock.now) position.now copied (U.refuses unlock.now) (S.view reader.old)
+        (S.view reader.new) written result }
+    ensures faults { IfErr result (λ fault. (fault ≡ Read) ⊎ (fault ≡ Memory)) }
+{
+    let Some(more) = written.checked_sub(position.old_len()) else {
+        return Err(FileFault::Read);
+    };
+    let mut limit = Limit::new(more);
+    let Err(stopped) = decrypt_rest(alloc, unlock, position, reader, &mut limit) else {
+        return Err(FileFault::Read);
+    };
+    let next = match stopped.position {
+        Some(next) => next,
+        None => return Err(fault_again(stopped.fault)),
+    };
+    if stopped.written != written {
+        return Err(fault_again(stopped.fault));
+    }
+    Ok(next)
 }

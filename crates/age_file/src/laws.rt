@@ -2,6 +2,7 @@
 ghost use Rattle.age_file.specs.InARow.{RunsInARow, CallsInARow, RunsAreBound, DoneIsBound};
 ghost use Rattle.age_file.specs.InARow.{AgeFileIsWhole, RoundTrip};
 ghost use Rattle.age_file.specs.Decrypts.{ReadAgain};
+ghost use Rattle.age_file.specs.Resumes.{RestReadAgain};
 
 use age_keys::{Unlock, passphrase_opens};
 use age_stanza::one_header;
@@ -57,9 +58,11 @@ pub fn round_trip()
 /// Reading again: if a decryption dropped its position and stopped in its payload, and is read
 /// again over the same bytes, by the key that it found, a position that
 /// [`position_after`](crate::position_after) finds after as many bytes as it wrote is the one with
-/// which it would have stopped, had it kept positions.
+/// which it would have stopped, had it kept positions. The same holds of a resumed one, by
+/// [`resumed_position_after`](crate::resumed_position_after).
 pub fn read_again<U: Unlock>()
-    ensures { ReadAgain U U.allows U.refuses }
+    ensures decrypted { ReadAgain U U.allows U.refuses }
+    ensures resumed { RestReadAgain U U.allows U.refuses }
 {
     one_header();
 }

@@ -27,10 +27,11 @@ mod resumption;
 mod sealing;
 mod secret;
 mod skip;
+mod standing;
 mod start;
 mod tally;
 
-pub use again::position_after;
+pub use again::{position_after, resumed_position_after};
 pub use age_fault::{FileFault, flush_all, write_all};
 pub use age_io::{Failed, MemSink, MemSource, Memory, Reading, Sink, Source, Writing};
 pub use decryption::{Done, Stopped, decrypt, decrypt_keyed, decrypt_with};
@@ -41,5 +42,6 @@ pub use laws::{
 };
 pub use position::{Position, PositionPolicy};
 pub use report::{Report, StanzaReport, StanzaReports};
-pub use resumption::{resume, resume_with};
+pub use resumption::{resume, resume_keyed, resume_with};
 pub use secret::Secret;
+pub use standing::Standing;

@@ -1,12 +1,13 @@
 //! Positions in a payload, at which a reader continues after a stop.
 
-ghost use Rattle.std.specs.Prelude.{◌≡◌, ◌<◌, ◌++◌, ℕ, List, length, map, codes};
+ghost use Rattle.std.specs.Prelude.{◌≡◌, ◌<◌, ◌*◌, ◌++◌, ℕ, List, length, map, codes};
 ghost use Rattle.std.specs.List.{concat};
 ghost use Rattle.sha2.specs.Hashers.{Holds256};
 ghost use Rattle.age_stanza.specs.Text.{base64_text};
 ghost use Rattle.age_file.specs.Bindings.{link, file_id, position_tag};
-ghost use Rattle.age_chunk.specs.Payload.{chunk_limit};
+ghost use Rattle.age_chunk.specs.Payload.{chunk_limit, chunk_length};
 
+use age_stream::CHUNK_LEN;
 use base64::engine::general_purpose::STANDARD_NO_PAD;
 use itoa::Buffer;
 use sha2::{Digest, Sha256};
@@ -99,6 +100,13 @@ pub(crate) fn file_id(mut digest: Sha256, nonce: &[u8; 16]) -> [u8; 32]
 }
 
 impl Position {
+    /// How long the text before it is.
+    pub(crate) fn old_len(&self) -> u128
+        ensures { result ≡ self.now.index * chunk_length }
+    {
+        u128::from(self.index) * CHUNK_LEN as u128
+    }
+
     /// The position of this index, file and chain, with its tag under a position key.
     pub(crate) fn tagged(key: &[u8; 32], index: u64, file_id: [u8; 32], chain: [u8; 32]) -> Position
         requires { index < chunk_limit }

@@ -8,7 +8,7 @@ ghost use Rattle.age_file.specs.Runs.{ports};
 ghost use Rattle.age_file.specs.declared.position.PositionPolicy.TheVariants.{Kept};
 ghost use Rattle.age_file.specs.inner.Bindings.{chain_if};
 ghost use Rattle.age_file.specs.inner.Verdicts.{VerdictOn};
-ghost use Rattle.age_file.specs.Resumes.{resume_ports, ResumesText};
+ghost use Rattle.age_file.specs.Resumes.{resume_ports, ResumesText, ResumesKeyed};
 ghost use Rattle.age_chunk.specs.Payload.{chunk_length};
 
 use crate::copy::copy_chunks;
@@ -17,11 +17,12 @@ use crate::intake::Intake;
 use crate::position::{Position, PositionPolicy, tag_of};
 use crate::reader::{Reader, Writer};
 use crate::skip::skip_blocks;
+use crate::standing::Standing;
 use crate::start::{Unlocked, start};
 use crate::tally::Tally;
 use age_fault::FileFault;
 use age_io::{Sink, Source};
-use age_keys::{Unlock, position_key};
+use age_keys::{KnownKey, Unlock, position_key};
 use age_stanza::one_header;
 use std::alloc::Global;
 
@@ -142,9 +143,30 @@ pub fn resume_with<U: Unlock, S: Source, L: Source, O: Sink>(
         (resume_ports (ports (S.view reader.new) (O.view writer.new)) (L.view old_reader.new))
         result }
 {
+    resume_keyed(
+        alloc, positions, unlock, position, reader, old_reader, writer,
+    )
+    .0
+}
+
+/// The same, with where it stood at its end.
+pub fn resume_keyed<U: Unlock, S: Source, L: Source, O: Sink>(
+    alloc: Global,
+    positions: PositionPolicy,
+    unlock: &U,
+    position: &Position,
+    reader: &mut S,
+    old_reader: &mut L,
+    writer: &mut O,
+) -> (Result<Done, Stopped>, Standing)
+    ensures { ResumesKeyed positions (U.allows unlock.now) (U.refuses unlock.now) position.now
+        (resume_ports (ports (S.view reader.old) (O.view writer.old)) (L.view old_reader.old))
+        (resume_ports (ports (S.view reader.new) (O.view writer.new)) (L.view old_reader.new))
+        result.0 result.1 }
+{
     one_header();
     let (Ok(mut intake), Ok(old_intake)) = (Intake::new(alloc), Intake::new(alloc)) else {
-        return Err(Stopped::early(FileFault::Memory));
+        return (Err(Stopped::early(FileFault::Memory)), Standing::Before);
     };
     let mut reader = Reader {
         source: reader,
@@ -152,11 +174,11 @@ pub fn resume_with<U: Unlock, S: Source, L: Source, O: Sink>(
     };
     let unlocked = match start(alloc, unlock, &mut reader) {
         Ok(unlocked) => unlocked,
-        Err(fault) => return Err(Stopped::early(fault)),
+        Err(fault) => return (Err(Stopped::early(fault)), Standing::Before),
     };
     match verify(&unlocked, position) {
         Ok(()) => {}
-        Err(fault) => return Err(Stopped::early(fault)),
+        Err(fault) => return (Err(Stopped::early(fault)), Standing::Before),
     }
     let tally = Tally::new(PositionPolicy::Kept);
     let mut writer = Writer {
@@ -172,10 +194,22 @@ pub fn resume_with<U: Unlock, S: Source, L: Source, O: Sink>(
         &mut writer,
     ) {
         Ok(()) => {}
-        Err(fault) => return Err(Stopped::after(fault, &writer.tally, None)),
+        Err(fault) => {
+            let stopped = Stopped::after(fault, &writer.tally, None);
+            return (Err(stopped), Standing::Before);
+        }
     }
     match skip_blocks(&mut reader, position.index) {
-        Ok(()) => open_payload(&unlocked, position.index, &mut reader, &mut writer),
-        Err(fault) => ended(Err(fault), &unlocked, &writer.tally),
+        Ok(()) => {
+            let result = open_payload(&unlocked, position.index, &mut reader, &mut writer);
+            (
+                result,
+                Standing::InPayload(KnownKey::new(*unlocked.key.bytes())),
+            )
+        }
+        Err(fault) => (
+            ended(Err(fault), &unlocked, &writer.tally),
+            Standing::Skipping,
+        ),
     }
 }

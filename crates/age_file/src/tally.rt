@@ -1,11 +1,11 @@
 //! How far a run has come.
 
-ghost use Rattle.std.specs.Prelude.{◌≡◌, ◌<◌, ℕ, List, []};
+ghost use Rattle.std.specs.Prelude.{◌≡◌, ◌<◌, ◌*◌, ℕ, List, [], Some};
 ghost use Rattle.age_file.specs.inner.Bindings.{chain_if, link_if};
 ghost use Rattle.age_file.specs.declared.position.PositionPolicy.TheVariants.{Kept};
-ghost use Rattle.age_chunk.specs.Payload.{chunk_limit};
+ghost use Rattle.age_chunk.specs.Payload.{chunk_limit, chunk_length};
 
-use crate::position::{PositionPolicy, next_link};
+use crate::position::{Position, PositionPolicy, next_link};
 
 /// How far a run has come: how many bytes it wrote, how many whole chunks before the last these
 /// make from the start of the text, and the chain over those, if positions are kept.
@@ -35,6 +35,19 @@ impl Tally {
             written: 0,
             index: 0,
             chain,
+        }
+    }
+
+    /// The old text of a position was written.
+    pub(crate) fn at(position: &Position) -> Tally
+        ensures written { result.written ≡ position.now.index * chunk_length }
+        ensures index { result.index ≡ position.now.index }
+        ensures chain { result.chain ≡ Some position.now.chain }
+    {
+        Tally {
+            written: position.old_len(),
+            index: position.index,
+            chain: Some(position.chain),
         }
     }
 

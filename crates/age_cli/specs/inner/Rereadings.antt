@@ -3,10 +3,13 @@ use Rattle.std.specs.Prelude.{◌≡◌, ◌≢◌, ◌⊎◌, ℕ, Bool, true, 
 use Rattle.std.specs.Prelude.{Result, Err, IfOk, IfErr, IsSomeAnd, if◌then◌else◌}
 use Rattle.age_io.specs.Io.{SourceView, SinkView}
 use Rattle.age_file.specs.Decrypts.{IsFoundAgain, DecryptEnds, DecryptStops}
-use Rattle.age_file.specs.Runs.{Ports, Run}
+use Rattle.age_file.specs.Resumes.{IsOldText, IsFoundFrom, resume_ports, ResumeEnds, ResumeStops}
+use Rattle.age_file.specs.Runs.{Ports, ports, Run}
 use Rattle.age_file.specs.declared.decryption.Done.{Done}
 use Rattle.age_file.specs.declared.decryption.Stopped.{Stopped}
 use Rattle.age_file.specs.declared.position.Position.{Position}
+use Rattle.age_file.specs.declared.standing.Standing.{Standing}
+use Rattle.age_file.specs.declared.standing.Standing.TheVariants.{Skipping, InPayload}
 use Rattle.age_fileset.specs.FileSet.{FilesView}
 use Rattle.age_cli_args.specs.Requests.{option_text}
 use Rattle.age_cli_args.specs.declared.request.Decrypting.{Decrypting}
@@ -17,10 +20,14 @@ use Rattle.age_identity.specs.declared.identity.Identity.{Identity}
 use Rattle.age_cli.specs.Acts.{kept_for}
 use Rattle.age_cli.specs.inner.Endings.{Concludes, opening_end}
 
--- the position of a run over these bytes, by this key, which wrote this many bytes
-abbrev pub IsFoundIn : Option (List ℕ) → List ℕ → ℕ → Position → Type 0
-IsFoundIn bytes key written p = (old : SourceView) × (new : SourceView)
+-- that of a run over these bytes, by this key, which wrote this many bytes; of one that began from a
+-- position, whatever old text it has
+abbrev pub IsFoundIn : Option Position → Option (List ℕ) → List ℕ → ℕ → Position → Type 0
+IsFoundIn None bytes key written p = (old : SourceView) × (new : SourceView)
     × (old.remaining ≡ bytes) × IsFoundAgain (λ _ k. k ≡ key) old new written p
+IsFoundIn (Some from) bytes key written p = (old : SourceView) × (new : SourceView)
+    × (old.remaining ≡ bytes) × ((copied : List ℕ) → IsOldText from copied
+    → IsFoundFrom (λ _ k. k ≡ key) from copied old new written p)
 
 -- a stop, had positions been kept
 abbrev pub stopped_at : Stopped → Position → Stopped
@@ -35,16 +42,26 @@ again_of reread end key = None
 -- OUT was ended after a stop that dropped its position, by a sink that is this, and then the input
 -- was read once more: its position was found in what that holds now, and saved if it can be; or it
 -- wasn't found, and whatever it is, it isn't saved
-module _ (shows : Bool) (d : Decrypting) (sink : SinkView) (stopped : Stopped) (key : List ℕ)
-    (old new : FilesView) (ending : Ending) where
+module _ (shows : Bool) (d : Decrypting) (sink : SinkView) (from : Option Position)
+    (stopped : Stopped) (key : List ℕ) (old new : FilesView) (ending : Ending) where
   abbrev pub ConcludesAt : Position → Type 0
   ConcludesAt p = Concludes shows (option_text d.save) d.durability sink
       (opening_end (Err (stopped_at stopped p))) old new (Err ending)
 
   abbrev pub ConcludesAgain : Type 0
   ConcludesAgain = ((p : Position) × (shows ≡ true → d.from.now ≢ sink.label
-      → IsFoundIn (old.entries d.from.now) key stopped.written p) × ConcludesAt p)
+      → IsFoundIn from (old.entries d.from.now) key stopped.written p) × ConcludesAt p)
       ⊎ ((p : Position) → ConcludesAt p)
+
+-- where a resumed one stopped, had positions been kept: in the skipped blocks it is where it began
+abbrev pub placed : Bool → Standing → Position → Result Done Stopped → Result Done Stopped
+placed true Skipping from (Err s) = Err (stopped_at s from)
+placed reread standing from end = end
+
+-- the key of the payload that it came to
+abbrev pub key_of : Standing → Option (List ℕ)
+key_of (InPayload key) = Some key
+key_of other = None
 
 -- IN is there, and is what the source gives; OUT is another file
 pub record HoldsInput (d : Decrypting) (before : Ports) (old : FilesView) : Type 0 where
@@ -67,6 +84,27 @@ pub record DecryptsOpened (IsPorts : Ports → Type 0) (shows : Bool) (d : Decry
       (kept_for (option_text d.save)) (allows_by identity) (refuses_by identity) before after run)
   pub named : after.sink.label ≡ before.sink.label
   pub concludes : Concludes shows (option_text d.save) d.durability after.sink (opening_end decrypted)
+      old new result
+  pub silent : d.progress ≡ Silent → Unshown
+  pub over : Unshown ⊎ Over
+
+-- The same of what was opened and resumed from a position, after the old text of a source.
+pub record ResumesOpened (IsPorts : Ports → Type 0) (shows : Bool) (d : Decrypting)
+    (identity : Identity) (from : Position) (first : SourceView) (before : Ports)
+    (old new : FilesView) (Unshown Over : Type 0) (result : Result (Unit {0}) Ending) : Type 0 where
+  pub after : Ports
+  pub after_is : IsPorts after
+  pub last : SourceView
+  pub last_is : IsPorts (ports last after.sink)
+  pub resumed : Result Done Stopped
+  pub run : Option Run
+  pub done : IfOk resumed (λ done. IsSomeAnd run (ResumeEnds (allows_by identity) from
+      (resume_ports before first) (resume_ports after last) done))
+  pub stopped : shows ≡ true → HoldsInput d before old → IfErr resumed (ResumeStops
+      (allows_by identity) from (resume_ports before first) (resume_ports after last)
+      (kept_for (option_text d.save)) (refuses_by identity) run)
+  pub named : after.sink.label ≡ before.sink.label
+  pub concludes : Concludes shows (option_text d.save) d.durability after.sink (opening_end resumed)
       old new result
   pub silent : d.progress ≡ Silent → Unshown
   pub over : Unshown ⊎ Over

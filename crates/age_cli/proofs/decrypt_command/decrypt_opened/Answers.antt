@@ -21,7 +21,7 @@ returns-in-Some-clause-opened g c =
     let again = c.conclude_again.ensures in
     opened_again _ _ d i before after (record { source = once.result.source; sink = once.new.out; is = refl }) (view c.args.files.now)
     (view c.conclude_again.new.files) _ _ (λ silent. again.silent silent ∙ once.ensures.silent silent)
-    (over_again _ _ _ (λ p. IsOver (g.P.Meter.shown p)) once.ensures.over again.over) c.read_again.ensures c.in-Some.stopped c.in-Some.key
+    (over_again _ _ _ (λ p. IsOver (g.P.Meter.shown p)) once.ensures.over again.over) c.read_again.ensures.decrypted c.in-Some.stopped c.in-Some.key
     (c.can_reread-is_reread.ensures is.0) c.conclude_again.result
     (keyed_as _ i before after _ _ c.in-Some.stopped c.in-Some.key (c.positions_at_first.ensures.dropped is.0) is.1 is.2 once.ensures.opened) again.again
 

@@ -17,7 +17,7 @@ returns-in-Ok-save-clause-again g c =
     let saved = c.in-Ok-save.ensures in
     inl (
       p,
-      (λ shown other. subst (λ (x : Option (List ℕ)). IsFoundIn x again.key again.stopped.written p) (left.others d.from.now other) (c.in-Ok.ensures.found shown)),
+      (λ shown other. subst (λ (x : Option (List ℕ)). IsFoundIn again.from x again.key again.stopped.written p) (left.others d.from.now other) (c.in-Ok.ensures.found shown)),
       concludes_left _ (option_text d.save) d.durability (g.F.Out.Sink.view c.args.out) _ (view c.args.files.now) mid new _ left.untouched left.written left.others
           left.noted refl (λ shown. (refl, saves_is (option_text d.save) p mid.entries new.entries (saved.saved shown))) saved.noted saved.others,
     )
@@ -34,7 +34,7 @@ returns-in-Err-save-clause-again g c =
     let saved = c.in-Err-save.ensures in
     inl (
       p,
-      (λ shown other. subst (λ (x : Option (List ℕ)). IsFoundIn x again.key again.stopped.written p) (left.others d.from.now other) (c.in-Ok.ensures.found shown)),
+      (λ shown other. subst (λ (x : Option (List ℕ)). IsFoundIn again.from x again.key again.stopped.written p) (left.others d.from.now other) (c.in-Ok.ensures.found shown)),
       concludes_left _ (option_text d.save) d.durability (g.F.Out.Sink.view c.args.out) _ (view c.args.files.now) mid new _ left.untouched left.written left.others
           left.noted refl (λ shown. (refl, saved.unsaved)) saved.noted saved.others,
     )

@@ -107,38 +107,6 @@ returns-in_err-source-clause-acts g c =
 pub returns-in_err-source-clause-announced : goal.returns-in_err-source-clause-announced
 returns-in_err-source-clause-announced g c = unmade c.from_residual-in_err-source.result _ _ _ refl
 
-pub returns-in-Silent-clause-acts : goal.returns-in-Silent-clause-acts
-returns-in-Silent-clause-acts g c =
-    let r = c.args.asked.now in
-    let d = r.decrypting in
-    let view = g.F.FileSet.view in
-    let In = g.F.In.Source.view in
-    let Out = g.F.Out.Sink.view in
-    let judged = in_order _ _ _ _ _ _ _ _ _ _ c.in_ok-choice.ensures.chooses.order c.in_ok-secret.ensures in
-    let earlier = c.in_ok-position.ensures in
-    let both = c.in_ok-source.ensures in
-    let run = c.resume_with-resumed in
-    let first = c.in_ok-position.old in
-    let before = ports (In c.in_ok-source.source) (Out c.in_ok-source.out) in
-    resume_acts _ _ (view c.args.files.now) (view c.open_both.new.files) (view c.conclude.new.files) _ _ _ before (ports (In run.new.reader) (Out run.new.writer))
-    (record { source = c.in_ok-source.source; sink = c.in_ok-source.out; is = refl }) (record { source = run.new.reader; sink = run.new.writer; is = refl })
-    c.opening_end.result c.conclude.result (both.kept ∙ (earlier.kept ∙ judged.kept)) r c.positions_for-positions.result c.in_ok-identity.identity
-    c.in_ok-position.position (In first) (In run.new.old_reader) run.result
-    (some_files _ _ _ _ c.in_ok-choice.ensures.chooses c.in_ok-identity.ensures.makes)
-    (λ shown. c.in_ok-choice.ensures.chooses.opens (view c.args.files.now).entries _ _ (judged.read shown).0 c.in_ok-identity.ensures.makes)
-    (λ shown. subst (λ (f : Files). WasEarlier r c.in_ok-position.position f (In first)) judged.kept (earlier.found shown))
-    (record { source = first; sink = c.in_ok-source.out; is = refl }) (record { source = run.new.old_reader; sink = run.new.writer; is = refl })
-    (λ shown. subst (λ (f : Files). Found (paths_of d) f before) (earlier.kept ∙ judged.kept) (both.opened shown))
-    c.positions_for-positions.ensures c.opening_end.ensures run.ensures c.conclude.ensures.concludes
-    (then_did _ _ _ (identity_order (option_text d.identity.pass) (option_text d.identity.shared))
-    (Opened r.position.now ∷ Opened r.old.now ∷ Opened d.from.now ∷ (preparing (option_text d.save) ++ Created d.to.now ∷ [])) judged.noted
-    (then_did _ _ _ (Opened r.position.now ∷ Opened r.old.now ∷ []) (Opened d.from.now ∷ (preparing (option_text d.save) ++ Created d.to.now ∷ [])) earlier.noted
-    both.noted))
-    (λ twice. absurd (judged.apart (c.names_one_twice-is_file_named_twice.ensures.twice twice)).1) (λ silent. refl, inl refl)
-
-pub returns-in-Silent-clause-announced : goal.returns-in-Silent-clause-announced
-returns-in-Silent-clause-announced g c = c.conclude.ensures.announced
-
 pub returns-clause-acts : goal.returns-clause-acts
 returns-clause-acts g c =
     let r = c.args.asked.now in
@@ -149,27 +117,21 @@ returns-clause-acts g c =
     let judged = in_order _ _ _ _ _ _ _ _ _ _ c.in_ok-choice.ensures.chooses.order c.in_ok-secret.ensures in
     let earlier = c.in_ok-position.ensures in
     let both = c.in_ok-source.ensures in
-    let run = c.resume_with-resumed-in-Shown in
     let first = c.in_ok-position.old in
-    let source = c.with_meter-metered.result.source in
-    let before = ports (In source) (Out c.in_ok-source.out) in
-    resume_acts _ _ (view c.args.files.now) (view c.open_both.new.files) (view c.conclude-in-Shown.new.files) _ _ _ before (ports (In run.new.reader.source) (Out run.new.writer))
-    (record { source = source; sink = c.in_ok-source.out; is = refl }) (record { source = run.new.reader.source; sink = run.new.writer; is = refl })
-    c.opening_end-in-Shown.result c.conclude-in-Shown.result (both.kept ∙ (earlier.kept ∙ judged.kept)) r c.positions_for-positions.result c.in_ok-identity.identity
-    c.in_ok-position.position (In first) (In run.new.old_reader) run.result
+    let before = ports (In c.in_ok-source.source) (Out c.in_ok-source.out) in
+    resume_acts _ _ (view c.args.files.now) (view c.open_both.new.files) (view c.resume_opened.new.files) _ _ _ before
+    (record { source = c.in_ok-source.source; sink = c.in_ok-source.out; is = refl }) c.resume_opened.result (both.kept ∙ (earlier.kept ∙ judged.kept)) r
+    c.in_ok-identity.identity c.in_ok-position.position (In first)
     (some_files _ _ _ _ c.in_ok-choice.ensures.chooses c.in_ok-identity.ensures.makes)
     (λ shown. c.in_ok-choice.ensures.chooses.opens (view c.args.files.now).entries _ _ (judged.read shown).0 c.in_ok-identity.ensures.makes)
     (λ shown. subst (λ (f : Files). WasEarlier r c.in_ok-position.position f (In first)) judged.kept (earlier.found shown))
-    (record { source = first; sink = c.in_ok-source.out; is = refl }) (record { source = run.new.old_reader; sink = run.new.writer; is = refl })
-    (λ shown. let f = both.opened shown in
-    subst (λ (f : Files). Found (paths_of d) f before) (earlier.kept ∙ judged.kept)
-    (f.0, ap (λ s. (In s).remaining) c.with_meter-metered.ensures.source ∙ f.1, f.2, f.3))
-    c.positions_for-positions.ensures c.opening_end-in-Shown.ensures run.ensures c.conclude-in-Shown.ensures.concludes
+    (record { source = first; sink = c.in_ok-source.out; is = refl })
+    (λ shown. subst (λ (f : Files). Found (paths_of d) f before) (earlier.kept ∙ judged.kept) (both.opened shown)) c.resume_opened.ensures.opened
     (then_did _ _ _ (identity_order (option_text d.identity.pass) (option_text d.identity.shared))
     (Opened r.position.now ∷ Opened r.old.now ∷ Opened d.from.now ∷ (preparing (option_text d.save) ++ Created d.to.now ∷ [])) judged.noted
     (then_did _ _ _ (Opened r.position.now ∷ Opened r.old.now ∷ []) (Opened d.from.now ∷ (preparing (option_text d.save) ++ Created d.to.now ∷ [])) earlier.noted
     both.noted))
-    (λ twice. absurd (judged.apart (c.names_one_twice-is_file_named_twice.ensures.twice twice)).1) (λ silent. absurd (shown_not_silent (sym c.in-Shown.is ∙ silent)), inr c.end_meter.ensures)
+    (λ twice. absurd (judged.apart (c.names_one_twice-is_file_named_twice.ensures.twice twice)).1)
 
 pub returns-clause-announced : goal.returns-clause-announced
-returns-clause-announced g c = c.conclude-in-Shown.ensures.announced
+returns-clause-announced g c = c.resume_opened.ensures.announced

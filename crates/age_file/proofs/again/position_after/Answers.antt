@@ -8,9 +8,9 @@ returns-in-None g c =
     let last = c.decrypt_with.new.writer in
     let made : length limit.took.bytes + limit.left ≡ c.args.written =
     omega (arith, ap length c.new-limit.ensures.took, c.new-limit.ensures.left) in
-    rw c.fault_again.ensures (stopped_before _ _ _ _ _ _ c.args.written last.took.bytes last.left
+    rw c.fault_again.ensures.is (stopped_before _ _ c.args.written last.took.bytes last.left
     (ap Some c.new-limit.ensures.took) (ap (λ (n : ℕ). n ∷ []) made) refl refl
-    c.in-Err.ensures.named c.in-Err.stopped last.full c.in-Err.ensures c.in-None.is)
+    c.in-Err.ensures.named _ _ _ _ c.in-Err.stopped last.full c.in-Err.ensures c.in-None.is)
 
 pub returns : goal.returns
 returns g c =
