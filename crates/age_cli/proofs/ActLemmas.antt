@@ -1,11 +1,12 @@
 -- What a command did, from what its steps did.
 use Rattle.std.proofs.Common.{◌≡◌, ◌∙◌, ◌⊎◌, ◌++◌, Option, Some, None, ap, sym, inl, inr, Bool}
-use Rattle.std.proofs.Common.{true, false, true≢false, List}
-use Rattle.std.proofs.Common.{Result, OnOk, IfErr}
+use Rattle.std.proofs.Common.{true, false, true≢false, List, ℕ, refl}
+use Rattle.std.proofs.Common.{Result, Ok, Err, OnOk, IfErr}
 use Rattle.std.specs.Prelude.{IsErr, IsErrAnd}
 use Rattle.age_file.specs.Runs.{Ports}
 use Rattle.age_fileset.specs.FileSet.{Event, FilesView}
 use Rattle.age_cli_args.specs.Requests.{option_text}
+use Rattle.age_cli_args.specs.declared.request.ProgressOption.{ProgressOption}
 use Rattle.age_cli_args.specs.declared.request.ProgressOption.TheVariants.{Shown, Silent}
 use Rattle.age_cli_args.specs.declared.request.Request.{Request}
 use Rattle.age_cli_args.specs.declared.request.Request.TheVariants.{Inspect, Decrypt, Resume}
@@ -16,7 +17,7 @@ use Rattle.age_ending.specs.Endings.{is_usage}
 use Rattle.age_identity.specs.Files.{HasReason}
 use Rattle.age_ending.specs.declared.ending.Ending.{Ending}
 use Rattle.age_cli.specs.Acts.{Acts, EndsBefore, GivesNone, HasEngineEnded, OfEngine, OfSomeEngine}
-use Rattle.age_cli.specs.Acts.{Spares, progress_of, IsUsage, LeavesOut, WritesOut}
+use Rattle.age_cli.specs.Acts.{Spares, progress_of, input_of, IsUsage, LeavesOut, WritesOut}
 use Rattle.age_cli.proofs.CommandLemmas.{not_well, this_error, just_error}
 use Rattle.age_identity.proofs.EventLemmas.{longer}
 use Rattle.std.proofs.lemmas.Result.{IfErr-weaker}
@@ -37,9 +38,18 @@ whole_of (Resume r) old new f = longer _ (replacing (option_text r.decrypting.sa
 whole_of (Inspect file) old new f = f
 whole_of (Drill d) old new f = f
 
-module _ (IsPorts : Ports → Type 0) (shows : Bool) (asked : Request) (before after : FilesView) (Failed Unshown Over : Type 0) (r : Result (Unit {0}) Ending) where
+module _ (IsPorts : Ports → Type 0) (shows : Bool) (asked : Request) (before after : FilesView) (Failed Unshown : Type 0)
+    (Progress : Option (List ℕ) → Result (Unit {0}) Ending → Type 0) (r : Result (Unit {0}) Ending) where
   abbrev pub Acted : Type 0
-  Acted = Acts IsPorts shows asked before after Failed Unshown Over r
+  Acted = Acts IsPorts shows asked before after Failed Unshown Progress r
+
+  either_shown : {A B : Type 0} (p : ProgressOption) → (p ≡ Silent → A) → (p ≡ Shown → B) → A ⊎ B
+  either_shown Silent a b = inl (a refl)
+  either_shown Shown a b = inr (b refl)
+
+  always_ok : {P : Type 0} (x : Result (Unit {0}) Ending) → P → OnOk x P
+  always_ok (Ok done) p = p
+  always_ok (Err e) p = tt
 
   -- a command ended early, with this ending
   pub acts_early : (e : Ending) → IsErr r × IsErrAnd r (λ x. x ≡ e) → after.entries ≡ before.entries → (shows ≡ true → EndsBefore asked before.entries e)
@@ -62,7 +72,8 @@ module _ (IsPorts : Ports → Type 0) (shows : Bool) (asked : Request) (before a
     order_shown = λ shown. this_error r e is _ (judged shown);
     apart = λ twice. let refused = apart twice in (refused.0, just_error r e is IsUsage refused.1);
     silent = λ unasked. silent;
-    over = inl silent;
+    progress = inl silent;
+    shown = not_well r e is _;
   }
 
   -- a command ended once its engine had run
@@ -70,7 +81,7 @@ module _ (IsPorts : Ports → Type 0) (shows : Bool) (asked : Request) (before a
       → OnOk r (OfSomeEngine IsPorts asked (HasEngineEnded IsPorts)) → (shows ≡ true → IfErr r (λ e. OfEngine IsPorts asked before.entries (λ engine paths. LeavesOut IsPorts engine paths before.entries after.entries e)))
       → IfErr r (λ e. is_usage e ≡ false) → (shows ≡ true → Spares asked before.entries after.entries)
       → Follows (order_asked asked).whole before.events after.events → OnOk r (after.events ≡ before.events ++ (order_asked asked).done)
-      → (NamesTwice (order_asked asked).apart → ⊥) → (progress_of asked ≡ Silent → Unshown) × (Unshown ⊎ Over) → Acted
+      → (NamesTwice (order_asked asked).apart → ⊥) → (progress_of asked ≡ Silent → Unshown) × (progress_of asked ≡ Shown → Progress (input_of asked before.entries) r) → Acted
   acts_concluded done ran stops fault spares order finished apart shown =
       let impossible : (P : Type 0) → IfErr r (λ e. IsUsage e → P) =
       λ P. IfErr-weaker r _ _ (λ e no usage. absurd (true≢false (sym usage ∙ no))) fault in
@@ -87,7 +98,8 @@ module _ (IsPorts : Ports → Type 0) (shows : Bool) (asked : Request) (before a
         order_shown = λ shown. impossible _;
         apart = λ twice. absurd (apart twice);
         silent = shown.0;
-        over = shown.1;
+        progress = either_shown (progress_of asked) shown.0 shown.1;
+        shown = always_ok r shown.1;
       }
 
 pub shown_not_silent : Shown ≡ Silent → ⊥

@@ -1,60 +1,34 @@
 -- What holds after a command stopped, step by step.
-use Rattle.std.proofs.Common.{◌≡◌, ◌∙◌, ℕ, inl, inr, refl, ap, sym, subst, List, [], length, Option}
-use Rattle.std.proofs.Common.{Some, None, false, true≢false}
-use Rattle.std.specs.Prelude.{◌==◌, IsSomeAnd}
+use Rattle.std.proofs.Common.{◌≡◌, ◌∙◌, ℕ, inl, inr, refl, sym, subst, List, [], length, Option}
+use Rattle.std.proofs.Common.{Some, None, arith}
+use Rattle.std.specs.Prelude.{IsSomeAnd}
 use Rattle.std.specs.Io.KnownBytes.{Appends}
-use Rattle.std.proofs.lemmas.List.{nil_from_length}
+use Rattle.std.proofs.KnownBytes.{Appends-nil}
 use Rattle.clap.specs.Words.{Text}
 use Rattle.age_stanza.specs.declared.header.Header.{Header}
-use Rattle.age_keys.specs.declared.fault.KeyFault.{KeyFault}
+use Rattle.age_io.specs.Io.{SinkView}
 use Rattle.age_stream.specs.Headline.{IsPrefixOf}
+use Rattle.age_keys.specs.declared.fault.KeyFault.{KeyFault}
+use Rattle.age_fault.specs.declared.fault.FileFault.{FileFault}
+use Rattle.age_file.proofs.RunLemmas.{writes_of}
 use Rattle.age_file.specs.Runs.{Ports, Run, IsFromStart, held, IsRun, IsAuthenticRun, WritesNone}
-use Rattle.age_file.specs.Encrypts.{SecretView, EncryptFails}
 use Rattle.age_file.specs.Decrypts.{DecryptStops}
 use Rattle.age_file.specs.declared.decryption.Stopped.{Stopped}
-use Rattle.age_io.specs.Io.{SinkView}
-use Rattle.std.proofs.KnownBytes.{Appends-nil}
 use Rattle.age_file.specs.Resumes.{BeginsWith, ResumePorts, WritesOld, IsFrom, ResumeStops}
 use Rattle.age_file.specs.declared.position.Position.{Position}
 use Rattle.age_file.specs.declared.position.PositionPolicy.{PositionPolicy}
-use Rattle.age_fault.specs.declared.fault.FileFault.{FileFault}
-use Rattle.age_fault.specs.declared.fault.FileFault.TheVariants as fault
-use Rattle.age_identity.specs.Files.{Files}
-use Rattle.age_cli.specs.Acts.{EndsOf}
 use Rattle.age_ending.specs.declared.ending.Ending.{Ending}
 use Rattle.age_ending.specs.declared.ending.Ending.TheVariants.{Words, Usage, Fault, Unsaved}
-
-none_out : (new : Option (List ℕ)) (out : List ℕ) (written : ℕ) → Appends (Some []) new out → written ≡ length out → written ≡ 0 → new ≡ Some []
-none_out None out written put count none = absurd put
-none_out (Some ys) out written put count none = ap Some (put ∙ nil_from_length out (sym count ∙ none))
+use Rattle.age_identity.specs.Files.{Files}
+use Rattle.age_cli.specs.Acts.{EndsOf}
 
 -- this many bytes were written
 abbrev pub Written : Option (List ℕ) → Option (List ℕ) → ℕ → List ℕ → Type 0
 Written old new written out = Appends old new out × (written ≡ length out)
 
--- if nothing was written, the sink holds nothing, as before
-pub holds_nothing : (old new : Option (List ℕ)) (written : ℕ) (out : List ℕ) → old ≡ Some [] → Written old new written out → written ≡ 0 → new ≡ Some []
-holds_nothing old new written out empty put none = none_out new out written (subst (λ (o : Option (List ℕ)). Appends o new out) empty put.0) put.1 none
-
-some_out : (new : Option (List ℕ)) (out : List ℕ) (written : ℕ) → Appends (Some []) new out → written ≡ length out → (written == 0) ≡ false
-    → new ≡ Some [] → ⊥
-some_out new out written put count some nothing =
-    let none : [] ≡ out = subst (λ (n : Option (List ℕ)). Appends (Some []) n out) nothing put in
-    true≢false (sym (ap (λ (n : ℕ). n == 0) (count ∙ ap (λ (xs : List ℕ). length xs) (sym none))) ∙ some)
-
--- if something was written, it holds that
-pub holds_something : (old new : Option (List ℕ)) (written : ℕ) (out : List ℕ) → old ≡ Some [] → Written old new written out → (written == 0) ≡ false
-    → new ≡ Some [] → ⊥
-holds_something old new written out empty put some =
-    some_out new out written (subst (λ (o : Option (List ℕ)). Appends o new out) empty put.0) put.1 some
-
 -- a stop before anything was written
 none_written : (old new : Ports) (stopped : Stopped) → WritesNone old new stopped → Written old.sink.taken new.sink.taken stopped.written []
 none_written old new stopped w = (subst (λ (s : SinkView). Appends old.sink.taken s.taken []) (sym w.sink) (Appends-nil _), w.written)
-
--- if memory was refused, an encryption wrote nothing
-pub sealed_nothing : (s : SecretView) (old new : Ports) (f : FileFault) → f ≡ fault.Memory → EncryptFails s old new f → new.sink.taken ≡ old.sink.taken
-sealed_nothing s old new f is fails = ap (λ (p : Ports). p.sink.taken) (subst (λ (x : FileFault). EncryptFails s old new x) is fails)
 
 -- the run of a call that ended
 pub the_run : {P : Run → Type 0} (run : Option Run) → IsSomeAnd run P → (r : Run) × P r
@@ -71,7 +45,7 @@ module _ (keep : PositionPolicy) (A : Header → List ℕ → Type 0) (R : Heade
 
   pub stop_wrote : (run : Option Run) → DecryptStops keep A R old new run stopped → Wrote
   stop_wrote None h = ([], none_written old new stopped h.0, (λ text auth. (text, refl)))
-  stop_wrote (Some r) h = (held r, (h.1.is.wrote, h.1.is.count), (λ text auth. h.1.begins text (auth r h.0 h.1.is)))
+  stop_wrote (Some r) h = (held r, (h.1.is.wrote, h.1.is.count), (λ text auth. writes_of r (omega (arith, h.0.zero)) h.1.is.prefix text (auth r h.0 h.1.is)))
 
 -- what a resumed decryption wrote before it stopped; it begins the text of whose first chunks the old text is, and of which
 -- each run is authentic
@@ -90,7 +64,7 @@ module _ (keep : PositionPolicy) (A : Header → List ℕ → Type 0) (p : Posit
   resume_wrote None (inl h) = ([], none_written old.main new.main stopped h.0, (λ text begins auth. (text, refl)))
   resume_wrote None (inr (inl h)) = old_new h.copied h.writes
   resume_wrote None (inr (inr h)) = old_new h.copied h.writes
-  resume_wrote (Some r) h = (held r, (h.2.is.wrote, h.2.is.count), (λ text begins auth. h.2.begins text (auth r h.0 h.2.is)))
+  resume_wrote (Some r) h = (held r, (h.2.is.wrote, h.2.is.count), (λ text begins auth. writes_of r (omega (arith, h.0.index, p.within)) h.2.is.prefix text (auth r h.0 h.2.is)))
 
 -- an ending is the same seen from before the output was made, if the position goes elsewhere
 pub ends_from : (f : FileFault) (name : Option Text) (p : Option Position) (old mid new : Files) (e : Ending) → ((q : Text) → name ≡ Some q → mid q ≡ old q)

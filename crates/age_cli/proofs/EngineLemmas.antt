@@ -35,14 +35,6 @@ use Rattle.age_cli.proofs.CommandStopLemmas.{holds_nothing, holds_something}
 pub record Kept (engine : Engine) (before after : Ports) (end : Result (Unit {0}) Interruption) : Type 0 where
   pub ends : OnOk end (engine.ends before after)
   pub stops : IfErr end (λ s. engine.stops s.position s.fault before after)
-  pub touches : IfErr end (λ s. s.is_untouched ≡ false → engine.touches s.fault after.sink.taken)
-  pub faithful : IsFaithful end after.sink
-
--- how a stop leaves OUT, by whether it says that nothing was written
-pub left_as : (untouched : Bool) (taken old new : Option (List ℕ)) → (untouched ≡ true → new ≡ old) → (untouched ≡ false → (new ≡ old) ⊎ (new ≡ taken))
-    → (new ≡ old) ⊎ ((new ≡ taken) × (untouched ≡ false))
-left_as true taken old new kept left = inl (kept refl)
-left_as false taken old new kept left = ⊎_elim (λ same. inl same) (λ put. inr (put, refl)) (left refl)
 
 pub ends_so : {P : Type 0} (end : Result (Unit {0}) Interruption) → OnOk end P → IsOk end → P
 ends_so (Ok done) ends ok = ends
@@ -54,7 +46,7 @@ module _ (IsPorts : Ports → Type 0) (engine : Engine) (shows : Bool) (p : Path
     (kept : opened.entries ≡ old.entries)
     (found : shows ≡ true → (is_some (old.entries p.from) ≡ true) × (before.source.remaining ≡ old.entries p.from) × (before.sink.taken ≡ Some [])
     × (before.sink.label ≡ p.to))
-    (named : after.sink.label ≡ before.sink.label) (promise : shows ≡ true → before.sink.taken ≡ Some [] → Kept engine before after end)
+    (named : after.sink.label ≡ before.sink.label) (promise : shows ≡ true → Kept engine before after end)
     (concludes : Concludes shows p.save durability after.sink end opened new r) where
   module _ (shown : shows ≡ true) where
     label : after.sink.label ≡ p.to
@@ -84,7 +76,7 @@ module _ (IsPorts : Ports → Type 0) (engine : Engine) (shows : Bool) (p : Path
         (inl (
           after.sink.taken,
           ran (engine.stops cause.position cause.fault) k.stops after.sink.taken refl,
-          ⊎_elim (λ same. inl same) (λ put. inr (put.0, k.touches put.1)) left,
+          left,
         ))
     left_out (Ok done) k out_old out_new s (is, left) = inr (
       after.sink.taken,
@@ -99,15 +91,15 @@ module _ (IsPorts : Ports → Type 0) (engine : Engine) (shows : Bool) (p : Path
       let put = done.1 shown in
       record {
         there = (found shown).0;
-        output = ran shown engine.ends (ends_so end (promise shown (found shown).2).ends done.0) (new.entries p.to)
+        output = ran shown engine.ends (ends_so end (promise shown).ends done.0) (new.entries p.to)
             (subst (λ l. new.entries l ≡ after.sink.taken) (label shown) put.0);
         others = λ q other. put.1 q (λ e. other (e ∙ label shown)) ∙ ap (λ (f : Files). f q) kept;
       }) concludes.done
 
   pub stopped_out : (p.save ≡ Some p.to → ⊥) → shows ≡ true → IfErr r (λ e. LeavesOut IsPorts engine p old.entries new.entries e)
   stopped_out apart shown = IfErr-weaker r _ _ (λ e stops.
-      let k = promise shown (found shown).2 in
-      let s = stops shown (λ same. apart (same ∙ ap Some (label shown))) k.faithful in
+      let k = promise shown in
+      let s = stops shown (λ same. apart (same ∙ ap Some (label shown))) in
       let left = subst (λ (f : Files). Left end after.sink.taken (f p.to) (new.entries p.to) s.0) kept
       (subst (λ l. Left end after.sink.taken (opened.entries l) (new.entries l) s.0) (label shown) s.1) in
       record {
@@ -123,63 +115,28 @@ module _ (IsPorts : Ports → Type 0) (engine : Engine) (shows : Bool) (p : Path
 
 -- ---- what each engine promises
 
-zero_of : (n : ℕ) → (n == 0) ≡ true → n ≡ 0
-zero_of n test = search rules
-
 pub kept_opening : (keep : PositionPolicy) (i : Identity) (before after : Ports) (run : Option Run) (r : Result Done Stopped)
     → IfOk r (λ done. IsSomeAnd run (DecryptEnds (allows_by i) before after done)) → IfErr r (DecryptStops keep (allows_by i) (refuses_by i) before after run)
-    → before.sink.taken ≡ Some [] → Kept (decrypt_engine keep i) before after (opening_end r)
-kept_opening keep i before after run (Ok done) ends stops empty =
+    → Kept (decrypt_engine keep i) before after (opening_end r)
+kept_opening keep i before after run (Ok done) ends stops =
     let of = the_run run ends in
-    record { ends = (done, of.0, of.1); stops = tt; touches = tt; faithful = tt }
-kept_opening keep i before after run (Err s) ends stops empty =
-    let w = stop_wrote keep (allows_by i) (refuses_by i) before after s run stops in
-    record {
-      ends = tt;
-      stops = (s.written, run, stops);
-      touches = λ wrote. holds_something before.sink.taken after.sink.taken s.written w.0 empty w.1 wrote;
-      faithful = λ none. holds_nothing before.sink.taken after.sink.taken s.written w.0 empty w.1 (zero_of s.written none);
-    }
+    record { ends = (done, of.0, of.1); stops = tt }
+kept_opening keep i before after run (Err s) ends stops =
+    record { ends = tt; stops = (s.written, run, stops) }
 
 pub kept_resuming : (IsPorts : Ports → Type 0) (keep : PositionPolicy) (i : Identity) (from : Position) (old_text : Option (List ℕ)) (before after : Ports)
     (first last : SourceView) (run : Option Run) (r : Result Done Stopped) → IsPorts (ports first before.sink) → IsPorts (ports last after.sink)
     → old_text ≡ first.remaining
     → IfOk r (λ done. IsSomeAnd run (ResumeEnds (allows_by i) from (resume_ports before first) (resume_ports after last) done))
-    → IfErr r (ResumeStops (allows_by i) from (resume_ports before first) (resume_ports after last) keep (refuses_by i) run) → before.sink.taken ≡ Some []
+    → IfErr r (ResumeStops (allows_by i) from (resume_ports before first) (resume_ports after last) keep (refuses_by i) run)
     → Kept (resume_engine IsPorts keep i from old_text) before after (opening_end r)
-kept_resuming IsPorts keep i from old_text before after first last run (Ok done) first_is last_is coming ends stops empty =
+kept_resuming IsPorts keep i from old_text before after first last run (Ok done) first_is last_is coming ends stops =
     let of = the_run run ends in
-    record { ends = (first, last, first_is, last_is, coming, (done, of.0, of.1)); stops = tt; touches = tt; faithful = tt }
-kept_resuming IsPorts keep i from old_text before after first last run (Err s) first_is last_is coming ends stops empty =
-    let w = resume_wrote keep (allows_by i) from (refuses_by i) (resume_ports before first) (resume_ports after last) s run stops in
-    record {
-      ends = tt;
-      stops = (first, last, first_is, last_is, coming, (s.written, run, stops));
-      touches = λ wrote. holds_something before.sink.taken after.sink.taken s.written w.0 empty w.1 wrote;
-      faithful = λ none. holds_nothing before.sink.taken after.sink.taken s.written w.0 empty w.1 (zero_of s.written none);
-    }
-
-memory_of : (f : FileFault) → is_memory f ≡ true → f ≡ fault.Memory
-memory_of fault.Memory is = refl
-memory_of (fault.Head f) is = absurd (true≢false (sym is))
-memory_of (fault.Key f) is = absurd (true≢false (sym is))
-memory_of fault.NonceCut is = absurd (true≢false (sym is))
-memory_of (fault.Stream f) is = absurd (true≢false (sym is))
-memory_of fault.BadPosition is = absurd (true≢false (sym is))
-memory_of fault.OtherFile is = absurd (true≢false (sym is))
-memory_of fault.ShortText is = absurd (true≢false (sym is))
-memory_of fault.Read is = absurd (true≢false (sym is))
-memory_of fault.Write is = absurd (true≢false (sym is))
-memory_of fault.ReadNeverEnds is = absurd (true≢false (sym is))
-memory_of fault.PositionForged is = absurd (true≢false (sym is))
-memory_of fault.OldTextDiffers is = absurd (true≢false (sym is))
+    record { ends = (first, last, first_is, last_is, coming, (done, of.0, of.1)); stops = tt }
+kept_resuming IsPorts keep i from old_text before after first last run (Err s) first_is last_is coming ends stops =
+    record { ends = tt; stops = (first, last, first_is, last_is, coming, (s.written, run, stops)) }
 
 pub kept_sealing : (secret : SecretView) (before after : Ports) (r : Result Written FileFault) → IfOk r (Encrypts secret before after)
-    → IfErr r (EncryptFails secret before after) → before.sink.taken ≡ Some [] → Kept (encrypt_engine secret) before after (sealing_end r)
-kept_sealing secret before after (Ok written) ends fails empty = record { ends = (written, ends); stops = tt; touches = tt; faithful = tt }
-kept_sealing secret before after (Err f) ends fails empty = record {
-  ends = tt;
-  stops = fails;
-  touches = λ wrote memory. true≢false (sym (ap is_memory memory) ∙ wrote);
-  faithful = λ none. sealed_nothing secret before after f (memory_of f none) fails ∙ empty;
-}
+    → IfErr r (EncryptFails secret before after) → Kept (encrypt_engine secret) before after (sealing_end r)
+kept_sealing secret before after (Ok written) ends fails = record { ends = (written, ends); stops = tt }
+kept_sealing secret before after (Err f) ends fails = record { ends = tt; stops = fails }

@@ -1,6 +1,6 @@
 -- What a command did whose engine ran.
 use Rattle.std.proofs.Common.{◌≡◌, ◌⊎◌, ◌∙◌, ◌++◌, ◌∷◌, ap, sym, subst, refl, inl, inr, true, List}
-use Rattle.std.proofs.Common.{[], Bool, Some, None, append-nil}
+use Rattle.std.proofs.Common.{[], Bool, Option, ℕ, Some, None, append-nil}
 use Rattle.std.proofs.Common.{Result, Ok, Err, OnOk, IfOk, IfErr}
 use Rattle.std.specs.Prelude.{is_some}
 use Rattle.std.proofs.lemmas.Result.{on_ok_weaker, IfErr-weaker}
@@ -16,7 +16,7 @@ use Rattle.age_file.specs.declared.position.PositionPolicy.{PositionPolicy}
 use Rattle.age_fault.specs.declared.fault.FileFault.{FileFault}
 use Rattle.age_fileset.specs.FileSet.{Event, Opened, Created, FilesView}
 use Rattle.age_cli_args.specs.Requests.{option_text}
-use Rattle.age_cli_args.specs.declared.request.ProgressOption.TheVariants.{Silent}
+use Rattle.age_cli_args.specs.declared.request.ProgressOption.TheVariants.{Silent, Shown}
 use Rattle.age_cli_args.specs.declared.request.Encrypting.{Encrypting}
 use Rattle.age_cli_args.specs.declared.request.Decrypting.{Decrypting}
 use Rattle.age_cli_args.specs.declared.request.Resuming.{Resuming}
@@ -29,7 +29,7 @@ use Rattle.age_identity.specs.Identities.{OpensBy, allows_by, refuses_by}
 use Rattle.age_ending.specs.declared.ending.Ending.{Ending}
 use Rattle.age_identity.specs.declared.identity.Identity.{Identity}
 use Rattle.age_cli.specs.Acts.{Acts, HasEngineEnded, OfEngine, OfSomeEngine, Spares, paths_of}
-use Rattle.age_cli.specs.Acts.{progress_of, Engine, encrypt_engine, decrypt_engine, resume_engine}
+use Rattle.age_cli.specs.Acts.{progress_of, input_of, Engine, encrypt_engine, decrypt_engine, resume_engine}
 use Rattle.age_cli.specs.Acts.{Paths, LeavesOut}
 use Rattle.age_cli.specs.Acts.{WritesOut, kept_for}
 use Rattle.age_cli.specs.Commands.{MakesSecret, IsPositionIn, old_for}
@@ -60,7 +60,7 @@ abbrev pub WasEarlier : Resuming → Position → Files → SourceView → Type 
 WasEarlier a from old first = IsPositionIn (old a.position.now) from × (is_some (old_for from (old a.old.now)) ≡ true)
     × (first.remaining ≡ old_for from (old a.old.now))
 
-module _ (IsPorts : Ports → Type 0) (shows : Bool) (asked : Request) (old opened new : FilesView) (Failed Unshown Over : Type 0) (engine : Engine) (p : Paths)
+module _ (IsPorts : Ports → Type 0) (shows : Bool) (asked : Request) (old opened new : FilesView) (Failed Unshown : Type 0) (Progress : Option (List ℕ) → Result (Unit {0}) Ending → Type 0) (engine : Engine) (p : Paths)
     (durability : Durability) (before after : Ports) (end : Result (Unit {0}) Interruption) (r : Result (Unit {0}) Ending) (xs ys : List Event) where
   acts_of_engine : IsPorts before → IsPorts after → (order_asked asked).done ≡ xs ++ (ys ++ making (Some p.to) durability)
       → (order_asked asked).whole ≡ (xs ++ (ys ++ making (Some p.to) durability)) ++ replacing p.save durability
@@ -68,11 +68,11 @@ module _ (IsPorts : Ports → Type 0) (shows : Bool) (asked : Request) (old open
       → OnOk end (OfSomeEngine IsPorts asked (HasEngineEnded IsPorts))
       → (SparesBoth (Some p.to) p.save old.entries new.entries → Spares asked old.entries new.entries)
       → opened.entries ≡ old.entries → (shows ≡ true → Found p old.entries before) → after.sink.label ≡ before.sink.label
-      → (shows ≡ true → before.sink.taken ≡ Some [] → Kept engine before after end) → Concludes shows p.save durability after.sink end opened new r
+      → (shows ≡ true → Kept engine before after end) → Concludes shows p.save durability after.sink end opened new r
       → opened.events ≡ old.events ++ (xs ++ (ys ++ Created p.to ∷ [])) → (NamesTwice (order_asked asked).apart → ⊥) → (p.save ≡ Some p.to → ⊥)
-      → (progress_of asked ≡ Silent → Unshown) × (Unshown ⊎ Over) → Acts IsPorts shows asked old new Failed Unshown Over r
+      → (progress_of asked ≡ Silent → Unshown) × (progress_of asked ≡ Shown → Progress (input_of asked old.entries) r) → Acts IsPorts shows asked old new Failed Unshown Progress r
   acts_of_engine before_is after_is done_is whole_is of ran spares kept found named promise concludes noted apart unsaved silent =
-      acts_concluded IsPorts shows asked old new Failed Unshown Over r
+      acts_concluded IsPorts shows asked old new Failed Unshown Progress r
       (on_ok_weaker r (λ wrote shown. of shown (λ e q. WritesOut IsPorts e q old.entries new.entries) (wrote shown))
       (wrote_out IsPorts engine shows p durability old opened new before after before_is after_is end r kept found named promise concludes))
       (on_ok_weaker r (λ done. ends_so end ran done.0) concludes.done)
@@ -87,7 +87,7 @@ module _ (IsPorts : Ports → Type 0) (shows : Bool) (asked : Request) (old open
       concludes.order_done)
       apart silent
 
-module _ (IsPorts : Ports → Type 0) (shows : Bool) (old opened new : FilesView) (Failed Unshown Over : Type 0) (before after : Ports) (before_is : IsPorts before)
+module _ (IsPorts : Ports → Type 0) (shows : Bool) (old opened new : FilesView) (Failed Unshown : Type 0) (Progress : Option (List ℕ) → Result (Unit {0}) Ending → Type 0) (before after : Ports) (before_is : IsPorts before)
     (after_is : IsPorts after) (end : Result (Unit {0}) Interruption) (r : Result (Unit {0}) Ending) (kept : opened.entries ≡ old.entries) where
   pub encrypt_acts : (e : Encrypting) (secret : SecretView) (sealed : Result Written FileFault) → (shows ≡ true → MakesSecret e old.entries secret)
       → (shows ≡ true → Found (record { from = e.from.now; to = e.to.now; save = None }) old.entries before) → end ≡ sealing_end sealed
@@ -95,26 +95,26 @@ module _ (IsPorts : Ports → Type 0) (shows : Bool) (old opened new : FilesView
       → Concludes shows None e.durability after.sink end opened new r
       → opened.events ≡ old.events
       ++ ((Opened e.pass.now ∷ Opened (random_name (option_text e.random)) ∷ []) ++ (Opened e.from.now ∷ Created e.to.now ∷ []))
-      → (NamesTwice (order_asked (Encrypt e)).apart → ⊥) → (e.progress ≡ Silent → Unshown) × (Unshown ⊎ Over)
-      → Acts IsPorts shows (Encrypt e) old new Failed Unshown Over r
+      → (NamesTwice (order_asked (Encrypt e)).apart → ⊥) → (e.progress ≡ Silent → Unshown) × (e.progress ≡ Shown → Progress (old.entries e.from.now) r)
+      → Acts IsPorts shows (Encrypt e) old new Failed Unshown Progress r
   encrypt_acts e secret sealed made found is ends fails named concludes noted apart silent =
-      acts_of_engine IsPorts shows (Encrypt e) old opened new Failed Unshown Over (encrypt_engine secret) (record { from = e.from.now; to = e.to.now; save = None }) e.durability
+      acts_of_engine IsPorts shows (Encrypt e) old opened new Failed Unshown Progress (encrypt_engine secret) (record { from = e.from.now; to = e.to.now; save = None }) e.durability
       before after end r (Opened e.pass.now ∷ Opened (random_name (option_text e.random)) ∷ []) (Opened e.from.now ∷ []) before_is after_is refl
       refl
       (λ shown P holds. (secret, made shown, holds))
       (subst (λ (n : Result (Unit {0}) Interruption). OnOk n (OfSomeEngine IsPorts (Encrypt e) (HasEngineEnded IsPorts))) (sym is)
       (sealing_ran sealed (λ written sealed_so. (secret, (before, after, before_is, after_is, (written, sealed_so)))) ends)) (λ spared. spared) kept found named
-      (λ shown empty. subst (λ (n : Result (Unit {0}) Interruption). Kept (encrypt_engine secret) before after n) (sym is) (kept_sealing secret before after sealed ends fails empty))
+      (λ shown. subst (λ (n : Result (Unit {0}) Interruption). Kept (encrypt_engine secret) before after n) (sym is) (kept_sealing secret before after sealed ends fails))
       concludes noted apart (λ same. cc) silent
 
-module _ (IsPorts : Ports → Type 0) (shows : Bool) (old opened new : FilesView) (Failed Unshown Over : Type 0) (before : Ports) (before_is : IsPorts before)
+module _ (IsPorts : Ports → Type 0) (shows : Bool) (old opened new : FilesView) (Failed Unshown : Type 0) (Progress : Option (List ℕ) → Result (Unit {0}) Ending → Type 0) (before : Ports) (before_is : IsPorts before)
     (r : Result (Unit {0}) Ending) (kept : opened.entries ≡ old.entries) where
   pub decrypt_acts : (d : Decrypting) (identity : Identity) → ((files : Files) × OpensBy files d.identity identity)
       → (shows ≡ true → OpensBy old.entries d.identity identity) → (shows ≡ true → Found (paths_of d) old.entries before)
-      → DecryptsOpened IsPorts shows d identity before opened new Unshown Over r
+      → DecryptsOpened IsPorts shows d identity before opened new Unshown Progress r
       → opened.events ≡ old.events ++ (identity_order (option_text d.identity.pass) (option_text d.identity.shared)
       ++ ((Opened d.from.now ∷ preparing (option_text d.save)) ++ Created d.to.now ∷ []))
-      → (NamesTwice (order_asked (Decrypt d)).apart → ⊥) → Acts IsPorts shows (Decrypt d) old new Failed Unshown Over r
+      → (NamesTwice (order_asked (Decrypt d)).apart → ⊥) → Acts IsPorts shows (Decrypt d) old new Failed Unshown Progress r
   decrypt_acts d identity by opens found did noted apart =
       let k = kept_for (option_text d.save) in
       let holds : shows ≡ true → HoldsInput d before opened =
@@ -123,22 +123,22 @@ module _ (IsPorts : Ports → Type 0) (shows : Bool) (old opened new : FilesView
         gives = f.1 ∙ ap (λ (files : Files). files d.from.now) (sym kept);
         other = λ e. apart (inl (inr (inl (d.to.now, refl, ap Some (e ∙ f.3)))));
       } in
-      acts_of_engine IsPorts shows (Decrypt d) old opened new Failed Unshown Over (decrypt_engine k identity) (paths_of d) d.durability before did.after
+      acts_of_engine IsPorts shows (Decrypt d) old opened new Failed Unshown Progress (decrypt_engine k identity) (paths_of d) d.durability before did.after
       (opening_end did.decrypted) r (identity_order (option_text d.identity.pass) (option_text d.identity.shared)) (Opened d.from.now ∷ preparing (option_text d.save))
       before_is did.after_is refl refl (λ shown P holds. (identity, opens shown, holds))
       (opening_ran did.decrypted (λ done so. let of = the_run did.run so in
       (identity, by, (before, did.after, before_is, did.after_is, (done, of.0, of.1)))) did.done) (λ spared. spared) kept found did.named
-      (λ shown empty. kept_opening k identity before did.after did.run did.decrypted did.done (did.stopped shown (holds shown)) empty) did.concludes noted apart
-      (λ same. apart (inr (inl (inl (d.to.now, same, refl))))) (did.silent, did.over)
+      (λ shown. kept_opening k identity before did.after did.run did.decrypted did.done (did.stopped shown (holds shown))) did.concludes noted apart
+      (λ same. apart (inr (inl (inl (d.to.now, same, refl))))) (did.silent, λ asked. did.shown asked (old.entries d.from.now) (λ shown. (found shown).1))
 
   pub resume_acts : (a : Resuming) (identity : Identity) (from : Position) (first : SourceView) → ((files : Files) × OpensBy files a.decrypting.identity identity)
       → (shows ≡ true → OpensBy old.entries a.decrypting.identity identity)
       → (shows ≡ true → WasEarlier a from old.entries first) → IsPorts (ports first before.sink)
       → (shows ≡ true → Found (paths_of a.decrypting) old.entries before)
-      → ResumesOpened IsPorts shows a.decrypting identity from first before opened new Unshown Over r
+      → ResumesOpened IsPorts shows a.decrypting identity from first before opened new Unshown Progress r
       → opened.events ≡ old.events ++ (identity_order (option_text a.decrypting.identity.pass) (option_text a.decrypting.identity.shared)
       ++ ((Opened a.position.now ∷ Opened a.old.now ∷ Opened a.decrypting.from.now ∷ preparing (option_text a.decrypting.save)) ++ Created a.decrypting.to.now ∷ []))
-      → (NamesTwice (order_asked (Resume a)).apart → ⊥) → Acts IsPorts shows (Resume a) old new Failed Unshown Over r
+      → (NamesTwice (order_asked (Resume a)).apart → ⊥) → Acts IsPorts shows (Resume a) old new Failed Unshown Progress r
   resume_acts a identity from first by opens earlier first_is found did noted apart =
       let d = a.decrypting in
       let k = kept_for (option_text d.save) in
@@ -149,13 +149,13 @@ module _ (IsPorts : Ports → Type 0) (shows : Bool) (old opened new : FilesView
         gives = f.1 ∙ ap (λ (files : Files). files d.from.now) (sym kept);
         other = λ e. apart (inl (inr (inl (d.to.now, refl, ap Some (e ∙ f.3)))));
       } in
-      acts_of_engine IsPorts shows (Resume a) old opened new Failed Unshown Over engine (paths_of d) d.durability before did.after (opening_end did.resumed) r
+      acts_of_engine IsPorts shows (Resume a) old opened new Failed Unshown Progress engine (paths_of d) d.durability before did.after (opening_end did.resumed) r
       (identity_order (option_text d.identity.pass) (option_text d.identity.shared))
       (Opened a.position.now ∷ Opened a.old.now ∷ Opened d.from.now ∷ preparing (option_text d.save)) before_is did.after_is refl refl
       (λ shown P holds. (identity, opens shown, from, (earlier shown).0, (earlier shown).1, holds))
       (opening_ran did.resumed (λ done so. let of = the_run did.run so in
       (identity, by, from, first.remaining, (before, did.after, before_is, did.after_is, (first, did.last, first_is, did.last_is, refl, (done, of.0, of.1)))))
       did.done) (λ spared. spared) kept found did.named
-      (λ shown empty. kept_resuming IsPorts k identity from (old_for from (old.entries a.old.now)) before did.after first did.last did.run did.resumed first_is
-      did.last_is (sym (earlier shown).2) did.done (did.stopped shown (holds shown)) empty) did.concludes noted apart
-      (λ same. apart (inr (inl (inl (d.to.now, same, refl))))) (did.silent, did.over)
+      (λ shown. kept_resuming IsPorts k identity from (old_for from (old.entries a.old.now)) before did.after first did.last did.run did.resumed first_is
+      did.last_is (sym (earlier shown).2) did.done (did.stopped shown (holds shown))) did.concludes noted apart
+      (λ same. apart (inr (inl (inl (d.to.now, same, refl))))) (did.silent, λ asked. did.shown asked (old.entries d.from.now) (λ shown. (found shown).1))

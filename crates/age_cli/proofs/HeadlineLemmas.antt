@@ -40,6 +40,7 @@ use Rattle.age_cli.specs.Runs.{World, Obeys, Prints}
 use Rattle.age_identity.specs.Files.{HasReason}
 use Rattle.age_cli.specs.Commands.{IsPositionIn, old_for}
 use Rattle.age_cli.proofs.CommandStopLemmas.{stop_wrote, resume_wrote}
+use Rattle.age_file.proofs.RunLemmas.{writes_all}
 use Rattle.age_cli.specs.Headline.{IsRead, IsWritersInput, KeepsOut, BeginsAt, IsWritersResumption}
 
 appended_nil : (b : Option (List ℕ)) (out : List ℕ) → Appends (Some []) b out → b ≡ Some out
@@ -83,7 +84,7 @@ whole_out IsPorts keep identity input new text there auth o =
     let ends = o.promise.2 in
     let is = ends.1.is in
     let read = is_read identity input o.before o.after done.written r o.coming there is in
-    let all : held r ≡ text = ends.1.all text (auth r ends.0 read) in
+    let all : held r ≡ text = writes_all r (omega (arith, ends.0.zero)) ends.1.whole ends.1.done text (auth r ends.0 read) in
     o.took ∙ (appended o.before.sink.taken o.after.sink.taken (held r) o.empty is.wrote ∙ ap Some all)
 
 -- OUT, if the run stopped
@@ -169,7 +170,7 @@ module _ (identity : Identity) (p : Position) (input old_text : Option (List ℕ
       let r = o.promise.5.1 in
       let ends = o.promise.5.2 in
       let is = ends.2.is in
-      let all : held r ≡ text = ends.2.all text
+      let all : held r ≡ text = writes_all r (omega (arith, ends.0.index, p.within)) ends.2.whole ends.2.done text
       (authentic_run (resume_ports o.before first) (resume_ports o.after last) done.written r o.coming o.promise.4 ends.0 is) in
       o.took ∙ (appended o.before.sink.taken o.after.sink.taken (held r) o.empty is.wrote ∙ ap Some all)
 
@@ -285,7 +286,8 @@ kept_whole old new status text whole = record { safe = inr (text, whole, ([], ap
 kept_stopped : (old new : Option (List ℕ)) (status : ℕ) (text : List ℕ) → (status ≡ 0 → ⊥) → HoldsNoMore old new text → KeepsOut old new status text
 kept_stopped old new status text failed safe = record { safe = safe; whole = λ zero. absurd (failed zero) }
 
-module _ (words : List Text) (shows : Bool) (IsPorts : Ports → Type 0) (before after : World) (Failed Unread Unprinted Unshown Over : Type 0) (status : ℕ) (text : List ℕ)
+module _ (words : List Text) (shows : Bool) (IsPorts : Ports → Type 0) (before after : World) (Failed Unread Unprinted Unshown : Type 0)
+    (Progress : Option (List ℕ) → Result (Unit {0}) Ending → Type 0) (status : ℕ) (text : List ℕ)
     (shown : shows ≡ true) where
   abbrev pub old : Files
   old = before.files.entries
@@ -318,7 +320,7 @@ module _ (words : List Text) (shows : Bool) (IsPorts : Ports → Type 0) (before
 
   -- of what is asked, whichever request was made of the words
   pub headline_of : (r : Result (Unit {0}) Ending) → OnErr r (status ≡ 0 → ⊥)
-      → Obeys words shows IsPorts before after Failed Unread Unprinted Unshown Over r → (d : Decrypting) → Requests words (Decrypt d)
+      → Obeys words shows IsPorts before after Failed Unread Unprinted Unshown Progress r → (d : Decrypting) → Requests words (Decrypt d)
       → IsWritersInput d old text → KeepsOut (old d.to.now) (new d.to.now) status text
   headline_of r failed (inl o) d (name, rows, asks, is) auth = absurd (no_command words name rows o.none asks)
   headline_of r failed (inr (inr o)) d (name, rows, asks, is) auth = declined r failed o.done asks.taken o.untouched d.to.now
@@ -328,7 +330,7 @@ module _ (words : List Text) (shows : Bool) (IsPorts : Ports → Type 0) (before
       let same = only.2 in
       let mine : IsWritersInput e old text = λ identity opens run from read.
       auth identity (same.opens old identity opens) run from (subst (λ (t : Text). IsRead identity (old t) run) same.from read) in
-      let acts = subst (λ (q : Request). Acts IsPorts shows q before.files after.files Failed Unshown Over r) only.1 o.acts in
+      let acts = subst (λ (q : Request). Acts IsPorts shows q before.files after.files Failed Unshown Progress r) only.1 o.acts in
       subst (λ (t : Text). KeepsOut (old t) (new t) status text) same.to (decrypted e mine r failed acts.done (acts.stops shown))
 
   module _ (s : Resuming) (auth : IsWritersResumption s old text) where
@@ -356,7 +358,7 @@ module _ (words : List Text) (shows : Bool) (IsPorts : Ports → Type 0) (before
         IsPorts (kept_for (option_text d.save)) (old d.to.now) (new d.to.now) did.5.position did.5.fault did.5.output)
 
   pub resumed_headline_of : (r : Result (Unit {0}) Ending) → OnErr r (status ≡ 0 → ⊥)
-      → Obeys words shows IsPorts before after Failed Unread Unprinted Unshown Over r → (a : Resuming) → Requests words (Resume a)
+      → Obeys words shows IsPorts before after Failed Unread Unprinted Unshown Progress r → (a : Resuming) → Requests words (Resume a)
       → IsWritersResumption a old text → KeepsOut (old a.decrypting.to.now) (new a.decrypting.to.now) status text
   resumed_headline_of r failed (inl o) a (name, rows, asks, is) auth = absurd (no_command words name rows o.none asks)
   resumed_headline_of r failed (inr (inr o)) a (name, rows, asks, is) auth = declined r failed o.done asks.taken o.untouched a.decrypting.to.now
@@ -373,5 +375,5 @@ module _ (words : List Text) (shows : Bool) (IsPorts : Ports → Type 0) (before
         rest = λ p is identity opens run from read. auth.rest p (at p is) identity (d.opens old identity opens) run from
             (subst (λ (t : Text). IsRead identity (old t) run) d.from read);
       } in
-      let acts = subst (λ (q : Request). Acts IsPorts shows q before.files after.files Failed Unshown Over r) only.1 o.acts in
+      let acts = subst (λ (q : Request). Acts IsPorts shows q before.files after.files Failed Unshown Progress r) only.1 o.acts in
       subst (λ (t : Text). KeepsOut (old t) (new t) status text) d.to (resumed s mine r failed acts.done (acts.stops shown))

@@ -7,6 +7,8 @@ pub mod EngineLemmas
 pub mod ActLemmas
 pub mod RereadLemmas
 pub mod RestLemmas
+pub mod TakingLemmas
+pub mod ProgressLemmas
 pub mod FinalLemmas
 pub mod HeadlineLemmas
 pub mod ObeyLemmas

@@ -106,11 +106,12 @@ every_fault : {A : Type 0} (r : Result A Ending) (P : Ending → Type 0) → ((e
 every_fault (Ok x) P h = tt
 every_fault (Err e) P h = h e
 
-module _ (IsPorts : Ports → Type 0) (shows : Bool) (before after : FilesView) (Failed Unshown Over : Type 0) (r : Result (Unit {0}) Ending)
+module _ (IsPorts : Ports → Type 0) (shows : Bool) (before after : FilesView) (Failed Unshown : Type 0)
+    (Progress : Option (List ℕ) → Result (Unit {0}) Ending → Type 0) (r : Result (Unit {0}) Ending)
     (kept : after.entries ≡ before.entries) (silent : Unshown) where
   -- of a drill
   pub drill_acts : (d : Drilling) → Follows (order_asked (Drill d)).whole before.events after.events
-      → OnOk r (after.events ≡ before.events ++ (order_asked (Drill d)).done) → Acts IsPorts shows (Drill d) before after Failed Unshown Over r
+      → OnOk r (after.events ≡ before.events ++ (order_asked (Drill d)).done) → Acts IsPorts shows (Drill d) before after Failed Unshown Progress r
   drill_acts d whole finished = record {
     done = always r _ (λ shown. tt);
     ran = always r _ tt;
@@ -124,12 +125,13 @@ module _ (IsPorts : Ports → Type 0) (shows : Bool) (before after : FilesView) 
     order_shown = λ shown. every_fault r _ (λ e usage. whole);
     apart = λ twice. absurd twice;
     silent = λ asked. silent;
-    over = inl silent;
+    progress = inl silent;
+    shown = always r _ (λ asked. absurd (shown_not_silent (sym asked)));
   }
 
   -- of a report: a file is opened, or none, and no fault is one of the words
   pub inspect_acts : (file : Option (Bor Text)) → after.events ≡ before.events ++ (order_asked (Inspect file)).done → IfErr r (λ e. is_usage e ≡ false)
-      → Acts IsPorts shows (Inspect file) before after Failed Unshown Over r
+      → Acts IsPorts shows (Inspect file) before after Failed Unshown Progress r
   inspect_acts file noted fault =
       let impossible : (P : Type 0) → IfErr r (λ e. IsUsage e → P) =
       λ P. IfErr-weaker r _ _ (λ e no usage. absurd (true≢false (sym usage ∙ no))) fault in
@@ -146,5 +148,6 @@ module _ (IsPorts : Ports → Type 0) (shows : Bool) (before after : FilesView) 
         order_shown = λ shown. impossible _;
         apart = λ twice. absurd twice;
         silent = λ asked. silent;
-        over = inl silent;
+        progress = inl silent;
+        shown = always r _ (λ asked. absurd (shown_not_silent (sym asked)));
       }

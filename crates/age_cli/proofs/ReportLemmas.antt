@@ -1,19 +1,17 @@
 -- What the status says of an ending.
-use Rattle.std.proofs.Common.{◌≡◌, ◌∙◌, ◌⊎◌, inl, inr, arith, refl, sym, subst, ℕ, Bool, true}
-use Rattle.std.proofs.Common.{false, List, Option, None}
-use Rattle.std.proofs.Common.{Result, Ok, Err}
+use Rattle.std.proofs.Common.{◌≡◌, ◌∙◌, ◌⊎◌, inl, inr, arith, sym, subst, ℕ, Result, Ok, Err}
 use Rattle.std.specs.Prelude.{OnErr}
+use Rattle.age_io.specs.Io.{SinkView}
 use Rattle.age_fault.proofs.ByteLemmas.{Appends-then, risen}
 use Rattle.age_fault.specs.Faults.{HasRisen}
-use Rattle.age_ending.specs.Endings.{Announces, ReportsEnding, ReportsRest, TakesLine}
-use Rattle.age_ending.specs.Endings.{Tells, fault_line}
+use Rattle.age_fault.specs.declared.fault.FileFault.{FileFault}
+use Rattle.age_ending.specs.Endings.{Announces, ReportsEnding, ReportsRest, TakesLine, Tells}
+use Rattle.age_ending.specs.Endings.{fault_line}
 use Rattle.age_ending.specs.declared.ending.Announcement.{Announcement}
 use Rattle.age_ending.specs.declared.ending.Announcement.TheVariants.{Unmade, Made, Failed}
-use Rattle.age_cli.specs.Acts.{status_by, ending_status}
 use Rattle.age_ending.specs.declared.ending.Ending.{Ending}
 use Rattle.age_ending.specs.declared.ending.Ending.TheVariants.{Words, Usage, Fault, Unsaved}
-use Rattle.age_io.specs.Io.{SinkView}
-use Rattle.age_fault.specs.declared.fault.FileFault.{FileFault}
+use Rattle.age_cli.specs.Acts.{status_by, ending_status}
 
 -- an ending has another status than success
 pub failed_status : (e : Ending) → ending_status e ≡ 0 → ⊥

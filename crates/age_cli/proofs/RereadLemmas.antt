@@ -1,7 +1,7 @@
 -- What a decryption did whose position was found by reading the input once more.
 use Rattle.std.proofs.Common.{◌≡◌, ◌≢◌, ◌∙◌, ◌⊎◌, ◌∷◌, ◌++◌, [], ℕ, List, Option, Some, None, Bool}
 use Rattle.std.proofs.Common.{true, false}
-use Rattle.std.proofs.Common.{Result, Ok, Err, IfOk, IfErr, ap, sym, subst, refl, inl, inr, ⊎_elim}
+use Rattle.std.proofs.Common.{Result, Ok, Err, OnOk, IfOk, IfErr, ap, sym, subst, refl, inl, inr, ⊎_elim}
 use Rattle.std.proofs.Common.{true≢false}
 use Rattle.std.specs.Prelude.{is_some, IfSome}
 use Rattle.std.proofs.lemmas.Option.{none-some}
@@ -24,7 +24,7 @@ use Rattle.age_io.specs.Io.{SinkView, SourceView}
 use Rattle.age_io.specs.declared.durability.Durability.{Durability}
 use Rattle.age_cli_args.specs.Requests.{option_text}
 use Rattle.age_cli_args.specs.declared.request.Decrypting.{Decrypting}
-use Rattle.age_cli_args.specs.declared.request.ProgressOption.TheVariants.{Silent}
+use Rattle.age_cli_args.specs.declared.request.ProgressOption.TheVariants.{Silent, Shown}
 use Rattle.age_identity.specs.Identities.{allows_by, refuses_by}
 use Rattle.age_ending.specs.declared.ending.Ending.{Ending}
 use Rattle.age_identity.specs.declared.identity.Identity.{Identity}
@@ -35,9 +35,10 @@ use Rattle.age_identity.proofs.EventLemmas.{then_follows}
 use Rattle.age_cli.specs.Acts.{EndsOf, IsSaved, SaveFails, kept_for}
 use Rattle.age_cli.specs.inner.Openings.{Saves}
 use Rattle.age_cli.specs.declared.interruption.Interruption.{Interruption}
+use Rattle.std.specs.Io.KnownBytes.{IsAtEnd}
 use Rattle.age_cli.proofs.CommandStopLemmas.{ends_from}
-use Rattle.age_cli.proofs.EngineLemmas.{left_as}
-use Rattle.age_cli.specs.inner.Endings.{Concludes, Left, opening_end}
+use Rattle.age_cli.proofs.ProgressLemmas.{opening_at_end}
+use Rattle.age_cli.specs.inner.Endings.{Concludes, IsPut, Left, opening_end}
 use Rattle.age_cli.specs.inner.Rereadings.{again_of, ConcludesAgain, DecryptsOpened, HoldsInput}
 use Rattle.age_cli.specs.inner.Rereadings.{IsFoundIn, stopped_at}
 
@@ -82,13 +83,16 @@ stopped_so false (Err s) (Some k) keep other i before after none same d =
     subst (λ (x : PositionPolicy). DecryptStops x (allows_by i) (refuses_by i) before after d.is.run s) (same refl) d.is.stopped
 
 module _ (IsPorts : Ports → Type 0) (shows : Bool) (d : Decrypting) (i : Identity) (before after : Ports) (after_is : IsPorts after) (old new : FilesView)
-    (Unshown Over : Type 0) (silent : d.progress ≡ Silent → Unshown) (over : Unshown ⊎ Over) where
+    (Unshown : Type 0) (Progress : Option (List ℕ) → Result (Unit {0}) Ending → Type 0) (silent : d.progress ≡ Silent → Unshown) where
   pub opened_once : (reread : Bool) (end : Result Done Stopped) (key : Option (List ℕ)) (keep : PositionPolicy) (r : Result (Unit {0}) Ending)
       → again_of reread end key ≡ None → (reread ≡ false → keep ≡ kept_for (option_text d.save))
       → DecryptsKeyed keep (allows_by i) (refuses_by i) before after end key
-      → (engine : Result (Unit {0}) Interruption) → engine ≡ opening_end end → Concludes shows (option_text d.save) d.durability after.sink engine old new r
-      → DecryptsOpened IsPorts shows d i before old new Unshown Over r
-  opened_once reread end key keep r none same did engine is concludes = record {
+      → (engine : Result (Unit {0}) Interruption) → engine ≡ opening_end end
+      → (OnOk (opening_end end) (IsAtEnd after.source.remaining) → d.progress ≡ Shown → (input : Option (List ℕ))
+      → (shows ≡ true → before.source.remaining ≡ input) → Progress input r)
+      → Concludes shows (option_text d.save) d.durability after.sink engine old new r
+      → DecryptsOpened IsPorts shows d i before old new Unshown Progress r
+  opened_once reread end key keep r none same did engine is shown concludes = record {
     after = after;
     after_is = after_is;
     decrypted = end;
@@ -98,11 +102,12 @@ module _ (IsPorts : Ports → Type 0) (shows : Bool) (d : Decrypting) (i : Ident
     named = did.is.named;
     concludes = subst (λ (e : Result (Unit {0}) Interruption). Concludes shows (option_text d.save) d.durability after.sink e old new r) is concludes;
     silent = silent;
-    over = over;
+    shown = shown (opening_at_end (allows_by i) before after did.is.run end did.is.done);
   }
 
   module _ (law : ReadAgain Identity allows_by refuses_by) (s : Stopped) (key : List ℕ) (saves : is_some (option_text d.save) ≡ true) (ending : Ending)
-      (did : DecryptsKeyed Dropped (allows_by i) (refuses_by i) before after (Err s) (Some key)) where
+      (did : DecryptsKeyed Dropped (allows_by i) (refuses_by i) before after (Err s) (Some key))
+      (shown : d.progress ≡ Shown → (input : Option (List ℕ)) → (shows ≡ true → before.source.remaining ≡ input) → Progress input (Err ending)) where
     abbrev At : PositionPolicy → Option Run → Position → Type 0
     At keep run p = DecryptStops keep (allows_by i) (refuses_by i) before after run (stopped_at s p)
 
@@ -122,7 +127,7 @@ module _ (IsPorts : Ports → Type 0) (shows : Bool) (d : Decrypting) (i : Ident
 
     opened_at : (p : Position) → (shows ≡ true → HoldsInput d before old → At Kept did.is.run p)
         → Concludes shows (option_text d.save) d.durability after.sink (opening_end (Err (stopped_at s p))) old new (Err ending)
-        → DecryptsOpened IsPorts shows d i before old new Unshown Over (Err ending)
+        → DecryptsOpened IsPorts shows d i before old new Unshown Progress (Err ending)
     opened_at p stops concludes = record {
       after = after;
       after_is = after_is;
@@ -133,10 +138,10 @@ module _ (IsPorts : Ports → Type 0) (shows : Bool) (d : Decrypting) (i : Ident
       named = did.is.named;
       concludes = concludes;
       silent = silent;
-      over = over;
+      shown = shown;
     }
 
-    pub opened_again : ConcludesAgain shows d after.sink None s key old new ending → DecryptsOpened IsPorts shows d i before old new Unshown Over (Err ending)
+    pub opened_again : ConcludesAgain shows d after.sink None s key old new ending → DecryptsOpened IsPorts shows d i before old new Unshown Progress (Err ending)
     opened_again (inl (p, found, concludes)) =
         opened_at p (λ shown holds. found_so did.is.run p did.found did.is.stopped holds (found shown (λ e. holds.other (e ∙ did.is.named)))) concludes
     opened_again (inr all) =
@@ -150,13 +155,6 @@ keyed_as keep i before after end key s k dropped stopped known did =
     subst (λ (x : Option (List ℕ)). DecryptsKeyed Dropped (allows_by i) (refuses_by i) before after (Err s) x) known
     (subst (λ (x : Result Done Stopped). DecryptsKeyed Dropped (allows_by i) (refuses_by i) before after x key) stopped
     (subst (λ (x : PositionPolicy). DecryptsKeyed x (allows_by i) (refuses_by i) before after end key) dropped did))
-
--- progress that was shown, and then perhaps shown again, is over
-pub over_again : {P : Type 0} (first second third : P) (OverAt : P → Type 0) → (second ≡ first) ⊎ OverAt second → (third ≡ second) ⊎ OverAt third
-    → (third ≡ first) ⊎ OverAt third
-over_again first second third OverAt once (inr over) = inr over
-over_again first second third OverAt (inl none) (inl same) = inl (same ∙ none)
-over_again first second third OverAt (inr over) (inl same) = inr (subst OverAt (sym same) over)
 
 -- a position that was found by this key, over these bytes
 pub finds_so : (bytes : Option (List ℕ)) (key : List ℕ) (old new : SourceView) (written : ℕ) (r : Result Position FileFault) → old.remaining ≡ bytes
@@ -208,21 +206,18 @@ saves_is (Some name) p old new saves = saves
 
 -- OUT was left as the stop leaves it, and then what is due was done for the position
 pub concludes_left : (shows : Bool) (save : Option Text) (durability : Durability) (sink : SinkView) (cause : Interruption) (old mid new : FilesView) (ending : Ending)
-    → (shows ≡ true → cause.is_untouched ≡ true → sink.taken ≡ Some [] → mid.entries ≡ old.entries)
-    → (shows ≡ true → cause.is_untouched ≡ false → (mid.entries ≡ old.entries) ⊎ (mid.entries sink.label ≡ sink.taken))
+    → (shows ≡ true → IsPut sink.taken (old.entries sink.label) (mid.entries sink.label))
     → SparesBut sink.label old.entries mid.entries → mid.events ≡ old.events ++ Closed durability ∷ [] → is_usage ending ≡ false
     → (shows ≡ true → EndsOf cause.fault save cause.position mid.entries new.entries ending)
     → Follows (replacing save durability) mid.events new.events → (shows ≡ true → SparesBoth None save mid.entries new.entries)
     → Concludes shows save durability sink (Err cause) old new (Err ending)
-concludes_left shows save durability sink cause old mid new ending untouched written others closed fault ends noted spares = record {
+concludes_left shows save durability sink cause old mid new ending left others closed fault ends noted spares = record {
   done = tt;
-  stops = λ shown apart faithful. (
+  stops = λ shown apart. (
     cause,
     subst (λ (x : Option (List ℕ)). Left (Err cause) sink.taken (old.entries sink.label) x cause) (sym (spares shown sink.label (λ e. cc) apart)) (
       refl,
-      left_as cause.is_untouched sink.taken (old.entries sink.label) (mid.entries sink.label)
-          (λ none. ap (λ (f : Files). f sink.label) (untouched shown none (faithful none)))
-          (λ wrote. ⊎_elim (λ same. inl (ap (λ (f : Files). f sink.label) same)) (λ put. inr put) (written shown wrote)),
+      left shown,
     ),
     ends_from cause.fault save cause.position old.entries mid.entries new.entries ending (λ q name. others q (λ e. apart (name ∙ ap Some e))) (ends shown),
   );

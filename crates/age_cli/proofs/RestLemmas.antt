@@ -1,6 +1,6 @@
 -- What a resumed decryption did whose position was found by reading the rest of the input once more.
 use Rattle.std.proofs.Common.{◌≡◌, ◌≢◌, ◌∙◌, ◌⊎◌, ◌++◌, ℕ, List, Option, Some, None, Bool, true, false}
-use Rattle.std.proofs.Common.{Result, Ok, Err, IfOk, IfErr, ap, sym, subst, refl, inl, inr, ⊎_elim, true≢false}
+use Rattle.std.proofs.Common.{Result, Ok, Err, OnOk, IfOk, IfErr, ap, sym, subst, refl, inl, inr, ⊎_elim, true≢false}
 use Rattle.std.specs.Prelude.{is_some, IfSome, IsSomeAnd}
 use Rattle.std.proofs.lemmas.Option.{none-some}
 use Rattle.age_io.specs.Io.{SourceView}
@@ -18,7 +18,7 @@ use Rattle.age_file.specs.declared.standing.Standing.TheVariants.{Before, Skippi
 use Rattle.age_fileset.specs.FileSet.{FilesView}
 use Rattle.age_cli_args.specs.Requests.{option_text}
 use Rattle.age_cli_args.specs.declared.request.Decrypting.{Decrypting}
-use Rattle.age_cli_args.specs.declared.request.ProgressOption.TheVariants.{Silent}
+use Rattle.age_cli_args.specs.declared.request.ProgressOption.TheVariants.{Silent, Shown}
 use Rattle.age_identity.specs.Identities.{allows_by, refuses_by}
 use Rattle.age_ending.specs.declared.ending.Ending.{Ending}
 use Rattle.age_identity.specs.declared.identity.Identity.{Identity}
@@ -27,6 +27,8 @@ use Rattle.age_cli.specs.declared.interruption.Interruption.{Interruption}
 use Rattle.age_cli.specs.inner.Endings.{Concludes, opening_end}
 use Rattle.age_cli.specs.inner.Rereadings.{again_of, key_of, placed, ConcludesAgain, HoldsInput, IsFoundIn}
 use Rattle.age_cli.specs.inner.Rereadings.{ResumesOpened, stopped_at}
+use Rattle.std.specs.Io.KnownBytes.{IsAtEnd}
+use Rattle.age_cli.proofs.ProgressLemmas.{resuming_at_end}
 use Rattle.age_cli.proofs.RereadLemmas.{again_is, kept_some, some_of}
 
 -- the choice, by what was made of the end and of where it stood
@@ -121,8 +123,8 @@ module _ (i : Identity) (from : Position) (before after : ResumePorts) where
   paid reread end Skipping s k is = absurd (none-some k (sym (again_is reread (placed reread Skipping from end) None s k is).2))
 
 module _ (IsPorts : Ports → Type 0) (shows : Bool) (d : Decrypting) (i : Identity) (from : Position) (first last : SourceView) (before after : Ports)
-    (after_is : IsPorts after) (last_is : IsPorts (ports last after.sink)) (old new : FilesView) (Unshown Over : Type 0) (silent : d.progress ≡ Silent → Unshown)
-    (over : Unshown ⊎ Over) where
+    (after_is : IsPorts after) (last_is : IsPorts (ports last after.sink)) (old new : FilesView) (Unshown : Type 0) (Progress : Option (List ℕ) → Result (Unit {0}) Ending → Type 0)
+    (silent : d.progress ≡ Silent → Unshown) where
   abbrev Did : PositionPolicy → Result Done Stopped → Standing → Type 0
   Did keep end standing = ResumesKeyed keep (allows_by i) (refuses_by i) from (resume_ports before first) (resume_ports after last) end standing
 
@@ -131,31 +133,36 @@ module _ (IsPorts : Ports → Type 0) (shows : Bool) (d : Decrypting) (i : Ident
       → again_of reread end' (key_of standing) ≡ None
       → (reread ≡ true → is_some (option_text d.save) ≡ true) → (reread ≡ true → keep ≡ Dropped) → (reread ≡ false → keep ≡ kept_for (option_text d.save))
       → Did keep end standing
-      → (engine : Result (Unit {0}) Interruption) → engine ≡ opening_end end' → Concludes shows (option_text d.save) d.durability after.sink engine old new r
-      → ResumesOpened IsPorts shows d i from first before old new Unshown Over r
-  resumed_once reread end standing keep r end' at none saves dropped same did engine is concludes = record {
-    after = after;
-    after_is = after_is;
-    last = last;
-    last_is = last_is;
-    resumed = end';
-    run = did.is.run;
-    done = subst (λ (e : Result Done Stopped). IfOk e (λ done. IsSomeAnd did.is.run (ResumeEnds (allows_by i) from (resume_ports before first)
-        (resume_ports after last) done))) (sym at)
-        (placed_done i from (resume_ports before first) (resume_ports after last) reread end standing did.is.done);
-    stopped = λ shown holds. subst (λ (e : Result Done Stopped). IfErr e (ResumeStops (allows_by i) from (resume_ports before first)
-        (resume_ports after last) (kept_for (option_text d.save)) (refuses_by i) did.is.run)) (sym at)
-        (rested i from (resume_ports before first) (resume_ports after last) reread end standing keep (kept_for (option_text d.save))
-        (subst (λ (e : Result Done Stopped). again_of reread e (key_of standing) ≡ None) at none)
-        (λ is. (dropped is, kept_some (option_text d.save) (saves is))) same did);
-    named = did.is.named;
-    concludes = subst (λ (e : Result (Unit {0}) Interruption). Concludes shows (option_text d.save) d.durability after.sink e old new r) is concludes;
-    silent = silent;
-    over = over;
-  }
+      → (engine : Result (Unit {0}) Interruption) → engine ≡ opening_end end'
+      → (OnOk (opening_end end') (IsAtEnd after.source.remaining) → d.progress ≡ Shown → (input : Option (List ℕ))
+      → (shows ≡ true → before.source.remaining ≡ input) → Progress input r)
+      → Concludes shows (option_text d.save) d.durability after.sink engine old new r
+      → ResumesOpened IsPorts shows d i from first before old new Unshown Progress r
+  resumed_once reread end standing keep r end' at none saves dropped same did engine is shown concludes =
+      let done = subst (λ (e : Result Done Stopped). IfOk e (λ done. IsSomeAnd did.is.run (ResumeEnds (allows_by i) from (resume_ports before first)
+      (resume_ports after last) done))) (sym at)
+      (placed_done i from (resume_ports before first) (resume_ports after last) reread end standing did.is.done) in record {
+        after = after;
+        after_is = after_is;
+        last = last;
+        last_is = last_is;
+        resumed = end';
+        run = did.is.run;
+        done = done;
+        stopped = λ shown holds. subst (λ (e : Result Done Stopped). IfErr e (ResumeStops (allows_by i) from (resume_ports before first)
+            (resume_ports after last) (kept_for (option_text d.save)) (refuses_by i) did.is.run)) (sym at)
+            (rested i from (resume_ports before first) (resume_ports after last) reread end standing keep (kept_for (option_text d.save))
+            (subst (λ (e : Result Done Stopped). again_of reread e (key_of standing) ≡ None) at none)
+            (λ is. (dropped is, kept_some (option_text d.save) (saves is))) same did);
+        named = did.is.named;
+        concludes = subst (λ (e : Result (Unit {0}) Interruption). Concludes shows (option_text d.save) d.durability after.sink e old new r) is concludes;
+        silent = silent;
+        shown = shown (resuming_at_end (allows_by i) from (resume_ports before first) (resume_ports after last) did.is.run end' done);
+      }
 
   module _ (law : RestReadAgain Identity allows_by refuses_by) (s : Stopped) (key : List ℕ) (saves : is_some (option_text d.save) ≡ true) (ending : Ending)
-      (did : Did Dropped (Err s) (InPayload key)) where
+      (did : Did Dropped (Err s) (InPayload key))
+      (shown : d.progress ≡ Shown → (input : Option (List ℕ)) → (shows ≡ true → before.source.remaining ≡ input) → Progress input (Err ending)) where
     abbrev At : PositionPolicy → Option Run → Position → Type 0
     At keep run p = ResumeStops (allows_by i) from (resume_ports before first) (resume_ports after last) keep (refuses_by i) run (stopped_at s p)
 
@@ -180,7 +187,7 @@ module _ (IsPorts : Ports → Type 0) (shows : Bool) (d : Decrypting) (i : Ident
 
     opened_at : (p : Position) → (shows ≡ true → HoldsInput d before old → At Kept did.is.run p)
         → Concludes shows (option_text d.save) d.durability after.sink (opening_end (Err (stopped_at s p))) old new (Err ending)
-        → ResumesOpened IsPorts shows d i from first before old new Unshown Over (Err ending)
+        → ResumesOpened IsPorts shows d i from first before old new Unshown Progress (Err ending)
     opened_at p stops concludes = record {
       after = after;
       after_is = after_is;
@@ -193,11 +200,11 @@ module _ (IsPorts : Ports → Type 0) (shows : Bool) (d : Decrypting) (i : Ident
       named = did.is.named;
       concludes = concludes;
       silent = silent;
-      over = over;
+      shown = shown;
     }
 
     pub resumed_again : ConcludesAgain shows d after.sink (Some from) s key old new ending
-        → ResumesOpened IsPorts shows d i from first before old new Unshown Over (Err ending)
+        → ResumesOpened IsPorts shows d i from first before old new Unshown Progress (Err ending)
     resumed_again (inl (p, found, concludes)) =
         opened_at p (λ shown holds. found_so did.is.run p did.stands did.is.stopped holds (found shown (λ e. holds.other (e ∙ did.is.named)))) concludes
     resumed_again (inr all) =

@@ -1,10 +1,12 @@
 -- What a command does with files, done or stopped.
 use Rattle.std.specs.Prelude.{◌≡◌, ℕ, true, Result, Ok, Err, if◌then◌else◌, List, [], Option, Some}
-use Rattle.std.specs.Prelude.{◌⊎◌, is_some, None, Bool, ◌++◌, OnOk, IfErr, IsErrAnd}
+use Rattle.std.specs.Prelude.{◌⊎◌, is_some, None, Bool, ◌++◌, OnOk, IfErr, IsErrAnd, ◌≢◌}
+use Rattle.std.specs.Prelude.{option_map, length}
+use Rattle.std.specs.Io.KnownBytes.{IsAtEnd}
 use Rattle.clap.specs.Words.{Text}
-use Rattle.age_io.specs.Io.{SourceView, SinkView}
+use Rattle.age_io.specs.Io.{SourceView, SinkView, Shown as ShownOne, ShowsReading}
 use Rattle.age_fault.specs.declared.fault.FileFault.{FileFault}
-use Rattle.age_fault.specs.declared.fault.FileFault.TheVariants.{Memory, Read, Write, BadPosition}
+use Rattle.age_fault.specs.declared.fault.FileFault.TheVariants.{Read, Write, BadPosition}
 use Rattle.age_file.specs.Runs.{Ports, ports, Run}
 use Rattle.age_file.specs.Encrypts.{SecretView, Encrypts, EncryptFails}
 use Rattle.age_file.specs.Decrypts.{DecryptEnds, DecryptStops}
@@ -19,7 +21,7 @@ use Rattle.age_fileset.specs.FileSet.{IsMemoryOr, FilesView}
 use Rattle.age_cli_args.specs.Requests.{option_text}
 use Rattle.age_cli_args.specs.declared.request.Decrypting.{Decrypting}
 use Rattle.age_cli_args.specs.declared.request.ProgressOption.{ProgressOption}
-use Rattle.age_cli_args.specs.declared.request.ProgressOption.TheVariants.{Silent}
+use Rattle.age_cli_args.specs.declared.request.ProgressOption.TheVariants.{Silent, Shown}
 use Rattle.age_cli_args.specs.declared.request.Request.{Request}
 use Rattle.age_cli_args.specs.declared.request.Request.TheVariants.{Encrypt, Decrypt, Resume}
 use Rattle.age_cli_args.specs.declared.request.Request.TheVariants.{Inspect, Drill}
@@ -27,9 +29,9 @@ use Rattle.age_ending.specs.Endings.{is_usage, EndsEarly}
 use Rattle.age_ending.specs.declared.ending.Ending.{Ending}
 use Rattle.age_ending.specs.declared.ending.Ending.TheVariants.{Fault, Unsaved}
 use Rattle.age_identity.specs.Files.{HasReason, Files, SparesBut, SparesBoth}
+use Rattle.age_identity.specs.declared.identity.Identity.{Identity}
 use Rattle.age_identity.specs.Identities.{allows_by, refuses_by, OpensBy}
 use Rattle.age_identity.specs.Orders.{Follows, NamesTwice, order_asked}
-use Rattle.age_identity.specs.declared.identity.Identity.{Identity}
 use Rattle.age_cli.specs.Commands.{MakesSecret, HoldsNoPosition, IsPositionIn, old_for}
 
 -- ---- How a command or a run ended: with all done, or with an ending.
@@ -49,22 +51,19 @@ status_by (Err e) = ending_status e
 
 -- ---- What the engine of a command promises of its source and its sink, before and after.
 
--- what it promises if it ends, and if it stops with a position and a fault; and whether OUT may
--- differ after a stop, by the fault and by what the sink took
+-- what it promises if it ends, and if it stops with a position and a fault
 pub record Engine : Type 1 where
   pub ends : Ports → Ports → Type 0
   pub stops : Option Position → FileFault → Ports → Ports → Type 0
-  pub touches : FileFault → Option (List ℕ) → Type 0
 
--- the engine of `encrypt`, which has no position; it touches nothing if memory was refused
+-- that of `encrypt`, which has no position
 abbrev pub encrypt_engine : SecretView → Engine
 encrypt_engine secret = record {
   ends = λ before after. (written : Written) × Encrypts secret before after written;
   stops = λ position fault before after. EncryptFails secret before after fault;
-  touches = λ fault taken. fault ≡ Memory → ⊥;
 }
 
--- the engine of `decrypt`, which names its run; it touches nothing if nothing was written
+-- that of `decrypt`, which names its run
 abbrev pub decrypt_engine : PositionPolicy → Identity → Engine
 decrypt_engine keep i = record {
   ends = λ before after. (done : Done) × (run : Run)
@@ -72,7 +71,6 @@ decrypt_engine keep i = record {
   stops = λ position fault before after. (written : ℕ) × (run : Option Run)
       × DecryptStops keep (allows_by i) (refuses_by i) before after run
       (record { fault = fault; written = written; position = position });
-  touches = λ fault taken. taken ≡ Some [] → ⊥;
 }
 
 -- the ports of a source and a sink of one set of files: what they show, and how often they failed
@@ -99,7 +97,6 @@ module _ (IsPorts : Ports → Type 0) where
     stops = λ position fault. Beside old_text (λ before after. (written : ℕ) × (run : Option Run)
         × ResumeStops (allows_by i) from before after keep (refuses_by i) run
         (record { fault = fault; written = written; position = position }));
-    touches = λ fault taken. taken ≡ Some [] → ⊥;
   }
 
   -- the engine ran: it read from this input, and wrote this to an output that was empty
@@ -154,11 +151,11 @@ module _ (IsPorts : Ports → Type 0) (engine : Engine) where
     pub output : Ran IsPorts engine.ends (old p.from) (new p.to)
     pub others : SparesBut p.to old new
 
-  -- the engine stopped, and OUT is as it was, or holds what the sink took
+  -- the engine stopped, and OUT is as it was, or holds what the sink took, if it took anything
   abbrev pub IsLeft : Option Position → FileFault → (input old new : Option (List ℕ)) → Type 0
   IsLeft position fault input old new = (taken : Option (List ℕ))
       × Ran IsPorts (engine.stops position fault) input taken
-      × ((new ≡ old) ⊎ ((new ≡ taken) × engine.touches fault taken))
+      × ((new ≡ old) ⊎ ((new ≡ taken) × (taken ≢ Some [])))
 
   -- the engine ended, but OUT could not be closed, and is as it was or whole
   abbrev pub IsUnclosed : Option Position → FileFault → (input old new : Option (List ℕ)) → Type 0
@@ -210,6 +207,34 @@ GivesNone (Resume r) old = (identity : Identity) → OpensBy old r.decrypting.id
 GivesNone (Drill d) old = Unit {0}
 GivesNone (Inspect file) old = ⊥
 
+-- what IN holds, of a command that may show progress
+abbrev pub input_of : Request → Files → Option (List ℕ)
+input_of (Encrypt e) old = old e.from.now
+input_of (Decrypt d) old = old d.from.now
+input_of (Resume r) old = old r.decrypting.from.now
+input_of other old = None
+
+-- ---- What progress shows.
+
+-- a reading: it begins with the length of the input, if contracts see that, then counts what is
+-- read of it, and ends
+abbrev pub ShowsRun : Bool → (input left : Option (List ℕ)) → (old new : Option (List ShownOne))
+    → Type 0
+ShowsRun shows input left old new = (coming : Option (List ℕ)) × (size : Option ℕ)
+    × (shows ≡ true → (coming ≡ input) × (size ≡ option_map length input))
+    × ShowsReading size coming left old new
+
+-- one reading of the input, to its end if all was done; where it stopped perhaps a second one, by
+-- which its position was looked for
+pub record ShowsProgress (shows : Bool) (old new : Option (List ShownOne)) (input : Option (List ℕ))
+    (ended : Result (Unit {0}) Ending) : Type 0 where
+  pub left : Option (List ℕ)
+  pub middle : Option (List ShownOne)
+  pub first : ShowsRun shows input left old middle
+  pub whole : OnOk ended (IsAtEnd left × (new ≡ middle))
+  pub again : (new ≡ middle)
+      ⊎ ((input left : Option (List ℕ)) × ShowsRun shows input left middle new)
+
 module _ (IsPorts : Ports → Type 0) where
   -- what is asked and what the files hold make an engine, and this holds of it and of the names
   abbrev pub OfEngine : Request → Files → (Engine → Paths → Type 0) → Type 0
@@ -247,10 +272,11 @@ module _ (IsPorts : Ports → Type 0) where
       × engine.ends before after
 
   -- What stands before and after a command; `shows` says whether contracts see the files, `Failed`
-  -- that a source of these failed, `Unshown` that the progress is as it was, and `Over` that the
-  -- last that was shown of it is that it is over.
+  -- that a source of these failed, `Unshown` that the progress is as it was, and `Progress` what was
+  -- shown of it, by what IN holds and by how the command ended.
   pub record Acts (shows : Bool) (asked : Request) (before after : FilesView)
-      (Failed Unshown Over : Type 0) (ended : Result (Unit {0}) Ending) : Type 0 where
+      (Failed Unshown : Type 0) (Progress : Option (List ℕ) → Result (Unit {0}) Ending → Type 0)
+      (ended : Result (Unit {0}) Ending) : Type 0 where
     -- OUT holds what the engine promises for what the names stood for at the call.
     pub done : OnOk ended (shows ≡ true → OfEngine asked before.entries
         (λ engine paths. WritesOut IsPorts engine paths before.entries after.entries))
@@ -285,5 +311,8 @@ module _ (IsPorts : Ports → Type 0) where
         → (after.events ≡ before.events) × IsErrAnd ended IsUsage
     -- Without `--progress` no progress is shown.
     pub silent : progress_of asked ≡ Silent → Unshown
-    -- Progress that was shown is over, however the command ended.
-    pub over : Unshown ⊎ Over
+    -- Progress that was shown is that of reading IN, however the command ended.
+    pub progress : Unshown ⊎ Progress (input_of asked before.entries) ended
+    -- If all was done, it was shown where it was asked for.
+    pub shown : OnOk ended
+        (progress_of asked ≡ Shown → Progress (input_of asked before.entries) ended)

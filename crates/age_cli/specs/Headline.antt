@@ -4,9 +4,9 @@ use Rattle.std.specs.Prelude.{Some}
 use Rattle.clap.specs.Words.{Text}
 use Rattle.age_stanza.specs.Grammar.{HeadText}
 use Rattle.age_chunk.specs.Payload.{chunk_count, chunk_length, block_length, chunk_limit}
+use Rattle.age_io.specs.Io.{Shown, SinkView}
 use Rattle.age_stream.specs.Headline.{IsPrefixOf}
 use Rattle.age_keys.specs.Keys.{Opens}
-use Rattle.age_io.specs.Io.{IsOver, Shown, SinkView}
 use Rattle.age_file.specs.Runs.{Ports, Run, IsFromStart, IsTexts, IsAuthenticRun, HasId, HasTag}
 use Rattle.age_file.specs.declared.position.Position.{Position}
 use Rattle.age_cli_args.specs.Requests.{Requests}
@@ -16,6 +16,7 @@ use Rattle.age_cli_args.specs.declared.request.Resuming.{Resuming}
 use Rattle.age_identity.specs.Files.{Files}
 use Rattle.age_identity.specs.Identities.{allows_by, OpensBy}
 use Rattle.age_identity.specs.declared.identity.Identity.{Identity}
+use Rattle.age_cli.specs.Acts.{ShowsProgress}
 use Rattle.age_cli.specs.Runs.{World, Runs}
 use Rattle.age_cli.specs.Commands.{IsPositionIn}
 
@@ -99,7 +100,9 @@ abbrev pub RunsKeepOut : (Ports → Type 0) → (Failed Input Output Faults Prog
 RunsKeepOut IsPorts Failed Input Output Faults Progress =
     (words : List Text) (before after : World) (faults_old faults_new : SinkView)
     (input : Input × Input) (output : Output × Output) (faults : Faults × Faults)
-    (progress : Progress × Progress) (shown : Option (List Shown)) (status : ℕ)
+    (progress : Progress × Progress) (shown : Option (List Shown) × Option (List Shown))
+    (status : ℕ)
     → Runs words true IsPorts before after faults_old faults_new Failed (faults.1 ≡ faults.0)
-    (input.1 ≡ input.0) (output.1 ≡ output.0) (progress.1 ≡ progress.0) (IsOver shown) status
+    (input.1 ≡ input.0) (output.1 ≡ output.0) (progress.1 ≡ progress.0)
+    (ShowsProgress true shown.0 shown.1) status
     → DecryptKeepsOut words before after status × ResumeKeepsOut words before after status

@@ -50,10 +50,13 @@ pub record Reported (ended : Result (Unit {0}) Ending) (Report Unprinted : Type 
   pub unprinted : IfErr ended (λ e. FailsWriting output_old output_new e ⊎ Unprinted)
 
 -- `shows` says whether contracts see the files, `IsPorts` which are the ports of those, and
--- `Failed` that a source of them failed. `Unread`, `Unprinted` and `Unshown` say that the input,
--- the output and the progress are as they were, and `Over` that the progress is over.
+-- `Failed` that a source of them failed. `Unread`, `Unprinted` and `Unshown` say that the input, the
+-- output and the progress are as they were, and `Progress` what was shown of the progress, by what
+-- IN holds and by how the run ended.
 module _ (words : List Text) (shows : Bool) (IsPorts : Ports → Type 0) (before after : World)
-    (Failed Unread Unprinted Unshown Over : Type 0) (ended : Result (Unit {0}) Ending) where
+    (Failed Unread Unprinted Unshown : Type 0)
+    (Progress : Option (List ℕ) → Result (Unit {0}) Ending → Type 0)
+    (ended : Result (Unit {0}) Ending) where
   -- Without words the input is reported.
   pub record ReportsInput : Type 0 where
     pub none : words ≡ []
@@ -88,7 +91,7 @@ module _ (words : List Text) (shows : Bool) (IsPorts : Ports → Type 0) (before
     pub asked : Request
     pub made : Requests words asked
     -- What was done with files.
-    pub acts : Acts IsPorts shows asked before.files after.files Failed Unshown Over ended
+    pub acts : Acts IsPorts shows asked before.files after.files Failed Unshown Progress ended
     -- What was written to the output.
     pub answers : DoesOther asked
 
@@ -117,11 +120,12 @@ module _ (words : List Text) (shows : Bool) (IsPorts : Ports → Type 0) (before
 
 -- What stands before and after a run with this status, of its words, and what was put to `faults`.
 -- `Failed` says that a source of the files failed; `Quiet`, `Unread`, `Unprinted` and `Unshown` say
--- that `faults`, the input, the output and the progress are as they were, and `Over` that the
--- progress is over.
+-- that `faults`, the input, the output and the progress are as they were, and `Progress` what was
+-- shown of the progress.
 pub record Runs (words : List Text) (shows : Bool) (IsPorts : Ports → Type 0)
     (before after : World) (faults_old faults_new : SinkView)
-    (Failed Quiet Unread Unprinted Unshown Over : Type 0) (status : ℕ) : Type 0 where
+    (Failed Quiet Unread Unprinted Unshown : Type 0)
+    (Progress : Option (List ℕ) → Result (Unit {0}) Ending → Type 0) (status : ℕ) : Type 0 where
   -- How it ended, which the status says: 0 means that all was done, 2 that the words are refused,
   -- and 1 that it stopped.
   pub ended : Result (Unit {0}) Ending
@@ -131,4 +135,4 @@ pub record Runs (words : List Text) (shows : Bool) (IsPorts : Ports → Type 0)
   -- Otherwise the line of a fault does, or the lines of two, unless the sink fails.
   pub reported : IfErr ended
       (λ e. ReportsEnding e faults_old.taken faults_new.taken faults_old.failed faults_new.failed)
-  pub obeys : Obeys words shows IsPorts before after Failed Unread Unprinted Unshown Over ended
+  pub obeys : Obeys words shows IsPorts before after Failed Unread Unprinted Unshown Progress ended

@@ -5,21 +5,21 @@ ghost use Rattle.age_file.specs.Decrypts.{DecryptsKeyed};
 ghost use Rattle.age_file.specs.Runs.{ports};
 ghost use Rattle.age_file.specs.declared.position.PositionPolicy.TheVariants.{Dropped};
 ghost use Rattle.age_cli_args.specs.Requests.{option_text};
-ghost use Rattle.age_cli_args.specs.declared.request.ProgressOption.TheVariants.{Silent};
+ghost use Rattle.age_cli_args.specs.declared.request.ProgressOption.TheVariants.{Silent, Shown};
 ghost use Rattle.age_cli_args.specs.declared.request.Request.TheVariants.{Decrypt};
 ghost use Rattle.age_identity.specs.Identities.{IsEnough, IsSecretIn, file_bytes, file_of};
 ghost use Rattle.age_identity.specs.Identities.{allows_by, refuses_by};
 ghost use Rattle.age_identity.specs.Orders.{opening_event, NamesTwice, order_asked};
 ghost use Rattle.age_ending.specs.Endings.{Tells};
 ghost use Rattle.age_identity.specs.Files.{SourceFails};
-ghost use Rattle.age_io.specs.Io.{IsOver};
-ghost use Rattle.age_cli.specs.Acts.{Acts, PortsOf, kept_for};
+ghost use Rattle.age_cli.specs.Acts.{Acts, PortsOf, kept_for, ShowsProgress, ShowsRun};
 ghost use Rattle.age_cli.specs.inner.Openings.{IsReadAs, Judges};
 ghost use Rattle.age_cli.specs.inner.Rereadings.{DecryptsOpened, again_of};
 
 use crate::interruption::opening_end;
 use crate::output::{Content, Output, conclude, end_meter, open_both, with_meter};
 use crate::reread::{Again, conclude_again};
+use crate::taking::Taking;
 use age_cli_args::{Decrypting, ProgressOption};
 use age_ending::{Announcement, Ending, Usage};
 use age_file::{Done, PositionPolicy, Source, Stopped, decrypt_keyed, read_again};
@@ -137,14 +137,16 @@ fn open_text<F: FileSet, P: Meter>(
     positions: PositionPolicy,
     identity: &Identity<'_>,
     mut source: F::In,
-    out: &mut F::Out,
+    out: &mut Taking<F>,
     progress: &mut P,
 ) -> Opened<F::In>
     ensures opened { DecryptsKeyed positions (allows_by identity.now) (refuses_by identity.now)
-        (ports (F.In.view source) (F.Out.view out.old))
-        (ports (F.In.view result.source) (F.Out.view out.new)) result.end result.key }
+        (ports (F.In.view source) (F.Out.view out.old.out))
+        (ports (F.In.view result.source) (F.Out.view out.new.out)) result.end result.key }
     ensures silent { asked.now.progress ≡ Silent → progress.new ≡ progress.old }
-    ensures over { (progress.new ≡ progress.old) ⊎ (IsOver (P.shown progress.new)) }
+    ensures shown { asked.now.progress ≡ Shown → ShowsRun (F.shows_bytes)
+        (F.In.view source).remaining (F.In.view result.source).remaining (P.shown progress.old)
+        (P.shown progress.new) }
 {
     match asked.progress {
         ProgressOption::Silent => {
@@ -188,7 +190,7 @@ fn decrypt_opened<F: FileSet, E: Sink, P: Meter>(
     asked: &Decrypting<'_>,
     identity: &Identity<'_>,
     source: F::In,
-    mut out: F::Out,
+    mut out: Taking<F>,
     faults: &mut E,
     announced: &mut Announcement,
     progress: &mut P,
@@ -196,8 +198,9 @@ fn decrypt_opened<F: FileSet, E: Sink, P: Meter>(
     ensures announced { Tells announced.new result (E.view faults.old) (E.view faults.new)
         (faults.new ≡ faults.old) }
     ensures opened { DecryptsOpened (PortsOf F.In.view F.Out.view) (F.shows_bytes) asked.now identity.now
-        (ports (F.In.view source) (F.Out.view out)) (F.view files.old) (F.view files.new)
-        (progress.new ≡ progress.old) (IsOver (P.shown progress.new)) result }
+        (ports (F.In.view source) (F.Out.view out.out)) (F.view files.old) (F.view files.new)
+        (progress.new ≡ progress.old)
+        (ShowsProgress (F.shows_bytes) (P.shown progress.old) (P.shown progress.new)) result }
 {
     read_again::<Identity<'_>>();
     let is_reread = can_reread(files, &source, asked.save);
@@ -249,7 +252,8 @@ pub fn decrypt_file<F: FileSet, E: Sink, P: Meter>(
         (faults.new ≡ faults.old) }
     ensures acts { Acts (PortsOf F.In.view F.Out.view) (F.shows_bytes) (Decrypt asked.now)
         (F.view files.old) (F.view files.new) (SourceFails F.In.view)
-        (progress.new ≡ progress.old) (IsOver (P.shown progress.new)) result }
+        (progress.new ≡ progress.old)
+        (ShowsProgress (F.shows_bytes) (P.shown progress.old) (P.shown progress.new)) result }
 {
     *announced = Announcement::Unmade;
     let is_file_named_twice = names_a_file_twice(files, asked);

@@ -13,8 +13,7 @@ ghost use Rattle.age_identity.specs.Files.{Files};
 ghost use Rattle.age_identity.specs.Orders.{NamesTwice, order_asked, random_name};
 ghost use Rattle.age_identity.specs.Identities.{IsPassphraseIn};
 ghost use Rattle.age_keys.specs.Scrypt.{IsAllowed};
-ghost use Rattle.age_io.specs.Io.{IsOver};
-ghost use Rattle.age_cli.specs.Acts.{Acts, GivesNone, PortsOf};
+ghost use Rattle.age_cli.specs.Acts.{Acts, GivesNone, PortsOf, ShowsProgress};
 ghost use Rattle.age_cli.specs.Commands.{MakesSecret, IsRandomIn};
 ghost use Rattle.age_cli.specs.inner.Openings.{Judges, IsRandom, IsMaterialIn};
 
@@ -191,7 +190,8 @@ pub fn encrypt_file<F: FileSet, E: Sink, P: Meter>(
         (faults.new ≡ faults.old) }
     ensures acts { Acts (PortsOf F.In.view F.Out.view) (F.shows_bytes) (Encrypt asked.now)
         (F.view files.old) (F.view files.new) (SourceFails F.In.view)
-        (progress.new ≡ progress.old) (IsOver (P.shown progress.new)) result }
+        (progress.new ≡ progress.old)
+        (ShowsProgress (F.shows_bytes) (P.shown progress.old) (P.shown progress.new)) result }
 {
     *announced = Announcement::Unmade;
     let material = read_material(alloc, files, asked)?;

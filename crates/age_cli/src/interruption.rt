@@ -6,7 +6,7 @@ ghost use Rattle.age_ending.specs.Endings.{is_usage, Announces};
 ghost use Rattle.age_cli.specs.Acts.{SaveFails, EndsOf};
 ghost use Rattle.age_identity.specs.Orders.{Follows, replacing};
 ghost use Rattle.age_identity.specs.Files.{SparesBoth};
-ghost use Rattle.age_cli.specs.inner.Endings.{is_memory, sealing_end, opening_end};
+ghost use Rattle.age_cli.specs.inner.Endings.{sealing_end, opening_end};
 ghost use Rattle.age_cli.specs.inner.Openings.{Saves};
 
 use age_ending::{Announcement, Ending, announce};
@@ -22,30 +22,20 @@ pub(crate) struct Interruption {
     pub(crate) fault: FileFault,
     /// The position to save.
     pub(crate) position: Option<Position>,
-    /// Whether nothing was written, so that the output is left as it was.
-    pub(crate) is_untouched: bool,
 }
 
 impl From<FileFault> for Interruption {
-    ghost from_gives = { λ f s. s ≡ record { fault = f; position = None; is_untouched = false } };
+    ghost from_gives = { λ f s. s ≡ record { fault = f; position = None } };
 
     fn from(fault: FileFault) -> Interruption {
         Interruption {
             fault,
             position: None,
-            is_untouched: false,
         }
     }
 }
 
-/// Whether memory was refused.
-fn is_memory(fault: FileFault) -> bool
-    ensures { result ≡ is_memory fault }
-{
-    matches!(fault, FileFault::Memory)
-}
-
-/// How an encryption ended. It has no position, and nothing was written if memory was refused.
+/// How an encryption ended. It has no position.
 pub(crate) fn sealing_end(sealed: Result<Written, FileFault>) -> Result<(), Interruption>
     ensures { result ≡ sealing_end sealed }
 {
@@ -54,7 +44,6 @@ pub(crate) fn sealing_end(sealed: Result<Written, FileFault>) -> Result<(), Inte
         Err(fault) => Err(Interruption {
             fault,
             position: None,
-            is_untouched: is_memory(fault),
         }),
     }
 }
@@ -68,7 +57,6 @@ pub(crate) fn opening_end(opened: Result<Done, Stopped>) -> Result<(), Interrupt
         Err(stopped) => Err(Interruption {
             fault: stopped.fault,
             position: stopped.position,
-            is_untouched: stopped.written == 0,
         }),
     }
 }

@@ -1,18 +1,18 @@
 //! How the input and the output of a command are opened, and how the output is ended.
 
-ghost use Rattle.std.specs.Prelude.{◌≡◌, ◌⊎◌, [], ◌∷◌, ◌++◌, Some, None, true, false, is_some};
-ghost use Rattle.std.specs.Prelude.{IfErr, IfSome, ℕ, Option, option_map, length};
-ghost use Rattle.age_io.specs.Io.{Adds, Begins, IsOver};
-ghost use Rattle.age_ending.specs.Endings.{EndsEarly, is_usage, Tells};
-ghost use Rattle.age_identity.specs.Files.{SourceFails, HasReason};
+ghost use Rattle.std.specs.Prelude.{◌≡◌, [], ◌∷◌, ◌++◌, Some, None, true, false, is_some, IfErr, ℕ};
+ghost use Rattle.std.specs.Prelude.{Option, option_map, length};
+ghost use Rattle.age_io.specs.Io.{Adds, Begins, Ends};
 ghost use Rattle.age_fileset.specs.FileSet.{Opened, Created, Closed};
 ghost use Rattle.age_cli_args.specs.Requests.{option_text};
+ghost use Rattle.age_ending.specs.Endings.{EndsEarly, is_usage, Tells};
+ghost use Rattle.age_identity.specs.Files.{SourceFails, HasReason, SparesBut};
 ghost use Rattle.age_identity.specs.Orders.{preparing, making};
-ghost use Rattle.age_identity.specs.Files.{SparesBut};
-ghost use Rattle.age_cli.specs.inner.Endings.{Concludes, EndsOut};
+ghost use Rattle.age_cli.specs.inner.Endings.{Concludes, EndsOut, IsPut};
 ghost use Rattle.age_cli.specs.inner.Openings.{OpensFiles};
 
 use crate::interruption::{Interruption, end_of};
+use crate::taking::Taking;
 use age_ending::{Announcement, Ending, Usage};
 use age_fileset::FileSet;
 use age_io::{Durability, Meter, Metered, Sink};
@@ -60,11 +60,11 @@ fn create_out<F: FileSet>(
     alloc: Global,
     files: &mut F,
     asked: &Output<'_>,
-) -> Result<F::Out, Ending>
+) -> Result<Taking<F>, Ending>
     ensures { OpensFiles (F.shows_bytes) (Created asked.now.to.now ∷ [])
         (making (Some asked.now.to.now) asked.now.durability) (F.view files.old)
-        (F.view files.new) (λ o. ((F.Out.view o).taken ≡ Some [])
-        × ((F.Out.view o).label ≡ asked.now.to.now)) (SourceFails F.In.view) result }
+        (F.view files.new) (λ o. ((F.Out.view o.out).taken ≡ Some [])
+        × ((F.Out.view o.out).label ≡ asked.now.to.now)) (SourceFails F.In.view) result }
 {
     let out = files.create(alloc, asked.to)?;
     match refusal_of(files, &out, asked.content) {
@@ -72,7 +72,7 @@ fn create_out<F: FileSet>(
             files.discard(out, asked.durability);
             Err(Ending::Usage(usage))
         }
-        None => Ok(out),
+        None => Ok(Taking::new(out)),
     }
 }
 
@@ -100,7 +100,7 @@ pub(crate) fn open_both<F: FileSet>(
     files: &mut F,
     from: &str,
     asked: &Output<'_>,
-) -> Result<(F::In, F::Out), Ending>
+) -> Result<(F::In, Taking<F>), Ending>
     ensures { OpensFiles (F.shows_bytes)
         (Opened from.now ∷ (preparing (option_text asked.now.save) ++ Created asked.now.to.now ∷ []))
         (Opened from.now ∷ (preparing (option_text asked.now.save)
@@ -108,8 +108,8 @@ pub(crate) fn open_both<F: FileSet>(
         (F.view files.old) (F.view files.new)
         (λ both. (is_some ((F.view files.old).entries from.now) ≡ true)
         × ((F.In.view both.0).remaining ≡ (F.view files.old).entries from.now)
-        × ((F.Out.view both.1).taken ≡ Some [])
-        × ((F.Out.view both.1).label ≡ asked.now.to.now)) (SourceFails F.In.view) result }
+        × ((F.Out.view both.1.out).taken ≡ Some [])
+        × ((F.Out.view both.1.out).label ≡ asked.now.to.now)) (SourceFails F.In.view) result }
 {
     let source = files.open(alloc, from)?;
     prepare_save(alloc, files, asked)?;
@@ -125,8 +125,8 @@ pub(crate) fn with_meter<F: FileSet, M: Meter>(
     mut meter: M,
 ) -> Metered<F::In, M>
     ensures source { result.source ≡ source }
-    ensures begun { (size : Option ℕ) × (F.shows_bytes ≡ true → IfSome size (λ n.
-        option_map length (F.In.view source).remaining ≡ Some n))
+    ensures begun { (size : Option ℕ) × (F.shows_bytes ≡ true
+        → size ≡ option_map length (F.In.view source).remaining)
         × Adds (M.shown meter) (M.shown result.meter) (Begins size) }
 {
     meter.begin(files.length(&source));
@@ -135,30 +135,23 @@ pub(crate) fn with_meter<F: FileSet, M: Meter>(
 
 /// Shows a meter that the run is over.
 pub(crate) fn end_meter<M: Meter>(meter: &mut M)
-    ensures { IsOver (M.shown meter.new) }
+    ensures { Adds (M.shown meter.old) (M.shown meter.new) Ends }
 {
     meter.end();
 }
 
-/// Ends the output if the engine stopped: with what was written, or as it was.
-pub(crate) fn leave<F: FileSet>(
-    files: &mut F,
-    out: F::Out,
-    is_untouched: bool,
-    durability: Durability,
-)
-    ensures untouched { F.shows_bytes ≡ true → is_untouched ≡ true
-        → (F.Out.view out).taken ≡ Some []
-        → (F.view files.new).entries ≡ (F.view files.old).entries }
-    ensures written { F.shows_bytes ≡ true → is_untouched ≡ false
-        → ((F.view files.new).entries ≡ (F.view files.old).entries)
-        ⊎ ((F.view files.new).entries (F.Out.view out).label ≡ (F.Out.view out).taken) }
-    ensures others { SparesBut (F.Out.view out).label (F.view files.old).entries
+/// Ends the output where the engine stopped: with what was written, or as it was, if nothing was.
+pub(crate) fn leave<F: FileSet>(files: &mut F, out: Taking<F>, durability: Durability)
+    ensures left { F.shows_bytes ≡ true → IsPut (F.Out.view out.out).taken
+        ((F.view files.old).entries (F.Out.view out.out).label)
+        ((F.view files.new).entries (F.Out.view out.out).label) }
+    ensures others { SparesBut (F.Out.view out.out).label (F.view files.old).entries
         (F.view files.new).entries }
     ensures noted { (F.view files.new).events
         ≡ (F.view files.old).events ++ Closed durability ∷ [] }
 {
-    if is_untouched {
+    let Taking { out, is_empty } = out;
+    if is_empty {
         files.discard(out, durability);
     } else {
         // What stopped the engine is reported, and not that its output can't be closed either.
@@ -169,17 +162,17 @@ pub(crate) fn leave<F: FileSet>(
 /// Ends the output once the engine returned: whole, or as its stop leaves it.
 fn end_out<F: FileSet>(
     files: &mut F,
-    out: F::Out,
+    out: Taking<F>,
     durability: Durability,
     engine: Result<(), Interruption>,
 ) -> Result<(), Interruption>
-    ensures { EndsOut (F.shows_bytes) durability (F.Out.view out) engine (F.view files.old)
+    ensures { EndsOut (F.shows_bytes) durability (F.Out.view out.out) engine (F.view files.old)
         (F.view files.new) result }
 {
     match engine {
-        Ok(()) => Ok(files.close(out, durability)?),
+        Ok(()) => Ok(files.close(out.into_out(), durability)?),
         Err(stop) => {
-            leave(files, out, stop.is_untouched, durability);
+            leave(files, out, durability);
             Err(stop)
         }
     }
@@ -189,7 +182,7 @@ fn end_out<F: FileSet>(
 pub(crate) fn conclude<F: FileSet, E: Sink>(
     alloc: Global,
     files: &mut F,
-    out: F::Out,
+    out: Taking<F>,
     save: Option<&str>,
     durability: Durability,
     faults: &mut E,
@@ -199,7 +192,7 @@ pub(crate) fn conclude<F: FileSet, E: Sink>(
     ensures announced { Tells announced.new result (E.view faults.old) (E.view faults.new)
         (faults.new ≡ faults.old) }
     ensures concludes { Concludes (F.shows_bytes) (option_text save.entry) durability
-        (F.Out.view out) engine (F.view files.old) (F.view files.new) result }
+        (F.Out.view out.out) engine (F.view files.old) (F.view files.new) result }
 {
     match end_out(files, out, durability, engine) {
         Ok(()) => Ok(()),

@@ -6,11 +6,10 @@ ghost use Rattle.age_fault.specs.declared.fault.FileFault.TheVariants.{Memory};
 ghost use Rattle.age_ending.specs.declared.ending.Ending.TheVariants.{Fault};
 ghost use Rattle.clap.specs.Words.{kind_of};
 ghost use Rattle.clap.specs.Walk.{texts};
-ghost use Rattle.age_cli.specs.Acts.{PortsOf, ending_status};
+ghost use Rattle.age_cli.specs.Acts.{PortsOf, ending_status, ShowsProgress};
 ghost use Rattle.age_cli.specs.Runs.{world, IsRefusal, Obeys, Prints, FailsWriting, Runs};
 ghost use Rattle.age_ending.specs.Endings.{Tells};
 ghost use Rattle.age_identity.specs.Files.{SourceFails};
-ghost use Rattle.age_io.specs.Io.{IsOver};
 ghost use Rattle.age_cli.specs.inner.Endings.{IsForOutput};
 
 use crate::decrypt_command::decrypt_file;
@@ -65,7 +64,8 @@ fn obey<F: FileSet, I: Source, O: Sink, E: Sink, P: Meter>(
         (world (F.view files.old) (I.view input.old).remaining (O.view output.old))
         (world (F.view files.new) (I.view input.new).remaining (O.view output.new))
         (SourceFails F.In.view) (input.new ≡ input.old) (output.new ≡ output.old)
-        (progress.new ≡ progress.old) (IsOver (P.shown progress.new)) result }
+        (progress.new ≡ progress.old)
+        (ShowsProgress (F.shows_bytes) (P.shown progress.old) (P.shown progress.new)) result }
 {
     *announced = Announcement::Unmade;
     if words.is_empty() {
@@ -122,7 +122,7 @@ pub fn run<F: FileSet, I: Source, O: Sink, E: Sink, P: Meter>(
         (world (F.view files.new) (I.view input.new).remaining (O.view output.new))
         (E.view faults.old) (E.view faults.new) (SourceFails F.In.view) (faults.new ≡ faults.old)
         (input.new ≡ input.old) (output.new ≡ output.old) (progress.new ≡ progress.old)
-        (IsOver (P.shown progress.new)) result }
+        (ShowsProgress (F.shows_bytes) (P.shown progress.old) (P.shown progress.new)) result }
 {
     let mut announced = Announcement::Unmade;
     match obey(

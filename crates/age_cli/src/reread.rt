@@ -1,16 +1,18 @@
 //! How the position of a stop is found by reading the input once more.
 
-ghost use Rattle.std.specs.Prelude.{◌≡◌, ◌⊎◌, true, is_some, IfOk, IfErr};
+ghost use Rattle.std.specs.Prelude.{◌≡◌, ◌⊎◌, ℕ, List, Option, true, is_some, IfOk, IfErr};
 ghost use Rattle.age_fault.specs.declared.fault.FileFault.TheVariants.{Read};
-ghost use Rattle.age_io.specs.Io.{IsOver};
+ghost use Rattle.age_io.specs.Io.{Origin};
 ghost use Rattle.age_fileset.specs.FileSet.{IsMemoryOr};
 ghost use Rattle.age_cli_args.specs.Requests.{option_text};
 ghost use Rattle.age_cli_args.specs.declared.request.ProgressOption.TheVariants.{Silent};
 ghost use Rattle.age_ending.specs.Endings.{Announces};
+ghost use Rattle.age_cli.specs.Acts.{ShowsRun};
 ghost use Rattle.age_cli.specs.inner.Rereadings.{IsFoundIn, ConcludesAgain};
 
 use crate::interruption::save;
 use crate::output::{end_meter, leave, with_meter};
+use crate::taking::Taking;
 use age_cli_args::{Decrypting, ProgressOption};
 use age_ending::{Announcement, Ending, announce};
 use age_file::{FileFault, Position, Stopped, position_after, resumed_position_after};
@@ -40,6 +42,7 @@ fn position_in<S: Source>(
 ) -> Result<Position, FileFault>
     ensures found { IfOk result (IsFoundIn from.now (S.view source.old).remaining key.now written) }
     ensures faults { IfErr result (IsMemoryOr Read) }
+    ensures metered { (began : Origin) → S.metered source.old began → S.metered source.new began }
 {
     match from {
         None => position_after(alloc, key, written, source),
@@ -59,7 +62,9 @@ fn find_again<F: FileSet, P: Meter>(
         ((F.view files.now).entries asked.now.from.now) again.key again.stopped.written) }
     ensures faults { IfErr result (IsMemoryOr Read) }
     ensures silent { asked.now.progress ≡ Silent → progress.new ≡ progress.old }
-    ensures over { (progress.new ≡ progress.old) ⊎ (IsOver (P.shown progress.new)) }
+    ensures shown { (P.shown progress.new ≡ P.shown progress.old)
+        ⊎ ((input left : Option (List ℕ)) × ShowsRun (F.shows_bytes) input left
+        (P.shown progress.old) (P.shown progress.new)) }
 {
     let Again {
         mut source,
@@ -86,7 +91,7 @@ fn find_again<F: FileSet, P: Meter>(
 pub(crate) fn conclude_again<F: FileSet, E: Sink, P: Meter>(
     alloc: Global,
     files: &mut F,
-    out: F::Out,
+    out: Taking<F>,
     asked: &Decrypting<'_>,
     again: Again<F::In>,
     faults: &mut E,
@@ -95,13 +100,15 @@ pub(crate) fn conclude_again<F: FileSet, E: Sink, P: Meter>(
 ) -> Ending
     requires { is_some (option_text asked.now.save) ≡ true }
     ensures announced { Announces announced.new result (E.view faults.old) (E.view faults.new) ⊥ }
-    ensures again { ConcludesAgain (F.shows_bytes) asked.now (F.Out.view out) again.from
+    ensures again { ConcludesAgain (F.shows_bytes) asked.now (F.Out.view out.out) again.from
         again.stopped again.key (F.view files.old) (F.view files.new) result }
     ensures silent { asked.now.progress ≡ Silent → progress.new ≡ progress.old }
-    ensures over { (progress.new ≡ progress.old) ⊎ (IsOver (P.shown progress.new)) }
+    ensures shown { (P.shown progress.new ≡ P.shown progress.old)
+        ⊎ ((input left : Option (List ℕ)) × ShowsRun (F.shows_bytes) input left
+        (P.shown progress.old) (P.shown progress.new)) }
 {
-    let Stopped { fault, written, .. } = again.stopped;
-    leave(files, out, written == 0, asked.durability);
+    let fault = again.stopped.fault;
+    leave(files, out, asked.durability);
     *announced = announce(faults, fault);
     match find_again(alloc, files, asked, again, progress) {
         Ok(position) => match save(alloc, files, asked.save, Some(position), asked.durability) {

@@ -4,7 +4,7 @@ ghost use Rattle.std.specs.Prelude.{◌≡◌, ◌⊎◌, [], ◌∷◌, ◌++�
 ghost use Rattle.age_fault.specs.declared.fault.FileFault.TheVariants.{Read, BadPosition};
 ghost use Rattle.age_fileset.specs.FileSet.{Opened, OpenFails};
 ghost use Rattle.age_fileset.specs.declared.files.OpenFault.TheVariants as OpenFault;
-ghost use Rattle.age_cli_args.specs.declared.request.ProgressOption.TheVariants.{Silent};
+ghost use Rattle.age_cli_args.specs.declared.request.ProgressOption.TheVariants.{Silent, Shown};
 ghost use Rattle.age_cli_args.specs.declared.request.Request.TheVariants.{Resume};
 ghost use Rattle.age_file.specs.Resumes.{resume_ports, ResumesKeyed};
 ghost use Rattle.age_file.specs.Runs.{ports};
@@ -12,8 +12,7 @@ ghost use Rattle.age_identity.specs.Identities.{allows_by, refuses_by};
 ghost use Rattle.age_identity.specs.Orders.{Follows, NamesTwice, order_asked};
 ghost use Rattle.age_ending.specs.Endings.{Tells};
 ghost use Rattle.age_identity.specs.Files.{SourceFails, IsUnread};
-ghost use Rattle.age_io.specs.Io.{IsOver};
-ghost use Rattle.age_cli.specs.Acts.{Acts, PortsOf};
+ghost use Rattle.age_cli.specs.Acts.{Acts, PortsOf, ShowsProgress, ShowsRun};
 ghost use Rattle.age_cli.specs.Commands.{HoldsNoPosition, IsPositionIn, old_for};
 ghost use Rattle.age_cli.specs.inner.Rereadings.{ResumesOpened, key_of, placed};
 
@@ -23,6 +22,7 @@ use crate::decrypt_command::{
 use crate::interruption::opening_end;
 use crate::output::{Content, Output, conclude, end_meter, open_both, with_meter};
 use crate::reread::{Again, conclude_again};
+use crate::taking::Taking;
 use age_cli_args::{Decrypting, ProgressOption, Resuming};
 use age_ending::{Announcement, Ending};
 use age_file::{
@@ -182,16 +182,18 @@ fn resume_text<F: FileSet, P: Meter>(
     position: &Position,
     mut source: F::In,
     old: &mut F::In,
-    out: &mut F::Out,
+    out: &mut Taking<F>,
     progress: &mut P,
 ) -> Resumed<F::In>
     ensures resumed { ResumesKeyed positions (allows_by identity.now) (refuses_by identity.now)
         position.now
-        (resume_ports (ports (F.In.view source) (F.Out.view out.old)) (F.In.view old.old))
-        (resume_ports (ports (F.In.view result.source) (F.Out.view out.new)) (F.In.view old.new))
+        (resume_ports (ports (F.In.view source) (F.Out.view out.old.out)) (F.In.view old.old))
+        (resume_ports (ports (F.In.view result.source) (F.Out.view out.new.out)) (F.In.view old.new))
         result.end result.standing }
     ensures silent { asked.now.progress ≡ Silent → progress.new ≡ progress.old }
-    ensures over { (progress.new ≡ progress.old) ⊎ (IsOver (P.shown progress.new)) }
+    ensures shown { asked.now.progress ≡ Shown → ShowsRun (F.shows_bytes)
+        (F.In.view source).remaining (F.In.view result.source).remaining (P.shown progress.old)
+        (P.shown progress.new) }
 {
     match asked.progress {
         ProgressOption::Silent => {
@@ -242,7 +244,7 @@ fn resume_opened<F: FileSet, E: Sink, P: Meter>(
     position: &Position,
     mut old: F::In,
     source: F::In,
-    mut out: F::Out,
+    mut out: Taking<F>,
     faults: &mut E,
     announced: &mut Announcement,
     progress: &mut P,
@@ -250,8 +252,9 @@ fn resume_opened<F: FileSet, E: Sink, P: Meter>(
     ensures announced { Tells announced.new result (E.view faults.old) (E.view faults.new)
         (faults.new ≡ faults.old) }
     ensures opened { ResumesOpened (PortsOf F.In.view F.Out.view) (F.shows_bytes) asked.now identity.now
-        position.now (F.In.view old) (ports (F.In.view source) (F.Out.view out)) (F.view files.old)
-        (F.view files.new) (progress.new ≡ progress.old) (IsOver (P.shown progress.new)) result }
+        position.now (F.In.view old) (ports (F.In.view source) (F.Out.view out.out)) (F.view files.old)
+        (F.view files.new) (progress.new ≡ progress.old)
+        (ShowsProgress (F.shows_bytes) (P.shown progress.old) (P.shown progress.new)) result }
 {
     read_again::<Identity<'_>>();
     let is_reread = can_reread(files, &source, asked.save);
@@ -310,7 +313,8 @@ pub fn resume_file<F: FileSet, E: Sink, P: Meter>(
         (faults.new ≡ faults.old) }
     ensures acts { Acts (PortsOf F.In.view F.Out.view) (F.shows_bytes) (Resume asked.now)
         (F.view files.old) (F.view files.new) (SourceFails F.In.view)
-        (progress.new ≡ progress.old) (IsOver (P.shown progress.new)) result }
+        (progress.new ≡ progress.old)
+        (ShowsProgress (F.shows_bytes) (P.shown progress.old) (P.shown progress.new)) result }
 {
     *announced = Announcement::Unmade;
     let wanted = &asked.decrypting;

@@ -3,7 +3,7 @@
 ghost use Rattle.std.specs.Prelude.{◌≡◌, ℕ, List, Some, MatchResult};
 ghost use Rattle.age_file.specs.Decrypts.{IsUndamagedFile, StopsOutside};
 
-use age_file::{FileFault, MemSink, MemSource, decrypt};
+use age_file::{FileFault, MemSink, MemSource, decrypt, undamaged_is_written};
 use age_keys::Unlock;
 use std::alloc::Global;
 
@@ -21,6 +21,7 @@ pub fn text_of<U: Unlock>(alloc: Global, unlock: &U, file: Vec<u8>) -> Result<Ve
         → IsUndamagedFile (U.allows unlock.now) (U.refuses unlock.now) (Some file.items) text
         → MatchResult result (λ v. v.items ≡ text) StopsOutside }
 {
+    undamaged_is_written::<U>();
     let mut sink = MemSink::new(alloc, file.len(), STEP, None)?;
     let mut source = MemSource::new(file, STEP, None);
     match decrypt(alloc, unlock, &mut source, &mut sink) {

@@ -91,17 +91,6 @@ carried r q p limit key head nonce begins wrote place at =
       own = id;
       chain_is = over;
       tagged = tag;
-      carries = λ text auth.
-          let rest = writes_of r limit begins text auth in
-          let positive : 0 < chunk_length = omega arith in
-          let le : p.index ≤ length (held r) / chunk_length = omega (arith, index) in
-          let within : p.index * chunk_length ≤ length (held r) =
-          (le-div_iff_mul-le positive).0 le in (
-            omega (arith, within, ap length rest.1, length-append (held r) rest.0),
-            over
-                ∙ (sym (ap chain (first_chunks-append chunk_length p.index (held r) rest.0 within))
-                ∙ ap (λ (t : List ℕ). chain (first_chunks chunk_length p.index t)) rest.1),
-          );
     }
 
 -- Two runs by one key from the same chunk, after the same text and over the same bytes, which wrote
@@ -201,7 +190,7 @@ pub stops_kept : (Allows : Header → List ℕ → Type 0) (Refused : Header →
     (record { fault = stopped.fault; written = stopped.written; position = Some p })
 stops_kept Allows Refused before after r stopped p s at = (
   s.0,
-  record { is = s.1.is; begins = s.1.begins; here = at; why = s.1.why },
+  record { is = s.1.is; here = at; why = s.1.why },
 )
 
 pub read_again : OneHeader → (Who : Type 0) (Allows : Who → Header → List ℕ → Type 0)
@@ -248,7 +237,7 @@ pub rest_kept : (Allows : Header → List ℕ → Type 0) (Refused : Header → 
 rest_kept Allows Refused p before after r stopped next s at = (
   s.0,
   s.1,
-  record { is = s.2.is; begins = s.2.begins; here = at; why = s.2.why },
+  record { is = s.2.is; here = at; why = s.2.why },
 )
 
 pub rest_read_again : OneHeader → (Who : Type 0) (Allows : Who → Header → List ℕ → Type 0)

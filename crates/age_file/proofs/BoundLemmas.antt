@@ -5,7 +5,7 @@ use Rattle.age_file.specs.Runs.{Run, held, IsRun, IsAuthenticRun, IsDone}
 use Rattle.age_file.specs.Resumes.{ResumePorts, IsFrom, IsBoundTo, IsOldText}
 use Rattle.age_file.specs.InARow.{BindsTo, Bound}
 use Rattle.age_file.specs.declared.position.Position.{Position}
-use Rattle.age_file.proofs.RunLemmas.{writes_of}
+use Rattle.age_file.proofs.RunLemmas.{writes_of, writes_all}
 use Rattle.age_io.specs.Io.{SourceView}
 use Rattle.age_chunk.specs.Payload.{chunk_length, chunk_limit}
 
@@ -37,4 +37,4 @@ pub bound_done : (Allows : Header → List ℕ → Type 0) (text : List ℕ) (p 
     (old new : ResumePorts) (written : ℕ) (r : Run) → BindsTo text p r
     → IsFrom p old.old new.old r → IsDone Allows old.main new.main written r → held r ≡ text
 bound_done Allows text p old new written r b from d =
-    d.all text (authentic text p old.old new.old r from b)
+    writes_all r (omega (arith, from.index, p.within)) d.whole d.done text (authentic text p old.old new.old r from b)

@@ -103,6 +103,14 @@ whole_cut (Some all) (Some rest) bytes fault consumed ended cut =
     let same : all ≡ bytes = consumed ∙ ap (λ (t : List ℕ). bytes ++ t) ended ∙ append-nil bytes in
     subst (λ (t : List ℕ). IsHeadFault t fault) (sym same) (cut.0.no_header, inr cut)
 
+-- a fault that was reported is that of all that the source had
+pub fault_of_all : (old new : Option (List ℕ)) (fault : HeadFault) → ReportsFault old new fault
+    → OfAll old fault
+fault_of_all old new fault r = elim r.reports [
+  | inl is ↦ whole_fault old new r.bytes fault r.consumed r.no_header is
+  | inr cut ↦ whole_cut old new r.bytes fault r.consumed cut.0 cut.1
+]
+
 -- the input ended inside the header
 pub end_fails : (old new : SourceView) (bytes : List ℕ) (fault : HeadFault)
     → Consumes old.remaining new.remaining bytes → IsAtEnd new.remaining
@@ -114,7 +122,6 @@ end_fails old new bytes fault consumed ended cut =
       consumed = consumed;
       no_header = cut.0.no_header;
       reports = inr (ended, cut);
-      of_all = whole_cut old.remaining new.remaining bytes fault consumed ended cut;
     })
 
 -- a piece that was refused
@@ -131,7 +138,6 @@ piece_fails old new held piece fault stops consumed (inr is) =
       consumed = consumed;
       no_header = is.0;
       reports = inl is.1;
-      of_all = whole_fault old.remaining new.remaining (held ++ piece) fault consumed is.0 is.1;
     })
 
 -- the bytes are sound in another sense too

@@ -1,5 +1,5 @@
 -- Calls in a row, by the number of calls.
-use Rattle.std.proofs.Common.{refl, inl, inr, ◌≡◌, ℕ, ◌≤◌, List, [], ◌∷◌, ◌++◌, Option, None, Some}
+use Rattle.std.proofs.Common.{refl, inl, inr, ◌≡◌, ℕ, ◌≤◌, ◌<◌, arith, List, [], ◌∷◌, ◌++◌, Option, None, Some}
 use Rattle.std.proofs.Common.{sym, ap, subst, ◌∙◌, append-nil}
 use Rattle.std.specs.Prelude.{Result, Ok, Err, IfSome, IsSomeAnd}
 use Rattle.std.specs.Io.KnownBytes.{Consumes, Appends}
@@ -21,7 +21,7 @@ use Rattle.age_file.specs.declared.position.Position.{Position}
 use Rattle.age_file.specs.declared.position.PositionPolicy.{PositionPolicy}
 use Rattle.age_file.specs.declared.position.PositionPolicy.TheVariants.{Kept, Dropped}
 use Rattle.age_file.proofs.ByteLemmas.{prefix_trans}
-use Rattle.age_file.proofs.RunLemmas.{from_start}
+use Rattle.age_file.proofs.RunLemmas.{from_start, position_carries, writes_of, writes_all}
 use Rattle.age_file.proofs.ResumedRunLemmas.{authentic_of, same_carries}
 
 -- ---- sinks and old texts that show their bytes
@@ -77,16 +77,17 @@ none_right text old new stopped empty w = (
 -- of an authentic run, its output begins the text
 run_right : (text : List ℕ) (keep : PositionPolicy) (A : Header → List ℕ → Type 0) (never : Type 0)
     (old new : Ports) (stopped : Stopped) (r : Run)
+    → r.first < chunk_limit
     → old.sink.taken ≡ Some [] → StopsInPayload keep A never old new stopped r
     → IsAuthenticRun r text → Right text new.sink.taken stopped.position
-run_right text keep A never old new stopped r empty s auth = (
+run_right text keep A never old new stopped r limit empty s auth = (
   record {
     out = held r;
     shown = took old.sink.taken new.sink.taken (held r) empty s.is.wrote;
-    begins = s.begins text auth;
+    begins = writes_of r limit s.is.prefix text auth;
   },
   given_carries keep (IsPositionOf r) (CarriesText text) stopped.position s.here
-      (λ p h. h.carries text auth),
+      (λ p h. position_carries r p limit s.is.prefix h text auth),
 )
 
 -- ---- a decryption
@@ -100,7 +101,7 @@ module _ (text : List ℕ) (few : chunk_count chunk_length text ≤ chunk_limit)
   stop_right old new None stopped empty f auth = none_right text old new stopped empty f.0
   stop_right old new (Some r) stopped empty f auth =
       run_right text keep A (NeverEnds old.source.remaining new.source.remaining) old new stopped r
-      empty f.1 (from_start r f.0 text few auth)
+      (omega (arith, f.0.zero)) empty f.1 (from_start r f.0 text few auth)
 
 -- ---- a resumed one, if the old text begins the text
 
@@ -153,8 +154,8 @@ module _ (text : List ℕ) (few : chunk_count chunk_length text ≤ chunk_limit)
     next_right keep None stopped (inr (inl s)) auth = in_old_right stopped s
     next_right keep None stopped (inr (inr s)) auth = in_skipped_right keep stopped s
     next_right keep (Some r) stopped f auth =
-        run_right text keep A (NeverEndTogether old new) old.main new.main stopped r empty f.2
-        (run_authentic r f.0 auth)
+        run_right text keep A (NeverEndTogether old new) old.main new.main stopped r
+        (omega (arith, f.0.index, p.within)) empty f.2 (run_authentic r f.0 auth)
 
 -- ---- the row
 
@@ -172,7 +173,7 @@ module _ (Who : Type 0) (Allows : Who → Header → List ℕ → Type 0) (Refus
       → AnswersRight text new.sink.taken result
   first_right keep who old new (Ok done) (Some r) empty f auth =
       took old.sink.taken new.sink.taken (held r) empty f.1.is.wrote
-      ∙ ap Some (f.1.all text (from_start r f.0 text few auth))
+      ∙ ap Some (writes_all r (omega (arith, f.0.zero)) f.1.whole f.1.done text (from_start r f.0 text few auth))
   first_right keep who old new (Ok done) None empty f auth = absurd f
   first_right keep who old new (Err s) run empty f auth =
       stop_right text few keep (Allows who) (Refused who) old new run s empty f auth
@@ -186,7 +187,7 @@ module _ (Who : Type 0) (Allows : Who → Header → List ℕ → Type 0) (Refus
       let whole = run_authentic text few (Allows who) (Refused who) p old new empty before r f.0
       auth in
       took old.main.sink.taken new.main.sink.taken (held r) empty f.2.is.wrote
-      ∙ ap Some (f.2.all text whole)
+      ∙ ap Some (writes_all r (omega (arith, f.0.index, p.within)) f.2.whole f.2.done text whole)
   call_right keep who p old new (Ok done) None empty before f auth = absurd f
   call_right keep who p old new (Err s) run empty before f auth =
       next_right text few (Allows who) (Refused who) p old new empty before keep run s f auth

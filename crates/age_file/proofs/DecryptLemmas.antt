@@ -166,7 +166,6 @@ module _ (keep : PositionPolicy) (Allows : Header → List ℕ → Type 0) (Refu
           whole = f.2;
           ended = f.0;
           done = f.1;
-          all = writes_all p.run (first_fits p.run p.from) f.2 f.1;
         },
         (f.3.0 ∙ same, f.3.1),
       )
@@ -184,7 +183,6 @@ module _ (keep : PositionPolicy) (Allows : Header → List ℕ → Type 0) (Refu
         p.from,
         record {
           is = p.is;
-          begins = writes_of p.run limit p.is.prefix;
           here = position_given keep p.run unlocked new.writer.tally.index position limit p.key_is
               p.nonce_is p.id p.is.prefix p.counts.index kept;
           why = fails a old new p.run ((p.run.file.header_bytes ++ p.run.file.nonce) ++ p.run.bytes)
@@ -218,8 +216,6 @@ module _ (keep : PositionPolicy) (Allows : Header → List ℕ → Type 0) (Refu
           run = Some p.run;
           done = d;
           stopped = tt;
-          undamaged = λ text whole. undamaged_done one Allows Refused (before a old) (after new)
-              new.writer.tally.written p.run text whole d.0 d.1;
           settled = settled;
           named = named;
         };
@@ -241,8 +237,6 @@ module _ (keep : PositionPolicy) (Allows : Header → List ℕ → Type 0) (Refu
           run = Some p.run;
           done = tt;
           stopped = stops;
-          undamaged = λ text whole. undamaged keep one Allows Refused (before a old) (after new)
-              (Some p.run) stopped text whole stops;
           settled = tt;
           named = named;
         };
@@ -264,8 +258,6 @@ module _ (keep : PositionPolicy) (Allows : Header → List ℕ → Type 0) (Refu
           run = None;
           done = tt;
           stopped = stops;
-          undamaged = λ text whole. undamaged keep one Allows Refused old new None stopped text whole
-              stops;
           settled = tt;
           named = ap (λ (s : SinkView). s.label) same;
         };

@@ -265,7 +265,6 @@ module _ (Allows : Header → List ℕ → Type 0) (Refused : Header → KeyFaul
                     whole = f.2;
                     ended = f.0;
                     done = f.1;
-                    all = writes_all b.run (limit (Ok done) b) f.2 f.1;
                   },
                   (f.3.0 ∙ unfailed, f.3.1),
                 );
@@ -291,7 +290,6 @@ module _ (Allows : Header → List ℕ → Type 0) (Refused : Header → KeyFaul
                 done = tt;
                 stopped = record {
                   is = b.is;
-                  begins = writes_of b.run fits b.is.prefix;
                   here = position_given Kept b.run unlocked s2.writer.tally.index next fits
                       (ap (λ (f : OpenedFile). f.key) b.file_is)
                       (ap (λ (f : OpenedFile). f.nonce) b.file_is) id b.is.prefix b.counts.index

@@ -143,8 +143,6 @@ module _ (keep : PositionPolicy) (Allows : Header → List ℕ → Type 0) (Refu
       run = None;
       done = tt;
       stopped = stops;
-      undamaged = λ text whole. undamaged_rest one Allows Refused p old new text whole keep None
-          stopped stops;
       settled = tt;
       named = named;
     };
@@ -702,7 +700,6 @@ module _ (keep : PositionPolicy) (Allows : Header → List ℕ → Type 0) (Refu
               whole = f.2;
               ended = f.0;
               done = f.1;
-              all = writes_all b.run (first_fits s2 (Ok done) b) f.2 f.1;
             } in
             subst (λ (r : Result Done Stopped). ResumesKeyed keep Allows Refused p old new r
             (InPayload unlocked.key))
@@ -717,8 +714,6 @@ module _ (keep : PositionPolicy) (Allows : Header → List ℕ → Type 0) (Refu
                   (f.3.0 ∙ (passes.unfailed ∙ same), f.3.1 ∙ c.answered.2),
                 );
                 stopped = tt;
-                undamaged = λ text whole. undamaged_rest_done one Allows Refused p old new text
-                    whole s2.writer.tally.written b.run b.from all;
                 settled = d.settled;
                 named = b.named;
               };
@@ -742,7 +737,6 @@ module _ (keep : PositionPolicy) (Allows : Header → List ℕ → Type 0) (Refu
               c.answered.1.unfailed,
               record {
                 is = b.is;
-                begins = writes_of b.run fits b.is.prefix;
                 here = position_given keep b.run unlocked s2.writer.tally.index next fits
                     (key_of s2 (Err fault) b) (nonce_of s2 (Err fault) b) (id_of s2 (Err fault) b)
                     b.is.prefix b.counts.index links;
@@ -757,8 +751,6 @@ module _ (keep : PositionPolicy) (Allows : Header → List ℕ → Type 0) (Refu
                 run = Some b.run;
                 done = tt;
                 stopped = stops;
-                undamaged = λ text whole. undamaged_rest one Allows Refused p old new text whole
-                    keep (Some b.run) stopped stops;
                 settled = tt;
                 named = b.named;
               };

@@ -12,7 +12,7 @@ use Rattle.age_file.specs.Resumes.{IsSame, IsOldText}
 use Rattle.age_file.specs.InARow.{ResumedRun, last, AllFollow, WritesRight}
 use Rattle.age_file.specs.declared.position.Position.{Position}
 use Rattle.age_file.proofs.ByteLemmas.{prefix_trans}
-use Rattle.age_file.proofs.RunLemmas.{writes_of, writes_all}
+use Rattle.age_file.proofs.RunLemmas.{position_carries, writes_of, writes_all}
 
 few_chunks : (text : List ℕ) (first : Run) (runs : List ResumedRun) → AllFollow text first runs
     → chunk_count chunk_length text ≤ chunk_limit
@@ -57,7 +57,7 @@ in_a_row text first [] a =
       prefix = begins;
       in_copy = λ copied front. prefix_trans copied (held first) text front begins;
       all = λ e. writes_all first limit e.0 e.1 text a.1;
-      carries = λ p h. h.carries text a.1;
+      carries = λ p h. position_carries first p limit a.2 h text a.1;
     }
 in_a_row text first (r ∷ earlier) a =
     let f = a.0 in
@@ -72,7 +72,7 @@ in_a_row text first (r ∷ earlier) a =
       in_copy = λ copied front. prefix_trans copied (held r.run) text front whole;
       all = λ e. writes_all r.run limit e.0 e.1 text auth;
       carries = λ q h. elim h [
-        | inl next ↦ next.carries text auth
+        | inl next ↦ position_carries r.run q limit f.prefix next text auth
         | inr same ↦ same_carries r.position q r.run.copied text f.old_text begins same
       ];
     }

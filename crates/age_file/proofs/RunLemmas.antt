@@ -1,12 +1,12 @@
 -- What a run wrote of a text, if what opens is the writer's; and its position.
 use Rattle.std.proofs.Common.{◌≡◌, ℕ, ◌*◌, ◌<◌, ◌≤◌, ◌/◌, min, List, ◌++◌, length, take, Option}
-use Rattle.std.proofs.Common.{Some, None, refl, sym, ap, subst, ◌∙◌}
-use Rattle.std.proofs.Common.{arith, append_assoc}
+use Rattle.std.proofs.Common.{Some, None, refl, sym, ap, subst, ◌∙◌, arith, append_assoc}
 use Rattle.std.specs.Simd.{first_chunks}
 use Rattle.std.proofs.lemmas.List.{length-append}
 use Rattle.std.proofs.Math.Nat.{le-div_iff_mul-le}
-use Rattle.age_stream.specs.declared.step.Status.TheVariants.{Done}
 use Rattle.age_chunk.specs.Payload.{chunk_count, chunk_length, chunk_limit}
+use Rattle.age_chunk.proofs.FirstChunkLemmas.{first_chunks-append}
+use Rattle.age_stream.specs.declared.step.Status.TheVariants.{Done}
 use Rattle.age_stream.specs.Headline.{IsPrefixOf}
 use Rattle.age_stream.proofs.LawLemmas.{released_is_written}
 use Rattle.age_keys.specs.Keys.{payload_key, position_key}
@@ -16,13 +16,12 @@ use Rattle.age_file.specs.Bindings.{file_id, chain, position_tag}
 use Rattle.age_file.specs.inner.Bindings.{chain_if}
 use Rattle.age_file.specs.inner.Decrypts.{IsPositionAt, PositionAt}
 use Rattle.age_file.specs.Runs.{Run, IsFromStart, segment_of, run_outcome, run_text, held, IsTexts}
-use Rattle.age_file.specs.Runs.{IsAuthenticRun, IsPositionOf, GivesPosition}
+use Rattle.age_file.specs.Runs.{CarriesText, IsAuthenticRun, IsPositionOf, GivesPosition}
 use Rattle.age_file.specs.declared.position.Position.{Position}
 use Rattle.age_file.specs.declared.position.PositionPolicy.{PositionPolicy}
 use Rattle.age_file.specs.declared.position.PositionPolicy.TheVariants.{Kept, Dropped}
 use Rattle.age_file.specs.declared.start.Unlocked.{Unlocked}
 use Rattle.age_file.proofs.ByteLemmas.{prefix_trans}
-use Rattle.age_chunk.proofs.FirstChunkLemmas.{first_chunks-append}
 
 -- the text of a run, after its old text
 held_text : (r : Run) (text : List ℕ) → IsAuthenticRun r text → r.first < chunk_limit
@@ -95,18 +94,21 @@ position_is r unlocked index p limit key nonce id begins is at =
           p.chain) (sym key)
           ∙ ap (λ (k : List ℕ). position_tag (position_key r.file.key k) p.index p.file_id p.chain)
           (sym nonce));
-      carries = λ text auth.
-          let rest = writes_of r limit begins text auth in
-          let positive : 0 < chunk_length = omega arith in
-          let le : p.index ≤ length (held r) / chunk_length = omega (arith, least) in
-          let within : p.index * chunk_length ≤ length (held r) =
-          (le-div_iff_mul-le positive).0 le in (
-            omega (arith, within, ap length rest.1, length-append (held r) rest.0),
-            over
-                ∙ (sym (ap chain (first_chunks-append chunk_length p.index (held r) rest.0 within))
-                ∙ ap (λ (t : List ℕ). chain (first_chunks chunk_length p.index t)) rest.1),
-          );
     }
+
+-- it carries the text of which the run is authentic
+pub position_carries : (r : Run) (p : Position) → r.first < chunk_limit → IsPrefixOf r.out (run_text r)
+    → IsPositionOf r p → (text : List ℕ) → IsAuthenticRun r text → CarriesText text p
+position_carries r p limit begins at text auth =
+    let rest = writes_of r limit begins text auth in
+    let positive : 0 < chunk_length = omega arith in
+    let le : p.index ≤ length (held r) / chunk_length = omega (arith, at.index) in
+    let within : p.index * chunk_length ≤ length (held r) = (le-div_iff_mul-le positive).0 le in (
+      omega (arith, within, ap length rest.1, length-append (held r) rest.0),
+      at.chain_is
+          ∙ (sym (ap chain (first_chunks-append chunk_length p.index (held r) rest.0 within))
+          ∙ ap (λ (t : List ℕ). chain (first_chunks chunk_length p.index t)) rest.1),
+    )
 
 -- and it is handed out if it was kept
 pub position_given : (keep : PositionPolicy) (r : Run) (unlocked : Unlocked) (index : ℕ)

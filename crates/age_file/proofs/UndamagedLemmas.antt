@@ -30,7 +30,8 @@ use Rattle.age_file.specs.Decrypts.{StartFails, DecryptStops, IsWhole, IsUndamag
 use Rattle.age_file.specs.Decrypts.{StopsOutside}
 use Rattle.age_file.specs.inner.Payloads.{segment}
 use Rattle.age_file.specs.declared.decryption.Stopped.{Stopped}
-use Rattle.age_file.proofs.RunLemmas.{none_before}
+use Rattle.age_file.proofs.ByteLemmas.{fault_of_all}
+use Rattle.age_file.proofs.RunLemmas.{none_before, writes_all}
 use Rattle.age_fault.specs.declared.fault.FileFault.{FileFault}
 use Rattle.age_fault.specs.declared.fault.FileFault.TheVariants.{Head, Key, NonceCut, Stream, Read}
 use Rattle.age_fault.specs.declared.fault.FileFault.TheVariants.{Write, Memory, ReadNeverEnds}
@@ -272,7 +273,8 @@ module _ (one : OneHeader) (Allows : Header → List ℕ → Type 0) (Refused : 
   pub start_undamaged : (fault : FileFault) → StartFails Allows Refused before after fault
       → StopsOutside fault
   start_undamaged (Head x) f = absurd
-      (no_head_fault one Allows Refused before.remaining text u x f.of_all)
+      (no_head_fault one Allows Refused before.remaining text u x
+      (fault_of_all before.remaining after.remaining x f))
   start_undamaged (Key x) f = absurd
       (no_key_fault one Allows Refused before.remaining text u after.remaining f.0 f.1 f.2 x f.3 f.4
       f.5 f.6)
@@ -368,7 +370,7 @@ module _ (one : OneHeader) (Allows : Header → List ℕ → Type 0) (Refused : 
       let bytes_are : r.bytes ≡ rest = sym (append-nil r.bytes)
       ∙ (ap (λ (t : List ℕ). r.bytes ++ t) (sym none) ∙ after) in
       let own = own_authentic u.key u.nonce text u.few closed r.first below in
-      let whole = d.all text (record {
+      let whole = writes_all r (omega (arith, below, u.few)) d.whole d.done text (record {
         few = u.few;
         old_text = old_text;
         authentic = authentic_as text r.first r.file.key r.file.nonce u.key u.nonce r.bytes rest

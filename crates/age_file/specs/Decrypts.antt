@@ -1,17 +1,16 @@
 -- What a decryption promises, done or stopped, and what reading its file again finds.
 use Rattle.std.specs.Prelude.{Option, ◌≢◌, ◌⊎◌, ℕ, ◌<◌, ◌≤◌, List, ◌++◌, length, ◌≡◌, Some, None}
-use Rattle.std.specs.Prelude.{true, Result, IfOk, IfErr, IfSome, OnOk, IsSomeAnd, MatchResult, Ok}
-use Rattle.std.specs.Prelude.{Err}
+use Rattle.std.specs.Prelude.{true, Result, IfOk, IfErr, IfSome, OnOk, IsSomeAnd, Ok, Err}
 use Rattle.std.specs.Io.KnownBytes.{Consumes, IsAtEnd, Appends}
 use Rattle.age_stanza.specs.Grammar.{HeadText}
 use Rattle.age_stanza.specs.declared.header.Header.{Header}
 use Rattle.age_chunk.specs.Payload.{chunk_count, chunk_length, chunk_limit}
+use Rattle.age_io.specs.Io.{SourceView, SinkView}
 use Rattle.age_stream.specs.Laws.{IsClosed}
 use Rattle.age_keys.specs.Keys.{Opens, Refuses, IsScryptNotAlone}
 use Rattle.age_keys.specs.AgeFile.{box, unbox, FileOf}
 use Rattle.age_keys.specs.declared.fault.KeyFault.{KeyFault}
 use Rattle.age_keys.specs.declared.fault.KeyFault.TheVariants.{Memory as KeyMemory}
-use Rattle.age_io.specs.Io.{SourceView, SinkView}
 use Rattle.age_fault.specs.declared.fault.FileFault.{FileFault}
 use Rattle.age_fault.specs.declared.fault.FileFault.TheVariants.{Key, NonceCut, Read, Write, Memory}
 use Rattle.age_fault.specs.declared.fault.FileFault.TheVariants.{ReadNeverEnds}
@@ -103,18 +102,14 @@ abbrev pub WritesText : Option (List ℕ) → Option (List ℕ) → ℕ → List
 WritesText old new written text = Appends old new text × (written ≡ length text)
 
 -- what a decryption promises, whether positions are kept or dropped: its run, if it came to the
--- payload; how it ended and how it stopped; that the text of an age file that is undamaged is
--- written, unless reading, writing or memory fails; that the sink sent on what it took; and that
--- the sink keeps its label
+-- payload; how it ended and how it stopped; that the sink sent on what it took; and that the sink
+-- keeps its label
 pub record Decrypts (keep : PositionPolicy) (Allows : Header → List ℕ → Type 0)
     (Refused : Header → KeyFault → Type 0) (old new : Ports) (result : Result Done Stopped)
     : Type 0 where
   pub run : Option Run
   pub done : IfOk result (λ done. IsSomeAnd run (DecryptEnds Allows old new done))
   pub stopped : IfErr result (DecryptStops keep Allows Refused old new run)
-  pub undamaged : (text : List ℕ) → IsUndamagedFile Allows Refused old.source.remaining text
-      → MatchResult result (λ done. WritesText old.sink.taken new.sink.taken done.written text)
-      (λ stopped. StopsOutside stopped.fault)
   pub settled : OnOk result (new.sink.settled ≡ true)
   pub named : new.sink.label ≡ old.sink.label
 

@@ -1,8 +1,9 @@
 -- What several calls together promise: a decryption and its resumptions, or both directions.
-use Rattle.std.specs.Prelude.{◌≡◌, ◌⊎◌, ℕ, List, [], ◌∷◌, ◌≤◌, Option, Some, IfSome, IsSomeAnd}
+use Rattle.std.specs.Prelude.{◌≡◌, ◌⊎◌, ℕ, List, [], ◌∷◌, ◌≤◌, Option, Some, IfSome, IsSomeAnd, ◌<◌}
 use Rattle.std.specs.Prelude.{Result, MatchResult, ◌*◌, take, length}
 use Rattle.base64.specs.GeneralPurpose.{IsBytes}
 use Rattle.age_stanza.specs.declared.header.Header.{Header}
+use Rattle.age_stanza.specs.declared.fault.HeadFault.{HeadFault}
 use Rattle.age_chunk.specs.Payload.{chunk_count, chunk_length, chunk_limit}
 use Rattle.age_stream.specs.Headline.{IsPrefixOf}
 use Rattle.age_stream.specs.Laws.{IsClosed}
@@ -12,14 +13,16 @@ use Rattle.age_keys.specs.AgeFile.{box, unbox}
 use Rattle.age_keys.specs.declared.fault.KeyFault.{KeyFault}
 use Rattle.age_file.specs.Runs.{Run, IsFromStart, run_outcome, run_text, held, IsTexts}
 use Rattle.age_file.specs.Runs.{IsAuthenticRun, IsPositionOf, CarriesText, Ports, IsRun, IsDone}
+use Rattle.age_file.specs.Runs.{IsHeadFault, ReportsFault}
 use Rattle.age_file.specs.Resumes.{IsSame, IsOldText, ResumePorts, ResumeEnds, ResumeStops}
-use Rattle.age_file.specs.Resumes.{IsBoundTo, IsFrom}
-use Rattle.age_file.specs.Decrypts.{DecryptEnds, DecryptStops, IsWhole, StopsOutside}
+use Rattle.age_file.specs.Resumes.{IsBoundTo, IsFrom, IsUndamagedRest, ResumesText}
+use Rattle.age_file.specs.Decrypts.{DecryptEnds, DecryptStops, IsWhole, StopsOutside, Decrypts}
+use Rattle.age_file.specs.Decrypts.{IsUndamagedFile, WritesText}
 use Rattle.age_file.specs.Encrypts.{SecretView, AgeFile, Encrypts}
+use Rattle.age_file.specs.declared.position.Position.{Position}
 use Rattle.age_file.specs.declared.decryption.Done.{Done}
 use Rattle.age_file.specs.declared.decryption.Stopped.{Stopped}
 use Rattle.age_file.specs.declared.encryption.Written.{Written}
-use Rattle.age_file.specs.declared.position.Position.{Position}
 use Rattle.age_file.specs.declared.position.PositionPolicy.{PositionPolicy}
 
 -- ---- Runs in a row: a decryption, and then resumed ones, each of which has the output of the run
@@ -182,6 +185,41 @@ module _ (Who : Type 0) (Allows : Who → Header → List ℕ → Type 0) where
   DoneIsBound = (who : Who) (text : List ℕ) (p : Position) (old new : ResumePorts) (written : ℕ)
       (r : Run) → BindsTo text p r → IsFrom p old.old new.old r
       → IsDone (Allows who) old.main new.main written r → held r ≡ text
+
+-- ---- What follows of one run, and of one call.
+
+-- of a run that is authentic: what it wrote begins the text, each of its positions carries the
+-- chain over the text's first chunks, and if it is done, all of the text was written
+abbrev pub AuthenticRuns : (Who : Type 0) → (Who → Header → List ℕ → Type 0) → Type 0
+AuthenticRuns Who Allows = (who : Who) (old new : Ports) (written : ℕ) (r : Run) (text : List ℕ)
+    → r.first < chunk_limit → IsAuthenticRun r text
+    → (IsRun (Allows who) old new written r → IsPrefixOf (held r) text
+    × ((p : Position) → IsPositionOf r p → CarriesText text p))
+    × (IsDone (Allows who) old new written r → held r ≡ text)
+
+-- a header's fault that was found in what was read is that of all that the source had
+abbrev pub HeadFaultsStay : Type 0
+HeadFaultsStay = (old new : Option (List ℕ)) (fault : HeadFault) → ReportsFault old new fault
+    → IfSome old (λ all. IsHeadFault all fault)
+
+-- the text of an age file that is undamaged is written, unless reading, writing or memory fails
+module _ (Who : Type 0) (Allows : Who → Header → List ℕ → Type 0)
+    (Refused : Who → Header → KeyFault → Type 0) (keep : PositionPolicy) (who : Who)
+    (result : Result Done Stopped) (text : List ℕ) where
+  abbrev pub UndamagedIsDecrypted : Type 0
+  UndamagedIsDecrypted = (old new : Ports) → Decrypts keep (Allows who) (Refused who) old new result
+      → IsUndamagedFile (Allows who) (Refused who) old.source.remaining text
+      → MatchResult result (λ done. WritesText old.sink.taken new.sink.taken done.written text)
+      (λ stopped. StopsOutside stopped.fault)
+
+  -- and so it is if it is resumed at a position of that file
+  abbrev pub UndamagedIsResumed : Type 0
+  UndamagedIsResumed = (p : Position) (old new : ResumePorts)
+      → ResumesText keep (Allows who) (Refused who) p old new result
+      → IsUndamagedRest (Allows who) (Refused who) p old.main.source.remaining old.old.remaining text
+      → MatchResult result
+      (λ done. WritesText old.main.sink.taken new.main.sink.taken done.written text)
+      (λ stopped. StopsOutside stopped.fault)
 
 -- ---- What was encrypted under a passphrase, decrypted with it.
 

@@ -1,7 +1,7 @@
 -- What resuming at a position promises: from the text of the position to the end of the payload.
 use Rattle.std.specs.Prelude.{◌≡◌, ◌≢◌, ℕ, List, ◌++◌, length, codes, ◌*◌, ◌≤◌, take, Option, Some}
-use Rattle.std.specs.Prelude.{◌⊎◌, ◌/◌, ◌+◌, ◌<◌, None, true, Result, IfOk, IfErr, OnOk}
-use Rattle.std.specs.Prelude.{MatchResult, IsSomeAnd, IfSome, Ok, Err}
+use Rattle.std.specs.Prelude.{◌⊎◌, ◌/◌, ◌+◌, ◌<◌, None, true, Result, IfOk, IfErr, OnOk, IsSomeAnd}
+use Rattle.std.specs.Prelude.{IfSome, Ok, Err}
 use Rattle.std.specs.Io.KnownBytes.{Consumes, Appends, IsAtEnd}
 use Rattle.base64.specs.GeneralPurpose.{IsBytes}
 use Rattle.age_stanza.specs.Text.{base64_text}
@@ -24,7 +24,7 @@ use Rattle.age_file.specs.Runs.{CarriesText, Ports, Run, HasId, HasTag, pull_roo
 use Rattle.age_file.specs.Runs.{Reads, GivesPosition, WritesNone, StopsInPayload, IsDone}
 use Rattle.age_file.specs.Runs.{NoneFailed, ReadFailed, WriteFailed, OpenedFile, IsTagged, ports}
 use Rattle.age_file.specs.Runs.{IsRun, IsPositionOf, NeverEnds}
-use Rattle.age_file.specs.Decrypts.{StartFails, IsWhole, WritesText, StopsOutside, IsElsewhere}
+use Rattle.age_file.specs.Decrypts.{StartFails, IsWhole, IsElsewhere}
 use Rattle.age_file.specs.declared.position.PositionPolicy.{PositionPolicy}
 use Rattle.age_file.specs.declared.position.PositionPolicy.TheVariants.{Kept, Dropped}
 use Rattle.age_file.specs.declared.decryption.Done.{Done}
@@ -239,20 +239,14 @@ pub record IsUndamagedRest (Allows : Header → List ℕ → Type 0)
 -- ---- What a resumed decryption promises.
 
 -- what a resumed decryption promises, whether positions are kept or dropped: its run, if it came to
--- the payload; how it ended and how it stopped; that the text of an age file that is undamaged,
--- from a position of it, is written whole, unless reading, writing or memory fails; that the sink
--- sent on what it took; and that the sink keeps its label
+-- the payload; how it ended and how it stopped; that the sink sent on what it took; and that the
+-- sink keeps its label
 pub record ResumesText (keep : PositionPolicy) (Allows : Header → List ℕ → Type 0)
     (Refused : Header → KeyFault → Type 0) (p : Position) (old new : ResumePorts)
     (result : Result Done Stopped) : Type 0 where
   pub run : Option Run
   pub done : IfOk result (λ done. IsSomeAnd run (ResumeEnds Allows p old new done))
   pub stopped : IfErr result (ResumeStops Allows p old new keep Refused run)
-  pub undamaged : (text : List ℕ)
-      → IsUndamagedRest Allows Refused p old.main.source.remaining old.old.remaining text
-      → MatchResult result
-      (λ done. WritesText old.main.sink.taken new.main.sink.taken done.written text)
-      (λ stopped. StopsOutside stopped.fault)
   pub settled : OnOk result (new.main.sink.settled ≡ true)
   pub named : new.main.sink.label ≡ old.main.sink.label
 

@@ -1,6 +1,6 @@
 -- What a run read and wrote, where a reader may continue after it, and how it ended.
-use Rattle.std.specs.Prelude.{◌≡◌, ℕ, List, ◌⊎◌, ◌^◌, ◌*◌, ◌<◌, ◌≤◌, ◌++◌, length, Option, IfSome}
-use Rattle.std.specs.Prelude.{◌/◌, min, [], take, None, IsSomeAnd, Bool, true, false}
+use Rattle.std.specs.Prelude.{◌≡◌, ℕ, List, ◌⊎◌, ◌^◌, ◌*◌, ◌<◌, ◌≤◌, ◌++◌, length, Option, ◌/◌, min}
+use Rattle.std.specs.Prelude.{[], take, None, IsSomeAnd, Bool, true, false}
 use Rattle.std.specs.Io.KnownBytes.{Consumes, IsAtEnd, Appends}
 use Rattle.age_stanza.specs.Grammar.{header_limit, HeadText}
 use Rattle.age_stanza.specs.Parsing.{HasHeader, NoFault, IsFault, line_after}
@@ -8,13 +8,13 @@ use Rattle.age_stanza.specs.declared.fault.HeadFault.{HeadFault}
 use Rattle.age_stanza.specs.declared.fault.HeadKind.TheVariants.{HeadCut}
 use Rattle.age_stanza.specs.declared.header.Header.{Header}
 use Rattle.age_chunk.specs.Payload.{chunk_length, chunk_count, block_length, chunk_limit}
+use Rattle.age_io.specs.Io.{SourceView, SinkView}
 use Rattle.age_stream.specs.Opener.{has_failed}
 use Rattle.age_stream.specs.Segment.{Segment, Outcome, outcome, released}
 use Rattle.age_stream.specs.Headline.{IsPrefixOf, IsAuthentic}
 use Rattle.age_stream.specs.declared.step.Status.TheVariants.{Done, Failed}
 use Rattle.age_keys.specs.Keys.{position_key, Opens}
 use Rattle.age_keys.specs.AgeFile.{box, unbox}
-use Rattle.age_io.specs.Io.{SourceView, SinkView}
 use Rattle.age_fault.specs.Faults.{HasFailed}
 use Rattle.age_fault.specs.declared.fault.FileFault.{FileFault}
 use Rattle.age_fault.specs.declared.fault.FileFault.TheVariants.{Head, Read, Memory, ReadNeverEnds}
@@ -69,13 +69,12 @@ IsCut bytes fault = EndsInHeader bytes
 abbrev pub IsHeadFault : List ℕ → HeadFault → Type 0
 IsHeadFault bytes fault = (HasHeader bytes → ⊥) × (IsFault bytes fault ⊎ IsCut bytes fault)
 
--- the bytes that were read have this fault, and so has all that the source had
+-- the bytes that were read have this fault
 pub record ReportsFault (old new : Option (List ℕ)) (fault : HeadFault) : Type 0 where
   pub bytes : List ℕ
   pub consumed : Consumes old new bytes
   pub no_header : HasHeader bytes → ⊥
   pub reports : IsFault bytes fault ⊎ (IsAtEnd new × IsCut bytes fault)
-  pub of_all : IfSome old (λ all. IsHeadFault all fault)
 
 -- this many bytes came by 2^63 pulls, each of which gave some
 abbrev pub IsByAllPulls : ℕ → Type 0
@@ -207,14 +206,12 @@ abbrev pub CarriesText : List ℕ → Position → Type 0
 CarriesText text p = (p.index * chunk_length ≤ length text) × (p.chain ≡ chain_over p.index text)
 
 -- where a reader may continue: the whole chunks that were written, copied or released as not last,
--- with the file's id, the chain over those chunks, and the tag; of an authentic run, that chain is
--- the text's
+-- with the file's id, the chain over those chunks, and the tag
 pub record IsPositionOf (r : Run) (p : Position) : Type 0 where
   pub index : p.index ≡ min (length (held r) / chunk_length) (run_outcome r).index
   pub own : HasId p r.file
   pub chain_is : p.chain ≡ chain_over p.index (held r)
   pub tagged : HasTag p r.file
-  pub carries : (text : List ℕ) → IsAuthenticRun r text → CarriesText text p
 
 -- a position is returned if positions are kept, and none if they are dropped
 abbrev pub GivesPosition : PositionPolicy → (Position → Type 0) → Option Position → Type 0
@@ -245,19 +242,17 @@ PayloadFails Never old new r Write =
 PayloadFails Never old new r ReadNeverEnds = (r.out ≡ run_text r) × HasNoFault r × Never
 PayloadFails Never old new r other = ⊥
 
--- a run that stopped in its payload; of an authentic run, what was written begins the text
+-- a run that stopped in its payload
 pub record StopsInPayload (keep : PositionPolicy) (Allows : Header → List ℕ → Type 0)
     (Never : Type 0) (old new : Ports) (stopped : Stopped) (r : Run) : Type 0 where
   pub is : IsRun Allows old new stopped.written r
-  pub begins : (text : List ℕ) → IsAuthenticRun r text → IsPrefixOf (held r) text
   pub here : GivesPosition keep (IsPositionOf r) stopped.position
   pub why : PayloadFails Never old new r stopped.fault
 
--- a run that wrote all of its text and saw the end; of an authentic run, that is all of the text
+-- a run that wrote all of its text and saw the end
 pub record IsDone (Allows : Header → List ℕ → Type 0) (old new : Ports) (written : ℕ) (r : Run)
     : Type 0 where
   pub is : IsRun Allows old new written r
   pub whole : r.out ≡ run_text r
   pub ended : r.ended ≡ true
   pub done : (run_outcome r).status ≡ Done
-  pub all : (text : List ℕ) → IsAuthenticRun r text → held r ≡ text

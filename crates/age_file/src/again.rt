@@ -5,7 +5,7 @@ ghost use Rattle.std.specs.Prelude.{◌⊎◌, IfErr};
 ghost use Rattle.age_fault.specs.declared.fault.FileFault.TheVariants.{Read, Memory};
 ghost use Rattle.std.specs.Borrow.{ftrue};
 ghost use Rattle.std.specs.Coded.{coded_list, coded_ℕ};
-ghost use Rattle.age_io.specs.Io.{one_more};
+ghost use Rattle.age_io.specs.Io.{one_more, Origin};
 ghost use Rattle.age_file.specs.Decrypts.{FindsPosition, fault_again};
 ghost use Rattle.age_file.specs.Resumes.{IsOldText, FindsFrom};
 ghost use Rattle.age_file.specs.Runs.{ports};
@@ -149,8 +149,9 @@ pub fn position_after<U: Unlock, S: Source>(
     written: u128,
     reader: &mut S,
 ) -> Result<Position, FileFault>
-    ensures { FindsPosition (U.allows unlock.now) (U.refuses unlock.now) (S.view reader.old)
+    ensures finds { FindsPosition (U.allows unlock.now) (U.refuses unlock.now) (S.view reader.old)
         (S.view reader.new) written result }
+    ensures metered { (from : Origin) → S.metered reader.old from → S.metered reader.new from }
 {
     let mut limit = Limit::new(written);
     let Err(stopped) = decrypt_with(alloc, PositionPolicy::Kept, unlock, reader, &mut limit) else {
@@ -174,10 +175,11 @@ fn decrypt_rest<U: Unlock, S: Source, O: Sink>(
     reader: &mut S,
     writer: &mut O,
 ) -> Result<Done, Stopped>
-    ensures { (copied : List ℕ) → IsOldText position.now copied → ReadsRest (U.allows unlock.now)
+    ensures reads { (copied : List ℕ) → IsOldText position.now copied → ReadsRest (U.allows unlock.now)
         (U.refuses unlock.now) position.now copied
         (ports (S.view reader.old) (O.view writer.old))
         (ports (S.view reader.new) (O.view writer.new)) result }
+    ensures metered { (from : Origin) → S.metered reader.old from → S.metered reader.new from }
 {
     let Ok(mut intake) = Intake::new(alloc) else {
         return Err(Stopped::early(FileFault::Memory));
@@ -217,6 +219,7 @@ pub fn resumed_position_after<U: Unlock, S: Source>(
         (U.allows unlock.now) position.now copied (U.refuses unlock.now) (S.view reader.old)
         (S.view reader.new) written result }
     ensures faults { IfErr result (λ fault. (fault ≡ Read) ⊎ (fault ≡ Memory)) }
+    ensures metered { (from : Origin) → S.metered reader.old from → S.metered reader.new from }
 {
     let Some(more) = written.checked_sub(position.old_len()) else {
         return Err(FileFault::Read);

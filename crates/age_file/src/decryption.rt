@@ -1,13 +1,14 @@
 //! Decrypts a file.
 
 ghost use Rattle.std.specs.Prelude.{◌≡◌, ◌<◌, None};
+ghost use Rattle.age_chunk.specs.Payload.{chunk_limit};
+ghost use Rattle.age_io.specs.Io.{Origin};
 ghost use Rattle.age_file.specs.Runs.{ports};
 ghost use Rattle.age_file.specs.declared.position.PositionPolicy.TheVariants.{Kept};
 ghost use Rattle.age_file.specs.Decrypts.{Decrypts, DecryptsKeyed};
 ghost use Rattle.age_file.specs.inner.Decrypts.{PositionAt, EndsAs, OpensPayload};
 ghost use Rattle.age_file.specs.inner.Payloads.{HasPlace};
-ghost use Rattle.age_file.specs.inner.Readers.{stage_of, SameReader, SameWriter};
-ghost use Rattle.age_chunk.specs.Payload.{chunk_limit};
+ghost use Rattle.age_file.specs.inner.Readers.{stage_of, SameReader, KeepsMeter, SameWriter};
 
 use crate::intake::Intake;
 use crate::payload::decrypt_payload;
@@ -111,6 +112,7 @@ pub(crate) fn open_payload<S: Source, O: Sink>(
         (stage_of S.view O.view reader.old writer.old)
         (stage_of S.view O.view reader.new writer.new) result }
     ensures same_reader { SameReader reader.old reader.new }
+    ensures metered { KeepsMeter S.metered reader.old reader.new }
     ensures same_writer { SameWriter writer.old writer.new }
 {
     let key = payload_key(&unlocked.key, &unlocked.nonce);
@@ -125,9 +127,10 @@ pub fn decrypt<U: Unlock, S: Source, O: Sink>(
     reader: &mut S,
     writer: &mut O,
 ) -> Result<Done, Stopped>
-    ensures { Decrypts Kept (U.allows unlock.now) (U.refuses unlock.now)
+    ensures decrypts { Decrypts Kept (U.allows unlock.now) (U.refuses unlock.now)
         (ports (S.view reader.old) (O.view writer.old))
         (ports (S.view reader.new) (O.view writer.new)) result }
+    ensures metered { (from : Origin) → S.metered reader.old from → S.metered reader.new from }
 {
     decrypt_with(alloc, PositionPolicy::Kept, unlock, reader, writer)
 }
@@ -148,9 +151,10 @@ pub fn decrypt_with<U: Unlock, S: Source, O: Sink>(
     reader: &mut S,
     writer: &mut O,
 ) -> Result<Done, Stopped>
-    ensures { Decrypts positions (U.allows unlock.now) (U.refuses unlock.now)
+    ensures decrypts { Decrypts positions (U.allows unlock.now) (U.refuses unlock.now)
         (ports (S.view reader.old) (O.view writer.old))
         (ports (S.view reader.new) (O.view writer.new)) result }
+    ensures metered { (from : Origin) → S.metered reader.old from → S.metered reader.new from }
 {
     decrypt_keyed(alloc, positions, unlock, reader, writer).0
 }
@@ -164,9 +168,10 @@ pub fn decrypt_keyed<U: Unlock, S: Source, O: Sink>(
     reader: &mut S,
     writer: &mut O,
 ) -> (Result<Done, Stopped>, Option<KnownKey>)
-    ensures { DecryptsKeyed positions (U.allows unlock.now) (U.refuses unlock.now)
+    ensures decrypts { DecryptsKeyed positions (U.allows unlock.now) (U.refuses unlock.now)
         (ports (S.view reader.old) (O.view writer.old))
         (ports (S.view reader.new) (O.view writer.new)) result.0 result.1 }
+    ensures metered { (from : Origin) → S.metered reader.old from → S.metered reader.new from }
 {
     one_header();
     let Ok(mut intake) = Intake::new(alloc) else {

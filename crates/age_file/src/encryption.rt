@@ -1,6 +1,7 @@
 //! Encrypts a file under a passphrase.
 
 ghost use Rattle.std.specs.Prelude.{◌≡◌, IfOk, OnOk, IfErr, true};
+ghost use Rattle.age_io.specs.Io.{Origin};
 ghost use Rattle.age_file.specs.Encrypts.{Encrypts, EncryptFails};
 ghost use Rattle.age_file.specs.inner.Seals.{BeginsFile, WritesFront};
 ghost use Rattle.age_file.specs.inner.Readers.{view_of_writer, SameWriter};
@@ -78,6 +79,7 @@ pub fn encrypt<S: Source, O: Sink>(
         (ports (S.view reader.new) (O.view writer.new))) }
     ensures settled { OnOk result ((O.view writer.new).settled ≡ true) }
     ensures named { (O.view writer.new).label ≡ (O.view writer.old).label }
+    ensures metered { (from : Origin) → S.metered reader.old from → S.metered reader.new from }
 {
     let mut intake = Intake::new(alloc)?;
     let mut reader = Reader {

@@ -3,6 +3,7 @@
 ghost use Rattle.std.specs.Prelude.{◌≡◌, ◌≤◌, [], length, drop, IfOk};
 ghost use Rattle.age_file.specs.inner.Readers.{Refills, reader_view};
 ghost use Rattle.age_file.specs.Runs.{pull_room};
+ghost use Rattle.age_io.specs.Io.{Origin};
 
 use age_fault::FileFault;
 use age_io::Source;
@@ -93,8 +94,9 @@ impl Intake {
     /// Pulls, if all bytes were used. False: the source is at its end.
     pub(crate) fn refill<S: Source>(&mut self, source: &mut S) -> Result<bool, FileFault>
         requires { self.old.bytes ≡ [] }
-        ensures { Refills (reader_view (S.view source.old) self.old)
+        ensures refills { Refills (reader_view (S.view source.old) self.old)
             (reader_view (S.view source.new) self.new) result }
+        ensures metered { (from : Origin) → S.metered source.old from → S.metered source.new from }
     {
         if self.pulls == MOST_PULLS {
             return Err(FileFault::ReadNeverEnds);

@@ -1,6 +1,11 @@
 //! Laws over the definitions.
+ghost use Rattle.std.specs.Prelude.{ℕ, List, Result};
+ghost use Rattle.age_file.specs.declared.decryption.Done.{Done};
+ghost use Rattle.age_file.specs.declared.decryption.Stopped.{Stopped};
+ghost use Rattle.age_file.specs.declared.position.PositionPolicy.{PositionPolicy};
 ghost use Rattle.age_file.specs.InARow.{RunsInARow, CallsInARow, RunsAreBound, DoneIsBound};
-ghost use Rattle.age_file.specs.InARow.{AgeFileIsWhole, RoundTrip};
+ghost use Rattle.age_file.specs.InARow.{AgeFileIsWhole, RoundTrip, AuthenticRuns, HeadFaultsStay};
+ghost use Rattle.age_file.specs.InARow.{UndamagedIsDecrypted, UndamagedIsResumed};
 ghost use Rattle.age_file.specs.Decrypts.{ReadAgain};
 ghost use Rattle.age_file.specs.Resumes.{RestReadAgain};
 
@@ -63,6 +68,31 @@ pub fn round_trip()
 pub fn read_again<U: Unlock>()
     ensures decrypted { ReadAgain U U.allows U.refuses }
     ensures resumed { RestReadAgain U U.allows U.refuses }
+{
+    one_header();
+}
+
+/// A run of [`decrypt`](crate::decrypt) or [`resume`](crate::resume), while no block opens except
+/// as the writer of a text sealed it: what it wrote begins the text, it is all of the text where
+/// the call is done, and each position carries the chain over the text's first chunks.
+pub fn authentic_runs<U: Unlock>()
+    ensures { AuthenticRuns U U.allows }
+{}
+
+/// A header's fault that an engine reports is that of the whole input.
+pub fn head_faults_stay()
+    ensures { HeadFaultsStay }
+{}
+
+/// What is undamaged: the text of an age file that is whole, which the unlocker opens, is written,
+/// by [`decrypt`](crate::decrypt) and at a position of it by [`resume`](crate::resume), or the call
+/// stops with `Read` (26), `Write` (27), `Memory` (28) or `ReadNeverEnds` (29). Of the call no more
+/// is assumed than what its contract promises.
+pub fn undamaged_is_written<U: Unlock>()
+    ensures decrypted { (keep : PositionPolicy) (who : U) (result : Result Done Stopped)
+        (text : List ℕ) → UndamagedIsDecrypted U U.allows U.refuses keep who result text }
+    ensures resumed { (keep : PositionPolicy) (who : U) (result : Result Done Stopped)
+        (text : List ℕ) → UndamagedIsResumed U U.allows U.refuses keep who result text }
 {
     one_header();
 }

@@ -38,7 +38,8 @@ pub use decryption::{Done, Stopped, decrypt, decrypt_keyed, decrypt_with};
 pub use encryption::{Written, encrypt};
 pub use inspection::inspect;
 pub use laws::{
-    age_file_is_whole, bound_positions, calls_in_a_row, read_again, round_trip, runs_in_a_row,
+    age_file_is_whole, authentic_runs, bound_positions, calls_in_a_row, head_faults_stay,
+    read_again, round_trip, runs_in_a_row, undamaged_is_written,
 };
 pub use position::{Position, PositionPolicy};
 pub use report::{Report, StanzaReport, StanzaReports};

@@ -1,6 +1,7 @@
 //! Continues a decryption that stopped.
 
 ghost use Rattle.std.specs.Prelude.{◌≡◌, []};
+ghost use Rattle.age_io.specs.Io.{Origin};
 ghost use Rattle.age_file.specs.inner.Readers.{view_of_reader, view_of_writer, SameReader};
 ghost use Rattle.age_file.specs.inner.Readers.{SameWriter};
 ghost use Rattle.age_file.specs.inner.Copies.{CopiesText, CopiesBefore};
@@ -101,10 +102,11 @@ pub fn resume<U: Unlock, S: Source, L: Source, O: Sink>(
     old_reader: &mut L,
     writer: &mut O,
 ) -> Result<Done, Stopped>
-    ensures { ResumesText Kept (U.allows unlock.now) (U.refuses unlock.now) position.now
+    ensures resumes { ResumesText Kept (U.allows unlock.now) (U.refuses unlock.now) position.now
         (resume_ports (ports (S.view reader.old) (O.view writer.old)) (L.view old_reader.old))
         (resume_ports (ports (S.view reader.new) (O.view writer.new)) (L.view old_reader.new))
         result }
+    ensures metered { (from : Origin) → S.metered reader.old from → S.metered reader.new from }
 {
     resume_with(
         alloc,
@@ -138,10 +140,11 @@ pub fn resume_with<U: Unlock, S: Source, L: Source, O: Sink>(
     old_reader: &mut L,
     writer: &mut O,
 ) -> Result<Done, Stopped>
-    ensures { ResumesText positions (U.allows unlock.now) (U.refuses unlock.now) position.now
+    ensures resumes { ResumesText positions (U.allows unlock.now) (U.refuses unlock.now) position.now
         (resume_ports (ports (S.view reader.old) (O.view writer.old)) (L.view old_reader.old))
         (resume_ports (ports (S.view reader.new) (O.view writer.new)) (L.view old_reader.new))
         result }
+    ensures metered { (from : Origin) → S.metered reader.old from → S.metered reader.new from }
 {
     resume_keyed(
         alloc, positions, unlock, position, reader, old_reader, writer,
@@ -159,10 +162,11 @@ pub fn resume_keyed<U: Unlock, S: Source, L: Source, O: Sink>(
     old_reader: &mut L,
     writer: &mut O,
 ) -> (Result<Done, Stopped>, Standing)
-    ensures { ResumesKeyed positions (U.allows unlock.now) (U.refuses unlock.now) position.now
+    ensures resumes { ResumesKeyed positions (U.allows unlock.now) (U.refuses unlock.now) position.now
         (resume_ports (ports (S.view reader.old) (O.view writer.old)) (L.view old_reader.old))
         (resume_ports (ports (S.view reader.new) (O.view writer.new)) (L.view old_reader.new))
         result.0 result.1 }
+    ensures metered { (from : Origin) → S.metered reader.old from → S.metered reader.new from }
 {
     one_header();
     let (Ok(mut intake), Ok(old_intake)) = (Intake::new(alloc), Intake::new(alloc)) else {

@@ -1,7 +1,7 @@
 //! Passes over the blocks of a payload that were opened before.
 
 ghost use Rattle.age_file.specs.inner.Copies.{SkipsBlock, SkipsBlocks};
-ghost use Rattle.age_file.specs.inner.Readers.{view_of_reader, SameReader};
+ghost use Rattle.age_file.specs.inner.Readers.{view_of_reader, SameReader, KeepsMeter};
 ghost use Rattle.age_chunk.specs.Payload.{block_length};
 
 use crate::reader::Reader;
@@ -15,6 +15,7 @@ fn skip_block<S: Source>(reader: &mut Reader<'_, S>) -> Result<bool, FileFault>
     ensures skipped { SkipsBlock block_length (view_of_reader S.view reader.old)
         (view_of_reader S.view reader.new) result }
     ensures same { SameReader reader.old reader.new }
+    ensures metered { KeepsMeter S.metered reader.old reader.new }
 {
     let mut left = BLOCK_LEN;
     'parts: while left > 0 {
@@ -36,6 +37,7 @@ pub(crate) fn skip_blocks<S: Source>(
     ensures skipped { SkipsBlocks block_length blocks (view_of_reader S.view reader.old)
         (view_of_reader S.view reader.new) result }
     ensures same { SameReader reader.old reader.new }
+    ensures metered { KeepsMeter S.metered reader.old reader.new }
 {
     for block in 0..blocks {
         if !skip_block(reader)? {

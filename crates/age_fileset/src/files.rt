@@ -98,14 +98,11 @@ pub trait FileSet {
         ensures shown { shows_bytes ≡ true → IfErr result (λ f. f ≡ Fault FileFault.Memory) }
         ensures faults { IfErr result (OpenFails shows_bytes FileFault.Read) };
 
-    /// How many bytes a file that was opened still has to give, if the set can say; none of a pipe
-    /// or a terminal.
-    fn length(&self, _source: &Self::In) -> Option<u64>
-        ensures shown { shows_bytes ≡ true → IfSome result (λ n.
-            option_map length (Self.In.view _source.now).remaining ≡ Some n) }
-    {
-        None
-    }
+    /// How many bytes a file that was opened still has to give, if the set can say; none of a
+    /// pipe or a terminal.
+    fn length(&self, source: &Self::In) -> Option<u64>
+        ensures shown { shows_bytes ≡ true
+            → result ≡ option_map length (Self.In.view source.now).remaining };
 
     /// Whether a file that was opened can be read once more from its start.
     fn can_reread(&self, _source: &Self::In) -> bool {

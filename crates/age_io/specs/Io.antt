@@ -1,7 +1,9 @@
 -- What contracts see of sources, sinks and meters, and what those over memory do.
 use Rattle.std.specs.Prelude.{ℕ, List, Option, Bool, ◌+◌, ◌-◌, ◌^◌, min, option_map, Result, Ok}
 use Rattle.std.specs.Prelude.{Err, ◌≡◌, [], ◌∷◌, ◌++◌, Some, None, ◌≢◌, ◌⊎◌, length, take, drop}
-use Rattle.std.specs.Prelude.{true, false}
+use Rattle.std.specs.Prelude.{true, false, map, IfSome}
+use Rattle.std.specs.List.{sum}
+use Rattle.std.specs.Io.KnownBytes.{Consumes}
 use Rattle.age_io.specs.declared.failed.Failed.{Failed}
 
 -- ---- What a contract sees of a source, and of a sink. Of one that shows no bytes, `Consumes` and
@@ -64,10 +66,26 @@ abbrev pub AddsPull : {E : Type 0} → Option (List Shown) → Option (List Show
 AddsPull old new (Ok bytes) = Adds old new (Advances bytes)
 AddsPull old new (Err failed) = new ≡ old
 
--- the last that a meter was shown is that a run is over
-abbrev pub IsOver : Option (List Shown) → Type 0
-IsOver None = Unit {0}
-IsOver (Some shown) = (front : List Shown) × (shown ≡ front ++ Ends ∷ [])
+-- where a source that has a meter began: the bytes that were to come, where they are shown, and
+-- what the meter was shown by then
+pub record Origin : Type 0 where
+  pub coming : Option (List ℕ)
+  pub shown : Option (List Shown)
+
+-- since then it gave some bytes, and its meter was shown as many and nothing else
+abbrev pub CountsSince : Origin → Option (List ℕ) → Option (List Shown) → Type 0
+CountsSince from left shown = IfSome from.shown (λ before.
+    (bytes : List ℕ) × (counts : List ℕ) × Consumes from.coming left bytes
+    × (length bytes ≡ sum counts) × (shown ≡ Some (before ++ map Advances counts)))
+
+-- a meter was shown a reading: that it begins, of this length, then how many bytes the source gave,
+-- and that it is over
+abbrev pub ShowsReading : Option ℕ → (coming left : Option (List ℕ)) → (old new : Option (List Shown))
+    → Type 0
+ShowsReading size coming left old new = IfSome old (λ before.
+    (bytes : List ℕ) × (counts : List ℕ) × Consumes coming left bytes
+    × (length bytes ≡ sum counts)
+    × (new ≡ Some (before ++ Begins size ∷ (map Advances counts ++ Ends ∷ []))))
 
 -- ---- Sources and sinks over memory: what each call returns and leaves, by their plan of failures.
 

@@ -2,7 +2,7 @@
 
 ghost use Rattle.std.specs.Prelude.{◌≡◌, ◌≤◌, length, IfOk, MatchResult, is_err};
 ghost use Rattle.std.specs.Io.KnownBytes.{ReadConsumes};
-ghost use Rattle.age_io.specs.Io.{one_more, pulled, AddsPull};
+ghost use Rattle.age_io.specs.Io.{one_more, pulled, AddsPull, CountsSince, Origin};
 
 use crate::failed::Failed;
 use crate::meter::Meter;
@@ -37,6 +37,8 @@ impl<S: Source, M: Meter> Metered<S, M> {
 impl<S: Source, M: Meter> Source for Metered<S, M> {
     ghost view = { λ s. S.view s.source };
 
+    ghost metered = { λ s from. CountsSince from (S.view s.source).remaining (M.shown s.meter) };
+
     /// Does what the source's own pull does, and reports to the meter how many bytes it gave;
     /// nothing if it failed.
     fn pull(&mut self, into: &mut [u8]) -> Result<usize, Failed>
@@ -49,6 +51,9 @@ impl<S: Source, M: Meter> Source for Metered<S, M> {
         ensures last { (S.view self.new.source).failing ≡ is_err result }
         ensures metered { M.count self.new.meter ≡ pulled result (M.count self.old.meter) }
         ensures shown { AddsPull (M.shown self.old.meter) (M.shown self.new.meter) result }
+        ensures since { (from : Origin)
+            → CountsSince from (S.view self.old.source).remaining (M.shown self.old.meter)
+            → CountsSince from (S.view self.new.source).remaining (M.shown self.new.meter) }
     {
         let n = self.source.pull(into)?;
         self.meter.advance(n as u64);

@@ -2,7 +2,7 @@
 
 ghost use Rattle.std.specs.Prelude.{◌≡◌, ◌≤◌, ℕ, Bool, false, length, IfOk, MatchResult, is_err};
 ghost use Rattle.std.specs.Io.KnownBytes.{ReadConsumes};
-ghost use Rattle.age_io.specs.Io.{one_more, SourceView};
+ghost use Rattle.age_io.specs.Io.{one_more, Origin, SourceView};
 ghost use Rattle.std.specs.Coded.{coded_ℕ, coded×, coded_bool};
 
 use crate::failed::Failed;
@@ -16,6 +16,10 @@ pub trait Source {
     // the last one did.
     ghost view: { Self → SourceView };
 
+    // Since it began so, its meter was shown what it gave, where it has one: every call that pulls
+    // keeps that.
+    ghost metered: { Self → Origin → Type 0 } = { λ _ _. Unit {0} };
+
     /// Puts the next bytes at the beginning of a slice, and returns how many: none only at the end,
     /// or if the slice is empty. A pull that fails moves no bytes.
     fn pull(&mut self, into: &mut [u8]) -> Result<usize, Failed>
@@ -25,7 +29,8 @@ pub trait Source {
         ensures counted { MatchResult result
             (λ _. (view self.new).failed ≡ (view self.old).failed)
             (λ _. (view self.new).failed ≡ one_more (view self.old).failed) }
-        ensures last { (view self.new).failing ≡ is_err result };
+        ensures last { (view self.new).failing ≡ is_err result }
+        ensures metered { (from : Origin) → metered self.old from → metered self.new from };
 
     /// How many pulls have failed.
     fn failures(&self) -> u64

@@ -1,5 +1,5 @@
 -- How a part of the program ended. What only private code cites.
-use Rattle.std.specs.Prelude.{◌≡◌, ◌⊎◌, ℕ, ◌==◌, ◌++◌, ◌∷◌, [], true, false, Bool, List, Option}
+use Rattle.std.specs.Prelude.{◌≡◌, ◌≢◌, ◌⊎◌, ℕ, ◌++◌, ◌∷◌, [], true, false, Bool, List, Option}
 use Rattle.std.specs.Prelude.{Some, None, Result, Ok, Err, IsOk, OnOk, IfErr}
 use Rattle.clap.specs.Words.{Text}
 use Rattle.clap.specs.declared.error.kind.ErrorKind.{ErrorKind}
@@ -7,7 +7,7 @@ use Rattle.clap.specs.declared.error.kind.ErrorKind.TheVariants.{DisplayHelp, Di
 use Rattle.age_io.specs.Io.{SinkView}
 use Rattle.age_io.specs.declared.durability.Durability.{Durability}
 use Rattle.age_fault.specs.declared.fault.FileFault.{FileFault}
-use Rattle.age_fault.specs.declared.fault.FileFault.TheVariants.{Write, Memory}
+use Rattle.age_fault.specs.declared.fault.FileFault.TheVariants.{Write}
 use Rattle.age_file.specs.declared.decryption.Done.{Done}
 use Rattle.age_file.specs.declared.decryption.Stopped.{Stopped}
 use Rattle.age_file.specs.declared.encryption.Written.{Written}
@@ -23,33 +23,24 @@ use Rattle.age_cli.specs.declared.interruption.Interruption.{Interruption}
 abbrev pub IsForOutput : ErrorKind → Type 0
 IsForOutput kind = (kind ≡ DisplayHelp) ⊎ (kind ≡ DisplayVersion)
 
-abbrev pub is_memory : FileFault → Bool
-is_memory Memory = true
-is_memory other = false
-
--- how an engine ended: nothing was written if an encryption had no memory, and by the count of a
--- decryption
+-- how an engine ended: an encryption has no position
 abbrev pub sealing_end : Result Written FileFault → Result (Unit {0}) Interruption
 sealing_end (Ok written) = Ok tt
-sealing_end (Err fault) =
-    Err (record { fault = fault; position = None; is_untouched = is_memory fault })
+sealing_end (Err fault) = Err (record { fault = fault; position = None })
 
 abbrev pub opening_end : Result Done Stopped → Result (Unit {0}) Interruption
 opening_end (Ok done) = Ok tt
-opening_end (Err s) =
-    Err (record { fault = s.fault; position = s.position; is_untouched = s.written == 0 })
+opening_end (Err s) = Err (record { fault = s.fault; position = s.position })
 
--- if it says that nothing was written, its sink took nothing
-abbrev pub IsFaithful : Result (Unit {0}) Interruption → SinkView → Type 0
-IsFaithful engine sink = IfErr engine (λ stop. stop.is_untouched ≡ true → sink.taken ≡ Some [])
+-- how a stop leaves OUT: it is as it was, or holds what the sink took, if it took anything
+abbrev pub IsPut : (taken old new : Option (List ℕ)) → Type 0
+IsPut taken old new = (new ≡ old) ⊎ ((new ≡ taken) × (taken ≢ Some []))
 
--- how a stop leaves OUT: the engine stopped, and it is as it was, or holds what the sink took; or
--- it could not be closed
-abbrev pub Left : Result (Unit {0}) Interruption → (taken old new : Option (List ℕ)) → Interruption → Type 0
-Left (Err cause) taken old new stop =
-    (stop ≡ cause) × ((new ≡ old) ⊎ ((new ≡ taken) × (cause.is_untouched ≡ false)))
-Left (Ok done) taken old new stop =
-    (stop ≡ record { fault = Write; position = None; is_untouched = false })
+-- the engine stopped, and OUT is left so; or it could not be closed
+abbrev pub Left : Result (Unit {0}) Interruption → (taken old new : Option (List ℕ)) → Interruption
+    → Type 0
+Left (Err cause) taken old new stop = (stop ≡ cause) × IsPut taken old new
+Left (Ok done) taken old new stop = (stop ≡ record { fault = Write; position = None })
     × ((new ≡ old) ⊎ (new ≡ taken))
 
 -- OUT was ended, whose sink is this: whole, or as a stop leaves it
@@ -59,7 +50,7 @@ pub record EndsOut (shows : Bool) (durability : Durability) (sink : SinkView)
   -- It holds what the sink took, if the engine and the end succeeded.
   pub done : OnOk result (IsOk engine × (shows ≡ true → new.entries sink.label ≡ sink.taken))
   -- Otherwise it is left.
-  pub stops : IfErr result (λ stop. shows ≡ true → IsFaithful engine sink
+  pub stops : IfErr result (λ stop. shows ≡ true
       → Left engine sink.taken (old.entries sink.label) (new.entries sink.label) stop)
   -- No other file differs.
   pub others : SparesBut sink.label old.entries new.entries
@@ -75,7 +66,7 @@ pub record Concludes (shows : Bool) (save : Option Text) (durability : Durabilit
       → (new.entries sink.label ≡ sink.taken) × SparesBut sink.label old.entries new.entries))
   -- OUT is left, and the position saved, if it goes to another file.
   pub stops : IfErr result (λ ending. shows ≡ true → (save ≡ Some sink.label → ⊥)
-      → IsFaithful engine sink → (stop : Interruption)
+      → (stop : Interruption)
       × Left engine sink.taken (old.entries sink.label) (new.entries sink.label) stop
       × EndsOf stop.fault save stop.position old.entries new.entries ending)
   -- The command line is not to blame.

@@ -13,7 +13,7 @@ use Rattle.age_file.specs.declared.standing.Standing.TheVariants.{Skipping, InPa
 use Rattle.age_fileset.specs.FileSet.{FilesView}
 use Rattle.age_cli_args.specs.Requests.{option_text}
 use Rattle.age_cli_args.specs.declared.request.Decrypting.{Decrypting}
-use Rattle.age_cli_args.specs.declared.request.ProgressOption.TheVariants.{Silent}
+use Rattle.age_cli_args.specs.declared.request.ProgressOption.TheVariants.{Silent, Shown}
 use Rattle.age_ending.specs.declared.ending.Ending.{Ending}
 use Rattle.age_identity.specs.Identities.{allows_by, refuses_by}
 use Rattle.age_identity.specs.declared.identity.Identity.{Identity}
@@ -72,8 +72,8 @@ pub record HoldsInput (d : Decrypting) (before : Ports) (old : FilesView) : Type
 -- What was opened was decrypted, and OUT was ended. `decrypted` is how it ended; of a stop, it has
 -- the position that is saved, if contracts see the files and IN and OUT are two of them.
 pub record DecryptsOpened (IsPorts : Ports → Type 0) (shows : Bool) (d : Decrypting)
-    (identity : Identity) (before : Ports) (old new : FilesView) (Unshown Over : Type 0)
-    (result : Result (Unit {0}) Ending) : Type 0 where
+    (identity : Identity) (before : Ports) (old new : FilesView) (Unshown : Type 0)
+    (Progress : Option (List ℕ) → Result (Unit {0}) Ending → Type 0) (result : Result (Unit {0}) Ending) : Type 0 where
   pub after : Ports
   pub after_is : IsPorts after
   pub decrypted : Result Done Stopped
@@ -86,12 +86,15 @@ pub record DecryptsOpened (IsPorts : Ports → Type 0) (shows : Bool) (d : Decry
   pub concludes : Concludes shows (option_text d.save) d.durability after.sink (opening_end decrypted)
       old new result
   pub silent : d.progress ≡ Silent → Unshown
-  pub over : Unshown ⊎ Over
+  pub shown : d.progress ≡ Shown → (input : Option (List ℕ))
+      → (shows ≡ true → before.source.remaining ≡ input) → Progress input result
 
 -- The same of what was opened and resumed from a position, after the old text of a source.
 pub record ResumesOpened (IsPorts : Ports → Type 0) (shows : Bool) (d : Decrypting)
     (identity : Identity) (from : Position) (first : SourceView) (before : Ports)
-    (old new : FilesView) (Unshown Over : Type 0) (result : Result (Unit {0}) Ending) : Type 0 where
+    (old new : FilesView) (Unshown : Type 0)
+    (Progress : Option (List ℕ) → Result (Unit {0}) Ending → Type 0)
+    (result : Result (Unit {0}) Ending) : Type 0 where
   pub after : Ports
   pub after_is : IsPorts after
   pub last : SourceView
@@ -107,4 +110,5 @@ pub record ResumesOpened (IsPorts : Ports → Type 0) (shows : Bool) (d : Decryp
   pub concludes : Concludes shows (option_text d.save) d.durability after.sink (opening_end resumed)
       old new result
   pub silent : d.progress ≡ Silent → Unshown
-  pub over : Unshown ⊎ Over
+  pub shown : d.progress ≡ Shown → (input : Option (List ℕ))
+      → (shows ≡ true → before.source.remaining ≡ input) → Progress input result

@@ -8,17 +8,17 @@ use Rattle.age_stanza.specs.Grammar.{HeadText}
 use Rattle.age_stanza.specs.Parsing.{HasHeader, IsFault, memory_fault, reading}
 use Rattle.age_stanza.specs.declared.fault.HeadFault.{HeadFault}
 use Rattle.age_stanza.specs.declared.header.Header.{Header}
-use Rattle.age_io.specs.Io.{SourceView, SinkView}
+use Rattle.age_io.specs.Io.{Origin, SourceView, SinkView}
 use Rattle.age_fault.specs.Faults.{HasFailed}
 use Rattle.age_fault.specs.declared.fault.FileFault.{FileFault}
 use Rattle.age_fault.specs.declared.fault.FileFault.TheVariants.{Read, ReadNeverEnds}
 use Rattle.age_file.specs.Runs.{Ports, ports, pull_room, StopsAtHeader, EndsInHeader}
 use Rattle.age_file.specs.inner.Unread.{Unread}
-use Rattle.age_file.specs.declared.head.Head.{Head}
-use Rattle.age_file.specs.declared.head.HeadReader.{HeadReader}
+use Rattle.age_file.specs.declared.tally.Tally.{Tally}
 use Rattle.age_file.specs.declared.reader.Reader.{Reader}
 use Rattle.age_file.specs.declared.reader.Writer.{Writer}
-use Rattle.age_file.specs.declared.tally.Tally.{Tally}
+use Rattle.age_file.specs.declared.head.Head.{Head}
+use Rattle.age_file.specs.declared.head.HeadReader.{HeadReader}
 
 -- ---- Where a run stands, by its reader and its writer.
 
@@ -70,6 +70,11 @@ SameReader old new = (new.source.ghost_name ≡ old.source.ghost_name)
 
 abbrev pub SameWriter : {O : Type 0} → Writer O → Writer O → Type 0
 SameWriter old new = new.sink.ghost_name ≡ old.sink.ghost_name
+
+-- what its meter was shown is still what it gave, since it began so
+abbrev pub KeepsMeter : {S : Type 0} → (S → Origin → Type 0) → Reader S → Reader S → Type 0
+KeepsMeter metered old new = (from : Origin) → metered old.source.now from
+    → metered new.source.now from
 
 -- ---- What pulls into the intake did.
 

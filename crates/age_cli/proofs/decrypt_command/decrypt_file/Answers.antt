@@ -77,9 +77,9 @@ returns-clause-acts g c =
     let view = g.F.FileSet.view in
     let judged = in_order _ _ _ _ _ _ _ _ _ _ c.in_ok-choice.ensures.chooses.order c.in_ok-secret.ensures in
     let both = c.in_ok-source.ensures in
-    let before = ports (g.F.In.Source.view c.in_ok-source.source) (g.F.Out.Sink.view c.in_ok-source.out) in
+    let before = ports (g.F.In.Source.view c.in_ok-source.source) (g.F.Out.Sink.view c.in_ok-source.out.out) in
     decrypt_acts _ _ (view c.args.files.now) (view c.open_both.new.files) (view c.decrypt_opened.new.files) _ _ _ before
-    (record { source = c.in_ok-source.source; sink = c.in_ok-source.out; is = refl }) c.decrypt_opened.result (both.kept ∙ judged.kept) d
+    (record { source = c.in_ok-source.source; sink = c.in_ok-source.out.out; is = refl }) c.decrypt_opened.result (both.kept ∙ judged.kept) d
     c.in_ok-identity.identity (some_files _ _ _ _ c.in_ok-choice.ensures.chooses c.in_ok-identity.ensures.makes)
     (λ shown. c.in_ok-choice.ensures.chooses.opens (view c.args.files.now).entries _ _ (judged.read shown).0 c.in_ok-identity.ensures.makes)
     (λ shown. subst (λ (f : Files). Found (paths_of d) f before) judged.kept (both.opened shown)) c.decrypt_opened.ensures.opened

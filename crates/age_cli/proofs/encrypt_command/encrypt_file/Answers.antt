@@ -1,4 +1,4 @@
-use Rattle.std.proofs.Common.{◌∙◌, ◌∷◌, [], inl, inr, refl, ap, sym, subst, true≢false, Some, None}
+use Rattle.std.proofs.Common.{◌∙◌, ◌∷◌, [], inl, inr, refl, ap, sym, subst, true≢false, Some, None, Result, OnOk}
 use Rattle.age_file.specs.Runs.{ports}
 use Rattle.age_fileset.specs.FileSet.{Opened, Created}
 use Rattle.age_cli_args.specs.Requests.{option_text}
@@ -13,6 +13,9 @@ use Rattle.age_cli.proofs.CommandLemmas.{reason_at}
 use Rattle.age_cli.proofs.ReportLemmas.{unmade}
 use Rattle.age_cli.proofs.ActLemmas.{acts_early, shown_not_silent}
 use Rattle.age_cli.proofs.FinalLemmas.{Found, encrypt_acts}
+use Rattle.age_cli.proofs.ProgressLemmas.{at_end_of, not_both, run_of, sealing_at_end, shown_once, shows_run}
+use Rattle.age_cli.specs.declared.interruption.Interruption.{Interruption}
+use Rattle.std.specs.Io.KnownBytes.{IsAtEnd}
 use Rattle.age_identity.proofs.EventLemmas.{longer, then_did, then_follows}
 use Rattle.age_cli.proofs.encrypt_command.encrypt_file.Goals as goal
 
@@ -67,15 +70,15 @@ returns-in-Silent-clause-acts g c =
     let judged = c.in_ok-material.ensures in
     let both = c.in_ok-source.ensures in
     let run = c.encrypt-sealed in
-    let before = ports (In c.in_ok-source.source) (Out c.in_ok-source.out) in
-    encrypt_acts _ _ (view c.args.files.now) (view c.open_both.new.files) (view c.conclude.new.files) _ _ _ before (ports (In run.new.reader) (Out run.new.writer))
-    (record { source = c.in_ok-source.source; sink = c.in_ok-source.out; is = refl }) (record { source = run.new.reader; sink = run.new.writer; is = refl })
+    let before = ports (In c.in_ok-source.source) (Out c.in_ok-source.out.out) in
+    encrypt_acts _ _ (view c.args.files.now) (view c.open_both.new.files) (view c.conclude.new.files) _ _ _ before (ports (In run.new.reader) (Out run.new.writer.out))
+    (record { source = c.in_ok-source.source; sink = c.in_ok-source.out.out; is = refl }) (record { source = run.new.reader; sink = run.new.writer.out; is = refl })
     c.sealing_end.result c.conclude.result (both.kept ∙ judged.kept) a c.in_ok-secret.secret run.result
     (λ shown. c.in_ok-secret.ensures.makes (view c.args.files.now).entries (judged.read shown))
     (λ shown. subst (λ (f : Files). Found paths f before) judged.kept (both.opened shown))
     c.sealing_end.ensures run.ensures.done run.ensures.fails run.ensures.named c.conclude.ensures.concludes
     (then_did _ _ _ (Opened a.pass.now ∷ Opened (random_name (option_text a.random)) ∷ []) (Opened a.from.now ∷ Created a.to.now ∷ []) judged.noted both.noted)
-    (λ twice. absurd (judged.apart twice).1) (λ silent. refl, inl refl)
+    (λ twice. absurd (judged.apart twice).1) (λ silent. refl, λ asked. absurd (not_both (sym asked ∙ c.in-Silent.is)))
 
 pub returns-in-Silent-clause-announced : goal.returns-in-Silent-clause-announced
 returns-in-Silent-clause-announced g c = c.conclude.ensures.announced
@@ -91,16 +94,27 @@ returns-clause-acts g c =
     let both = c.in_ok-source.ensures in
     let run = c.encrypt-sealed-in-Shown in
     let source = c.with_meter-metered.result.source in
-    let before = ports (In source) (Out c.in_ok-source.out) in
-    encrypt_acts _ _ (view c.args.files.now) (view c.open_both.new.files) (view c.conclude-in-Shown.new.files) _ _ _ before (ports (In run.new.reader.source) (Out run.new.writer))
-    (record { source = source; sink = c.in_ok-source.out; is = refl }) (record { source = run.new.reader.source; sink = run.new.writer; is = refl })
+    let before = ports (In source) (Out c.in_ok-source.out.out) in
+    encrypt_acts _ _ (view c.args.files.now) (view c.open_both.new.files) (view c.conclude-in-Shown.new.files) _ _ _ before (ports (In run.new.reader.source) (Out run.new.writer.out))
+    (record { source = source; sink = c.in_ok-source.out.out; is = refl }) (record { source = run.new.reader.source; sink = run.new.writer.out; is = refl })
     c.sealing_end-in-Shown.result c.conclude-in-Shown.result (both.kept ∙ judged.kept) a c.in_ok-secret.secret run.result
     (λ shown. c.in_ok-secret.ensures.makes (view c.args.files.now).entries (judged.read shown))
     (λ shown. let f = both.opened shown in
     subst (λ (f : Files). Found paths f before) judged.kept (f.0, ap (λ s. (In s).remaining) c.with_meter-metered.ensures.source ∙ f.1, f.2, f.3))
     c.sealing_end-in-Shown.ensures run.ensures.done run.ensures.fails run.ensures.named c.conclude-in-Shown.ensures.concludes
     (then_did _ _ _ (Opened a.pass.now ∷ Opened (random_name (option_text a.random)) ∷ []) (Opened a.from.now ∷ Created a.to.now ∷ []) judged.noted both.noted)
-    (λ twice. absurd (judged.apart twice).1) (λ silent. absurd (shown_not_silent (sym c.in-Shown.is ∙ silent)), inr c.end_meter.ensures)
+    (λ twice. absurd (judged.apart twice).1) (
+      λ silent. absurd (shown_not_silent (sym c.in-Shown.is ∙ silent)),
+      λ asked.
+          shown_once _ _ _ _ _ c.conclude-in-Shown.result
+          (run_of _ _ _ _ _ _ (λ shown. (both.opened shown).1 ∙ ap (λ (f : Files). f a.from.now) judged.kept)
+          (shows_run _ (In c.in_ok-source.source).remaining (In run.new.reader.source).remaining _ _ _ _ c.with_meter-metered.ensures.begun
+          (rw c.with_meter-metered.ensures.source at run.ensures.metered) c.end_meter.ensures))
+          (at_end_of c.sealing_end-in-Shown.result c.conclude-in-Shown.result _
+          (subst (λ (e : Result (Unit {0}) Interruption). OnOk e (IsAtEnd (In run.new.reader.source).remaining)) (sym c.sealing_end-in-Shown.ensures)
+          (sealing_at_end c.in_ok-secret.secret before (ports (In run.new.reader.source) (Out run.new.writer.out)) run.result run.ensures.done))
+          c.conclude-in-Shown.ensures.concludes.done),
+    )
 
 pub returns-clause-announced : goal.returns-clause-announced
 returns-clause-announced g c = c.conclude-in-Shown.ensures.announced

@@ -25,16 +25,16 @@ returns-in-Err-clause-concludes g c =
     let out = c.in-Err.ensures in
     let ended = c.end_of.ensures in
     let stop = c.in-Err.stop in
-    let sink = g.F.Out.Sink.view c.args.out in
+    let sink = g.F.Out.Sink.view c.args.out.out in
     let view = g.F.FileSet.view in
     let old = (view c.args.files.now).entries in
     let mid = (view c.end_out.new.files).entries in
     let new = (view c.end_of.new.files).entries in
     record {
       done = tt;
-      stops = λ shown apart faithful. (
+      stops = λ shown apart. (
         stop,
-        subst (λ x. Left c.args.engine sink.taken (old sink.label) x stop) (sym (ended.others shown sink.label (λ e. cc) apart)) (out.stops shown faithful),
+        subst (λ x. Left c.args.engine sink.taken (old sink.label) x stop) (sym (ended.others shown sink.label (λ e. cc) apart)) (out.stops shown),
         ends_from stop.fault (option_text c.args.save) stop.position old mid new c.end_of.result (λ q name. out.others q (λ e. apart (name ∙ ap Some e)))
             (ended.ends shown),
       );

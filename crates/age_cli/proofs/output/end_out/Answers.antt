@@ -2,9 +2,8 @@ use Rattle.std.proofs.Common.{⊎_elim, inl, inr, refl, ap, sym, subst, false, N
 use Rattle.std.specs.Prelude.{IsOk}
 use Rattle.age_identity.specs.Files.{Files}
 use Rattle.age_cli.specs.declared.interruption.Interruption.{Interruption}
-use Rattle.age_cli.specs.inner.Endings.{IsFaithful, Left}
+use Rattle.age_cli.specs.inner.Endings.{Left}
 use Rattle.age_cli.proofs.CommandLemmas.{not_well, this_error}
-use Rattle.age_cli.proofs.EngineLemmas.{left_as}
 use Rattle.age_cli.proofs.output.end_out.Goals as goal
 
 pub returns-in_ok-close-in-Ok : goal.returns-in_ok-close-in-Ok
@@ -20,17 +19,17 @@ returns-in_ok-close-in-Ok g c =
 pub returns-in_err-close-in-Ok : goal.returns-in_err-close-in-Ok
 returns-in_err-close-in-Ok g c =
     let closed = c.in_err-close-in-Ok.ensures in
-    let sink = g.F.Out.Sink.view c.args.out in
+    let sink = g.F.Out.Sink.view c.args.out.out in
     let view = g.F.FileSet.view in
     let r = c.from_residual.result in
-    let e : Interruption = record { fault = c.in_err-close-in-Ok.field-0.0; position = None; is_untouched = false } in
+    let e : Interruption = record { fault = c.in_err-close-in-Ok.field-0.0; position = None } in
     let is = c.from_residual.ensures in
     record {
       done = not_well r e is _;
-      stops = this_error r e is _ (λ shown faithful.
+      stops = this_error r e is _ (λ shown.
           subst (λ (x : Result (Unit {0}) Interruption). Left x sink.taken ((view c.args.files.now).entries sink.label) ((view c.close.new.self).entries sink.label) e)
           (sym c.in-Ok.is) (
-            ap (λ f. record { fault = f; position = None; is_untouched = false }) closed.faults,
+            ap (λ f. record { fault = f; position = None }) closed.faults,
             ⊎_elim (λ same. inl (ap (λ (f : Files). f sink.label) same)) (λ put. inr (put shown)) closed.err,
           ));
       others = closed.others;
@@ -41,19 +40,16 @@ pub returns-in-Err : goal.returns-in-Err
 returns-in-Err g c =
     let left = c.leave.ensures in
     let stop = c.in-Err.stop in
-    let sink = g.F.Out.Sink.view c.args.out in
+    let sink = g.F.Out.Sink.view c.args.out.out in
     let view = g.F.FileSet.view in
     let old = (view c.args.files.now).entries in
     let new = (view c.leave.new.files).entries in
     record {
       done = tt;
-      stops = λ shown faithful.
-          let empty = subst (λ (x : Result (Unit {0}) Interruption). IsFaithful x sink) c.in-Err.is faithful in
+      stops = λ shown.
           subst (λ (x : Result (Unit {0}) Interruption). Left x sink.taken (old sink.label) (new sink.label) stop) (sym c.in-Err.is) (
             refl,
-            left_as stop.is_untouched sink.taken (old sink.label) (new sink.label)
-                (λ untouched. ap (λ (f : Files). f sink.label) (left.untouched shown untouched (empty untouched)))
-                (λ wrote. ⊎_elim (λ same. inl (ap (λ (f : Files). f sink.label) same)) (λ put. inr put) (left.written shown wrote)),
+            left.left shown,
           );
       others = left.others;
       noted = left.noted;

@@ -18,7 +18,7 @@ returns-in-Ok-save-clause-again g c =
     inl (
       p,
       (λ shown other. subst (λ (x : Option (List ℕ)). IsFoundIn again.from x again.key again.stopped.written p) (left.others d.from.now other) (c.in-Ok.ensures.found shown)),
-      concludes_left _ (option_text d.save) d.durability (g.F.Out.Sink.view c.args.out) _ (view c.args.files.now) mid new _ left.untouched left.written left.others
+      concludes_left _ (option_text d.save) d.durability (g.F.Out.Sink.view c.args.out.out) _ (view c.args.files.now) mid new _ left.left left.others
           left.noted refl (λ shown. (refl, saves_is (option_text d.save) p mid.entries new.entries (saved.saved shown))) saved.noted saved.others,
     )
 
@@ -35,7 +35,7 @@ returns-in-Err-save-clause-again g c =
     inl (
       p,
       (λ shown other. subst (λ (x : Option (List ℕ)). IsFoundIn again.from x again.key again.stopped.written p) (left.others d.from.now other) (c.in-Ok.ensures.found shown)),
-      concludes_left _ (option_text d.save) d.durability (g.F.Out.Sink.view c.args.out) _ (view c.args.files.now) mid new _ left.untouched left.written left.others
+      concludes_left _ (option_text d.save) d.durability (g.F.Out.Sink.view c.args.out.out) _ (view c.args.files.now) mid new _ left.left left.others
           left.noted refl (λ shown. (refl, saved.unsaved)) saved.noted saved.others,
     )
 
@@ -45,7 +45,6 @@ returns-in-Err-clause-again g c =
     let d = c.args.asked.now in
     let left = c.leave.ensures in
     let mid = view c.leave.new.files in
-    inr (λ p. concludes_left _ (option_text d.save) d.durability (g.F.Out.Sink.view c.args.out) _ (view c.args.files.now) mid mid _ left.untouched
-    left.written left.others left.noted refl
+    inr (λ p. concludes_left _ (option_text d.save) d.durability (g.F.Out.Sink.view c.args.out.out) _ (view c.args.files.now) mid mid _ left.left left.others left.noted refl
     (λ shown. (refl, save_unfound (option_text d.save) p mid.entries c.in-Err.second c.requires c.in-Err.ensures.faults))
     (none_done _ _) (λ shown q to save. refl))

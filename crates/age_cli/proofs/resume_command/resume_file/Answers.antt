@@ -118,14 +118,14 @@ returns-clause-acts g c =
     let earlier = c.in_ok-position.ensures in
     let both = c.in_ok-source.ensures in
     let first = c.in_ok-position.old in
-    let before = ports (In c.in_ok-source.source) (Out c.in_ok-source.out) in
+    let before = ports (In c.in_ok-source.source) (Out c.in_ok-source.out.out) in
     resume_acts _ _ (view c.args.files.now) (view c.open_both.new.files) (view c.resume_opened.new.files) _ _ _ before
-    (record { source = c.in_ok-source.source; sink = c.in_ok-source.out; is = refl }) c.resume_opened.result (both.kept ∙ (earlier.kept ∙ judged.kept)) r
+    (record { source = c.in_ok-source.source; sink = c.in_ok-source.out.out; is = refl }) c.resume_opened.result (both.kept ∙ (earlier.kept ∙ judged.kept)) r
     c.in_ok-identity.identity c.in_ok-position.position (In first)
     (some_files _ _ _ _ c.in_ok-choice.ensures.chooses c.in_ok-identity.ensures.makes)
     (λ shown. c.in_ok-choice.ensures.chooses.opens (view c.args.files.now).entries _ _ (judged.read shown).0 c.in_ok-identity.ensures.makes)
     (λ shown. subst (λ (f : Files). WasEarlier r c.in_ok-position.position f (In first)) judged.kept (earlier.found shown))
-    (record { source = first; sink = c.in_ok-source.out; is = refl })
+    (record { source = first; sink = c.in_ok-source.out.out; is = refl })
     (λ shown. subst (λ (f : Files). Found (paths_of d) f before) (earlier.kept ∙ judged.kept) (both.opened shown)) c.resume_opened.ensures.opened
     (then_did _ _ _ (identity_order (option_text d.identity.pass) (option_text d.identity.shared))
     (Opened r.position.now ∷ Opened r.old.now ∷ Opened d.from.now ∷ (preparing (option_text d.save) ++ Created d.to.now ∷ [])) judged.noted

@@ -8,15 +8,15 @@ use Rattle.age_file.proofs.ReaderLemmas.{read_last, ports_last}
 use Rattle.age_file.proofs.RestLemmas.{rest_stopped, skip_stopped, place_after, rest_ended}
 use Rattle.age_file.proofs.again.decrypt_rest.Goals as goal
 
-pub returns-in_default : goal.returns-in_default
-returns-in_default g c = λ copied old_text.
+pub returns-in_default-clause-reads : goal.returns-in_default-clause-reads
+returns-in_default-clause-reads g c = λ copied old_text.
     let old = ports (g.S.Source.view c.args.reader.now) (g.O.Sink.view c.args.writer.now) in
     rw c.early.ensures (rest_stopped (g.U.Unlock.allows c.args.unlock.now)
     (g.U.Unlock.refuses c.args.unlock.now) c.args.position.now copied old old Memory refl
     (inl (stops_unread _)))
 
-pub returns-in-Err : goal.returns-in-Err
-returns-in-Err g c = λ copied old_text.
+pub returns-in-Err-clause-reads : goal.returns-in-Err-clause-reads
+returns-in-Err-clause-reads g c = λ copied old_text.
     let Allows = g.U.Unlock.allows c.args.unlock.now in
     let Refused = g.U.Unlock.refuses c.args.unlock.now in
     let sink = g.O.Sink.view c.args.writer.now in
@@ -29,8 +29,8 @@ returns-in-Err g c = λ copied old_text.
     (rest_stopped Allows Refused c.args.position.now copied old new c.in-Err.fault refl
     (inl c.in-Err.ensures.fails)))
 
-pub returns-in-Err-skip_blocks : goal.returns-in-Err-skip_blocks
-returns-in-Err-skip_blocks g c = λ copied old_text.
+pub returns-in-Err-skip_blocks-clause-reads : goal.returns-in-Err-skip_blocks-clause-reads
+returns-in-Err-skip_blocks-clause-reads g c = λ copied old_text.
     let Allows = g.U.Unlock.allows c.args.unlock.now in
     let Refused = g.U.Unlock.refuses c.args.unlock.now in
     let sink = g.O.Sink.view c.args.writer.now in
@@ -53,8 +53,8 @@ open_payload-requires-clause-room g c =
     (view_of_reader g.S.Source.view c.skip_blocks.new.reader) c.in-Ok-start.ensures.found
     skipped.0 skipped.1 skipped.2 c.at.result c.at.ensures.written
 
-pub returns : goal.returns
-returns g c = λ copied old_text.
+pub returns-clause-reads : goal.returns-clause-reads
+returns-clause-reads g c = λ copied old_text.
     let Allows = g.U.Unlock.allows c.args.unlock.now in
     let Refused = g.U.Unlock.refuses c.args.unlock.now in
     let sink = g.O.Sink.view c.args.writer.now in

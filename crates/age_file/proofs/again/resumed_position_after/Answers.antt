@@ -10,11 +10,11 @@ returns-in-None-clause-found g c = λ copied old_text.
     omega (arith, ap length c.new-limit.ensures.took, c.new-limit.ensures.left) in
     rw c.fault_again.ensures.is (inr (rest_stopped_before _ _ c.in-Some.more last.took.bytes last.left
     (ap Some c.new-limit.ensures.took) (ap (λ (n : ℕ). n ∷ []) made) refl refl
-    (c.in-Err.ensures copied old_text).named _ _ _ _ c.args.position.now copied c.args.written
-    old_text (search rules) c.in-Err.stopped last.full (c.in-Err.ensures copied old_text)
+    (c.in-Err.ensures.reads copied old_text).named _ _ _ _ c.args.position.now copied c.args.written
+    old_text (search rules) c.in-Err.stopped last.full (c.in-Err.ensures.reads copied old_text)
     c.in-None.is))
 
 pub returns-clause-found : goal.returns-clause-found
 returns-clause-found g c = λ copied old_text.
     found_from _ _ _ _ _ _ c.args.position.now copied c.args.written c.in-Err.stopped
-    c.in-Some-position.next (c.in-Err.ensures copied old_text) c.in-Some-position.is (search rules)
+    c.in-Some-position.next (c.in-Err.ensures.reads copied old_text) c.in-Some-position.is (search rules)

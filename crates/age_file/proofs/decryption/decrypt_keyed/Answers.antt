@@ -9,16 +9,16 @@ use Rattle.age_file.proofs.DecryptLemmas.{decrypted, run_ended, stopped_early}
 use Rattle.age_fault.specs.declared.fault.FileFault.TheVariants.{Memory}
 use Rattle.age_file.proofs.decryption.decrypt_keyed.Goals as goal
 
-pub returns-in_default : goal.returns-in_default
-returns-in_default g c =
+pub returns-in_default-clause-decrypts : goal.returns-in_default-clause-decrypts
+returns-in_default-clause-decrypts g c =
     let old = ports (g.S.Source.view c.args.reader.now) (g.O.Sink.view c.args.writer.now) in
     let Allows = g.U.Unlock.allows c.args.unlock.now in
     let Refused = g.U.Unlock.refuses c.args.unlock.now in
     rw c.early.ensures (stopped_early c.args.positions Allows Refused c.one_header.ensures old old
     Memory refl (stops_unread _))
 
-pub returns-in-Err : goal.returns-in-Err
-returns-in-Err g c =
+pub returns-in-Err-clause-decrypts : goal.returns-in-Err-clause-decrypts
+returns-in-Err-clause-decrypts g c =
     let old = ports (g.S.Source.view c.args.reader.now) (g.O.Sink.view c.args.writer.now) in
     let new = ports (g.S.Source.view c.start.new.reader.source.now)
     (g.O.Sink.view c.args.writer.now) in
@@ -32,8 +32,8 @@ returns-in-Err g c =
     (Err (record { fault = c.in-Err.fault; written = 0; position = None })) None)
     _ c.start.new.reader.source.now (search rules) early)
 
-pub returns : goal.returns
-returns g c =
+pub returns-clause-decrypts : goal.returns-clause-decrypts
+returns-clause-decrypts g c =
     let old = stage (view_of_reader g.S.Source.view c.start.new.reader)
     (writer_view (g.O.Sink.view c.args.writer.now) c.new-tally.result) in
     let new = stage_of g.S.Source.view g.O.Sink.view c.open_payload-result.new.reader

@@ -8,7 +8,7 @@ use Rattle.age_file.proofs.inspection.count_rest.Goals as goal
 pub returns-clause-counts : goal.returns-clause-counts
 returns-clause-counts g c =
     let kept = c.pulls.invariant in
-    let r = rw c.if-branch.false at c.in_ok-refill.ensures.answered in
+    let r = rw c.if-branch.false at c.in_ok-refill.ensures.refills.answered in
     let now = (g.S.Source.view c.refill.new.source).remaining in
     record {
       counts = λ start used h. (
@@ -16,7 +16,7 @@ returns-clause-counts g c =
         kept.count_is,
         (cut_pulled start now c.refill.new.self.pulls (used ++ kept.passed) c.refill.new.self.bytes
             r.0
-            (c.refill.ensures.pulled start (used ++ kept.passed)
+            (c.refill.ensures.refills.pulled start (used ++ kept.passed)
             (kept.pulled start used h))).consumed,
       );
       at_end = r.2;
@@ -27,7 +27,7 @@ returns-clause-counts g c =
 pub pulls-preserved : goal.pulls-preserved
 pulls-preserved g c =
     let kept = c.pulls.invariant in
-    let r = rw c.if-branch.true at c.in_ok-refill.ensures in
+    let r = rw c.if-branch.true at c.in_ok-refill.ensures.refills in
     let fresh = c.bytes-in-pulls.result.now in
     let same = c.use_all-in-pulls.ensures.pulls in
     record {
@@ -49,7 +49,7 @@ pub returns-in_err-refill-clause-fails : goal.returns-in_err-refill-clause-fails
 returns-in_err-refill-clause-fails g c =
     let p = err_from_is_err_and c.from_residual.result c.from_residual.ensures.1 in
     let kept = c.pulls.invariant in
-    let a = c.in_err-refill.ensures.answered in
+    let a = c.in_err-refill.ensures.refills.answered in
     let old = view_of_reader g.S.Source.view c.args.reader.now in
     let mid = view_of_reader g.S.Source.view c.pulls.reader in
     let source = g.S.Source.view c.refill.new.source in
@@ -59,7 +59,7 @@ returns-in_err-refill-clause-fails g c =
         kept.passed,
         cut_pulled start source.remaining c.refill.new.self.pulls (used ++ kept.passed)
             c.refill.new.self.bytes a.0
-            (c.refill.ensures.pulled start (used ++ kept.passed) (kept.pulled start used h)),
+            (c.refill.ensures.refills.pulled start (used ++ kept.passed) (kept.pulled start used h)),
       );
       why = pull_fails_since old mid new c.in_err-refill.field-0.0 kept.unfailed a.2;
     } in

@@ -15,6 +15,7 @@ turns-init g c =
     let old = stage_of g.S.Source.view g.O.Sink.view c.args.reader.now c.args.writer.now in
     record {
       same_reader = (refl, refl);
+      metered = λ from began. began;
       same_writer = refl;
       goes = begins opens chunk_length c.at-opener.result old
           (omega (arith, ap (λ o. length o.held) c.at-opener.ensures.view, c.requires.room.0))
@@ -59,7 +60,7 @@ returns-in_err-refill-clause-decrypts g c =
     c.use_all.ensures.pulls c.turns.invariant.goes
     c.use_all.ensures.bytes c.in_ok-feed_piece.ensures.fed in
     let stops = pull_stops opens chunk_length a b old (reader_view source c.use_all.new.self) z now
-    c.use_all.ensures.bytes goes fault c.in_err-refill.ensures in
+    c.use_all.ensures.bytes goes fault c.in_err-refill.ensures.refills in
     rw (p.1, p.2) (pour_stopped seals opens box_valid chunk_length positive c.args.key.now
     c.args.index a b old (stage z now) fault
     (ap (λ o. o.key) c.at-opener.ensures.view) c.at-opener.ensures.stands stops)
@@ -79,10 +80,11 @@ turns-preserved g c =
     c.use_all.ensures.bytes c.in_ok-feed_piece.ensures.fed in
     record {
       same_reader = c.turns.invariant.same_reader;
+      metered = λ from began. c.in_ok-refill.ensures.metered from (c.turns.invariant.metered from began);
       same_writer = c.in_ok-feed_piece.ensures.same ∙ c.turns.invariant.same_writer;
       goes = pulled_more opens chunk_length a b old (reader_view source c.use_all.new.self) z now
           c.use_all.ensures.bytes goes
-          (rw c.if-not-branch.false at c.in_ok-refill.ensures);
+          (rw c.if-not-branch.false at c.in_ok-refill.ensures.refills);
     }
 
 pub returns-clause-decrypts : goal.returns-clause-decrypts
@@ -101,7 +103,7 @@ returns-clause-decrypts g c =
     c.use_all.ensures.bytes c.in_ok-feed_piece.ensures.fed in
     let ends = pulled_none opens chunk_length a b old (reader_view source c.use_all.new.self) z now
     c.use_all.ensures.bytes goes
-    (rw c.if-not-branch.true at c.in_ok-refill.ensures) in
+    (rw c.if-not-branch.true at c.in_ok-refill.ensures.refills) in
     pour_ended seals opens box_valid chunk_length positive c.args.key.now c.args.index a b
     c.finish.new.opener old (stage z now)
     (view_of_writer g.O.Sink.view c.finish.new.writer) c.finish.result

@@ -11,8 +11,8 @@ use Rattle.age_file.proofs.ResumeLemmas.{place_after, stopped_early, refused, co
 use Rattle.age_file.proofs.ResumeLemmas.{skip_stopped, rest_ended}
 use Rattle.age_file.proofs.resumption.resume_keyed.Goals as goal
 
-pub returns-in_default : goal.returns-in_default
-returns-in_default g c =
+pub returns-in_default-clause-resumes : goal.returns-in_default-clause-resumes
+returns-in_default-clause-resumes g c =
     let old = resume_ports (ports (g.S.Source.view c.args.reader.now)
     (g.O.Sink.view c.args.writer.now)) (g.L.Source.view c.args.old_reader.now) in
     let Allows = g.U.Unlock.allows c.args.unlock.now in
@@ -20,8 +20,8 @@ returns-in_default g c =
     rw c.early.ensures (stopped_early c.args.positions Allows Refused c.args.position.now
     c.one_header.ensures old old Memory refl refl (stops_unread _))
 
-pub returns-in-Err : goal.returns-in-Err
-returns-in-Err g c =
+pub returns-in-Err-clause-resumes : goal.returns-in-Err-clause-resumes
+returns-in-Err-clause-resumes g c =
     let old = resume_ports (ports (g.S.Source.view c.args.reader.now)
     (g.O.Sink.view c.args.writer.now)) (g.L.Source.view c.args.old_reader.now) in
     let new = resume_ports (ports (g.S.Source.view c.start.new.reader.source.now)
@@ -38,8 +38,8 @@ returns-in-Err g c =
     (Err (record { fault = c.in-Err.fault; written = 0; position = None })) Before) _
     c.start.new.reader.source.now (search rules) early)
 
-pub returns-in-Err-verify : goal.returns-in-Err-verify
-returns-in-Err-verify g c =
+pub returns-in-Err-verify-clause-resumes : goal.returns-in-Err-verify-clause-resumes
+returns-in-Err-verify-clause-resumes g c =
     let old = resume_ports (ports (g.S.Source.view c.args.reader.now)
     (g.O.Sink.view c.args.writer.now)) (g.L.Source.view c.args.old_reader.now) in
     let new = resume_ports (ports (g.S.Source.view c.start.new.reader.source.now)
@@ -57,8 +57,8 @@ returns-in-Err-verify g c =
     (Err (record { fault = c.in-Err-verify.fault; written = 0; position = None })) Before) _
     c.start.new.reader.source.now (search rules) stops)
 
-pub returns-in-Err-copy_before : goal.returns-in-Err-copy_before
-returns-in-Err-copy_before g c =
+pub returns-in-Err-copy_before-clause-resumes : goal.returns-in-Err-copy_before-clause-resumes
+returns-in-Err-copy_before-clause-resumes g c =
     let first = writer_view (g.O.Sink.view c.args.writer.now) c.new-tally.result in
     let b = c.in-Err-copy_before.ensures.copied in
     let x = reader_view (g.L.Source.view c.args.old_reader.now) b.first in
@@ -104,8 +104,8 @@ open_payload-result-requires-clause-room g c =
     (view_of_reader g.S.Source.view c.skip_blocks.new.reader)
     skipped.0 skipped.1 skipped.2
 
-pub returns : goal.returns
-returns g c =
+pub returns-clause-resumes : goal.returns-clause-resumes
+returns-clause-resumes g c =
     let first = writer_view (g.O.Sink.view c.args.writer.now) c.new-tally.result in
     let b = c.in-Ok-copy_before.ensures.copied in
     let x = reader_view (g.L.Source.view c.args.old_reader.now) b.first in
@@ -131,8 +131,8 @@ returns g c =
     c.ended.result c.ended.ensures
     c.in-Err-skip_blocks.ensures.skipped)
 
-pub returns-in-Ok-skip_blocks : goal.returns-in-Ok-skip_blocks
-returns-in-Ok-skip_blocks g c =
+pub returns-in-Ok-skip_blocks-clause-resumes : goal.returns-in-Ok-skip_blocks-clause-resumes
+returns-in-Ok-skip_blocks-clause-resumes g c =
     let first = writer_view (g.O.Sink.view c.args.writer.now) c.new-tally.result in
     let b = c.in-Ok-copy_before.ensures.copied in
     let x = reader_view (g.L.Source.view c.args.old_reader.now) b.first in

@@ -27,6 +27,7 @@ pulls-init g c =
       feeding = rw c.new-sealer.ensures (record { unfinished = refl; sound = refl });
       fresh = rw c.new-sealer.ensures (record { index = refl; held = refl });
       same_reader = (refl, refl);
+      metered = λ from began. began;
       same_writer = refl;
       text = [];
       pulled = record {
@@ -53,7 +54,7 @@ pub returns-in_err-refill-clause-sealed : goal.returns-in_err-refill-clause-seal
 returns-in_err-refill-clause-sealed g c =
     let p = err_from_is_err_and c.from_residual.result c.from_residual.ensures.1 in
     let kept = c.pulls.invariant in
-    let r = c.in_err-refill.ensures in
+    let r = c.in_err-refill.ensures.refills in
     let all = cut_pulled _ _ _ kept.text _ r.answered.0 (r.pulled _ kept.text kept.pulled) in
     let n : ℕ = chunk_length in
     let old = ports (g.S.Source.view c.args.reader.now.source.now)
@@ -109,7 +110,7 @@ returns-in_err-seal_piece-clause-sealed g c =
     let p = err_from_is_err_and c.from_residual-in_err-seal_piece.result
     c.from_residual-in_err-seal_piece.ensures.1 in
     let kept = c.pulls.invariant in
-    let r = rw c.if-branch.true at c.in_ok-refill.ensures in
+    let r = rw c.if-branch.true at c.in_ok-refill.ensures.refills in
     let s = c.in_err-seal_piece.ensures.sealed in
     let n : ℕ = chunk_length in
     let positive : 0 < n = omega arith in
@@ -154,7 +155,7 @@ returns-in_err-seal_piece-clause-sealed g c =
 pub pulls-preserved : goal.pulls-preserved
 pulls-preserved g c =
     let kept = c.pulls.invariant in
-    let r = rw c.if-branch.true at c.in_ok-refill.ensures in
+    let r = rw c.if-branch.true at c.in_ok-refill.ensures.refills in
     let s = c.in_ok-seal_piece.ensures.sealed in
     let n : ℕ = chunk_length in
     let positive : 0 < n = omega arith in
@@ -172,6 +173,7 @@ pulls-preserved g c =
       feeding = kept.feeding;
       fresh = kept.fresh;
       same_reader = kept.same_reader;
+      metered = λ from began. c.in_ok-refill.ensures.metered from (kept.metered from began);
       same_writer = c.in_ok-seal_piece.ensures.same_writer ∙ kept.same_writer;
       text = kept.text ++ piece;
       pulled = subst (λ (k : ℕ). Pulled (g.S.Source.view c.args.reader.now.source.now).remaining
@@ -193,7 +195,7 @@ pulls-preserved g c =
 pub finish-requires : goal.finish-requires
 finish-requires g c =
     let kept = c.pulls.invariant in
-    let r = rw c.if-branch.false at c.in_ok-refill.ensures in
+    let r = rw c.if-branch.false at c.in_ok-refill.ensures.refills in
     let all = cut_pulled _ _ _ kept.text _ r.answered.0 (r.pulled _ kept.text kept.pulled) in
     let small : length kept.text ≤ 2 ^ 80 = omega (arith, all.small, all.most) in
     let n : ℕ = chunk_length in
@@ -211,7 +213,7 @@ returns-in_err-finish-clause-sealed g c =
     let p = err_from_is_err_and c.from_residual-in_err-finish.result
     c.from_residual-in_err-finish.ensures.1 in
     let kept = c.pulls.invariant in
-    let r = rw c.if-branch.false at c.in_ok-refill.ensures in
+    let r = rw c.if-branch.false at c.in_ok-refill.ensures.refills in
     let all = cut_pulled _ _ _ kept.text _ r.answered.0 (r.pulled _ kept.text kept.pulled) in
     let small : length kept.text ≤ 2 ^ 80 = omega (arith, all.small, all.most) in
     let l = c.in_err-finish.ensures.sealed in
@@ -254,7 +256,7 @@ returns-in_err-finish-clause-sealed g c =
 pub returns-clause-sealed : goal.returns-clause-sealed
 returns-clause-sealed g c =
     let kept = c.pulls.invariant in
-    let r = rw c.if-branch.false at c.in_ok-refill.ensures in
+    let r = rw c.if-branch.false at c.in_ok-refill.ensures.refills in
     let all = cut_pulled _ _ _ kept.text _ r.answered.0 (r.pulled _ kept.text kept.pulled) in
     let small : length kept.text ≤ 2 ^ 80 = omega (arith, all.small, all.most) in
     let l = c.in_ok-finish.ensures.sealed in

@@ -56,6 +56,7 @@ parts-preserved g c =
         c.in_ok-has_bytes.ensures.same.1
             ∙ kept.same.1,
       );
+      metered = λ from began. c.in_ok-has_bytes.ensures.metered from (kept.metered from began);
       passed = kept.passed ++ take n piece;
       size = omega (
         arith,

@@ -43,6 +43,7 @@ loop-block-preserved g c =
         c.in_ok-skip_block.ensures.same.1
             ∙ kept.same.1,
       );
+      metered = λ from began. c.in_ok-skip_block.ensures.metered from (kept.metered from began);
       passed = kept.passed ++ r.0;
       size = omega (arith, kept.size, r.1, length-append kept.passed r.0);
       passes = passes_then old mid new kept.passed r.0 kept.passes r.2;

@@ -1,12 +1,13 @@
 use Rattle.std.proofs.Common.{◌≡◌, ◌*◌, ℕ, List, length}
 use Rattle.age_file.specs.inner.Copies.{Passes}
-use Rattle.age_file.specs.inner.Readers.{view_of_reader, SameReader}
+use Rattle.age_file.specs.inner.Readers.{view_of_reader, SameReader, KeepsMeter}
 use Rattle.age_chunk.specs.Payload.{block_length}
 use Rattle.age_file.proofs.skip.skip_blocks.Given as goal
 
 abbrev pub invariant-loop-block : goal.invariant-loop-block
 invariant-loop-block g l = record {
   same : SameReader l.fn.reader l.reader;
+  metered : KeepsMeter g.S.Source.metered l.fn.reader l.reader;
   passed : List ℕ;
   size : length passed ≡ l.block * block_length;
   passes : Passes (view_of_reader g.S.Source.view l.fn.reader)

@@ -58,6 +58,7 @@ parts-preserved g c =
         c.in_ok-has_bytes.ensures.same.1
             ∙ kept.same.1,
       );
+      metered = λ from began. c.in_ok-has_bytes.ensures.metered from (kept.metered from began);
       most = omega (arith, kept.most, c.copy_some-n.ensures.count);
       few = omega (
         arith,

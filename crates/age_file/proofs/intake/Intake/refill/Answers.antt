@@ -19,8 +19,8 @@ goes_on start old new pulls now bytes piece read gave small most p = record {
   most = most;
 }
 
-pub returns-in-Err : goal.returns-in-Err
-returns-in-Err g c =
+pub returns-in-Err-clause-refills : goal.returns-in-Err-clause-refills
+returns-in-Err-clause-refills g c =
     let old = (g.S.Source.view c.args.source.now).remaining in
     let new = (g.S.Source.view c.pull.new.self).remaining in
     let pulls = c.self.inside.pulls in
@@ -33,8 +33,8 @@ returns-in-Err g c =
           (omega arith) most p;
     }
 
-pub returns-in-Ok-eq0 : goal.returns-in-Ok-eq0
-returns-in-Ok-eq0 g c =
+pub returns-in-Ok-eq0-clause-refills : goal.returns-in-Ok-eq0-clause-refills
+returns-in-Ok-eq0-clause-refills g c =
     let old = (g.S.Source.view c.args.source.now).remaining in
     let new = (g.S.Source.view c.pull.new.self).remaining in
     let pulls = c.self.inside.pulls in

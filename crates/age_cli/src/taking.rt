@@ -1,0 +1,57 @@
+//! An output that knows whether it took anything.
+
+ghost use Rattle.std.specs.Prelude.{◌≡◌, ◌==◌, true, length, Some, IsSomeAnd};
+ghost use Rattle.std.specs.Prelude.{[]};
+
+use age_fileset::FileSet;
+use age_io::{Failed, Sink};
+
+/// A file that was created, and whether it took no byte so far: it is left as it was then.
+pub(crate) struct Taking<F: FileSet> {
+    pub(crate) out: F::Out,
+    pub(crate) is_empty: bool,
+    ghost knows: { F.shows_bytes ≡ true
+        → IsSomeAnd (F.Out.view out).taken (λ bytes. is_empty ≡ (length bytes == 0)) },
+}
+
+impl<F: FileSet> Taking<F> {
+    /// A file that was just created.
+    pub(crate) fn new(out: F::Out) -> Taking<F>
+        requires { F.shows_bytes ≡ true → (F.Out.view out).taken ≡ Some [] }
+        ensures { result.out ≡ out }
+    {
+        Taking {
+            out,
+            is_empty: true,
+        }
+    }
+
+    /// The file.
+    pub(crate) fn into_out(self) -> F::Out
+        ensures { result ≡ self.out }
+    {
+        let Taking {
+            out,
+            is_empty: _is_empty,
+        } = self;
+        out
+    }
+}
+
+impl<F: FileSet> Sink for Taking<F> {
+    ghost view = { λ t. F.Out.view t.out };
+
+    fn put(&mut self, from: &[u8]) -> Result<usize, Failed> {
+        let n = self.out.put(from)?;
+        self.is_empty = self.is_empty && n == 0;
+        Ok(n)
+    }
+
+    fn flush(&mut self) -> Result<(), Failed> {
+        self.out.flush()
+    }
+
+    fn failures(&self) -> u64 {
+        self.out.failures()
+    }
+}
