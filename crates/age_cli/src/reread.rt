@@ -1,8 +1,8 @@
 //! How the position of a stop is found by reading the input once more.
 
 ghost use Rattle.std.specs.Prelude.{◌≡◌, ◌⊎◌, ℕ, List, Option, true, is_some, IfOk, IfErr};
-ghost use Rattle.age_fault.specs.declared.fault.FileFault.TheVariants.{Read};
 ghost use Rattle.age_io.specs.Io.{Origin};
+ghost use Rattle.age_fault.specs.declared.fault.FileFault.TheVariants.{Read};
 ghost use Rattle.age_fileset.specs.FileSet.{IsMemoryOr};
 ghost use Rattle.age_cli_args.specs.Requests.{option_text};
 ghost use Rattle.age_cli_args.specs.declared.request.ProgressOption.TheVariants.{Silent};
@@ -32,7 +32,7 @@ pub(crate) struct Again<S: Source> {
 }
 
 /// The position after this many bytes of the text, by reading its file from its start.
-#[tactic(auto, using(crate::proofs::RereadLemmas::finds_so, crate::proofs::RereadLemmas::fails_so))]
+#[tactic(auto, using(crate::proofs::RereadLemmas::finds_so, crate::proofs::RereadLemmas::fails_so, crate::proofs::RereadLemmas::finds_from))]
 fn position_in<S: Source>(
     alloc: Global,
     from: &Option<Position>,

@@ -106,8 +106,7 @@ A file with work factor 22 takes 4 GiB of memory";
 pub(crate) const SAVE: &str = "If decryption stops, save its position here, so that
 `resume` can continue, and replace the position that it
 was given; no other file that is read or written. Slower
-from a pipe and by `resume`. Best on a disk that OUT
-can't fill";
+from a pipe. Best on a disk that OUT can't fill";
 
 pub(crate) const NO_SYNC: &str = "Don't wait until OUT, a regular file or a block device,
 has reached the disk. What is refused late (NFS, a

@@ -33,7 +33,7 @@ pub record IsSameFront (r q : Run) (left rest : List ℕ) : Type 0 where
   pub nonce : q.file.nonce ≡ r.file.nonce
   pub behind : (r.skipped ++ r.bytes) ++ left ≡ (q.skipped ++ q.bytes) ++ rest
 
-fronts : OneHeader → (A B : Header → List ℕ → Type 0)
+pub fronts : OneHeader → (A B : Header → List ℕ → Type 0)
     (was now before after : Option (List ℕ)) (bytes : List ℕ) (r q : Run)
     → was ≡ Some bytes → before ≡ Some bytes
     → Reads A was now r.file (r.skipped ++ r.bytes)

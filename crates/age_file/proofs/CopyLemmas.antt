@@ -46,6 +46,7 @@ copy_fails x y z a b c p q Write f same g =
       passes_then x y z p g.0 f g.1,
       more,
       subst (λ (m : ℕ). HasFailed m c.sink.failed c.sink.failing) same g.3,
+      omega (arith, g.4, length-append p g.0, length-append p q),
     )
 copy_fails x y z a b c p q Read f same g = (dries_then x y z p q Read f g.0, g.1 ∙ same)
 copy_fails x y z a b c p q ReadNeverEnds f same g =

@@ -33,7 +33,7 @@ use Rattle.age_file.specs.inner.Readers.{ReaderView, reader_view, WriterView, St
 use Rattle.age_file.specs.inner.Payloads.{HasCounted, HasPlace, DecryptsPayload, SegmentFails}
 use Rattle.age_file.specs.inner.Payloads.{SegmentDone}
 use Rattle.age_file.specs.Runs.{Run, segment_of, held, Reads, IsRun, GivesPosition, PayloadFails}
-use Rattle.age_file.specs.Runs.{IsDone, OpenedFile, IsPositionOf}
+use Rattle.age_file.specs.Runs.{IsDone, OpenedFile, IsPositionOf, pull_room}
 use Rattle.age_file.proofs.RunLemmas.{writes_of, writes_all, position_given, position_due}
 use Rattle.age_file.specs.inner.Verdicts.{PositionRefused}
 use Rattle.age_file.specs.Decrypts.{StartFails}
@@ -225,7 +225,8 @@ module _ (keep : PositionPolicy) (Allows : Header → List ℕ → Type 0) (Refu
       (s : StartsAt Allows a (reader_view s1.reader.source u) unlocked)
       (v : IsVerified unlocked) (same : s1.reader.source.failed ≡ a.failed)
       (first : WriterView) (zero : first.tally.written ≡ 0) (x z : ReaderView)
-      (none : x.unread.bytes ≡ []) (pulls : x.unread.pulls ≡ u.pulls) where
+      (none : x.unread.bytes ≡ []) (pulls : x.unread.pulls ≡ u.pulls)
+      (few : length z.unread.bytes ≤ pull_room) where
     abbrev file : OpenedFile
     file = opened a (reader_view s1.reader.source u) unlocked s
 
@@ -267,11 +268,12 @@ module _ (keep : PositionPolicy) (Allows : Header → List ℕ → Type 0) (Refu
         → Appends first.sink.taken s1.writer.sink.taken out
         → s1.writer.tally.written ≡ first.tally.written + length out
         → length out ≤ p.index * chunk_length
-        → Consumes x.source.remaining z.source.remaining pulled → IsPrefixOf out pulled
+        → Consumes x.source.remaining z.source.remaining pulled
+        → length pulled ≤ p.index * chunk_length + pull_room → IsPrefixOf out pulled
         → InOldFails Allows p (before a first x) (after s1 z) pulled out fault
         → StopsInOld Allows p (before a first x) (after s1 z)
         (record { fault = fault; written = s1.writer.tally.written; position = None })
-    stops_in_old fault out pulled wrote count le read front why = record {
+    stops_in_old fault out pulled wrote count le read short front why = record {
       file = file;
       opened = (
         u.bytes,
@@ -285,6 +287,7 @@ module _ (keep : PositionPolicy) (Allows : Header → List ℕ → Type 0) (Refu
       writes = record {
         pulled = pulled;
         read = read;
+        few = short;
         front = front;
         wrote = wrote;
         count = omega (arith, count, zero);
@@ -304,7 +307,7 @@ module _ (keep : PositionPolicy) (Allows : Header → List ℕ → Type 0) (Refu
         (record { fault = fault; written = s1.writer.tally.written; position = None })
     dried_in_old fault c empty uses short why =
         stops_in_old fault c.out c.out c.wrote c.count (omega (arith, short))
-        (old_read c.out (old_dried c.out empty uses)) ([], append-nil c.out) why
+        (old_read c.out (old_dried c.out empty uses)) (omega (arith, short)) ([], append-nil c.out) why
 
     copy_fails : (fault : FileFault)
         → CopiesText keep chunk_length p.index p.chain x z first s1.writer (Err fault)
@@ -316,7 +319,8 @@ module _ (keep : PositionPolicy) (Allows : Header → List ℕ → Type 0) (Refu
     copy_fails Write c =
         let f = c.answered in
         stops_in_old Write c.out (f.1.0 ++ z.unread.bytes) c.wrote c.count (omega (arith, f.0))
-        (old_read (f.1.0 ++ z.unread.bytes) (old_pulled f.1.0 f.1.1.uses)) f.1.2
+        (old_read (f.1.0 ++ z.unread.bytes) (old_pulled f.1.0 f.1.1.uses))
+        (omega (arith, f.0, f.1.4, few, length-append f.1.0 z.unread.bytes)) f.1.2
         (f.0, ((f.1.3, same), f.1.1.unfailed))
     copy_fails Read c =
         let f = c.answered in
@@ -341,7 +345,8 @@ module _ (keep : PositionPolicy) (Allows : Header → List ℕ → Type 0) (Refu
         let f = c.answered in
         let le : length c.out ≤ p.index * chunk_length = omega (arith, f.0.0) in
         stops_in_old OldTextDiffers c.out (c.out ++ z.unread.bytes) c.wrote c.count le
-        (old_read (c.out ++ z.unread.bytes) (old_pulled c.out f.0.1.uses)) (z.unread.bytes, refl)
+        (old_read (c.out ++ z.unread.bytes) (old_pulled c.out f.0.1.uses))
+        (omega (arith, le, few, length-append c.out z.unread.bytes)) (z.unread.bytes, refl)
         (f.0.0, λ e. f.1 (f.0.4 ∙ ap Some e))
     copy_fails other c = absurd c.answered.1
 
@@ -418,6 +423,7 @@ module _ (keep : PositionPolicy) (Allows : Header → List ℕ → Type 0) (Refu
           record {
             pulled = old_bytes;
             read = old_is_read;
+            few = omega (arith, le, few, length-append c.out z.unread.bytes);
             front = front;
             wrote = c.wrote;
             count = omega (arith, c.count, zero);
@@ -615,6 +621,7 @@ module _ (keep : PositionPolicy) (Allows : Header → List ℕ → Type 0) (Refu
                 old_text = old_text;
                 more = z.unread.bytes;
                 old_read = old_is_read;
+                few = few;
               };
               is = record {
                 reads = reads_of a (reader_view s1.reader.source u) unlocked s

@@ -4,15 +4,16 @@ use Rattle.std.proofs.Common.{drop, Option, Some, None, refl, sym, ap, subst, �
 use Rattle.std.proofs.Common.{append-nil, append_assoc, Bool, true, false}
 use Rattle.std.proofs.lemmas.List.{length-append, drop_at, take_at, drop_all}
 use Rattle.std.specs.Io.KnownBytes.{Appends, Consumes, IsAtEnd}
-use Rattle.age_io.specs.Io.{SourceView}
+use Rattle.std.specs.Prelude.{IfSome}
 use Rattle.age_stanza.specs.declared.header.Header.{Header}
 use Rattle.age_stanza.specs.declared.fault.HeadFault.{HeadFault}
 use Rattle.age_stanza.specs.Grammar.{HeadText}
 use Rattle.age_stanza.specs.Laws.{OneHeader}
 use Rattle.age_chunk.specs.declared.fault.StreamFault.{StreamFault}
 use Rattle.age_chunk.specs.declared.fault.StreamKind.TheVariants.{Truncated}
-use Rattle.age_stream.specs.declared.step.Status.TheVariants.{Open, Failed, Done}
 use Rattle.age_chunk.specs.Payload.{payload, chunk_count, block_length, chunk_length, chunk_limit}
+use Rattle.age_io.specs.Io.{SourceView}
+use Rattle.age_stream.specs.declared.step.Status.TheVariants.{Open, Failed, Done}
 use Rattle.age_stream.specs.Segment.{outcome}
 use Rattle.age_stream.specs.Headline.{IsAuthentic, IsRest}
 use Rattle.age_stream.specs.Laws.{IsClosed}
@@ -22,9 +23,11 @@ use Rattle.age_keys.specs.declared.fault.KeyFault.TheVariants.{MacMismatch, Memo
 use Rattle.age_keys.specs.Keys.{IsMacOf, payload_key, Refuses, RefusesKey}
 use Rattle.age_keys.specs.inner.PayloadBox.{box_valid}
 use Rattle.age_keys.specs.AgeFile.{box, unbox}
+use Rattle.age_fault.specs.declared.fault.FileFault.{FileFault}
+use Rattle.age_fault.specs.declared.fault.FileFault.TheVariants.{Head, Key, NonceCut, Stream, Read}
+use Rattle.age_fault.specs.declared.fault.FileFault.TheVariants.{Write, Memory, ReadNeverEnds}
 use Rattle.age_file.specs.Runs.{Ports, IsHeadFault, NeverEnds, Run, IsFromStart, run_outcome, IsRun}
 use Rattle.age_file.specs.Runs.{PayloadFails, IsDone}
-use Rattle.std.specs.Prelude.{IfSome}
 use Rattle.age_file.specs.declared.position.PositionPolicy.{PositionPolicy}
 use Rattle.age_file.specs.Decrypts.{StartFails, DecryptStops, IsWhole, IsUndamagedFile, WritesText}
 use Rattle.age_file.specs.Decrypts.{StopsOutside}
@@ -32,9 +35,6 @@ use Rattle.age_file.specs.inner.Payloads.{segment}
 use Rattle.age_file.specs.declared.decryption.Stopped.{Stopped}
 use Rattle.age_file.proofs.ByteLemmas.{fault_of_all}
 use Rattle.age_file.proofs.RunLemmas.{none_before, writes_all}
-use Rattle.age_fault.specs.declared.fault.FileFault.{FileFault}
-use Rattle.age_fault.specs.declared.fault.FileFault.TheVariants.{Head, Key, NonceCut, Stream, Read}
-use Rattle.age_fault.specs.declared.fault.FileFault.TheVariants.{Write, Memory, ReadNeverEnds}
 
 -- a source that showed its bytes shows those that are left
 pub left_of : (before after : Option (List ℕ)) (bytes used : List ℕ) → before ≡ Some bytes
@@ -59,7 +59,7 @@ same_front a b x y len e = (
 )
 
 -- a key whose MAC is the header's is refused only if memory runs out
-for_memory : (h : Header) (key : List ℕ) (fault : KeyFault) → IsMacOf h key → RefusesKey h key fault
+pub for_memory : (h : Header) (key : List ℕ) (fault : KeyFault) → IsMacOf h key → RefusesKey h key fault
     → fault ≡ KeyMemory
 for_memory h key MacMismatch mac refused = absurd (refused mac)
 for_memory h key KeyMemory mac refused = refl

@@ -11,6 +11,7 @@ use Rattle.age_keys.specs.Keys.{Opens, Refuses, IsScryptNotAlone}
 use Rattle.age_keys.specs.AgeFile.{box, unbox, FileOf}
 use Rattle.age_keys.specs.declared.fault.KeyFault.{KeyFault}
 use Rattle.age_keys.specs.declared.fault.KeyFault.TheVariants.{Memory as KeyMemory}
+use Rattle.age_fault.specs.Faults.{HasFailed}
 use Rattle.age_fault.specs.declared.fault.FileFault.{FileFault}
 use Rattle.age_fault.specs.declared.fault.FileFault.TheVariants.{Key, NonceCut, Read, Write, Memory}
 use Rattle.age_fault.specs.declared.fault.FileFault.TheVariants.{ReadNeverEnds}
@@ -180,3 +181,20 @@ ReadAgain Who Allows Refused = (who : Who) (before after : Ports) (r : Run) (sto
     → IsFoundAgain (λ _ key. key ≡ r.file.key) old new stopped.written p
     → DecryptStops Kept (Allows who) (Refused who) before after (Some r)
     (record { fault = stopped.fault; written = stopped.written; position = Some p })
+
+-- what else keeps a second reading from coming as far: memory was refused, the source failed, or it
+-- never ended
+abbrev pub IsOutside : SourceView → SourceView → FileFault → Type 0
+IsOutside old new fault = (fault ≡ Memory) ⊎ HasFailed old.failed new.failed new.failing
+    ⊎ NeverEnds old.remaining new.remaining
+
+-- A decryption that stopped in its payload is read again: by the key that it found, over the same
+-- bytes. The second reading ends elsewhere only for such a reason.
+abbrev pub IsReached : (Who : Type 0) → (Who → Header → List ℕ → Type 0)
+    → (Who → Header → KeyFault → Type 0) → Type 0
+IsReached Who Allows Refused = (who : Who) (keep : PositionPolicy) (before after : Ports) (r : Run)
+    (stopped : Stopped) (old new : SourceView) (bytes : List ℕ) (fault : FileFault)
+    → DecryptStops keep (Allows who) (Refused who) before after (Some r) stopped
+    → before.source.remaining ≡ Some bytes → old.remaining ≡ Some bytes
+    → EndsElsewhere (λ _ key. key ≡ r.file.key) (λ _ _. ⊥) old new stopped.written fault
+    → IsOutside old new fault

@@ -24,7 +24,7 @@ use Rattle.age_file.specs.Runs.{CarriesText, Ports, Run, HasId, HasTag, pull_roo
 use Rattle.age_file.specs.Runs.{Reads, GivesPosition, WritesNone, StopsInPayload, IsDone}
 use Rattle.age_file.specs.Runs.{NoneFailed, ReadFailed, WriteFailed, OpenedFile, IsTagged, ports}
 use Rattle.age_file.specs.Runs.{IsRun, IsPositionOf, NeverEnds}
-use Rattle.age_file.specs.Decrypts.{StartFails, IsWhole, IsElsewhere}
+use Rattle.age_file.specs.Decrypts.{StartFails, IsWhole, IsElsewhere, IsOutside}
 use Rattle.age_file.specs.declared.position.PositionPolicy.{PositionPolicy}
 use Rattle.age_file.specs.declared.position.PositionPolicy.TheVariants.{Kept, Dropped}
 use Rattle.age_file.specs.declared.decryption.Done.{Done}
@@ -79,18 +79,21 @@ pub record ResumePorts : Type 0 where
 abbrev pub resume_ports : Ports → SourceView → ResumePorts
 resume_ports main old = record { main = main; old = old }
 
--- only these bytes were written, the first of those that were read from the old text; if that
--- begins with the chunks of a text before the position, these bytes begin that text
+-- only these bytes were written, the first of those that were read from the old text, at most one
+-- pull past what the position needs; if that text begins with the chunks of a text before the
+-- position, these bytes begin that text
 pub record WritesOld (p : Position) (old new : ResumePorts) (written : ℕ) (copied : List ℕ)
     : Type 0 where
   pub pulled : List ℕ
   pub read : Consumes old.old.remaining new.old.remaining pulled
+  pub few : length pulled ≤ p.index * chunk_length + pull_room
   pub front : IsPrefixOf copied pulled
   pub wrote : Appends old.main.sink.taken new.main.sink.taken copied
   pub count : written ≡ length copied
   pub of : (text : List ℕ) → BeginsWith p old.old.remaining text → IsPrefixOf copied text
 
--- a run from a position, which is the file's and the old text's
+-- a run from a position, which is the file's and the old text's; of that at most one pull past it
+-- was read
 pub record IsFrom (p : Position) (old new : SourceView) (r : Run) : Type 0 where
   pub index : r.first ≡ p.index
   pub own : HasId p r.file
@@ -98,6 +101,7 @@ pub record IsFrom (p : Position) (old new : SourceView) (r : Run) : Type 0 where
   pub old_text : IsOldText p r.copied
   pub more : List ℕ
   pub old_read : Consumes old.remaining new.remaining (r.copied ++ more)
+  pub few : length more ≤ pull_room
 
 -- the same fields
 pub record IsSame (p next : Position) : Type 0 where
@@ -334,3 +338,14 @@ RestReadAgain Who Allows Refused = (who : Who) (p : Position) (before after : Re
     → IsFoundFrom (λ _ key. key ≡ r.file.key) p r.copied old new stopped.written next
     → ResumeStops (Allows who) p before after Kept (Refused who) (Some r)
     (record { fault = stopped.fault; written = stopped.written; position = Some next })
+
+-- It ends elsewhere only if memory is refused, the source fails, or it never ends.
+abbrev pub IsRestReached : (Who : Type 0) → (Who → Header → List ℕ → Type 0)
+    → (Who → Header → KeyFault → Type 0) → Type 0
+IsRestReached Who Allows Refused = (who : Who) (keep : PositionPolicy) (p : Position)
+    (before after : ResumePorts) (r : Run) (stopped : Stopped) (old new : SourceView)
+    (bytes : List ℕ) (fault : FileFault)
+    → ResumeStops (Allows who) p before after keep (Refused who) (Some r) stopped
+    → before.main.source.remaining ≡ Some bytes → old.remaining ≡ Some bytes
+    → FindsFrom (λ _ key. key ≡ r.file.key) p r.copied (λ _ _. ⊥) old new stopped.written (Err fault)
+    → IsOutside old new fault

@@ -225,15 +225,15 @@ pub fn resumed_position_after<U: Unlock, S: Source>(
         return Err(FileFault::Read);
     };
     let mut limit = Limit::new(more);
-    let Err(stopped) = decrypt_rest(alloc, unlock, position, reader, &mut limit) else {
+    let Err(rest) = decrypt_rest(alloc, unlock, position, reader, &mut limit) else {
         return Err(FileFault::Read);
     };
-    let next = match stopped.position {
+    let next = match rest.position {
         Some(next) => next,
-        None => return Err(fault_again(stopped.fault)),
+        None => return Err(fault_again(rest.fault)),
     };
-    if stopped.written != written {
-        return Err(fault_again(stopped.fault));
+    if rest.written != written {
+        return Err(fault_again(rest.fault));
     }
     Ok(next)
 }

@@ -62,6 +62,7 @@ impl Intake {
     pub(crate) fn count_on(&mut self, other: &Intake)
         ensures bytes { self.new.bytes ≡ self.old.bytes }
         ensures pulls { self.new.pulls ≡ other.now.pulls }
+        ensures few { length other.now.bytes ≤ pull_room }
     {
         self.pulls = other.pulls;
     }

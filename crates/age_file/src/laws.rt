@@ -6,8 +6,8 @@ ghost use Rattle.age_file.specs.declared.position.PositionPolicy.{PositionPolicy
 ghost use Rattle.age_file.specs.InARow.{RunsInARow, CallsInARow, RunsAreBound, DoneIsBound};
 ghost use Rattle.age_file.specs.InARow.{AgeFileIsWhole, RoundTrip, AuthenticRuns, HeadFaultsStay};
 ghost use Rattle.age_file.specs.InARow.{UndamagedIsDecrypted, UndamagedIsResumed};
-ghost use Rattle.age_file.specs.Decrypts.{ReadAgain};
-ghost use Rattle.age_file.specs.Resumes.{RestReadAgain};
+ghost use Rattle.age_file.specs.Decrypts.{ReadAgain, IsReached};
+ghost use Rattle.age_file.specs.Resumes.{RestReadAgain, IsRestReached};
 
 use age_keys::{Unlock, passphrase_opens};
 use age_stanza::one_header;
@@ -93,6 +93,17 @@ pub fn undamaged_is_written<U: Unlock>()
         (text : List ℕ) → UndamagedIsDecrypted U U.allows U.refuses keep who result text }
     ensures resumed { (keep : PositionPolicy) (who : U) (result : Result Done Stopped)
         (text : List ℕ) → UndamagedIsResumed U U.allows U.refuses keep who result text }
+{
+    one_header();
+}
+
+/// A second reading comes as far as the first, whose bytes are the same and whose key is known,
+/// unless memory is refused, the source fails, or it never ends. So of a stop in the payload
+/// [`position_after`](crate::position_after) finds the position, and so does
+/// [`resumed_position_after`](crate::resumed_position_after).
+pub fn reaches_again<U: Unlock>()
+    ensures decrypted { IsReached U U.allows U.refuses }
+    ensures resumed { IsRestReached U U.allows U.refuses }
 {
     one_header();
 }

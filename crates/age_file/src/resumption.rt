@@ -1,7 +1,10 @@
 //! Continues a decryption that stopped.
 
-ghost use Rattle.std.specs.Prelude.{◌≡◌, []};
+ghost use Rattle.std.specs.Prelude.{◌≡◌, [], Err};
+ghost use Rattle.age_chunk.specs.Payload.{chunk_length};
 ghost use Rattle.age_io.specs.Io.{Origin};
+ghost use Rattle.age_file.specs.declared.standing.Standing.TheVariants.{Before, Skipping};
+ghost use Rattle.age_file.specs.inner.Decrypts.{EndsAs};
 ghost use Rattle.age_file.specs.inner.Readers.{view_of_reader, view_of_writer, SameReader};
 ghost use Rattle.age_file.specs.inner.Readers.{SameWriter};
 ghost use Rattle.age_file.specs.inner.Copies.{CopiesText, CopiesBefore};
@@ -10,7 +13,6 @@ ghost use Rattle.age_file.specs.declared.position.PositionPolicy.TheVariants.{Ke
 ghost use Rattle.age_file.specs.inner.Bindings.{chain_if};
 ghost use Rattle.age_file.specs.inner.Verdicts.{VerdictOn};
 ghost use Rattle.age_file.specs.Resumes.{resume_ports, ResumesText, ResumesKeyed};
-ghost use Rattle.age_chunk.specs.Payload.{chunk_length};
 
 use crate::copy::copy_chunks;
 use crate::decryption::{Done, Stopped, ended, open_payload};
@@ -26,6 +28,25 @@ use age_io::{Sink, Source};
 use age_keys::{KnownKey, Unlock, position_key};
 use age_stanza::one_header;
 use std::alloc::Global;
+
+/// A stop before the old text was found to be the position's.
+fn nowhere(stopped: Stopped) -> (Result<Done, Stopped>, Standing)
+    ensures { result ≡ (Err stopped, Before) }
+{
+    (Err(stopped), Standing::Before)
+}
+
+/// A stop in the blocks that are skipped.
+fn skipping(
+    fault: FileFault,
+    unlocked: &Unlocked,
+    tally: &Tally,
+) -> (Result<Done, Stopped>, Standing)
+    ensures ended { EndsAs unlocked.now tally.now (Err fault) result.0 }
+    ensures standing { result.1 ≡ Skipping }
+{
+    (ended(Err(fault), unlocked, tally), Standing::Skipping)
+}
 
 /// Whether a position is this file's, and was made under its key.
 fn verify(unlocked: &Unlocked, position: &Position) -> Result<(), FileFault>
@@ -170,7 +191,7 @@ pub fn resume_keyed<U: Unlock, S: Source, L: Source, O: Sink>(
 {
     one_header();
     let (Ok(mut intake), Ok(old_intake)) = (Intake::new(alloc), Intake::new(alloc)) else {
-        return (Err(Stopped::early(FileFault::Memory)), Standing::Before);
+        return nowhere(Stopped::early(FileFault::Memory));
     };
     let mut reader = Reader {
         source: reader,
@@ -178,11 +199,11 @@ pub fn resume_keyed<U: Unlock, S: Source, L: Source, O: Sink>(
     };
     let unlocked = match start(alloc, unlock, &mut reader) {
         Ok(unlocked) => unlocked,
-        Err(fault) => return (Err(Stopped::early(fault)), Standing::Before),
+        Err(fault) => return nowhere(Stopped::early(fault)),
     };
     match verify(&unlocked, position) {
         Ok(()) => {}
-        Err(fault) => return (Err(Stopped::early(fault)), Standing::Before),
+        Err(fault) => return nowhere(Stopped::early(fault)),
     }
     let tally = Tally::new(PositionPolicy::Kept);
     let mut writer = Writer {
@@ -198,22 +219,13 @@ pub fn resume_keyed<U: Unlock, S: Source, L: Source, O: Sink>(
         &mut writer,
     ) {
         Ok(()) => {}
-        Err(fault) => {
-            let stopped = Stopped::after(fault, &writer.tally, None);
-            return (Err(stopped), Standing::Before);
-        }
+        Err(fault) => return nowhere(Stopped::after(fault, &writer.tally, None)),
     }
     match skip_blocks(&mut reader, position.index) {
-        Ok(()) => {
-            let result = open_payload(&unlocked, position.index, &mut reader, &mut writer);
-            (
-                result,
-                Standing::InPayload(KnownKey::new(*unlocked.key.bytes())),
-            )
-        }
-        Err(fault) => (
-            ended(Err(fault), &unlocked, &writer.tally),
-            Standing::Skipping,
-        ),
+        Ok(()) => {}
+        Err(fault) => return skipping(fault, &unlocked, &writer.tally),
     }
+    let result = open_payload(&unlocked, position.index, &mut reader, &mut writer);
+    let key = KnownKey::new(*unlocked.key.bytes());
+    (result, Standing::InPayload(key))
 }

@@ -149,7 +149,7 @@ FailsInCopy old new was now out ShortText = Passes old new out × (new.unread.by
     × IsAtEnd new.source.remaining × (now.sink.failed ≡ was.sink.failed)
 FailsInCopy old new was now out Write = (used : List ℕ) × Passes old new used
     × IsPrefixOf out (used ++ new.unread.bytes)
-    × HasFailed was.sink.failed now.sink.failed now.sink.failing
+    × HasFailed was.sink.failed now.sink.failed now.sink.failing × (length used ≤ length out)
 FailsInCopy old new was now out Read = Dries old new out Read × (now.sink.failed ≡ was.sink.failed)
 FailsInCopy old new was now out ReadNeverEnds = Dries old new out ReadNeverEnds
     × (now.sink.failed ≡ was.sink.failed)
@@ -225,5 +225,6 @@ pub record CopiesBefore (keep : PositionPolicy) (p : Position) (old new : Source
   pub last : Unread
   pub copied : CopiesText keep chunk_length p.index p.chain (reader_view old first)
       (reader_view new last) was now result
+  pub few : length last.bytes ≤ pull_room
   pub kept : after.bytes ≡ before.bytes
   pub counted : after.pulls ≡ last.pulls

@@ -1,4 +1,4 @@
-use Rattle.std.proofs.Common.{◌≡◌, ◌+◌, ◌∷◌, [], ℕ, length, ap, arith, refl, rules, Some, inl, inr}
+use Rattle.std.proofs.Common.{◌≡◌, ◌+◌, ◌∷◌, [], ℕ, length, ap, arith, refl, rules, Some, inr}
 use Rattle.age_file.proofs.AgainLemmas.{found_from, rest_stopped_before}
 use Rattle.age_file.proofs.again.resumed_position_after.Goals as goal
 
@@ -11,10 +11,10 @@ returns-in-None-clause-found g c = λ copied old_text.
     rw c.fault_again.ensures.is (inr (rest_stopped_before _ _ c.in-Some.more last.took.bytes last.left
     (ap Some c.new-limit.ensures.took) (ap (λ (n : ℕ). n ∷ []) made) refl refl
     (c.in-Err.ensures.reads copied old_text).named _ _ _ _ c.args.position.now copied c.args.written
-    old_text (search rules) c.in-Err.stopped last.full (c.in-Err.ensures.reads copied old_text)
+    old_text (search rules) c.in-Err.rest last.full (c.in-Err.ensures.reads copied old_text)
     c.in-None.is))
 
 pub returns-clause-found : goal.returns-clause-found
 returns-clause-found g c = λ copied old_text.
-    found_from _ _ _ _ _ _ c.args.position.now copied c.args.written c.in-Err.stopped
+    found_from _ _ _ _ _ _ c.args.position.now copied c.args.written c.in-Err.rest
     c.in-Some-position.next (c.in-Err.ensures.reads copied old_text) c.in-Some-position.is (search rules)

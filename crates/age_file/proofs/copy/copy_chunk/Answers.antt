@@ -124,6 +124,7 @@ returns-in_err-write_all-clause-copied g c =
           subst (λ (m : ℕ). HasFailed m (g.O.Sink.view c.write_all.new.sink).failed
               (g.O.Sink.view c.write_all.new.sink).failing)
               kept.failures put.answered,
+          omega (arith, length-append kept.copied put.out),
         ),
       );
     }

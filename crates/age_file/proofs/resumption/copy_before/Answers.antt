@@ -17,6 +17,7 @@ returns-clause-copied g c =
       counted_on = c.count_on.ensures.pulls;
       last = c.copy_old-copied.new.reader.intake.now;
       copied = c.copy_old-copied.ensures.copied;
+      few = c.count_on-2.ensures.few;
       kept = c.count_on-2.ensures.bytes;
       counted = c.count_on-2.ensures.pulls;
     })

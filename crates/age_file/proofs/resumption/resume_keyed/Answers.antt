@@ -4,7 +4,7 @@ use Rattle.age_file.specs.inner.Readers.{reader_view, writer_view, stage, view_o
 use Rattle.age_file.specs.inner.Readers.{view_of_writer, stage_of}
 use Rattle.age_file.specs.Runs.{ports}
 use Rattle.age_file.specs.Resumes.{resume_ports, ResumesKeyed}
-use Rattle.age_file.specs.declared.standing.Standing.TheVariants.{Before, Skipping, InPayload}
+use Rattle.age_file.specs.declared.standing.Standing.TheVariants.{Before, InPayload}
 use Rattle.age_file.proofs.ReaderLemmas.{read_last, ports_last}
 use Rattle.age_file.proofs.ByteLemmas.{stops_unread}
 use Rattle.age_file.proofs.ResumeLemmas.{place_after, stopped_early, refused, copy_stopped}
@@ -17,7 +17,7 @@ returns-in_default-clause-resumes g c =
     (g.O.Sink.view c.args.writer.now)) (g.L.Source.view c.args.old_reader.now) in
     let Allows = g.U.Unlock.allows c.args.unlock.now in
     let Refused = g.U.Unlock.refuses c.args.unlock.now in
-    rw c.early.ensures (stopped_early c.args.positions Allows Refused c.args.position.now
+    rw (c.nowhere.ensures, c.early.ensures) (stopped_early c.args.positions Allows Refused c.args.position.now
     c.one_header.ensures old old Memory refl refl (stops_unread _))
 
 pub returns-in-Err-clause-resumes : goal.returns-in-Err-clause-resumes
@@ -31,7 +31,7 @@ returns-in-Err-clause-resumes g c =
     let early = stopped_early c.args.positions Allows Refused c.args.position.now
     c.one_header.ensures old new c.in-Err.fault refl refl
     c.in-Err.ensures.fails in
-    rw c.early-in-Err.ensures (read_last g.S.Source.view
+    rw (c.nowhere-in-Err.ensures, c.early-in-Err.ensures) (read_last g.S.Source.view
     (λ v. ResumesKeyed c.args.positions Allows Refused c.args.position.now old
     (resume_ports (ports v (g.O.Sink.view c.args.writer.now))
     (g.L.Source.view c.args.old_reader.now))
@@ -49,7 +49,7 @@ returns-in-Err-verify-clause-resumes g c =
     let stops = refused c.args.positions Allows Refused c.args.position.now c.one_header.ensures old
     new c.start.new.reader.intake.now c.in-Ok.unlocked
     c.in-Err-verify.fault refl refl c.in-Ok.ensures.found c.in-Err-verify.ensures in
-    rw c.early-in-Err-verify.ensures
+    rw (c.nowhere-in-Err-verify.ensures, c.early-in-Err-verify.ensures)
     (read_last g.S.Source.view (λ v. ResumesKeyed c.args.positions Allows Refused
     c.args.position.now old
     (resume_ports (ports v (g.O.Sink.view c.args.writer.now))
@@ -73,8 +73,8 @@ returns-in-Err-copy_before-clause-resumes g c =
     (g.S.Source.view c.args.reader.now) c.in-Ok.unlocked
     s1 c.start.new.reader.intake.now c.in-Ok.ensures.found c.in-Ok-verify.ensures
     c.in-Ok.ensures.found.unfailed first c.new-tally.ensures.written x z
-    b.none b.counted_on c.one_header.ensures c.in-Err-copy_before.fault b.copied in
-    rw c.after-stopped.ensures (ports_last g.S.Source.view g.O.Sink.view
+    b.none b.counted_on b.few c.one_header.ensures c.in-Err-copy_before.fault b.copied in
+    rw (c.nowhere-in-Err-copy_before.ensures, c.after.ensures) (ports_last g.S.Source.view g.O.Sink.view
     (λ p. ResumesKeyed c.args.positions Allows Refused c.args.position.now old
     (resume_ports p (g.L.Source.view c.copy_before.new.source))
     (Err (record {
@@ -100,12 +100,12 @@ open_payload-result-requires-clause-room g c =
     (g.S.Source.view c.args.reader.now) c.in-Ok.unlocked
     s1 c.start.new.reader.intake.now c.in-Ok.ensures.found c.in-Ok-verify.ensures
     c.in-Ok.ensures.found.unfailed first c.new-tally.ensures.written x z
-    b.none b.counted_on b.copied c.args.position.now.within b.kept b.counted
+    b.none b.counted_on b.few b.copied c.args.position.now.within b.kept b.counted
     (view_of_reader g.S.Source.view c.skip_blocks.new.reader)
     skipped.0 skipped.1 skipped.2
 
-pub returns-clause-resumes : goal.returns-clause-resumes
-returns-clause-resumes g c =
+pub returns-in-Err-skip_blocks-clause-resumes : goal.returns-in-Err-skip_blocks-clause-resumes
+returns-in-Err-skip_blocks-clause-resumes g c =
     let first = writer_view (g.O.Sink.view c.args.writer.now) c.new-tally.result in
     let b = c.in-Ok-copy_before.ensures.copied in
     let x = reader_view (g.L.Source.view c.args.old_reader.now) b.first in
@@ -119,20 +119,20 @@ returns-clause-resumes g c =
     let Refused = g.U.Unlock.refuses c.args.unlock.now in
     ports_last g.S.Source.view g.O.Sink.view
     (λ p. ResumesKeyed c.args.positions Allows Refused c.args.position.now old
-    (resume_ports p (g.L.Source.view c.copy_before.new.source)) c.ended.result Skipping)
+    (resume_ports p (g.L.Source.view c.copy_before.new.source)) c.skipping.result.0 c.skipping.result.1)
     _ c.skip_blocks.new.reader.source.now _ c.copy_before.new.writer.sink.now (search rules)
     (search rules)
-    (skip_stopped c.args.positions Allows Refused c.args.position.now
+    (rw c.skipping.ensures.standing (skip_stopped c.args.positions Allows Refused c.args.position.now
     (g.S.Source.view c.args.reader.now) c.in-Ok.unlocked
     s1 c.start.new.reader.intake.now c.in-Ok.ensures.found c.in-Ok-verify.ensures
     c.in-Ok.ensures.found.unfailed first c.new-tally.ensures.written x z
-    b.none b.counted_on b.copied c.args.position.now.within b.kept b.counted c.one_header.ensures
+    b.none b.counted_on b.few b.copied c.args.position.now.within b.kept b.counted c.one_header.ensures
     (view_of_reader g.S.Source.view c.skip_blocks.new.reader) c.in-Err-skip_blocks.fault
-    c.ended.result c.ended.ensures
-    c.in-Err-skip_blocks.ensures.skipped)
+    c.skipping.result.0 c.skipping.ensures.ended
+    c.in-Err-skip_blocks.ensures.skipped))
 
-pub returns-in-Ok-skip_blocks-clause-resumes : goal.returns-in-Ok-skip_blocks-clause-resumes
-returns-in-Ok-skip_blocks-clause-resumes g c =
+pub returns-clause-resumes : goal.returns-clause-resumes
+returns-clause-resumes g c =
     let first = writer_view (g.O.Sink.view c.args.writer.now) c.new-tally.result in
     let b = c.in-Ok-copy_before.ensures.copied in
     let x = reader_view (g.L.Source.view c.args.old_reader.now) b.first in
@@ -148,10 +148,10 @@ returns-in-Ok-skip_blocks-clause-resumes g c =
     let Refused = g.U.Unlock.refuses c.args.unlock.now in
     let skipped = c.in-Ok-skip_blocks.ensures.skipped in
     let o = c.open_payload-result.ensures.opened in
-    let given : c.in-Ok.unlocked.key ≡ c.new-in-Ok-skip_blocks.result = search rules in
+    let given : c.in-Ok.unlocked.key ≡ c.new-key.result = search rules in
     ports_last g.S.Source.view g.O.Sink.view
     (λ p. ResumesKeyed c.args.positions Allows Refused c.args.position.now old
-    (resume_ports p (g.L.Source.view c.copy_before.new.source)) c.open_payload-result.result (InPayload c.new-in-Ok-skip_blocks.result))
+    (resume_ports p (g.L.Source.view c.copy_before.new.source)) c.open_payload-result.result (InPayload c.new-key.result))
     _ c.open_payload-result.new.reader.source.now _ c.open_payload-result.new.writer.sink.now (search rules)
     (search rules)
     (subst (λ (k : List ℕ). ResumesKeyed c.args.positions Allows Refused c.args.position.now old
@@ -161,7 +161,7 @@ returns-in-Ok-skip_blocks-clause-resumes g c =
     (g.S.Source.view c.args.reader.now) c.in-Ok.unlocked
     s1 c.start.new.reader.intake.now c.in-Ok.ensures.found c.in-Ok-verify.ensures
     c.in-Ok.ensures.found.unfailed first c.new-tally.ensures.written x z
-    b.none b.counted_on b.copied c.args.position.now.within b.kept b.counted
+    b.none b.counted_on b.few b.copied c.args.position.now.within b.kept b.counted
     (view_of_reader g.S.Source.view c.skip_blocks.new.reader)
     skipped.0 skipped.1 skipped.2 c.one_header.ensures s2 o.run c.open_payload-result.result o.decrypts
     o.ended))
