@@ -146,7 +146,8 @@ struct Subcommand {
     after: &'static str,
 }
 
-const COMMANDS: &[Subcommand] = &[
+/// A static, since a constant would put all the texts of the help into what is proved of `program`.
+static COMMANDS: [Subcommand; 5] = [
     Subcommand {
         name: "encrypt",
         arguments: ENCRYPT,
@@ -323,7 +324,7 @@ fn bare<'a>(alloc: Global) -> Result<Command<'a>, AllocError>
 fn program<'a>(alloc: Global) -> Result<Command<'a>, AllocError>
     ensures { IfOk result (HasApp age_tool) }
 {
-    with_commands(alloc, bare(alloc)?, COMMANDS)
+    with_commands(alloc, bare(alloc)?, &COMMANDS)
 }
 
 /// What the command line gives for each argument.
