@@ -1,15 +1,19 @@
-/* Opens an age file that lies in memory by the C library, and prints the processor time of the payload in seconds.
+/* Opens an age file that lies in memory by the C library, or writes its text as a file again, and prints the processor time of the
+ * payload in seconds.
  *
- * usage: c-library FILE: for the passphrase "pw"
+ * usage: c-library FILE [blocks | feed | write]: for the passphrase "pw"; feed and write in pieces of 1 MiB
  */
 #define _POSIX_C_SOURCE 200809L
 #include "age_c.h"
 
 #include <stdio.h>
 #include <stdlib.h>
+#include <string.h>
 #include <time.h>
 
-static uint8_t out[AGE_C_CHUNK];
+enum { PIECE = 1 << 20 };
+
+static uint8_t out[AGE_C_BLOCK];
 
 static double now(void) {
     struct timespec t;
@@ -17,22 +21,67 @@ static double now(void) {
     return (double)t.tv_sec + (double)t.tv_nsec / 1e9;
 }
 
+static uint32_t by_blocks(age_c_reader *reader, const uint8_t *payload, size_t len, size_t *all) {
+    size_t at = 0, written;
+    uint32_t answer = 0;
+    for (; answer == 0 && len - at >= AGE_C_BLOCK; at += AGE_C_BLOCK, *all += written)
+        answer = age_c_block(reader, payload + at, AGE_C_BLOCK, out, sizeof out, &written);
+    if (answer == 0) answer = age_c_end(reader, payload + at, len - at, out, sizeof out, &written);
+    *all += written;
+    return answer;
+}
+
+static uint32_t by_feeds(const age_c_reader *reader, const uint8_t *payload, size_t len, size_t *all) {
+    static age_c_stream stream;
+    size_t written = 0;
+    uint32_t answer = 0;
+    stream.reader = *reader;
+    for (size_t at = 0; answer == 0 && at < len;) {
+        size_t size = len - at < PIECE ? len - at : PIECE, used = 0, taken;
+        for (; answer == 0 && used < size; used += taken, *all += written)
+            answer = age_c_feed(&stream, payload + at + used, size - used, &taken, out, sizeof out, &written);
+        at += size;
+    }
+    if (answer == 0) answer = age_c_finish(&stream, out, sizeof out, &written);
+    *all += written;
+    return answer;
+}
+
+static uint32_t write_again(const uint8_t *text, size_t len, size_t *all) {
+    static age_c_write_stream stream;
+    static const uint8_t random[48];
+    size_t written;
+    uint32_t answer = age_c_seal_passphrase((const uint8_t *)"pw", 2, 1, random, sizeof random, out, sizeof out, &written, &stream.writer);
+    for (size_t at = 0; answer == 0 && at < len;) {
+        size_t size = len - at < PIECE ? len - at : PIECE, used = 0, taken;
+        for (; answer == 0 && used < size; used += taken, *all += written)
+            answer = age_c_feed_text(&stream, text + at + used, size - used, &taken, out, sizeof out, &written);
+        at += size;
+    }
+    if (answer == 0) answer = age_c_finish_text(&stream, out, sizeof out, &written);
+    *all += written;
+    return answer;
+}
+
 int main(int argc, char **argv) {
-    FILE *in = argc == 2 ? fopen(argv[1], "rb") : NULL;
+    const char *how = argc == 3 ? argv[2] : "blocks";
+    FILE *in = argc >= 2 ? fopen(argv[1], "rb") : NULL;
     if (in == NULL || fseek(in, 0, SEEK_END) != 0) return 2;
-    size_t len = (size_t)ftell(in), at, written, all = 0;
+    size_t len = (size_t)ftell(in), all = 0;
     uint8_t *file = malloc(len);
     rewind(in);
     if (file == NULL || fread(file, 1, len, in) != len) return 2;
     age_c_reader reader;
     uint32_t answer = age_c_open_passphrase(file, len, (const uint8_t *)"pw", 2, 22, &reader);
     if (answer != 0) return 1;
+    const uint8_t *payload = file + reader.payload_at;
+    len -= reader.payload_at;
     double begun = now();
-    for (at = reader.payload_at; answer == 0 && len - at >= AGE_C_BLOCK; at += AGE_C_BLOCK, all += written)
-        answer = age_c_block(&reader, file + at, AGE_C_BLOCK, out, sizeof out, &written);
-    if (answer == 0) answer = age_c_end(&reader, file + at, len - at, out, sizeof out, &written);
+    if (strcmp(how, "feed") == 0) answer = by_feeds(&reader, payload, len, &all);
+    else if (strcmp(how, "write") == 0) answer = write_again(payload, len, &all);
+    else answer = by_blocks(&reader, payload, len, &all);
     if (answer != 0) return 1;
     printf("%.4f\n", now() - begun);
-    fprintf(stderr, "%zu\n", all + written);
+    fprintf(stderr, "%zu\n", all);
     return 0;
 }

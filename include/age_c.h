@@ -2,24 +2,23 @@
  *
  * A reader of a file on standard input (without error checks of its own):
  *
- *     static uint8_t front[AGE_C_FRONT_MAX], out[AGE_C_CHUNK];
- *     size_t have = fread(front, 1, sizeof front, stdin), at, len, written;
- *     age_c_reader reader;
- *     uint32_t answer = age_c_open_passphrase(front, have, pass, pass_len, 22, &reader);
+ *     static uint8_t bytes[AGE_C_FRONT_MAX], out[AGE_C_CHUNK];
+ *     static age_c_stream stream;
+ *     size_t have = fread(bytes, 1, sizeof bytes, stdin), at, taken, written;
+ *     uint32_t answer = age_c_open_passphrase(bytes, have, pass, pass_len, 22, &stream.reader);
  *     if (answer == 0) {
- *         at = reader.payload_at;
- *         for (;;) {
- *             if (have - at < AGE_C_BLOCK) {            // the rest, and what still comes
- *                 memmove(front, front + at, have -= at), at = 0;
- *                 have += fread(front + have, 1, sizeof front - have, stdin);
+ *         at = stream.reader.payload_at;
+ *         do {
+ *             for (; answer == 0 && at < have; at += taken) {
+ *                 answer = age_c_feed(&stream, bytes + at, have - at, &taken, out, sizeof out,
+ *                                     &written);
+ *                 fwrite(out, 1, written, stdout);
  *             }
- *             len = have - at < AGE_C_BLOCK ? have - at : AGE_C_BLOCK;
- *             answer = len == AGE_C_BLOCK
- *                 ? age_c_block(&reader, front + at, len, out, sizeof out, &written)
- *                 : age_c_end(&reader, front + at, len, out, sizeof out, &written);
+ *             have = fread(bytes, 1, sizeof bytes, stdin), at = 0;
+ *         } while (answer == 0 && have > 0);
+ *         if (answer == 0) {
+ *             answer = age_c_finish(&stream, out, sizeof out, &written);
  *             fwrite(out, 1, written, stdout);
- *             if (answer != 0 || len < AGE_C_BLOCK) break;
- *             at += len;
  *         }
  *     }
  *     if (answer != 0) fprintf(stderr, "%u %s\n", answer, age_c_fault_name(answer));
@@ -27,22 +26,24 @@
  * bindings/c/decrypt.c (share/age_tool/decrypt.c of a release) is a whole program.
  *
  * WHAT HOLDS. Each text that a call writes was checked: while nobody forges a tag, the texts of one
- * reader, joined, are a prefix of what the file's writer wrote, and once age_c_end returned 0 they
- * are all of it. Before that the text may be cut short: don't act on it as if it were whole. After
- * age_c_seek the same holds from that chunk on: the texts since then are a prefix of what follows
- * in the writer's text from the chunk's first byte, and once age_c_end returned 0 they are all that
- * follows, so that the length of the text is known. An undamaged payload gives all of its text, and
- * each call returns 0. The first whole block that isn't the writer's is refused with 17, and
- * `fault_chunk` is its number. What a writer wrote, from age_c_seal_passphrase to an age_c_seal_end
- * that returned 0, is the age file of the text.
+ * reader, joined, are a prefix of what the file's writer wrote, and once the end (age_c_end or
+ * age_c_finish) returned 0 they are all of it. Before that the text may be cut short: don't act on
+ * it as if it were whole. After age_c_seek the same holds from that chunk on: the texts since then
+ * are a prefix of what follows in the writer's text from the chunk's first byte, and once the end
+ * returned 0 they are all that follows, so that the length of the text is known. An undamaged
+ * payload gives all of its text, and each call returns 0. The first whole block that isn't the
+ * writer's is refused with 17, and `fault_chunk` is its number. What a writer wrote, from
+ * age_c_seal_passphrase to an age_c_seal_end or age_c_finish_text that returned 0, is the age file
+ * of the text. Into which pieces a payload or a text was cut makes no difference.
  *
- * OWNERSHIP. A reader or writer is 64 bytes of plain numbers, and a stream 65,624 bytes, in the
- * caller's memory: there is nothing to free, and it may be copied (a copy of a reader goes on from
- * the same place; never go on from a copy of a writer, which would seal two texts under one nonce).
- * It holds the file key: overwrite it when you are done, if that matters to you. The library keeps
- * no pointer and no state. Only age_c_open_.. and age_c_seal_passphrase allocate, by malloc, and
- * free all of it before they return: with a passphrase of work factor N, 2^N KiB. A call uses less
- * than 100 KiB of stack.
+ * OWNERSHIP. A reader or writer is 64 bytes of plain numbers, and a stream of either holds one
+ * block or chunk besides, in the caller's memory: there is nothing to free, and it may be copied (a
+ * copy of a reader goes on from the same place; never go on from a copy of a writer, which would
+ * seal two texts under one nonce). It holds the file key, and a stream that writes holds text too:
+ * overwrite it when you are done, if that matters to you. The library keeps no pointer and no
+ * state. Only age_c_open_.. and age_c_seal_passphrase allocate, by malloc, and free all of it
+ * before they return: with a passphrase of work factor N, 2^N KiB. A call uses less than 100 KiB of
+ * stack.
  *
  * POINTERS. Each points to at least as many bytes as the length after it says, and may be null if
  * that is 0; no other pointer may be null. What a call writes to overlaps nothing else that the
@@ -53,27 +54,26 @@
  *
  * THREADS, SIGNALS, FORK. Any number of calls may run at the same time, on different readers,
  * writers and streams. The library takes no lock, and calls nothing but malloc, realloc, free,
- * memcpy, memmove and memset. So a signal handler may call age_c_block, age_c_end, age_c_seek,
- * age_c_size, age_c_feed, age_c_finish, age_c_seal_block and age_c_seal_end, on what the
- * interrupted code isn't using; it may not make the calls that allocate. After fork, both processes
- * may go on with their copy of a reader, but only one of them with a writer; glibc's malloc, and so
- * each call, works in the child of a process with threads too.
+ * memcpy, memmove and memset. So a signal handler may make any call but those that allocate, on
+ * what the interrupted code isn't using. After fork, both processes may go on with their copy of a
+ * reader, but only one of them with a writer; glibc's malloc, and so each call, works in the child
+ * of a process with threads too.
  *
  * ERRORS. A call returns 0, the number of a fault (AGE_C_NOT_AGE and so on; docs/FAULTS.md says
  * what each means), AGE_C_MORE or AGE_C_MISUSED. A call that doesn't return 0 has written no byte
- * of `out`, has set *written (or *text_len and *last_chunk) to 0, and has changed nothing else,
- * with one exception: a fault 17 to 22 of age_c_block, age_c_end, age_c_feed or age_c_finish is
- * kept in the reader (and then age_c_feed took *taken bytes all the same). Each later call of these
- * on it returns that fault again, unless it is misused. After an end returned 0, it returns 0 again
- * if it is given no bytes, and writes nothing; so does age_c_feed. Any other call of these returns
- * AGE_C_TRAILING, unless it is misused. age_c_seek ends both: the reader goes on as one that was
- * just begun, at that chunk.
+ * of `out`, has set *written and *taken (or *text_len and *last_chunk) to 0, and has changed
+ * nothing else, with one exception: a fault 17 to 22 of age_c_block, age_c_end, age_c_feed or
+ * age_c_finish is kept in the reader (and then age_c_feed took *taken bytes all the same). Each
+ * later call of these on it returns that fault again, unless it is misused. After an end returned
+ * 0, it returns 0 again if it is given no bytes, and writes nothing; so does age_c_feed. Any other
+ * call of these returns AGE_C_TRAILING, unless it is misused. age_c_seek ends both: the reader goes
+ * on as one that was just begun, at that chunk.
  *
  * MISUSE. A call returns AGE_C_MISUSED if, and only if, a length, a work factor or a chunk's number
  * isn't as the call's comment says, or it takes a block or chunk, or goes to one, and its reader or
  * writer can't be used: `chunk` is 2^48 or more, a reader's `state` is none of those listed below,
- * or a writer's isn't 1; or a stream's `held` is AGE_C_BLOCK or more. This is looked at before
- * anything else.
+ * or a writer's isn't 1; or a stream's `held` is AGE_C_BLOCK or more; or that of one that writes is
+ * more than AGE_C_CHUNK, or 0 though its `chunk` isn't. This is looked at before anything else.
  *
  * The library is for x86-64 Linux: glibc 2.34 or later, and a processor with the instructions of
  * x86-64-v2. Link libage_c.a, which holds all that it needs but the C library; or libage_c.so.
@@ -187,6 +187,14 @@ uint32_t age_c_open_shared(const uint8_t *front, size_t front_len, const uint8_t
                            size_t secret_len, const uint8_t *recipient, size_t recipient_len,
                            age_c_reader *reader);
 
+/* Whether it is worth opening the header that `front` begins with, after its first `seen` bytes
+ * weren't enough, by an answer of AGE_C_MORE here or of an age_c_open_..: 0 if so, else AGE_C_MORE.
+ * It is 0 as soon as the header and the nonce are there, and before that so rarely that a header
+ * that comes in small pieces takes a time that is linear in its length. (At the end of the file
+ * call an age_c_open_.. in any case, to learn what is wrong.) */
+AGE_C_MUST_CHECK
+uint32_t age_c_may_open(const uint8_t *front, size_t front_len, size_t seen);
+
 /* Opens the next block: block_len is AGE_C_BLOCK. `out` has room for AGE_C_CHUNK bytes or more;
  * *written of them are the text. */
 AGE_C_MUST_CHECK
@@ -263,6 +271,31 @@ uint32_t age_c_seal_block(age_c_writer *writer, const uint8_t *text, size_t text
 AGE_C_MUST_CHECK
 uint32_t age_c_seal_end(age_c_writer *writer, const uint8_t *rest, size_t rest_len, uint8_t *out,
                         size_t out_len, size_t *written);
+
+/* ---- writing in pieces ---- */
+
+/* A writer that takes its text in pieces of any length. Set `held` to 0, as `= {0}` does, and begin
+ * the file with &stream->writer. Nothing has to be freed. Never go on from a copy. */
+typedef struct age_c_write_stream {
+    age_c_writer writer;
+    uint32_t held; /* bytes of the chunk that is open: at most AGE_C_CHUNK */
+    uint32_t unused;
+    uint8_t chunk[AGE_C_CHUNK];
+} age_c_write_stream;
+
+/* Takes *taken bytes of the text from the front of the piece: up to the end of the chunk that is
+ * open, and one at least if the piece isn't empty. A chunk that is full is sealed once a byte comes
+ * after it, and its block is written. `out` has room for AGE_C_BLOCK bytes or more. After 0, call
+ * it again with what is left of the piece. */
+AGE_C_MUST_CHECK
+uint32_t age_c_feed_text(age_c_write_stream *stream, const uint8_t *piece, size_t piece_len,
+                         size_t *taken, uint8_t *out, size_t out_len, size_t *written);
+
+/* The text ended: seals the last chunk. `out` as above. What was written since
+ * age_c_seal_passphrase is then the file. */
+AGE_C_MUST_CHECK
+uint32_t age_c_finish_text(age_c_write_stream *stream, uint8_t *out, size_t out_len,
+                           size_t *written);
 
 /* ---- faults ---- */
 

@@ -18,6 +18,7 @@ static uint8_t bytes[AGE_C_FRONT_MAX]; /* what was read and isn't used yet */
 static size_t have;
 static uint8_t text[AGE_C_CHUNK];
 static size_t step = 65536;
+static age_c_stream stream;
 
 static int failed(const char *what) {
     fprintf(stderr, "decrypt: %s: %s\n", what, strerror(errno));
@@ -25,10 +26,10 @@ static int failed(const char *what) {
 }
 
 /* Prints a fault, with its chunk where it has one. */
-static int refused(uint32_t answer, const age_c_reader *reader) {
+static int refused(uint32_t answer) {
     fprintf(stderr, "decrypt: %u %s", answer, age_c_fault_name(answer));
     if (answer >= 17 && answer <= 22 && answer != 21)
-        fprintf(stderr, " chunk %llu", (unsigned long long)reader->fault_chunk);
+        fprintf(stderr, " chunk %llu", (unsigned long long)stream.reader.fault_chunk);
     fputc('\n', stderr);
     return 1;
 }
@@ -50,49 +51,53 @@ static int put(size_t len) {
 }
 
 /* Reads the header and opens it, and drops it from the bytes. */
-static uint32_t begin(const uint8_t *pass, size_t pass_len, age_c_reader *reader, int *got) {
+static uint32_t begin(const uint8_t *pass, size_t pass_len, int *got) {
     uint32_t answer = AGE_C_MORE;
-    while (answer == AGE_C_MORE && (*got = more()) == 1)
-        answer = age_c_open_passphrase(bytes, have, pass, pass_len, AGE_C_WORK_MAX, reader);
+    size_t seen = 0;
+    while (answer == AGE_C_MORE && (*got = more()) >= 0) {
+        if (*got == 0 || age_c_may_open(bytes, have, seen) == 0)
+            answer = age_c_open_passphrase(bytes, have, pass, pass_len, AGE_C_WORK_MAX,
+                                           &stream.reader);
+        if (*got == 0) break;
+        seen = have;
+    }
     if (answer == 0) {
-        have -= reader->payload_at;
-        memmove(bytes, bytes + reader->payload_at, have);
+        have -= stream.reader.payload_at;
+        memmove(bytes, bytes + stream.reader.payload_at, have);
     }
     return answer;
 }
 
-/* Opens all whole blocks among the bytes, and drops them. */
-static uint32_t open_blocks(age_c_reader *reader, int *unwritten) {
-    size_t at = 0, written;
+/* Gives the bytes to the stream, and writes their text. */
+static uint32_t feed(int *unwritten) {
+    size_t at = 0, taken, written;
     uint32_t answer = 0;
-    while (answer == 0 && !*unwritten && have - at >= AGE_C_BLOCK) {
-        answer = age_c_block(reader, bytes + at, AGE_C_BLOCK, text, sizeof text, &written);
+    while (answer == 0 && !*unwritten && at < have) {
+        answer = age_c_feed(&stream, bytes + at, have - at, &taken, text, sizeof text, &written);
         if (put(written) != 0) *unwritten = 1;
-        at += AGE_C_BLOCK;
+        at += taken;
     }
-    have -= at;
-    memmove(bytes, bytes + at, have);
+    have = 0;
     return answer;
 }
 
 static int decrypt(const uint8_t *pass, size_t pass_len) {
-    age_c_reader reader = {0};
     size_t written;
     int got = 1, unwritten = 0;
-    uint32_t answer = begin(pass, pass_len, &reader, &got);
+    uint32_t answer = begin(pass, pass_len, &got);
     if (got < 0) return failed("standard input");
-    if (answer != 0) return refused(answer, &reader);
+    if (answer != 0) return refused(answer);
     do {
-        answer = open_blocks(&reader, &unwritten);
+        answer = feed(&unwritten);
         if (answer == 0 && !unwritten) got = more();
     } while (answer == 0 && !unwritten && got == 1);
     if (got < 0) return failed("standard input");
     if (answer == 0 && !unwritten) {
-        answer = age_c_end(&reader, bytes, have, text, sizeof text, &written);
+        answer = age_c_finish(&stream, text, sizeof text, &written);
         if (put(written) != 0) unwritten = 1;
     }
     if (fflush(stdout) != 0 || unwritten) return failed("standard output");
-    return answer == 0 ? 0 : refused(answer, &reader);
+    return answer == 0 ? 0 : refused(answer);
 }
 
 int main(int argc, char **argv) {

@@ -9,6 +9,7 @@ import (
 	"sync"
 	"testing"
 	"testing/iotest"
+	"time"
 )
 
 var lengths = []int{0, 1, 65535, 65536, 65537, 131072, 200000}
@@ -242,6 +243,28 @@ func TestEarlyAnswer(t *testing.T) {
 	go func() { _, _ = sink.Write(sealed(t, []byte("text"))) }()
 	if _, err := Open(source, Passphrase([]byte("other"), MaxWork)); !errors.Is(err, ErrWrongKey) {
 		t.Error(err)
+	}
+}
+
+// long is the file of an empty text with a header of some 600,000 bytes.
+func long(t *testing.T) []byte {
+	version, rest, _ := bytes.Cut(sealed(t, nil), []byte("\n"))
+	stanzas := bytes.Repeat([]byte("-> --- ---\nAAAA\n"), 40_000)
+	return bytes.Join([][]byte{version, append(stanzas, rest...)}, []byte("\n"))
+}
+
+// A header that comes in small pieces isn't tried at each of them, and is answered once it is there.
+// A try takes some milliseconds, so that one at each piece would take many minutes.
+func TestSlowHeader(t *testing.T) {
+	slow := iotest.OneByteReader(bytes.NewReader(long(t)))
+	begun := time.Now()
+	var fault *Fault
+	_, err := Open(io.MultiReader(slow, iotest.ErrReader(io.ErrClosedPipe)), pw())
+	if !errors.As(err, &fault) || fault.Number != 9 {
+		t.Error(err)
+	}
+	if took := time.Since(begun); took > 20*time.Second {
+		t.Errorf("it takes %v", took)
 	}
 }
 

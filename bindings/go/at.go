@@ -26,11 +26,11 @@ func OpenAt(file io.ReaderAt, size int64, key Key) (*File, error) {
 		return nil, err
 	}
 	var text, last C.uint64_t
-	if answer := C.age_c_size(&head.reader, C.uint64_t(size), &text, &last); answer != 0 {
-		head.reader.fault_chunk = (C.uint64_t(size) - head.reader.payload_at) / C.AGE_C_BLOCK
-		return nil, blockFault(answer, &head.reader)
+	if answer := C.age_c_size(&head.stream.reader, C.uint64_t(size), &text, &last); answer != 0 {
+		head.stream.reader.fault_chunk = (C.uint64_t(size) - head.stream.reader.payload_at) / C.AGE_C_BLOCK
+		return nil, blockFault(answer, &head.stream.reader)
 	}
-	r := &places{file: file, begun: head.reader, end: size, kept: -1}
+	r := &places{file: file, begun: head.stream.reader, end: size, kept: -1}
 	r.size, r.last = int64(text), int64(last)
 	if _, err := r.open(r.last, head.chunk); err != nil {
 		return nil, err

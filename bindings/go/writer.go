@@ -15,8 +15,7 @@ import (
 // use it.
 type Writer struct {
 	out    io.Writer
-	writer C.age_c_writer
-	text   []byte // what isn't sealed yet
+	stream C.age_c_write_stream
 	block  []byte // where a block goes
 	err    error  // why nothing more can be written
 }
@@ -26,14 +25,15 @@ var errClosed = errors.New("agefile: the file is closed")
 // Create begins an age file under a passphrase. The work factor, 1 to MaxWork, says what a reader
 // has to spend: 2^work KiB of memory. 18 is usual.
 func Create(out io.Writer, passphrase []byte, factor int) (*Writer, error) {
-	w := &Writer{out: out, block: make([]byte, C.AGE_C_BLOCK), text: make([]byte, 0, C.AGE_C_CHUNK)}
+	w := &Writer{out: out, block: make([]byte, C.AGE_C_BLOCK)}
 	random := make([]byte, 48)
 	if _, err := rand.Read(random); err != nil {
 		return nil, err
 	}
 	var written C.size_t
 	answer := C.age_c_seal_passphrase(place(passphrase), length(passphrase), work(factor),
-		place(random), length(random), place(w.block), length(w.block), &written, &w.writer)
+		place(random), length(random), place(w.block), length(w.block), &written,
+		&w.stream.writer)
 	if answer != 0 {
 		return nil, &Fault{Number: uint32(answer), Chunk: -1}
 	}
@@ -50,14 +50,14 @@ func (w *Writer) put(n int) error {
 	return err
 }
 
-// seal seals a chunk that isn't the last.
-func (w *Writer) seal(text []byte) error {
-	var written C.size_t
-	answer := C.age_c_seal_block(&w.writer, place(text), length(text), place(w.block),
-		length(w.block), &written)
+// wrote passes on what a call wrote.
+func (w *Writer) wrote(answer C.uint32_t, written C.size_t) error {
 	if answer != 0 {
 		w.err = &Fault{Number: uint32(answer), Chunk: -1}
 		return w.err
+	}
+	if written == 0 {
+		return nil
 	}
 	return w.put(int(written))
 }
@@ -69,22 +69,14 @@ func (w *Writer) Write(text []byte) (int, error) {
 	}
 	done := 0
 	for done < len(text) {
-		// a chunk is sealed once a byte follows it: that one isn't the last
-		if len(w.text) == C.AGE_C_CHUNK {
-			if err := w.seal(w.text); err != nil {
-				return done, err
-			}
-			w.text = w.text[:0]
+		var taken, written C.size_t
+		left := text[done:]
+		answer := C.age_c_feed_text(&w.stream, place(left), length(left), &taken, place(w.block),
+			length(w.block), &written)
+		if err := w.wrote(answer, written); err != nil {
+			return done, err
 		}
-		if len(w.text) == 0 && len(text)-done > C.AGE_C_CHUNK {
-			if err := w.seal(text[done : done+C.AGE_C_CHUNK]); err != nil {
-				return done, err
-			}
-			done += C.AGE_C_CHUNK
-			continue
-		}
-		n := copy(w.text[len(w.text):C.AGE_C_CHUNK], text[done:])
-		w.text, done = w.text[:len(w.text)+n], done+n
+		done += int(taken)
 	}
 	return done, nil
 }
@@ -95,13 +87,8 @@ func (w *Writer) Close() error {
 		return w.err
 	}
 	var written C.size_t
-	answer := C.age_c_seal_end(&w.writer, place(w.text), length(w.text), place(w.block),
-		length(w.block), &written)
-	if answer != 0 {
-		w.err = &Fault{Number: uint32(answer), Chunk: -1}
-		return w.err
-	}
-	err := w.put(int(written))
+	answer := C.age_c_finish_text(&w.stream, place(w.block), length(w.block), &written)
+	err := w.wrote(answer, written)
 	if err == nil {
 		w.err = errClosed
 	}

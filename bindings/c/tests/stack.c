@@ -13,13 +13,14 @@
 
 #define ROOM ((size_t)1 << 20)
 #define MOST ((size_t)100 << 10)
-#define CALLS 9
+#define CALLS 13
 
 static uint8_t file[AGE_C_FRONT_MAX], out[AGE_C_BLOCK], key[32], noise[48];
 static size_t len, written, taken;
 static age_c_reader reader;
 static age_c_writer writer;
-static age_c_stream stream;
+static age_c_stream stream, empty;
+static age_c_write_stream write_stream;
 
 static volatile uint32_t answer; /* (what it is doesn't matter here) */
 
@@ -34,6 +35,10 @@ static void *call(void *which) {
     case 5: answer = age_c_seal_passphrase(pass, sizeof pass, 1, noise, sizeof noise, out, sizeof out, &written, &writer); break;
     case 6: answer = age_c_seal_block(&writer, file, AGE_C_CHUNK, out, sizeof out, &written); break;
     case 7: answer = age_c_feed(&stream, file, 9, &taken, out, sizeof out, &written); break;
+    case 8: answer = age_c_feed(&empty, file, AGE_C_BLOCK, &taken, out, sizeof out, &written); break;
+    case 9: answer = age_c_feed_text(&write_stream, file, 9, &taken, out, sizeof out, &written); break;
+    case 10: answer = age_c_finish_text(&write_stream, out, sizeof out, &written); break;
+    case 11: answer = age_c_may_open(file, len, 1); break;
     default: answer = age_c_finish(&stream, out, sizeof out, &written); break;
     }
     return NULL;
@@ -64,11 +69,14 @@ int main(int argc, char **argv) {
     memset(key, 7, sizeof key);
     memset(&reader, 0, sizeof reader);
     for (int which = 0; which < CALLS; which++) {
-        /* a reader, a writer and a stream, one byte before the end of its block, that can be used, whatever came before */
+        /* a reader, a writer, an empty stream and ones whose next byte fills or seals, that can be used, whatever came before */
         reader.state = 1;
         writer.state = 1;
         stream.reader.state = 1;
         stream.held = AGE_C_BLOCK - 1;
+        empty.reader.state = 1;
+        write_stream.writer.state = 1;
+        write_stream.held = AGE_C_CHUNK;
         size_t bytes = used(which);
         printf("call %d: %zu bytes of stack\n", which, bytes);
         failed += bytes > MOST;

@@ -1,5 +1,6 @@
 /* Reads files in pieces of any length, whole ones and ones that are cut, lengthened and damaged. What is expected is the text that
- * was put in, and what age_c_block and age_c_end say of the same file.
+ * was put in, and what age_c_block and age_c_end say of the same file. Writes files in pieces of any length too, which have to be
+ * those that age_c_seal_block and age_c_seal_end make. Counts how much work a header is that comes byte by byte.
  *
  * usage: stream [TURNS]
  */
@@ -11,7 +12,8 @@
 
 enum { LONGEST = 3 * 65536 + 9, ROOM = LONGEST + 1024 };
 
-static uint8_t text[LONGEST], file[ROOM], out[ROOM + AGE_C_CHUNK], whole[ROOM + AGE_C_CHUNK];
+static uint8_t random_bytes[48];
+static uint8_t text[LONGEST], file[ROOM], made[ROOM + AGE_C_BLOCK], out[ROOM + AGE_C_CHUNK], whole[ROOM + AGE_C_CHUNK];
 static size_t text_len, file_len;
 static int passed, failed;
 static uint64_t seed = 1;
@@ -26,14 +28,18 @@ static void see(int holds, const char *what) {
     else if (failed++ < 20) printf("a text of %zu bytes: %s\n", text_len, what);
 }
 
+static size_t begin(uint8_t *to, age_c_writer *writer) {
+    size_t written;
+    if (age_c_seal_passphrase((const uint8_t *)"pw", 2, 1, random_bytes, sizeof random_bytes, to, ROOM, &written, writer) != 0) exit(2);
+    return written;
+}
+
 static void seal(void) {
     static uint8_t chunk[AGE_C_BLOCK];
-    uint8_t random[48];
     age_c_writer writer;
     size_t at = 0, written;
-    for (size_t i = 0; i < sizeof random; i++) random[i] = (uint8_t)next();
-    if (age_c_seal_passphrase((const uint8_t *)"pw", 2, 1, random, sizeof random, file, ROOM, &written, &writer) != 0) exit(2);
-    file_len = written;
+    for (size_t i = 0; i < sizeof random_bytes; i++) random_bytes[i] = (uint8_t)next();
+    file_len = begin(file, &writer);
     for (; text_len - at > AGE_C_CHUNK; at += AGE_C_CHUNK) {
         if (age_c_seal_block(&writer, text + at, AGE_C_CHUNK, chunk, sizeof chunk, &written) != 0) exit(2);
         memcpy(file + file_len, chunk, written);
@@ -150,6 +156,101 @@ static void see_misuse(const age_c_reader *begun) {
     }
 }
 
+/* writes the same file in pieces; each is in memory of exactly its length */
+static void see_text(void) {
+    static age_c_write_stream stream;
+    int kind = (int)(next() % 4);
+    size_t at = 0, taken, written;
+    memset(&stream, 0, sizeof stream);
+    size_t len = begin(made, &stream.writer);
+    while (at < text_len) {
+        size_t size = piece_of(kind, text_len - at), used = 0;
+        uint8_t *piece = malloc(size ? size : 1);
+        if (piece == NULL) exit(2);
+        memcpy(piece, text + at, size);
+        if (next() % 8 == 0) {
+            taken = written = 77;
+            see(age_c_feed_text(&stream, NULL, 0, &taken, made + len, AGE_C_BLOCK, &written) == 0 && taken == 0 && written == 0, "an empty piece");
+        }
+        while (used < size) {
+            uint32_t answer = age_c_feed_text(&stream, piece + used, size - used, &taken, made + len, AGE_C_BLOCK, &written);
+            if (answer != 0 || taken == 0 || taken > size - used) see(0, "some bytes are taken of a text"), exit(1);
+            see(written == 0 || written == AGE_C_BLOCK, "whole blocks, or none");
+            see(stream.held > 0 && (used + taken == size || stream.held == AGE_C_CHUNK), "all of it, up to the end of a chunk");
+            used += taken;
+            len += written;
+        }
+        free(piece);
+        at += size;
+    }
+    see(age_c_finish_text(&stream, made + len, AGE_C_BLOCK, &written) == 0, "the end of a text");
+    len += written;
+    see(len == file_len && memcmp(made, file, len) == 0, "the file of a text that came in pieces");
+    written = taken = 77;
+    see(age_c_finish_text(&stream, made, AGE_C_BLOCK, &written) == AGE_C_MISUSED && written == 0, "an end after the end");
+    see(age_c_feed_text(&stream, text, 1, &taken, made, AGE_C_BLOCK, &written) == AGE_C_MISUSED && taken == 0, "a text after the end");
+}
+
+static void see_text_misuse(void) {
+    static age_c_write_stream stream, before;
+    for (int turn = 0; turn < 200; turn++) {
+        uint32_t helds[] = {0, 1, AGE_C_CHUNK - 1, AGE_C_CHUNK, AGE_C_CHUNK + 1, UINT32_MAX};
+        uint64_t limit = UINT64_C(1) << 48, chunks[] = {0, 1, 5, limit - 1, limit, UINT64_MAX};
+        memset(&stream, 9, sizeof stream);
+        stream.writer.state = (uint32_t)(next() % 4);
+        stream.writer.chunk = chunks[next() % 6];
+        stream.held = helds[next() % 6];
+        before = stream;
+        uint64_t chunk = stream.writer.chunk;
+        size_t room = AGE_C_BLOCK - next() % 2, size = next() % 3, taken = 77, written = 77;
+        int is_end = (int)(next() % 2);
+        int fits = stream.writer.state == 1 && chunk < limit && stream.held <= AGE_C_CHUNK && (stream.held > 0 || chunk == 0) && room >= AGE_C_BLOCK;
+        int many = !is_end && size > 0 && stream.held == AGE_C_CHUNK && chunk == limit - 1;
+        uint32_t answer = is_end ? age_c_finish_text(&stream, made, room, &written)
+                                 : age_c_feed_text(&stream, text, size, &taken, made, room, &written);
+        see(answer == (!fits ? AGE_C_MISUSED : many ? AGE_C_TOO_MANY_CHUNKS : 0), "misuse of a text");
+        if (answer != 0) see(memcmp(&stream, &before, sizeof stream) == 0 && written == 0 && (is_end || taken == 0), "a refusal changes nothing");
+    }
+}
+
+/* A header that comes byte by byte: it is worth a try as soon as its last byte and the nonce are there, and all tries together look at
+ * not much more bytes than it has. */
+static void see_slow_header(const uint8_t *front, size_t len) {
+    size_t work = 0, have = 1;
+    uint32_t answer = AGE_C_MORE;
+    for (; answer == AGE_C_MORE && have <= len; have++) {
+        if (age_c_may_open(front, have, have - 1) != 0) continue;
+        age_c_reader reader;
+        work += have;
+        answer = age_c_open_key(front, have, (const uint8_t *)"sixteen bytes...", 16, &reader);
+    }
+    see(answer == AGE_C_MAC_MISMATCH && have == len + 1, "a header is answered once it is there");
+    see(work <= 2 * len + 70000, "a header that comes slowly is little work");
+}
+
+static void see_slow_headers(void) {
+    static uint8_t front[1100000];
+    static const char version[] = "age-encryption.org/v1\n", end[] = "--- AAAAAAAAAAAAAAAAAAAAAAAAAAAAAAAAAAAAAAAAAAA\nsixteen bytes...";
+    static const char *stanzas[] = {"-> a\n\n", "-> a --- AAAAAAAAAAAAAAAAAAAAAAAAAAAAAAAAAAAAAAAAAAA\nAAAA\n", "-> --- ---\n\n"};
+    for (size_t i = 0; i < sizeof stanzas / sizeof *stanzas; i++) {
+        for (size_t most = 20; most <= 1048000; most = most == 20 ? 3000 : most * 18) {
+            size_t len = 0;
+            memcpy(front, version, sizeof version - 1);
+            len += sizeof version - 1;
+            do {
+                memcpy(front + len, stanzas[i], strlen(stanzas[i]));
+                len += strlen(stanzas[i]);
+            } while (len < most);
+            memcpy(front + len, end, sizeof end - 1);
+            see_slow_header(front, len + sizeof end - 1);
+        }
+    }
+    memset(front, 'a', sizeof front);
+    see(age_c_may_open(NULL, 0, 0) == AGE_C_MORE && age_c_may_open(front, 1, 0) == 0 && age_c_may_open(front, 1, 1) == AGE_C_MORE, "the first try");
+    see(age_c_may_open(front, AGE_C_FRONT_MAX, AGE_C_FRONT_MAX - 1) == 0, "as many bytes as there can be");
+    see(age_c_may_open(front, AGE_C_FRONT_MAX - 1, AGE_C_FRONT_MAX - 2) == AGE_C_MORE, "one less");
+}
+
 int main(int argc, char **argv) {
     static const size_t lengths[] = {0, 1, 65535, 65536, 65537, 131072, 131073, LONGEST};
     int turns = argc == 2 ? atoi(argv[1]) : 60;
@@ -169,10 +270,13 @@ int main(int argc, char **argv) {
             file[at] ^= 4;
             memset(file + file_len, 5, 20);
             see_file(&begun, file_len + 1 + next() % 20, "a file that goes on");
+            see_text();
             see_seek(&begun, next() % (text_len ? (text_len - 1) / AGE_C_CHUNK + 1 : 1));
         }
         see_misuse(&begun);
     }
+    see_text_misuse();
+    see_slow_headers();
     printf("%d passed, %d failed\n", passed, failed);
     return failed != 0;
 }

@@ -42,12 +42,13 @@ class AgeFile(AgeReader):
         if answer != 0:
             raise fault_of(answer)
         self._before, self._skip = chunk * CHUNK, 0
-        self._at = self._len = self._have = 0
+        self._at = self._len = self._stream.held = 0
+        self._have = None
         self._rest.clear()
         self._fault, self._ended = None, False
 
     def _take(self, room: memoryview) -> int | None:
-        self._file.seek(self._payload_at + self._before // CHUNK * BLOCK + self._have)
+        self._file.seek(self._payload_at + self._before // CHUNK * BLOCK + self._stream.held)
         return super()._take(room)
 
     def _next(self) -> bool | None:

@@ -9,8 +9,8 @@ from typing import Any
 
 from . import _keys
 from ._calls import OneCall
-from ._library import BLOCK, CHUNK, FRONT_MAX, MISUSED, MORE, PLACED, AgeError, Bytes, C, Opened, ReaderState, WrongKey, fault_of, opening, \
-    raw, secret
+from ._library import BLOCK, CHUNK, FRONT_MAX, MISUSED, MORE, PLACED, AgeError, Bytes, C, Opened, ReaderState, StreamState, WrongKey, \
+    fault_of, opening, raw, secret
 
 
 def see_one(*keys: Any) -> None:
@@ -43,15 +43,16 @@ class AgeReader(io.RawIOBase):
         super().__init__()
         self._file, self._owned, self._calls = file, owned, OneCall()
         self._into = getattr(file, "readinto", None)
-        self._state = ReaderState()
-        self._block, self._text, self._written = Bytes(BLOCK), Bytes(CHUNK), ctypes.c_size_t()
+        self._stream = StreamState()
+        self._state: ReaderState = self._stream.reader  # (it is a part of the stream, not a copy)
+        self._piece, self._taken = Bytes(BLOCK), ctypes.c_size_t()
+        self._have: int | None = None  # bytes of a piece that was read and isn't given yet
+        self._text, self._written = Bytes(CHUNK), ctypes.c_size_t()
         self._at = self._len = self._before = 0
-        self._have = 0  # bytes of the next block that were read
         self._back_to: int | None = None  # where a seek began that failed
         self._fault: AgeError | None = None
         self._ended = False
         self._rest = bytearray()  # what was read with the header and isn't used yet
-        self._seen = 0  # as much of the header as was looked at
         self._payload_at = 0
         self._begun: bytes | None = None
         self._by_key = file_key is not None
@@ -66,8 +67,11 @@ class AgeReader(io.RawIOBase):
             piece = self._some(min(CHUNK, FRONT_MAX - len(self._rest)))
             if piece is None:
                 return False
+            seen = len(self._rest)
             self._rest += piece
-            answer = self._opened(self._rest, self._state) if self._may_open(piece) else MORE
+            if piece and not self._may_open(seen):
+                continue
+            answer = self._opened(self._rest, self._state)
             if answer == 0:
                 del self._rest[:self._state.payload_at]
                 self._opened = None
@@ -82,14 +86,11 @@ class AgeReader(io.RawIOBase):
         read1 = getattr(self._file, "read1", None)
         return (read1(most) if read1 is not None else None) or self._file.read(most)
 
-    def _may_open(self, piece: Any) -> bool:
-        """Whether the header may end with this piece: in one that is short or seems to end, and else once in a sixteenth of its length, so
-        that a long one that comes in small pieces costs linear time."""
-        have, seen = len(self._rest), self._seen
-        if piece and have >= 4_096 and have - seen < have >> 4 and self._rest.find(b"\n---", max(0, have - len(piece) - 128)) < 0:
-            return False
-        self._seen = have
-        return True
+    def _may_open(self, seen: int) -> bool:
+        """Whether the header is worth a try, now that there are more than so many bytes."""
+        size = len(self._rest)
+        answer: int = C.age_c_may_open((ctypes.c_uint8 * size).from_buffer(self._rest), size, seen)
+        return answer == 0
 
     def _mark(self) -> None:
         """Keeps the place after the header, if the file can be sought in."""
@@ -98,22 +99,16 @@ class AgeReader(io.RawIOBase):
 
     # ---- blocks
 
-    def _fill(self) -> bool:
-        """Reads what is missing of a block, up to the end of the file. What came before a failed read is kept. False if the file has no
-        more bytes yet."""
-        if self._rest:
-            taken = self._rest[:BLOCK - self._have]
-            self._block.view[self._have:self._have + len(taken)] = taken
-            self._have += len(taken)
-            del self._rest[:len(taken)]
-        while self._have < BLOCK:
-            count = self._take(self._block.view[self._have:])
-            if count is None:
-                return False
-            if count == 0:
-                break
-            self._have += count
-        return True
+    def _more(self) -> int | None:
+        """Reads a piece: up to the end of the block that is open, so that none is held longer than it has to be. 0 at the end, and None if
+        the file has no more bytes yet."""
+        room = self._piece.view[:BLOCK - self._stream.held]
+        if not self._rest:
+            return self._take(room)
+        piece = self._rest[:len(room)]
+        room[:len(piece)] = piece
+        del self._rest[:len(piece)]
+        return len(piece)
 
     def _take(self, room: memoryview) -> int | None:
         """Reads into that room."""
@@ -134,19 +129,29 @@ class AgeReader(io.RawIOBase):
             return False
         self._before += self._len
         self._at = self._len = 0
-        if not (self._begin() and self._fill()):
+        if not self._begin():
             return None
-        have, self._have = self._have, 0
+        while self._len == 0 and not self._ended:
+            if self._have is None:
+                self._have = self._more()
+            if self._have is None:
+                return None
+            self._feed(self._have)
+        return True
+
+    def _feed(self, count: int) -> None:
+        """Gives the stream the piece, or the end, and takes the text."""
         self._fault = AgeError(MISUSED)  # so that what an exception interrupts isn't read on
-        call = C.age_c_block if have == BLOCK else C.age_c_end
-        answer = call(self._state, self._block.place, have, *self._text.given, self._written)
+        self._have = None
+        if count > 0:
+            answer = C.age_c_feed(self._stream, self._piece.place, count, self._taken, *self._text.given, self._written)
+        else:
+            answer = C.age_c_finish(self._stream, *self._text.given, self._written)
         if answer != 0:
             self._fault = fault_of(answer, self._state.fault_chunk if answer in PLACED else None)
             raise type(self._fault)(*self._fault.args)
-        self._ended = have < BLOCK
-        self._len = self._written.value
+        self._len, self._ended = self._written.value, count == 0
         self._fault = None
-        return True
 
     # ---- what a raw file has
 
@@ -247,7 +252,8 @@ class AgeReader(io.RawIOBase):
         self._file.seek(self._payload_at)
         ctypes.memmove(ctypes.byref(self._state), self._begun, len(self._begun))
         self._rest = bytearray()
-        self._at = self._len = self._before = self._have = 0
+        self._at = self._len = self._before = self._stream.held = 0
+        self._have = None
         self._fault, self._ended = None, False
 
     def _check_open(self) -> None:

@@ -8,19 +8,19 @@ from types import TracebackType
 from typing import Any
 
 from ._calls import OneCall
-from ._library import BLOCK, CHUNK, SEAL_FRONT, Bytes, C, WriterState, fault_of, secret
+from ._library import BLOCK, CHUNK, SEAL_FRONT, Bytes, C, WriteStreamState, fault_of, secret
 
-Begun = tuple[WriterState, memoryview]
+Begun = tuple[WriteStreamState, memoryview]
 
 
 def begun(passphrase: Any, work: int) -> Begun:
-    """A writer's state, and what stands before the payload."""
-    state, out, written = WriterState(), Bytes(SEAL_FRONT), ctypes.c_size_t()
+    """A stream, and what stands before the payload."""
+    stream, out, written = WriteStreamState(), Bytes(SEAL_FRONT), ctypes.c_size_t()
     held, random = Bytes(secret(passphrase)), Bytes(os.urandom(48))
-    answer = C.age_c_seal_passphrase(*held.given, work, *random.given, *out.given, written, state)
+    answer = C.age_c_seal_passphrase(*held.given, work, *random.given, *out.given, written, stream.writer)
     if answer != 0:
         raise fault_of(answer)
-    return state, out.view[:written.value]
+    return stream, out.view[:written.value]
 
 
 class AgeWriter(io.BufferedIOBase):
@@ -29,8 +29,8 @@ class AgeWriter(io.BufferedIOBase):
     def __init__(self, file: Any, begun: Begun, owned: bool = False) -> None:
         super().__init__()
         self._file, self._owned, self._calls = file, owned, OneCall()
-        self._state, front = begun
-        self._text, self._count = bytearray(), 0
+        self._stream, front = begun
+        self._count, self._taken = 0, ctypes.c_size_t()
         self._out, self._written = Bytes(BLOCK), ctypes.c_size_t()
         self._failed = self._over = False
         self._write(front)
@@ -45,8 +45,8 @@ class AgeWriter(io.BufferedIOBase):
             raise ValueError("a block couldn't be written: the file isn't whole")
         self._failed = True
 
-    def _seal(self, call: Any, text: bytes | bytearray) -> None:
-        answer = call(self._state, *Bytes(text).given, *self._out.given, self._written)
+    def _put(self, answer: int) -> None:
+        """Passes on what a call wrote."""
         if answer != 0:
             raise fault_of(answer)
         self._write(self._out.view[:self._written.value])
@@ -61,13 +61,12 @@ class AgeWriter(io.BufferedIOBase):
         if self.closed:
             raise ValueError("the file is closed")
         self._change()
-        self._text += data
         self._count += len(data)
-        at = 0
-        while len(self._text) - at > CHUNK:  # a byte more than a chunk: that one isn't the last
-            self._seal(C.age_c_seal_block, self._text[at:at + CHUNK])
-            at += CHUNK
-        del self._text[:at]
+        left = data
+        while left:
+            piece = Bytes(left[:CHUNK])
+            self._put(C.age_c_feed_text(self._stream, *piece.given, self._taken, *self._out.given, self._written))
+            left = left[self._taken.value:]
         self._failed = False
         return len(data)
 
@@ -92,7 +91,7 @@ class AgeWriter(io.BufferedIOBase):
             return
         try:
             self._change()
-            self._seal(C.age_c_seal_end, self._text)
+            self._put(C.age_c_finish_text(self._stream, *self._out.given, self._written))
         finally:
             self._leave()
 

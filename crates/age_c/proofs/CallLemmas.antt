@@ -23,7 +23,7 @@ start_piece : (a : ℕ) (b : List ℕ) (ended late : Bool) (piece : List ℕ)
 start_piece a b true late piece = refl
 start_piece a b false late piece = refl
 
-start_given : (is_end : Bool) (bytes : List ℕ) (s : Segment)
+pub start_given : (is_end : Bool) (bytes : List ℕ) (s : Segment)
     → (if is_end then after_end bytes s else after_block bytes s).start ≡ s.start
 start_given true bytes s = start_piece s.start s.bytes s.ended s.late bytes
 start_given false bytes s = start_piece s.start s.bytes s.ended s.late bytes

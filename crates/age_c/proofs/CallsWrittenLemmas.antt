@@ -22,7 +22,7 @@ use Rattle.age_c.specs.declared.reader.Reader.{Reader}
 use Rattle.age_c.specs.Calls.{answer_of, misused, reader_status}
 use Rattle.age_c.specs.Readers.{IsAt, SameFile, reader_text, Call, IsCall, AreCalls, last_reader}
 use Rattle.age_c.specs.Readers.{segment_from, texts_of, after_block, after_end}
-use Rattle.age_c.specs.CallsWritten.{given_by, AllAnswer, AreCallsAuthentic, AreRight, AreUndamaged}
+use Rattle.age_c.specs.CallsWritten.{given_by, AllAnswer, AreCallsAuthentic, AreRight, AreUndamaged, IsTextRight}
 use Rattle.age_c.specs.CallsWritten.{AreParts, CallsAreWritten, GiveBlocks, GivesWrong, IsRefusedAt}
 use Rattle.age_c.specs.CallsWritten.{Part, PartsAreWritten}
 use Rattle.age_c.specs.inner.Keys.{key_of_reader as key_of, opens, seals}
@@ -78,9 +78,15 @@ rest_prefix n text more p =
       | inr fits ↦ (p.0, rest_of n text (omega (arith, fits)) more p.0 p.1)
     ]
 
-module _ (r : Reader) (start : ℕ) (h : IsAt r (fresh start)) (limit : start < chunk_limit)
-    (calls : List Call) (are : AreCalls r calls)
-    (text : List ℕ) (few : chunk_count chunk_length text ≤ chunk_limit) where
+-- what any calls do to the text, of blocks or of pieces, by what is known of each call
+module _ (r : Reader) (start : ℕ) (limit : start < chunk_limit) (calls : List Call) (text : List ℕ)
+    (few : chunk_count chunk_length text ≤ chunk_limit)
+    (start_is : (given_by start calls).start ≡ start)
+    (text_is : reader_text r (given_by start calls) ≡ reader_text r (fresh start) ++ texts_of calls)
+    (known : AllByRecursion (IsKnown (key_of r) (given_by start calls)) calls)
+    (ended : (before : List Call) (last : Call) → calls ≡ before ++ last ∷ [] → last.is_end ≡ true
+    → last.answer ≡ 0
+    → (outcome (opens (key_of r)) chunk_length (given_by start calls)).status ≡ Done) where
   abbrev k : List ℕ
   k = key_of r
 
@@ -93,9 +99,6 @@ module _ (r : Reader) (start : ℕ) (h : IsAt r (fresh start)) (limit : start < 
   abbrev there : List ℕ
   there = drop (start * chunk_length) text
 
-  after : After r (fresh start) s (texts_of calls) (last_reader r calls)
-  after = all_calls calls r (fresh start) h are
-
   abbrev Right : Type 0
   Right = IsRight (seals k) (opens k) chunk_length text (IsRest (seals k) (opens k) chunk_length text s) s
       (take (s.start * chunk_length) text ++ reader_text r s) status
@@ -104,7 +107,7 @@ module _ (r : Reader) (start : ℕ) (h : IsAt r (fresh start)) (limit : start < 
   right authentic =
       let positive : 0 < chunk_length = omega arith in
       released_is_written (seals k) (opens k) (box_valid k) chunk_length positive s text few
-      (omega (arith, after.start, limit)) authentic
+      (omega (arith, start_is, limit)) authentic
 
   -- what was released, after the text before that chunk
   written : take (s.start * chunk_length) text ++ reader_text r s
@@ -113,9 +116,9 @@ module _ (r : Reader) (start : ℕ) (h : IsAt r (fresh start)) (limit : start < 
       let nothing : reader_text r (fresh start) ≡ [] =
       ap (λ (o : Outcome). flat_map (λ (t : List ℕ). t) o.texts)
       (fresh_outcome (opens k) chunk_length start) in
-      ap (λ (n : ℕ). take (n * chunk_length) text ++ reader_text r s) after.start
+      ap (λ (n : ℕ). take (n * chunk_length) text ++ reader_text r s) start_is
       ∙ ap (λ (t : List ℕ). take (start * chunk_length) text ++ t)
-      (after.text_is ∙ ap (λ (t : List ℕ). t ++ texts_of calls) nothing)
+      (text_is ∙ ap (λ (t : List ℕ). t ++ texts_of calls) nothing)
 
   begins : AreCallsAuthentic r text start calls → IsPrefixOf (texts_of calls) there
   begins authentic =
@@ -127,26 +130,14 @@ module _ (r : Reader) (start : ℕ) (h : IsAt r (fresh start)) (limit : start < 
       → (texts_of calls ≡ there) × (start * chunk_length ≤ length text)
   all_there right done =
       let within : start * chunk_length ≤ length text =
-      subst (λ (n : ℕ). n * chunk_length ≤ length text) after.start (right.within done) in
+      subst (λ (n : ℕ). n * chunk_length ≤ length text) start_is (right.within done) in
       (rest_all (start * chunk_length) text (texts_of calls) (sym written ∙ right.done done) within, within)
 
   all_written : AreCallsAuthentic r text start calls → (before : List Call) (last : Call)
       → calls ≡ before ++ last ∷ [] → last.is_end ≡ true → last.answer ≡ 0
       → (texts_of calls ≡ there) × (start * chunk_length ≤ length text)
   all_written authentic before last parts is_end zero =
-      let end = last_is before last r (subst (λ (cs : List Call). AreCalls r cs) parts are) in
-      let reader : last_reader r calls ≡ last.after = ap (last_reader r) parts ∙ end.0 in
-      let three : (last_reader r calls).state ≡ 3 = ap (λ (r : Reader). r.state) reader
-      ∙ done_after (last_reader r before) last end.1 is_end zero in
-      all_there (right authentic)
-      (subst (λ (k : List ℕ). (outcome (opens k) chunk_length s).status ≡ Done) after.key
-      (done_status (last_reader r calls) s after.at three))
-
-  fresh_stands : StandsAt k r (fresh start)
-  fresh_stands = record { key = refl; at = h }
-
-  known : AllByRecursion (IsKnown k s) calls
-  known = all_known k calls r (fresh start) fresh_stands are
+      all_there (right authentic) (ended before last parts is_end zero)
 
   -- ---- the undamaged payload
 
@@ -164,9 +155,9 @@ module _ (r : Reader) (start : ℕ) (h : IsAt r (fresh start)) (limit : start < 
   undamaged closed below are_whole =
       let positive : 0 < chunk_length = omega arith in
       let rest : IsRest (seals k) (opens k) chunk_length text s = record {
-        below = omega (arith, after.start, below);
+        below = omega (arith, start_is, below);
         bytes = ap (λ (s : Segment). s.bytes) are_whole
-            ∙ sym (ap (λ (n : ℕ). drop (n * block_length) (payload (seals k) chunk_length text)) after.start);
+            ∙ sym (ap (λ (n : ℕ). drop (n * block_length) (payload (seals k) chunk_length text)) start_is);
         ended = ap (λ (s : Segment). s.ended) are_whole;
         timely = ap (λ (s : Segment). s.late) are_whole;
       } in
@@ -199,6 +190,48 @@ module _ (r : Reader) (start : ℕ) (h : IsAt r (fresh start)) (limit : start < 
       (is.fault (record { kind = TooManyChunks; chunk = c.after.fault_chunk })
       (ap (λ (n : ℕ). reader_status n c.after.fault_chunk) state))
 
+  pub text_right : IsTextRight r text start calls
+  text_right = record {
+    prefix = begins;
+    done = all_written;
+    whole = undamaged;
+    damaged = λ authentic. all_map (IsKnown k s) _ (damaged_at authentic) calls known;
+    few = λ authentic. all_map (IsKnown k s) _ (never_many authentic) calls known;
+  }
+
+-- calls of blocks
+module _ (r : Reader) (start : ℕ) (h : IsAt r (fresh start)) (limit : start < chunk_limit)
+    (calls : List Call) (are : AreCalls r calls)
+    (text : List ℕ) (few : chunk_count chunk_length text ≤ chunk_limit) where
+  abbrev key : List ℕ
+  key = key_of r
+
+  abbrev given : Segment
+  given = given_by start calls
+
+  after : After r (fresh start) given (texts_of calls) (last_reader r calls)
+  after = all_calls calls r (fresh start) h are
+
+  fresh_stands : StandsAt key r (fresh start)
+  fresh_stands = record { key = refl; at = h }
+
+  known_calls : AllByRecursion (IsKnown key given) calls
+  known_calls = all_known key calls r (fresh start) fresh_stands are
+
+  ended_calls : (before : List Call) (last : Call) → calls ≡ before ++ last ∷ [] → last.is_end ≡ true
+      → last.answer ≡ 0 → (outcome (opens key) chunk_length given).status ≡ Done
+  ended_calls before last parts is_end zero =
+      let end = last_is before last r (subst (λ (cs : List Call). AreCalls r cs) parts are) in
+      let reader : last_reader r calls ≡ last.after = ap (last_reader r) parts ∙ end.0 in
+      let three : (last_reader r calls).state ≡ 3 = ap (λ (r : Reader). r.state) reader
+      ∙ done_after (last_reader r before) last end.1 is_end zero in
+      subst (λ (k : List ℕ). (outcome (opens k) chunk_length given).status ≡ Done) after.key
+      (done_status (last_reader r calls) given after.at three)
+
+  text_right_of_blocks : IsTextRight r text start calls
+  text_right_of_blocks =
+      text_right r start limit calls text few after.start after.text_is known_calls ended_calls
+
   -- ---- the first wrong block
 
   module _ (authentic : AreCallsAuthentic r text start calls) (i : ℕ) (before : List Call) (wrong : Call)
@@ -212,7 +245,7 @@ module _ (r : Reader) (start : ℕ) (h : IsAt r (fresh start)) (limit : start < 
 
     begun : IsOpen r text few r (fresh start) start
     begun =
-        let is = fresh_outcome (opens k) chunk_length start in
+        let is = fresh_outcome (opens key) chunk_length start in
         record {
           stands = fresh_stands;
           is_open = ap (λ (o : Outcome). o.status) is;
@@ -223,54 +256,46 @@ module _ (r : Reader) (start : ℕ) (h : IsAt r (fresh start)) (limit : start < 
     reached_wrong : IsOpen r text few (last_reader r before) s0 i × AllAnswer 0 before
     reached_wrong = blocks_more r text few before r (fresh start) start i begun here.0 blocks
 
-    whole_is : s ≡ segment_from (next wrong s0) later
+    whole_is : given ≡ segment_from (next wrong s0) later
     whole_is = ap (segment_from (fresh start)) parts ∙ segment_parts before wrong later (fresh start)
 
     refused_by : (is_end : Bool) → wrong.is_end ≡ is_end
-        → (outcome (opens k) chunk_length (next wrong s0)).status ≡ failed ChunkDamaged i
+        → (outcome (opens key) chunk_length (next wrong s0)).status ≡ failed ChunkDamaged i
     refused_by true is =
         let to : next wrong s0 ≡ after_end wrong.bytes s0 = taken_next wrong s0 bad.taken
         ∙ ap (λ (b : Bool). if b then after_end wrong.bytes s0 else after_block wrong.bytes s0) is in
-        let grown : Grows (after_end wrong.bytes s0) s =
+        let grown : Grows (after_end wrong.bytes s0) given =
         subst (Grows (after_end wrong.bytes s0)) (sym (whole_is ∙ ap (λ (t : Segment). segment_from t later) to))
         (grows later (after_end wrong.bytes s0)) in
         let size = bad.rest is in
-        ap (λ (t : Segment). (outcome (opens k) chunk_length t).status) to
-        ∙ rest_refused r text few (last_reader r before) s0 s i reached_wrong.0 authentic wrong.bytes bad.wrong size.0 size.1 grown
+        ap (λ (t : Segment). (outcome (opens key) chunk_length t).status) to
+        ∙ rest_refused r text few (last_reader r before) s0 given i reached_wrong.0 authentic wrong.bytes bad.wrong size.0 size.1 grown
     refused_by false is =
         let to : next wrong s0 ≡ after_block wrong.bytes s0 = taken_next wrong s0 bad.taken
         ∙ ap (λ (b : Bool). if b then after_end wrong.bytes s0 else after_block wrong.bytes s0) is in
-        let grown : Grows (after_block wrong.bytes s0) s =
+        let grown : Grows (after_block wrong.bytes s0) given =
         subst (Grows (after_block wrong.bytes s0)) (sym (whole_is ∙ ap (λ (t : Segment). segment_from t later) to))
         (grows later (after_block wrong.bytes s0)) in
-        ap (λ (t : Segment). (outcome (opens k) chunk_length t).status) to
-        ∙ block_refused r text few (last_reader r before) s0 s i reached_wrong.0 authentic wrong.bytes bad.wrong (bad.block is) grown
+        ap (λ (t : Segment). (outcome (opens key) chunk_length t).status) to
+        ∙ block_refused r text few (last_reader r before) s0 given i reached_wrong.0 authentic wrong.bytes bad.wrong (bad.block is) grown
 
     first_refused : IsRefusedAt i before wrong later
     first_refused =
         let is = refused_by wrong.is_end refl in
-        let stands = one_more k (last_reader r before) wrong s0 reached_wrong.0.stands here.1 in
+        let stands = one_more key (last_reader r before) wrong s0 reached_wrong.0.stands here.1 in
         let numbers = damaged_is wrong.after.state wrong.after.fault_chunk i
-        (status_at k wrong.after (next wrong s0) stands ∙ ap Some is) in
+        (status_at key wrong.after (next wrong s0) stands ∙ ap Some is) in
         record {
           zero = reached_wrong.1;
           there = answer_by (last_reader r before) wrong here.1 bad.taken ∙ ap answer_of numbers.0;
           chunk = numbers.1;
-          stays = all_refused k i later wrong.after (next wrong s0) stands is here.2;
+          stays = all_refused key i later wrong.after (next wrong s0) stands is here.2;
         }
 
 pub calls_are_written : CallsAreWritten
 calls_are_written r start h limit calls are text few = record {
-  prefix = begins r start h limit calls are text few;
-  done = all_written r start h limit calls are text few;
-  whole = undamaged r start h limit calls are text few;
+  text_is = text_right_of_blocks r start h limit calls are text few;
   refused = first_refused r start h limit calls are text few;
-  damaged = λ authentic. all_map (IsKnown (key_of r) (given_by start calls)) _
-      (damaged_at r start h limit calls are text few authentic) calls
-      (known r start h limit calls are text few);
-  few = λ authentic. all_map (IsKnown (key_of r) (given_by start calls)) _
-      (never_many r start h limit calls are text few authentic) calls
-      (known r start h limit calls are text few);
 }
 
 -- ---- seeks

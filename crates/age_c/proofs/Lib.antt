@@ -5,4 +5,7 @@ pub mod FirstWrongLemmas
 pub mod CallsWrittenLemmas
 pub mod StreamLemmas
 pub mod WriterLemmas
+pub mod WriteStreamLemmas
+pub mod StreamCallLemmas
+pub mod FrontLemmas
 pub mod FrontSizeLemmas

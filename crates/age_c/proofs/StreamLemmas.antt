@@ -1,5 +1,5 @@
 -- What a stream's steps do to the segment that it was given.
-use Rattle.std.proofs.Common.{inl, inr, ◌≡◌, ◌≢◌, ℕ, ◌<◌, refl, ap, sym, subst, ◌∙◌, arith}
+use Rattle.std.proofs.Common.{inl, inr, ◌≡◌, ◌≢◌, ℕ, ◌<◌, ◌≤◌, refl, ap, sym, subst, ◌∙◌, arith}
 use Rattle.std.proofs.Common.{List, [], ◌++◌, length, take, Bool, true, false}
 use Rattle.std.specs.Prelude.{Some, min, ◌-◌}
 use Rattle.std.specs.List.{flat_map}
@@ -16,8 +16,8 @@ use Rattle.age_c.specs.declared.reader.Reader.{Reader}
 use Rattle.age_c.specs.declared.stream.Stream.{Stream}
 use Rattle.age_c.specs.Calls.{answer_of, reader_status}
 use Rattle.age_c.specs.Readers.{TakesBlock, TakesEnd, after_block, IsAt, SameFile, reader_outcome}
-use Rattle.age_c.specs.Readers.{reader_text}
-use Rattle.age_c.specs.Streams.{FeedsStream, FinishesStream, StreamIsAt, held_of}
+use Rattle.age_c.specs.Readers.{IsBlockCall, reader_text}
+use Rattle.age_c.specs.Streams.{FeedsStream, FinishesStream, IsStreamCall, StreamIsAt, held_of}
 use Rattle.age_c.proofs.ReaderLemmas.{some_is}
 
 nil_by : (start : ℕ) (bytes : List ℕ) (ended late : Bool)
@@ -29,7 +29,7 @@ nil_by start bytes false late =
     ap (λ (b : List ℕ). record { start = start; bytes = b; ended = false; late = late }) (append-nil bytes)
 
 -- no bytes change nothing
-piece_nil : (s : Segment) → with_piece s [] ≡ s
+pub piece_nil : (s : Segment) → with_piece s [] ≡ s
 piece_nil s = nil_by s.start s.bytes s.ended s.late
 
 -- a part of a block releases nothing
@@ -53,13 +53,13 @@ abbrev released_of : Outcome → List ℕ
 released_of o = flat_map (λ (t : List ℕ). t) o.texts
 
 -- what is held releases nothing
-stream_same : (st : Stream) (s : Segment) → (h : StreamIsAt st s) → st.held < block_length
+pub stream_same : (st : Stream) (s : Segment) → (h : StreamIsAt st s)
     → reader_outcome st.reader s ≡ reader_outcome st.reader h.blocks
-stream_same st s h short =
+stream_same st s h =
     let size = length-take st.held st.block in
     ap (reader_outcome st.reader) h.given
     ∙ part_same st.reader h.blocks (held_of st) h.at (λ some. h.is_open (omega (arith, some, size)))
-    (omega (arith, short, size))
+    (omega (arith, h.short, size))
 
 unchanged : (r : Reader) → SameFile r r
 unchanged r = record { file_key = refl; nonce = refl; payload_at = refl }
@@ -72,8 +72,9 @@ given_more st s h more all is =
     ∙ (pieces_join h.blocks (held_of st) more ∙ ap (with_piece h.blocks) is)
 
 -- a stream that holds nothing
-nothing_held : (st : Stream) (s : Segment) → st.held ≡ 0 → IsAt st.reader s → StreamIsAt st s
+pub nothing_held : (st : Stream) (s : Segment) → st.held ≡ 0 → IsAt st.reader s → StreamIsAt st s
 nothing_held st s zero at = record {
+  short = omega (arith, zero);
   blocks = s;
   at = at;
   is_open = λ some. absurd (omega (arith, some, zero));
@@ -94,6 +95,7 @@ pub feeds_part : (piece : List ℕ) (count : ℕ) (old new : Stream) → new.rea
 feeds_part piece count old new same held fits count_is short is = record {
   moves = record {
     at = λ s h. record {
+      short = fits;
       blocks = h.blocks;
       at = subst (λ (r : Reader). IsAt r h.blocks) (sym same) h.at;
       is_open = λ _. ap (λ (r : Reader). (reader_outcome r h.blocks).status) same ∙ opened old.reader h.blocks h.at is;
@@ -104,7 +106,7 @@ feeds_part piece count old new same held fits count_is short is = record {
         ap (reader_outcome old.reader) (given_more old s h (take count piece) (held_of new) (sym held))
         ∙ part_same old.reader h.blocks (held_of new) h.at (λ _. opened old.reader h.blocks h.at is)
         (omega (arith, fits, length-take new.held new.block)) in
-        ap released_of (all ∙ sym (stream_same old s h short)) ∙ sym (append-nil (reader_text old.reader s));
+        ap released_of (all ∙ sym (stream_same old s h)) ∙ sym (append-nil (reader_text old.reader s));
     same = subst (SameFile old.reader) (sym same) (unchanged old.reader);
     answer_is = refl;
     nothing = λ _. refl;
@@ -127,13 +129,22 @@ feeds_whole piece count answer block text old new takes zero is count_is short =
     released = λ s h.
         ap (reader_text old.reader) (given_more old s h (take count piece) block is)
         ∙ (takes.released h.blocks h.at
-        ∙ ap (λ (o : Outcome). released_of o ++ text) (sym (stream_same old s h short)));
+        ∙ ap (λ (o : Outcome). released_of o ++ text) (sym (stream_same old s h)));
     same = takes.same;
     answer_is = takes.answer_is;
     nothing = takes.nothing;
   };
   most = omega (arith, count_is);
   some = λ some. omega (arith, count_is, some, short);
+}
+
+-- a whole block of a piece, opened where it lies
+pub block_call : (s : Stream) (piece out : List ℕ) → IsStreamCall s out → block_length ≤ length piece
+    → IsBlockCall s.reader (take block_length piece) out
+block_call s piece out call whole = record {
+  usable = call.usable;
+  whole = omega (arith, length-take block_length piece, whole);
+  room = call.room;
 }
 
 -- ---- bytes after the last block, or after a fault
@@ -170,8 +181,8 @@ feeds_closed piece count answer text old new takes zero count_is shut =
 
 pub finishes : (answer : ℕ) (text : List ℕ) (old new : Stream)
     → TakesEnd (held_of old) old.reader answer text new.reader → new.held ≡ 0
-    → old.held < block_length → FinishesStream old answer text new
-finishes answer text old new ends zero short =
+    → FinishesStream old answer text new
+finishes answer text old new ends zero =
     let takes = ends.takes in
     record {
       moves = record {
@@ -180,7 +191,7 @@ finishes answer text old new ends zero short =
         released = λ s h.
             ap (λ (t : Segment). reader_text old.reader (with_end t)) h.given
             ∙ (takes.released h.blocks h.at
-            ∙ ap (λ (o : Outcome). released_of o ++ text) (sym (stream_same old s h short)));
+            ∙ ap (λ (o : Outcome). released_of o ++ text) (sym (stream_same old s h)));
         same = takes.same;
         answer_is = takes.answer_is;
         nothing = takes.nothing;

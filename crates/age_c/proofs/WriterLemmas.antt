@@ -28,7 +28,7 @@ use Rattle.age_keys.specs.Scrypt.{scrypt_head}
 use Rattle.std.proofs.lemmas.Bool.{false≢true}
 use Rattle.std.proofs.Common.{ap₂}
 
-key_same : (was now : Writer) → SameKeys was now → key_of now ≡ key_of was
+pub key_same : (was now : Writer) → SameKeys was now → key_of now ≡ key_of was
 key_same was now same = cc (same.file_key, same.nonce)
 
 -- ---- whole chunks, and what is left
@@ -178,7 +178,7 @@ record After (w : Writer) (text more bytes : List ℕ) (last : Writer) : Type 0 
 abbrev taken : SealCall → List ℕ
 taken c = if c.answer == 0 then c.text else []
 
-not_end : (is_end : Bool) (answer : ℕ) → (is_end ≡ true → answer ≢ 0) → answer ≡ 0 → is_end ≡ false
+pub not_end : (is_end : Bool) (answer : ℕ) → (is_end ≡ true → answer ≢ 0) → answer ≡ 0 → is_end ≡ false
 not_end true answer other zero = absurd (other refl zero)
 not_end false answer other zero = refl
 
@@ -230,7 +230,7 @@ all_calls (c ∷ calls) w text h are =
     }
 
 -- a writer that was given no text wrote no block
-none_yet : (w : Writer) → HasSealed w [] → blocks_of w [] ≡ []
+pub none_yet : (w : Writer) → HasSealed w [] → blocks_of w [] ≡ []
 none_yet w h =
     let z : w.chunk ≡ 0 = omega (arith, h.whole) in
     ap (λ (n : ℕ). block_bytes (map (pair (seals (key_of w)) false)
@@ -249,8 +249,8 @@ calls_are_payload w h calls are last is is_end zero =
 
 -- ---- answers are calls
 
-idle_or_did : (old new : Writer) (before after : List ℕ) (answer written : ℕ) (Fits : Type 0)
-    (Does : List ℕ → Writer → Type 0) (Why : ℕ → Type 0)
+pub idle_or_did : {State : Type 0} (old new : State) (before after : List ℕ) (answer written : ℕ)
+    (Fits : Type 0) (Does : List ℕ → State → Type 0) (Why : ℕ → Type 0)
     → Answers Fits (WritesOrRefuses Does Why old) old new answer written before after
     → ((answer == misused) ≡ true) × (answer ≡ misused)
     ⊎ ((answer == misused) ≡ false) × (answer ≢ misused)
@@ -279,7 +279,7 @@ answers_are_seal_calls old new text before after answer written = (
 
 -- ---- whole files
 
-mac_holds : (pass : List ℕ) (work : ℕ) (salt key : List ℕ) → IsMacOf (scrypt_head pass work salt key) key
+pub mac_holds : (pass : List ℕ) (work : ℕ) (salt key : List ℕ) → IsMacOf (scrypt_head pass work salt key) key
 unfolding scrypt_head header_mac
 mac_holds pass work salt key = refl
 

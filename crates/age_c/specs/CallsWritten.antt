@@ -93,8 +93,8 @@ module _ (r : Reader) (text : List ℕ) (start : ℕ) where
     late = false;
   }
 
-  -- what a caller may rely on
-  pub record AreRight (calls : List Call) : Type 0 where
+  -- what a caller may rely on, whatever the calls are
+  pub record IsTextRight (calls : List Call) : Type 0 where
     -- what was written is the beginning of the text from that chunk on
     pub prefix : AreCallsAuthentic calls → IsPrefixOf (texts_of calls) text_there
     -- if the last call is an end that answered 0, it is all of that, and the chunk begins within
@@ -106,10 +106,6 @@ module _ (r : Reader) (text : List ℕ) (start : ℕ) where
     pub whole : IsClosed (box r.file_key r.nonce) (unbox r.file_key r.nonce) chunk_length text
         → start < chunk_count chunk_length text → AreUndamaged calls
         → (texts_of calls ≡ text_there) × AllAnswer 0 calls
-    -- the first block that isn't the writer's is refused with 17
-    pub refused : AreCallsAuthentic calls → (i : ℕ) (before : List Call) (wrong : Call)
-        (later : List Call) → calls ≡ before ++ wrong ∷ later → GiveBlocks r text start before i
-        → GivesWrong r text i wrong → IsRefusedAt i before wrong later
     -- 17 says that a block isn't the writer's, the one whose number the reader has, and that those
     -- before it are
     pub damaged : AreCallsAuthentic calls → AllByRecursion (λ (c : Call). c.answer ≡ 17
@@ -117,6 +113,14 @@ module _ (r : Reader) (text : List ℕ) (start : ℕ) where
         c.after.fault_chunk) calls
     -- 22 never comes
     pub few : AreCallsAuthentic calls → AllByRecursion (λ (c : Call). c.answer ≢ 22) calls
+
+  -- what a caller of blocks may rely on
+  pub record AreRight (calls : List Call) : Type 0 where
+    pub text_is : IsTextRight calls
+    -- the first block that isn't the writer's is refused with 17
+    pub refused : AreCallsAuthentic calls → (i : ℕ) (before : List Call) (wrong : Call)
+        (later : List Call) → calls ≡ before ++ wrong ∷ later → GiveBlocks r text start before i
+        → GivesWrong r text i wrong → IsRefusedAt i before wrong later
 
 -- ---- The headline for a caller.
 

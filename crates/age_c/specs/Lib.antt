@@ -3,4 +3,7 @@ pub mod Readers
 pub mod CallsWritten
 pub mod Writers
 pub mod Streams
+pub mod WriteStreams
+pub mod StreamCalls
+pub mod Fronts
 pub mod inner

@@ -12,8 +12,9 @@ abbrev pub held_of : Stream → List ℕ
 held_of s = take s.held s.block
 
 -- the stream was given this segment: its reader was given whole blocks, and what came after them is
--- held, while the reader is open
+-- held, while the reader is open: less than a block
 pub record StreamIsAt (s : Stream) (segment : Segment) : Type 0 where
+  pub short : s.held < block_length
   pub blocks : Segment
   pub at : IsAt s.reader blocks
   pub is_open : 0 < s.held → (reader_outcome s.reader blocks).status ≡ Open

@@ -94,13 +94,14 @@ pub record SealsLast (rest : List ℕ) (old : Writer) (bytes : List ℕ) (new : 
   pub same : SameKeys old new
 
 -- what a call does that isn't misused: it writes its part of the file, or refuses
-pub record WritesOrRefuses (Writes : List ℕ → Writer → Type 0) (Refuses : ℕ → Type 0)
-    (old : Writer) (answer : ℕ) (bytes : List ℕ) (new : Writer) : Type 0 where
-  -- 0 says that the bytes are that part, and that the writer stands after it
+pub record WritesOrRefuses {State : Type 0} (Writes : List ℕ → State → Type 0)
+    (Refuses : ℕ → Type 0) (old : State) (answer : ℕ) (bytes : List ℕ) (new : State)
+    : Type 0 where
+  -- 0 says that the bytes are that part, and that the writer or stream stands after it
   pub wrote : answer ≡ 0 → Writes bytes new
   -- any other answer says why it refused
   pub refused : answer ≢ 0 → Refuses answer
-  -- after a refusal the writer is as it was
+  -- after a refusal the writer or stream is as it was
   pub same : answer ≢ 0 → new ≡ old
 
 -- a call that isn't misused has a writer that can be used, a whole chunk, and room for its block

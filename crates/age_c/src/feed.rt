@@ -1,6 +1,6 @@
 //! The functions by which C reads a payload in pieces of any length.
 
-ghost use Rattle.std.specs.Prelude.{◌≡◌, ◌<◌, ◌≤◌, IfNone, IfSome, Some, take};
+ghost use Rattle.std.specs.Prelude.{◌≡◌, ◌<◌, ◌≤◌, IfNone, IfSome, Some, length, take};
 ghost use Rattle.age_chunk.specs.Payload.{chunk_length, block_length};
 ghost use Rattle.age_c.specs.Calls.{Answers, PutsFront, answer_of, misused, reader_status};
 ghost use Rattle.age_c.specs.Readers.{CanBeUsed};
@@ -47,6 +47,23 @@ fn feed_open(stream: &mut Stream, piece: &[u8], out: &mut [u8]) -> (usize, usize
     (taken, written)
 }
 
+/// Opens the whole block that a piece begins with, while nothing is held, without holding it.
+/// Returns its length, and how many bytes of text were put into `out`.
+fn feed_whole(stream: &mut Stream, piece: &[u8], out: &mut [u8]) -> (usize, usize)
+    requires call { IsStreamCall stream.old out.old }
+    requires open { reader_status stream.old.reader.state stream.old.reader.fault_chunk
+        ≡ Some Status.Open }
+    requires empty { stream.old.held ≡ 0 }
+    requires whole { block_length ≤ length piece.now }
+    ensures feeds { FeedsStream piece.now stream.old (answer_of stream.new.reader.state) result.0
+        (take result.1 out.new) stream.new }
+    ensures put { PutsFront result.1 out.old out.new }
+{
+    let block = &piece[..BLOCK_LEN];
+    let written = open_block(&mut stream.reader, Status::Open, block, out);
+    (BLOCK_LEN, written)
+}
+
 /// Takes bytes of a piece. Returns how many, and how many bytes of text were put into `out`.
 fn feed(stream: &mut Stream, status: Status, piece: &[u8], out: &mut [u8]) -> (usize, usize)
     requires call { IsStreamCall stream.old out.old }
@@ -57,6 +74,9 @@ fn feed(stream: &mut Stream, status: Status, piece: &[u8], out: &mut [u8]) -> (u
     ensures put { PutsFront result.1 out.old out.new }
 {
     match status {
+        Status::Open if stream.held == 0 && piece.len() >= BLOCK_LEN => {
+            feed_whole(stream, piece, out)
+        }
         Status::Open => feed_open(stream, piece, out),
         _ => {
             stream.held = 0;

@@ -3,6 +3,8 @@
 
 ghost use Rattle.age_c.specs.CallsWritten.{CallsAreWritten, PartsAreWritten};
 ghost use Rattle.age_c.specs.Readers.{AnswersAreCalls};
+ghost use Rattle.age_c.specs.StreamCalls.{AnswersAreFeedCalls, AnswersAreTextCalls, FeedsAreWritten};
+ghost use Rattle.age_c.specs.StreamCalls.{PiecesReadBack, TextsAreFiles};
 ghost use Rattle.age_c.specs.Writers.{AnswersAreSealCalls, CallsArePayload, FilesAreWhole};
 
 /// The headline for a caller: after any calls of [`age_c_block`](crate::age_c_block) and
@@ -46,4 +48,36 @@ pub fn answers_are_calls()
 /// [`files_are_whole`] speak of.
 pub fn answers_are_seal_calls()
     ensures { AnswersAreSealCalls }
+{}
+
+/// The headline for a caller whose pieces have any length: what [`calls_are_written`] says of blocks
+/// and their end holds after any calls of [`age_c_feed`](crate::age_c_feed) and
+/// [`age_c_finish`](crate::age_c_finish), of the bytes that they took.
+pub fn feeds_are_written()
+    ensures { FeedsAreWritten }
+{}
+
+/// What [`age_c_seal_passphrase`](crate::age_c_seal_passphrase), then any calls of
+/// [`age_c_feed_text`](crate::age_c_feed_text), and then one of
+/// [`age_c_finish_text`](crate::age_c_finish_text) that answers 0 write is the age file of the text
+/// that they took.
+pub fn texts_are_files()
+    ensures { TextsAreFiles }
+{}
+
+/// What was so written, given to a stream that reads in any other pieces, gives the text back.
+pub fn pieces_read_back()
+    ensures { PiecesReadBack }
+{}
+
+/// What [`age_c_feed`](crate::age_c_feed) and [`age_c_finish`](crate::age_c_finish) promise makes
+/// each use of them one of the calls that [`feeds_are_written`] and [`pieces_read_back`] speak of.
+pub fn answers_are_feed_calls()
+    ensures { AnswersAreFeedCalls }
+{}
+
+/// The same of [`age_c_feed_text`](crate::age_c_feed_text) and
+/// [`age_c_finish_text`](crate::age_c_finish_text), and of [`texts_are_files`].
+pub fn answers_are_text_calls()
+    ensures { AnswersAreTextCalls }
 {}

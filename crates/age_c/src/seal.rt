@@ -18,10 +18,10 @@ use std::alloc::Global;
 const FRONT: usize = 256;
 
 /// The number of a file that would have more chunks than a payload.
-const TOO_MANY_CHUNKS: u32 = 22;
+pub(crate) const TOO_MANY_CHUNKS: u32 = 22;
 
 /// Whether a writer can be used.
-fn can_be_used(writer: &Writer) -> bool
+pub(crate) fn can_be_used(writer: &Writer) -> bool
     ensures { IsTrue result ↔ CanSeal writer.now }
 {
     writer.state == 1 && writer.chunk < CHUNK_LIMIT

@@ -44,8 +44,53 @@ pub struct AgeCWriter {
     pub unused: [u32; 5],
 }
 
+/// A reader of pieces of any length: `age_c_stream`.
+#[repr(C)]
+#[derive(Clone)]
+pub struct AgeCStream {
+    pub reader: AgeCReader,
+    /// Bytes of the block that is open.
+    pub held: u32,
+    pub unused: u32,
+    pub block: [u8; AGE_C_BLOCK],
+}
+
+/// A writer of pieces of any length: `age_c_write_stream`.
+#[repr(C)]
+pub struct AgeCWriteStream {
+    pub writer: AgeCWriter,
+    /// Bytes of the chunk that is open.
+    pub held: u32,
+    pub unused: u32,
+    pub chunk: [u8; AGE_C_CHUNK],
+}
+
+impl Default for AgeCStream {
+    fn default() -> AgeCStream {
+        AgeCStream {
+            reader: AgeCReader::default(),
+            held: 0,
+            unused: 0,
+            block: [0; AGE_C_BLOCK],
+        }
+    }
+}
+
+impl Default for AgeCWriteStream {
+    fn default() -> AgeCWriteStream {
+        AgeCWriteStream {
+            writer: AgeCWriter::default(),
+            held: 0,
+            unused: 0,
+            chunk: [0; AGE_C_CHUNK],
+        }
+    }
+}
+
 const _: () = assert!(core::mem::size_of::<AgeCReader>() == 64);
 const _: () = assert!(core::mem::size_of::<AgeCWriter>() == 64);
+const _: () = assert!(core::mem::size_of::<AgeCStream>() == 65_624);
+const _: () = assert!(core::mem::size_of::<AgeCWriteStream>() == 65_608);
 
 extern "C" {
     /// The name of what a call returned, a text that ends in a zero byte and stays.
@@ -91,6 +136,22 @@ extern "C" {
         out_len: usize,
         written: *mut usize,
     ) -> u32;
+    pub fn age_c_may_open(front: *const u8, front_len: usize, seen: usize) -> u32;
+    pub fn age_c_feed(
+        stream: *mut AgeCStream,
+        piece: *const u8,
+        piece_len: usize,
+        taken: *mut usize,
+        out: *mut u8,
+        out_len: usize,
+        written: *mut usize,
+    ) -> u32;
+    pub fn age_c_finish(
+        stream: *mut AgeCStream,
+        out: *mut u8,
+        out_len: usize,
+        written: *mut usize,
+    ) -> u32;
     pub fn age_c_seek(reader: *mut AgeCReader, chunk: u64) -> u32;
     pub fn age_c_size(
         reader: *const AgeCReader,
@@ -121,6 +182,21 @@ extern "C" {
         writer: *mut AgeCWriter,
         rest: *const u8,
         rest_len: usize,
+        out: *mut u8,
+        out_len: usize,
+        written: *mut usize,
+    ) -> u32;
+    pub fn age_c_feed_text(
+        stream: *mut AgeCWriteStream,
+        piece: *const u8,
+        piece_len: usize,
+        taken: *mut usize,
+        out: *mut u8,
+        out_len: usize,
+        written: *mut usize,
+    ) -> u32;
+    pub fn age_c_finish_text(
+        stream: *mut AgeCWriteStream,
         out: *mut u8,
         out_len: usize,
         written: *mut usize,

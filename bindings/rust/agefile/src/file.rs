@@ -1,12 +1,52 @@
 //! A reader at any place.
 
-use crate::reader::{fill, open_block, open_header};
+use crate::reader::open_header;
 use crate::{AgeError, Key};
-use age_c_sys::{age_c_seek, age_c_size, AgeCReader, AGE_C_BLOCK, AGE_C_CHUNK};
+use age_c_sys::{
+    age_c_block, age_c_end, age_c_seek, age_c_size, AgeCReader, AGE_C_BLOCK, AGE_C_CHUNK,
+};
 use std::io::{self, BufRead, ErrorKind, Read, Seek, SeekFrom};
 
 const CHUNK: u64 = AGE_C_CHUNK as u64;
 const BLOCK: u64 = AGE_C_BLOCK as u64;
+
+/// Opens a block, or what is left at the end, and returns the length of its text.
+fn open_block(reader: &mut AgeCReader, block: &[u8], text: &mut [u8]) -> Result<usize, AgeError> {
+    let call = if block.len() == AGE_C_BLOCK {
+        age_c_block
+    } else {
+        age_c_end
+    };
+    let mut written = 0;
+    // SAFETY: each slice is as long as it says, and none is null; nothing overlaps.
+    let answer = unsafe {
+        call(
+            reader,
+            block.as_ptr(),
+            block.len(),
+            text.as_mut_ptr(),
+            text.len(),
+            &mut written,
+        )
+    };
+    match answer {
+        0 => Ok(written),
+        number => Err(AgeError::of_block(number, reader)),
+    }
+}
+
+/// Reads until the room is full, or the file ends. What came before a failed read counts.
+fn fill<R: Read>(file: &mut R, room: &mut [u8], have: &mut usize) -> io::Result<()> {
+    while *have < room.len() {
+        match file.read(&mut room[*have..]) {
+            Ok(0) => break,
+            Ok(n) => *have += n,
+            Err(error) if error.kind() == ErrorKind::Interrupted => {}
+            Err(error) => return Err(error),
+        }
+    }
+    Ok(())
+}
 
 /// The text of an age file, which can be sought in. The length of the text was checked when the
 /// file was opened.
@@ -27,7 +67,8 @@ impl<R: Read + Seek> AgeFile<R> {
     /// the length of the text.
     pub fn open(mut file: R, key: Key) -> io::Result<AgeFile<R>> {
         let begin = file.stream_position()?;
-        let (reader, _) = open_header(&mut file, key)?;
+        let mut reader = AgeCReader::default();
+        open_header(&mut file, key, &mut reader)?;
         let end = file.seek(SeekFrom::End(0))?.saturating_sub(begin);
         let (mut len, mut last) = (0, 0);
         // SAFETY: the pointers are those of values of these types.

@@ -2,7 +2,7 @@
 
 use crate::AgeError;
 use age_c_sys::{
-    age_c_seal_block, age_c_seal_end, age_c_seal_passphrase, AgeCWriter, AGE_C_BLOCK, AGE_C_CHUNK,
+    age_c_feed_text, age_c_finish_text, age_c_seal_passphrase, AgeCWriteStream, AGE_C_BLOCK,
 };
 use std::fs::File;
 use std::io::{self, Read, Write};
@@ -11,15 +11,10 @@ use std::io::{self, Read, Write};
 /// before, the file has no last chunk, and every reader refuses it.
 pub struct AgeWriter<W> {
     out: W,
-    writer: AgeCWriter,
-    text: Vec<u8>, // what isn't sealed yet
+    stream: Box<AgeCWriteStream>,
     block: Vec<u8>,
     failed: bool,
 }
-
-/// What seals a chunk, or the last one.
-type Call =
-    unsafe extern "C" fn(*mut AgeCWriter, *const u8, usize, *mut u8, usize, *mut usize) -> u32;
 
 /// Bytes of the system's random generator: the file key, the salt and the nonce.
 fn random() -> io::Result<[u8; 48]> {
@@ -32,7 +27,7 @@ impl<W: Write> AgeWriter<W> {
     /// Begins a file under a passphrase. The work factor, 1 to 22, says what a reader has to spend:
     /// 2^work KiB of memory. 18 is usual.
     pub fn create(mut out: W, passphrase: &[u8], work: u32) -> io::Result<AgeWriter<W>> {
-        let (mut writer, mut block) = (AgeCWriter::default(), vec![0; AGE_C_BLOCK]);
+        let (mut stream, mut block) = (Box::<AgeCWriteStream>::default(), vec![0; AGE_C_BLOCK]);
         let (random, mut written) = (random()?, 0);
         // SAFETY: each slice is as long as it says, and none is null; nothing overlaps.
         let answer = unsafe {
@@ -45,7 +40,7 @@ impl<W: Write> AgeWriter<W> {
                 block.as_mut_ptr(),
                 block.len(),
                 &mut written,
-                &mut writer,
+                &mut stream.writer,
             )
         };
         if answer != 0 {
@@ -54,15 +49,14 @@ impl<W: Write> AgeWriter<W> {
         out.write_all(&block[..written])?;
         Ok(AgeWriter {
             out,
-            writer,
-            text: Vec::with_capacity(AGE_C_CHUNK),
+            stream,
             block,
             failed: false,
         })
     }
 
-    /// Seals the text that is held. If that fails, the file can't be finished.
-    fn seal(&mut self, call: Call) -> io::Result<()> {
+    /// Makes a call, and passes on what it wrote. If that fails, the file can't be finished.
+    fn write_by(&mut self, call: impl FnOnce(&mut Self, &mut usize) -> u32) -> io::Result<()> {
         if self.failed {
             return Err(io::Error::other(
                 "a block couldn't be written: the file isn't whole",
@@ -70,21 +64,10 @@ impl<W: Write> AgeWriter<W> {
         }
         self.failed = true;
         let mut written = 0;
-        // SAFETY: as above.
-        let answer = unsafe {
-            call(
-                &mut self.writer,
-                self.text.as_ptr(),
-                self.text.len(),
-                self.block.as_mut_ptr(),
-                self.block.len(),
-                &mut written,
-            )
-        };
+        let answer = call(self, &mut written);
         if answer != 0 {
             return Err(AgeError::of_header(answer, false).into());
         }
-        self.text.clear();
         self.out.write_all(&self.block[..written])?;
         self.failed = false;
         Ok(())
@@ -92,26 +75,36 @@ impl<W: Write> AgeWriter<W> {
 
     /// Seals the last chunk, so that the file is whole, and gives back what was written to.
     pub fn finish(mut self) -> io::Result<W> {
-        self.seal(age_c_seal_end)?;
+        self.write_by(|it, written| {
+            let block = &mut it.block;
+            // SAFETY: as above.
+            unsafe { age_c_finish_text(&mut *it.stream, block.as_mut_ptr(), block.len(), written) }
+        })?;
         self.out.flush()?;
         Ok(self.out)
     }
 }
 
 impl<W: Write> Write for AgeWriter<W> {
-    /// Takes bytes, and seals a chunk once a byte follows it: that one isn't the last.
+    /// Takes bytes, up to the end of the chunk that is open.
     fn write(&mut self, text: &[u8]) -> io::Result<usize> {
-        if self.text.len() == AGE_C_CHUNK && !text.is_empty() {
-            self.seal(age_c_seal_block)?;
-        }
-        if self.failed {
-            return Err(io::Error::other(
-                "a block couldn't be written: the file isn't whole",
-            ));
-        }
-        let n = text.len().min(AGE_C_CHUNK - self.text.len());
-        self.text.extend_from_slice(&text[..n]);
-        Ok(n)
+        let mut taken = 0;
+        self.write_by(|it, written| {
+            let block = &mut it.block;
+            // SAFETY: as above.
+            unsafe {
+                age_c_feed_text(
+                    &mut *it.stream,
+                    text.as_ptr(),
+                    text.len(),
+                    &mut taken,
+                    block.as_mut_ptr(),
+                    block.len(),
+                    written,
+                )
+            }
+        })?;
+        Ok(taken)
     }
 
     /// Passes on what is sealed; a chunk that isn't full stays.

@@ -214,6 +214,29 @@ fn answers_a_header_that_is_there() {
     assert!(AgeError::of(&fault).unwrap().is_wrong_key());
 }
 
+/// Gives ten bytes at a time.
+struct Slow<'a>(&'a [u8]);
+
+impl Read for Slow<'_> {
+    fn read(&mut self, room: &mut [u8]) -> io::Result<usize> {
+        let most = room.len().min(10);
+        self.0.read(&mut room[..most])
+    }
+}
+
+#[test]
+fn tries_a_slow_header_rarely() {
+    let data = sealed(b"");
+    let at = data.iter().position(|&it| it == b'\n').unwrap() + 1;
+    let stanzas = b"-> --- ---\nAAAA\n".repeat(50_000);
+    let long = [&data[..at], &stanzas, &data[at..]].concat();
+    let begun = std::time::Instant::now();
+    let error = AgeReader::open(Slow(&long), PW).err().unwrap();
+    assert_eq!(AgeError::of(&error).unwrap().number, 9);
+    // a try takes some milliseconds: one at each piece would take minutes
+    assert!(begun.elapsed().as_secs() < 10);
+}
+
 #[test]
 fn reads_at_any_place() {
     for len in LENGTHS {

@@ -1,8 +1,10 @@
 -- How bytes are held. Only private functions cite this.
 use Rattle.std.specs.Prelude.{◌≡◌, ℕ, ◌+◌, ◌-◌, List, ◌++◌, length, min, take}
-use Rattle.age_chunk.specs.Payload.{block_length}
+use Rattle.age_chunk.specs.Payload.{block_length, chunk_length}
 use Rattle.age_c.specs.Streams.{held_of}
 use Rattle.age_c.specs.declared.stream.Stream.{Stream}
+use Rattle.age_c.specs.declared.write_stream.WriteStream.{WriteStream}
+use Rattle.age_c.specs.WriteStreams.{held_text}
 
 -- this many bytes of a piece came after those that are held
 pub record HoldsPiece (piece : List ℕ) (count : ℕ) (old new : Stream) : Type 0 where
@@ -11,3 +13,10 @@ pub record HoldsPiece (piece : List ℕ) (count : ℕ) (old new : Stream) : Type
   pub size : length new.block ≡ block_length
   pub reader : new.reader ≡ old.reader
   pub held : new.held ≡ old.held
+
+-- the same of a text, and then they are held
+pub record HoldsText (piece : List ℕ) (count : ℕ) (old new : WriteStream) : Type 0 where
+  pub count_is : count ≡ min (length piece) (chunk_length - old.held)
+  pub bytes : held_text new ≡ held_text old ++ take count piece
+  pub writer : new.writer ≡ old.writer
+  pub held : new.held ≡ old.held + count

@@ -1,0 +1,5 @@
+use Rattle.age_c.proofs.StreamCallLemmas.{pieces_read_back}
+use Rattle.age_c.proofs.laws.pieces_read_back.Goals as goal
+
+pub returns : goal.returns
+returns c = pieces_read_back

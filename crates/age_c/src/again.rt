@@ -1,0 +1,97 @@
+//! The function by which C learns when a header is worth another try.
+
+ghost use Rattle.std.specs.Prelude.{◌≡◌, ◌≢◌, ℕ, ◌+◌, ◌<◌, ◌≤◌, ◌↔◌, IsTrue, true, false};
+ghost use Rattle.std.specs.Prelude.{length};
+ghost use Rattle.age_stanza.specs.declared.header.Header.{Header};
+ghost use Rattle.age_c.specs.Calls.{more};
+ghost use Rattle.age_c.specs.Fronts.{EndsAt, IsWorthATry, marks_in};
+ghost use Rattle.age_c.specs.Readers.{HasFront};
+
+use crate::MORE;
+use age_stanza::HEAD_MAX;
+
+/// What the end line of a header begins with, after the line before it.
+const END_MARK: &[u8; 5] = b"\n--- ";
+
+/// How many bytes the end line has, with the LF of the line before it and its own.
+const END_LEN: usize = 49;
+
+/// How many bytes the payload's nonce has.
+const NONCE_LEN: usize = 16;
+
+/// How many bytes a header and its nonce have at most.
+const FRONT_MAX: usize = HEAD_MAX + NONCE_LEN;
+
+/// Whether a header may end with the line after this place, and a nonce stands after it.
+fn ends_at(front: &[u8], at: usize) -> bool
+    requires { at ≤ length front.now }
+    ensures { IsTrue result ↔ EndsAt front.now at }
+{
+    let rest = &front[at..];
+    rest.len() >= END_LEN + NONCE_LEN && rest.starts_with(END_MARK) && rest[END_LEN - 1] == b'\n'
+}
+
+/// Whether a header may end so after this place or one after it.
+fn ends_from(front: &[u8], from: usize) -> bool
+    ensures found { result ≡ true → (at : ℕ) × (from ≤ at) × EndsAt front.now at }
+    ensures none { result ≡ false → (at : ℕ) → from ≤ at → ¬ EndsAt front.now at }
+{
+    for at in from..front.len() {
+        if ends_at(front, at) {
+            return true;
+        }
+    }
+    false
+}
+
+/// Whether a header and its nonce may end so after the first `seen` bytes.
+fn ends_after(front: &[u8], seen: usize) -> bool
+    ensures found { result ≡ true → (at : ℕ) × (seen < at + 65) × EndsAt front.now at }
+    ensures none { result ≡ false → (at : ℕ) → seen < at + 65 → ¬ EndsAt front.now at }
+    ensures begun { result ≡ false → (header : Header) (len : ℕ) → HasFront front.now header len
+        → len + 16 ≤ seen }
+{
+    ends_from(front, seen.saturating_sub(END_LEN + NONCE_LEN - 1))
+}
+
+/// How many of the lengths are reached at which a header is tried in any case, so that a faulty one
+/// is refused before its end. They are few: so all tries together take linear time.
+fn marks_in(len: usize) -> u32
+    ensures { result ≡ marks_in len }
+{
+    if len >= FRONT_MAX {
+        5
+    } else if len >= 65_536 {
+        4
+    } else if len >= 4_096 {
+        3
+    } else if len >= 64 {
+        2
+    } else if len >= 1 {
+        1
+    } else {
+        0
+    }
+}
+
+/// Whether it is worth opening the header that `front` begins with, after the first `seen` bytes of
+/// it weren't enough, by an answer of [`MORE`] here or of an `age_c_open_..`: 0 if so, else
+/// [`MORE`]. It is so as soon as the header and the nonce are there; before that so rarely that all
+/// calls for one header together take a time that is linear in its length, into however small pieces
+/// it was cut.
+#[unsafe(no_mangle)]
+pub extern "C" fn age_c_may_open(front: &[u8], seen: usize) -> u32
+    ensures begun { (header : Header) (len : ℕ) → HasFront front.now header len
+        → seen < len + 16 → result ≡ 0 }
+    ensures tries { IsWorthATry front.now seen → result ≡ 0 }
+    ensures seldom { result ≡ 0 → IsWorthATry front.now seen }
+    ensures waits { result ≢ 0 → result ≡ more }
+{
+    if marks_in(seen) < marks_in(front.len()) {
+        return 0;
+    }
+    if ends_after(front, seen) {
+        return 0;
+    }
+    MORE
+}

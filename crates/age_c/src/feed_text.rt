@@ -1,0 +1,136 @@
+//! The functions by which C writes a file in pieces of any length.
+
+ghost use Rattle.std.specs.Prelude.{◌≡◌, ◌≢◌, ◌+◌, ◌<◌, ◌≤◌, ◌↔◌, IsTrue, true, false, [], length, take};
+ghost use Rattle.age_chunk.specs.Payload.{block_length, chunk_length, chunk_limit};
+ghost use Rattle.age_c.specs.Calls.{Answers, PutsFront};
+ghost use Rattle.age_c.specs.Writers.{CanSeal, WritesOrRefuses};
+ghost use Rattle.age_c.specs.WriteStreams.{FeedsText, FinishesText, IsTextCall, RefusesText};
+ghost use Rattle.age_c.specs.inner.Holding.{HoldsText};
+
+use crate::MISUSED;
+use crate::seal::{TOO_MANY_CHUNKS, can_be_used};
+use crate::sealing::{seal_last, seal_next};
+use crate::write_stream::WriteStream;
+use age_chunk::{BLOCK_LEN, CHUNK_LEN, CHUNK_LIMIT};
+
+/// Whether a stream can be used, with so much room for a block.
+fn can_take(stream: &WriteStream, room: usize) -> bool
+    ensures { IsTrue result ↔ (CanSeal stream.now.writer × (stream.now.held ≤ chunk_length)
+        × (stream.now.held ≡ 0 → stream.now.writer.chunk ≡ 0) × (block_length ≤ room)) }
+{
+    let held = stream.held as usize;
+    can_be_used(&stream.writer)
+        && held <= CHUNK_LEN
+        && (held > 0 || stream.writer.chunk == 0)
+        && room >= BLOCK_LEN
+}
+
+/// Holds the bytes for which the open chunk has room, after those that are held, and returns how
+/// many.
+fn hold_text(stream: &mut WriteStream, piece: &[u8]) -> usize
+    requires { stream.old.held ≤ chunk_length }
+    ensures { HoldsText piece.now result stream.old stream.new }
+{
+    let held = stream.held as usize;
+    let count = piece.len().min(CHUNK_LEN - held);
+    stream.chunk[held..held + count].copy_from_slice(&piece[..count]);
+    stream.held = (held + count) as u32;
+    count
+}
+
+/// Whether bytes of a piece can be held before the chunk has to be sealed.
+fn has_room(stream: &WriteStream, piece: &[u8]) -> bool
+    ensures room { result ≡ true → 0 < length piece.now → stream.now.held < chunk_length }
+    ensures full { result ≡ false → (0 < length piece.now) × (chunk_length ≤ stream.now.held) }
+{
+    piece.is_empty() || (stream.held as usize) < CHUNK_LEN
+}
+
+/// Holds bytes of a piece, and returns how many.
+fn hold_only(stream: &mut WriteStream, piece: &[u8]) -> usize
+    requires short { stream.old.held ≤ chunk_length }
+    requires room { 0 < length piece.now → stream.old.held < chunk_length }
+    ensures { FeedsText piece.now result stream.old [] stream.new }
+{
+    hold_text(stream, piece)
+}
+
+/// Seals the chunk that is held, which isn't the last, and then holds bytes of a piece. Returns how
+/// many, and the length of the block that it put into `out`.
+fn seal_held(stream: &mut WriteStream, piece: &[u8], out: &mut [u8]) -> (usize, usize)
+    requires call { IsTextCall stream.old out.old }
+    requires full { stream.old.held ≡ chunk_length }
+    requires limit { stream.old.writer.chunk + 1 < chunk_limit }
+    requires more { 0 < length piece.now }
+    ensures feeds { FeedsText piece.now result.0 stream.old (take result.1 out.new) stream.new }
+    ensures put { PutsFront result.1 out.old out.new }
+{
+    let written = seal_next(&mut stream.writer, &stream.chunk, out);
+    stream.held = 0;
+    (hold_text(stream, piece), written)
+}
+
+/// Takes bytes of the text from the front of `piece`, up to the end of the chunk that is open. A
+/// chunk that is full is sealed once a byte comes after it, and its block is put into `out`, which
+/// has room for 65,552 bytes or more. A chunk that can only be the last, since a payload has at most
+/// 2^48, is refused with 22, and nothing is changed.
+#[unsafe(no_mangle)]
+pub extern "C" fn age_c_feed_text(
+    stream: &mut WriteStream,
+    piece: &[u8],
+    taken: &mut usize,
+    out: &mut [u8],
+    written: &mut usize,
+) -> u32
+    ensures answers { Answers (IsTextCall stream.old out.old)
+        (WritesOrRefuses (FeedsText piece.now taken.new stream.old)
+        (RefusesText piece.now stream.old) stream.old)
+        stream.old stream.new result written.new out.old out.new }
+    ensures none { result ≢ 0 → taken.new ≡ 0 }
+{
+    *taken = 0;
+    *written = 0;
+    if !can_take(stream, out.len()) {
+        return MISUSED;
+    }
+    if has_room(stream, piece) {
+        *taken = hold_only(stream, piece);
+        return 0;
+    }
+    if stream.writer.chunk == CHUNK_LIMIT - 1 {
+        return TOO_MANY_CHUNKS;
+    }
+    (*taken, *written) = seal_held(stream, piece, out);
+    0
+}
+
+/// Seals what is held as the last chunk into `out`, and returns the length of its block.
+fn seal_rest(stream: &mut WriteStream, out: &mut [u8]) -> usize
+    requires { IsTextCall stream.old out.old }
+    ensures finishes { FinishesText stream.old (take result out.new) stream.new }
+    ensures put { PutsFront result out.old out.new }
+{
+    let held = stream.held as usize;
+    stream.held = 0;
+    seal_last(&mut stream.writer, &stream.chunk[..held], out)
+}
+
+/// The text ended: what is held is sealed as the last chunk into `out`, which has room for 65,552
+/// bytes or more.
+#[unsafe(no_mangle)]
+pub extern "C" fn age_c_finish_text(
+    stream: &mut WriteStream,
+    out: &mut [u8],
+    written: &mut usize,
+) -> u32
+    ensures { Answers (IsTextCall stream.old out.old)
+        (WritesOrRefuses (FinishesText stream.old) (λ _. ⊥) stream.old)
+        stream.old stream.new result written.new out.old out.new }
+{
+    *written = 0;
+    if !can_take(stream, out.len()) {
+        return MISUSED;
+    }
+    *written = seal_rest(stream, out);
+    0
+}
