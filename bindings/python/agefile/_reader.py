@@ -88,8 +88,8 @@ class AgeReader(io.RawIOBase):
 
     def _may_open(self, seen: int) -> bool:
         """Whether the header is worth a try, now that there are more than so many bytes."""
-        size = len(self._rest)
-        answer: int = C.age_c_may_open((ctypes.c_uint8 * size).from_buffer(self._rest), size, seen)
+        place = ctypes.c_uint8.from_buffer(self._rest)
+        answer: int = C.age_c_may_open(ctypes.addressof(place), len(self._rest), seen)
         return answer == 0
 
     def _mark(self) -> None:

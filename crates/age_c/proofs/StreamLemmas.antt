@@ -1,5 +1,5 @@
 -- What a stream's steps do to the segment that it was given.
-use Rattle.std.proofs.Common.{inl, inr, ◌≡◌, ◌≢◌, ℕ, ◌<◌, ◌≤◌, refl, ap, sym, subst, ◌∙◌, arith}
+use Rattle.std.proofs.Common.{inl, inr, ◌≡◌, ◌≢◌, ℕ, ◌+◌, ◌<◌, ◌≤◌, refl, ap, sym, subst, ◌∙◌, arith}
 use Rattle.std.proofs.Common.{List, [], ◌++◌, length, take, Bool, true, false}
 use Rattle.std.specs.Prelude.{Some, min, ◌-◌}
 use Rattle.std.specs.List.{flat_map}
@@ -88,11 +88,11 @@ opened r s at is = some_is (sym at.status ∙ is)
 -- ---- bytes that leave the block open
 
 pub feeds_part : (piece : List ℕ) (count : ℕ) (old new : Stream) → new.reader ≡ old.reader
-    → held_of new ≡ held_of old ++ take count piece → new.held < block_length
-    → count ≡ min (length piece) (block_length - old.held) → old.held < block_length
+    → held_of new ≡ held_of old ++ take count piece → new.held ≡ old.held + count
+    → new.held < block_length → count ≡ min (length piece) (block_length - old.held) → old.held < block_length
     → reader_status old.reader.state old.reader.fault_chunk ≡ Some Open
     → FeedsStream piece old (answer_of new.reader.state) count [] new
-feeds_part piece count old new same held fits count_is short is = record {
+feeds_part piece count old new same held more fits count_is short is = record {
   moves = record {
     at = λ s h. record {
       short = fits;
@@ -113,6 +113,7 @@ feeds_part piece count old new same held fits count_is short is = record {
   };
   most = omega (arith, count_is);
   some = λ some. omega (arith, count_is, some, short);
+  all = λ left. absurd (omega (arith, count_is, left, short, fits, more));
 }
 
 -- ---- bytes that fill the block
@@ -136,6 +137,7 @@ feeds_whole piece count answer block text old new takes zero is count_is short =
   };
   most = omega (arith, count_is);
   some = λ some. omega (arith, count_is, some, short);
+  all = λ _. zero;
 }
 
 -- a whole block of a piece, opened where it lies
@@ -175,6 +177,7 @@ feeds_closed piece count answer text old new takes zero count_is shut =
       };
       most = omega (arith, count_is);
       some = λ some. omega (arith, count_is, some);
+      all = λ _. zero;
     }
 
 -- ---- the end

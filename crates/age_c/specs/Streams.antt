@@ -31,13 +31,14 @@ pub record Moves (next : Segment → Segment) (old : Stream) (answer : ℕ) (tex
   pub answer_is : answer ≡ answer_of new.reader.state
   pub nothing : answer ≢ 0 → text ≡ []
 
--- bytes are taken from the front of a piece: none are passed over, and some of a piece that isn't
--- empty
+-- bytes are taken from the front of a piece: none are passed over, some of a piece that isn't empty,
+-- and all of them, unless a block was opened or no more are to come
 pub record FeedsStream (piece : List ℕ) (old : Stream) (answer taken : ℕ) (text : List ℕ)
     (new : Stream) : Type 0 where
   pub moves : Moves (λ (s : Segment). with_piece s (take taken piece)) old answer text new
   pub most : taken ≤ length piece
   pub some : 0 < length piece → 0 < taken
+  pub all : taken < length piece → new.held ≡ 0
 
 -- an end answers 0 only once the last chunk was opened
 pub record FinishesStream (old : Stream) (answer : ℕ) (text : List ℕ) (new : Stream) : Type 0 where

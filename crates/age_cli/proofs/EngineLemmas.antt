@@ -26,10 +26,9 @@ use Rattle.age_cli.specs.Acts.{Engine, Ran, encrypt_engine, decrypt_engine, resu
 use Rattle.age_cli.specs.Acts.{WritesOut, LeavesOut}
 use Rattle.age_cli.specs.Acts.{IsLeft, IsUnclosed, EndsOf}
 use Rattle.age_cli.specs.declared.interruption.Interruption.{Interruption}
-use Rattle.age_cli.specs.inner.Endings.{is_memory, sealing_end, opening_end, IsFaithful, Left}
+use Rattle.age_cli.specs.inner.Endings.{sealing_end, opening_end, Left}
 use Rattle.age_cli.specs.inner.Endings.{Concludes}
-use Rattle.age_cli.proofs.CommandStopLemmas.{stop_wrote, resume_wrote, sealed_nothing, the_run}
-use Rattle.age_cli.proofs.CommandStopLemmas.{holds_nothing, holds_something}
+use Rattle.age_cli.proofs.CommandStopLemmas.{stop_wrote, resume_wrote, the_run}
 
 -- an engine's promise, of how it ended
 pub record Kept (engine : Engine) (before after : Ports) (end : Result (Unit {0}) Interruption) : Type 0 where

@@ -30,7 +30,7 @@ use Rattle.clap.specs.Kinds.{Kinds}
 use Rattle.clap.specs.declared.error.kind.ErrorKind.TheVariants.{OutOfMemory}
 use Rattle.std.proofs.Common.{ℕ, ◌⊎◌}
 use Rattle.age_cli.specs.inner.Endings.{IsForOutput}
-use Rattle.age_cli.proofs.ActLemmas.{spares_kept}
+use Rattle.age_cli.proofs.ActLemmas.{shown_not_silent, spares_kept}
 use Rattle.age_identity.proofs.EventLemmas.{followed}
 
 -- whether there are words

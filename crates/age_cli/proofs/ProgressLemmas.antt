@@ -1,5 +1,6 @@
 -- What progress shows of a reading.
-use Rattle.std.proofs.Common.{◌≡◌, ◌∙◌, ◌⊎◌, ℕ, List, Option, Some, None, Bool, true, ap, refl, inl, inr, length, Result, Ok, Err, OnOk, IfOk, subst}
+use base.Fml.{GName}
+use Rattle.std.proofs.Common.{◌≡◌, ◌∙◌, ◌⊎◌, ℕ, List, Option, Some, None, Bool, true, true≢false, sym, ap, refl, inl, inr, length, Result, Ok, Err, OnOk, IfOk, subst}
 use Rattle.std.specs.Prelude.{option_map, IsOk, IsSomeAnd}
 use Rattle.std.proofs.lemmas.Result.{on_ok_weaker}
 use Rattle.std.specs.Io.KnownBytes.{IsAtEnd}
@@ -22,16 +23,20 @@ use Rattle.age_cli.specs.declared.interruption.Interruption.{Interruption}
 use Rattle.age_cli.specs.inner.Endings.{sealing_end, opening_end}
 
 -- a reading was begun, counted and ended
-pub shows_run : (shows : Bool) (coming left : Option (List ℕ)) (before began counted ended : Option (List Shown))
-    → (size : Option ℕ) × (shows ≡ true → size ≡ option_map length coming) × Adds before began (Begins size)
-    → ((from : Origin) → CountsSince from coming began → CountsSince from left counted) → Adds counted ended Ends → ShowsRun shows coming left before ended
-shows_run shows coming left before began counted ended begun counts ends = (
-  coming,
-  begun.0,
-  (λ shown. (refl, begun.1 shown)),
-  reading_of begun.0 coming left before began counted ended begun.2
-      (counts (record { coming = coming; shown = began }) (begins_since coming began)) ends,
-)
+pub shows_run : {P : Type 0} (shown_by : P → Option (List Shown)) (shows : Bool) (name : GName) (coming left : Option (List ℕ)) (before ended : Option (List Shown))
+    (began counted given : P) (lent : GName)
+    → (size : Option ℕ) × (shows ≡ true → size ≡ option_map length coming) × Adds before (shown_by began) (Begins size)
+    → ((from : Origin) → (name ≡ from.meter) × CountsSince from coming (shown_by began) → (lent ≡ from.meter) × CountsSince from left (shown_by counted))
+    → (name ≡ lent → given ≡ counted) → Adds (shown_by given) ended Ends → ShowsRun shows coming left before ended
+shows_run shown_by shows name coming left before ended began counted given lent begun counts back ends =
+    let from : Origin = record { meter = name; coming = coming; shown = shown_by began } in
+    let kept = counts from (refl, begins_since name coming (shown_by began)) in
+    let ends_so = subst (λ p. Adds (shown_by p) ended Ends) (back (sym kept.0)) ends in (
+      coming,
+      begun.0,
+      (λ shown. (refl, begun.1 shown)),
+      reading_of name begun.0 coming left before (shown_by began) (shown_by counted) ended begun.2 kept.1 ends_so,
+    )
 
 -- of an input that is the same where contracts see it
 pub run_of : (shows : Bool) (coming input left : Option (List ℕ)) (old new : Option (List Shown)) → (shows ≡ true → coming ≡ input)
@@ -78,11 +83,11 @@ resuming_at_end A p before after None (Ok done) ends = absurd ends
 resuming_at_end A p before after (Some r) (Ok done) ends = ends.2.is.at_end ends.2.ended
 
 -- and so has its command
-pub at_end_of : {P : Type 0} (end : Result (Unit {0}) Interruption) (r : Result (Unit {0}) Ending) (Q : Type 0) → OnOk end P → OnOk r (IsOk end × Q) → OnOk r P
-at_end_of (Ok x) (Ok y) Q p q = p
-at_end_of (Ok x) (Err e) Q p q = tt
-at_end_of (Err s) (Ok y) Q p q = absurd q.0
-at_end_of (Err s) (Err e) Q p q = tt
+pub at_end_of : (P : Type 0) (end : Result (Unit {0}) Interruption) (r : Result (Unit {0}) Ending) (Q : Type 0) → OnOk end P → OnOk r (IsOk end × Q) → OnOk r P
+at_end_of P (Ok x) (Ok y) Q p q = p
+at_end_of P (Ok x) (Err e) Q p q = tt
+at_end_of P (Err s) (Ok y) Q p q = absurd (true≢false (sym q.0))
+at_end_of P (Err s) (Err e) Q p q = tt
 
 pub not_both : progress.Shown ≡ progress.Silent → ⊥
 not_both is = cc

@@ -1,10 +1,16 @@
 -- What the status says of an ending.
 use Rattle.std.proofs.Common.{◌≡◌, ◌∙◌, ◌⊎◌, inl, inr, arith, sym, subst, ℕ, Result, Ok, Err}
 use Rattle.std.specs.Prelude.{OnErr}
-use Rattle.age_io.specs.Io.{SinkView}
+use Rattle.age_io.specs.Io.{SinkView, SourceView}
 use Rattle.age_fault.proofs.ByteLemmas.{Appends-then, risen}
 use Rattle.age_fault.specs.Faults.{HasRisen}
 use Rattle.age_fault.specs.declared.fault.FileFault.{FileFault}
+use Rattle.age_fault.specs.declared.fault.FileFault.TheVariants.{Head, Key, NonceCut, Stream}
+use Rattle.age_fault.specs.declared.fault.FileFault.TheVariants.{BadPosition, OtherFile, ShortText}
+use Rattle.age_fault.specs.declared.fault.FileFault.TheVariants.{Read, Write, Memory, ReadNeverEnds}
+use Rattle.age_fault.specs.declared.fault.FileFault.TheVariants.{PositionForged, OldTextDiffers}
+use Rattle.age_file.proofs.ByteLemmas.{fault_of_all}
+use Rattle.age_file.specs.Runs.{HeadFails, NoHeadFault}
 use Rattle.age_ending.specs.Endings.{Announces, ReportsEnding, ReportsRest, TakesLine, Tells}
 use Rattle.age_ending.specs.Endings.{fault_line}
 use Rattle.age_ending.specs.declared.ending.Announcement.{Announcement}
@@ -12,6 +18,7 @@ use Rattle.age_ending.specs.declared.ending.Announcement.TheVariants.{Unmade, Ma
 use Rattle.age_ending.specs.declared.ending.Ending.{Ending}
 use Rattle.age_ending.specs.declared.ending.Ending.TheVariants.{Words, Usage, Fault, Unsaved}
 use Rattle.age_cli.specs.Acts.{status_by, ending_status}
+use Rattle.age_cli.specs.Commands.{FailsReport}
 
 -- an ending has another status than success
 pub failed_status : (e : Ending) → ending_status e ≡ 0 → ⊥
@@ -62,3 +69,19 @@ reported_whole Made (Unsaved fault second) old mid new Quiet same first rest = s
 reported_whole Made (Words text) old mid new Quiet same first rest = tt
 reported_whole Made (Usage usage) old mid new Quiet same first rest = tt
 reported_whole Failed e old mid new Quiet same risen rest = subst (λ (s : SinkView). Leaves e old s) (sym rest) (failed_whole e old mid risen)
+
+-- a report that fails has the fault of what was read
+pub report_fails : (old new : SourceView) (f : FileFault) → HeadFails NoHeadFault old new f → FailsReport old.remaining (Fault f)
+report_fails old new (Head fault) h = fault_of_all old.remaining new.remaining fault h
+report_fails old new Read h = tt
+report_fails old new Memory h = tt
+report_fails old new ReadNeverEnds h = tt
+report_fails old new Write h = tt
+report_fails old new (Key fault) h = absurd h
+report_fails old new (Stream fault) h = absurd h
+report_fails old new NonceCut h = absurd h
+report_fails old new BadPosition h = absurd h
+report_fails old new OtherFile h = absurd h
+report_fails old new ShortText h = absurd h
+report_fails old new PositionForged h = absurd h
+report_fails old new OldTextDiffers h = absurd h

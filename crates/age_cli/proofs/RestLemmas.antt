@@ -92,19 +92,19 @@ module _ (i : Identity) (from : Position) (before after : ResumePorts) where
   rested true (Err s) (InPayload k) keep other none dropped same d = absurd (none-some (s, k) (sym none))
 
   -- one that ended
-  pub placed_done : {P : Done → Type 0} (reread : Bool) (end : Result Done Stopped) (standing : Standing) → IfOk end P → IfOk (placed reread standing from end) P
-  placed_done false (Ok x) Before so = so
-  placed_done false (Ok x) Skipping so = so
-  placed_done false (Ok x) (InPayload k) so = so
-  placed_done true (Ok x) Before so = so
-  placed_done true (Ok x) Skipping so = so
-  placed_done true (Ok x) (InPayload k) so = so
-  placed_done false (Err s) Before so = tt
-  placed_done false (Err s) Skipping so = tt
-  placed_done false (Err s) (InPayload k) so = tt
-  placed_done true (Err s) Before so = tt
-  placed_done true (Err s) Skipping so = tt
-  placed_done true (Err s) (InPayload k) so = tt
+  pub placed_done : (P : Done → Type 0) (reread : Bool) (end : Result Done Stopped) (standing : Standing) → IfOk end P → IfOk (placed reread standing from end) P
+  placed_done P false (Ok x) Before so = so
+  placed_done P false (Ok x) Skipping so = so
+  placed_done P false (Ok x) (InPayload k) so = so
+  placed_done P true (Ok x) Before so = so
+  placed_done P true (Ok x) Skipping so = so
+  placed_done P true (Ok x) (InPayload k) so = so
+  placed_done P false (Err s) Before so = tt
+  placed_done P false (Err s) Skipping so = tt
+  placed_done P false (Err s) (InPayload k) so = tt
+  placed_done P true (Err s) Before so = tt
+  placed_done P true (Err s) Skipping so = tt
+  placed_done P true (Err s) (InPayload k) so = tt
 
   -- one that is read again stopped in its payload, by this key
   pub paid : (reread : Bool) (end : Result Done Stopped) (standing : Standing) (s : Stopped) (k : List ℕ)
@@ -119,8 +119,8 @@ module _ (i : Identity) (from : Position) (before after : ResumePorts) where
 
         in_payload : (y k : List ℕ) → Some y ≡ Some k → InPayload y ≡ InPayload k
         in_payload y k e = cc
-  paid reread end Before s k is = absurd (none-some k (sym (again_is reread (placed reread Before from end) None s k is).2))
-  paid reread end Skipping s k is = absurd (none-some k (sym (again_is reread (placed reread Skipping from end) None s k is).2))
+  paid reread end Before s k is = absurd (none-some k (again_is reread (placed reread Before from end) None s k is).2)
+  paid reread end Skipping s k is = absurd (none-some k (again_is reread (placed reread Skipping from end) None s k is).2)
 
 module _ (IsPorts : Ports → Type 0) (shows : Bool) (d : Decrypting) (i : Identity) (from : Position) (first last : SourceView) (before after : Ports)
     (after_is : IsPorts after) (last_is : IsPorts (ports last after.sink)) (old new : FilesView) (Unshown : Type 0) (Progress : Option (List ℕ) → Result (Unit {0}) Ending → Type 0)
@@ -141,7 +141,7 @@ module _ (IsPorts : Ports → Type 0) (shows : Bool) (d : Decrypting) (i : Ident
   resumed_once reread end standing keep r end' at none saves dropped same did engine is shown concludes =
       let done = subst (λ (e : Result Done Stopped). IfOk e (λ done. IsSomeAnd did.is.run (ResumeEnds (allows_by i) from (resume_ports before first)
       (resume_ports after last) done))) (sym at)
-      (placed_done i from (resume_ports before first) (resume_ports after last) reread end standing did.is.done) in record {
+      (placed_done i from (resume_ports before first) (resume_ports after last) _ reread end standing did.is.done) in record {
         after = after;
         after_is = after_is;
         last = last;

@@ -17,7 +17,7 @@ ghost use Rattle.age_cli.specs.inner.Openings.{IsReadAs, Judges};
 ghost use Rattle.age_cli.specs.inner.Rereadings.{DecryptsOpened, again_of};
 
 use crate::interruption::opening_end;
-use crate::output::{Content, Output, conclude, end_meter, open_both, with_meter};
+use crate::output::{Content, Output, begin_meter, conclude, end_meter, open_both};
 use crate::reread::{Again, conclude_again};
 use crate::taking::Taking;
 use age_cli_args::{Decrypting, ProgressOption};
@@ -25,7 +25,7 @@ use age_ending::{Announcement, Ending, Usage};
 use age_file::{Done, PositionPolicy, Source, Stopped, decrypt_keyed, read_again};
 use age_fileset::FileSet;
 use age_identity::{Choice, Identity};
-use age_io::{Meter, Sink};
+use age_io::{Meter, Metered, Sink};
 use age_keys::KnownKey;
 use std::alloc::Global;
 
@@ -154,9 +154,16 @@ fn open_text<F: FileSet, P: Meter>(
             Opened { end, key, source }
         }
         ProgressOption::Shown => {
-            let mut metered = with_meter(files, source, &mut *progress);
+            begin_meter(files, &source, &mut *progress);
+            let mut metered = Metered {
+                source,
+                meter: &mut *progress,
+            };
             let (end, key) = decrypt_keyed(alloc, positions, identity, &mut metered, out);
-            let (source, _) = metered.into_parts();
+            let Metered {
+                source,
+                meter: _meter,
+            } = metered;
             end_meter(&mut *progress);
             Opened { end, key, source }
         }

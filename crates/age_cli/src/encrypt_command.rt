@@ -8,23 +8,26 @@ ghost use Rattle.age_cli_args.specs.Requests.{option_text};
 ghost use Rattle.age_cli_args.specs.declared.request.Request.TheVariants.{Encrypt};
 ghost use Rattle.age_ending.specs.Endings.{EndsEarly, is_usage, Tells};
 ghost use Rattle.age_identity.specs.Files.{SourceFails, HasReason};
-ghost use Rattle.age_file.specs.Encrypts.{SecretView};
+ghost use Rattle.age_file.specs.Encrypts.{SecretView, Encrypts, EncryptFails};
+ghost use Rattle.age_file.specs.Runs.{ports};
+ghost use Rattle.age_cli_args.specs.declared.request.ProgressOption.TheVariants.{Silent, Shown};
 ghost use Rattle.age_identity.specs.Files.{Files};
 ghost use Rattle.age_identity.specs.Orders.{NamesTwice, order_asked, random_name};
 ghost use Rattle.age_identity.specs.Identities.{IsPassphraseIn};
 ghost use Rattle.age_keys.specs.Scrypt.{IsAllowed};
-ghost use Rattle.age_cli.specs.Acts.{Acts, GivesNone, PortsOf, ShowsProgress};
+ghost use Rattle.age_cli.specs.Acts.{Acts, GivesNone, PortsOf, ShowsProgress, ShowsRun};
 ghost use Rattle.age_cli.specs.Commands.{MakesSecret, IsRandomIn};
 ghost use Rattle.age_cli.specs.inner.Openings.{Judges, IsRandom, IsMaterialIn};
 
 use crate::interruption::sealing_end;
-use crate::output::{Content, Output, conclude, end_meter, open_both, with_meter};
+use crate::output::{Content, Output, begin_meter, conclude, end_meter, open_both};
+use crate::taking::Taking;
 use age_cli_args::{Encrypting, ProgressOption};
 use age_ending::{Announcement, Ending, Usage};
-use age_file::{Secret, Source, encrypt};
+use age_file::{FileFault, Secret, Source, Written, encrypt};
 use age_fileset::FileSet;
 use age_identity::{Choice, read_first, trimmed};
-use age_io::{Meter, Sink};
+use age_io::{Meter, Metered, Sink};
 use age_keys::{FileRandom, RANDOM_LEN};
 use std::alloc::Global;
 
@@ -176,6 +179,57 @@ fn secret_of<'a>(asked: &Encrypting<'_>, material: &'a Material) -> Result<Secre
     }
 }
 
+/// How an encryption ended, with the input.
+#[derive(Drop)]
+struct Sealed<S: Source> {
+    end: Result<Written, FileFault>,
+    source: S,
+}
+
+/// Encrypts the input into the output.
+fn seal_text<F: FileSet, P: Meter>(
+    alloc: Global,
+    files: &F,
+    asked: &Encrypting<'_>,
+    secret: &Secret<'_>,
+    mut source: F::In,
+    out: &mut Taking<F>,
+    progress: &mut P,
+) -> Sealed<F::In>
+    ensures done { IfOk result.end (Encrypts secret.now
+        (ports (F.In.view source) (F.Out.view out.old.out))
+        (ports (F.In.view result.source) (F.Out.view out.new.out))) }
+    ensures fails { IfErr result.end (EncryptFails secret.now
+        (ports (F.In.view source) (F.Out.view out.old.out))
+        (ports (F.In.view result.source) (F.Out.view out.new.out))) }
+    ensures named { (F.Out.view out.new.out).label ≡ (F.Out.view out.old.out).label }
+    ensures silent { asked.now.progress ≡ Silent → progress.new ≡ progress.old }
+    ensures shown { asked.now.progress ≡ Shown → ShowsRun (F.shows_bytes)
+        (F.In.view source).remaining (F.In.view result.source).remaining (P.shown progress.old)
+        (P.shown progress.new) }
+{
+    match asked.progress {
+        ProgressOption::Silent => {
+            let end = encrypt(alloc, secret, &mut source, out);
+            Sealed { end, source }
+        }
+        ProgressOption::Shown => {
+            begin_meter(files, &source, &mut *progress);
+            let mut metered = Metered {
+                source,
+                meter: &mut *progress,
+            };
+            let end = encrypt(alloc, secret, &mut metered, out);
+            let Metered {
+                source,
+                meter: _meter,
+            } = metered;
+            end_meter(&mut *progress);
+            Sealed { end, source }
+        }
+    }
+}
+
 /// Encrypts a file as asked. If it stops, the line of its fault is put to `faults`. What
 /// `announced` says isn't reported is left to `report_ending`.
 pub fn encrypt_file<F: FileSet, E: Sink, P: Meter>(
@@ -203,36 +257,16 @@ pub fn encrypt_file<F: FileSet, E: Sink, P: Meter>(
         durability: asked.durability,
         content: Content::AgeFile,
     };
-    let (mut source, mut out) = open_both(alloc, files, asked.from, &output)?;
-    match asked.progress {
-        ProgressOption::Silent => {
-            let sealed = encrypt(alloc, &secret, &mut source, &mut out);
-            conclude(
-                alloc,
-                files,
-                out,
-                output.save,
-                output.durability,
-                faults,
-                announced,
-                sealing_end(sealed),
-            )
-        }
-        ProgressOption::Shown => {
-            let mut metered = with_meter(files, source, &mut *progress);
-            let sealed = encrypt(alloc, &secret, &mut metered, &mut out);
-            drop(metered);
-            end_meter(&mut *progress);
-            conclude(
-                alloc,
-                files,
-                out,
-                output.save,
-                output.durability,
-                faults,
-                announced,
-                sealing_end(sealed),
-            )
-        }
-    }
+    let (source, mut out) = open_both(alloc, files, asked.from, &output)?;
+    let sealed = seal_text(alloc, files, asked, &secret, source, &mut out, progress);
+    conclude(
+        alloc,
+        files,
+        out,
+        output.save,
+        output.durability,
+        faults,
+        announced,
+        sealing_end(sealed.end),
+    )
 }

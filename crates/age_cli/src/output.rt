@@ -117,20 +117,13 @@ pub(crate) fn open_both<F: FileSet>(
     Ok((source, out))
 }
 
-/// An input of which a meter is shown the length, if the set of files can say it, and then how much
-/// is read.
-pub(crate) fn with_meter<F: FileSet, M: Meter>(
-    files: &F,
-    source: F::In,
-    mut meter: M,
-) -> Metered<F::In, M>
-    ensures source { result.source ≡ source }
-    ensures begun { (size : Option ℕ) × (F.shows_bytes ≡ true
-        → size ≡ option_map length (F.In.view source).remaining)
-        × Adds (M.shown meter) (M.shown result.meter) (Begins size) }
+/// Shows a meter that a reading of an input begins, with its length if the set of files can say it.
+pub(crate) fn begin_meter<F: FileSet, M: Meter>(files: &F, source: &F::In, meter: &mut M)
+    ensures { (size : Option ℕ) × (F.shows_bytes ≡ true
+        → size ≡ option_map length (F.In.view source.now).remaining)
+        × Adds (M.shown meter.old) (M.shown meter.new) (Begins size) }
 {
-    meter.begin(files.length(&source));
-    Metered::new(source, meter)
+    meter.begin(files.length(source));
 }
 
 /// Shows a meter that the run is over.

@@ -11,13 +11,13 @@ ghost use Rattle.age_cli.specs.Acts.{ShowsRun};
 ghost use Rattle.age_cli.specs.inner.Rereadings.{IsFoundIn, ConcludesAgain};
 
 use crate::interruption::save;
-use crate::output::{end_meter, leave, with_meter};
+use crate::output::{begin_meter, end_meter, leave};
 use crate::taking::Taking;
 use age_cli_args::{Decrypting, ProgressOption};
 use age_ending::{Announcement, Ending, announce};
 use age_file::{FileFault, Position, Stopped, position_after, resumed_position_after};
 use age_fileset::FileSet;
-use age_io::{Meter, Sink, Source};
+use age_io::{Meter, Metered, Sink, Source};
 use age_keys::KnownKey;
 use std::alloc::Global;
 
@@ -32,7 +32,7 @@ pub(crate) struct Again<S: Source> {
 }
 
 /// The position after this many bytes of the text, by reading its file from its start.
-#[tactic(auto, using(crate::proofs::RereadLemmas::finds_so, crate::proofs::RereadLemmas::fails_so, crate::proofs::RereadLemmas::finds_from))]
+#[tactic(auto, using(crate::proofs::RereadLemmas::finds_so, crate::proofs::RereadLemmas::fails_so))]
 fn position_in<S: Source>(
     alloc: Global,
     from: &Option<Position>,
@@ -77,9 +77,16 @@ fn find_again<F: FileSet, P: Meter>(
     match asked.progress {
         ProgressOption::Silent => position_in(alloc, &from, &key, written, &mut source),
         ProgressOption::Shown => {
-            let mut metered = with_meter(files, source, &mut *progress);
+            begin_meter(files, &source, &mut *progress);
+            let mut metered = Metered {
+                source,
+                meter: &mut *progress,
+            };
             let found = position_in(alloc, &from, &key, written, &mut metered);
-            drop(metered);
+            let Metered {
+                source: _source,
+                meter: _meter,
+            } = metered;
             end_meter(&mut *progress);
             found
         }

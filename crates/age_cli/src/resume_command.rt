@@ -20,7 +20,7 @@ use crate::decrypt_command::{
     again_of, can_reread, is_given_as, names_a_file_twice, positions_at_first, read_secret,
 };
 use crate::interruption::opening_end;
-use crate::output::{Content, Output, conclude, end_meter, open_both, with_meter};
+use crate::output::{Content, Output, begin_meter, conclude, end_meter, open_both};
 use crate::reread::{Again, conclude_again};
 use crate::taking::Taking;
 use age_cli_args::{Decrypting, ProgressOption, Resuming};
@@ -30,7 +30,7 @@ use age_file::{
 };
 use age_fileset::{FileSet, OpenFault};
 use age_identity::{Choice, Identity, read_file};
-use age_io::{Meter, Sink};
+use age_io::{Meter, Metered, Sink};
 use age_keys::KnownKey;
 use std::alloc::Global;
 
@@ -213,7 +213,11 @@ fn resume_text<F: FileSet, P: Meter>(
             }
         }
         ProgressOption::Shown => {
-            let mut metered = with_meter(files, source, &mut *progress);
+            begin_meter(files, &source, &mut *progress);
+            let mut metered = Metered {
+                source,
+                meter: &mut *progress,
+            };
             let (end, standing) = resume_keyed(
                 alloc,
                 positions,
@@ -223,7 +227,10 @@ fn resume_text<F: FileSet, P: Meter>(
                 old,
                 out,
             );
-            let (source, _) = metered.into_parts();
+            let Metered {
+                source,
+                meter: _meter,
+            } = metered;
             end_meter(&mut *progress);
             Resumed {
                 end,

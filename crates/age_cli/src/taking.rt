@@ -2,6 +2,7 @@
 
 ghost use Rattle.std.specs.Prelude.{◌≡◌, ◌==◌, true, length, Some, IsSomeAnd};
 ghost use Rattle.std.specs.Prelude.{[]};
+ghost use Rattle.std.proofs.Props.{props};
 
 use age_fileset::FileSet;
 use age_io::{Failed, Sink};
@@ -11,7 +12,7 @@ pub(crate) struct Taking<F: FileSet> {
     pub(crate) out: F::Out,
     pub(crate) is_empty: bool,
     ghost knows: { F.shows_bytes ≡ true
-        → IsSomeAnd (F.Out.view out).taken (λ bytes. is_empty ≡ (length bytes == 0)) },
+        → IsSomeAnd (F.Out.view out).taken (λ bytes. is_empty ≡ (length bytes == 0)) } by { Prim.hlevel props },
 }
 
 impl<F: FileSet> Taking<F> {

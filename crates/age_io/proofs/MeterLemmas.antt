@@ -1,4 +1,5 @@
 -- What a meter is shown of a source, from where that began.
+use base.Fml.{GName}
 use Rattle.std.proofs.Common.{ℕ, ◌+◌, ◌≤◌, ◌≡◌, List, [], ◌∷◌, length, take, ◌++◌, map, sym, ap, ap₂, ◌∙◌, refl, subst, arith}
 use Rattle.std.proofs.Common.{Option, Some, None}
 use Rattle.std.proofs.lemmas.List.{map-append, append_assoc, append-nil, length-append, length-take-le}
@@ -21,14 +22,14 @@ grown : (now : Option (List Shown)) (shown : List Shown) (more : Shown) → Adds
 grown None shown more a = absurd a
 grown (Some now) shown more a = ap Some a
 
-abbrev from : Option (List ℕ) → Option (List Shown) → Origin
-from coming shown = record { coming = coming; shown = shown }
+abbrev from : GName → Option (List ℕ) → Option (List Shown) → Origin
+from meter coming shown = record { meter = meter; coming = coming; shown = shown }
 
-since_more : (coming : Option (List ℕ)) (before : Option (List Shown)) (left after : Option (List ℕ)) (shown now : Option (List Shown))
+since_more : (meter : GName) (coming : Option (List ℕ)) (before : Option (List Shown)) (left after : Option (List ℕ)) (shown now : Option (List Shown))
     → (n : ℕ) (into : List ℕ) → n ≤ length into → Consumes left after (take n into) → Adds shown now (Advances n)
-    → CountsSince (from coming before) left shown → CountsSince (from coming before) after now
-since_more coming None left after shown now n into most read adds since = tt
-since_more coming (Some before) left after shown now n into most read adds since =
+    → CountsSince (from meter coming before) left shown → CountsSince (from meter coming before) after now
+since_more meter coming None left after shown now n into most read adds since = tt
+since_more meter coming (Some before) left after shown now n into most read adds since =
     let bytes = since.0 in let counts = since.1 in (
       bytes ++ take n into,
       counts ++ n ∷ [],
@@ -42,20 +43,20 @@ since_more coming (Some before) left after shown now n into most read adds since
 pub pulls_since : (from : Origin) (left after : Option (List ℕ)) (shown now : Option (List Shown)) (n : ℕ) (into : List ℕ)
     → n ≤ length into → Consumes left after (take n into) → Adds shown now (Advances n)
     → CountsSince from left shown → CountsSince from after now
-pulls_since from = since_more from.coming from.shown
+pulls_since from = since_more from.meter from.coming from.shown
 
 -- a meter that has begun was shown no count yet
-pub begins_since : (left : Option (List ℕ)) (now : Option (List Shown)) → CountsSince (from left now) left now
-begins_since left None = tt
-begins_since left (Some now) = ([], [], Consumes-nil left, refl, ap Some (sym (append-nil now)))
+pub begins_since : (meter : GName) (left : Option (List ℕ)) (now : Option (List Shown)) → CountsSince (from meter left now) left now
+begins_since meter left None = tt
+begins_since meter left (Some now) = ([], [], Consumes-nil left, refl, ap Some (sym (append-nil now)))
 
 -- a meter that was begun, counted and ended was shown a reading
-pub reading_of : (size : Option ℕ) (coming left : Option (List ℕ)) (before began counted ended : Option (List Shown))
-    → Adds before began (Begins size) → CountsSince (from coming began) left counted → Adds counted ended Ends
+pub reading_of : (meter : GName) (size : Option ℕ) (coming left : Option (List ℕ)) (before began counted ended : Option (List Shown))
+    → Adds before began (Begins size) → CountsSince (from meter coming began) left counted → Adds counted ended Ends
     → ShowsReading size coming left before ended
-reading_of size coming left None began counted ended b c e = tt
-reading_of size coming left (Some before) None counted ended b c e = absurd b
-reading_of size coming left (Some before) (Some began) counted ended b c e =
+reading_of meter size coming left None began counted ended b c e = tt
+reading_of meter size coming left (Some before) None counted ended b c e = absurd b
+reading_of meter size coming left (Some before) (Some began) counted ended b c e =
     let counts = map Advances c.1 in (
       c.0,
       c.1,

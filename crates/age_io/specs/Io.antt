@@ -1,4 +1,5 @@
 -- What contracts see of sources, sinks and meters, and what those over memory do.
+use base.Fml.{GName}
 use Rattle.std.specs.Prelude.{ℕ, List, Option, Bool, ◌+◌, ◌-◌, ◌^◌, min, option_map, Result, Ok}
 use Rattle.std.specs.Prelude.{Err, ◌≡◌, [], ◌∷◌, ◌++◌, Some, None, ◌≢◌, ◌⊎◌, length, take, drop}
 use Rattle.std.specs.Prelude.{true, false, map, IfSome}
@@ -66,9 +67,10 @@ abbrev pub AddsPull : {E : Type 0} → Option (List Shown) → Option (List Show
 AddsPull old new (Ok bytes) = Adds old new (Advances bytes)
 AddsPull old new (Err failed) = new ≡ old
 
--- where a source that has a meter began: the bytes that were to come, where they are shown, and
--- what the meter was shown by then
+-- where a source that has a meter began: by what name the meter is lent to it, the bytes that were to
+-- come, if they are shown, and what the meter was shown by then
 pub record Origin : Type 0 where
+  pub meter : GName
   pub coming : Option (List ℕ)
   pub shown : Option (List Shown)
 

@@ -8,36 +8,21 @@ use crate::failed::Failed;
 use crate::meter::Meter;
 use crate::source::Source;
 
-/// A source that hands on what another gives, and reports to a meter how many bytes each pull gave.
-/// A contract sees both.
-#[derive(Debug, Drop)]
-pub struct Metered<S: Source, M: Meter> {
-    source: S,
-    meter: M,
+/// A source that hands on what another gives, and reports to a meter, which has begun, how many bytes
+/// each pull gave. A contract sees both.
+#[derive(Drop)]
+pub struct Metered<'m, S: Source, M: Meter> {
+    /// The source that gives the bytes.
+    pub source: S,
+    /// The meter, which is lent.
+    pub meter: &'m mut M,
 }
 
-impl<S: Source, M: Meter> Metered<S, M> {
-    /// A source that hands on what this one gives. The meter is one that has begun.
-    pub fn new(source: S, meter: M) -> Metered<S, M>
-        ensures source { result.source ≡ source }
-        ensures meter { result.meter ≡ meter }
-    {
-        Metered { source, meter }
-    }
-
-    /// The source, and the meter.
-    pub fn into_parts(self) -> (S, M)
-        ensures { result ≡ (self.source, self.meter) }
-    {
-        let Metered { source, meter } = self;
-        (source, meter)
-    }
-}
-
-impl<S: Source, M: Meter> Source for Metered<S, M> {
+impl<'m, S: Source, M: Meter> Source for Metered<'m, S, M> {
     ghost view = { λ s. S.view s.source };
 
-    ghost metered = { λ s from. CountsSince from (S.view s.source).remaining (M.shown s.meter) };
+    ghost metered = { λ s from. (s.meter.ghost_name ≡ from.meter)
+        × CountsSince from (S.view s.source).remaining (M.shown s.meter.now) };
 
     /// Does what the source's own pull does, and reports to the meter how many bytes it gave;
     /// nothing if it failed.
@@ -49,11 +34,12 @@ impl<S: Source, M: Meter> Source for Metered<S, M> {
             (λ _. (S.view self.new.source).failed ≡ (S.view self.old.source).failed)
             (λ _. (S.view self.new.source).failed ≡ one_more (S.view self.old.source).failed) }
         ensures last { (S.view self.new.source).failing ≡ is_err result }
-        ensures metered { M.count self.new.meter ≡ pulled result (M.count self.old.meter) }
-        ensures shown { AddsPull (M.shown self.old.meter) (M.shown self.new.meter) result }
-        ensures since { (from : Origin)
-            → CountsSince from (S.view self.old.source).remaining (M.shown self.old.meter)
-            → CountsSince from (S.view self.new.source).remaining (M.shown self.new.meter) }
+        ensures metered { M.count self.new.meter.now ≡ pulled result (M.count self.old.meter.now) }
+        ensures shown { AddsPull (M.shown self.old.meter.now) (M.shown self.new.meter.now) result }
+        ensures since { (from : Origin) → (self.old.meter.ghost_name ≡ from.meter)
+            × CountsSince from (S.view self.old.source).remaining (M.shown self.old.meter.now)
+            → (self.new.meter.ghost_name ≡ from.meter)
+            × CountsSince from (S.view self.new.source).remaining (M.shown self.new.meter.now) }
     {
         let n = self.source.pull(into)?;
         self.meter.advance(n as u64);

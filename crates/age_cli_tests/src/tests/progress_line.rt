@@ -109,9 +109,12 @@ fn shows_at_most_101_lines(rt: HostRuntime) -> Result<(), Fail> {
 }
 
 /// Reads a source of ten bytes, whose second pull fails.
-fn pull_in_turn<M: Meter + Drop>(rt: &impl Abort, alloc: Global, meter: M) -> Result<(), Fail> {
+fn pull_in_turn<M: Meter + Drop>(rt: &impl Abort, alloc: Global, mut meter: M) -> Result<(), Fail> {
     let source = MemSource::new(b"0123456789".to_vec(alloc)?, 4, Some(1));
-    let mut metered = Metered::new(source, meter);
+    let mut metered = Metered {
+        source,
+        meter: &mut meter,
+    };
     let mut into = [0; 8];
     assert_eq!(rt; metered.pull(&mut into), Ok(4));
     assert_eq!(rt; &into[..4], b"0123".as_slice());

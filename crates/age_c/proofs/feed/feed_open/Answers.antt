@@ -21,7 +21,8 @@ returns-then-held-lt-BLOCK_LEN-clause-feeds c =
     } in
     let bytes : held_of new ≡ held_of old ++ take held.result c.args.piece.now =
     ap (λ (n : ℕ). take (n + held.result) held.new.stream.block) held.ensures.held ∙ held.ensures.bytes in
-    feeds_part c.args.piece.now held.result old new held.ensures.reader bytes c.if-held-lt-BLOCK_LEN.true
+    feeds_part c.args.piece.now held.result old new held.ensures.reader bytes
+    (ap (λ (n : ℕ). n + held.result) held.ensures.held) c.if-held-lt-BLOCK_LEN.true
     held.ensures.count_is c.requires.call.short c.requires.open
 
 pub returns-clause-feeds : goal.returns-clause-feeds

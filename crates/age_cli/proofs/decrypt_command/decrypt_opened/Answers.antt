@@ -38,6 +38,6 @@ returns-in-None-clause-opened g c =
     (λ silent. once.ensures.silent silent) c.can_reread-is_reread.result once.result.end once.result.key _ c.conclude.result
     (sym c.again_of.ensures ∙ c.in-None.is) c.positions_at_first.ensures.kept once.ensures.opened _ c.opening_end.ensures
     (λ ended asked input same. shown_once _ _ _ _ _ c.conclude.result (run_of _ _ _ _ _ _ same (once.ensures.shown asked))
-    (at_end_of c.opening_end.result c.conclude.result _
+    (at_end_of _ c.opening_end.result c.conclude.result _
     (subst (λ (e : Result (Unit {0}) Interruption). OnOk e (IsAtEnd (In once.result.source).remaining)) (sym c.opening_end.ensures) ended)
     c.conclude.ensures.concludes.done)) c.conclude.ensures.concludes

@@ -47,7 +47,7 @@ returns-in-Some g c =
 pub returns-in-None : goal.returns-in-None
 returns-in-None g c = record {
   kept = c.in_ok-out.ensures.kept;
-  opened = c.in_ok-out.ensures.made;
+  opened = rw c.new.ensures c.in_ok-out.ensures.made;
   noted = c.in_ok-out.ensures.noted;
   followed = tt;
   early = tt;

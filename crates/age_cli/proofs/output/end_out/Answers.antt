@@ -10,9 +10,9 @@ pub returns-in_ok-close-in-Ok : goal.returns-in_ok-close-in-Ok
 returns-in_ok-close-in-Ok g c =
     let closed = c.in_ok-close-in-Ok.ensures in
     record {
-      done = (subst (λ (r : Result (Unit {0}) Interruption). IsOk r) (sym c.in-Ok.is) refl, closed.put);
+      done = (subst (λ (r : Result (Unit {0}) Interruption). IsOk r) (sym c.in-Ok.is) refl, rw c.into_out.ensures at closed.put);
       stops = tt;
-      others = closed.others;
+      others = rw c.into_out.ensures at closed.others;
       noted = closed.noted;
     }
 
@@ -30,9 +30,9 @@ returns-in_err-close-in-Ok g c =
           subst (λ (x : Result (Unit {0}) Interruption). Left x sink.taken ((view c.args.files.now).entries sink.label) ((view c.close.new.self).entries sink.label) e)
           (sym c.in-Ok.is) (
             ap (λ f. record { fault = f; position = None }) closed.faults,
-            ⊎_elim (λ same. inl (ap (λ (f : Files). f sink.label) same)) (λ put. inr (put shown)) closed.err,
+            ⊎_elim (λ same. inl (ap (λ (f : Files). f sink.label) same)) (λ put. inr (put shown)) (rw c.into_out.ensures at closed.err),
           ));
-      others = closed.others;
+      others = rw c.into_out.ensures at closed.others;
       noted = closed.noted;
     }
 

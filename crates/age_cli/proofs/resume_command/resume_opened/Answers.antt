@@ -40,8 +40,8 @@ returns-in-Some-clause-opened g c =
     once.ensures.resumed)
     (λ asked input same. shown_twice _ _ _ _ _ _ c.conclude_again.result (run_of _ _ _ _ _ _ same (once.ensures.shown asked)) again.shown) again.again
 
-pub returns-in-None-clause-opened : goal.returns-in-None-clause-opened
-returns-in-None-clause-opened g c =
+pub returns-clause-opened : goal.returns-clause-opened
+returns-clause-opened g c =
     let view = g.F.FileSet.view in
     let In = g.F.In.Source.view in
     let Out = g.F.Out.Sink.view in
@@ -54,6 +54,6 @@ returns-in-None-clause-opened g c =
     (sym (c.again_of.ensures ∙ ap (again_of c.can_reread-is_reread.result c.placed-end.result) c.key_of.ensures) ∙ c.in-None.is)
     c.can_reread-is_reread.ensures c.positions_at_first.ensures.dropped c.positions_at_first.ensures.kept once.ensures.resumed _ c.opening_end.ensures
     (λ ended asked input same. shown_once _ _ _ _ _ c.conclude.result (run_of _ _ _ _ _ _ same (once.ensures.shown asked))
-    (at_end_of c.opening_end.result c.conclude.result _
+    (at_end_of _ c.opening_end.result c.conclude.result _
     (subst (λ (e : Result (Unit {0}) Interruption). OnOk e (IsAtEnd (In once.result.source).remaining)) (sym c.opening_end.ensures) ended)
     c.conclude.ensures.concludes.done)) c.conclude.ensures.concludes

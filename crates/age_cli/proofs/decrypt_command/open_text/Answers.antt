@@ -1,0 +1,13 @@
+use Rattle.std.proofs.Common.{◌∙◌, sym}
+use Rattle.age_cli.proofs.ProgressLemmas.{not_both, shows_run}
+use Rattle.age_cli.proofs.decrypt_command.open_text.Goals as goal
+
+pub returns-in-Silent-clause-shown : goal.returns-in-Silent-clause-shown
+returns-in-Silent-clause-shown g c asked = absurd (not_both (sym asked ∙ c.in-Silent.is))
+
+pub returns-in-Shown-clause-shown : goal.returns-in-Shown-clause-shown
+returns-in-Shown-clause-shown g c asked =
+    let run = c.decrypt_keyed-end-in-Shown in
+    let In = g.F.In.Source.view in
+    shows_run g.P.Meter.shown _ _ (In c.args.source).remaining (In run.new.reader.source).remaining _ _ c.begin_meter.new.meter run.new.reader.meter.now _
+    run.new.reader.meter.ghost_name c.begin_meter.ensures run.ensures.metered c.progress-1.given.1 c.end_meter.ensures
