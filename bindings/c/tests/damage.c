@@ -532,7 +532,7 @@ int main(int argc, char **argv) {
     read_files(count);
     for (int rule = 0; rule < RULES; rule++) {
         failed += wrong[rule] != 0;
-        if (wrong[rule]) printf("wrong %ld times: %s\n", wrong[rule], rules[rule]);
+        printf("wrong %ld times: %s\n", wrong[rule], rules[rule]);
     }
     printf("%ld passed, %ld failed\n", RULES - failed, failed);
     return failed != 0;

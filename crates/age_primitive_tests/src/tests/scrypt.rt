@@ -127,8 +127,8 @@ fn low_work_factors(rt: HostRuntime) -> Result<(), Fail> {
     Ok(())
 }
 
-/// Run it with each allocation refused in turn (checks/allocations): the call that met the refusal
-/// says so, and the next one makes the key.
+/// Run it with each allocation refused in turn (tests/test_allocations.py): the call that met the
+/// refusal says so, and the next one makes the key.
 #[test]
 fn reports_a_refusal(rt: HostRuntime) -> Result<(), Fail> {
     let mut steps = Steps::new();

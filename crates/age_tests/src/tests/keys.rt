@@ -124,8 +124,8 @@ fn opened(alloc: Global, pass: &[u8]) -> Result<[u8; 16], KeyFault>
     Ok(*key.bytes())
 }
 
-/// `checks/allocations` runs it with each allocation refused in turn: the call that meets the
-/// refusal says so, and the next one answers as ever.
+/// `tests/test_allocations.py` runs it with each allocation refused in turn: the call that meets
+/// the refusal says so, and the next one answers as ever.
 #[test]
 fn a_refusal_is_reported(rt: HostRuntime) {
     let first = opened(rt.alloc(), b"correct horse");

@@ -139,8 +139,8 @@ fn is_taken(replay: &mut Replay<'_, ClearBox, 20>, delivery: &Delivery<'_>) -> b
             && replay.take(delivery).is_ok()
 }
 
-/// Run it with each allocation refused in turn (checks/allocations): a refused growth is reported
-/// and changes nothing, and the next call takes the same delivery.
+/// Run it with each allocation refused in turn (tests/test_allocations.py): a refused growth is
+/// reported and changes nothing, and the next call takes the same delivery.
 #[test]
 fn a_refused_growth_changes_nothing(rt: HostRuntime) {
     let key = ClearBox;

@@ -1,8 +1,6 @@
-#!/usr/bin/env python3
-"""Runs the built program on real files as the transcripts in checks/runs.d say, and compares its status, what it prints and what the
-files then hold. What a transcript expects comes from outside, never from our own output.
-
-usage: checks/runs [FILE.run ..]
+"""Runs the built program on real files as the transcripts in tests/runs.d say, and compares its status, what it prints and what the
+files then hold. What a transcript expects comes from outside, never from our own output. The case NAME of FILE.run is the test
+`test_FILE_NAME`, and each of its lines that compares something is counted.
 
 A transcript has cases, each of which starts in an empty folder. A line that begins with `#` is a comment, and ` \\` at the end of a line
 joins the next one to it.
@@ -47,21 +45,13 @@ import resource
 import shlex
 import shutil
 import signal
-import subprocess
-import sys
-import tempfile
 import threading
 
-TOP = pathlib.Path(__file__).resolve().parent.parent
-PROGRAM = TOP / "crates" / "age_tool" / "out" / "age_tool"
-SECONDS = 60
+from tests.case import Case
+
 TERM = re.compile(r'(?:(\d+) \* )?(?:"((?:[^"\\]|\\.)*)"|0x([0-9a-f]+)|([\w./-]+)(?:\[(\d*):(\d*)\])?)')
 # These take a word and BYTES, the others words alone.
 WITH_BYTES = ("write", "pieces", "holds", "begins")
-
-
-class Wrong(Exception):
-    """What is wrong with a transcript, or with what a run left."""
 
 
 class Transcripts:
@@ -87,7 +77,7 @@ class Transcripts:
         elif kind == "let" and name not in self.bytes:
             self.bytes[name] = rest
         else:
-            raise Wrong(f"{where}: {kind} {name}")
+            raise ValueError(f"{where}: {kind} {name}")
 
     def steps(self, block):
         """The lines of a block, each `do` replaced by the lines of its part."""
@@ -102,7 +92,7 @@ class Transcripts:
         """The lines of a part with these words."""
         parameters, block = self.parts[name]
         if len(words) != len(parameters):
-            raise Wrong(f"{where}: {name} takes {len(parameters)} words")
+            raise ValueError(f"{where}: {name} takes {len(parameters)} words")
         values = dict(zip(parameters, words))
 
         def put(text):
@@ -127,22 +117,6 @@ def unescaped(text):
     return ast.literal_eval(f'b"{text}"')
 
 
-def see(what, seen, wanted):
-    if seen != wanted:
-        raise Wrong(f"{what}: {shortened(seen)}, wanted {shortened(wanted)}")
-
-
-def shortened(value):
-    return repr(value) if not isinstance(value, bytes) or len(value) < 1000 else f"{value[:100]} .. of {len(value)}"
-
-
-def see_output(what, seen, lines):
-    if lines != ["*"]:
-        see(what, seen, b"".join(unescaped(line) + b"\n" for line in lines))
-    elif not seen:
-        raise Wrong(f"{what}: none")
-
-
 def feed(data, size):
     """A pipe that gives these bytes, at most so many to each read, and the thread that fills it."""
     source, sink = os.pipe2(os.O_DIRECT | os.O_CLOEXEC)
@@ -160,21 +134,31 @@ def feed(data, size):
     return source, thread
 
 
-class Room:
-    """The folder of a case, and what its next run is given."""
+def joined(steps):
+    """The steps, each run with the lines that say what is wanted of it."""
+    actions = []
+    for where, verb, rest in steps:
+        if verb in ("|", "!", "?"):
+            actions[-1][3][verb].append(rest)
+        else:
+            actions.append((where, verb, rest, {"|": [], "!": [], "?": []}))
+    return actions
 
-    def __init__(self, folder, constants):
-        self.folder, self.constants, self.given = folder, constants, {}
 
-    def path(self, name):
-        return self.folder / name
+class RunsTest(Case):
+    """A test for each case of the transcripts."""
+
+    def setUp(self):
+        super().setUp()
+        # What the next run is given.
+        self.given = {}
 
     def contents(self, name):
         if self.path(name).is_file():
-            return self.path(name).read_bytes()
-        if name in self.constants:
-            return self.value(self.constants[name])
-        raise Wrong(f"no file {name}")
+            return self.read(name)
+        if name in TRANSCRIPTS.bytes:
+            return self.value(TRANSCRIPTS.bytes[name])
+        self.fail(f"no file {name}")
 
     def value(self, text):
         """The bytes that BYTES say."""
@@ -192,51 +176,49 @@ class Room:
             if not text.startswith(" + ", at):
                 break
             at += len(" + ")
-        raise Wrong(f"no bytes: {text}")
+        raise ValueError(f"no bytes: {text}")
 
-    def remove(self, *names):
+    def remove_all(self, names):
         for name in names:
-            path = self.path(name)
-            if path.is_dir() and not path.is_symlink():
-                shutil.rmtree(path)
+            if self.path(name).is_dir() and not self.path(name).is_symlink():
+                shutil.rmtree(self.path(name))
             else:
-                path.unlink()
+                self.path(name).unlink()
 
-    def run(self, words, wanted):
+    def run_program(self, words, wanted):
         """Runs the program, and compares what it printed and its status."""
         given, self.given = self.given, {}
         limit = int(given.get("limit", ["-1"])[0])
-        opened = {}
-        thread = None
+        opened, thread = {}, None
         for stream, how in (("stdin", os.O_RDONLY), ("stdout", os.O_WRONLY | os.O_CREAT), ("stderr", os.O_WRONLY | os.O_CREAT)):
             if stream in given:
                 opened[stream] = os.open(self.path(given[stream][0]), how, 0o600)
         if "pieces" in given:
             opened["stdin"], thread = feed(self.value(given["pieces"][1]), int(given["pieces"][0]))
-        streams = {"stdin": subprocess.DEVNULL, "stdout": subprocess.PIPE, "stderr": subprocess.PIPE, **opened}
 
         def confine():
             # Without the signal that would end the program, a write beyond the limit fails.
             signal.signal(signal.SIGXFSZ, signal.SIG_IGN)
             resource.setrlimit(resource.RLIMIT_FSIZE, (limit, limit))
 
-        child = subprocess.Popen([PROGRAM, *words], cwd=self.folder, preexec_fn=confine if limit >= 0 else None, **streams)
-        for stream in opened.values():
-            os.close(stream)
         try:
-            output, faults = child.communicate(timeout=SECONDS)
-        except subprocess.TimeoutExpired:
-            child.kill()
-            child.communicate()
-            raise Wrong(f"still runs after {SECONDS} seconds") from None
+            ended = self.tool(*words, preexec_fn=confine if limit >= 0 else None, **opened)
         finally:
+            for stream in opened.values():
+                os.close(stream)
             if thread:
                 thread.join()
-        see_output("standard error", faults or b"", wanted["!"])
-        see_output("output", output or b"", wanted["|"])
-        see("status", [str(child.returncode)], wanted["?"] or ["0"])
+        self.compare_text("standard error", ended.stderr or b"", wanted["!"])
+        self.compare_text("output", ended.stdout or b"", wanted["|"])
+        self.assertEqual([str(ended.returncode)], wanted["?"] or ["0"], "status")
 
-    def prepare(self, verb, *words):
+    def compare_text(self, what, seen, lines):
+        if lines == ["*"]:
+            self.assertTrue(seen, what)
+        else:
+            self.assertEqual(seen, b"".join(unescaped(line) + b"\n" for line in lines), what)
+
+    def prepare(self, verb, words):
         """Makes or removes files, or keeps what the next run is given. False: the line does something else."""
         if verb == "write":
             self.path(words[0]).write_bytes(self.value(words[1]))
@@ -247,9 +229,9 @@ class Room:
         elif verb == "hard":
             os.link(self.path(words[1]), self.path(words[0]))
         elif verb == "remove":
-            self.remove(*words)
+            self.remove_all(words)
         elif verb == "clear":
-            self.remove(*os.listdir(self.folder))
+            self.remove_all(os.listdir(self.room))
         elif verb in ("limit", "stdin", "pieces", "stdout", "stderr"):
             self.given[verb] = words
         else:
@@ -259,65 +241,31 @@ class Room:
     def compare(self, verb, name, *words):
         """Compares what is there with what is wanted."""
         if verb == "holds":
-            see(name, self.value(name), self.value(*words))
+            self.assertEqual(self.value(name), self.value(*words))
         elif verb == "begins":
             wanted = self.value(*words)
-            see(name, self.contents(name)[: len(wanted)], wanted)
+            self.assertEqual(self.contents(name)[: len(wanted)], wanted)
         elif verb == "size":
-            see(f"the size of {name}", len(self.contents(name)), int(*words))
+            self.assertEqual(len(self.contents(name)), int(*words))
         elif verb == "leads":
-            see(name, os.readlink(self.path(name)), *words)
+            self.assertEqual(os.readlink(self.path(name)), *words)
         elif verb == "absent":
-            see("what should be absent", [it for it in (name, *words) if os.path.lexists(self.path(it))], [])
+            self.assertEqual([it for it in (name, *words) if self.is_there(it)], [])
         else:
-            raise Wrong(f"no verb {verb}")
+            self.fail(f"no verb {verb}")
 
-
-def joined(steps):
-    """The steps, each run with the lines that say what is wanted of it."""
-    actions = []
-    for where, verb, rest in steps:
-        if verb in ("|", "!", "?"):
-            actions[-1][3][verb].append(rest)
-        else:
-            actions.append((where, verb, rest, {"|": [], "!": [], "?": []}))
-    return actions
-
-
-def ran(name, room, actions):
-    """Goes through a case. How many comparisons were right, and how many lines failed."""
-    right = wrong = 0
-    for where, verb, rest, wanted in actions:
-        words = rest.split(maxsplit=1) if verb in WITH_BYTES else shlex.split(rest)
-        try:
+    def go_through(self, actions):
+        """Goes through a case."""
+        for where, verb, rest, wanted in actions:
+            words = rest.split(maxsplit=1) if verb in WITH_BYTES else shlex.split(rest)
             if verb == "$":
-                room.run(words, wanted)
-            elif room.prepare(verb, *words):
-                continue
-            else:
-                room.compare(verb, *words)
-            right += 1
-        except (Wrong, OSError) as fault:
-            wrong += 1
-            print(f"{where}: {name}: {verb} {rest}: {fault}")
-    return right, wrong
+                with self.subTest(f"{where}: {verb} {rest}"):
+                    self.run_program(words, wanted)
+            elif not self.prepare(verb, words):
+                with self.subTest(f"{where}: {verb} {rest}"):
+                    self.compare(verb, *words)
 
 
-def main():
-    subprocess.run([TOP / "age_tool"], stdin=open(TOP / "crates" / "age_tool" / "stdin"), stdout=subprocess.DEVNULL, check=True)
-    paths = sorted((TOP / "checks" / "runs.d").glob("*.run"))
-    transcripts = Transcripts(paths)
-    chosen = [pathlib.Path(it).name for it in sys.argv[1:]] or [it.name for it in paths]
-    passed = failed = 0
-    for path, name, block in transcripts.cases:
-        if path.name not in chosen:
-            continue
-        with tempfile.TemporaryDirectory() as folder:
-            right, wrong = ran(name, Room(pathlib.Path(folder), transcripts.bytes), joined(transcripts.steps(block)))
-        passed += right
-        failed += wrong
-    print(f"{passed} passed, {failed} failed")
-    return 1 if failed or not passed else 0
-
-
-sys.exit(main())
+TRANSCRIPTS = Transcripts(sorted(pathlib.Path(__file__).with_name("runs.d").glob("*.run")))
+for path, name, block in TRANSCRIPTS.cases:
+    setattr(RunsTest, f"test_{path.stem}_{name}", lambda case, block=block: case.go_through(joined(TRANSCRIPTS.steps(block))))

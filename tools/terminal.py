@@ -12,6 +12,20 @@ def start(words, env=None):
     return child, terminal
 
 
+def output(terminal, until=None, seconds=60):
+    """What a program writes at its terminal until it closes that, has written these bytes, or writes nothing for so long."""
+    seen = b""
+    while not (until and until in seen) and select.select([terminal], [], [], seconds)[0]:
+        try:
+            piece = os.read(terminal, 4096)
+        except OSError:
+            break
+        if not piece:
+            break
+        seen += piece
+    return seen
+
+
 def answer(terminal, passphrase):
     """Answers each question of the program with the passphrase, until the program closes its terminal."""
     asked = b""

@@ -1,8 +1,7 @@
-#!/usr/bin/env python3
-"""Cuts the power of the built program. It records what each run does to its files, by a library that is loaded before the C library's,
-and lays out each state in which a disk may be after each of these calls: of a file what was there at its last fsync, with any part of
-what was written or cut since; of a folder its names at its last fsync, with the first of the changes since, up to any of them. On each
-state it tries what a user would do:
+"""Cuts the power of the built program. It records what each run does to its files, by a library that is loaded before the C library's
+(tools/shim.c), and lays out each state in which a disk may be after each of these calls: of a file what was there at its last fsync,
+with any part of what was written or cut since; of a folder its names at its last fsync, with the first of the changes since, up to any
+of them. On each state it tries what a user would do:
 
 - after status 0 OUT is whole: it holds the plaintext, or is a file that decrypts to it;
 - a position that is there is whole, and `resume` completes from it with the text that it was saved for; with another text, or with what
@@ -12,9 +11,7 @@ state it tries what a user would do:
 - an OUT of `encrypt` that isn't whole is never read as another text;
 - the same command does the same once more.
 
-A run with --no-sync passes if its states show each fault that a lost write can have: so the check can fail.
-
-usage: checks/power-cut [PROGRAM]
+A run with --no-sync passes if its states show each fault that a lost write can have: so the test can fail. Each run is a test.
 """
 import hashlib
 import itertools
@@ -24,15 +21,13 @@ import random
 import re
 import shutil
 import subprocess
-import sys
 import tempfile
 import typing
+import unittest
 
-from shim import RECORDING, built
+from tests.case import SECONDS, needs
+from tools import shim, workspace
 
-TOP = pathlib.Path(__file__).resolve().parent.parent
-PROGRAM = pathlib.Path(sys.argv[1] if len(sys.argv) > 1 else TOP / "crates" / "age_tool" / "out" / "age_tool").resolve()
-SECONDS = 60
 # Nothing has to reach a real disk.
 MEMORY = "/dev/shm" if os.access("/dev/shm", os.W_OK) else None
 BLOCK = 4096
@@ -266,7 +261,7 @@ def held_in(top):
 
 
 class Case(typing.NamedTuple):
-    """A run: its name, its words, the files that are there before, and its status. It writes OUT to `out`."""
+    """A run: its name, its words, the files that are there before, each like one of the room, and its status. It writes OUT to `out`."""
 
     name: str
     words: str
@@ -308,14 +303,13 @@ class Case(typing.NamedTuple):
         return {LOST_POSITION, TORN_POSITION} | (set() if self.keeps_out() else {REFUSED})
 
 
-def cases(position, old, other):
-    """The runs, to a new OUT and over an old one, with a position beside it and in another folder: from a position and its text, and
-    another age file."""
+def cases():
+    """The runs, to a new OUT and over an old one, with a position beside it and in another folder."""
     encrypt = "encrypt --pass ../pass --log 1 ../plain out"
     yield Case("encrypt", encrypt, {})
-    yield Case("encrypt, over OUT", encrypt, {"out": other})
-    stopped = {"position": position, "old": old}
-    for over, out in (("", {}), (", over OUT", {"out": OTHER})):
+    yield Case("encrypt, over OUT", encrypt, {"out": "other.age"})
+    stopped = {"position": "position", "old": "old"}
+    for over, out in (("", {}), (", over OUT", {"out": "other"})):
         yield Case(f"decrypt{over}", "decrypt --pass ../pass ../age out", out)
         yield Case(f"decrypt{over}, wrong passphrase", "decrypt --pass ../wrong ../age out", out, 1)
         yield Case(f"resume{over}", "resume --position position --old old --pass ../pass ../age out", out | stopped)
@@ -323,12 +317,12 @@ def cases(position, old, other):
         yield Case(f"resume{over}, wrong passphrase", words, out | stopped, 1)
         for save in ("saved", "there/saved"):
             yield from saving_cases(f"--save {save}{over}", save, out, stopped)
-            yield from saving_cases(f"--save {save} over one{over}", save, out | {save: position, "old": old}, stopped)
+            yield from saving_cases(f"--save {save} over one{over}", save, out | {save: "position", "old": "old"}, stopped)
             words = f"resume --position {save} --old old --save {save} --pass ../pass ../cut-2 out"
-            yield Case(f"resume --save {save} over its own{over}, stopped", words, out | {save: position, "old": old}, 1)
+            yield Case(f"resume --save {save} over its own{over}, stopped", words, out | {save: "position", "old": "old"}, 1)
     for save in ("saved", "there/saved"):
         words = f"decrypt --save {save} --pass ../pass ../cut-2 out"
-        yield Case(f"decrypt --save {save} over one, over its OUT, stopped", words, {"out": old, save: position}, 1)
+        yield Case(f"decrypt --save {save} over one, over its OUT, stopped", words, {"out": "old", save: "position"}, 1)
 
 
 def saving_cases(name, save, before, stopped):
@@ -347,9 +341,8 @@ def saving_cases(name, save, before, stopped):
 class Room:
     """A folder with what the runs read, and the folder in which they run."""
 
-    def __init__(self, folder, shim):
+    def __init__(self, folder):
         self.folder = folder
-        self.shim = shim
         self.texts = {}
         for name, held in {"pass": b"correct horse", "wrong": b"battery staple", "plain": PLAIN, "other": OTHER}.items():
             self.path(name).write_bytes(held)
@@ -376,14 +369,14 @@ class Room:
             (run / name).write_bytes(held)
         return run
 
-    def run(self, folder, words, **more):
-        env = {**os.environ, **more}
-        return subprocess.run([PROGRAM, *words.split()], cwd=folder, env=env, stdin=subprocess.DEVNULL, capture_output=True, timeout=SECONDS)
+    def run(self, folder, words, env=None):
+        words = [workspace.program(), *words.split()]
+        return subprocess.run(words, cwd=folder, env=env, stdin=subprocess.DEVNULL, capture_output=True, timeout=SECONDS)
 
     def recorded(self, folder, words):
         """How a run ends, and its calls."""
         self.path("record").write_bytes(b"")
-        ended = self.run(folder, words, LD_PRELOAD=str(self.shim), RECORD=str(self.path("record")))
+        ended = self.run(folder, words, shim.loaded(RECORD=self.path("record")))
         return ended, list(calls(self.path("record")))
 
     def text(self, words, **files):
@@ -418,7 +411,8 @@ class Trial:
         self.room = room
         self.case = case
         self.seen = set()
-        folder = room.laid_out(case.before)
+        self.before = {name: room.read(held) for name, held in case.before.items()}
+        folder = room.laid_out(self.before)
         self.disk, whole = Disk(folder), Disk(folder)
         self.ended, self.calls = room.recorded(folder, case.words)
         self.after = held_in(folder)
@@ -485,7 +479,7 @@ class Trial:
             yield LOST_OUT
         if is_over and case.saved() and held.get(case.saved()) != self.after[case.saved()]:
             yield LOST_POSITION
-        if case.is_for("encrypt") and held.get("out") != case.before.get("out") and self.room.decrypted(state["out"]) not in (PLAIN, None):
+        if case.is_for("encrypt") and held.get("out") != self.before.get("out") and self.room.decrypted(state["out"]) not in (PLAIN, None):
             yield WRONG_FILE
         for name in held:
             if name.endswith(("saved", "position")):
@@ -495,7 +489,7 @@ class Trial:
 
     def is_kept(self, held, is_over):
         """OUT is as it was. While a run goes on that has made it, it may be there, and is empty."""
-        was, out = self.case.before.get("out"), held.get("out")
+        was, out = self.before.get("out"), held.get("out")
         return out == was or (was is None and out == b"" and not is_over)
 
     def is_whole(self, out):
@@ -507,7 +501,7 @@ class Trial:
     def position_faults(self, state, name):
         """What is wrong with a position: one that the run saved belongs to OUT, and one that was there before to `old`."""
         held = state[name].held
-        is_old = held == self.case.before.get(name)
+        is_old = held == self.before.get(name)
         if not is_old and held != self.after.get(name):
             yield TORN_POSITION
         texts = {old: self.room.resumed(state[name], state.get(old)) for old in ("old", "out")}
@@ -528,45 +522,36 @@ class Trial:
         return self.after.items() <= left.items()
 
 
-class Tally:
-    """How many runs passed and failed, and how many states were tried."""
+@needs("cc")
+class PowerCutTest(unittest.TestCase):
+    """A test for each run, and one for each that waits for nothing."""
 
-    def __init__(self):
-        self.passed = self.failed = self.states = 0
+    @classmethod
+    def setUpClass(cls):
+        made = tempfile.TemporaryDirectory(dir=MEMORY)
+        cls.addClassCleanup(made.cleanup)
+        cls.room = Room(pathlib.Path(made.name).resolve())
+        cls.states = cls.states_without_waiting = 0
 
-    def see(self, trial, wrong):
-        """Counts a run."""
-        self.passed += not wrong
-        self.failed += bool(wrong)
-        self.states += len(trial.seen)
-        print(f"{trial.case.name:<76} {len(trial.calls):2} calls {len(trial.seen):4} states", *wrong, sep="\n    ")
+    @classmethod
+    def tearDownClass(cls):
+        print(f"power cuts: {cls.states} states, and {cls.states_without_waiting} of runs with --no-sync")
 
+    def see(self, case):
+        """Tries a run in each state in which it may leave the disk."""
+        trial = Trial(self.room, case)
+        self.assertEqual(trial.wrong(), [])
+        type(self).states += len(trial.seen)
 
-def tried(room):
-    """Tries all runs, and then those that wait for nothing."""
-    tally, others = Tally(), Tally()
-    runs = list(cases(room.read("position"), room.read("old"), room.read("other.age")))
-    for case in runs:
-        trial = Trial(room, case)
-        tally.see(trial, trial.wrong())
-    for case in runs:
-        if not case.has_wrong_pass():
-            trial = Trial(room, case.without_waiting())
-            others.see(trial, trial.missing())
-    print(f"{tally.states} states, and {others.states} of runs with --no-sync")
-    return tally.passed + others.passed, tally.failed + others.failed
-
-
-def main():
-    if not shutil.which("cc"):
-        print("not run here: power cuts (needs cc)\n0 passed, 1 failed")
-        return True
-    with tempfile.TemporaryDirectory() as library, tempfile.TemporaryDirectory(dir=MEMORY) as folder:
-        room = Room(pathlib.Path(folder).resolve(), built(pathlib.Path(library), RECORDING))
-        passed, failed = tried(room)
-    print(f"{passed} passed, {failed} failed")
-    return failed != 0
+    def see_missing(self, case):
+        """Tries a run that doesn't wait for the disk."""
+        trial = Trial(self.room, case.without_waiting())
+        self.assertEqual(trial.missing(), [])
+        type(self).states_without_waiting += len(trial.seen)
 
 
-if __name__ == "__main__":
-    sys.exit(main())
+for it in cases():
+    test = "test_" + re.sub(r"\W+", "_", it.name)
+    setattr(PowerCutTest, test, lambda self, case=it: self.see(case))
+    if not it.has_wrong_pass():
+        setattr(PowerCutTest, f"{test}_no_sync", lambda self, case=it: self.see_missing(case))

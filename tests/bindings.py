@@ -1,0 +1,87 @@
+"""What tests of the C library and of the modules over it have in common: files of age_tool, and what each language says of them."""
+import functools
+import io
+import os
+import random
+import sys
+
+from tests.case import Case
+from tools import workspace
+
+LENGTHS = (0, 1, 65_535, 65_536, 65_537, 131_072, 200_000)
+CHUNK, BLOCK = 65_536, 65_552
+KEY = b"\7" * 16
+RANDOM = KEY + bytes(range(32))
+# The folder of the Python module.
+PYTHON = workspace.TOP / "bindings" / "python"
+
+
+@functools.cache
+def module():
+    """The Python module, over the library as it is now."""
+    os.environ["AGE_C_LIBRARY"] = str(workspace.library() / "libage_c.so")
+    sys.path.insert(0, str(PYTHON))
+    import agefile._keys
+    return agefile
+
+
+def plain_of(length):
+    return random.Random(length).randbytes(length)
+
+
+def flipped(data, at):
+    held = bytearray(data)
+    held[at] ^= 1
+    return bytes(held)
+
+
+def raised(kind, call, *words, **more):
+    """Whether a call raises such an exception."""
+    try:
+        call(*words, **more)
+    except kind:
+        return True
+    return False
+
+
+def fault_in(line):
+    """The number in a message, and the place: (0, None) if there is none."""
+    words = line.decode().split()
+    if not words:
+        return 0, None
+    return int(words[1]), int(words[-1]) if len(words) > 3 and words[-2] == "chunk" else None
+
+
+def by_python(data, size=-1, **keys):
+    """The fault and the text of a file by the Python module."""
+    text = b""
+    try:
+        with module().open(io.BytesIO(data), "rb", **keys) as file:
+            while piece := file.read(size):
+                text += piece
+    except module().AgeError as fault:
+        return (fault.number, fault.place), text
+    return (0, None), text
+
+
+class BindingsCase(Case):
+    """A folder with two passphrases."""
+
+    def setUp(self):
+        super().setUp()
+        self.write("pw", b"pw\n")
+        self.write("other", b"other\n")
+        self.write("random", RANDOM)
+
+    def sealed(self, text):
+        """The file of a text, whose file key is KEY."""
+        self.write("in", text)
+        self.tool(*"encrypt --pass pw --log 1 --no-sync --random random in sealed".split(), check=True)
+        return self.read("sealed")
+
+    def judged(self, data, word="pw"):
+        """What age_tool says of a file, and the text that it left."""
+        self.write("judged", data)
+        self.remove("text")
+        run = self.tool("decrypt", "--pass", word, "--no-sync", "judged", "text")
+        return fault_in(run.stderr), self.read("text") if self.is_there("text") else b""

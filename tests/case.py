@@ -1,0 +1,69 @@
+"""What the tests have in common: a folder of their own, runs of the program in it, and checks that are counted one by one."""
+import os
+import pathlib
+import shutil
+import subprocess
+import tempfile
+import unittest
+
+from tools import workspace
+
+SECONDS = 60
+
+
+def needs(*tools, root=False):
+    """Leaves a test out where one of these programs isn't installed, or where it isn't root that runs it."""
+    missing = [*(it for it in tools if not shutil.which(it)), *(["root"] if root and os.geteuid() else [])]
+    return unittest.skipIf(missing, f"needs {' and '.join(missing)}")
+
+
+def twice(one, other):
+    """What is said of two names of one file."""
+    return f"age_tool: same file named twice\nage_tool: {one} and {other} are the same file\n".encode()
+
+
+class Case(unittest.TestCase):
+    """A test with a folder, `room`."""
+
+    @property
+    def program(self):
+        return workspace.program()
+
+    def setUp(self):
+        made = tempfile.TemporaryDirectory(prefix="age-test-")
+        self.addCleanup(made.cleanup)
+        self.room = pathlib.Path(made.name).resolve()
+
+    def see(self, name, holds, *found):
+        """Counts a check, and goes on if it fails."""
+        with self.subTest(name):
+            self.assertTrue(holds, found)
+
+    def leave_out(self, name, why):
+        """Counts a check as left out."""
+        with self.subTest(name):
+            self.skipTest(why)
+
+    def tool(self, *words, **more):
+        """Runs the program."""
+        more = {"stdin": subprocess.DEVNULL, "stdout": subprocess.PIPE, "stderr": subprocess.PIPE, "timeout": SECONDS} | more
+        return subprocess.run([self.program, *words], cwd=self.room, **more)
+
+    def path(self, name):
+        return self.room / name
+
+    def read(self, name):
+        return self.path(name).read_bytes()
+
+    def write(self, name, held, mode=0o644):
+        self.remove(name)
+        self.path(name).write_bytes(held)
+        self.path(name).chmod(mode)
+
+    def is_there(self, name):
+        return os.path.lexists(self.path(name))
+
+    def remove(self, *names):
+        for name in names:
+            if self.is_there(name):
+                self.path(name).unlink()

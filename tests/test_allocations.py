@@ -1,0 +1,45 @@
+"""Refuses each allocation in turn, alone, to the tests of crates that say what a refusal leaves, by a library that is loaded before the C
+library's (tools/shim.c). Such a test passes where each call that takes memory gives what it gives undisturbed, or reports the refusal,
+changes nothing, and gives it the next time. The tests are those that `rt ci` or `rt test` built last.
+
+The engines are tried by test_memory, in the built program."""
+import subprocess
+
+from tests.case import Case, needs
+from tools import shim
+from tools.workspace import CRATES
+
+
+@needs("cc")
+class AllocationsTest(Case):
+    """One test for each test of a crate that says what a refusal leaves."""
+
+    def refuse(self, crate, test):
+        """Refuses each of its allocations in turn."""
+        program = CRATES / crate / "out" / f"{crate}_tests"
+        self.assertTrue(program.is_file(), f"run rt test in {crate}")
+        turn, was_refused = 0, True
+        while was_refused:
+            turn += 1
+            self.remove("count")
+            env = shim.loaded(REFUSED=turn, COUNT=self.path("count"))
+            run = subprocess.run([program, f"tests::{test}"], env=env, capture_output=True, text=True)
+            self.assertEqual(run.returncode, 0, (turn, run.stdout, run.stderr))
+            was_refused = self.is_there("count")
+        # (a test that takes no memory shows nothing)
+        self.assertGreater(turn, 1)
+
+    def test_parser_and_encoders(self):
+        self.refuse("age_tests", "header::refused_memory")
+
+    def test_scrypt(self):
+        self.refuse("age_primitive_tests", "scrypt::reports_a_refusal")
+
+    def test_replay(self):
+        self.refuse("age_tests", "payload::a_refused_growth_changes_nothing")
+
+    def test_drill(self):
+        self.refuse("age_tests", "payload::reports_a_refused_drill")
+
+    def test_keys(self):
+        self.refuse("age_tests", "keys::a_refusal_is_reported")

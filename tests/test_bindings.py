@@ -1,0 +1,413 @@
+"""Tries the C library from C, Python, Rust and Go: files of age_tool at the lengths that matter, files that are cut at every byte, damaged,
+swapped and lengthened, wrong keys, misuse, refused memory, and 50,000 files that are damaged at random. The C programs also run under
+the address sanitizer and valgrind. What is expected is what age_tool prints of the same file, or what was put in. The header's faults
+are compared with docs/FAULTS.md. AGE_DAMAGED is how many files are damaged, and AGE_SEED the seed, which else comes from the clock and is
+printed."""
+import os
+import pathlib
+import random
+import re
+import shutil
+import subprocess
+import sys
+import tempfile
+
+from tests import bindings
+from tests.bindings import BLOCK, KEY, LENGTHS, PYTHON, BindingsCase, by_python, fault_in, flipped, plain_of
+from tests.case import needs
+from tools.workspace import LIBRARY, TOP
+
+INCLUDE = f"-I{TOP / 'include'}"
+FLAGS = ["-std=c11", "-g", "-O1", "-Wall", "-Wextra", INCLUDE]
+SANITIZED = [*FLAGS, "-fsanitize=address,undefined", "-fno-sanitize-recover=all"]
+STRICT = ["-std=c11", "-Wall", "-Wextra", "-Werror", INCLUDE]
+VALGRIND = ["valgrind", "-q", "--error-exitcode=99", "--leak-check=full", "--max-stackframe=4000000"]
+SOURCES = TOP / "bindings" / "c"
+# The programs in bindings/c/tests that say by their status whether all is right, with their words: those of a run, and those under valgrind.
+CHECKS = {
+    "refusals": (["file"], ["file"]), "misuse": (["3000"], ["150"]), "work": ([], None), "places": ([], None), "seek": ([], ["5"]),
+    "stream": ([], ["1"]),
+}
+# What tests/damage.c has to find of a reader that is wrong on purpose.
+FLAWS = {
+    "ignores-end": "an end returns 0", "takes-cut": "an end returns 0", "refuses-end": "an end returns 0", "skips-block": "the text is",
+    "any-order": "the text is", "writes-after": "a call that doesn't return 0", "forgets-fault": "a fault stays", "unchecked-header": "a header opens",
+    "reads-past": "memory beside what was given was touched",
+}
+
+
+def setUpModule():
+    global agefile
+    agefile = bindings.module()
+
+
+def sample_of(language):
+    """The program in bindings/README.md."""
+    return (TOP / "bindings" / "README.md").read_text().split(f"```{language}\n")[1].split("\n```")[0] + "\n"
+
+
+def as_reported(fault):
+    """A cut header or nonce is 8 or 16 for age_tool, and 254 here; a header's fault has a line there."""
+    number, place = fault
+    return (254 if number in (8, 16) else number, place if number >= 17 else None)
+
+
+def expected_cut(end, at):
+    """What is wrong with a payload that ends after `end` bytes, of two chunks of which the second has a byte."""
+    chunk, rest = divmod(end, BLOCK)
+    if end == at:
+        return 0, None
+    if rest == 0:
+        return 20, chunk
+    if rest < 16:
+        return 18, chunk
+    return (19 if rest == 16 and chunk else 17), chunk
+
+
+class ProgramsCase(BindingsCase):
+    """What programs in several languages print of files."""
+
+    def by_c(self, data, size=65_536, word="pw", program=()):
+        """The status, the fault and the text of a file by the C program, which reads so many bytes at a time."""
+        words = [*(program or [LIBRARY / "decrypt"]), word, str(size)]
+        run = subprocess.run(words, cwd=self.room, input=data, capture_output=True)
+        return (run.returncode, fault_in(run.stderr)), run.stdout
+
+    def see_reports(self, what, program):
+        """What a program prints of faults."""
+        data = self.sealed(plain_of(131_072))
+        for word, file, fault in (
+            ("other", data, "13 WrongKey"), ("pw", flipped(data, len(data) - 1), "17 ChunkDamaged chunk 1"), ("pw", data + b"0", "21 Trailing"),
+            ("pw", data[:50], "254 HeaderOrNonceCut"), ("pw", b"x\n", "1 NotAge"),
+        ):
+            run = subprocess.run([program, word], cwd=self.room, input=file, capture_output=True)
+            self.see(f"{what}: {fault}", (run.returncode, run.stderr.decode().partition(": ")[2]) == (1, fault + "\n"), run.stderr)
+
+
+class FilesTest(ProgramsCase):
+    """What C and Python say of files."""
+
+    def test_lengths(self):
+        for length in LENGTHS:
+            text = plain_of(length)
+            data = self.sealed(text)
+            for size in (1, 1_000, 65_536, 1 << 20) if length < 70_000 else (1_000, 65_552):
+                self.see(f"C: {length} bytes in pieces of {size}", self.by_c(data, size) == ((0, (0, None)), text))
+            for size in (-1, 1_000, 65_536):
+                self.see(f"Python: {length} bytes in pieces of {size}", by_python(data, size, passphrase="pw") == ((0, None), text))
+            self.see(f"Python: {length} bytes by the file key", by_python(data, file_key=KEY) == ((0, None), text))
+
+    def test_cuts(self):
+        """Every cut of a file of two chunks, by one reader for each: the text is what the whole blocks hold."""
+        text = plain_of(65_537)
+        data = self.sealed(text)
+        begin = len(data) - (BLOCK + 17)
+        wrong = 0
+        for end in range(len(data)):
+            fault, got = by_python(data[:end], 65_536, file_key=KEY)
+            want = (254, None) if end < begin else expected_cut(end - begin, len(data) - begin)
+            wrong += (fault, got) != (want, text[:65_536] if end >= begin + BLOCK else b"")
+        self.see(f"{wrong} of {len(data)} cuts", wrong == 0)
+        for end in (0, 21, 22, 60, begin - 16, begin - 1, begin, begin + 1, begin + 16, begin + BLOCK, begin + BLOCK + 1, begin + BLOCK + 16):
+            self.see_same(data[:end], text, f"cut at {end}")
+
+    def see_same(self, data, text, what, word="pw"):
+        """C and Python say of a file what age_tool says, and write what it writes, which is a prefix of the text."""
+        fault, left = self.judged(data, word)
+        want = as_reported(fault)
+        number, chunk = want
+        got, out = self.by_c(data, 65_536, word)
+        self.see(f"C: {what}: {got}, {len(out)} bytes, not {want}, {len(left)}", (got, out) == ((0 if number == 0 else 1, want), left))
+        got, out = by_python(data, 1_000, passphrase=word)
+        self.see(f"Python: {what}", got == want and left.startswith(out), got)
+        self.see(f"age_tool: {what}: no prefix", text.startswith(left) and (number != 0 or left == text))
+
+    def test_damage(self):
+        text = plain_of(200_000)
+        data = self.sealed(text)
+        begin = data.index(b"\n--- ") + 5 + 43 + 1 + 16
+        blocks = [data[at:at + BLOCK] for at in range(begin, len(data), BLOCK)]
+        front = data[:begin]
+        rnd = random.Random(7)
+        for at in (3, 30, 60, 100, begin - 20, begin - 1):
+            self.see_same(flipped(data, at), text, f"bit flipped at {at}")
+        for number, block in enumerate(blocks):
+            for at in (0, rnd.randrange(len(block)), len(block) - 1):
+                self.see_same(flipped(data, begin + number * BLOCK + at), text, f"bit flipped in block {number} at {at}")
+        for order in ([1, 0, 2, 3], [0, 2, 1, 3], [0, 1, 3, 2], [0, 1, 1, 2, 3], [0, 2, 3], [3], []):
+            self.see_same(front + b"".join(blocks[it] for it in order), text, f"blocks {order}")
+        for more in (b"\0", bytes(16), bytes(BLOCK), blocks[3]):
+            self.see_same(data + more, text, f"{len(more)} bytes more")
+        self.see_same(data, text, "another passphrase", "other")
+        whole = self.sealed(plain_of(131_072))
+        for more in (b"\0", bytes(16), bytes(BLOCK)):
+            self.see_same(whole + more, plain_of(131_072), f"{len(more)} bytes after a full last chunk")
+        self.see("a work factor of 0 isn't refused", by_python(data, passphrase="pw", max_work=0)[0] == (255, None))
+        self.see("an empty passphrase isn't refused", by_python(data, passphrase="")[0] == (255, None))
+        self.see("another file key", by_python(data, file_key=b"8" * 16)[0] == (14, None))
+        self.see("a file key of 15 bytes", by_python(data, file_key=b"8" * 15)[0] == (255, None))
+
+    def test_memory(self):
+        """A longer file takes no more memory."""
+        by_python = f"import sys; sys.path.insert(0, {str(TOP / 'bindings' / 'python')!r}); import agefile\n" \
+            "file = agefile.open(sys.stdin.buffer, passphrase='pw')\nwhile file.read(65_536): pass"
+        for what, words in (("C", [LIBRARY / "decrypt", "pw"]), ("Python", [sys.executable, "-B", "-c", by_python])):
+            most = []
+            for length in (65_537, 64 << 20):
+                # (not by this script's memory, with which a child begins to count)
+                self.path("in").write_bytes(b"")
+                os.truncate(self.path("in"), length)
+                self.tool("encrypt", "--pass", "pw", "--log", "1", "--no-sync", "in", "long")
+                with open(self.path("long"), "rb") as file:
+                    run = subprocess.Popen(words, cwd=self.room, stdin=file, stdout=subprocess.DEVNULL)
+                    _, status, used = os.wait4(run.pid, 0)
+                    run.returncode = status
+                self.see(f"{what}: {length} bytes: status {status}", status == 0)
+                most.append(used.ru_maxrss)
+            self.see(f"{what}: {most} KiB for 64 KiB and for 64 MiB", most[1] < most[0] + 1_024)
+
+
+@needs("cc")
+class CTest(ProgramsCase):
+    """The C programs, under what looks for errors of memory, and what a C programmer reads."""
+
+    @classmethod
+    def setUpClass(cls):
+        made = tempfile.TemporaryDirectory()
+        cls.addClassCleanup(made.cleanup)
+        sources = {it: SOURCES / "tests" / f"{it}.c" for it in (*CHECKS, "damage")} | {"decrypt": SOURCES / "decrypt.c"}
+        cls.made = {}
+        for kind, flags in (("plain", FLAGS), ("sanitized", SANITIZED)):
+            for name, source in sources.items():
+                to = pathlib.Path(made.name) / f"{name}-{kind}"
+                words = ["cc", *flags, "-pthread", "-o", to, source, LIBRARY / "libage_c.a"]
+                # (the sanitizers aren't everywhere)
+                if subprocess.run(words, check=kind == "plain", capture_output=True).returncode == 0:
+                    cls.made[kind, name] = to
+
+    def made_by(self, kind, name):
+        """A C program; the test is left out where it couldn't be made."""
+        if (kind, name) not in self.made:
+            self.skipTest("needs the sanitizers")
+        return self.made[kind, name]
+
+    def succeeds(self, what, words):
+        """Counts whether a program ends with 0."""
+        run = subprocess.run(words, cwd=self.room, capture_output=True, text=True)
+        self.see(what, run.returncode == 0, run.returncode, run.stdout[-500:], run.stderr[-2000:])
+
+    def see_checks(self, kind):
+        self.write("file", self.sealed(plain_of(70_000)))
+        for name, (words, _) in CHECKS.items():
+            self.succeeds(f"{name}, {kind}", [self.made_by(kind, name), *words])
+
+    def see_decrypt(self, what, program):
+        """Files that are whole, and that are damaged in their last byte."""
+        for length in (0, 1, 65_537, 200_000):
+            text = plain_of(length)
+            data = self.sealed(text)
+            self.see(f"{what}: {length} bytes", self.by_c(data, 1_000, program=program) == ((0, (0, None)), text))
+            self.see(f"{what}: {length} bytes, damaged", self.by_c(flipped(data, -1), 1_000, program=program)[0] == (1, (17, length // 65_536)))
+
+    def test_plain(self):
+        self.see_checks("plain")
+
+    def test_sanitized(self):
+        self.see_checks("sanitized")
+        self.see_decrypt("decrypt, sanitized", [self.made_by("sanitized", "decrypt")])
+
+    @needs("valgrind")
+    def test_valgrind(self):
+        self.see_decrypt("decrypt under valgrind", [*VALGRIND, self.made["plain", "decrypt"]])
+        self.write("file", self.sealed(plain_of(70_000)))
+        for name, words in [*((name, words) for name, (_, words) in CHECKS.items() if words is not None), ("damage", ["150"])]:
+            self.succeeds(f"{name} under valgrind", [*VALGRIND, self.made["plain", name], *words])
+
+    def test_stack(self):
+        self.write("file", self.sealed(plain_of(70_000)))
+        made = self.path("stack")
+        subprocess.run(["cc", *FLAGS, "-o", made, SOURCES / "tests" / "stack.c", LIBRARY / "libage_c.a", "-lpthread"], check=True)
+        self.succeeds("stack", [made, "file"])
+
+    @needs("c++")
+    def test_header_in_cpp(self):
+        words = ["c++", "-std=c++11", "-Wall", "-Wextra", "-Werror", "-fsyntax-only", "-x", "c++", TOP / "include" / "age_c.h"]
+        self.succeeds("the header in C++", words)
+
+    def damage(self, *words):
+        """Damages files at random: how that ended, and how often each rule didn't hold."""
+        program = self.made.get(("sanitized", "damage")) or self.made["plain", "damage"]
+        run = subprocess.run([program, *words], capture_output=True, text=True)
+        return run, {rule: int(times) for times, rule in re.findall(r"^wrong (\d+) times: (.*)$", run.stdout, re.M)}
+
+    def test_damaged(self):
+        run, rules = self.damage(os.environ.get("AGE_DAMAGED") or "50000", *filter(None, [os.environ.get("AGE_SEED")]))
+        print(run.stdout, end="")
+        for rule, times in rules.items():
+            self.see(f"damaged files: {rule}", times == 0, times)
+        self.see("damaged files: status", run.returncode == 0 and rules, run.returncode, run.stderr[-2000:])
+
+    def test_damaged_and_a_wrong_reader(self):
+        """Readers that are wrong on purpose are found out."""
+        for flaw, rule in FLAWS.items():
+            run, rules = self.damage("2000", "1", flaw)
+            broken = [it for it, times in rules.items() if times]
+            found = any(it.startswith(rule) for it in broken) or rule in run.stdout and not rules
+            self.see(f"damaged files: {flaw}", run.returncode == 1 and found, run.returncode, run.stdout, run.stderr[-2000:])
+        run, _ = self.damage("1", "1", "?")
+        self.see("the flaws", run.returncode == 2 and set(run.stderr.partition(" one of ")[2].split()) == set(FLAWS), run.stderr)
+
+    def test_reports(self):
+        self.see_reports("C", LIBRARY / "decrypt")
+
+    def test_names(self):
+        """The faults of the header and of the bindings are those of docs/FAULTS.md, and a compiler warns of an answer that isn't looked at."""
+        listed = {int(it[0]): it[1] for it in re.findall(r"^\| (\d+) \| (\w+) \|", (TOP / "docs" / "FAULTS.md").read_text(), re.M)}
+        header = (TOP / "include" / "age_c.h").read_text()
+        # (a cut header or nonce, 8 and 16 of age_tool, is AGE_C_MORE here, and 23 and up but 28 are of its files)
+        returned = {number: name for number, name in listed.items() if (number < 23 or number == 28) and number not in (8, 16)}
+        wanted = {re.sub(r"(?<=[a-z])(?=[A-Z])", "_", name).upper(): number for number, name in returned.items()}
+        defined = {name: int(number) for name, number in re.findall(r"^#define AGE_C_(\w+) (\d+)u$", header, re.M)}
+        self.see(f"faults of age_c.h: {wanted.items() - defined.items()}", len(listed) == 31 and wanted.items() <= defined.items())
+        begin = header.index("#define AGE_C_NOT_AGE")
+        block = re.match(r"(#define AGE_C_\w+ \d+u\n)+", header[begin:])[0]
+        self.see(f"age_c.h has {block.count(chr(10))} faults, not {len(wanted)}", block.count("\n") == len(wanted))
+        named = {number: name for number, name in listed.items() if number < 23 or number == 28} | {254: "HeaderOrNonceCut", 255: "Misused"}
+        self.see("the faults of the Python module", {number: agefile.AgeError(number).name for number in named} == named)
+        words = ["cc", *STRICT, "-x", "c", "-", "-o", self.path("names")]
+        library = ["-x", "none", LIBRARY / "libage_c.a"]
+        program = '#include "age_c.h"\n#include <stdio.h>\nint main(void) { for (unsigned i = 1; i < 256; i++) puts(age_c_fault_name(i)); }\n'
+        run = subprocess.run([*words, *library], input=program, capture_output=True, text=True)
+        self.see("the names of the faults", run.returncode == 0, run.stderr)
+        if run.returncode == 0:
+            printed = subprocess.run([self.path("names")], capture_output=True, text=True).stdout.splitlines()
+            self.see("the names of the faults", printed == [named.get(number, "Unknown") for number in range(1, 256)], printed)
+        ignored = '#include "age_c.h"\nvoid f(age_c_reader *r, uint8_t *b, size_t *w) {{ {0}age_c_end(r, b, 0, b, 65536, w){1}; }}\n'
+        for what, how, status in (("ignored", ("", ""), 1), ("looked at", ("if (", ") {}"), 0)):
+            run = subprocess.run([*words[:-1], "/dev/null", "-c"], input=ignored.format(*how), capture_output=True, text=True)
+            self.see(f"an answer that is {what}", run.returncode == status and (status == 0 or "age_c_end" in run.stderr), run.stderr)
+
+    def test_sample(self):
+        """The reader in the head of age_c.h, made a program, whose argument is the passphrase."""
+        head = (TOP / "include" / "age_c.h").read_text()
+        lines = head.split("of its own):\n *\n", 1)[1].split("\n *\n", 1)[0].splitlines()
+        sample = "\n".join(line.removeprefix(" *") for line in lines)
+        begin = "int main(int argc, char **argv) { const uint8_t *pass = (const uint8_t *)argv[argc - 1]; size_t pass_len = strlen(argv[1]);"
+        program = '#include "age_c.h"\n#include <stdio.h>\n#include <string.h>\n' + f"{begin}\n{sample}\nreturn answer != 0; }}\n"
+        self.path("sample.c").write_text(program)
+        words = ["cc", *STRICT, "-o", self.path("sample"), self.path("sample.c")]
+        run = subprocess.run([*words, LIBRARY / "libage_c.a"], capture_output=True, text=True)
+        self.see("the sample in age_c.h", run.returncode == 0, run.stderr)
+        if run.returncode == 0:
+            for length in (*LENGTHS, 1_200_000):
+                text = plain_of(length)
+                run = subprocess.run([self.path("sample"), "pw"], input=self.sealed(text), capture_output=True)
+                self.see(f"the sample in age_c.h: {length} bytes", (run.returncode, run.stdout) == (0, text), run.stderr)
+            run = subprocess.run([self.path("sample"), "pw"], input=self.sealed(text)[:-1], capture_output=True)
+            is_cut = (run.returncode, run.stderr, run.stdout) == (1, b"17 ChunkDamaged\n", text[:18 * 65_536])
+            self.see("the sample in age_c.h, a cut file", is_cut, run.stderr)
+
+    def test_shared_library(self):
+        """A C program that is linked with the shared library, which is found by the name that it was given."""
+        made = self.path("decrypt-shared")
+        words = ["cc", INCLUDE, "-o", made, SOURCES / "decrypt.c", f"-L{LIBRARY}", "-lage_c", f"-Wl,-rpath,{LIBRARY}"]
+        run = subprocess.run(words, capture_output=True, text=True)
+        self.see("linking with the shared library", run.returncode == 0, run.stderr)
+        taken = subprocess.run(["nm", "-D", "--undefined-only", "-j", LIBRARY / "libage_c.so"], capture_output=True, text=True).stdout.split()
+        allowed = {"malloc", "realloc", "free", "memcpy", "memmove", "memset"}
+        self.see(f"the shared library calls {taken}, and age_c.h says {allowed}", {it.partition("@")[0] for it in taken} == allowed)
+        if run.returncode == 0:
+            needed = subprocess.run(["ldd", made], capture_output=True, text=True).stdout
+            self.see("the shared library isn't used", f"libage_c.so.0 => {LIBRARY}/libage_c.so.0" in needed, needed)
+            text = plain_of(70_000)
+            self.see("by the shared library", self.by_c(self.sealed(text), program=(made,)) == ((0, (0, None)), text))
+
+
+class LanguagesTest(ProgramsCase):
+    """The crates, modules and samples in other languages. They take nothing from a registry or proxy."""
+
+    def succeed(self, what, folder, env, *commands):
+        """Counts for each command whether it succeeds; the test ends if one doesn't."""
+        for words in commands:
+            run = subprocess.run(words, cwd=folder, env={**os.environ, **env}, capture_output=True, text=True)
+            self.assertEqual(run.returncode, 0, (words, (run.stdout + run.stderr)[-2000:]))
+            self.see(f"{what}: {' '.join(map(str, words))}", True)
+
+    def see_example(self, what, program):
+        """A program in another language: files of all lengths, whole and cut by a byte."""
+        for length in LENGTHS:
+            text = plain_of(length)
+            data = self.sealed(text)
+            run = subprocess.run([program, "pw"], cwd=self.room, input=data, capture_output=True)
+            self.see(f"{what}: {length} bytes", (run.returncode, run.stdout) == (0, text), run.stderr[-300:])
+            run = subprocess.run([program, "pw"], cwd=self.room, input=data[:-1], capture_output=True)
+            is_cut = text.startswith(run.stdout) and len(run.stdout) <= length // 65_536 * 65_536
+            self.see(f"{what}: {length} bytes, cut", run.returncode == 1 and is_cut)
+        self.see_reports(what, program)
+
+    def see_sample(self, what, words, last):
+        """The program in bindings/README.md, over a file that age made: the text and the last bytes of it, as the language writes them."""
+        shutil.copy(TOP / "bindings" / "tests" / "age" / "passphrase.age", self.path("notes.age"))
+        env = {**os.environ, "PYTHONPATH": str(PYTHON), "PYTHONDONTWRITEBYTECODE": "1"}
+        run = subprocess.run(words, cwd=self.room, env=env, capture_output=True)
+        text = b"hello, passphrase\n"
+        self.see(f"the sample in {what}", run.returncode == 0 and run.stdout in (text + last, last + text), run.stdout, run.stderr)
+
+    def see_copy(self, what):
+        """The file that a sample wrote."""
+        self.write("horse", b"correct horse")
+        run = self.tool("decrypt", "--pass", "horse", "--no-sync", "copy.age", "copy")
+        self.see(f"the copy of the sample in {what}", run.returncode == 0 and self.read("copy") == b"a text of mine", run.stderr)
+
+    def test_python(self):
+        self.path("sample.py").write_text(sample_of("python"))
+        self.see_sample("Python", [sys.executable, self.path("sample.py")], b"b'rase\\n'\n")
+        self.see_copy("Python")
+
+    @needs("cargo")
+    def test_rust(self):
+        """Builds the Rust crates and their example, and runs their tests."""
+        to, sample = LIBRARY / "target", self.path("sample-rust")
+        (sample / "src").mkdir(parents=True)
+        (sample / "Cargo.toml").write_text(
+            f'[package]\nname = "sample"\nversion = "0.0.0"\nedition = "2021"\n\n[dependencies]\nagefile = {{ path = "{TOP}/bindings/rust/agefile" }}\n')
+        (sample / "src" / "main.rs").write_text(sample_of("rust"))
+        cargo = lambda *words: ["cargo", *words, "--offline", "--quiet", "--target-dir", to]
+        commands = [
+            cargo("build", "--release", "--examples"), cargo("test", "--release"), [*cargo("build", "--release"), "--manifest-path", sample / "Cargo.toml"],
+        ]
+        for tool, words in (("cargo-clippy", [*cargo("clippy", "--all-targets"), "--", "-D", "warnings"]), ("cargo-fmt", ["cargo", "fmt", "--check"])):
+            if shutil.which(tool):
+                commands.append(words)
+            else:
+                self.leave_out(f"{tool} over the Rust crates", f"needs {tool}")
+        self.succeed("Rust", TOP / "bindings" / "rust", {"AGE_C_DIR": str(LIBRARY)}, *commands)
+        self.see_example("Rust", to / "release" / "examples" / "decrypt")
+        self.see_sample("Rust", [to / "release" / "sample"], b"rase\n")
+        self.see_copy("Rust")
+
+    @needs("go")
+    def test_go(self):
+        """Builds the Go module and its example, and runs its tests: with the library in its folder, vendored, and with the one that
+        pkg-config finds."""
+        program, user = self.path("decrypt-go"), self.path("user")
+        user.mkdir()
+        (user / "go.mod").write_text(
+            f"module user\n\ngo 1.19\n\nrequire kudebafon.example/agefile v0.0.0\n\nreplace kudebafon.example/agefile => {TOP / 'bindings' / 'go'}\n")
+        (user / "main.go").write_text(sample_of("go"))
+        env = {
+            "GOCACHE": str(LIBRARY / "gocache"), "GOPROXY": "off", "GOFLAGS": "-buildvcs=false", "PKG_CONFIG_PATH": str(LIBRARY / "pkgconfig"),
+            "LD_LIBRARY_PATH": str(LIBRARY),
+        }
+        commands = [
+            ["go", "build", "-o", program, "./decrypt"], ["go", "vet", "./..."], ["go", "test", "-race", "."],
+            ["sh", "-c", f"cd {user} && go mod vendor && go build -mod=vendor -o vendored ."],
+        ]
+        for tool, words in (("gofmt", ["sh", "-c", 'test -z "$(gofmt -l .)"']), ("pkg-config", "go test -tags age_c_system -run TestFiles .".split())):
+            if shutil.which(tool):
+                commands.append(words)
+            else:
+                self.leave_out(f"Go with {tool}", f"needs {tool}")
+        self.succeed("Go", TOP / "bindings" / "go", env, *commands)
+        self.see_example("Go", program)
+        self.see_sample("Go", [user / "vendored"], b"")

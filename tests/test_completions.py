@@ -1,0 +1,65 @@
+"""Tries the completions of docs/completions in their shells: bash, and zsh and fish where they are installed."""
+import os
+import re
+import subprocess
+
+from tests.case import Case, needs
+from tools import terminal
+from tools.workspace import TOP
+
+FOLDER = TOP / "docs" / "completions"
+COMMANDS = "encrypt decrypt resume inspect drill"
+OPTIONS = "--pass --file-key --shared --max-log --save"
+IN_BASH = '. ./age_tool.bash; COMP_WORDS=("$@"); COMP_CWORD=$(($# - 1)); _age_tool; printf "%s\\n" "${COMPREPLY[@]}"'
+
+
+class CompletionsTest(Case):
+    """What a shell offers for the words given, the last of which is being typed."""
+
+    def offers(self, name, wanted, offered):
+        """Counts whether all of these words are offered."""
+        with self.subTest(name):
+            self.assertLessEqual(set(wanted.split()), set(offered.split()))
+
+    def in_bash(self, *words):
+        return subprocess.run(["bash", "-c", IN_BASH, "bash", *words], cwd=FOLDER, capture_output=True, text=True).stdout
+
+    def in_fish(self, typed):
+        words = ["fish", "--no-config", "-c", f"source age_tool.fish; complete -C '{typed}'"]
+        lines = subprocess.run(words, cwd=FOLDER, capture_output=True, text=True).stdout.splitlines()
+        return "\n".join(line.split("\t")[0] for line in lines)
+
+    def in_zsh(self, typed):
+        """It shows its completions at a terminal alone."""
+        child, tty = terminal.start(["env", "-C", str(FOLDER), "zsh", "-f", "-i"], {"TERM": "dumb"})
+        begin = f"PS1='% '; fpath=({FOLDER} $fpath); autoload -Uz compinit; compinit -u -D; LISTMAX=1000; bindkey '^I' list-choices; echo rea''dy\n"
+        os.write(tty, begin.encode())
+        terminal.output(tty, b"ready\r\n", 10)
+        os.write(tty, typed.encode() + b"\t")
+        seen = terminal.output(tty, None, 2).decode(errors="replace")
+        os.write(tty, b"\x15exit\n")
+        terminal.output(tty, None, 2)
+        os.close(tty)
+        os.waitpid(child, 0)
+        return re.sub(r"\x1b\[[0-9;?]*[a-zA-Z]", "", seen)
+
+    def test_bash(self):
+        self.offers("commands", COMMANDS, self.in_bash("age_tool", ""))
+        self.offers("options", OPTIONS, self.in_bash("age_tool", "decrypt", "--"))
+        self.offers("a prefix", "--position", self.in_bash("age_tool", "resume", "--po"))
+        self.offers("a number", "18", self.in_bash("age_tool", "encrypt", "--log", "1"))
+        self.offers("files", "age_tool.fish", self.in_bash("age_tool", "decrypt", "--pass", "p", "age"))
+
+    @needs("fish")
+    def test_fish(self):
+        self.offers("commands", COMMANDS, self.in_fish("age_tool "))
+        self.offers("options", OPTIONS, self.in_fish("age_tool decrypt --"))
+        self.offers("a number", "18", self.in_fish("age_tool encrypt --log "))
+        self.offers("files", "age_tool.fish", self.in_fish("age_tool decrypt --pass p age"))
+
+    @needs("zsh")
+    def test_zsh(self):
+        self.offers("commands", COMMANDS, self.in_zsh("age_tool "))
+        self.offers("options", OPTIONS, self.in_zsh("age_tool decrypt --"))
+        self.offers("a number", "18", self.in_zsh("age_tool encrypt --log "))
+        self.offers("files", "age_tool.fish", self.in_zsh("age_tool inspect age"))

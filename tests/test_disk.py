@@ -1,0 +1,522 @@
+"""Runs the built program where a careless one loses files: on block devices, pipes and streams, on links, in folders that can't be written
+or read, beside other runs, and on a disk that fails, by a library that is loaded before the C library's (tools/shim.c)."""
+import errno
+import os
+import pathlib
+import shutil
+import stat
+import subprocess
+import threading
+import time
+
+from tests.case import SECONDS, needs, twice
+from tests.files import NOBODY, OTHER_RUN, PLAIN, WRITE, Feeding, FilesCase
+from tests.files import as_nobody, chunk_fault, reason, unsaved, unwritten, waits_for
+
+LENGTH = "another program changed its length"
+
+
+def unsynced(name, error):
+    return WRITE + reason(f"write {name} to disk", error)
+
+
+class DiskTest(FilesCase):
+    """One test for each place where a file can be lost."""
+
+    # ---- which files are one
+
+    def test_pipes(self):
+        """A pipe or a file that two names lead to is refused, and so is one to which progress goes."""
+        reader, writer = os.pipe()
+        for save, out in (("/dev/fd/1", "/dev/stdout"), ("/dev/stdout", "/proc/self/fd/1")):
+            self.expect(2, twice(save, out), f"decrypt --pass pass --save {save} cut {out}", stdout=writer)
+        os.close(writer)
+        self.see("nothing came through the pipe", os.read(reader, 1) == b"")
+        os.close(reader)
+        os.mkfifo(self.path("fifo"))
+        os.symlink("fifo", self.path("to-fifo"))
+        self.expect(2, twice("fifo", "to-fifo"), "encrypt --pass pass fifo to-fifo")
+        self.expect(2, twice("fifo", "to-fifo"), "decrypt --pass pass fifo to-fifo")
+        keeps_open = os.open(self.path("fifo"), os.O_RDWR)
+        self.expect(2, twice("to-fifo", "fifo"), "decrypt --pass pass --save to-fifo cut fifo")
+        self.expect(2, twice("fifo", "to-fifo"), "decrypt --pass pass --save to-fifo fifo new")
+        os.close(keeps_open)
+        self.see("no output is left", not self.is_there("new"))
+
+    def test_streams(self):
+        """Progress and a position go to no file that is OUT or standard error."""
+        progress = "decrypt --progress --pass pass age"
+        sealing = "encrypt --progress --pass pass --log 4 plain errors"
+        for words in (f"{progress} /dev/stderr", f"{progress} errors", f"{progress} to-errors", sealing):
+            said = twice(words.split()[-1], "standard error")
+            self.remove("errors", "to-errors")
+            os.symlink("errors", self.path("to-errors"))
+            with open(self.path("errors"), "wb") as errors:
+                self.expect(2, said, words, stderr=errors)
+            self.see(f"{words}: nothing but the message", self.read("errors") == said, self.read("errors")[:100])
+        reader, writer = os.pipe()
+        self.expect(2, b"", f"{progress} /dev/stdout", "progress through the pipe of OUT", stdout=writer, stderr=writer)
+        os.close(writer)
+        self.see("nothing but the message through the pipe", os.read(reader, 1000) == twice("/dev/stdout", "standard error"))
+        os.close(reader)
+        with open("/dev/null", "wb") as null:
+            self.expect(0, b"", f"{progress} /dev/null", "progress to a character device", stderr=null)
+        with open(self.path("errors"), "wb") as errors:
+            self.expect(0, b"", f"{progress} new", "progress to another file", stderr=errors)
+        self.see("progress to another file: OUT", self.read("new") == PLAIN)
+        with open(self.path("errors"), "wb") as errors:
+            self.expect(2, b"", "decrypt --pass pass --save errors cut new", "a position to standard error", stderr=errors)
+        self.see("a position to standard error: the message", self.read("errors") == twice("errors", "standard error"))
+        self.remove("errors", "new")
+        with open(self.path("mixed"), "wb") as mixed:
+            said = twice("mixed", "/dev/stdout")
+            self.expect(2, said, "decrypt --pass pass --save mixed cut /dev/stdout", "a position to standard output", stdout=mixed)
+        self.see("a position to standard output: the file is empty", self.read("mixed") == b"")
+        reader, writer = os.pipe()
+        words = f"decrypt --pass pass --save /dev/fd/{writer} cut /dev/null"
+        self.expect(1, chunk_fault(2), words, "a position to a descriptor", pass_fds=(writer,))
+        os.close(writer)
+        self.see("a position to a descriptor: it", os.read(reader, 1000).startswith(b"age-position/v2 2 "))
+        os.close(reader)
+        os.symlink("/dev/null", self.path("nowhere"))
+        self.expect(1, chunk_fault(2), "decrypt --pass pass --save nowhere cut /dev/null")
+        self.remove("nowhere")
+
+    def device(self, name, held):
+        """A block device over a file until the test ends, which is left out where there is none."""
+        self.write(name, held + bytes(-len(held) % 4096))
+        made = subprocess.run(["losetup", "--show", "-f", self.path(name)], capture_output=True, text=True).stdout.strip()
+        if not made:
+            self.skipTest("no loop device can be had")
+        self.addCleanup(subprocess.run, ["losetup", "-d", made], check=True)
+        return made
+
+    @needs("losetup", root=True)
+    def test_devices(self):
+        """A block device is known by its number."""
+        age, other = self.device("age.img", self.age), self.device("other.img", bytes(len(PLAIN) + 8192))
+        image = self.read("age.img")
+        os.symlink(age, self.path("to-device"))
+        number = os.stat(age).st_rdev
+        os.mknod(self.path("node"), stat.S_IFBLK | 0o600, number)
+        for to in ("to-device", "node"):
+            self.expect(2, twice(age, to), ["decrypt", "--pass", "pass", age, to])
+            self.expect(2, twice(age, to), ["encrypt", "--pass", "pass", "--log", "4", age, to])
+            self.expect(2, twice(age, to), ["decrypt", "--pass", "pass", "--save", to, age, "new"])
+        self.see("the device that is read is kept", pathlib.Path(age).read_bytes() == image and not self.is_there("new"))
+        self.expect(0, b"", ["decrypt", "--pass", "pass", "age", other], "OUT is a block device")
+        with open(other, "rb") as device:
+            self.see("OUT is a block device: its bytes", device.read(len(PLAIN)) == PLAIN)
+
+    @needs("losetup", "cc", root=True)
+    def test_devices_that_cannot_be_synced(self):
+        """A block device is synced."""
+        other = self.device("other.img", bytes(len(PLAIN) + 8192))
+        failing = {"FSYNC": errno.EIO, "ONLY": "b"}
+        self.expect(1, unsynced(other, errno.EIO), ["decrypt", "--pass", "pass", "age", other], "a device that can't be synced", failing)
+        with open(other, "wb") as device:
+            said = unsynced("/dev/stdout", errno.EIO)
+            self.expect(1, said, "decrypt --pass pass age /dev/stdout", "standard output is such a device", failing, stdout=device)
+        self.expect(0, b"", ["decrypt", "--no-sync", "--pass", "pass", "age", other], "without waiting", failing)
+
+    # ---- what other programs do
+
+    def test_lost_names(self):
+        """An OUT that is removed while the run goes on isn't there at the end: that is no success."""
+        feeding = Feeding(self, "decrypt --pass pass in out")
+        self.remove("out")
+        feeding.input.write(self.age[140000:])
+        feeding.stops("OUT was removed", unsynced("out", errno.ENOENT))
+
+    def test_other_lengths(self):
+        """An OUT whose length another program changes isn't what was written."""
+        feeding = Feeding(self, "decrypt --pass pass in out")
+        os.truncate(self.path("out"), 300000)
+        feeding.input.write(self.age[140000:])
+        feeding.stops("OUT was made longer", unsynced("out", LENGTH))
+        self.remove("out", "in")
+        feeding = Feeding(self, "decrypt --pass pass in out")
+        os.truncate(self.path("out"), 10)
+        feeding.input.write(self.age[140000:])
+        feeding.stops("OUT was cut off", unwritten("out", LENGTH))
+        self.see("OUT was cut off: no hole", self.read("out") == PLAIN[:10])
+        self.remove("out", "in")
+
+    def test_made_up(self):
+        """A file that the system makes up has no length of its own, and takes what is written to it."""
+        self.write("name", b"renamed")
+        self.expect(0, b"", "encrypt --pass pass --log 4 name short")
+        self.expect(0, b"", "decrypt --pass pass short /proc/self/comm")
+        self.expect(1, unwritten("/proc/self/limits", errno.EACCES), "decrypt --pass pass short /proc/self/limits", **as_nobody())
+
+    def test_two_runs(self):
+        """Of two runs into one OUT the second is refused, whatever becomes of the first, and neither spoils what the other writes."""
+        words = "decrypt --pass pass in out"
+        for name, feed, status, faults in (
+            ("a first run that fails", b"this is no age file\n", 1, b"age_tool: 1 NotAge line 1\n"),
+            ("a first run that goes on", self.age, 0, b""),
+        ):
+            self.remove("in", "out")
+            os.mkfifo(self.path("in"))
+            first = self.started(words)
+            with open(self.path("in"), "wb") as pipe:
+                waits_for(lambda: self.is_there("out"))
+                self.expect(1, unwritten("out", OTHER_RUN), "decrypt --pass pass age out", f"{name}: a second run")
+                self.see(f"{name}: OUT is still there", self.is_there("out") and self.read("out") == b"")
+                pipe.write(feed)
+            self.ends(name, first, status, faults)
+            self.see(f"{name}: OUT", self.read("out") == PLAIN if status == 0 else not self.is_there("out"))
+        self.write("wrong", b"another passphrase\n")
+        lost = []
+        for turn in range(20):
+            self.remove("out")
+            runs = [self.started(f"decrypt --pass {name} age out") for name in ("wrong", "wrong", "wrong", "pass")]
+            for one in runs:
+                one.communicate(timeout=SECONDS)
+            if runs[-1].returncode == 0 and not (self.is_there("out") and self.read("out") == PLAIN):
+                lost.append(turn)
+        self.see("three wrong passphrases and the right one at once", not lost, lost)
+
+    @needs("cc")
+    def test_no_locks(self):
+        self.expect(0, b"", "decrypt --pass pass age out", "a file system without locks", {"FLOCK": errno.ENOLCK})
+        self.see("a file system without locks: OUT", self.read("out") == PLAIN)
+
+    def sticky_folder(self, setting):
+        """A folder like /tmp, with this setting of the system on until the test ends, which is left out where it can't be set."""
+        setting = pathlib.Path("/proc/sys/fs", setting)
+        if not os.access(setting, os.W_OK):
+            self.skipTest(f"{setting} can't be set")
+        self.addCleanup(setting.write_text, setting.read_text())
+        setting.write_text("1\n")
+        self.path("sticky").mkdir()
+        self.path("sticky").chmod(0o1777)
+        return self.path("sticky")
+
+    @needs(root=True)
+    def test_planted(self):
+        """Where the system guards the files of others in a sticky folder, so does the program."""
+        folder = self.sticky_folder("protected_regular")
+        (folder / "out").touch()
+        os.chown(folder / "out", NOBODY, NOBODY)
+        (folder / "out").chmod(0o666)
+        self.expect(1, unwritten("sticky/out", errno.EACCES), "decrypt --pass pass age sticky/out", "somebody else's file in a sticky folder")
+        self.see("somebody else's file in a sticky folder: empty", (folder / "out").read_bytes() == b"")
+
+    @needs(root=True)
+    def test_sticky(self):
+        """Where the system follows no link of somebody else's, neither does the program."""
+        folder = self.sticky_folder("protected_symlinks")
+        self.write("target", b"an old position")
+        os.symlink(self.path("target"), folder / "saved")
+        os.lchown(folder / "saved", NOBODY, NOBODY)
+        said = unwritten("sticky/saved", errno.EACCES)
+        self.expect(1, said, "decrypt --pass pass --save sticky/saved cut new", "somebody else's link in a sticky folder")
+        self.expect(1, said, "decrypt --pass pass cut sticky/saved", "somebody else's link as OUT")
+        self.see("somebody else's link: kept", self.read("target") == b"an old position" and not self.is_there("new"))
+
+    @needs(root=True)
+    def test_full(self):
+        """A position that no room is left for is reported, and costs no old one."""
+        self.path("small").mkdir()
+        self.mount("-t", "tmpfs", "-o", "size=64k", "none", self.path("small"))
+        said = WRITE + unwritten("small/out", errno.ENOSPC) + reason("save the position to small/saved", errno.ENOSPC)
+        self.expect(1, said, "decrypt --pass pass --save small/saved age small/out", "a full file system")
+        self.see("a full file system: no half position", not self.is_there("small/saved") and not self.is_there("small/saved.new-0"))
+        said = unwritten("small/out", errno.ENOSPC)
+        self.expect(1, said, "decrypt --pass pass --save saved age small/out", "a full file system, and a position elsewhere")
+        self.see("a full file system, and a position elsewhere: it", self.is_position("saved", 1) or self.is_position("saved", 0))
+
+    def mount_ext4(self, name, mib, *words, options="loop"):
+        """Mounts a new ext4 of so many MiB, and returns its folder."""
+        self.write("image", b"")
+        os.truncate(self.path("image"), mib << 20)
+        self.path(name).mkdir()
+        subprocess.run(["mkfs.ext4", "-q", *words, self.path("image")], check=True)
+        self.mount("-o", options, self.path("image"), self.path(name))
+        return self.path(name)
+
+    @needs("mkfs.ext4", root=True)
+    def test_no_inodes(self):
+        """Where no file can be made any more, an old position is written over, and a new one is reported."""
+        few = self.mount_ext4("few", 4, "-N", "16")
+        (few / "saved").write_bytes(b"an old position")
+        while os.statvfs(few).f_ffree:
+            (few / f"file-{os.statvfs(few).f_ffree}").touch()
+        self.expect(1, WRITE + reason("create few/out", errno.ENOSPC), "decrypt --pass pass age few/out", "no inode for OUT")
+        self.see("no inode for OUT: it isn't there", not self.is_there("few/out"))
+        words = "decrypt --pass pass --save few/new cut out"
+        self.expect(1, chunk_fault(2) + unsaved("few/new", errno.ENOSPC), words, "no inode for a position")
+        self.see("no inode for a position: OUT", self.read("out") == PLAIN[:131072] and not self.is_there("few/new"))
+        self.expect(1, chunk_fault(2), "decrypt --pass pass --save few/saved cut out", "no inode, and an old position")
+        self.see("no inode, and an old position: a new one", self.is_position("few/saved", 2))
+
+    # ---- what reaches the disk
+
+    def synced(self, words, name, **more):
+        """Runs the program, and gives the paths that it waited for."""
+        log = self.path("synced")
+        log.unlink(missing_ok=True)
+        log.touch()
+        log.chmod(0o666)
+        self.expect(more.pop("status", 0), more.pop("faults", b""), words, name, {"SYNCED": log}, **more)
+        return [pathlib.Path(line).name for line in log.read_text().splitlines()]
+
+    @needs("cc")
+    def test_syncs(self):
+        """Status 0 says that OUT has reached the disk, wherever that can be waited for."""
+        here = self.room.name
+        self.see("a new OUT and its folder are synced", self.synced("decrypt --pass pass age new", "a new OUT") == ["new", here])
+        self.see("an old OUT is synced", self.synced("decrypt --pass pass age new", "an old OUT") == ["new"])
+        self.see("nothing is synced", self.synced("decrypt --no-sync --pass pass age new", "no waiting") == [])
+        self.see("a position is synced", self.synced("decrypt --pass pass --save saved cut out", "a position", status=1, faults=chunk_fault(2))
+            == ["out", here, "saved.new-0", here])
+        with open(self.path("new"), "wb") as new:
+            self.see("a stream is synced", self.synced("decrypt --pass pass age /dev/stdout", "a stream to a file", stdout=new) == ["new"])
+        words = "decrypt --pass pass short /dev/stdout"
+        self.expect(0, b"", "encrypt --pass pass --log 4 pass short")
+        self.see("a pipe isn't", self.synced(words, "a stream to a pipe", stdout=subprocess.PIPE) == [])
+        self.see("a device isn't", self.synced("decrypt --pass pass age /dev/null", "a device") == [])
+
+    @needs("cc")
+    def test_syncs_that_fail(self):
+        """A file system that can't sync is no fault, and one that fails is."""
+        for error in (errno.EINVAL, errno.EOPNOTSUPP):
+            self.remove("new", "saved")
+            self.expect(0, b"", "decrypt --pass pass age new", f"no fsync, {error}", {"FSYNC": error})
+            self.expect(1, chunk_fault(2), "decrypt --pass pass --save saved cut out", f"no fsync of a position, {error}", {"FSYNC": error})
+            self.see(f"no fsync, {error}: both", self.read("new") == PLAIN and self.is_position("saved", 2))
+        for error, only in ((errno.EIO, "f"), (errno.EIO, "d"), (errno.EROFS, "f"), (errno.EROFS, "d")):
+            self.remove("new", "saved")
+            failing = {"FSYNC": error, "ONLY": only}
+            self.expect(1, unsynced("new", error), "decrypt --pass pass age new", f"a sync that fails, {only}", failing)
+            said = chunk_fault(2) + unsaved("saved", error)
+            self.expect(1, said, "decrypt --pass pass --save saved cut new", f"a position's sync that fails, {only}", failing)
+            self.see(f"a position's sync that fails, {only}: nothing beside it", not self.is_there("saved.new-0"))
+
+    @needs("cc")
+    def test_write_only(self):
+        """Standard output may be a file that can only be written."""
+        self.write("new", b"", 0o222)
+        with open(self.path("new"), "wb") as new:
+            words = "decrypt --pass pass age /dev/stdout"
+            paths = self.synced(words, "a stream to a file that can't be read", stdout=new, **as_nobody())
+            self.see("a file that can't be read is synced", paths == ["new"], paths)
+            self.expect(1, unsynced("/dev/stdout", errno.EIO), words, "its sync fails", {"FSYNC": errno.EIO}, stdout=new, **as_nobody())
+
+    def test_unreadable(self):
+        """The name of a new OUT can't be synced in a folder that can't be read."""
+        folder = self.path("folder")
+        folder.mkdir()
+        folder.chmod(0o333)
+        self.expect(1, unsynced("folder/new", errno.EACCES), "decrypt --pass pass age folder/new", "a folder that can't be read", **as_nobody())
+        self.expect(0, b"", "decrypt --no-sync --pass pass age folder/other", "a folder that can't be read, without waiting", **as_nobody())
+        folder.chmod(0o777)
+        self.see("a folder that can't be read: whole all the same", self.read("folder/new") == PLAIN == self.read("folder/other"))
+
+    @needs("cc")
+    def test_cuts(self):
+        """An old OUT that can't be cut off has changed."""
+        for name, text, most, said in (("age", PLAIN, 65536, unwritten), ("short", b"some text", 9, unsynced)):
+            self.write("some", text)
+            self.expect(0, b"", "encrypt --pass pass --log 4 some short")
+            self.write("out", b"O" * 300000)
+            words = f"decrypt --pass pass --save saved {name} out"
+            self.expect(1, said("out", errno.EIO), words, f"a cut that fails, {name}", {"FTRUNCATE": errno.EIO})
+            held = self.read("out")
+            begins = len(os.path.commonprefix([held, text]))
+            is_mixed = 0 < begins <= most and held == text[:begins] + b"O" * (300000 - begins)
+            self.see(f"a cut that fails, {name}: what was written", is_mixed, begins)
+        self.see("a cut that fails: a position", self.is_position("saved", 1))
+        self.write("old", PLAIN[:65536] + b"O" * 234464)
+        self.expect(0, b"", "resume --position saved --old old --pass pass age out", "resumed after a cut that failed")
+        self.see("resumed after a cut that failed: the text", self.read("out") == PLAIN)
+
+    @needs("mkfs.ext4", "cc", root=True)
+    def test_aborted(self):
+        """A file system that became read-only as its disk failed, before what was written had reached it."""
+        folder = self.mount_ext4("ext4", 64, options="loop,errors=remount-ro")
+        device = subprocess.run(["findmnt", "-n", "-o", "SOURCE", folder], capture_output=True, text=True).stdout.strip()
+        trigger = pathlib.Path("/sys/fs/ext4") / pathlib.Path(device).name / "trigger_fs_error"
+        if not trigger.exists():
+            self.skipTest("the system can't let an ext4 abort")
+        self.expect(1, unsynced("ext4/out", errno.EROFS), "decrypt --pass pass age ext4/out", "an ext4 that aborts", {"TRIGGER": trigger})
+
+    @needs("cc")
+    def test_errors_of_writes(self):
+        """A write that fails leaves the chunks before it, and no half position."""
+        for error in (errno.EIO, errno.ENOSPC, errno.EDQUOT, errno.EFBIG):
+            for at in (1, 2, 3):
+                self.remove("saved", "out")
+                name = f"write {at} fails with {errno.errorcode[error]}"
+                said = WRITE + unwritten("out", error) + reason("save the position to saved", error)
+                self.expect(1, said, "decrypt --pass pass --save saved age out", name, {"WRITE": error, "AT": at})
+                held = self.read("out") if self.is_there("out") else None
+                self.see(f"{name}: OUT", held == (PLAIN[:65536 * (at - 1)] if at > 1 else None))
+                self.see(f"{name}: nothing is left of a position", not self.is_there("saved") and not self.is_there("saved.new-0"))
+
+    # ---- streams that aren't ready, aren't there, or are read and written elsewhere too
+
+    @needs("cc")
+    def test_interrupted(self):
+        """Reads and writes that a signal interrupts are tried again."""
+        for every in (2, 3, 5):
+            self.remove("saved", "out")
+            failing = {"EVERY": every}
+            self.expect(0, b"", "decrypt --pass pass age out", f"every call number {every} is interrupted", failing)
+            self.see(f"every call number {every} is interrupted: OUT", self.read("out") == PLAIN)
+            self.expect(1, chunk_fault(2), "decrypt --pass pass cut out", f"every call number {every} of a run that stops is interrupted", failing)
+            with open(self.path("age"), "rb") as age, open(self.path("out"), "wb") as out:
+                self.expect(0, b"", "decrypt --pass pass /dev/stdin /dev/stdout", f"the streams, {every}", failing, stdin=age, stdout=out)
+            self.see(f"every call number {every} is interrupted: standard output", self.read("out") == PLAIN)
+
+    def test_not_waiting(self):
+        """A pipe that another program has made one that isn't waited for is waited for all the same."""
+        reader, writer = os.pipe()
+        os.set_blocking(reader, False)
+        first = self.started("decrypt --pass pass /dev/stdin out", stdin=reader)
+        for at in range(0, len(self.age), 70000):
+            time.sleep(0.1)
+            os.write(writer, self.age[at : at + 1000])
+            with os.fdopen(os.dup(writer), "wb") as pipe:
+                pipe.write(self.age[at + 1000 : at + 70000])
+        os.close(writer)
+        self.ends("standard input doesn't wait", first, 0, b"")
+        os.close(reader)
+        self.see("standard input doesn't wait: OUT", self.read("out") == PLAIN)
+        reader, writer = os.pipe()
+        os.set_blocking(writer, False)
+        first = self.started("decrypt --pass pass age /dev/stdout", stdout=writer)
+        os.close(writer)
+        held = []
+        while not held or held[-1]:
+            time.sleep(0.02)
+            held.append(os.read(reader, 20000))
+        self.ends("standard output doesn't wait", first, 0, b"")
+        os.close(reader)
+        self.see("standard output doesn't wait: all of it", b"".join(held) == PLAIN)
+
+    def test_closed(self):
+        """Where standard streams are closed, nothing that is meant for them goes to a file."""
+        for streams in ("<&-", ">&-", "2>&-", "<&- >&-", "<&- 2>&-", ">&- 2>&-", "<&- >&- 2>&-"):
+            self.remove("saved", "out")
+            words = f"{self.program} decrypt --progress --pass pass --save saved cut out {streams}"
+            ended = subprocess.run(["sh", "-c", words], cwd=self.room, stderr=subprocess.DEVNULL, timeout=SECONDS)
+            self.see(f"closed: {streams}", ended.returncode == 1 and self.read("out") == PLAIN[:131072] and self.is_position("saved", 2))
+
+    def test_offsets(self):
+        """What goes to standard output goes where that stands, and cuts nothing off."""
+        for name, mode, before, after in (("appended", "ab", b"a log\n", b""), ("from where it stands", "r+b", b"a log\n", b"x" * 300000)):
+            self.write("log", before + after)
+            with open(self.path("log"), mode) as log:
+                log.seek(len(before))
+                self.expect(0, b"", "decrypt --pass pass age /dev/stdout", f"standard output: {name}", stdout=log)
+            self.see(f"standard output: {name}: the bytes", self.read("log") == before + PLAIN + after[len(PLAIN) :])
+
+    def test_descriptors(self):
+        """With too few descriptors a run stops, and what it left is right."""
+        for most in range(3, 9):
+            self.remove("saved", "out")
+            words = f"ulimit -n {most}; exec {self.program} decrypt --pass pass --save saved cut out"
+            ended = subprocess.run(["sh", "-c", words], cwd=self.room, capture_output=True, timeout=SECONDS)
+            held = self.read("out") if self.is_there("out") else b""
+            self.see(f"{most} descriptors", ended.returncode in (1, 127) and PLAIN.startswith(held), ended)
+            self.see(f"{most} descriptors: a position", self.is_position("saved", 2) or most < 6 and not self.is_there("saved"), ended)
+
+    def test_links(self):
+        """As many links are followed as the system follows."""
+        self.write("link-0", b"")
+        for n in range(1, 42):
+            os.symlink(f"link-{n - 1}", self.path(f"link-{n}"))
+        self.expect(0, b"", "decrypt --pass pass age link-40", "40 links")
+        self.see("40 links: OUT", self.read("link-0") == PLAIN)
+        self.expect(1, unwritten("link-41", errno.ELOOP), "decrypt --pass pass age link-41", "41 links")
+
+    def test_lengths(self):
+        """A line of progress says no 100 % of less than was read."""
+        for name in ("/proc/self/status", "/proc/cpuinfo"):
+            ended = self.tool("encrypt", "--progress", "--pass", "pass", "--log", "4", name, "out")
+            self.see(f"progress of {name}", ended.returncode == 0 and b"%" not in ended.stderr and b"B " in ended.stderr, ended)
+
+    def in_chroot(self, words, **more):
+        """Runs the program in a folder that is its own system, without /proc."""
+        return subprocess.run(["chroot", self.path("root"), "/age_tool", *words.split()], stderr=subprocess.PIPE, timeout=SECONDS, **more)
+
+    @needs("ldd", "chroot", root=True)
+    def test_without_proc(self):
+        """Where the system doesn't show where the standard streams lead, they are refused: what is read could be written over."""
+        root = self.path("root")
+        (root / "dev").mkdir(parents=True)
+        for name, leads_to in (("fd", "/proc/self/fd"), ("stdin", "fd/0"), ("stdout", "fd/1"), ("stderr", "fd/2")):
+            os.symlink(leads_to, root / "dev" / name)
+        shutil.copy(self.program, root / "age_tool")
+        for word in subprocess.run(["ldd", self.program], capture_output=True, text=True).stdout.split():
+            if word.startswith("/"):
+                (root / word[1:]).parent.mkdir(parents=True, exist_ok=True)
+                shutil.copy(word, root / word[1:])
+        for name in ("pass", "plain", "age"):
+            shutil.copy(self.path(name), root / name)
+        (root / "random").write_bytes(PLAIN[:48])
+        with open(root / "plain", "rb") as plain:
+            ended = self.in_chroot("encrypt --log 4 --pass pass --random random /dev/stdin plain", stdin=plain)
+        self.see("standard input without /proc", ended.returncode == 1 and (root / "plain").read_bytes() == PLAIN, ended)
+        with open(root / "out", "wb") as out:
+            ended = self.in_chroot("decrypt --pass pass age /dev/stdout", stdout=out)
+        self.see("standard output without /proc", ended.returncode == 1 and WRITE in ended.stderr and (root / "out").read_bytes() == b"", ended)
+        ended = self.in_chroot("decrypt --pass pass age new")
+        self.see("files without /proc", ended.returncode == 0 and (root / "new").read_bytes() == PLAIN, ended)
+        for made in ("fake", b"\0" * 64), ("device", None):
+            name, held = made
+            (root / "dev" / "urandom").unlink(missing_ok=True)
+            if held:
+                (root / "dev" / "urandom").write_bytes(held)
+            else:
+                os.mknod(root / "dev" / "urandom", stat.S_IFCHR | 0o666, os.makedev(1, 9))
+            ended = self.in_chroot("encrypt --log 4 --pass pass plain new")
+            if held:
+                self.see("random bytes from a file", ended.returncode == 1 and b"age_tool: 26 Read\n" in ended.stderr, ended)
+            elif ended.returncode != 0:
+                self.leave_out("random bytes from a device", "devices aren't for use where this runs")
+
+    @needs(root=True)
+    def test_other_users(self):
+        """Standard output that the user of the program may not open by its path can't be synced."""
+        self.write("out", b"", 0o600)
+        with open(self.path("out"), "r+b") as out:
+            said = unsynced("/dev/stdout", errno.EACCES)
+            self.expect(1, said, "decrypt --pass pass age /dev/stdout", "standard output of another user's", stdout=out, **as_nobody())
+        self.see("standard output of another user's: whole all the same", self.read("out") == PLAIN)
+        self.write("out", b"", 0o600)
+        with open(self.path("out"), "r+b") as out:
+            words = "decrypt --no-sync --pass pass age /dev/stdout"
+            self.expect(0, b"", words, "standard output of another user's, without waiting", stdout=out, **as_nobody())
+        self.see("standard output of another user's, without waiting: the bytes", self.read("out") == PLAIN)
+
+    # ---- what is read
+
+    def test_refused(self):
+        """What the system refuses is named."""
+        self.write("secret", b"correct horse\n", 0o000)
+        said = b"age_tool: 26 Read\n" + reason("open secret", errno.EACCES)
+        self.expect(1, said, "decrypt --pass secret age new", "a passphrase that can't be read", **as_nobody())
+        self.expect(1, said, "decrypt --pass pass secret new", "an input that can't be read", **as_nobody())
+
+    def test_shared(self):
+        """No more than 65 bytes of a shared secret are read: a pipe that stays open isn't waited for."""
+        os.mkfifo(self.path("secret"))
+
+        def feed():
+            with open(self.path("secret"), "wb") as secret:
+                secret.write(bytes(65))
+                secret.flush()
+                done.wait(SECONDS)
+
+        done = threading.Event()
+        feeder = threading.Thread(target=feed)
+        feeder.start()
+        try:
+            said = b"age_tool: bad shared file\nage_tool: secret holds more than 64 bytes\n"
+            self.expect(2, said, "decrypt --shared secret age new", "65 bytes of a shared secret")
+        finally:
+            done.set()
+            feeder.join()

@@ -1,0 +1,238 @@
+"""Runs the built program where a transcript can't: with closed streams, on streams that it shares with other programs, at a terminal, on
+words that aren't UTF-8 or would forge a line, on a file and a pipe that are long enough for its progress, and with too little memory.
+No contract sees the bytes of a real file, pipe or device. What a transcript can show is in tests/runs.d, and the report of a header
+from standard input is the stored run of crates/age_tool."""
+import os
+import re
+import resource
+import subprocess
+
+from tests.case import Case, twice
+from tools import terminal
+from tools.workspace import TOP
+
+
+def within_memory():
+    resource.setrlimit(resource.RLIMIT_AS, (500_000 << 10, 500_000 << 10))
+
+
+class ProgramTest(Case):
+    """A passphrase `pass`, a text `plain` and its age file `plain.age`."""
+
+    def setUp(self):
+        super().setUp()
+        self.plain = os.urandom(200_000)
+        self.write("pass", b"correct horse\n")
+        self.write("plain", self.plain)
+        self.encrypted = self.tool(*"encrypt --pass pass --log 10 plain plain.age".split())
+        self.age = self.read("plain.age")
+
+    def ends(self, name, ended, status, output=b"", faults=b""):
+        """Counts whether a run ended like this."""
+        with self.subTest(name):
+            self.assertEqual((ended.returncode, ended.stdout or b"", ended.stderr or b""), (status, output, faults))
+
+    def decrypt(self, *words, **more):
+        return self.tool("decrypt", "--pass", "pass", *words, **more)
+
+    def encrypt(self, words, **more):
+        return self.tool(*f"encrypt --pass pass --log {words}".split(), **more)
+
+    def redirected(self, redirection, *words):
+        """Runs the program with a redirection of the shell's."""
+        run = ["sh", "-c", f'exec "$0" "$@" {redirection}', self.program, *words]
+        return subprocess.run(run, cwd=self.room, stdin=subprocess.DEVNULL, capture_output=True)
+
+    # ---- words and names in messages
+
+    def test_words(self):
+        self.ends("encrypt", self.encrypted, 0)
+        bad = b"age_tool: bad command line\nage_tool: "
+        self.ends("a word that isn't UTF-8", self.tool(b"\xff"), 2, b"", bad + b"\\xff isn't UTF-8, as a name must be\n")
+        said = bad + rb"caf\xe9\u{1b}[2J\n isn't UTF-8, as a name must be" + b"\n"
+        self.ends("a name that isn't UTF-8", self.decrypt(b"caf\xe9\x1b[2J\n", "back"), 2, b"", said)
+
+    def test_names(self):
+        """A name forges no line, and commands no terminal."""
+        for what, name, shown in (
+            ("a name of two lines", "none\nage_tool: 13 WrongKey\x1b[2J", r"none\nage_tool: 13 WrongKey\u{1b}[2J"),
+            ("a name that can be read", 'it\'s \\ "größer" 大', 'it\'s \\\\ "größer" 大'),
+            ("an empty name", "", '""'),
+        ):
+            said = f"age_tool: 26 Read\nage_tool: can't open {shown}: No such file or directory\n".encode()
+            self.ends(what, self.decrypt(name, "back"), 1, b"", said)
+        said = b"age_tool: 26 Read\nage_tool: can't open " + b"n" * 1_000 + b"..: File name too long\n"
+        self.ends("a long name", self.decrypt("n" * 1_200, "back"), 1, b"", said)
+        said = b"age_tool: 26 Read\nage_tool: can't read /proc/self/mem: Input/output error\n"
+        self.ends("a file that can't be read", self.encrypt("10 /proc/self/mem back"), 1, b"", said)
+
+    # ---- closed streams
+
+    def test_closed_streams(self):
+        for name, redirection, words, fault, what in (
+            ("output", ">&-", "inspect plain.age", "27 Write", "write standard output"),
+            ("output by its name", ">&-", "decrypt --pass pass plain.age /dev/stdout", "27 Write", "write /dev/stdout"),
+            ("input by its name", "<&-", "decrypt --pass pass /dev/stdin fresh", "26 Read", "open /dev/stdin"),
+            ("input", "<&-", "", "26 Read", "read standard input"),
+        ):
+            said = f"age_tool: {fault}\nage_tool: can't {what}: Bad file descriptor\n".encode()
+            self.ends(f"a closed standard {name}", self.redirected(redirection, *words.split()), 1, b"", said)
+        self.see("a closed standard output: the age file is kept", self.read("plain.age") == self.age)
+
+    # ---- streams that others use too
+
+    def test_shared_output(self):
+        for stream in ("/dev/stdout", "/dev/fd/1", "/proc/self/fd/1"):
+            with open(self.path("among"), "wb", buffering=0) as among:
+                among.write(b"HEAD\n")
+                self.decrypt("plain.age", stream, stdout=among)
+                among.write(b"TAIL\n")
+            self.see(f"among other output: {stream}", self.read("among") == b"HEAD\n" + self.plain + b"TAIL\n")
+        self.write("among", b"OLD\n")
+        with open(self.path("among"), "ab") as among:
+            self.decrypt("plain.age", "/dev/stdout", stdout=among)
+        self.see("appended", self.read("among") == b"OLD\n" + self.plain)
+
+    def test_over_what_is_read(self):
+        with open(self.path("plain.age"), "ab") as age:
+            ended = self.decrypt("plain.age", "/dev/stdout", stdout=age)
+        self.ends("appended to what is read", ended, 2, b"", twice("plain.age", "/dev/stdout"))
+        self.see("appended to what is read: the age file is kept", self.read("plain.age") == self.age)
+        with open(self.path("plain.age"), "rb") as age:
+            ended = self.decrypt("/dev/stdin", "plain.age", stdin=age)
+        self.ends("over standard input", ended, 2, b"", twice("/dev/stdin", "plain.age"))
+        self.see("over standard input: the age file is kept", self.read("plain.age") == self.age)
+
+    def test_shared_input(self):
+        """A stream that is named twice is refused before a byte of it is read; a FIFO isn't waited for."""
+        self.write("after-a-line", b"a line\n" + self.age)
+        with open(self.path("after-a-line"), "rb", buffering=0) as age:
+            age.readline()
+            self.decrypt("/dev/stdin", "back", stdin=age)
+        self.see("standard input from where it stands", self.read("back") == self.plain)
+        self.write("stream", b"not eaten")
+        with open(self.path("stream"), "rb", buffering=0) as stream:
+            ended = self.tool(*"encrypt --log 2 --pass /dev/stdin /dev/fd/0 fresh".split(), stdin=stream)
+            self.ends("a stream twice", ended, 2, b"", twice("/dev/stdin", "/dev/fd/0"))
+            self.see("nothing of it is read", stream.read() == b"not eaten")
+        os.mkfifo(self.path("fifo"))
+        self.ends("a FIFO twice", self.tool(*"encrypt --log 2 --pass fifo ./fifo fresh".split()), 2, b"", twice("fifo", "./fifo"))
+        self.ends("devices without an end", self.encrypt("2 --random /dev/zero /dev/null fresh"), 0)
+
+    # ---- at a terminal
+
+    def on_terminal(self, stream, *words):
+        """Runs the program with standard input or error at a terminal, and gives what it says on standard error."""
+        ours, theirs = os.openpty()
+        if stream == "stdin":
+            os.write(ours, b"\x04")  # the end
+        ends = {"stdin": subprocess.DEVNULL, "stdout": subprocess.PIPE, "stderr": subprocess.PIPE, stream: theirs}
+        run = subprocess.Popen([self.program, *words], cwd=self.room, **ends)
+        os.close(theirs)
+        said = terminal.output(ours).replace(b"\r\n", b"\n") if stream == "stderr" else b""
+        output, faults = run.communicate()
+        os.close(ours)
+        return subprocess.CompletedProcess(words, run.returncode, output, faults or said)
+
+    def at_terminal(self, words):
+        """Runs the program with a terminal as its standard streams, and gives what came there as its output."""
+        child, tty = terminal.start(["env", "-C", str(self.room), str(self.program), *words.split()])
+        came = terminal.output(tty).replace(b"\r\n", b"\n")
+        os.close(tty)
+        return subprocess.CompletedProcess(words, os.waitstatus_to_exitcode(os.waitpid(child, 0)[1]), came)
+
+    def hint_of(self, faults):
+        """The hint in a message."""
+        hint = re.search(r"^age_tool: hint: (.*) \(more: man age_tool\)$", faults.decode(), re.M)
+        return hint[1] if hint else ""
+
+    def test_hints(self):
+        """At a terminal a fault gives the hint that docs/FAULTS.md has in its row."""
+        self.write("no-line", b"not an age file")
+        self.write("armored", b"-----BEGIN AGE ENCRYPTED FILE-----\n")
+        self.write("cut-header", self.age[:100])
+        self.write("wrong", b"wrong horse\r\n")
+        page = (TOP / "docs" / "FAULTS.md").read_text().replace("`", "").replace(r"\|", "|")
+        for what, fault, beginning, words in (
+            ("an armored file", "2 Armored line 1", "remove the armor", "decrypt --pass pass armored back"),
+            ("what is no age file", "8 HeadCut line 1", "this is perhaps no age file", "decrypt --pass pass no-line back"),
+            ("a cut header", "8 HeadCut line 3", "the file was cut off", "decrypt --pass pass cut-header back"),
+            ("a limit", "11 WorkTooHigh", "if you trust the file", "decrypt --pass pass --max-log 9 plain.age back"),
+            ("a wrong passphrase", "13 WrongKey", "check the passphrase", "decrypt --pass wrong plain.age back"),
+            ("what is no position", "23 BadPosition", "--position takes", "resume --position pass --old plain --pass pass plain.age back"),
+        ):
+            ended = self.on_terminal("stderr", *words.split())
+            hint = self.hint_of(ended.stderr)
+            row = re.search(rf"^\| {fault.split()[0]} \| .*$", page, re.M)[0]
+            with self.subTest(f"the hint of {what}"):
+                said = f"age_tool: {fault}\nage_tool: hint: {hint} (more: man age_tool)\n".encode()
+                self.assertEqual((ended.returncode, ended.stdout, ended.stderr), (1, b"", said))
+                self.assertTrue(hint.startswith(beginning) and hint in row, (hint, row))
+
+    def test_no_hints(self):
+        said = b"age_tool: 26 Read\nage_tool: can't open none: No such file or directory\n"
+        self.ends("a reason at a terminal", self.on_terminal("stderr", *"decrypt --pass none plain.age back".split()), 1, b"", said)
+        self.write("wrong", b"wrong horse\r\n")
+        self.ends("no hint without a terminal", self.tool(*"decrypt --pass wrong plain.age back".split()), 1, b"", b"age_tool: 13 WrongKey\n")
+        said = b"age_tool: reading a header from standard input; for help, age_tool --help\nage_tool: 8 HeadCut line 1\n"
+        self.ends("no words at a terminal", self.on_terminal("stdin"), 1, b"", said)
+
+    def test_output_at_a_terminal(self):
+        self.write("short", b"a short text\n")
+        for name in ("/dev/stdout", "/dev/tty"):
+            ended = self.at_terminal(f"encrypt --pass pass --log 2 short {name}")
+            self.ends(f"an age file to a terminal: {name}", ended, 2, b"age_tool: the output is a terminal\n")
+        self.encrypt("2 short short.age")
+        self.ends("a text to a terminal", self.at_terminal("decrypt --pass pass short.age /dev/stdout"), 0, b"a short text\n")
+        self.write("random", b"0\n")
+        ended = self.at_terminal("encrypt --pass pass --log 2 --random random short /dev/tty")
+        self.ends("a terminal, after the files of secrets", ended, 2, b"age_tool: bad random file\nage_tool: random holds 2 of 48 bytes\n")
+
+    # ---- standard error that leads to the output
+
+    def test_errors_to_the_output(self):
+        self.write("cut.age", self.age[:100_000])
+        for words in ("decrypt --pass pass cut.age", "encrypt --pass pass --log 2 plain"):
+            self.write("o", b"an old text\n")
+            # Opened to append, so that the redirection itself changes nothing.
+            with open(self.path("o"), "ab") as errors:
+                self.ends(f"standard error to the output: {words}", self.tool(*words.split(), "o", stderr=errors), 2)
+            self.see(f"the output holds the message alone: {words}", self.read("o") == b"an old text\n" + twice("o", "standard error"))
+        with open(self.path("o"), "wb") as both:
+            self.ends("both to one file", self.decrypt("cut.age", "/dev/stdout", stdout=both, stderr=both), 2)
+        self.see("both to one file: the message alone", self.read("o") == twice("/dev/stdout", "standard error"))
+        self.ends("a device for both", self.decrypt("plain.age", "/dev/null", stderr=subprocess.DEVNULL), 0)
+
+    # ---- progress
+
+    def shows_all(self, name, ended):
+        """Counts whether there was at most a line for each percent, up to the last one of a file of 4.7 MiB."""
+        *lines, last, end = ended.stderr.split(b"\r")
+        shown = last == b"100 %  4.7 of 4.7 MiB" and end == b"\n"
+        self.see(name, ended.returncode == 0 and shown and 0 < len(lines) <= 100, ended.returncode, len(lines), last, end)
+
+    def test_progress(self):
+        large = os.urandom(5_000_000)
+        self.write("large", large)
+        self.shows_all("progress of five megabytes", self.encrypt("10 --progress large large.age"))
+        self.shows_all("progress of decrypting them", self.decrypt("--progress", "large.age", "back"))
+        self.see("there and back", self.read("back") == large)
+        self.ends("progress on a closed standard error", self.redirected("2>&-", *"decrypt --progress --pass pass large.age back".split()), 0)
+        self.see("progress on a closed standard error: the text", self.read("back") == large)
+
+    def test_progress_of_a_pipe(self):
+        with subprocess.Popen(["head", "-c", "134217728", "/dev/zero"], stdout=subprocess.PIPE) as zeros:
+            ended = self.encrypt("10 --progress /dev/stdin /dev/null", stdin=zeros.stdout)
+        self.ends("progress of a pipe", ended, 0, b"", b"  64.0 MiB\r 128.0 MiB\r\n")
+
+    # ---- memory
+
+    def test_memory(self):
+        """A header by hand, which asks for 4 GiB: 28 if scrypt is tried, 11 if its work factor is compared with the limit before that."""
+        ended = self.encrypt("22 plain never", preexec_fn=within_memory)
+        self.ends("no memory for a work factor of 22", ended, 1, b"", b"age_tool: 28 Memory\n")
+        zeros = "A" * 43
+        self.write("costly", f"age-encryption.org/v1\n-> scrypt AAAAAAAAAAAAAAAAAAAAAA 22\n{zeros}\n--- {zeros}\n".encode())
+        for log, fault in (("21", b"11 WorkTooHigh"), ("22", b"28 Memory")):
+            ended = self.decrypt("--max-log", log, "costly", "never", preexec_fn=within_memory)
+            self.ends(f"a work factor of 22 within a limit of {log}", ended, 1, b"", b"age_tool: " + fault + b"\n")

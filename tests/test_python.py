@@ -1,0 +1,437 @@
+"""Tries the Python module: the kinds of faults, headers that come slowly, the command line, keys and shared secrets, what an argument may
+be, its types, where it finds the library, and files that are read at any place."""
+import contextlib
+import io
+import os
+import pickle
+import random
+import shutil
+import signal
+import socket
+import subprocess
+import sys
+import threading
+import zipfile
+
+from tests import bindings
+from tests.bindings import BLOCK, CHUNK, KEY, PYTHON, BindingsCase, by_python, flipped, raised
+from tests.case import needs
+from tools.workspace import LIBRARY, TOP
+
+AGE = TOP / "bindings" / "tests" / "age"
+
+# a file for an X25519 recipient, its shared secret and recipient, and its text: those of tests/runs.d/shared.run
+SHARED_HEADER = b"age-encryption.org/v1\n-> X25519 AQIDBAUGBwgJCgsMDQ4PEBESExQVFhcYGRobHB0eHyA\n" \
+    b"jZAdkj7SfLxba9aaDaLOH15VqHxjezbflkA4yhWbOAQ\n--- bFHWTtINPd+NDhBKPJJS9Mjszxl4rvMbhTUfrtdiPco\n"
+SHARED_EMPTY = SHARED_HEADER + b"defghijklmnopqrs" + bytes.fromhex("c1ab8f53158f15b5b4a67f29cf8009b3")
+SECRET, RECIPIENT = bytes(range(0x40, 0x60)), bytes(range(0x60, 0x80))
+
+
+def setUpModule():
+    global agefile
+    agefile = bindings.module()
+
+
+def fault_of(call, *words, **more):
+    """The exception of a call."""
+    try:
+        call(*words, **more)
+    except Exception as fault:
+        return fault
+    return None
+
+
+class Counted(io.BytesIO):
+    """A file that counts what is read of it."""
+    count = 0
+
+    def readinto(self, room):
+        n = super().readinto(room)
+        self.count += n
+        return n
+
+
+class Pieces(io.RawIOBase):
+    """A file that gives so many bytes a read."""
+
+    def __init__(self, data, size):
+        self.held, self.size = io.BytesIO(data), size
+
+    def readable(self):
+        return True
+
+    def readinto(self, room):
+        return self.held.readinto(memoryview(room)[:self.size])
+
+
+@contextlib.contextmanager
+def pipe(data, buffering=0):
+    """A pipe that holds so much, and stays open."""
+    source, sink = os.pipe()
+    with open(source, "rb", buffering=buffering) as file, open(sink, "wb", buffering=0) as sender:
+        sender.write(data)
+        yield file
+
+
+def buffered_pipe(data):
+    return pipe(data, -1)
+
+
+@contextlib.contextmanager
+def paired(data):
+    """The same as a socket's file."""
+    one, two = socket.socketpair()
+    with one, two, one.makefile("rb") as file:
+        two.sendall(data)
+        yield file
+
+
+@contextlib.contextmanager
+def limited(seconds):
+    """Ends a call that would wait forever."""
+    def ended(*_):
+        raise TimeoutError(f"no answer in {seconds} s")
+
+    kept = signal.signal(signal.SIGALRM, ended)
+    signal.alarm(seconds)
+    try:
+        yield
+    finally:
+        signal.alarm(0)
+        signal.signal(signal.SIGALRM, kept)
+
+
+class PythonTest(BindingsCase):
+    """What a program in Python can rely on."""
+
+    def test_shared(self):
+        keys = {"shared": (SECRET, RECIPIENT)}
+        self.see("a shared secret doesn't open its file", by_python(SHARED_EMPTY, **keys) == ((0, None), b""))
+        for what, pair, number in (
+            ("another secret", (SECRET[::-1], RECIPIENT), 13), ("another recipient", (SECRET, SECRET), 13),
+            ("a zero secret", (bytes(32), RECIPIENT), 15), ("a secret of 31 bytes", (SECRET[:31], RECIPIENT), 255),
+            ("a recipient of 33 bytes", (SECRET, RECIPIENT + b"0"), 255),
+        ):
+            self.see(f"{what}: not {number}", by_python(SHARED_EMPTY, shared=pair)[0] == (number, None))
+        self.see("a passphrase for a file of a recipient: not 12", by_python(SHARED_EMPTY, passphrase="pw")[0] == (12, None))
+
+    def test_arguments(self):
+        """What an argument may be. It is looked at before the file is."""
+        none = self.path("none")
+        keys = {"passphrase": "pw", "file_key": KEY, "shared": (SECRET, RECIPIENT)}
+        for one in keys:
+            for two in keys.keys() - {one}:
+                for mode in ("rb", "wb") if "passphrase" in (one, two) else ("rb",):
+                    words = {one: keys[one], two: keys[two]}
+                    self.see(f"{one} and {two}, {mode}", raised(TypeError, agefile.open, none, mode, **words))
+        self.see("a reader of two keys", raised(TypeError, agefile.AgeReader, io.BytesIO(), "pw", KEY))
+        for mode in ("rb", "wb"):
+            self.see(f"no key, {mode}", raised(ValueError, agefile.open, none, mode))
+            self.see(f"a number for a passphrase, {mode}", raised(TypeError, agefile.open, io.BytesIO(), mode, passphrase=4))
+        self.see("a number for a key", raised(TypeError, agefile.open, io.BytesIO(), file_key=16))
+        self.see("a file is made before the arguments are looked at", not none.exists())
+
+    @needs("mypy")
+    def test_types(self):
+        run = subprocess.run(["mypy", "--strict", "--cache-dir", os.devnull, "agefile"], cwd=PYTHON, capture_output=True, text=True)
+        self.assertEqual(run.returncode, 0, run.stdout)
+
+    def test_places(self):
+        """The Python module finds the library beside it, and in the folders of a release. AGE_C_LIBRARY goes before."""
+        there = {**os.environ, "AGE_C_LIBRARY": ""}
+        for folder, library in (
+            (".", "libage_c.so"), (".", "agefile/libage_c.so"), ("share/age_tool", "lib/libage_c.so.0"), ("bindings/python", "bindings/out/libage_c.so"),
+        ):
+            top = self.path(f"place-of-{library.replace('/', '-')}")
+            for made in (top / folder / "agefile", top / library):
+                made.parent.mkdir(parents=True, exist_ok=True)
+            shutil.copytree(PYTHON / "agefile", top / folder / "agefile", dirs_exist_ok=True)
+            shutil.copy(LIBRARY / "libage_c.so", top / library)
+            words = [sys.executable, "-B", "-c", "import agefile; print(agefile._library.C._name)"]
+            run = subprocess.run(words, cwd=top / folder, env=there, capture_output=True, text=True)
+            self.see(f"the library in {library}", run.stdout.strip() == str((top / library).resolve()), run.stdout, run.stderr[-300:])
+            run = subprocess.run(words, cwd=top / folder, env={**there, "AGE_C_LIBRARY": "/none.so"}, capture_output=True, text=True)
+            self.see(f"AGE_C_LIBRARY, beside {library}", run.returncode != 0 and "/none.so" in run.stderr, run.stderr[-300:])
+
+    def test_kinds(self):
+        """Faults that a program asks for are classes."""
+        data = self.sealed(bytes(70_000))
+        payload = len(data) - BLOCK - (70_000 - CHUNK) - 16
+        other, flipped = agefile.WrongKey, data[:-1] + bytes([data[-1] ^ 1])
+        for what, given, keys, kind, number in (
+            ("another passphrase", data, {"passphrase": "other"}, other, 13), ("another file key", data, {"file_key": bytes(16)}, other, 14),
+            ("another kind of key", data, {"shared": (KEY * 2, KEY * 2)}, other, 12),
+            ("a cut header", data[:50], {"file_key": KEY}, agefile.Truncated, 254),
+            ("no payload", data[:payload], {"file_key": KEY}, agefile.Truncated, 20),
+            ("a missing chunk", data[:payload + BLOCK], {"file_key": KEY}, agefile.Truncated, 20),
+            ("a cut chunk", data[:payload + BLOCK + 9], {"file_key": KEY}, agefile.Truncated, 18),
+            ("a changed byte", flipped, {"file_key": KEY}, agefile.Damaged, 17),
+            ("bytes after the end", self.sealed(bytes(CHUNK)) + b"0", {"file_key": KEY}, agefile.Damaged, 21),
+            ("a changed header", data.replace(b"\n-> scrypt", b"\n-> scrYpt"), {"passphrase": "pw"}, other, 12),
+            ("no age file", b"x\n", {"passphrase": "pw"}, agefile.AgeError, 1), ("no passphrase", data, {"passphrase": ""}, agefile.AgeError, 255),
+        ):
+            fault = fault_of(lambda: agefile.open(io.BytesIO(given), **keys).read())
+            self.see(what, type(fault) is kind and fault.number == number, fault)
+        fault = pickle.loads(pickle.dumps(agefile._library.fault_of(17, 3)))
+        self.see("a pickled fault", (type(fault), str(fault)) == (agefile.Damaged, "17 ChunkDamaged chunk 3"), fault)
+        self.see("a fault is an OSError", not issubclass(agefile.AgeError, OSError))
+
+    def test_early_answers(self):
+        """A header that is there is answered, though its sender sends nothing more and doesn't close."""
+        data = self.sealed(b"text")
+        for what, opened in (("a pipe", pipe), ("a buffered pipe", buffered_pipe), ("a socket", paired)):
+            for word, number in (("other", 13), ("pw", None)):
+                with opened(data[:-3]) as file, limited(20):
+                    fault = fault_of(agefile.open, file, passphrase=word)
+                    self.see(f"{what}, {word}", getattr(fault, "number", None) == number and (number or fault is None), fault)
+        with pipe(b"no age file\n") as file, limited(20):
+            fault = fault_of(agefile.open, file, passphrase="pw")
+            self.see("a pipe that isn't an age file", getattr(fault, "number", None) == 1, fault)
+
+    def test_slow_headers(self):
+        """A long header that comes in small pieces is tried a few times, and answered at its end."""
+        line = b"-> x " + b"a" * 57 + b"\n" + b"A" * 64 + b"\n\n"
+        data = self.sealed(b"")
+        version, rest = data.split(b"\n", 1)
+        looked, kept = [0], agefile._library.C.age_c_open_key
+
+        def counted(front, length, *words):
+            looked[0] += length
+            return kept(front, length, *words)
+
+        long = version + b"\n" + line * (600_000 // len(line)) + rest
+        agefile._library.C.age_c_open_key = counted
+        try:
+            fault = fault_of(agefile.AgeReader, Pieces(long, 10), file_key=KEY)
+        finally:
+            agefile._library.C.age_c_open_key = kept
+        self.see("a long header", isinstance(fault, agefile.AgeError) and fault.number != 254, fault)
+        self.see(f"{looked[0]} bytes of a header of {len(long)} are looked at", looked[0] < 2 * len(long))
+
+    def test_commands(self):
+        """python3 -m agefile."""
+        text = random.Random(5).randbytes(150_000)
+        self.path("plain").write_bytes(text)
+        for what, words, given, want, out in (
+            ("encrypt", ("encrypt", "--pass", "pw", "--log", "1", "plain", "made.age"), None, 0, b""),
+            ("test", ("test", "--pass", "pw", "made.age"), None, 0, b""),
+            ("decrypt", ("decrypt", "--pass", "pw", "made.age", "-"), None, 0, text),
+            ("decrypt to a file", ("decrypt", "--pass", "pw", "made.age", "back"), None, 0, b""),
+            ("another passphrase", ("test", "--pass", "other", "made.age"), None, 1, b""),
+            ("one file", ("decrypt", "--pass", "pw", "made.age", "made.age"), None, 1, b""),
+            ("no file", ("test", "--pass", "pw", "none"), None, 1, b""),
+            ("no command", (), None, 2, b""),
+        ):
+            run = self.command(*words, given=given)
+            self.see(f"-m agefile: {what}", (run.returncode, run.stdout) == (want, out), run.returncode, run.stderr.decode()[-300:])
+        self.see("-m agefile decrypt", self.path("back").read_bytes() == text)
+        data = self.path("made.age").read_bytes()
+        self.see("-m agefile encrypt: age_tool doesn't read it", self.judged(data) == ((0, None), text))
+        run = self.command("decrypt", "--pass", "pw", "-", "-", given=data[:-1])
+        self.see("-m agefile", (run.returncode, run.stdout, run.stderr) == (1, text[:2 * CHUNK], b"agefile: 17 ChunkDamaged chunk 2\n"), run.stderr)
+
+    def command(self, *words, given=None):
+        env = {**os.environ, "PYTHONPATH": str(PYTHON)}
+        return subprocess.run([sys.executable, "-B", "-m", "agefile", *words], cwd=self.room, env=env, input=given, capture_output=True)
+
+    def test_bech32(self):
+        """The test vectors of BIP 173."""
+        valid = (
+            "A12UEL5L", "a12uel5l", "an83characterlonghumanreadablepartthatcontainsthenumber1andtheexcludedcharactersbio1tt5tgs",
+            "abcdef1qpzry9x8gf2tvdw0s3jn54khce6mua7lmqqqxw",
+            "11qqqqqqqqqqqqqqqqqqqqqqqqqqqqqqqqqqqqqqqqqqqqqqqqqqqqqqqqqqqqqqqqqqqqqqqqqqqqqqqqqqc8247j",
+            "split1checkupstagehandshakeupstreamerranterredcaperred2y9e3w", "?1ezyfcl",
+        )
+        invalid = (
+            "\x201nwldj5", "\x7f1axkwrx", "\x801eym55h", "an84characterslonghumanreadablepartthatcontainsthenumber1andtheexcludedcharactersbio1569pvx",
+            "pzry9x0s0muk", "1pzry9x0s0muk", "x1b4n0q5v", "li1dgmt3", "de1lg7wt\xff", "A1G7SGD8", "10a06t8", "1qzzfhee", "A12uEL5L",
+        )
+        for it in valid:
+            self.see(f"Bech32: {it}", fault_of(agefile._keys.bech32_decoded, it) is None)
+        for it in invalid:
+            self.see(f"Bech32, invalid: {it!r}", isinstance(fault_of(agefile._keys.bech32_decoded, it), ValueError))
+        # (its bytes are those of BIP 173's list of all letters)
+        held = bytes.fromhex("00443214c74254b635cf84653a56d7c675be77df")
+        self.see("the bytes of a Bech32 text", agefile._keys.bech32_decoded(valid[3]) == ("abcdef", held))
+
+    def test_identities(self):
+        """Files of age for the keys of age-keygen."""
+        key, other = (agefile._keys.identities_in((AGE / name).read_text()) for name in ("key.txt", "other.txt"))
+        public = [line.split()[-1] for line in (AGE / "key.txt").read_text().splitlines() if "public key" in line][0]
+        secret, nine = agefile._keys.secret_of(key[0]), bytes([9]) + bytes(31)
+        for what, call in (("cryptography", agefile._keys.x25519), ("openssl", agefile._keys.by_openssl)):
+            self.see(f"the public key of a key, by {what}", call(secret, nine) == agefile._keys.bech32_decoded(public)[1])
+            self.see(f"a point of low order, by {what}", call(secret, bytes(32)) == bytes(32))
+        for name, keys, want in (
+            ("one.age", key, b"hello, recipient\n"), ("one.age", [*other, *key], b"hello, recipient\n"), ("two.age", key, b"hello, both\n"),
+            ("two.age", other, b"hello, both\n"), ("other.age", other, b"hello, other\n"), ("one.age", other, 13), ("passphrase.age", key, 12),
+        ):
+            for given in (keys, iter(keys), keys[0]) if len(keys) == 1 else (keys,):
+                fault = got = None
+                try:
+                    with agefile.open(AGE / name, identity=given) as file:
+                        got = file.read()
+                except agefile.WrongKey as it:
+                    fault = it.number
+                self.see(f"{name} by a key", want in (got, fault), got, fault)
+            self.path("keys").write_text("# of two\n\n" + "\n".join(keys) + "\n")
+            run = self.command("decrypt", "--identity", "keys", str(AGE / name), "-")
+            self.see("--identity", (run.returncode, run.stdout) == ((1, b"") if isinstance(want, int) else (0, want)), run.stderr)
+            run = self.command("shared", "keys", str(AGE / name))
+            self.path("shared").write_bytes(run.stdout)
+            self.see("shared", (run.returncode, len(run.stdout)) == ((1, 0) if isinstance(want, int) else (0, 64)), run.stderr)
+            if run.returncode == 0:
+                run = self.tool("decrypt", "--shared", "shared", "--no-sync", str(AGE / name), "by-shared")
+                self.see("age_tool --shared", run.returncode == 0 and self.path("by-shared").read_bytes() == want, run.stderr)
+        with agefile.open(AGE / "passphrase.age", passphrase="correct horse") as file:
+            self.see("a file of age for a passphrase", file.read() == b"hello, passphrase\n")
+        bad = ("age1xyz", public, key[0][:-1], "", key[0].lower().replace("1", "I"))
+        for it in bad:
+            self.see(f"a bad key: {it}", isinstance(fault_of(agefile.open, AGE / "one.age", identity=it), ValueError))
+        self.see("a key and a passphrase", isinstance(fault_of(agefile.open, AGE / "one.age", identity=key[0], passphrase="pw"), TypeError))
+        data = (AGE / "one.age").read_bytes()
+        for what, given, number in (("cut in its header", data[:90], 254), ("that isn't age's", b"x\n" + data, 1), ("damaged", flipped(data, -1), 17)):
+            fault = fault_of(lambda: agefile.open(io.BytesIO(given), identity=key[0]).read())
+            self.see(f"a file {what}, by a key", getattr(fault, "number", None) == number, fault)
+
+    @needs("age", "age-keygen")
+    def test_files_of_age(self):
+        """What age makes for keys of its own."""
+        keys = [subprocess.run(["age-keygen"], capture_output=True, text=True, check=True).stdout for _ in range(3)]
+        recipients = [word for it in keys for word in it.split() if word.startswith("age1")]
+        for length in (0, 1, 65_536, 200_000):
+            text = random.Random(length).randbytes(length)
+            for count in (1, 3):
+                words = [part for it in recipients[-count:] for part in ("-r", it)]
+                data = subprocess.run(["age", *words], input=text, capture_output=True, check=True).stdout
+                for any_place in (False, True):
+                    with agefile.open(io.BytesIO(data), identity=agefile._keys.identities_in(keys[-1]), random_access=any_place) as file:
+                        self.see(f"a file of age of {length} bytes for {count}", file.read() == text)
+
+    def at_any_place(self, file):
+        return agefile.open(file, file_key=KEY, random_access=True)
+
+    def test_any_place(self):
+        """A file that is read at any place is as io.BytesIO is, but that a place after the end is the end."""
+        for length in (0, 1, 65_535, 65_536, 65_537, 131_072, 200_000):
+            text = random.Random(length).randbytes(length)
+            data = self.sealed(text)
+            for raw in (False, True):
+                under = io.BytesIO(b"in front" + data)
+                under.seek(8)
+                opened = self.at_any_place(under)
+                wrong = self.differences(opened.raw if raw else opened, io.BytesIO(text), length)
+                self.see(f"{length} bytes at any place, raw {raw}: {wrong[:3]}", wrong == [])
+
+    def differences(self, file, memory, length, turns=120):
+        rnd, wrong = random.Random(length), []
+        for _ in range(turns):
+            whence = rnd.randrange(3)
+            offset = rnd.choice((0, rnd.randrange(-length - 10, length + 10), rnd.randrange(-300, 300)))
+            place = offset + (0, memory.tell(), length)[whence]
+            if place < 0:
+                if not isinstance(fault_of(file.seek, offset, whence), ValueError):
+                    wrong.append((offset, whence))
+            else:
+                memory.seek(min(place, length))
+                if file.seek(offset, whence) != memory.tell():
+                    wrong.append((offset, whence, "place"))
+            size = rnd.choice((0, 1, 10, 1_000, 65_536, 70_000, 200_000, -1))
+            got = file.read(size)
+            if len(got) < size and size > 0 and got:  # what a raw file may do
+                got += file.read(size - len(got))
+            while 0 < len(got) < size and (more := file.read(size - len(got))):
+                got += more
+            if got != memory.read(size) or file.tell() != memory.tell():
+                wrong.append((offset, whence, size, file.tell(), memory.tell()))
+        return wrong
+
+    def test_zip_members(self):
+        """zipfile reads members of an archive, and little of the file beside them."""
+        held = {f"{it}.bin": random.Random(it).randbytes(100_000) for it in range(30)}
+        archive = io.BytesIO()
+        with zipfile.ZipFile(archive, "w") as out:
+            for name, text in held.items():
+                out.writestr(name, text)
+        under = Counted(self.sealed(archive.getvalue()))
+        with self.at_any_place(under) as file, zipfile.ZipFile(file) as made:
+            self.see("members of a zip archive", all(made.read(name) == held[name] for name in ("7.bin", "29.bin", "0.bin")))
+        self.see(f"{under.count} bytes are read for three members", under.count < 15 * BLOCK)
+
+    def test_damage_at_a_place(self):
+        """What is damaged is refused where it is, each time, and the rest can be read."""
+        text = random.Random(6).randbytes(200_000)
+        data = self.sealed(text)
+        begin = len(data) - 200_000 - 4 * 16
+        with self.at_any_place(io.BytesIO(flipped(data, begin + BLOCK + 100))) as file:
+            for place, wrong in ((0, False), (70_000, True), (140_000, False), (65_536, True), (65_530, True), (199_990, False), (100_000, True)):
+                file.seek(place)
+                fault = got = None
+                try:
+                    got = file.read(10)
+                except agefile.Damaged as it:
+                    fault = (it.number, it.place)
+                self.see(f"damage, at {place}", (got, fault) == ((None, (17, 1)) if wrong else (text[place:place + 10], None)), got, fault)
+            file.seek(CHUNK)
+            self.see("a fault that is asked for again", [type(fault_of(file.read, 1)) for _ in range(2)] == [agefile.Damaged] * 2)
+        for end in [*range(begin, len(data), 4_099), len(data) - 1, begin + BLOCK, begin + 2 * BLOCK, begin + 3 * BLOCK + 16]:
+            fault = fault_of(self.at_any_place, io.BytesIO(data[:end]))
+            self.see(f"a file cut at {end} is opened at any place", isinstance(fault, (agefile.Truncated, agefile.Damaged)), fault)
+        for what, more in (("a byte", b"0"), ("a block", data[begin:begin + BLOCK])):
+            for size in (200_000, 131_072):
+                fault = fault_of(self.at_any_place, io.BytesIO(self.sealed(text[:size]) + more))
+                self.see(f"{what} after the end of {size}, at any place", isinstance(fault, agefile.AgeError), fault)
+        with pipe(self.sealed(b"text")) as file:
+            self.see("a pipe is read at any place", isinstance(fault_of(self.at_any_place, file), io.UnsupportedOperation))
+        self.see("written at any place", isinstance(fault_of(agefile.open, io.BytesIO(), "wb", passphrase="pw", random_access=True), ValueError))
+
+    def test_shared_files(self):
+        """Two readers of one file, and threads with one reader."""
+        text = random.Random(7).randbytes(300_000)
+        under = io.BytesIO(self.sealed(text))
+        one = self.at_any_place(under)
+        under.seek(0)
+        two = self.at_any_place(under)
+        wrong = 0
+        for turn in range(60):
+            file = (one, two)[turn % 2]
+            place = turn * 37_123 % 300_000
+            file.seek(place)
+            wrong += file.read(20_000) != text[place:place + 20_000]
+        self.see(f"{wrong} wrong reads of two readers of one file", wrong == 0)
+        found, lock = [], threading.Lock()
+
+        def reads(number):
+            for turn in range(60):
+                place = (turn * 41_233 + number * 7_001) % 300_000
+                with lock:
+                    one.seek(place)
+                    got = one.read(5_000)
+                found.append(got == text[place:place + 5_000])
+                one.raw.tell()
+
+        threads = [threading.Thread(target=reads, args=(it,)) for it in range(4)]
+        for it in threads:
+            it.start()
+        for it in threads:
+            it.join()
+        self.see("threads that seek in one file", found == [True] * 240)
+
+    def test_shrinking_files(self):
+        """A file that is cut while it is read: what is gone is a fault and no end, here and in a reader without random access."""
+        text = random.Random(8).randbytes(300_000)
+        data = self.sealed(text)
+        begin = len(data) - 300_000 - 5 * 16
+        for end in (0, 100, begin + 30_000, begin + BLOCK, begin + BLOCK + 5, begin + 3 * BLOCK + 100, len(data) - 1):
+            for any_place in (True, False):
+                under = io.BytesIO(data)
+                with agefile.open(under, file_key=KEY, random_access=any_place) as file:
+                    begun = file.read(10)
+                    under.truncate(end)
+                    got, fault = begun, None
+                    try:
+                        while piece := file.read1(50_000):
+                            got += piece
+                    except agefile.AgeError as it:
+                        fault = it
+                self.see(f"a file is cut to {end} while it is read", fault is not None and text.startswith(got), len(got), fault)

@@ -1,0 +1,293 @@
+"""Runs the built program where a position is lost or costs another file: names that change while it runs, folders and file systems that
+refuse a new file, an input that changes before it is read once more."""
+import errno
+import fcntl
+import os
+import signal
+import threading
+import time
+
+from tests.case import needs
+from tests.files import NOBODY, OTHER_RUN, PLAIN, Feeding, FilesCase
+from tests.files import as_nobody, chunk_fault, reason, unsaved, unwritten
+
+USED = "this run uses the file"
+MOVED = "its folder has changed"
+NO_FILE = "it is no file any more"
+
+
+class SavingTest(FilesCase):
+    """One test for each way in which a position is saved, or isn't."""
+
+    # ---- a name that changes while the run goes on
+
+    def test_changing_links(self):
+        """A file of `--save` that changes while the run goes on costs no other file."""
+        held = self.read("pass")
+        for first in (None, b"an old position"):
+            for leads_to in ("pass", "out", "plain"):
+                name = f"saved became a link to {leads_to}, {first}"
+                self.remove("saved")
+                if first:
+                    self.write("saved", first)
+                feeding = Feeding(self)
+                self.remove("saved")
+                os.symlink(leads_to, self.path("saved"))
+                feeding.stops(name, chunk_fault(2))
+                self.see(f"{name}: a position", not self.path("saved").is_symlink() and self.is_position("saved", 2))
+                self.see(f"{name}: kept", self.read("pass") == held and self.read("out") == PLAIN[:131072] and self.read("plain") == PLAIN)
+        for other in ("pass", "out"):
+            self.remove("saved")
+            feeding = Feeding(self)
+            os.link(self.path(other), self.path("saved"))
+            feeding.stops(f"saved became {other}", chunk_fault(2) + unsaved("saved", USED))
+            self.see(f"saved became {other}: kept", self.read("pass") == held and self.read("out") == PLAIN[:131072])
+        self.remove("saved")
+        os.symlink("target", self.path("saved"))
+        feeding = Feeding(self)
+        os.symlink("pass", self.path("target"))
+        feeding.stops("the target became a link", chunk_fault(2))
+        self.see("the target became a link: a position", self.path("saved").is_symlink() and self.is_position("target", 2))
+        self.see("the target became a link: kept", not self.path("target").is_symlink() and self.read("pass") == held)
+        self.remove("saved", "target")
+        feeding = Feeding(self)
+        os.mkdir(self.path("saved"))
+        feeding.stops("saved became a folder", chunk_fault(2) + unsaved("saved", NO_FILE))
+        self.path("saved").rmdir()
+        for first in (None, b"an old position"):
+            if first:
+                self.write("saved", first)
+            feeding = Feeding(self)
+            self.remove("saved")
+            os.mkfifo(self.path("saved"))
+            feeding.stops(f"saved became a pipe, {first}", chunk_fault(2) + unsaved("saved", NO_FILE))
+            self.remove("saved")
+        os.mkdir(self.path("folder"))
+        os.mkdir(self.path("other"))
+        self.write("other/place", b"somebody's file")
+        feeding = Feeding(self, "decrypt --pass pass --save folder/place in out")
+        os.rename(self.path("folder"), self.path("moved"))
+        os.symlink("other", self.path("folder"))
+        feeding.stops("the folder became a link", chunk_fault(2) + unsaved("folder/place", MOVED))
+        self.see("the folder became a link: kept", self.read("other/place") == b"somebody's file")
+
+    @needs("cc")
+    def test_links_at_the_last_moment(self):
+        """The same, between two calls of the program."""
+        self.write("saved", b"an old position")
+        said = chunk_fault(2) + unsaved("saved", errno.ENOENT)
+        self.expect(1, said, "decrypt --pass pass --save saved cut out", "saved becomes a pipe at the last moment", {"PIPED": 2})
+        self.path("folder").mkdir()
+        self.path("other").mkdir()
+        self.write("other/place", b"somebody's file")
+        for held in (None, b"an old position"):
+            if held:
+                self.write("folder/place", held)
+            name = f"the folder becomes a link at the last moment, {held}"
+            self.expect(1, chunk_fault(2) + unsaved("folder/place", MOVED), "decrypt --pass pass --save folder/place cut out", name, {"SWAP": 1})
+            self.see(f"{name}: kept", self.read("other/place") == b"somebody's file" and os.listdir(self.path("other")) == ["place"])
+            self.path("folder").unlink()
+            os.rename(self.path("moved"), self.path("folder"))
+
+    def test_two_saves(self):
+        """Two runs don't save into one file."""
+        self.write("saved", b"an old position")
+        feeding = Feeding(self)
+        self.expect(1, unwritten("saved", OTHER_RUN), "decrypt --pass pass --save saved cut new", "a second run with the file of --save")
+        self.see("a second run with the file of --save: nothing was begun", not self.is_there("new") and self.read("saved") == b"an old position")
+        feeding.stops("the first run with the file of --save", chunk_fault(2))
+        self.see("the first run with the file of --save: its position", self.is_position("saved", 2))
+        self.expect(1, chunk_fault(2), "decrypt --pass pass --save saved cut new", "a later run with the file of --save")
+
+    # ---- where a position goes
+
+    def test_waiting_pipes(self):
+        """A position isn't kept waiting by a pipe without a reader, and comes through one with a reader."""
+        os.mkfifo(self.path("pipe"))
+        words = "decrypt --pass pass --save pipe cut out"
+        self.expect(1, chunk_fault(2) + unsaved("pipe", errno.EPIPE), words, "a pipe that nobody reads")
+        reader = os.open(self.path("pipe"), os.O_RDONLY | os.O_NONBLOCK)
+        self.expect(1, chunk_fault(2), words, "a pipe that somebody reads")
+        self.see("a pipe that somebody reads: a position", os.read(reader, 1000).startswith(b"age-position/v2 2 "))
+        os.close(reader)
+        said = []
+        thread = threading.Thread(target=lambda: said.append(self.read("pipe")))
+        thread.start()
+        time.sleep(0.2)
+        self.expect(1, chunk_fault(2), words, "a pipe that somebody waits at")
+        thread.join()
+        self.see("a pipe that somebody waits at: a position", said[0].startswith(b"age-position/v2 2 "))
+
+    @needs(root=True)
+    def test_unreadable_pipe(self):
+        """The line of the fault comes before the position is saved, which waits at a pipe that may only be written."""
+        os.umask(0)
+        os.mkfifo(self.path("inbox"), 0o222)
+        os.umask(0o022)
+        words = "decrypt --pass pass --save inbox cut /dev/null"
+        for is_killed in (True, False):
+            first = self.started(words, **as_nobody())
+            self.see(f"a pipe that may only be written, {is_killed}: the fault", first.stderr.readline() == chunk_fault(2))
+            self.see(f"a pipe that may only be written, {is_killed}: it is waited at", first.poll() is None)
+            if is_killed:
+                first.kill()
+                self.ends("a pipe that may only be written: a run that is killed", first, -signal.SIGKILL, b"")
+            else:
+                self.see("a pipe that may only be written: a position", self.read("inbox").startswith(b"age-position/v2 2 "))
+                self.ends("a pipe that may only be written: a run that goes on", first, 1, b"")
+
+    def test_direct(self):
+        """Where no file can be made beside that of `--save`, or take its place, it is written itself."""
+        long = "s" * 250
+        for again in (1, 2):
+            self.expect(1, chunk_fault(2), f"decrypt --pass pass --save {long} cut out", f"a long name, {again}")
+            self.see(f"a long name, {again}: a position", self.is_position(long, 2) and self.mode(long) == 0o600)
+        self.remove(long)
+        long = "s" * 256
+        self.expect(1, unwritten(long, errno.ENAMETOOLONG), f"decrypt --pass pass --save {long} cut new", "a name that is too long")
+        self.see("a name that is too long: nothing was begun", not self.is_there("new"))
+        folder = self.path("folder")
+        folder.mkdir()
+        (folder / "saved").write_bytes(b"an old position, which is longer than the one that takes its place: " + b"x" * 200)
+        (folder / "saved").chmod(0o666)
+        folder.chmod(0o555)
+        words = ["decrypt", "--pass", "pass", "--save", "folder/saved", "cut", "/dev/null"]
+        self.expect(1, chunk_fault(2), words, "a folder that isn't writable", **as_nobody())
+        self.see("a folder that isn't writable: a position", self.is_position("folder/saved", 2) and len(self.read("folder/saved")) == 150)
+        self.see("a folder that isn't writable: nothing else", os.listdir(folder) == ["saved"])
+        (folder / "saved").chmod(0o444)
+        self.expect(1, unwritten("folder/saved", errno.EACCES), words, "a file that isn't writable", **as_nobody())
+        folder.chmod(0o755)
+
+    @needs(root=True)
+    def test_mounted(self):
+        """A mount point can't be renamed over."""
+        self.write("saved", b"under it")
+        self.write("over", b"an old position")
+        self.mount("--bind", self.path("over"), self.path("saved"))
+        self.expect(1, chunk_fault(2), "decrypt --pass pass --save saved cut out", "a mount point")
+        self.see("a mount point: a position", self.is_position("over", 2) and not self.is_there("saved.new-0"))
+
+    @needs("cc")
+    def test_failing_renames(self):
+        for before in (None, b"an old position"):
+            self.remove("saved")
+            if before:
+                self.write("saved", before, 0o640)
+            self.expect(1, chunk_fault(2), "decrypt --pass pass --save saved cut out", f"a rename that fails, {before}", {"RENAME": errno.EBUSY})
+            self.see(f"a rename that fails, {before}: a position", self.is_position("saved", 2) and not self.is_there("saved.new-0"))
+            self.see(f"a rename that fails, {before}: its mode", self.mode("saved") == (0o640 if before else 0o600))
+
+    def test_modes(self):
+        """A position is its owner's, whoever could read the one that it replaces."""
+        for umask, mode in ((0o022, 0o600), (0o277, 0o400), (0, 0o600)):
+            self.remove("saved", "out")
+            self.expect(1, chunk_fault(2), "decrypt --pass pass --save saved cut out", f"umask {umask:o}", umask=umask)
+            self.see(f"umask {umask:o}: the position", self.mode("saved") == mode, oct(self.mode("saved")))
+            self.see(f"umask {umask:o}: OUT", self.mode("out") == 0o666 & ~umask, oct(self.mode("out")))
+        if os.geteuid() == 0:
+            self.write("saved", b"an old position", 0o640)
+            os.chown(self.path("saved"), -1, NOBODY)
+            self.path("saved").chmod(0o4640)
+            self.expect(1, chunk_fault(2), "decrypt --pass pass --save saved cut out", "a position of another group is replaced")
+            self.see("a position of another group is replaced: its mode", self.is_position("saved", 2) and self.mode("saved") == 0o600)
+        for mode in (0o640, 0o666, 0o4755):
+            self.write("saved", b"an old position", mode)
+            self.expect(1, chunk_fault(2), "decrypt --pass pass --save saved cut out", f"a position of mode {mode:o} is replaced")
+            self.see(f"a position of mode {mode:o} is replaced: its mode", self.is_position("saved", 2) and self.mode("saved") == 0o600)
+        self.expect(1, chunk_fault(2), "resume --position saved --old out --pass pass --save ./saved cut again", "saved over the position")
+        self.see("saved over the position: it", self.is_position("saved", 2))
+
+    # ---- an input that is read once more
+
+    def input_changes(self, name, held, faults, words="decrypt"):
+        """`cut` becomes other bytes once a run into a pipe has read it, and before that ends."""
+        self.write("cut", self.age[:150000])
+        self.remove("saved")
+        reader, writer = os.pipe()
+        fcntl.fcntl(writer, fcntl.F_SETPIPE_SZ, 4096)
+        first = self.started(f"{words} --pass pass --save saved cut /dev/stdout", stdout=writer)
+        os.close(writer)
+        with os.fdopen(reader, "rb") as pipe:
+            # The third read comes before the second chunk, and gives what is left of the file.
+            text = pipe.read(65537)
+            with open(self.path("cut"), "r+b") as cut:
+                cut.write(held)
+                cut.truncate(len(held))
+            text += pipe.read()
+        self.ends(name, first, 1, chunk_fault(2) + faults)
+        self.see(f"{name}: OUT", text == PLAIN[:131072])
+
+    def test_changed_inputs(self):
+        """If the input changes before its position is found, none is saved, or one that goes with no text."""
+        changed = b"age_tool: 26 Read\n" + reason("read cut again", "it has changed")
+        cut = self.read("cut")
+        for name, held in {
+            "the input is cut off": cut[:70000],
+            "the input is gone": b"",
+            "a byte of the input changed": cut[:5000] + bytes([cut[5000] ^ 1]) + cut[5001:],
+            "a byte of the input's header changed": cut[:30] + b"x" + cut[31:],
+        }.items():
+            self.input_changes(name, held, changed)
+            self.see(f"{name}: no position", not self.is_there("saved"))
+        self.input_changes("what is behind the text changed", cut[:140000], b"")
+        self.see("what is behind the text changed: a position", self.is_position("saved", 2))
+        self.make_two()
+        self.input_changes("the input became another", self.read("other")[:150000], b"")
+        self.go_with_none("saved")
+
+    def make_two(self):
+        """Two files with the same key and nonce, and different texts: `one`, which becomes the one that is cut, and `other`."""
+        self.write("random", b"the file key...!the scrypt salt!the payload nonc")
+        for text, age in ((PLAIN, "one"), (PLAIN[::-1], "other")):
+            self.write("text", text)
+            self.expect(0, b"", f"encrypt --pass pass --log 4 --random random text {age}")
+        self.age = self.read("one")
+
+    def go_with_none(self, position):
+        """Counts for each of the two files whether the position goes with no text of it."""
+        self.write("out", PLAIN[:131072])
+        for age in ("one", "other"):
+            said = b"age_tool: 31 OldTextDiffers\n"
+            self.expect(1, said, f"resume --position {position} --old out --pass pass {age} new", f"{position} and {age}")
+
+    def stop_at_chunk_1(self):
+        """A position `start` at chunk 1, and the text before it, `old`."""
+        self.write("cut", self.age[:100000])
+        self.expect(1, chunk_fault(1), "decrypt --pass pass --save start cut old")
+
+    def test_changed_inputs_of_resume(self):
+        """The same of a run that was resumed at chunk 1. What is before that isn't opened again."""
+        self.stop_at_chunk_1()
+        words = "resume --position start --old old"
+        changed = b"age_tool: 26 Read\n" + reason("read cut again", "it has changed")
+        cut = self.age[:150000]
+        for name, held in {
+            "the input of resume is cut off": cut[:70000],
+            "the input of resume is gone": b"",
+            "a byte of the input of resume changed": cut[:90000] + bytes([cut[90000] ^ 1]) + cut[90001:],
+            "a byte of the header of resume's input changed": cut[:30] + b"x" + cut[31:],
+        }.items():
+            self.input_changes(name, held, changed, words)
+            self.see(f"{name}: no position", not self.is_there("saved"))
+        passed = cut[:5000] + bytes([cut[5000] ^ 1]) + cut[5001:]
+        self.input_changes("a byte changed that resume passes over", passed, b"", words)
+        self.see("a byte changed that resume passes over: a position", self.is_position("saved", 2))
+        self.make_two()
+        self.stop_at_chunk_1()
+        self.input_changes("the input of resume became another", self.read("other")[:150000], b"", words)
+        self.go_with_none("saved")
+
+    @needs("cc")
+    def test_unread_again(self):
+        """If the input can't be read again, no position is saved."""
+        for failing in ("SEEK", "REREAD"):
+            said = chunk_fault(2) + b"age_tool: 26 Read\n" + reason("read cut again", errno.EIO)
+            self.expect(1, said, "decrypt --pass pass --save saved cut out", f"{failing} fails", {failing: errno.EIO})
+            self.see(f"{failing} fails: OUT", self.read("out") == PLAIN[:131072] and not self.is_there("saved"))
+            self.expect(0, b"", "decrypt --pass pass --save saved age out", f"{failing} isn't done", {failing: errno.EIO})
+            with open(self.path("cut"), "rb") as cut:
+                name, words = f"{failing} isn't done with standard input", "decrypt --pass pass --save saved /dev/stdin out"
+                self.expect(1, chunk_fault(2), words, name, {failing: errno.EIO}, stdin=cut)
+            self.see(f"{name}: a position", self.is_position("saved", 2))
+            self.remove("saved", "out")

@@ -1,0 +1,238 @@
+/* A library that is loaded before the C library's. What it does is said by variables of the environment:
+ *
+ * REFUSED: that allocation fails, counted from 1; with ON all after it too. COUNT names a file that is made then.
+ *
+ * FSYNC, FTRUNCATE, FLOCK, RENAME, SEEK (to a place in a file), REREAD (a read after that) and WRITE (from write number AT on): these
+ * fail with that error. ONLY says of which kind of file FSYNC fails: d, f or b. Each call number EVERY of read and write is interrupted.
+ *
+ * SWAP: `folder` leads to `other` before a file .new-0 is opened. PIPED: before that open of `saved` to be written a pipe takes its
+ * place. TRIGGER names a file that gets a 1 before the first sync. SYNCED names one that gets a line for each file that is synced.
+ *
+ * RECORD names a file that gets each call that succeeded and changes what a regular file holds or which names a folder has, or waits
+ * for the disk. A line has the name of the call and its arguments, with tabs between them: an inode where a file is meant, and a path
+ * from the root where a name is. What was written follows its line. */
+#define _GNU_SOURCE
+#include <dlfcn.h>
+#include <errno.h>
+#include <fcntl.h>
+#include <limits.h>
+#include <stdarg.h>
+#include <stdio.h>
+#include <stdlib.h>
+#include <string.h>
+#include <sys/stat.h>
+#include <sys/uio.h>
+#include <unistd.h>
+#define NEXT(name) ((__typeof__(&name))dlsym(RTLD_NEXT, #name))
+#define MODE(flags) \
+    mode_t mode = 0; \
+    if ((flags) & (O_CREAT | __O_TMPFILE)) { \
+        va_list more; \
+        va_start(more, flags); \
+        mode = va_arg(more, mode_t); \
+        va_end(more); \
+    }
+
+/* ---- allocations ---- */
+
+extern void *__libc_malloc(size_t);
+extern void *__libc_calloc(size_t, size_t);
+extern void *__libc_realloc(void *, size_t);
+
+static int is_refused(void) {
+    static long at = -1, count, on;
+    if (at < 0) at = getenv("REFUSED") ? atol(getenv("REFUSED")) : 0, on = getenv("ON") != NULL;
+    if (at == 0 || ++count < at || (count > at && !on)) return 0;
+    if (getenv("COUNT")) close(NEXT(open)(getenv("COUNT"), O_CREAT | O_WRONLY, 0600));
+    errno = ENOMEM;
+    return 1;
+}
+void *malloc(size_t n) { return is_refused() ? NULL : __libc_malloc(n); }
+void *calloc(size_t n, size_t m) { return is_refused() ? NULL : __libc_calloc(n, m); }
+void *realloc(void *p, size_t n) { return is_refused() ? NULL : __libc_realloc(p, n); }
+
+/* ---- what fails ---- */
+
+static int fails(const char *name) {
+    const char *error = getenv(name);
+    if (!error) return 0;
+    errno = atoi(error);
+    return 1;
+}
+static long number(const char *name) { return getenv(name) ? atol(getenv(name)) : 0; }
+static int is_interrupted(long *count) {
+    if (!number("EVERY") || ++*count % number("EVERY")) return 0;
+    errno = EINTR;
+    return 1;
+}
+static int is_meant(int fd) {
+    const char *only = getenv("ONLY");
+    struct stat it;
+    if (!only || fstat(fd, &it)) return 1;
+    return (S_ISDIR(it.st_mode) && *only == 'd') || (S_ISREG(it.st_mode) && *only == 'f') || (S_ISBLK(it.st_mode) && *only == 'b');
+}
+static int ends_in(const char *path, const char *end) {
+    size_t n = strlen(path), m = strlen(end);
+    return n >= m && !strcmp(path + n - m, end);
+}
+static void swap(const char *path) {
+    if (getenv("SWAP") && ends_in(path, ".new-0") && (rename("folder", "moved") || symlink("other", "folder"))) abort();
+}
+static void pipe_up(const char *path) {
+    static long count;
+    if (number("PIPED") && ends_in(path, "saved") && ++count == number("PIPED") && (unlink(path) || mkfifo(path, 0600))) abort();
+}
+static void trigger(void) {
+    FILE *file = getenv("TRIGGER") ? fopen(getenv("TRIGGER"), "w") : NULL;
+    if (file) fputs("1\n", file), fclose(file), unsetenv("TRIGGER");
+}
+static void list(int fd) {
+    const char *synced = getenv("SYNCED");
+    char link[64], path[PATH_MAX];
+    if (!synced) return;
+    snprintf(link, sizeof link, "/proc/self/fd/%d", fd);
+    ssize_t n = readlink(link, path, sizeof path - 1);
+    FILE *log = fopen(synced, "a");
+    if (log && n > 0) path[n] = 0, fprintf(log, "%s\n", path);
+    if (log) fclose(log);
+}
+
+/* ---- the record ---- */
+
+/* Its descriptor is none that the program would have got. */
+static int record(void) {
+    static int fd = -1;
+    if (fd < 0) {
+        int made = NEXT(open)(getenv("RECORD"), O_WRONLY | O_APPEND | O_CLOEXEC);
+        fd = fcntl(made, F_DUPFD_CLOEXEC, 500);
+        close(made);
+    }
+    return fd;
+}
+static void note(const char *format, ...) {
+    va_list more;
+    if (!getenv("RECORD")) return;
+    va_start(more, format);
+    vdprintf(record(), format, more);
+    va_end(more);
+}
+static ino_t regular(int fd) {
+    struct stat it;
+    return getenv("RECORD") && fstat(fd, &it) == 0 && S_ISREG(it.st_mode) ? it.st_ino : 0;
+}
+/* Where a descriptor or the working folder is, followed by a path unless that begins at the root. */
+struct path { char text[2 * PATH_MAX]; };
+static struct path path(int folder, const char *name) {
+    struct path it;
+    char link[64] = "/proc/self/cwd";
+    ssize_t n = 0;
+    if (folder != AT_FDCWD) snprintf(link, sizeof link, "/proc/self/fd/%d", folder);
+    if (*name != '/') n = readlink(link, it.text, PATH_MAX);
+    snprintf(it.text + n, PATH_MAX, *name == '/' ? "%s" : "/%s", name);
+    return it;
+}
+
+/* ---- the calls ---- */
+
+static int opened(int folder, const char *name, int flags, mode_t mode) {
+    struct stat it;
+    swap(name);
+    if (flags & O_ACCMODE) pipe_up(name);
+    int is_new = getenv("RECORD") && (flags & O_CREAT) && fstatat(folder, name, &it, 0) != 0;
+    int fd = NEXT(openat)(folder, name, flags, mode);
+    ino_t file = fd >= 0 ? regular(fd) : 0;
+    if (file && (flags & O_TMPFILE) == O_TMPFILE) note("make\t%lu\n", file);
+    else if (file && is_new) note("make\t%lu\nlink\t%lu\t%s\n", file, file, path(folder, name).text);
+    else if (file && (flags & O_TRUNC)) note("cut\t%lu\t0\n", file);
+    return fd;
+}
+int open(const char *name, int flags, ...) { MODE(flags) return opened(AT_FDCWD, name, flags, mode); }
+int open64(const char *name, int flags, ...) { MODE(flags) return opened(AT_FDCWD, name, flags, mode); }
+int openat(int folder, const char *name, int flags, ...) { MODE(flags) return opened(folder, name, flags, mode); }
+int openat64(int folder, const char *name, int flags, ...) { MODE(flags) return opened(folder, name, flags, mode); }
+int creat(const char *name, mode_t mode) { return opened(AT_FDCWD, name, O_CREAT | O_WRONLY | O_TRUNC, mode); }
+int creat64(const char *name, mode_t mode) { return creat(name, mode); }
+
+static int sought = -1;
+off_t lseek(int fd, off_t to, int from) {
+    if (from == SEEK_SET && fails("SEEK")) return -1;
+    if (from == SEEK_SET) sought = fd;
+    return NEXT(lseek)(fd, to, from);
+}
+off_t lseek64(int fd, off_t to, int from) { return lseek(fd, to, from); }
+ssize_t read(int fd, void *into, size_t size) {
+    static long count;
+    if (fd == sought && fails("REREAD")) return -1;
+    return is_interrupted(&count) ? -1 : NEXT(read)(fd, into, size);
+}
+
+static off_t place(int fd) { return getenv("RECORD") ? NEXT(lseek)(fd, 0, SEEK_CUR) : 0; }
+static ssize_t wrote(int fd, const void *bytes, ssize_t n, off_t at) {
+    ino_t file = n > 0 ? regular(fd) : 0;
+    if (file) {
+        note("write\t%lu\t%ld\t%zd\n", file, at, n);
+        NEXT(write)(record(), bytes, n);
+    }
+    return n;
+}
+ssize_t write(int fd, const void *bytes, size_t size) {
+    static long count, all;
+    if (is_interrupted(&count)) return -1;
+    if (number("AT") && fd > 2 && ++all >= number("AT") && fails("WRITE")) return -1;
+    ssize_t n = NEXT(write)(fd, bytes, size);
+    return n > 0 ? wrote(fd, bytes, n, place(fd) - n) : n;
+}
+ssize_t pwrite(int fd, const void *bytes, size_t size, off_t at) { return wrote(fd, bytes, NEXT(pwrite)(fd, bytes, size, at), at); }
+ssize_t pwrite64(int fd, const void *bytes, size_t size, off_t at) { return pwrite(fd, bytes, size, at); }
+ssize_t writev(int fd, const struct iovec *parts, int count) {
+    ssize_t n = NEXT(writev)(fd, parts, count), left = n;
+    off_t at = n > 0 ? place(fd) - n : 0;
+    for (int i = 0; left > 0; i++) {
+        ssize_t size = left < (ssize_t)parts[i].iov_len ? left : (ssize_t)parts[i].iov_len;
+        at += wrote(fd, parts[i].iov_base, size, at);
+        left -= size;
+    }
+    return n;
+}
+int ftruncate(int fd, off_t length) {
+    int ended = fails("FTRUNCATE") ? -1 : NEXT(ftruncate)(fd, length);
+    if (ended == 0) note("cut\t%lu\t%ld\n", regular(fd), length);
+    return ended;
+}
+int ftruncate64(int fd, off_t length) { return ftruncate(fd, length); }
+int flock(int fd, int how) { return fails("FLOCK") ? -1 : ((int (*)(int, int))dlsym(RTLD_NEXT, "flock"))(fd, how); }
+
+static int synced(int fd, int ended) {
+    struct stat it;
+    if (ended || !getenv("RECORD") || fstat(fd, &it)) return ended;
+    if (S_ISREG(it.st_mode)) note("sync\t%lu\n", it.st_ino);
+    if (S_ISDIR(it.st_mode)) note("sync-names\t%s\n", path(fd, ".").text);
+    return 0;
+}
+int fsync(int fd) {
+    trigger();
+    list(fd);
+    return is_meant(fd) && fails("FSYNC") ? -1 : synced(fd, NEXT(fsync)(fd));
+}
+int fdatasync(int fd) { return synced(fd, NEXT(fdatasync)(fd)); }
+
+int renameat2(int folder, const char *name, int other, const char *to, unsigned flags) {
+    int ended = fails("RENAME") ? -1 : NEXT(renameat2)(folder, name, other, to, flags);
+    if (ended == 0) note("rename\t%s\t%s\n", path(folder, name).text, path(other, to).text);
+    return ended;
+}
+int renameat(int folder, const char *name, int other, const char *to) { return renameat2(folder, name, other, to, 0); }
+int rename(const char *name, const char *to) { return renameat2(AT_FDCWD, name, AT_FDCWD, to, 0); }
+int linkat(int folder, const char *name, int other, const char *to, int flags) {
+    struct stat it;
+    int ended = NEXT(linkat)(folder, name, other, to, flags);
+    if (ended == 0 && fstatat(other, to, &it, AT_SYMLINK_NOFOLLOW) == 0) note("link\t%lu\t%s\n", it.st_ino, path(other, to).text);
+    return ended;
+}
+int link(const char *name, const char *to) { return linkat(AT_FDCWD, name, AT_FDCWD, to, 0); }
+int unlinkat(int folder, const char *name, int flags) {
+    int ended = NEXT(unlinkat)(folder, name, flags);
+    if (ended == 0) note("unlink\t%s\n", path(folder, name).text);
+    return ended;
+}
+int unlink(const char *name) { return unlinkat(AT_FDCWD, name, 0); }
