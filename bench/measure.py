@@ -2,11 +2,8 @@
 import os
 import pathlib
 import select
-import subprocess
 import time
 import typing
-
-TOP = pathlib.Path(__file__).resolve().parent.parent
 
 
 class Cost(typing.NamedTuple):
@@ -26,13 +23,6 @@ def least(call, turns):
         took = time.perf_counter_ns() - start
         best = took if best is None else min(best, took)
     return best
-
-
-def program():
-    """The program, which ./age_tool builds if it has to."""
-    with open(TOP / "crates" / "age_tool" / "stdin") as report:
-        subprocess.run([TOP / "age_tool"], stdin=report, stdout=subprocess.DEVNULL, check=True)
-    return TOP / "crates" / "age_tool" / "out" / "age_tool"
 
 
 def resident(process):

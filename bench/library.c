@@ -1,7 +1,7 @@
-/* Opens an age file that lies in memory by the C library, or writes its text as a file again, and prints the processor time of the
- * payload in seconds.
+/* Opens an age file that lies in memory by the C library, or writes as long a text, and prints the processor time of the payload in
+ * seconds.
  *
- * usage: c-library FILE [blocks | feed | write]: for the passphrase "pw"; feed and write in pieces of 1 MiB
+ * usage: library FILE [blocks | feed | write]: for the passphrase "pw"; feed and write in pieces of 1 MiB
  */
 #define _POSIX_C_SOURCE 200809L
 #include "age_c.h"
