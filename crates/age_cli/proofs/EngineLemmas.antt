@@ -2,7 +2,7 @@
 use Rattle.std.proofs.Common.{◌≡◌, ◌∙◌, ◌⊎◌, ℕ, ap, sym, subst, refl, inl, inr, Bool, true, false}
 use Rattle.std.proofs.Common.{true≢false, List, [], Option, Some}
 use Rattle.std.proofs.Common.{Result, Ok, Err, OnOk, IfOk, IfErr, ⊎_elim, rules}
-use Rattle.std.specs.Prelude.{IsOk, IsSomeAnd, is_some, ◌==◌}
+use Rattle.std.specs.Prelude.{IsOk, IsSomeAnd, is_some}
 use Rattle.std.proofs.lemmas.Result.{on_ok_weaker, IfErr-weaker}
 use Rattle.age_io.specs.Io.{SourceView}
 use Rattle.age_io.specs.declared.durability.Durability.{Durability}
@@ -28,7 +28,7 @@ use Rattle.age_cli.specs.Acts.{IsLeft, IsUnclosed, EndsOf}
 use Rattle.age_cli.specs.declared.interruption.Interruption.{Interruption}
 use Rattle.age_cli.specs.inner.Endings.{sealing_end, opening_end, Left}
 use Rattle.age_cli.specs.inner.Endings.{Concludes}
-use Rattle.age_cli.proofs.CommandStopLemmas.{stop_wrote, resume_wrote, the_run}
+use Rattle.age_cli.proofs.CommandStopLemmas.{the_run}
 
 -- an engine's promise, of how it ended
 pub record Kept (engine : Engine) (before after : Ports) (end : Result (Unit {0}) Interruption) : Type 0 where

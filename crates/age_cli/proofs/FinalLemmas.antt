@@ -12,7 +12,6 @@ use Rattle.age_file.specs.declared.encryption.Written.{Written}
 use Rattle.age_file.specs.declared.decryption.Done.{Done}
 use Rattle.age_file.specs.declared.decryption.Stopped.{Stopped}
 use Rattle.age_file.specs.declared.position.Position.{Position}
-use Rattle.age_file.specs.declared.position.PositionPolicy.{PositionPolicy}
 use Rattle.age_fault.specs.declared.fault.FileFault.{FileFault}
 use Rattle.age_fileset.specs.FileSet.{Event, Opened, Created, FilesView}
 use Rattle.age_cli_args.specs.Requests.{option_text}
@@ -25,7 +24,7 @@ use Rattle.age_cli_args.specs.declared.request.Request.TheVariants.{Encrypt, Dec
 use Rattle.age_identity.specs.Orders.{Follows, identity_order, preparing, making, replacing}
 use Rattle.age_identity.specs.Orders.{NamesTwice, order_asked, random_name}
 use Rattle.age_identity.specs.Files.{Files, SparesBoth}
-use Rattle.age_identity.specs.Identities.{OpensBy, allows_by, refuses_by}
+use Rattle.age_identity.specs.Identities.{OpensBy}
 use Rattle.age_ending.specs.declared.ending.Ending.{Ending}
 use Rattle.age_identity.specs.declared.identity.Identity.{Identity}
 use Rattle.age_cli.specs.Acts.{Acts, HasEngineEnded, OfEngine, OfSomeEngine, Spares, paths_of}

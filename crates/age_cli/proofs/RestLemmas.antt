@@ -5,7 +5,7 @@ use Rattle.std.specs.Prelude.{is_some, IfSome, IsSomeAnd}
 use Rattle.std.proofs.lemmas.Option.{none-some}
 use Rattle.age_io.specs.Io.{SourceView}
 use Rattle.age_file.proofs.AgainLawLemmas.{rest_kept}
-use Rattle.age_file.specs.Resumes.{ResumePorts, resume_ports, ResumesKeyed, ResumeStops, StandsAt, IsFrom}
+use Rattle.age_file.specs.Resumes.{ResumePorts, resume_ports, ResumesKeyed, ResumeStops, StandsAt}
 use Rattle.age_file.specs.Resumes.{RestReadAgain, StopsInSkipped, ResumeEnds, IsFoundFrom}
 use Rattle.age_file.specs.Runs.{Ports, ports, Run, IsPositionOf}
 use Rattle.age_file.specs.declared.decryption.Done.{Done}

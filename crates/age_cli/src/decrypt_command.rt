@@ -1,6 +1,6 @@
 //! The command that decrypts a file.
 
-ghost use Rattle.std.specs.Prelude.{◌≡◌, ◌⊎◌, true, false, is_some, Some};
+ghost use Rattle.std.specs.Prelude.{◌≡◌, true, false, is_some, Some};
 ghost use Rattle.age_file.specs.Decrypts.{DecryptsKeyed};
 ghost use Rattle.age_file.specs.Runs.{ports};
 ghost use Rattle.age_file.specs.declared.position.PositionPolicy.TheVariants.{Dropped};

@@ -1,12 +1,8 @@
 -- A position that is found by reading again is the run's.
 use Rattle.std.proofs.Common.{◌≡◌, ℕ, ◌/◌, ◌<◌, ◌≤◌, min, List, [], ◌++◌, length, Option, Some}
 use Rattle.std.proofs.Common.{refl, sym, ap, subst, ◌∙◌, arith, append_assoc, true, false, ◌*◌}
-use Rattle.std.specs.Simd.{first_chunks}
 use Rattle.std.proofs.lemmas.List.{length-append}
-use Rattle.std.proofs.Math.Nat.{le-div_iff_mul-le}
 use Rattle.age_chunk.specs.Payload.{block_length, chunk_limit, chunk_length}
-use Rattle.age_chunk.proofs.FirstChunkLemmas.{first_chunks-append}
-use Rattle.age_file.proofs.RunLemmas.{writes_of}
 use Rattle.age_stanza.specs.declared.header.Header.{Header}
 use Rattle.age_stanza.specs.Laws.{OneHeader}
 use Rattle.age_stream.specs.Headline.{IsPrefixOf}

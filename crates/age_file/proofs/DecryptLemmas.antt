@@ -6,11 +6,10 @@ use Rattle.std.specs.Prelude.{Result, MatchResult, OnOk, Ok, Err, true}
 use Rattle.age_stanza.specs.Laws.{OneHeader}
 use Rattle.age_file.specs.declared.decryption.Done.{Done}
 use Rattle.age_file.specs.declared.decryption.Stopped.{Stopped}
-use Rattle.age_file.proofs.UndamagedLemmas.{undamaged, undamaged_done}
 use Rattle.age_stanza.specs.declared.header.Header.{Header}
 use Rattle.age_keys.specs.declared.fault.KeyFault.{KeyFault}
 use Rattle.age_file.specs.inner.Decrypts.{opens, PositionAt, EndsAs}
-use Rattle.age_keys.specs.Keys.{payload_key, position_key}
+use Rattle.age_keys.specs.Keys.{payload_key}
 use Rattle.age_fault.specs.Faults.{HasFailed}
 use Rattle.age_io.specs.Io.{SourceView, SinkView}
 use Rattle.age_file.specs.inner.Readers.{Pulled, Stage}
@@ -20,9 +19,8 @@ use Rattle.age_file.specs.Decrypts.{StartFails, DecryptsKeyed, DecryptStops}
 use Rattle.age_file.specs.inner.Copies.{StartsAt}
 use Rattle.age_file.specs.Runs.{Run, IsFromStart, segment_of, held, IsRun, PayloadFails, IsDone}
 use Rattle.age_file.specs.Runs.{IsPositionOf, NeverEnds, Ports, NoneFailed}
-use Rattle.age_file.proofs.RunLemmas.{writes_of, writes_all, position_given, position_due}
+use Rattle.age_file.proofs.RunLemmas.{position_given, position_due}
 use Rattle.age_file.specs.Bindings.{file_id, position_tag, chain}
-use Rattle.std.specs.Simd.{first_chunks}
 use Rattle.age_file.specs.inner.Bindings.{chain_if}
 use Rattle.age_file.specs.declared.position.PositionPolicy.{PositionPolicy}
 use Rattle.age_file.specs.declared.position.Position.{Position}

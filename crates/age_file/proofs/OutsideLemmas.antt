@@ -25,14 +25,13 @@ use Rattle.age_file.proofs.ByteLemmas.{fault_of_all}
 use Rattle.age_file.specs.Runs.{Ports, ports, Run, OpenedFile, Reads, IsRun, held, run_text, segment_of}
 use Rattle.age_file.specs.Runs.{PayloadFails, NeverEnds, IsHeadFault, run_outcome, IsDone}
 use Rattle.age_file.specs.Runs.{IsFromStart, NoneFailed}
-use Rattle.age_file.specs.Decrypts.{DecryptEnds, DecryptStops, Decrypts, EndsElsewhere, IsElsewhere}
+use Rattle.age_file.specs.Decrypts.{DecryptEnds, DecryptStops, Decrypts, IsElsewhere}
 use Rattle.age_file.specs.Decrypts.{IsOutside, IsReached, StartFails, fault_again}
-use Rattle.age_file.specs.Resumes.{ResumePorts, ResumeStops, IsRestReached, IsRestOf, SkipsShort}
-use Rattle.age_file.specs.Resumes.{RestStops, RestEndsElsewhere, FindsFrom, DecryptsRest}
+use Rattle.age_file.specs.Resumes.{IsRestReached, IsRestOf, SkipsShort}
+use Rattle.age_file.specs.Resumes.{RestStops, DecryptsRest}
 use Rattle.age_file.specs.declared.decryption.Done.{Done}
 use Rattle.age_file.specs.declared.decryption.Stopped.{Stopped}
 use Rattle.age_file.specs.declared.position.Position.{Position}
-use Rattle.age_file.specs.declared.position.PositionPolicy.{PositionPolicy}
 use Rattle.age_file.specs.declared.position.PositionPolicy.TheVariants.{Kept}
 use Rattle.age_file.proofs.AgainLawLemmas.{IsSameFront, fronts}
 use Rattle.age_file.proofs.AgainRunLemmas.{reaches}

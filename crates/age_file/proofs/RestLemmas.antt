@@ -2,7 +2,7 @@
 use Rattle.std.proofs.Common.{◌≡◌, ℕ, ◌+◌, ◌*◌, ◌<◌, ◌≤◌, List, [], ◌++◌, length, Option, Some, None}
 use Rattle.std.proofs.Common.{refl, inl, inr, sym, ap, subst, ◌∙◌, ◌^◌, suc, arith, append-nil}
 use Rattle.std.proofs.Common.{append_assoc}
-use Rattle.std.specs.Prelude.{Result, MatchResult, Ok, Err, OnOk, true}
+use Rattle.std.specs.Prelude.{Result, MatchResult, Ok, Err}
 use Rattle.std.specs.Simd.{first_chunks}
 use Rattle.std.specs.Io.KnownBytes.{Consumes, Appends}
 use Rattle.std.proofs.lemmas.List.{length-append}
@@ -19,7 +19,7 @@ use Rattle.age_fault.specs.declared.fault.FileFault.TheVariants.{Stream, Read, W
 use Rattle.age_file.specs.Bindings.{chain, file_id}
 use Rattle.age_file.specs.Runs.{Ports, ports, Run, OpenedFile, Reads, IsRun, PayloadFails, NeverEnds}
 use Rattle.age_file.specs.Runs.{segment_of, held}
-use Rattle.age_file.specs.Resumes.{IsOldText, RestFails, SkipsShort, DecryptsRest}
+use Rattle.age_file.specs.Resumes.{IsOldText, RestFails, SkipsShort}
 use Rattle.age_file.specs.declared.decryption.Done.{Done}
 use Rattle.age_file.specs.declared.decryption.Stopped.{Stopped}
 use Rattle.age_file.specs.declared.position.Position.{Position}
@@ -31,8 +31,8 @@ use Rattle.age_file.specs.inner.Copies.{Passes, SkipFails, StartsAt, Uses}
 use Rattle.age_file.specs.inner.Decrypts.{opens, EndsAs, PositionAt, ReadsRest, unseen_ports}
 use Rattle.age_file.specs.inner.Payloads.{DecryptsPayload, HasCounted, HasPlace, SegmentDone}
 use Rattle.age_file.specs.inner.Payloads.{SegmentFails}
-use Rattle.age_file.specs.inner.Readers.{Pulled, ReaderView, Stage, WriterView, stage, writer_view}
-use Rattle.age_file.proofs.RunLemmas.{writes_of, writes_all, position_given}
+use Rattle.age_file.specs.inner.Readers.{Pulled, ReaderView, Stage, stage, writer_view}
+use Rattle.age_file.proofs.RunLemmas.{position_given}
 
 module _ (Allows : Header → List ℕ → Type 0) (Refused : Header → KeyFault → Type 0) (p : Position)
     (copied : List ℕ) where

@@ -12,7 +12,6 @@ use Rattle.age_file.specs.Resumes.{IsOldText, NeverEndTogether, BeforeOldFails, 
 use Rattle.age_file.specs.Resumes.{StopsInOld, InSkippedFails, StopsInSkipped, ResumeStops}
 use Rattle.age_file.specs.declared.decryption.Done.{Done}
 use Rattle.age_file.specs.declared.decryption.Stopped.{Stopped}
-use Rattle.age_file.proofs.UndamagedRestLemmas.{undamaged_rest, undamaged_rest_done}
 use Rattle.std.specs.Simd.{first_chunks}
 use Rattle.std.specs.Io.KnownBytes.{Consumes, Appends}
 use Rattle.std.proofs.lemmas.List.{length-append, length-take, take_at, take-append-drop}
@@ -34,7 +33,7 @@ use Rattle.age_file.specs.inner.Payloads.{HasCounted, HasPlace, DecryptsPayload,
 use Rattle.age_file.specs.inner.Payloads.{SegmentDone}
 use Rattle.age_file.specs.Runs.{Run, segment_of, held, Reads, IsRun, GivesPosition, PayloadFails}
 use Rattle.age_file.specs.Runs.{IsDone, OpenedFile, IsPositionOf, pull_room}
-use Rattle.age_file.proofs.RunLemmas.{writes_of, writes_all, position_given, position_due}
+use Rattle.age_file.proofs.RunLemmas.{position_given, position_due}
 use Rattle.age_file.specs.inner.Verdicts.{PositionRefused}
 use Rattle.age_file.specs.Decrypts.{StartFails}
 use Rattle.age_io.specs.Io.{SourceView, SinkView}

@@ -2,7 +2,7 @@
 
 ghost use Rattle.std.specs.Prelude.{◌≡◌, ◌≢◌, ◌⊎◌, ℕ, Bool, true, false, List, [], ◌∷◌};
 ghost use Rattle.std.specs.Prelude.{◌++◌, None};
-ghost use Rattle.std.specs.Prelude.{Some, IfOk, IfErr, IfSome, IsOkUnless, OnOk, OnErr, is_some};
+ghost use Rattle.std.specs.Prelude.{Some, IfOk, IfErr, IsOkUnless, OnOk, OnErr, is_some};
 ghost use Rattle.std.specs.Prelude.{option_map, length};
 ghost use Rattle.age_fileset.specs.FileSet.{FilesView, IsMemoryOr, OpenFails, or_empty, Opened};
 ghost use Rattle.age_fileset.specs.FileSet.{Prepared, Created, Replaced, Closed};

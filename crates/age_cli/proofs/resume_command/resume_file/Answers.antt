@@ -15,7 +15,7 @@ use Rattle.age_fileset.specs.declared.files.OpenFault.TheVariants as create
 use Rattle.age_cli.specs.Acts.{paths_of}
 use Rattle.age_cli.specs.Commands.{HoldsNoPosition}
 use Rattle.age_cli.proofs.ReportLemmas.{unmade}
-use Rattle.age_cli.proofs.ActLemmas.{acts_early, shown_not_silent}
+use Rattle.age_cli.proofs.ActLemmas.{acts_early}
 use Rattle.age_cli.proofs.CommandLemmas.{bad_position, in_order, position_fault, position_reason}
 use Rattle.age_cli.proofs.CommandLemmas.{reason_at, some_files}
 use Rattle.age_cli.proofs.FinalLemmas.{Found, WasEarlier, resume_acts}

@@ -1,7 +1,7 @@
 use Rattle.std.proofs.Common.{None, refl, rules, Err, inl, []}
 use Rattle.age_fault.specs.declared.fault.FileFault.TheVariants.{Memory}
 use Rattle.age_file.specs.inner.Decrypts.{ReadsRest}
-use Rattle.age_file.specs.inner.Readers.{view_of_reader, view_of_writer, stage_of}
+use Rattle.age_file.specs.inner.Readers.{view_of_reader, stage_of}
 use Rattle.age_file.specs.Runs.{ports}
 use Rattle.age_file.proofs.ByteLemmas.{stops_unread}
 use Rattle.age_file.proofs.ReaderLemmas.{read_last, ports_last}
