@@ -12,7 +12,7 @@ use Rattle.age_c.specs.Calls.{Answers, reader_status, misused}
 use Rattle.age_c.specs.declared.reader.Reader.{Reader}
 use Rattle.age_c.specs.Readers.{IsAt, reader_text, TakesBlock, AnswersAreCalls, call_of, Call}
 use Rattle.age_c.specs.Readers.{IsCall}
-use Rattle.age_c.specs.Readers.{AreCalls, after_block, after_end, given_by, last_reader}
+use Rattle.age_c.specs.Readers.{AreCalls, after_block, after_end, after_call, last_reader}
 use Rattle.age_c.specs.Readers.{segment_from, texts_of}
 use Rattle.age_c.specs.inner.Keys.{key_of_reader as key_of, opens}
 use Rattle.age_c.proofs.ReaderLemmas.{key_same, some_is}
@@ -30,13 +30,13 @@ start_given false bytes s = start_piece s.start s.bytes s.ended s.late bytes
 
 -- the segment after one call
 abbrev pub next : Call → Segment → Segment
-next c s = if c.answer == misused then s else given_by c s
+next c s = if c.answer == misused then s else after_call c s
 
 pub misused_next : (c : Call) (s : Segment) → c.answer ≡ misused → next c s ≡ s
-misused_next c s is = ap (λ (n : ℕ). if n == misused then s else given_by c s) is
+misused_next c s is = ap (λ (n : ℕ). if n == misused then s else after_call c s) is
 
-pub taken_next : (c : Call) (s : Segment) → c.answer ≢ misused → next c s ≡ given_by c s
-taken_next c s other = ap (λ (b : Bool). if b then s else given_by c s)
+pub taken_next : (c : Call) (s : Segment) → c.answer ≢ misused → next c s ≡ after_call c s
+taken_next c s other = ap (λ (b : Bool). if b then s else after_call c s)
     (ne_eqb c.answer misused other)
 
 -- where a reader stands after calls
@@ -137,7 +137,7 @@ a_call : (old new : Reader) (is_end : Bool) (bytes before after : List ℕ) (ans
     (Fits : Type 0) (Does : ℕ → List ℕ → Reader → Type 0)
     → Answers Fits Does old new answer written before after
     → (Does answer (take written after) new
-    → TakesBlock (given_by (call_of is_end bytes answer written after new)) old answer
+    → TakesBlock (after_call (call_of is_end bytes answer written after new)) old answer
     (take written after) new × (is_end ≡ true → answer ≡ 0 → new.state ≡ 3))
     → ((answer == misused) ≡ true) × (answer ≡ misused)
     ⊎ ((answer == misused) ≡ false) × (answer ≢ misused)

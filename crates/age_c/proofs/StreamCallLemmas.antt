@@ -12,8 +12,8 @@ use Rattle.age_stream.specs.Segment.{Segment, fresh, outcome, released, with_end
 use Rattle.age_stream.specs.declared.step.Status.TheVariants.{Done}
 use Rattle.age_c.specs.declared.stream.Stream.{Stream}
 use Rattle.age_c.specs.Calls.{Answers, answer_of, misused, reader_status}
-use Rattle.age_c.specs.Readers.{Call, given_by, reader_outcome, reader_text, segment_from, texts_of}
-use Rattle.age_c.specs.Streams.{Moves, StreamIsAt, held_of}
+use Rattle.age_c.specs.Readers.{Call, after_call, reader_outcome, reader_text, segment_from, texts_of}
+use Rattle.age_c.specs.Streams.{Moves, StreamIsAt, held_block}
 use Rattle.age_c.specs.StreamCalls.{AnswersAreFeedCalls, AreFeedCalls, FeedCall, FeedsAreWritten, IsFeedCall}
 use Rattle.age_c.specs.StreamCalls.{PiecesReadBack, bytes_written, feed_call_of, reader_call}
 use Rattle.age_c.specs.StreamCalls.{reader_calls, text_taken}
@@ -91,7 +91,7 @@ status_there : (s : Stream) (g : Segment) → StreamIsAt s g
 status_there s g h = h.at.status ∙ ap (λ o. Some o.status) (sym (stream_same s g h))
 
 timely_there : (s : Stream) (g : Segment) → StreamIsAt s g → Timely g
-timely_there s g h = subst Timely (sym h.given) (timely_piece h.blocks (held_of s) h.at.timely)
+timely_there s g h = subst Timely (sym h.given) (timely_piece h.blocks (held_block s) h.at.timely)
 
 answer_by : (s : Stream) (c : FeedCall) → IsFeedCall s c → c.answer ≢ misused
     → c.answer ≡ answer_of c.after.reader.state
@@ -164,7 +164,7 @@ a_call : (old new : Stream) (is_end : Bool) (bytes before after : List ℕ) (ans
     (Fits : Type 0) (Does : ℕ → List ℕ → Stream → Type 0)
     → Answers Fits Does old new answer written before after
     → (Does answer (take written after) new
-    → Moves (given_by (reader_call (feed_call_of is_end bytes answer written after new))) old answer
+    → Moves (after_call (reader_call (feed_call_of is_end bytes answer written after new))) old answer
     (take written after) new × (is_end ≡ true → answer ≡ 0 → new.reader.state ≡ 3))
     → ((answer == misused) ≡ true) × (answer ≡ misused)
     ⊎ ((answer == misused) ≡ false) × (answer ≢ misused)

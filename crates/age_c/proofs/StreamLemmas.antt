@@ -17,7 +17,7 @@ use Rattle.age_c.specs.declared.stream.Stream.{Stream}
 use Rattle.age_c.specs.Calls.{answer_of, reader_status}
 use Rattle.age_c.specs.Readers.{TakesBlock, TakesEnd, after_block, IsAt, SameFile, reader_outcome}
 use Rattle.age_c.specs.Readers.{IsBlockCall, reader_text}
-use Rattle.age_c.specs.Streams.{FeedsStream, FinishesStream, IsStreamCall, StreamIsAt, held_of}
+use Rattle.age_c.specs.Streams.{FeedsStream, FinishesStream, IsStreamCall, StreamIsAt, held_block}
 use Rattle.age_c.proofs.ReaderLemmas.{some_is}
 
 nil_by : (start : ℕ) (bytes : List ℕ) (ended late : Bool)
@@ -58,7 +58,7 @@ pub stream_same : (st : Stream) (s : Segment) → (h : StreamIsAt st s)
 stream_same st s h =
     let size = length-take st.held st.block in
     ap (reader_outcome st.reader) h.given
-    ∙ part_same st.reader h.blocks (held_of st) h.at (λ some. h.is_open (omega (arith, some, size)))
+    ∙ part_same st.reader h.blocks (held_block st) h.at (λ some. h.is_open (omega (arith, some, size)))
     (omega (arith, h.short, size))
 
 unchanged : (r : Reader) → SameFile r r
@@ -66,10 +66,10 @@ unchanged r = record { file_key = refl; nonce = refl; payload_at = refl }
 
 -- bytes more, after those that are held
 given_more : (st : Stream) (s : Segment) (h : StreamIsAt st s) (more all : List ℕ)
-    → held_of st ++ more ≡ all → with_piece s more ≡ with_piece h.blocks all
+    → held_block st ++ more ≡ all → with_piece s more ≡ with_piece h.blocks all
 given_more st s h more all is =
     ap (λ (t : Segment). with_piece t more) h.given
-    ∙ (pieces_join h.blocks (held_of st) more ∙ ap (with_piece h.blocks) is)
+    ∙ (pieces_join h.blocks (held_block st) more ∙ ap (with_piece h.blocks) is)
 
 -- a stream that holds nothing
 pub nothing_held : (st : Stream) (s : Segment) → st.held ≡ 0 → IsAt st.reader s → StreamIsAt st s
@@ -88,7 +88,7 @@ opened r s at is = some_is (sym at.status ∙ is)
 -- ---- bytes that leave the block open
 
 pub feeds_part : (piece : List ℕ) (count : ℕ) (old new : Stream) → new.reader ≡ old.reader
-    → held_of new ≡ held_of old ++ take count piece → new.held ≡ old.held + count
+    → held_block new ≡ held_block old ++ take count piece → new.held ≡ old.held + count
     → new.held < block_length → count ≡ min (length piece) (block_length - old.held) → old.held < block_length
     → reader_status old.reader.state old.reader.fault_chunk ≡ Some Open
     → FeedsStream piece old (answer_of new.reader.state) count [] new
@@ -99,12 +99,12 @@ feeds_part piece count old new same held more fits count_is short is = record {
       blocks = h.blocks;
       at = subst (λ (r : Reader). IsAt r h.blocks) (sym same) h.at;
       is_open = λ _. ap (λ (r : Reader). (reader_outcome r h.blocks).status) same ∙ opened old.reader h.blocks h.at is;
-      given = given_more old s h (take count piece) (held_of new) (sym held);
+      given = given_more old s h (take count piece) (held_block new) (sym held);
     };
     released = λ s h.
         let all : reader_outcome old.reader (with_piece s (take count piece)) ≡ reader_outcome old.reader h.blocks =
-        ap (reader_outcome old.reader) (given_more old s h (take count piece) (held_of new) (sym held))
-        ∙ part_same old.reader h.blocks (held_of new) h.at (λ _. opened old.reader h.blocks h.at is)
+        ap (reader_outcome old.reader) (given_more old s h (take count piece) (held_block new) (sym held))
+        ∙ part_same old.reader h.blocks (held_block new) h.at (λ _. opened old.reader h.blocks h.at is)
         (omega (arith, fits, length-take new.held new.block)) in
         ap released_of (all ∙ sym (stream_same old s h)) ∙ sym (append-nil (reader_text old.reader s));
     same = subst (SameFile old.reader) (sym same) (unchanged old.reader);
@@ -120,7 +120,7 @@ feeds_part piece count old new same held more fits count_is short is = record {
 
 pub feeds_whole : (piece : List ℕ) (count answer : ℕ) (block text : List ℕ) (old new : Stream)
     → TakesBlock (after_block block) old.reader answer text new.reader → new.held ≡ 0
-    → held_of old ++ take count piece ≡ block
+    → held_block old ++ take count piece ≡ block
     → count ≡ min (length piece) (block_length - old.held) → old.held < block_length
     → FeedsStream piece old answer count text new
 feeds_whole piece count answer block text old new takes zero is count_is short = record {
@@ -183,7 +183,7 @@ feeds_closed piece count answer text old new takes zero count_is shut =
 -- ---- the end
 
 pub finishes : (answer : ℕ) (text : List ℕ) (old new : Stream)
-    → TakesEnd (held_of old) old.reader answer text new.reader → new.held ≡ 0
+    → TakesEnd (held_block old) old.reader answer text new.reader → new.held ≡ 0
     → FinishesStream old answer text new
 finishes answer text old new ends zero =
     let takes = ends.takes in

@@ -12,7 +12,7 @@ use Rattle.age_c.specs.declared.writer.Writer.{Writer}
 use Rattle.age_c.specs.declared.write_stream.WriteStream.{WriteStream}
 use Rattle.age_c.specs.Calls.{misused}
 use Rattle.age_c.specs.Writers.{HasSealed, SameKeys, SealsChunk, SealsLast, blocks_of, key_in, salt_in}
-use Rattle.age_c.specs.WriteStreams.{FeedsText, FinishesText, HasTaken, TakesText, held_text}
+use Rattle.age_c.specs.WriteStreams.{FeedsText, FinishesText, HasTaken, TakesText, held_chunk}
 use Rattle.age_c.specs.StreamCalls.{AnswersAreTextCalls, AreTextCalls, IsTextCallOn, TextCall, TextsAreFiles}
 use Rattle.age_c.specs.StreamCalls.{WritesFile, bytes_written, stream_after, text_taken}
 use Rattle.age_c.specs.inner.Holding.{HoldsText}
@@ -30,7 +30,7 @@ blocks_front w chunks more h =
 blocks_held : (s : WriteStream) (text : List ℕ) → (h : HasTaken s text)
     → blocks_of s.writer text ≡ blocks_of s.writer h.chunks
 blocks_held s text h =
-    ap (blocks_of s.writer) h.given ∙ blocks_front s.writer h.chunks (held_text s) h.sealed
+    ap (blocks_of s.writer) h.given ∙ blocks_front s.writer h.chunks (held_chunk s) h.sealed
 
 keys_by : (was now : Writer) → now ≡ was → SameKeys was now
 keys_by was now is =
@@ -40,10 +40,10 @@ keys_by was now is =
 
 held_more : (piece : List ℕ) (count : ℕ) (old new : WriteStream) → HoldsText piece count old new
     → (text : List ℕ) → (h : HasTaken old text)
-    → text ++ take count piece ≡ h.chunks ++ held_text new
+    → text ++ take count piece ≡ h.chunks ++ held_chunk new
 held_more piece count old new holds text h =
     ap (λ (t : List ℕ). t ++ take count piece) h.given
-    ∙ (append_assoc h.chunks (held_text old) (take count piece)
+    ∙ (append_assoc h.chunks (held_chunk old) (take count piece)
     ∙ ap (λ (t : List ℕ). h.chunks ++ t) (sym holds.bytes))
 
 takes_held : (piece : List ℕ) (count : ℕ) (old new : WriteStream) → HoldsText piece count old new
@@ -57,7 +57,7 @@ takes_held piece count old new holds = record {
   };
   blocks = λ text h.
       ap₂ blocks_of holds.writer (held_more piece count old new holds text h)
-      ∙ (blocks_front old.writer h.chunks (held_text new) h.sealed
+      ∙ (blocks_front old.writer h.chunks (held_chunk new) h.sealed
       ∙ (sym (blocks_held old text h) ∙ sym (append-nil (blocks_of old.writer text))));
   same = keys_by old.writer new.writer holds.writer;
 }
@@ -89,7 +89,7 @@ module _ (piece bytes : List ℕ) (count : ℕ) (old between new : WriteStream)
       subst (λ (w : Writer). HasSealed w text) (sym holds.writer)
       (subst (HasSealed between.writer) (sym (all_sealed text h)) (seals_it.sealed h.chunks h.sealed))
 
-  held_is : held_text new ≡ take count piece
+  held_is : held_chunk new ≡ take count piece
   held_is = holds.bytes
       ∙ ap (λ (n : ℕ). take n between.chunk ++ take count piece) empty
 
@@ -124,7 +124,7 @@ module _ (piece bytes : List ℕ) (count : ℕ) (old between new : WriteStream)
 -- ---- the end
 
 pub finishes_text : (bytes : List ℕ) (old new : WriteStream)
-    → SealsLast (held_text old) old.writer bytes new.writer → FinishesText old bytes new
+    → SealsLast (held_chunk old) old.writer bytes new.writer → FinishesText old bytes new
 finishes_text bytes old new seals_it = record {
   payload_is = λ text h.
       ap (payload (seals (key_of old.writer)) chunk_length) h.given

@@ -157,15 +157,15 @@ pub record Call : Type 0 where
   pub after : Reader
 
 -- the segment after a call that wasn't misused
-abbrev pub given_by : Call → Segment → Segment
-given_by c s = if c.is_end then after_end c.bytes s else after_block c.bytes s
+abbrev pub after_call : Call → Segment → Segment
+after_call c s = if c.is_end then after_end c.bytes s else after_block c.bytes s
 
 -- this is a call on the reader: it was misused, and changed and wrote nothing; or it took what it
 -- was given, and then, if it is an end that answered 0, the last chunk was opened
 abbrev pub IsCall : Reader → Call → Type 0
 IsCall r c =
     ((c.answer ≡ misused) × (c.after ≡ r) × (c.text ≡ []))
-    ⊎ ((c.answer ≢ misused) × TakesBlock (given_by c) r c.answer c.text c.after
+    ⊎ ((c.answer ≢ misused) × TakesBlock (after_call c) r c.answer c.text c.after
     × (c.is_end ≡ true → c.answer ≡ 0 → c.after.state ≡ 3))
 
 -- the calls were made one after the other, and nothing else changed the reader
@@ -182,7 +182,7 @@ last_reader r (c ∷ calls) = last_reader c.after calls
 abbrev pub segment_from : Segment → List Call → Segment
 segment_from s [] = s
 segment_from s (c ∷ calls) =
-    segment_from (if c.answer == misused then s else given_by c s) calls
+    segment_from (if c.answer == misused then s else after_call c s) calls
 
 -- the texts that they wrote, one after the other
 abbrev pub texts_of : List Call → List ℕ

@@ -10,7 +10,7 @@ use Rattle.age_stream.specs.Segment.{fresh}
 use Rattle.age_c.specs.declared.stream.Stream.{Stream}
 use Rattle.age_c.specs.declared.write_stream.WriteStream.{WriteStream}
 use Rattle.age_c.specs.Calls.{Answers, misused}
-use Rattle.age_c.specs.Readers.{Call, IsAt, given_by, segment_from, texts_of}
+use Rattle.age_c.specs.Readers.{Call, IsAt, after_call, segment_from, texts_of}
 use Rattle.age_c.specs.CallsWritten.{AllAnswer, IsTextRight}
 use Rattle.age_c.specs.Streams.{FeedsStream, FinishesStream, IsStreamCall, Moves}
 use Rattle.age_c.specs.Writers.{BeginsFileFrom, WritesOrRefuses, key_in, nonce_in, salt_in}
@@ -45,7 +45,7 @@ reader_calls calls = map reader_call calls
 abbrev pub IsFeedCall : Stream → FeedCall → Type 0
 IsFeedCall s c =
     ((c.answer ≡ misused) × (c.after ≡ s) × (c.text ≡ []))
-    ⊎ ((c.answer ≢ misused) × Moves (given_by (reader_call c)) s c.answer c.text c.after
+    ⊎ ((c.answer ≢ misused) × Moves (after_call (reader_call c)) s c.answer c.text c.after
     × (c.is_end ≡ true → c.answer ≡ 0 → c.after.reader.state ≡ 3))
 
 -- the calls were made one after the other, and nothing else changed the stream

@@ -8,8 +8,8 @@ use Rattle.age_c.specs.Readers.{CanBeUsed, IsAt, SameFile, reader_outcome, reade
 use Rattle.age_c.specs.declared.stream.Stream.{Stream}
 
 -- the bytes of the block that is open
-abbrev pub held_of : Stream → List ℕ
-held_of s = take s.held s.block
+abbrev pub held_block : Stream → List ℕ
+held_block s = take s.held s.block
 
 -- the stream was given this segment: its reader was given whole blocks, and what came after them is
 -- held, while the reader is open: less than a block
@@ -18,7 +18,7 @@ pub record StreamIsAt (s : Stream) (segment : Segment) : Type 0 where
   pub blocks : Segment
   pub at : IsAt s.reader blocks
   pub is_open : 0 < s.held → (reader_outcome s.reader blocks).status ≡ Open
-  pub given : segment ≡ with_piece blocks (held_of s)
+  pub given : segment ≡ with_piece blocks (held_block s)
 
 -- a stream of any segment is then one of the next, and the call wrote what that released more; the
 -- answer is its fault, or 0, and with a fault nothing was written

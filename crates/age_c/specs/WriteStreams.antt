@@ -6,15 +6,15 @@ use Rattle.age_c.specs.declared.write_stream.WriteStream.{WriteStream}
 use Rattle.age_c.specs.Writers.{CanSeal, HasSealed, SameKeys, blocks_of}
 
 -- the bytes of the chunk that is open
-abbrev pub held_text : WriteStream → List ℕ
-held_text s = take s.held s.chunk
+abbrev pub held_chunk : WriteStream → List ℕ
+held_chunk s = take s.held s.chunk
 
 -- the stream was given this text: its writer sealed whole chunks, and what came after them is held.
 -- That is a byte at least, unless the text has none, so that the last chunk isn't sealed too early
 pub record HasTaken (s : WriteStream) (text : List ℕ) : Type 0 where
   pub chunks : List ℕ
   pub sealed : HasSealed s.writer chunks
-  pub given : text ≡ chunks ++ held_text s
+  pub given : text ≡ chunks ++ held_chunk s
   pub some : s.held ≡ 0 → s.writer.chunk ≡ 0
 
 -- a stream of any text was given this much more, and the call wrote the blocks of the chunks that

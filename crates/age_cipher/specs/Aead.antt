@@ -1,5 +1,5 @@
 -- What the AEAD of ChaCha20 and Poly1305 seals a text to (RFC 8439, 2.8), and opens a block to.
-use Rattle.std.specs.Prelude.{◌≡◌, ℕ, ◌-◌, ◌%◌, List, [], ◌∷◌, ◌++◌, length, replicate, take}
+use Rattle.std.specs.Prelude.{◌≡◌, ◌↔◌, ℕ, ◌-◌, ◌%◌, List, [], ◌∷◌, ◌++◌, length, replicate, take}
 use Rattle.std.specs.Prelude.{Option, Some, None, if◌then◌else◌}
 use Rattle.std.specs.List.{concat}
 use Rattle.std.specs.Int.{w64, to_le_bytes}
@@ -57,3 +57,8 @@ unfoldable pub opening : List ℕ → List ℕ → List ℕ → List ℕ → Opt
 opening key nonce aad block =
     let text = ciphertext key nonce 1 (take (length block - 16) block) in
     if bytes_eq (sealing key nonce aad text) block then Some text else None
+
+-- a block opens to a text exactly if it is that text's sealing
+abbrev pub OpensSealings : Type 0
+OpensSealings = (key nonce aad block text : List ℕ)
+    → (opening key nonce aad block ≡ Some text) ↔ (block ≡ sealing key nonce aad text)

@@ -1,5 +1,4 @@
 pub mod Poly1305
 pub mod Keystream
 pub mod Aead
-pub mod Laws
 pub mod inner

@@ -1,7 +1,7 @@
 //! Laws of the definitions.
 
-ghost use Rattle.age_cipher.specs.Aead.{DistinctSealings};
-ghost use Rattle.age_cipher.specs.Laws.{KeystreamIsBlocks, OpensSealings};
+ghost use Rattle.age_cipher.specs.Keystream.{KeystreamIsBlocks};
+ghost use Rattle.age_cipher.specs.Aead.{DistinctSealings, OpensSealings};
 
 /// Under one key, nonce and associated data different texts seal to different blocks. This is a law
 /// over the definitions: the call does nothing.

@@ -1,15 +1,15 @@
 -- How bytes are held. Only private functions cite this.
 use Rattle.std.specs.Prelude.{◌≡◌, ℕ, ◌+◌, ◌-◌, List, ◌++◌, length, min, take}
 use Rattle.age_chunk.specs.Payload.{block_length, chunk_length}
-use Rattle.age_c.specs.Streams.{held_of}
+use Rattle.age_c.specs.Streams.{held_block}
 use Rattle.age_c.specs.declared.stream.Stream.{Stream}
 use Rattle.age_c.specs.declared.write_stream.WriteStream.{WriteStream}
-use Rattle.age_c.specs.WriteStreams.{held_text}
+use Rattle.age_c.specs.WriteStreams.{held_chunk}
 
 -- this many bytes of a piece came after those that are held
 pub record HoldsPiece (piece : List ℕ) (count : ℕ) (old new : Stream) : Type 0 where
   pub count_is : count ≡ min (length piece) (block_length - old.held)
-  pub bytes : take (old.held + count) new.block ≡ held_of old ++ take count piece
+  pub bytes : take (old.held + count) new.block ≡ held_block old ++ take count piece
   pub size : length new.block ≡ block_length
   pub reader : new.reader ≡ old.reader
   pub held : new.held ≡ old.held
@@ -17,6 +17,6 @@ pub record HoldsPiece (piece : List ℕ) (count : ℕ) (old new : Stream) : Type
 -- the same of a text, and then they are held
 pub record HoldsText (piece : List ℕ) (count : ℕ) (old new : WriteStream) : Type 0 where
   pub count_is : count ≡ min (length piece) (chunk_length - old.held)
-  pub bytes : held_text new ≡ held_text old ++ take count piece
+  pub bytes : held_chunk new ≡ held_chunk old ++ take count piece
   pub writer : new.writer ≡ old.writer
   pub held : new.held ≡ old.held + count

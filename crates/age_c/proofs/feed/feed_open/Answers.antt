@@ -5,7 +5,7 @@ use Rattle.age_c.specs.Calls.{answer_of}
 use Rattle.age_c.specs.Readers.{TakesBlock, after_block}
 use Rattle.age_c.specs.declared.reader.Reader.{Reader}
 use Rattle.age_c.specs.declared.stream.Stream.{Stream}
-use Rattle.age_c.specs.Streams.{held_of}
+use Rattle.age_c.specs.Streams.{held_block}
 use Rattle.age_c.proofs.StreamLemmas.{feeds_part, feeds_whole}
 use Rattle.age_c.proofs.feed.feed_open.Goals as goal
 
@@ -19,7 +19,7 @@ returns-then-held-lt-BLOCK_LEN-clause-feeds c =
       unused = held.new.stream.unused;
       block = held.new.stream.block;
     } in
-    let bytes : held_of new ≡ held_of old ++ take held.result c.args.piece.now =
+    let bytes : held_block new ≡ held_block old ++ take held.result c.args.piece.now =
     ap (λ (n : ℕ). take (n + held.result) held.new.stream.block) held.ensures.held ∙ held.ensures.bytes in
     feeds_part c.args.piece.now held.result old new held.ensures.reader bytes
     (ap (λ (n : ℕ). n + held.result) held.ensures.held) c.if-held-lt-BLOCK_LEN.true
@@ -32,7 +32,7 @@ returns-clause-feeds c =
     let block = held.new.stream.block in
     let full : old.held + held.result ≡ block_length =
     omega (arith, c.if-held-lt-BLOCK_LEN.false, held.ensures.held, held.ensures.count_is, c.requires.call.short) in
-    let is : held_of old ++ take held.result c.args.piece.now ≡ block =
+    let is : held_block old ++ take held.result c.args.piece.now ≡ block =
     sym held.ensures.bytes
     ∙ (ap (λ (n : ℕ). take n block) full ∙ take_all block_length block (omega (arith, held.ensures.size))) in
     let after = c.open_block-written.new.reader in

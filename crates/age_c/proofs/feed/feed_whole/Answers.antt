@@ -1,7 +1,7 @@
 use Rattle.std.proofs.Common.{◌≡◌, ◌++◌, ap, arith, length, take, ℕ}
 use Rattle.std.specs.Prelude.{◌-◌, min}
 use Rattle.age_chunk.specs.Payload.{block_length}
-use Rattle.age_c.specs.Streams.{held_of}
+use Rattle.age_c.specs.Streams.{held_block}
 use Rattle.age_c.proofs.StreamLemmas.{block_call, feeds_whole}
 use Rattle.age_c.proofs.feed.feed_whole.Goals as goal
 
@@ -9,7 +9,7 @@ pub returns-clause-feeds : goal.returns-clause-feeds
 returns-clause-feeds c =
     let old = c.args.stream.now in
     let piece = c.args.piece.now in
-    let is : held_of old ++ take block_length piece ≡ take block_length piece =
+    let is : held_block old ++ take block_length piece ≡ take block_length piece =
     ap (λ (n : ℕ). take n old.block ++ take block_length piece) c.requires.empty in
     let count : block_length ≡ min (length piece) (block_length - old.held) =
     omega (arith, c.requires.whole, c.requires.empty) in
