@@ -18,7 +18,7 @@ use Rattle.age_stream.proofs.LawLemmas.{closed_stays}
 use Rattle.age_c.specs.declared.reader.Reader.{Reader}
 use Rattle.age_c.specs.Calls.{answer_of, failed_at, misused, reader_status}
 use Rattle.age_c.specs.Readers.{Call, IsCall, AreCalls, after_block, after_end, segment_from}
-use Rattle.age_c.specs.CallsWritten.{StaysRefused}
+use Rattle.age_c.specs.Readers.{StaysRefused}
 use Rattle.age_c.specs.inner.Keys.{opens}
 use Rattle.age_c.proofs.ReaderLemmas.{some_is}
 use Rattle.age_c.proofs.CallLemmas.{StandsAt, next, one_more, status_at}

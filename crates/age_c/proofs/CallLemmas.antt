@@ -11,8 +11,7 @@ use Rattle.age_stream.specs.declared.step.Status.TheVariants.{Done}
 use Rattle.age_c.specs.Calls.{Answers, reader_status, misused}
 use Rattle.age_c.specs.declared.reader.Reader.{Reader}
 use Rattle.age_c.specs.Readers.{IsAt, reader_text, TakesBlock, AnswersAreCalls, call_of, Call}
-use Rattle.age_c.specs.Readers.{IsCall}
-use Rattle.age_c.specs.Readers.{AreCalls, after_block, after_end, after_call, last_reader}
+use Rattle.age_c.specs.Readers.{IsCall, AreCalls, after_block, after_end, after_call, last_reader}
 use Rattle.age_c.specs.Readers.{segment_from, texts_of}
 use Rattle.age_c.specs.inner.Keys.{key_of_reader as key_of, opens}
 use Rattle.age_c.proofs.ReaderLemmas.{key_same, some_is}

@@ -25,14 +25,14 @@ use Rattle.age_stream.specs.inner.OpenerSteps.{one_block}
 use Rattle.age_stream.specs.Headline.{IsAuthentic, IsWriters}
 use Rattle.age_stream.proofs.GoingLemmas.{front_on, going, going_outcome, going_whole, IsGoing}
 use Rattle.age_stream.proofs.GoingLemmas.{more_blocks}
-use Rattle.age_stream.proofs.GoingLemmas.{part_blocks, part_rest, past_place, unended_piece, whole_more}
+use Rattle.age_stream.proofs.GoingLemmas.{part_blocks, part_rest, past_place, unended_piece}
+use Rattle.age_stream.proofs.GoingLemmas.{whole_more}
 use Rattle.age_stream.proofs.SegmentLemmas.{IsPair-from_Contains, next_within}
 use Rattle.age_stream.proofs.TriedLemmas.{AreTried, tried}
 use Rattle.age_c.specs.declared.reader.Reader.{Reader}
 use Rattle.age_c.specs.Calls.{misused}
 use Rattle.age_c.specs.Readers.{Call, IsCall, AreCalls, after_block, after_end, last_reader}
-use Rattle.age_c.specs.Readers.{segment_from}
-use Rattle.age_c.specs.CallsWritten.{AllAnswer, GiveBlocks, IsBlock}
+use Rattle.age_c.specs.Readers.{segment_from, AllAnswer, GiveBlocks, IsBlock}
 use Rattle.age_c.specs.inner.Keys.{key_of_reader as key_of, opens, seals}
 use Rattle.age_c.proofs.CallFaultLemmas.{answer_by, unfailed}
 use Rattle.age_c.proofs.CallLemmas.{StandsAt, next, one_more, status_at, taken_next, misused_next}

@@ -2,7 +2,7 @@ pub mod ReaderLemmas
 pub mod CallLemmas
 pub mod CallFaultLemmas
 pub mod FirstWrongLemmas
-pub mod CallsWrittenLemmas
+pub mod AuthenticCallLemmas
 pub mod StreamLemmas
 pub mod WriterLemmas
 pub mod WriteStreamLemmas

@@ -7,20 +7,20 @@ use Rattle.std.proofs.lemmas.Bool.{false≢true}
 use Rattle.std.proofs.lemmas.Bool.Decides.{eqb_tells}
 use Rattle.std.proofs.lemmas.List.{append_assoc, append-nil, length-append}
 use Rattle.age_chunk.specs.Payload.{chunk_length, payload}
-use Rattle.age_keys.specs.AgeFile.{box}
+use Rattle.age_keys.specs.Keys.{box}
 use Rattle.age_stream.specs.Segment.{Segment, fresh, outcome, released, with_end, with_piece}
 use Rattle.age_stream.specs.declared.step.Status.TheVariants.{Done}
 use Rattle.age_c.specs.declared.stream.Stream.{Stream}
 use Rattle.age_c.specs.Calls.{Answers, answer_of, misused, reader_status}
-use Rattle.age_c.specs.Readers.{Call, after_call, reader_outcome, reader_text, segment_from, texts_of}
-use Rattle.age_c.specs.Streams.{Moves, StreamIsAt, held_block}
-use Rattle.age_c.specs.StreamCalls.{AnswersAreFeedCalls, AreFeedCalls, FeedCall, FeedsAreWritten, IsFeedCall}
-use Rattle.age_c.specs.StreamCalls.{PiecesReadBack, bytes_written, feed_call_of, reader_call}
-use Rattle.age_c.specs.StreamCalls.{reader_calls, text_taken}
+use Rattle.age_c.specs.Readers.{Call, after_call, reader_outcome, reader_text, segment_from}
+use Rattle.age_c.specs.Readers.{texts_of}
+use Rattle.age_c.specs.Streams.{Moves, StreamIsAt, held_block, AnswersAreFeedCalls, AreFeedCalls}
+use Rattle.age_c.specs.Streams.{FeedCall, FeedsAreWritten, IsFeedCall, PiecesReadBack}
+use Rattle.age_c.specs.Streams.{bytes_written, feed_call_of, reader_call, reader_calls, text_taken}
 use Rattle.age_c.specs.inner.Keys.{key_of_reader as key_of, opens}
 use Rattle.age_c.proofs.CallFaultLemmas.{IsKnown, Timely, stays, timely_piece}
 use Rattle.age_c.proofs.CallLemmas.{misused_next, next, start_given, taken_next}
-use Rattle.age_c.proofs.CallsWrittenLemmas.{text_right}
+use Rattle.age_c.proofs.AuthenticCallLemmas.{text_right}
 use Rattle.age_c.proofs.ReaderLemmas.{key_same, some_is}
 use Rattle.age_c.proofs.StreamLemmas.{nothing_held, piece_nil, stream_same}
 use Rattle.age_c.proofs.WriteStreamLemmas.{payload_written, few_chunks}

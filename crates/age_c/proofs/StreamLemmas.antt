@@ -1,5 +1,6 @@
 -- What a stream's steps do to the segment that it was given.
-use Rattle.std.proofs.Common.{inl, inr, ◌≡◌, ◌≢◌, ℕ, ◌+◌, ◌<◌, ◌≤◌, refl, ap, sym, subst, ◌∙◌, arith}
+use Rattle.std.proofs.Common.{inl, inr, ◌≡◌, ◌≢◌, ℕ, ◌+◌, ◌<◌, ◌≤◌, refl, ap, sym, subst, ◌∙◌}
+use Rattle.std.proofs.Common.{arith}
 use Rattle.std.proofs.Common.{List, [], ◌++◌, length, take, Bool, true, false}
 use Rattle.std.specs.Prelude.{Some, min, ◌-◌}
 use Rattle.std.specs.List.{flat_map}
@@ -7,7 +8,7 @@ use Rattle.std.proofs.lemmas.Bool.{cases_lt}
 use Rattle.std.proofs.lemmas.List.{append-nil, length-take, nil_from_length}
 use Rattle.std.proofs.Math.Bool.{or-false}
 use Rattle.age_chunk.specs.Payload.{block_length, chunk_length}
-use Rattle.age_keys.specs.AgeFile.{unbox}
+use Rattle.age_keys.specs.Keys.{unbox}
 use Rattle.age_stream.specs.Segment.{with_end, with_piece, Segment, Outcome}
 use Rattle.age_stream.specs.declared.step.Status.TheVariants.{Open}
 use Rattle.age_stream.proofs.GoingLemmas.{going, going_part}

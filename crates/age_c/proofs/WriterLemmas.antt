@@ -22,8 +22,7 @@ use Rattle.age_c.specs.Writers.{IsSealCall, AreSealCalls, CallsArePayload, taken
 use Rattle.age_c.specs.Writers.{written_by, AnswersAreSealCalls, FilesAreWhole, WritesOrRefuses}
 use Rattle.age_c.specs.Writers.{salt_in, key_in}
 use Rattle.age_c.specs.Calls.{Answers, misused}
-use Rattle.age_keys.specs.AgeFile.{box}
-use Rattle.age_keys.specs.Keys.{header_mac, IsMacOf}
+use Rattle.age_keys.specs.Keys.{box, header_mac, IsMacOf}
 use Rattle.age_keys.specs.Scrypt.{scrypt_head}
 use Rattle.std.proofs.lemmas.Bool.{false≢true}
 use Rattle.std.proofs.Common.{ap₂}

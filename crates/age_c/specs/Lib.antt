@@ -1,9 +1,5 @@
 pub mod Calls
 pub mod Readers
-pub mod CallsWritten
 pub mod Writers
 pub mod Streams
-pub mod WriteStreams
-pub mod StreamCalls
-pub mod Fronts
 pub mod inner

@@ -1,11 +1,23 @@
--- What a stream's numbers and bytes stand for, and what one call does to it.
-use Rattle.std.specs.Prelude.{◌≡◌, ◌≢◌, ℕ, ◌<◌, ◌≤◌, List, [], ◌++◌, length, take}
-use Rattle.age_chunk.specs.Payload.{block_length, chunk_length}
-use Rattle.age_stream.specs.Segment.{with_end, with_piece, Segment}
+-- A stream, which takes pieces of any length: what one call does to it, and what a caller may rely
+-- on after any calls.
+use Rattle.std.specs.Prelude.{◌≡◌, ◌≢◌, ℕ, ◌<◌, ◌≤◌, List, [], ◌++◌, length, take, ◌⊎◌, Bool, true}
+use Rattle.std.specs.Prelude.{false, ◌∷◌, map}
+use Rattle.age_chunk.specs.Payload.{block_length, chunk_length, chunk_limit, chunk_count}
+use Rattle.age_stream.specs.Segment.{with_end, with_piece, Segment, fresh}
 use Rattle.age_stream.specs.declared.step.Status.TheVariants.{Open}
-use Rattle.age_c.specs.Calls.{answer_of}
-use Rattle.age_c.specs.Readers.{CanBeUsed, IsAt, SameFile, reader_outcome, reader_text}
+use Rattle.age_c.specs.Calls.{answer_of, Answers, misused}
+use Rattle.age_c.specs.Readers.{CanBeUsed, IsAt, SameFile, reader_outcome, reader_text, Call}
+use Rattle.age_c.specs.Readers.{after_call, segment_from, texts_of, AllAnswer, IsTextRight}
 use Rattle.age_c.specs.declared.stream.Stream.{Stream}
+use Rattle.std.specs.List.{flat_map}
+use Rattle.age_keys.specs.Keys.{box, unbox, FileOf}
+use Rattle.age_keys.specs.Scrypt.{scrypt_head}
+use Rattle.age_stream.specs.Laws.{IsClosed}
+use Rattle.age_c.specs.declared.write_stream.WriteStream.{WriteStream}
+use Rattle.age_c.specs.Writers.{BeginsFileFrom, WritesOrRefuses, key_in, nonce_in, salt_in}
+use Rattle.age_c.specs.Writers.{FeedsText, FinishesText, IsTextCall, RefusesText, TakesText}
+
+-- ---- A stream that reads: what its numbers and bytes stand for, and what one call does to it.
 
 -- the bytes of the block that is open
 abbrev pub held_block : Stream → List ℕ
@@ -50,3 +62,167 @@ pub record IsStreamCall (s : Stream) (out : List ℕ) : Type 0 where
   pub usable : CanBeUsed s.reader
   pub short : s.held < block_length
   pub room : chunk_length ≤ length out
+
+-- ---- What any calls on a stream that reads do.
+
+-- a call: whether it is an end, the bytes that it took, what it answered and wrote, and the stream
+-- after it
+pub record FeedCall : Type 0 where
+  pub is_end : Bool
+  pub bytes : List ℕ
+  pub answer : ℕ
+  pub text : List ℕ
+  pub after : Stream
+
+-- what its caller sees of the stream's reader
+abbrev pub reader_call : FeedCall → Call
+reader_call c = record {
+  is_end = c.is_end;
+  bytes = c.bytes;
+  answer = c.answer;
+  text = c.text;
+  after = c.after.reader;
+}
+
+abbrev pub reader_calls : List FeedCall → List Call
+reader_calls calls = map reader_call calls
+
+-- this is a call on the stream: it was misused, and changed and wrote nothing; or it took these
+-- bytes, and then, if it is an end that answered 0, the last chunk was opened
+abbrev pub IsFeedCall : Stream → FeedCall → Type 0
+IsFeedCall s c =
+    ((c.answer ≡ misused) × (c.after ≡ s) × (c.text ≡ []))
+    ⊎ ((c.answer ≢ misused) × Moves (after_call (reader_call c)) s c.answer c.text c.after
+    × (c.is_end ≡ true → c.answer ≡ 0 → c.after.reader.state ≡ 3))
+
+-- the calls were made one after the other, and nothing else changed the stream
+abbrev pub AreFeedCalls : Stream → List FeedCall → Type 0
+AreFeedCalls s [] = Unit {0}
+AreFeedCalls s (c ∷ calls) = IsFeedCall s c × AreFeedCalls c.after calls
+
+-- the headline for a caller whose pieces have any length: so it is after any calls on a stream that
+-- holds nothing and whose reader is at a chunk and was given nothing, as it is at chunk 0 after an
+-- `age_c_open_..`, and at the chunk that it goes to after `age_c_seek`
+abbrev pub FeedsAreWritten : Type 0
+FeedsAreWritten = (s : Stream) (start : ℕ) → IsAt s.reader (fresh start) → s.held ≡ 0
+    → start < chunk_limit → (calls : List FeedCall) → AreFeedCalls s calls
+    → (text : List ℕ) → chunk_count chunk_length text ≤ chunk_limit
+    → IsTextRight s.reader text start (reader_calls calls)
+
+-- a call as its caller sees it
+abbrev pub feed_call_of : Bool → List ℕ → ℕ → ℕ → List ℕ → Stream → FeedCall
+feed_call_of is_end bytes answer written out after = record {
+  is_end = is_end;
+  bytes = bytes;
+  answer = answer;
+  text = take written out;
+  after = after;
+}
+
+-- what `age_c_feed` and `age_c_finish` promise (`Answers`, with the same arguments as in their
+-- contracts) makes each of them a call on the stream
+abbrev pub AnswersAreFeedCalls : Type 0
+AnswersAreFeedCalls = (old new : Stream) (piece before after : List ℕ) (answer taken written : ℕ)
+    → (Answers (IsStreamCall old before)
+    (λ answer text new. FeedsStream piece old answer taken text new) old new answer written before after
+    → IsFeedCall old (feed_call_of false (take taken piece) answer written after new))
+    × (Answers (IsStreamCall old before) (FinishesStream old) old new answer written before after
+    → IsFeedCall old (feed_call_of true [] answer written after new))
+
+-- ---- What any calls on a stream that writes do.
+
+-- a call: whether it is an end, the text that it took, what it answered and wrote, and the stream
+-- after it
+pub record TextCall : Type 0 where
+  pub is_end : Bool
+  pub text : List ℕ
+  pub answer : ℕ
+  pub bytes : List ℕ
+  pub after : WriteStream
+
+-- this is a call on the stream: if it doesn't answer 0, it changed, took and wrote nothing
+abbrev pub IsTextCallOn : WriteStream → TextCall → Type 0
+IsTextCallOn s c =
+    (c.answer ≢ 0 → (c.after ≡ s) × (c.text ≡ []) × (c.bytes ≡ []))
+    × (c.answer ≡ 0 → c.is_end ≡ false → TakesText c.text s c.bytes c.after)
+    × (c.answer ≡ 0 → c.is_end ≡ true → (c.text ≡ []) × FinishesText s c.bytes c.after)
+
+-- the calls were made one after the other, nothing else changed the stream, and none of them is an
+-- end that answered 0
+abbrev pub AreTextCalls : WriteStream → List TextCall → Type 0
+AreTextCalls s [] = Unit {0}
+AreTextCalls s (c ∷ calls) = IsTextCallOn s c × (c.is_end ≡ true → c.answer ≢ 0)
+    × AreTextCalls c.after calls
+
+-- the stream after the calls
+abbrev pub stream_after : WriteStream → List TextCall → WriteStream
+stream_after s [] = s
+stream_after s (c ∷ calls) = stream_after c.after calls
+
+-- the text that they took, and the bytes that they wrote
+abbrev pub text_taken : List TextCall → List ℕ
+text_taken calls = flat_map (λ (c : TextCall). c.text) calls
+
+abbrev pub bytes_written : List TextCall → List ℕ
+bytes_written calls = flat_map (λ (c : TextCall). c.bytes) calls
+
+-- a file that was written in pieces: `age_c_seal_passphrase` wrote what stands before the payload,
+-- the stream held nothing, and any calls were made on it, and then an end that answered 0
+pub record WritesFile (pass : List ℕ) (work : ℕ) (random front : List ℕ) (s : WriteStream)
+    (calls : List TextCall) (last : TextCall) : Type 0 where
+  pub begins : BeginsFileFrom pass work random front s.writer
+  pub empty : s.held ≡ 0
+  pub are : AreTextCalls s calls
+  pub is_call : IsTextCallOn (stream_after s calls) last
+  pub is_end : last.is_end ≡ true
+  pub zero : last.answer ≡ 0
+
+-- all of it is the age file of the text that the calls took, under the passphrase, the work factor
+-- and the random bytes; and the text has as few chunks as the law of readers asks for
+abbrev pub TextsAreFiles : Type 0
+TextsAreFiles = (pass : List ℕ) (work : ℕ) (random front : List ℕ) (s : WriteStream)
+    (calls : List TextCall) (last : TextCall) → WritesFile pass work random front s calls last
+    → FileOf (scrypt_head pass work (salt_in random) (key_in random)) (key_in random)
+    (nonce_in random) (text_taken calls) (front ++ (bytes_written calls ++ last.bytes))
+    × (chunk_count chunk_length (text_taken calls) ≤ chunk_limit)
+
+-- a call as its caller sees it
+abbrev pub text_call_of : Bool → List ℕ → ℕ → ℕ → List ℕ → WriteStream → TextCall
+text_call_of is_end text answer written out after = record {
+  is_end = is_end;
+  text = text;
+  answer = answer;
+  bytes = take written out;
+  after = after;
+}
+
+-- what `age_c_feed_text` and `age_c_finish_text` promise makes each of them a call on the stream
+abbrev pub AnswersAreTextCalls : Type 0
+AnswersAreTextCalls = (old new : WriteStream) (piece before after : List ℕ) (answer taken written : ℕ)
+    → (Answers (IsTextCall old before) (WritesOrRefuses (FeedsText piece taken old)
+    (RefusesText piece old) old) old new answer written before after
+    → (answer ≢ 0 → taken ≡ 0)
+    → IsTextCallOn old (text_call_of false (take taken piece) answer written after new))
+    × (Answers (IsTextCall old before) (WritesOrRefuses (FinishesText old) (λ _. ⊥) old)
+    old new answer written before after
+    → IsTextCallOn old (text_call_of true [] answer written after new))
+
+-- ---- What was written in pieces reads back in pieces.
+
+-- a stream at the beginning of a payload with the keys of this file, given what was written of its
+-- payload in any pieces, and then its end, gives the text, and 0 each time; unless a full last block
+-- opens as one before the last too
+abbrev pub PiecesReadBack : Type 0
+PiecesReadBack = (pass : List ℕ) (work : ℕ) (random front : List ℕ) (w : WriteStream)
+    (texts : List TextCall) (last : TextCall) → WritesFile pass work random front w texts last
+    → (s : Stream) → IsAt s.reader (fresh 0) → s.held ≡ 0 → s.reader.file_key ≡ key_in random
+    → s.reader.nonce ≡ nonce_in random → (calls : List FeedCall) → AreFeedCalls s calls
+    → segment_from (fresh 0) (reader_calls calls) ≡ record {
+      start = 0;
+      bytes = bytes_written texts ++ last.bytes;
+      ended = true;
+      late = false;
+    }
+    → IsClosed (box s.reader.file_key s.reader.nonce) (unbox s.reader.file_key s.reader.nonce)
+    chunk_length (text_taken texts)
+    → (texts_of (reader_calls calls) ≡ text_taken texts) × AllAnswer 0 (reader_calls calls)

@@ -3,8 +3,7 @@
 ghost use Rattle.std.specs.Prelude.{◌≡◌, ◌≢◌, ℕ, ◌+◌, ◌<◌, ◌≤◌, ◌↔◌, IsTrue, true, false};
 ghost use Rattle.std.specs.Prelude.{length};
 ghost use Rattle.age_stanza.specs.declared.header.Header.{Header};
-ghost use Rattle.age_c.specs.Calls.{more};
-ghost use Rattle.age_c.specs.Fronts.{EndsAt, IsWorthATry, marks_in};
+ghost use Rattle.age_c.specs.Calls.{more, EndsAt, IsWorthATry, marks_in};
 ghost use Rattle.age_c.specs.Readers.{HasFront};
 
 use crate::MORE;

@@ -1,10 +1,9 @@
 //! What any list of calls does. A reader and a writer that take turns, or several of either, need
 //! no law: each call takes its reader or writer by reference, and the library keeps nothing else.
 
-ghost use Rattle.age_c.specs.CallsWritten.{CallsAreWritten, PartsAreWritten};
-ghost use Rattle.age_c.specs.Readers.{AnswersAreCalls};
-ghost use Rattle.age_c.specs.StreamCalls.{AnswersAreFeedCalls, AnswersAreTextCalls, FeedsAreWritten};
-ghost use Rattle.age_c.specs.StreamCalls.{PiecesReadBack, TextsAreFiles};
+ghost use Rattle.age_c.specs.Readers.{CallsAreWritten, PartsAreWritten, AnswersAreCalls};
+ghost use Rattle.age_c.specs.Streams.{AnswersAreFeedCalls, AnswersAreTextCalls, FeedsAreWritten};
+ghost use Rattle.age_c.specs.Streams.{PiecesReadBack, TextsAreFiles};
 ghost use Rattle.age_c.specs.Writers.{AnswersAreSealCalls, CallsArePayload, FilesAreWhole};
 
 /// The headline for a caller: after any calls of [`age_c_block`](crate::age_c_block) and

@@ -1,5 +1,4 @@
 pub mod ChunkBoxes
 pub mod Payload
 pub mod Beyond
-pub mod FaultNumbers
 pub mod inner

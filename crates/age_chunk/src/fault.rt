@@ -1,7 +1,7 @@
 //! The refusals of a stream.
 
 ghost use Rattle.std.specs.Prelude.{◌≡◌, Some, None};
-ghost use Rattle.age_chunk.specs.FaultNumbers.{stream_fault_number};
+ghost use Rattle.age_chunk.specs.Payload.{stream_fault_number};
 
 use std::alloc::AllocError;
 use thiserror::Error;

@@ -1,6 +1,6 @@
 -- When OUT holds nothing but what the file's writer wrote: the headline at the command line.
 use Rattle.std.specs.Prelude.{◌≡◌, ◌⊎◌, ℕ, ◌*◌, ◌≤◌, true, List, [], ◌++◌, length, take, Option}
-use Rattle.std.specs.Prelude.{Some}
+use Rattle.std.specs.Prelude.{Some, Bool, Result, IfErr, IsErrAnd}
 use Rattle.clap.specs.Words.{Text}
 use Rattle.age_stanza.specs.Grammar.{HeadText}
 use Rattle.age_chunk.specs.Payload.{chunk_count, chunk_length, block_length, chunk_limit}
@@ -9,16 +9,17 @@ use Rattle.age_stream.specs.Headline.{IsPrefixOf}
 use Rattle.age_keys.specs.Keys.{Opens}
 use Rattle.age_file.specs.Runs.{Ports, Run, IsFromStart, IsTexts, IsAuthenticRun, HasId, HasTag}
 use Rattle.age_file.specs.declared.position.Position.{Position}
-use Rattle.age_cli_args.specs.Requests.{Requests}
+use Rattle.age_cli_args.specs.Requests.{Requests, IsForHelp}
 use Rattle.age_cli_args.specs.declared.request.Decrypting.{Decrypting}
 use Rattle.age_cli_args.specs.declared.request.Request.TheVariants.{Decrypt, Resume}
 use Rattle.age_cli_args.specs.declared.request.Resuming.{Resuming}
 use Rattle.age_identity.specs.Files.{Files}
 use Rattle.age_identity.specs.Identities.{allows_by, OpensBy}
 use Rattle.age_identity.specs.declared.identity.Identity.{Identity}
-use Rattle.age_cli.specs.Acts.{ShowsProgress}
-use Rattle.age_cli.specs.Runs.{World, Runs}
-use Rattle.age_cli.specs.Commands.{IsPositionIn}
+use Rattle.age_cli.specs.Acts.{ShowsProgress, IsUsage}
+use Rattle.age_cli.specs.Runs.{World, Runs, Declines, IsRefusal}
+use Rattle.age_cli.specs.Commands.{IsPositionIn, FailsReport}
+use Rattle.age_ending.specs.declared.ending.Ending.{Ending}
 
 -- ---- A decryption from the start.
 
@@ -106,3 +107,23 @@ RunsKeepOut IsPorts Failed Input Output Faults Progress =
     (input.1 ≡ input.0) (output.1 ≡ output.0) (progress.1 ≡ progress.0)
     (ShowsProgress true shown.0 shown.1) status
     → DecryptKeepsOut words before after status × ResumeKeepsOut words before after status
+
+-- ---- What follows for a run from what its parts promise.
+
+-- Words that ask neither for help nor for the version are refused, or memory is, and nothing is
+-- written; nor is it with any other words that are refused.
+abbrev pub RefusesInSilence : Bool → (Ports → Type 0) → (Failed Input Output Progress : Type 0)
+    → Type 0
+RefusesInSilence shows IsPorts Failed Input Output Progress =
+    (words : List Text) (before after : World) (input : Input × Input) (output : Output × Output)
+    (progress : Progress × Progress) (shown : Option (List Shown) × Option (List Shown))
+    (ended : Result (Unit {0}) Ending)
+    → Declines words shows IsPorts before after Failed (input.1 ≡ input.0) (output.1 ≡ output.0)
+    (progress.1 ≡ progress.0) (ShowsProgress shows shown.0 shown.1) ended
+    → ((IsForHelp words → ⊥) → IsErrAnd ended IsRefusal × (output.1 ≡ output.0))
+    × IfErr ended (λ e. IsUsage e → output.1 ≡ output.0)
+
+-- A report that fails doesn't blame the command line.
+abbrev pub ReportsAccept : Type 0
+ReportsAccept = (ended : Result (Unit {0}) Ending) (held : Option (List ℕ))
+    → IfErr ended (FailsReport held) → IfErr ended (λ e. IsUsage e → ⊥)

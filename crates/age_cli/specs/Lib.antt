@@ -2,5 +2,4 @@ pub mod Commands
 pub mod Acts
 pub mod Runs
 pub mod Headline
-pub mod Laws
 pub mod inner

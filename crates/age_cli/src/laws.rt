@@ -1,8 +1,7 @@
 //! Laws over the definitions: each call does nothing.
 
 ghost use Rattle.age_cli.specs.Acts.{PortsOf};
-ghost use Rattle.age_cli.specs.Headline.{RunsKeepOut};
-ghost use Rattle.age_cli.specs.Laws.{RefusesInSilence, ReportsAccept};
+ghost use Rattle.age_cli.specs.Headline.{RunsKeepOut, RefusesInSilence, ReportsAccept};
 ghost use Rattle.age_identity.specs.Files.{SourceFails};
 
 use age_file::{Sink, Source};

@@ -3,7 +3,7 @@ use Rattle.std.specs.Prelude.{◌≡◌, ◌⊎◌, ℕ, ◌^◌, ◌-◌, ◌<�
 use Rattle.std.specs.Prelude.{Bool, true, get_or, ◌+◌, ◌++◌, length, Result, MatchResult, OnErr}
 use Rattle.std.specs.Io.KnownBytes.{Appends}
 use Rattle.age_stanza.specs.Parsing as head
-use Rattle.age_chunk.specs.FaultNumbers as stream
+use Rattle.age_chunk.specs.Payload as stream
 use Rattle.age_keys.specs.Keys as key
 use Rattle.age_io.specs.Io.{one_more, SinkView}
 use Rattle.age_fault.specs.declared.fault.FileFault.{FileFault}

@@ -6,7 +6,7 @@ ghost use Rattle.age_fault.specs.declared.fault.FileFault.TheVariants.{Memory as
 ghost use Rattle.age_fault.specs.Faults.{fault_number, fault_place, name_of, name_by};
 ghost use Rattle.age_stanza.specs.Parsing.{head_fault_number};
 ghost use Rattle.age_keys.specs.Keys.{key_fault_number};
-ghost use Rattle.age_chunk.specs.FaultNumbers.{stream_fault_number};
+ghost use Rattle.age_chunk.specs.Payload.{stream_fault_number};
 ghost use Rattle.age_fault.specs.inner.Faults.{fault_of, fault_of_key};
 
 use age_chunk::{StreamFault, StreamKind};

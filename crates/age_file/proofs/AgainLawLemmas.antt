@@ -13,9 +13,8 @@ use Rattle.age_file.specs.Decrypts.{DecryptStops, IsFoundAgain, ReadAgain}
 use Rattle.age_file.specs.Resumes.{ResumePorts, IsFrom, ResumeStops, IsFoundFrom, RestReadAgain}
 use Rattle.age_file.specs.declared.decryption.Stopped.{Stopped}
 use Rattle.age_file.specs.declared.position.PositionPolicy.TheVariants.{Kept, Dropped}
-use Rattle.age_keys.specs.Keys.{payload_key, position_key}
+use Rattle.age_keys.specs.Keys.{payload_key, position_key, box, unbox}
 use Rattle.age_keys.specs.inner.PayloadBox.{box_valid}
-use Rattle.age_keys.specs.AgeFile.{box, unbox}
 use Rattle.age_file.specs.Bindings.{file_id, chain, chain_over, position_tag}
 use Rattle.age_file.specs.Runs.{Ports, Run, IsFromStart, IsRun, IsPositionOf, Reads, held, run_text}
 use Rattle.age_file.specs.Runs.{segment_of, run_outcome}

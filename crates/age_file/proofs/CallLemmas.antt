@@ -1,5 +1,6 @@
 -- Calls in a row, by the number of calls.
-use Rattle.std.proofs.Common.{refl, inl, inr, ◌≡◌, ℕ, ◌≤◌, ◌<◌, arith, List, [], ◌∷◌, ◌++◌, Option, None, Some}
+use Rattle.std.proofs.Common.{refl, inl, inr, ◌≡◌, ℕ, ◌≤◌, ◌<◌, arith, List, [], ◌∷◌, ◌++◌, Option}
+use Rattle.std.proofs.Common.{None, Some}
 use Rattle.std.proofs.Common.{sym, ap, subst, ◌∙◌, append-nil}
 use Rattle.std.specs.Prelude.{Result, Ok, Err, IfSome, IsSomeAnd}
 use Rattle.std.specs.Io.KnownBytes.{Consumes, Appends}

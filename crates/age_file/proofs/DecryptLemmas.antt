@@ -9,11 +9,10 @@ use Rattle.age_file.specs.declared.decryption.Stopped.{Stopped}
 use Rattle.age_stanza.specs.declared.header.Header.{Header}
 use Rattle.age_keys.specs.declared.fault.KeyFault.{KeyFault}
 use Rattle.age_file.specs.inner.Decrypts.{opens, PositionAt, EndsAs}
-use Rattle.age_keys.specs.Keys.{payload_key}
+use Rattle.age_keys.specs.Keys.{payload_key, unbox}
 use Rattle.age_fault.specs.Faults.{HasFailed}
 use Rattle.age_io.specs.Io.{SourceView, SinkView}
 use Rattle.age_file.specs.inner.Readers.{Pulled, Stage}
-use Rattle.age_keys.specs.AgeFile.{unbox}
 use Rattle.age_file.specs.inner.Payloads.{DecryptsPayload, SegmentFails, SegmentDone, HasCounted}
 use Rattle.age_file.specs.Decrypts.{StartFails, DecryptsKeyed, DecryptStops}
 use Rattle.age_file.specs.inner.Copies.{StartsAt}

@@ -5,9 +5,8 @@ use Rattle.std.proofs.lemmas.List.{length-append}
 use Rattle.std.specs.Io.KnownBytes.{Consumes, Appends}
 use Rattle.std.proofs.KnownBytes.{Consumes-nil}
 use Rattle.age_chunk.specs.Payload.{payload, chunk_length}
-use Rattle.age_keys.specs.Keys.{header_mac, IsMacOf}
+use Rattle.age_keys.specs.Keys.{header_mac, IsMacOf, box}
 use Rattle.age_keys.specs.Scrypt.{scrypt_head}
-use Rattle.age_keys.specs.AgeFile.{box}
 use Rattle.age_file.specs.Encrypts.{AgeFile, Encrypts, EncryptsFront, EncryptFails, WhyStopped}
 use Rattle.age_file.specs.Encrypts.{without_last, SecretView}
 use Rattle.age_file.specs.inner.Seals.{BeginsFile, FrontFails, WritesFront, front_of, SealingFails}

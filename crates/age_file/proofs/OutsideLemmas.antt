@@ -1,6 +1,7 @@
 -- What keeps a second reading over the same bytes from coming as far as the first.
 use Rattle.std.proofs.Common.{◌≡◌, ◌⊎◌, ℕ, ◌+◌, ◌*◌, ◌<◌, ◌≤◌, List, [], ◌++◌, length, Option, Some}
-use Rattle.std.proofs.Common.{None, Ok, Err, Result, true, refl, inl, inr, sym, ap, subst, ◌∙◌, arith}
+use Rattle.std.proofs.Common.{None, Ok, Err, Result, true, refl, inl, inr, sym, ap, subst, ◌∙◌}
+use Rattle.std.proofs.Common.{arith}
 use Rattle.std.proofs.Common.{append_assoc, ⊎_elim, false}
 use Rattle.std.specs.Prelude.{IsSomeAnd, IfSome}
 use Rattle.std.proofs.lemmas.Option.{none-some}
@@ -15,14 +16,14 @@ use Rattle.age_stream.specs.Headline.{IsPrefixOf}
 use Rattle.age_stream.specs.Segment.{Segment, outcome, released}
 use Rattle.age_stream.specs.declared.step.Status.TheVariants.{Failed}
 use Rattle.age_keys.specs.declared.fault.KeyFault.{KeyFault}
-use Rattle.age_keys.specs.Keys.{IsMacOf, Opens, Refuses, payload_key}
-use Rattle.age_keys.specs.AgeFile.{box, unbox}
+use Rattle.age_keys.specs.Keys.{IsMacOf, Opens, Refuses, payload_key, box, unbox}
 use Rattle.age_keys.specs.inner.PayloadBox.{box_valid}
 use Rattle.age_fault.specs.declared.fault.FileFault.{FileFault}
 use Rattle.age_fault.specs.declared.fault.FileFault.TheVariants.{Head, Key, NonceCut, Stream, Read}
 use Rattle.age_fault.specs.declared.fault.FileFault.TheVariants.{Write, Memory, ReadNeverEnds}
 use Rattle.age_file.proofs.ByteLemmas.{fault_of_all}
-use Rattle.age_file.specs.Runs.{Ports, ports, Run, OpenedFile, Reads, IsRun, held, run_text, segment_of}
+use Rattle.age_file.specs.Runs.{Ports, ports, Run, OpenedFile, Reads, IsRun, held, run_text}
+use Rattle.age_file.specs.Runs.{segment_of}
 use Rattle.age_file.specs.Runs.{PayloadFails, NeverEnds, IsHeadFault, run_outcome, IsDone}
 use Rattle.age_file.specs.Runs.{IsFromStart, NoneFailed}
 use Rattle.age_file.specs.Decrypts.{DecryptEnds, DecryptStops, Decrypts, IsElsewhere}

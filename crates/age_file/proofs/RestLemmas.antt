@@ -1,5 +1,6 @@
 -- From what was read again, skipped and decrypted to what a decryption of the rest did.
-use Rattle.std.proofs.Common.{◌≡◌, ℕ, ◌+◌, ◌*◌, ◌<◌, ◌≤◌, List, [], ◌++◌, length, Option, Some, None}
+use Rattle.std.proofs.Common.{◌≡◌, ℕ, ◌+◌, ◌*◌, ◌<◌, ◌≤◌, List, [], ◌++◌, length, Option, Some}
+use Rattle.std.proofs.Common.{None}
 use Rattle.std.proofs.Common.{refl, inl, inr, sym, ap, subst, ◌∙◌, ◌^◌, suc, arith, append-nil}
 use Rattle.std.proofs.Common.{append_assoc}
 use Rattle.std.specs.Prelude.{Result, MatchResult, Ok, Err}
@@ -10,14 +11,14 @@ use Rattle.std.proofs.Math.Nat.{mul-le-mul_right}
 use Rattle.age_io.specs.Io.{SourceView, SinkView}
 use Rattle.age_stanza.specs.declared.header.Header.{Header}
 use Rattle.age_keys.specs.declared.fault.KeyFault.{KeyFault}
-use Rattle.age_keys.specs.Keys.{payload_key}
-use Rattle.age_keys.specs.AgeFile.{unbox}
+use Rattle.age_keys.specs.Keys.{payload_key, unbox}
 use Rattle.age_chunk.specs.Payload.{block_length, chunk_length, chunk_limit}
 use Rattle.age_fault.specs.Faults.{HasFailed}
 use Rattle.age_fault.specs.declared.fault.FileFault.{FileFault}
 use Rattle.age_fault.specs.declared.fault.FileFault.TheVariants.{Stream, Read, Write, ReadNeverEnds}
 use Rattle.age_file.specs.Bindings.{chain, file_id}
-use Rattle.age_file.specs.Runs.{Ports, ports, Run, OpenedFile, Reads, IsRun, PayloadFails, NeverEnds}
+use Rattle.age_file.specs.Runs.{Ports, ports, Run, OpenedFile, Reads, IsRun, PayloadFails}
+use Rattle.age_file.specs.Runs.{NeverEnds}
 use Rattle.age_file.specs.Runs.{segment_of, held}
 use Rattle.age_file.specs.Resumes.{IsOldText, RestFails, SkipsShort}
 use Rattle.age_file.specs.declared.decryption.Done.{Done}

@@ -21,8 +21,7 @@ use Rattle.age_stanza.specs.declared.header.Header.{Header}
 use Rattle.age_stream.specs.Headline.{IsPrefixOf}
 use Rattle.age_keys.specs.declared.fault.KeyFault.{KeyFault}
 use Rattle.age_file.specs.inner.Decrypts.{opens, IsPositionAt, PositionAt, EndsAs}
-use Rattle.age_keys.specs.Keys.{payload_key, position_key}
-use Rattle.age_keys.specs.AgeFile.{unbox}
+use Rattle.age_keys.specs.Keys.{payload_key, position_key, unbox}
 use Rattle.age_file.specs.Bindings.{file_id, chain, position_tag}
 use Rattle.age_file.specs.inner.Bindings.{chain_if}
 use Rattle.age_file.specs.declared.position.PositionPolicy.TheVariants.{Kept, Dropped}

@@ -5,7 +5,7 @@ use Rattle.std.specs.Prelude.{Result, Ok, Err, MatchResult}
 use Rattle.age_stanza.specs.Laws.{OneHeader}
 use Rattle.age_chunk.specs.Payload.{chunk_count, chunk_length, chunk_limit}
 use Rattle.age_stream.specs.Laws.{IsClosed}
-use Rattle.age_keys.specs.AgeFile.{box, unbox}
+use Rattle.age_keys.specs.Keys.{box, unbox}
 use Rattle.age_keys.specs.Scrypt.{PassphraseOpens, PassphraseIdentity, IsPassphraseKey}
 use Rattle.age_keys.specs.Scrypt.{PassphraseRefuses, scrypt_head}
 use Rattle.age_file.specs.Runs.{Ports, Run}

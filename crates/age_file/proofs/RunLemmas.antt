@@ -9,9 +9,8 @@ use Rattle.age_chunk.proofs.FirstChunkLemmas.{first_chunks-append}
 use Rattle.age_stream.specs.declared.step.Status.TheVariants.{Done}
 use Rattle.age_stream.specs.Headline.{IsPrefixOf}
 use Rattle.age_stream.proofs.LawLemmas.{released_is_written}
-use Rattle.age_keys.specs.Keys.{payload_key, position_key}
+use Rattle.age_keys.specs.Keys.{payload_key, position_key, box, unbox}
 use Rattle.age_keys.specs.inner.PayloadBox.{box_valid}
-use Rattle.age_keys.specs.AgeFile.{box, unbox}
 use Rattle.age_file.specs.Bindings.{file_id, chain, position_tag}
 use Rattle.age_file.specs.inner.Bindings.{chain_if}
 use Rattle.age_file.specs.inner.Decrypts.{IsPositionAt, PositionAt}

@@ -20,9 +20,8 @@ use Rattle.age_stream.specs.Laws.{IsClosed}
 use Rattle.age_stream.proofs.LawLemmas.{closed_stays, released_is_written, rest_is_authentic}
 use Rattle.age_keys.specs.declared.fault.KeyFault.{KeyFault}
 use Rattle.age_keys.specs.declared.fault.KeyFault.TheVariants.{MacMismatch, Memory as KeyMemory}
-use Rattle.age_keys.specs.Keys.{IsMacOf, payload_key, Refuses, RefusesKey}
+use Rattle.age_keys.specs.Keys.{IsMacOf, payload_key, Refuses, RefusesKey, box, unbox}
 use Rattle.age_keys.specs.inner.PayloadBox.{box_valid}
-use Rattle.age_keys.specs.AgeFile.{box, unbox}
 use Rattle.age_fault.specs.declared.fault.FileFault.{FileFault}
 use Rattle.age_fault.specs.declared.fault.FileFault.TheVariants.{Head, Key, NonceCut, Stream, Read}
 use Rattle.age_fault.specs.declared.fault.FileFault.TheVariants.{Write, Memory, ReadNeverEnds}

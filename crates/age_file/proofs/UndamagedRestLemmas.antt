@@ -24,7 +24,8 @@ use Rattle.age_fault.specs.declared.fault.FileFault.TheVariants.{Head, Key, Nonc
 use Rattle.age_fault.specs.declared.fault.FileFault.TheVariants.{OtherFile, ShortText, Read, Write}
 use Rattle.age_fault.specs.declared.fault.FileFault.TheVariants.{Memory, ReadNeverEnds}
 use Rattle.age_fault.specs.declared.fault.FileFault.TheVariants.{PositionForged, OldTextDiffers}
-use Rattle.age_file.proofs.UndamagedLemmas.{left_of, none_left, start_undamaged, front_is, opened_as}
+use Rattle.age_file.proofs.UndamagedLemmas.{left_of, none_left, start_undamaged, front_is}
+use Rattle.age_file.proofs.UndamagedLemmas.{opened_as}
 use Rattle.age_file.proofs.UndamagedLemmas.{no_early_end, same_front, payload_undamaged, run_writes}
 use Rattle.age_file.proofs.UndamagedLemmas.{own_authentic, IsOpenedAs}
 use Rattle.age_chunk.specs.Payload.{chunk_length}

@@ -7,8 +7,7 @@ use Rattle.age_stanza.specs.declared.header.Header.{Header}
 use Rattle.age_chunk.specs.Payload.{chunk_count, chunk_length, chunk_limit}
 use Rattle.age_io.specs.Io.{SourceView, SinkView}
 use Rattle.age_stream.specs.Laws.{IsClosed}
-use Rattle.age_keys.specs.Keys.{Opens, Refuses, IsScryptNotAlone}
-use Rattle.age_keys.specs.AgeFile.{box, unbox, FileOf}
+use Rattle.age_keys.specs.Keys.{Opens, Refuses, IsScryptNotAlone, box, unbox, FileOf}
 use Rattle.age_keys.specs.declared.fault.KeyFault.{KeyFault}
 use Rattle.age_keys.specs.declared.fault.KeyFault.TheVariants.{Memory as KeyMemory}
 use Rattle.age_fault.specs.Faults.{HasFailed}

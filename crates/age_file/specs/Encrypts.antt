@@ -6,7 +6,7 @@ use Rattle.age_chunk.specs.Payload.{block_bytes}
 use Rattle.age_stream.specs.Headline.{IsPrefixOf}
 use Rattle.age_stream.specs.Sealer.{too_many}
 use Rattle.age_keys.specs.Scrypt.{scrypt_head}
-use Rattle.age_keys.specs.AgeFile.{box, FileOf}
+use Rattle.age_keys.specs.Keys.{box, FileOf}
 use Rattle.age_fault.specs.declared.fault.FileFault.{FileFault}
 use Rattle.age_fault.specs.declared.fault.FileFault.TheVariants.{Stream, Read, Write, Memory}
 use Rattle.age_fault.specs.declared.fault.FileFault.TheVariants.{ReadNeverEnds}

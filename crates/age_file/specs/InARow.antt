@@ -9,7 +9,7 @@ use Rattle.age_stream.specs.Headline.{IsPrefixOf}
 use Rattle.age_stream.specs.Laws.{IsClosed}
 use Rattle.age_stream.specs.declared.step.Status.TheVariants.{Done as AllDone}
 use Rattle.age_keys.specs.Scrypt.{PassphraseIdentity, IsAllowed, IsPassphraseKey, PassphraseRefuses}
-use Rattle.age_keys.specs.AgeFile.{box, unbox}
+use Rattle.age_keys.specs.Keys.{box, unbox}
 use Rattle.age_keys.specs.declared.fault.KeyFault.{KeyFault}
 use Rattle.age_file.specs.Runs.{Run, IsFromStart, run_outcome, run_text, held, IsTexts}
 use Rattle.age_file.specs.Runs.{IsAuthenticRun, IsPositionOf, CarriesText, Ports, IsRun, IsDone}

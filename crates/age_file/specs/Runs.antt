@@ -13,8 +13,7 @@ use Rattle.age_stream.specs.Opener.{has_failed}
 use Rattle.age_stream.specs.Segment.{Segment, Outcome, outcome, released}
 use Rattle.age_stream.specs.Headline.{IsPrefixOf, IsAuthentic}
 use Rattle.age_stream.specs.declared.step.Status.TheVariants.{Done, Failed}
-use Rattle.age_keys.specs.Keys.{position_key, Opens}
-use Rattle.age_keys.specs.AgeFile.{box, unbox}
+use Rattle.age_keys.specs.Keys.{position_key, Opens, box, unbox}
 use Rattle.age_fault.specs.Faults.{HasFailed}
 use Rattle.age_fault.specs.declared.fault.FileFault.{FileFault}
 use Rattle.age_fault.specs.declared.fault.FileFault.TheVariants.{Head, Read, Memory, ReadNeverEnds}

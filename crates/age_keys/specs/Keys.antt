@@ -1,19 +1,21 @@
--- The keys of an age file, and what opening a header with them may return.
+-- The keys of an age file and the file of a text (C2SP age.md, "File key", "Header MAC", "Payload",
+-- "Recipient stanza"), and what opening a header with them may return.
 use Rattle.std.specs.Prelude.{ℕ, ◌≡◌, Bool, true, false, nat_lt, ◌&&◌, List, [], ◌∷◌, length, codes}
-use Rattle.std.specs.Prelude.{replicate, Ok, ◌⊎◌, ◌+◌, ◌≤◌, Result, IfErr}
+use Rattle.std.specs.Prelude.{replicate, Ok, ◌⊎◌, ◌+◌, ◌≤◌, Result, IfErr, ◌++◌, Option}
 use Rattle.std.specs.List.{list_any}
 use Rattle.std.specs.Str.{bytes_eq}
 use Rattle.std.specs.Bool.{OnTrue}
 use Rattle.hex.specs.Hex.{decode_sized}
-use Rattle.age_stanza.specs.Grammar.{mac_text}
+use Rattle.age_stanza.specs.Grammar.{mac_text, HeadText}
 use Rattle.age_stanza.specs.declared.header.Header.{Header}
 use Rattle.age_stanza.specs.declared.header.Stanza.{Stanza}
 use Rattle.age_kdf.specs.Derivation.{hmac, hkdf32}
-use Rattle.age_cipher.specs.Aead.{sealing}
+use Rattle.age_cipher.specs.Aead.{sealing, opening}
 use Rattle.age_keys.specs.declared.fault.KeyFault.{KeyFault}
 use Rattle.age_keys.specs.declared.fault.KeyFault.TheVariants.{ScryptNotAlone, BadScrypt}
 use Rattle.age_keys.specs.declared.fault.KeyFault.TheVariants.{WorkTooHigh, NoMatch, WrongKey}
 use Rattle.age_keys.specs.declared.fault.KeyFault.TheVariants.{MacMismatch, BadX25519, Memory}
+use Rattle.age_chunk.specs.Payload.{payload, chunk_length}
 
 -- ---- The keys of an age file (C2SP age.md, "File key", "Header MAC", "Payload", "Recipient
 -- stanza").
@@ -37,6 +39,25 @@ position_key key nonce = hkdf32 key nonce (codes "age-tool position v2")
 -- a file key in the body of a stanza: sealed under the wrap key, with a nonce of zeros
 unfoldable pub wrapped_key : List ℕ → List ℕ → List ℕ
 wrapped_key wrap_key key = sealing wrap_key (replicate 12 0) [] key
+
+-- ---- The age file of a text (C2SP age.md).
+
+-- the box of a file key and a payload nonce: how it seals a text at a chunk's nonce, and opens a
+-- block there
+abbrev pub box : List ℕ → List ℕ → List ℕ → List ℕ → List ℕ
+box key nonce = λ chunk_nonce text. sealing (payload_key key nonce) chunk_nonce [] text
+
+abbrev pub unbox : List ℕ → List ℕ → List ℕ → List ℕ → Option (List ℕ)
+unbox key nonce = λ chunk_nonce block. opening (payload_key key nonce) chunk_nonce [] block
+
+-- the bytes are the age file of the text: the header's text, the payload nonce, and the payload in
+-- chunks of 65,536 bytes
+pub record FileOf (h : Header) (key nonce text bytes : List ℕ) : Type 0 where
+  pub front : List ℕ
+  pub head : HeadText h front
+  pub mac : IsMacOf h key
+  pub size : length nonce ≡ 16
+  pub parts : bytes ≡ (front ++ nonce) ++ payload (box key nonce) chunk_length text
 
 -- ---- The types of stanzas.
 

@@ -1,4 +1,3 @@
-pub mod AgeFile
 pub mod Keys
 pub mod Scrypt
 pub mod X25519

@@ -29,7 +29,8 @@ use Rattle.age_stream.specs.Headline.{IsWriters, IsAuthentic, sealed_as, compare
 use Rattle.age_stream.specs.Headline.{IsInPlace}
 use Rattle.age_chunk.proofs.NonceLemmas.{nonce_bytes-length, nonce_bytes-flag}
 use Rattle.age_chunk.proofs.FirstChunkLemmas.{length-first_chunks, get_or-first_chunks}
-use Rattle.age_stream.proofs.SegmentLemmas.{by_test, tag_left, empty_first, writer_text, next_within}
+use Rattle.age_stream.proofs.SegmentLemmas.{by_test, tag_left, empty_first, writer_text}
+use Rattle.age_stream.proofs.SegmentLemmas.{next_within}
 use Rattle.age_stream.proofs.SegmentLemmas.{opens_before, front_carries, IsPair-from_Contains}
 use Rattle.age_stream.proofs.GoingLemmas.{place, at_place, past_place}
 use Rattle.age_stream.proofs.TableLemmas.{rest_short}

@@ -5,9 +5,8 @@ use Rattle.std.specs.Prelude.{Result, IfOk, IfErr, IfSome, OnOk, OnErr, ◌+◌,
 use Rattle.std.specs.Borrow.{Bor}
 use Rattle.std.specs.declared.vec.Vec.{Vec}
 use Rattle.age_chunk.specs.Payload.{chunk_limit, last_index, last_chunk, sealed_before_last}
-use Rattle.age_chunk.specs.Payload.{block_bytes, payload, chunk_count}
+use Rattle.age_chunk.specs.Payload.{block_bytes, payload, chunk_count, stream_fault_number}
 use Rattle.age_chunk.specs.ChunkBoxes.{Seals, text_length, OpensBlock, tag_length}
-use Rattle.age_chunk.specs.FaultNumbers.{stream_fault_number}
 use Rattle.age_chunk.specs.declared.fault.StreamFault.{StreamFault}
 use Rattle.age_chunk.specs.declared.fault.StreamKind.TheVariants.{TooManyChunks}
 use Rattle.age_stream.specs.Opener.{chunk_bytes}

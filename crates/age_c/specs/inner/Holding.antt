@@ -4,7 +4,7 @@ use Rattle.age_chunk.specs.Payload.{block_length, chunk_length}
 use Rattle.age_c.specs.Streams.{held_block}
 use Rattle.age_c.specs.declared.stream.Stream.{Stream}
 use Rattle.age_c.specs.declared.write_stream.WriteStream.{WriteStream}
-use Rattle.age_c.specs.WriteStreams.{held_chunk}
+use Rattle.age_c.specs.Writers.{held_chunk}
 
 -- this many bytes of a piece came after those that are held
 pub record HoldsPiece (piece : List ℕ) (count : ℕ) (old new : Stream) : Type 0 where

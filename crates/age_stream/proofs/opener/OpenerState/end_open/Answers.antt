@@ -5,7 +5,8 @@ use Rattle.age_chunk.specs.declared.fault.StreamKind.TheVariants.{Truncated}
 use Rattle.age_stream.specs.Segment.{failed}
 use Rattle.age_stream.specs.Opener.{held_bytes}
 use Rattle.age_stream.specs.declared.step.Status.TheVariants.{Open}
-use Rattle.age_stream.proofs.LastBlockLemmas.{is_missing, is_cut, is_empty_last, is_damaged, is_opened}
+use Rattle.age_stream.proofs.LastBlockLemmas.{is_missing, is_cut, is_empty_last, is_damaged}
+use Rattle.age_stream.proofs.LastBlockLemmas.{is_opened}
 use Rattle.age_stream.proofs.LastBlockLemmas.{ends_refused, ends_opened, moved, is_empty, is_first}
 use Rattle.age_stream.proofs.SizeLemmas.{list_fits, opener_state_fits}
 use Rattle.age_stream.proofs.opener.OpenerState.end_open.Goals as goal

@@ -21,16 +21,18 @@ use Rattle.age_stream.proofs.LawLemmas.{released_is_written, rest_is_authentic}
 use Rattle.age_c.specs.declared.reader.Reader.{Reader}
 use Rattle.age_c.specs.Calls.{answer_of, misused, reader_status}
 use Rattle.age_c.specs.Readers.{IsAt, SameFile, reader_text, Call, IsCall, AreCalls, last_reader}
-use Rattle.age_c.specs.Readers.{segment_from, texts_of, after_block, after_end}
-use Rattle.age_c.specs.CallsWritten.{given_by, AllAnswer, AreCallsAuthentic, AreRight, AreUndamaged, IsTextRight}
-use Rattle.age_c.specs.CallsWritten.{AreParts, CallsAreWritten, GiveBlocks, GivesWrong, IsRefusedAt}
-use Rattle.age_c.specs.CallsWritten.{Part, PartsAreWritten}
+use Rattle.age_c.specs.Readers.{segment_from, texts_of, after_block, after_end, given_by, AllAnswer}
+use Rattle.age_c.specs.Readers.{AreCallsAuthentic, AreRight, AreUndamaged, IsTextRight, AreParts}
+use Rattle.age_c.specs.Readers.{CallsAreWritten, GiveBlocks, GivesWrong, IsRefusedAt, Part}
+use Rattle.age_c.specs.Readers.{PartsAreWritten}
 use Rattle.age_c.specs.inner.Keys.{key_of_reader as key_of, opens, seals}
-use Rattle.age_c.proofs.CallFaultLemmas.{IsKnown, all_known, all_map, all_refused, answer_by, damaged_is}
+use Rattle.age_c.proofs.CallFaultLemmas.{IsKnown, all_known, all_map, all_refused, answer_by}
+use Rattle.age_c.proofs.CallFaultLemmas.{damaged_is}
 use Rattle.age_c.proofs.CallFaultLemmas.{known_fault, known_state}
 use Rattle.age_c.proofs.CallLemmas.{After, StandsAt, all_calls, done_after, done_status, last_is}
 use Rattle.age_c.proofs.CallLemmas.{next, one_more, status_at, taken_next}
-use Rattle.age_c.proofs.FirstWrongLemmas.{IsOpen, blocks_more, block_refused, Grows, grows, rest_refused}
+use Rattle.age_c.proofs.FirstWrongLemmas.{IsOpen, blocks_more, block_refused, Grows, grows}
+use Rattle.age_c.proofs.FirstWrongLemmas.{rest_refused}
 
 -- calls before and after one
 calls_parts : (before : List Call) (one : Call) (later : List Call) (r : Reader)
