@@ -7,8 +7,8 @@ use Rattle.std.specs.List.{sum}
 use Rattle.std.specs.Io.KnownBytes.{Consumes}
 use Rattle.age_io.specs.declared.failed.Failed.{Failed}
 
--- ---- What a contract sees of a source, and of a sink. Of one that shows no bytes, `Consumes` and
--- `Appends` hold whatever the bytes.
+-- ---- What a contract sees of a source, and of a sink. If it shows no bytes, `Consumes` and
+-- `Appends` hold whatever the bytes are.
 
 -- the bytes that are still to come, if they are shown, how many pulls have failed, and whether the
 -- last one did; the count stays at the greatest value of its type
@@ -18,8 +18,8 @@ pub record SourceView : Type 0 where
   pub failing : Bool
 
 -- the bytes that were taken, if they are shown, how many puts and flushes have failed, whether the
--- last of them did, the name that the sink goes by, and whether what was taken was sent on; true of
--- a sink that doesn't say
+-- last of them did, the name that the sink goes by, and whether what was taken was sent on, which
+-- is true if the sink doesn't say
 pub record SinkView : Type 0 where
   pub taken : Option (List ℕ)
   pub failed : ℕ
@@ -61,27 +61,27 @@ Adds None now more = now ≡ None
 Adds (Some shown) None more = ⊥
 Adds (Some shown) (Some now) more = now ≡ shown ++ more ∷ []
 
--- it grows by what a pull gave, and by nothing if that failed
+-- what a meter was shown grows by what a pull gave, and by nothing if the pull failed
 abbrev pub AddsPull : {E : Type 0} → Option (List Shown) → Option (List Shown) → Result ℕ E
     → Type 0
 AddsPull old new (Ok bytes) = Adds old new (Advances bytes)
 AddsPull old new (Err failed) = new ≡ old
 
--- where a source that has a meter began: by what name the meter is lent to it, the bytes that were to
--- come, if they are shown, and what the meter was shown by then
+-- how a source that has a meter began: the name by which the meter is lent to it, the bytes that
+-- were to come, if they are shown, and what the meter was shown by then
 pub record Origin : Type 0 where
   pub meter : GName
   pub coming : Option (List ℕ)
   pub shown : Option (List Shown)
 
--- since then it gave some bytes, and its meter was shown as many and nothing else
+-- since this origin a source gave some bytes, and its meter was shown as many and nothing else
 abbrev pub CountsSince : Origin → Option (List ℕ) → Option (List Shown) → Type 0
 CountsSince from left shown = IfSome from.shown (λ before.
     (bytes : List ℕ) × (counts : List ℕ) × Consumes from.coming left bytes
     × (length bytes ≡ sum counts) × (shown ≡ Some (before ++ map Advances counts)))
 
--- a meter was shown a reading: that it begins, of this length, then how many bytes the source gave,
--- and that it is over
+-- a meter was shown a whole reading: that it begins, with its length if that is known; how many
+-- bytes the source gave; and that it is over
 abbrev pub ShowsReading : Option ℕ → (coming left : Option (List ℕ)) → (old new : Option (List Shown))
     → Type 0
 ShowsReading size coming left old new = IfSome old (λ before.

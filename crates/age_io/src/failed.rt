@@ -22,7 +22,7 @@ impl Memory {
         28
     }
 
-    /// Running out of memory has no place in a file.
+    /// The place of the fault: running out of memory has none.
     pub fn place(&self) -> Option<u64>
         ensures { result ≡ None }
     {

@@ -15,7 +15,7 @@ pub struct Failures {
 }
 
 impl Failures {
-    /// Those of a source or a sink that no call was made of.
+    /// No failures, as before the first call.
     pub fn none() -> Failures
         ensures { result ≡ record { count = 0; last = false } }
     {

@@ -3,16 +3,16 @@
 ghost use Rattle.std.specs.Prelude.{◌≡◌, ℕ, List, Option, None, option_and_then};
 ghost use Rattle.age_io.specs.Io.{begun, counted, Adds, Advances, Begins, Ends, Shown};
 
-/// Counts how far a run is. It returns nothing, so that code that is generic over one can only
-/// report to it.
+/// Counts how far a run is, in bytes. No method returns anything, so code that is generic over a
+/// meter can report to it, but never depend on it.
 pub trait Meter {
-    // How many bytes were read since the run began, if it counts them.
+    // How many bytes were read since the run began, if the meter counts them.
     ghost count: { Self → Option ℕ };
 
-    // What it was shown, in order, if a contract sees that.
+    // What the meter was shown, in order, if a contract sees that.
     ghost shown: { Self → Option (List Shown) } = { λ _. None };
 
-    /// A run begins, which reads as many bytes as `length` says, if that is known.
+    /// A run begins. `length` says how many bytes it reads, if that is known.
     fn begin(&mut self, length: Option<u64>)
         ensures count { count self.new ≡ begun (count self.old) }
         ensures shown { Adds (shown self.old) (shown self.new) (Begins length) };

@@ -8,8 +8,8 @@ use crate::failed::Failed;
 use crate::meter::Meter;
 use crate::source::Source;
 
-/// A source that hands on what another gives, and reports to a meter, which has begun, how many bytes
-/// each pull gave. A contract sees both.
+/// A source that hands on what another one gives, and reports to a meter how many bytes each pull
+/// gave. The meter has begun its run before. A contract sees both.
 #[derive(Drop)]
 pub struct Metered<'m, S: Source, M: Meter> {
     /// The source that gives the bytes.

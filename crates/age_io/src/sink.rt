@@ -11,11 +11,12 @@ use crate::failures::Failures;
 use std::io::Write;
 use std::marker::Model;
 
-/// Where bytes go.
+/// A sink for bytes, such as a file, a pipe or a vector. Whoever writes puts bytes into it, and it
+/// counts the calls that fail. docs/LIBRARY.md has an example, `Measure`.
 pub trait Sink {
-    // The bytes that were taken, if they are shown, how many puts and flushes have failed, whether
-    // the last of them did, the name that the sink goes by, so that a set of files can say where
-    // its bytes end up, and whether what was taken was sent on; a put may undo that.
+    // The bytes that were taken, if they are shown; how many puts and flushes have failed, and
+    // whether the last of them did; the name that the sink goes by, so that a set of files can say
+    // where its bytes end up; and whether what was taken was sent on, which the next put may undo.
     ghost view: { Self → SinkView };
 
     /// Takes bytes from the beginning of a slice, and returns how many: at least one, unless the

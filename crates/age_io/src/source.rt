@@ -10,14 +10,15 @@ use crate::failures::Failures;
 use std::io::Read;
 use std::marker::Model;
 
-/// Where bytes come from.
+/// A source of bytes, such as a file, a pipe or a vector. Whoever reads pulls from it, and it
+/// counts the pulls that fail. docs/LIBRARY.md has an example, `Counted`.
 pub trait Source {
     // The bytes that are still to come, if they are shown, how many pulls have failed, and whether
     // the last one did.
     ghost view: { Self → SourceView };
 
-    // Since it began so, its meter was shown what it gave, where it has one: every call that pulls
-    // keeps that.
+    // If it has a meter, the meter was shown what the source gave since it began as the `Origin`
+    // says. Every call that pulls keeps this.
     ghost metered: { Self → Origin → Type 0 } = { λ _ _. Unit {0} };
 
     /// Puts the next bytes at the beginning of a slice, and returns how many: none only at the end,
