@@ -16,8 +16,8 @@ use age_stanza::{HeadFault, HeadKind};
 use std::alloc::{AllocError, AllocFailed};
 use thiserror::Error;
 
-/// Why a file could not be read or written. Want of memory is one case, whichever layer it came
-/// from.
+/// Why a file could not be read or written. Running out of memory is one case, whichever layer it
+/// came from. docs/FAULTS.md lists all faults by their numbers.
 #[derive(Clone, Copy, Debug, PartialEq, Eq, Error)]
 pub enum FileFault {
     /// The header is not one, at this line (1 to 8).

@@ -1,4 +1,5 @@
--- The fault of a file that a lower layer's fault is.
+-- Which fault of a file the fault of a lower layer becomes. Private: no public contract cites this
+-- module.
 use Rattle.age_stanza.specs.declared.fault.HeadFault.{HeadFault}
 use Rattle.age_stanza.specs.declared.fault.HeadKind.{HeadKind}
 use Rattle.age_stanza.specs.declared.fault.HeadKind.TheVariants.{Memory as HeadMemory}
