@@ -1,4 +1,4 @@
--- The lines of a body, of which each but the last spells 48 bytes.
+-- The lines of a body: each but the last spells 48 bytes.
 use Rattle.std.proofs.Common.{◌≡◌, ℕ, ◌<◌, ◌≤◌, ◌%◌, List, ◌++◌, length, take, drop, sym, ap, ◌∙◌}
 use Rattle.std.proofs.Common.{arith}
 use Rattle.std.proofs.lemmas.List.{append_assoc, length-take, take-append-drop}

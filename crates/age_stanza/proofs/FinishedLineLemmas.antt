@@ -162,7 +162,7 @@ longer_partial place bytes lines l more known lined fits room =
       within = room;
     }
 
--- the same, if this much is held
+-- a partial header whose line grew, if this much is held
 pub whole_partial : (place : Place) (bytes lines : ℕ) (l more held : List ℕ) → IsPartial place l bytes lines → bytes_before place ++ l ≡ held → IsLine more
     → IsBytes more
     → length held + length more ≤ 1048576 → IsPartial place (l ++ more) (bytes + length more) lines

@@ -50,13 +50,13 @@ take_none : (n : ℕ) → ◌≡◌ {A = List ℕ} (take n []) []
 take_none zero = refl
 take_none (suc n) = refl
 
--- the same of bytes that are all held
+-- bytes that are all held have no header in front, if their walk isn't finished
 pub none_held : (held : List ℕ) → length held < 1048576 → walk Start 1 [] held ≡ unfinished → HasHeader held → ⊥
 none_held held lt e has =
     let whole : held ++ take (1048576 - length held) [] ≡ held = ap (λ (t : List ℕ). held ++ t) (take_none (1048576 - length held)) ∙ append-nil held in
     none_unfinished held [] (1048576 - length held) (omega arith) (rw whole e) (rw append-nil has)
 
--- ---- the same, as the parser meets it
+-- ---- what a piece gives, as the parser meets it
 
 -- a header that ends inside the piece
 pub found_in : (held piece : List ℕ) (room taken : ℕ) (h : Header) → room ≡ 1048576 - length held → length held < 1048576 → IsUnfinished held

@@ -1,4 +1,4 @@
--- What public contracts cite
+-- What public contracts cite.
 pub mod Text
 pub mod Grammar
 pub mod Parsing

@@ -1,4 +1,4 @@
--- Which fault bytes have that are no header, and what a parser of headers says of its pieces.
+-- Which fault is reported of bytes that are no header, and what a parser says of pieces of bytes.
 use Rattle.std.specs.Prelude.{ℕ, Option, Some, None, ◌≡◌, ◌≢◌, ◌⊎◌, ◌+◌, ◌-◌, ◌==◌, nat_eq, ◌||◌}
 use Rattle.std.specs.Prelude.{true, false, if◌then◌else◌, List, [], ◌∷◌, ◌++◌, length, take, codes}
 use Rattle.std.specs.Prelude.{count_by, ◌<◌, ◌≤◌, Result, Ok, Err}
@@ -53,7 +53,7 @@ stanzas_text ss = line version ++ flat_map stanza_text ss
 abbrev pub IsEndLine : List ℕ → Type 0
 IsEndLine l = (mac : List ℕ) × (length mac ≡ 32) × IsBytes mac × (l ≡ end_line mac)
 
--- what is reported of such a line between stanzas
+-- what is reported of the first faulty line, if it stands between stanzas
 pub record RefusesBetween (l : List ℕ) (kind : HeadKind) : Type 0 where
   -- an end line is faulty only before the first stanza
   pub no_stanza : IsEndLine l → kind ≡ NoStanza
@@ -66,7 +66,7 @@ pub record RefusesBetween (l : List ℕ) (kind : HeadKind) : Type 0 where
 abbrev pub armor : List ℕ
 armor = codes "-----BEGIN AGE ENCRYPTED FILE-----"
 
--- what is reported of such a line, by its place
+-- what is reported of the first faulty line, by its place
 pub record RefusesLine (before l : List ℕ) (kind : HeadKind) : Type 0 where
   -- the first line is an armored file's, or no age file's
   pub first : before ≡ []
@@ -99,9 +99,9 @@ abbrev pub IsLineFault : List ℕ → HeadFault → Type 0
 IsLineFault bytes fault = (before : List ℕ) × (l : List ℕ) × FirstFault bytes before l
     × (fault.line ≡ line_after before) × RefusesLine before l fault.kind
 
--- what is reported of bytes that begin with no header, by the first of them, as many as a header
--- has at most: the first faulty line; else, if there are that many, that the header is too long, on
--- the line of the last of them
+-- what is reported of bytes that begin with no header, by their first 1,048,576, which is the limit
+-- of a header: the first faulty line; or, if no line is faulty and there are that many, that the
+-- header is too long, at the line of the last of them
 abbrev pub IsFault : List ℕ → HeadFault → Type 0
 IsFault bytes fault = IsLineFault (take header_limit bytes) fault
     ⊎ (NoFault (take header_limit bytes) × (length (take header_limit bytes) ≡ header_limit)

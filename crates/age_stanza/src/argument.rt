@@ -16,9 +16,10 @@ enum Letters {
     Long(Box<Vec<u8>>),
 }
 
-/// An argument of a stanza (<https://c2sp.org/age#header>). It is 24 bytes long, and up to 8 bytes
-/// lie in the value itself: so a header of many short arguments takes no allocation for each, and
-/// no more than 12 bytes for a byte of its text. A contract sees the list of its bytes.
+/// An argument of a stanza (<https://c2sp.org/age#header>). The value takes 24 bytes, and up to 8
+/// bytes of the argument lie in the value itself. So a header of many short arguments takes no
+/// allocation for each, and no more than 12 bytes of memory for a byte of its text. A contract sees
+/// the list of the argument's bytes.
 #[derive(Debug, Drop)]
 pub struct Argument {
     letters: Letters,
@@ -34,7 +35,8 @@ impl Model for Argument {
 }
 
 impl Argument {
-    /// A copy of some bytes. Up to 8 of them take no memory, so only more can be refused.
+    /// A copy of some bytes, whether or not [`is_argument`](crate::is_argument) holds of them. Up
+    /// to 8 bytes take no memory, so only for more may memory be refused.
     pub fn from_slice(alloc: Global, bytes: &[u8]) -> Result<Argument, AllocError>
         ensures copied { IfOk result (λ argument. argument ≡ bytes.now) }
         ensures refused { OnErr result (8 < length bytes.now) }

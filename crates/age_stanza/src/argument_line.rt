@@ -31,7 +31,7 @@ fn argument_end(letters: &[u8]) -> Option<usize>
     letters.iter().position(|c| *c == b' ')
 }
 
-/// Adds the arguments that letters hold, parted by single spaces. False if one isn't valid.
+/// Adds the arguments that letters hold, separated by single spaces. False if one isn't valid.
 fn push_all(alloc: Global, args: &mut Arguments, letters: &[u8]) -> Result<bool, AllocError>
     ensures all { IfOk result
         (λ r. r ≡ true → arguments_from args.old [] letters.now ≡ Some args.new) }
@@ -55,7 +55,7 @@ fn spaces_in(letters: &[u8]) -> usize
     letters.iter().filter(|c| **c == b' ').count()
 }
 
-/// The arguments that letters hold, parted by single spaces, or `None` if one isn't valid.
+/// The arguments that letters hold, separated by single spaces, or `None` if one isn't valid.
 fn arguments_in(alloc: Global, letters: &[u8]) -> Result<Option<Arguments>, AllocError>
     ensures { IfOk result (λ r. r ≡ arguments_from [] [] letters.now) }
 {

@@ -7,13 +7,13 @@ use std::alloc::AllocError;
 use std::{error, fmt};
 use thiserror::Error;
 
-/// Why a header was refused. Each kind is its number in the list of all faults.
+/// Why a header was refused. The value of each kind is its number in the list of all faults.
 #[derive(Clone, Copy, Debug, PartialEq, Eq, Error)]
 pub enum HeadKind {
     /// The first line isn't the version line.
     #[error("not an age file")]
     NotAge = 1,
-    /// The first line is that of an armored file, which isn't read.
+    /// The first line begins an armored file. Armor isn't read; it has to be removed first.
     #[error("armored")]
     Armored = 2,
     /// A line after the version line or a whole stanza is neither a valid argument line nor begins
@@ -29,7 +29,7 @@ pub enum HeadKind {
     /// The end line came before any stanza.
     #[error("no stanza")]
     NoStanza = 6,
-    /// [`HEAD_MAX`](crate::HEAD_MAX) bytes hold no whole header and no faulty line.
+    /// The first [`HEAD_MAX`](crate::HEAD_MAX) bytes hold no whole header and no faulty line.
     #[error("header too long")]
     HeadTooLong = 7,
     /// The input ended inside the header.
@@ -59,7 +59,7 @@ impl From<AllocError> for HeadKind {
     }
 }
 
-/// A refusal, and the number of the line that it came at, from 1 (0 if memory was refused).
+/// Why a header was refused, and at which line, from 1 (0 if memory was refused).
 #[derive(Clone, Copy, Debug, PartialEq, Eq)]
 pub struct HeadFault {
     /// What is wrong.
@@ -69,7 +69,7 @@ pub struct HeadFault {
 }
 
 impl HeadFault {
-    /// The fault's number in the list of all faults: that of its kind.
+    /// The number of the fault's kind in the list of all faults.
     pub fn number(&self) -> u8
         ensures { result ≡ head_fault_number self.now.kind }
     {
@@ -87,8 +87,8 @@ impl HeadFault {
     }
 }
 
-/// The kind's text and the line, as `bad stanza line at line 3`; of a refusal of memory the kind's
-/// text alone.
+/// Shows the kind and the line, as `bad stanza line at line 3`, or the kind alone if memory was
+/// refused.
 impl fmt::Display for HeadFault {
     fn fmt<W: fmt::Write>(&self, f: &mut fmt::Formatter<W>) -> fmt::Result {
         match self.place() {
@@ -110,7 +110,7 @@ impl From<AllocError> for HeadFault {
     }
 }
 
-/// Want of memory, which belongs to no line.
+/// Running out of memory, which belongs to no line.
 pub(crate) const MEMORY: HeadFault = HeadFault {
     kind: HeadKind::Memory,
     line: 0,

@@ -7,7 +7,7 @@ use crate::header::Header;
 pub enum HeadStep {
     /// The bytes so far are the beginning of a header; the whole piece was taken.
     More,
-    /// The header is complete with the first `taken` bytes of the piece, of which the last is the
+    /// The header is complete with the first `taken` bytes of the piece. The last of these is the
     /// end line's LF.
     Ready { taken: usize, header: Header },
 }

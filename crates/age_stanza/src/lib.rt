@@ -1,10 +1,10 @@
 //! The text header of an age file, version 1 (<https://c2sp.org/age#header>).
 //!
 //! A header is a text of lines that end with LF alone. Its first line is `age-encryption.org/v1`.
-//! One or more recipient stanzas follow, each an argument line (`-> ` and arguments parted by
-//! single spaces) and a body in base64 (RFC 4648, section 4, without padding, canonical), wrapped
-//! at 64 characters, whose last line is shorter than 64 and may be empty. The end line is `--- `
-//! and the 43 characters of the header's MAC. The binary payload follows at once.
+//! One or more recipient stanzas follow, each an argument line (`-> ` and arguments separated by
+//! single spaces) and a body in base64 (RFC 4648, section 4, without padding, canonical). The body
+//! is wrapped at 64 characters, and its last line is shorter than 64 and may be empty. The end line
+//! is `--- ` and the 43 characters of the header's MAC. The binary payload follows at once.
 //!
 //! A [`Header`] has recipient [`Stanzas`] and a MAC. A [`Stanza`] has [`Arguments`], each an
 //! [`Argument`], and a body, which is [`Bytes`]. Each of the three is a [`List`].

@@ -7,7 +7,8 @@ ghost use Rattle.std.specs.Prelude.{IfOk, OnOk, OnErr};
 use std::alloc::{AllocError, Global};
 use std::marker::Model;
 
-/// Some elements in their order. None take no memory. A contract sees the list of them.
+/// Some elements in their order. An empty list takes no memory. A contract sees the list of the
+/// elements.
 #[derive(Debug, Drop)]
 pub struct List<T> {
     items: Vec<T>,

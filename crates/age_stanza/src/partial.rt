@@ -14,9 +14,9 @@ use std::alloc::Global;
 use std::marker::Model;
 use std::mem;
 
-/// What an open parser holds: the place of the line that isn't finished, which has what the
-/// finished lines held, and the characters of that line. No finished line is kept as it came. A
-/// contract sees the bytes that came.
+/// What an open parser holds: the place of the line that isn't finished, with what the lines before
+/// it held, and the characters of that line so far. Finished lines aren't kept as text. A contract
+/// sees the bytes that came.
 #[derive(Drop)]
 pub(crate) struct PartialHeader {
     place: Place,
@@ -36,7 +36,7 @@ impl Model for PartialHeader {
     ghost invariant = { λ p. IsPartial p.place p.line.items p.bytes p.finished_lines };
 }
 
-/// A refusal in a line; running out of memory has none.
+/// A refusal at this line; running out of memory has no line.
 fn fault_at(kind: HeadKind, line: u64) -> HeadFault
     ensures { result ≡ spec_fault_at kind line }
 {
@@ -46,8 +46,8 @@ fn fault_at(kind: HeadKind, line: u64) -> HeadFault
     }
 }
 
-/// Where a line leads whose first characters are kept, and whose last ones came just now. A line
-/// that came whole is judged where it lies.
+/// Where a line leads if its first characters were kept, and its last ones came just now. A line
+/// that came whole is judged where it lies, without a copy.
 fn step_whole(
     alloc: Global,
     place: Place,

@@ -47,7 +47,7 @@ fn read_lines(partial: &mut PartialHeader, bytes: &[u8]) -> Result<HeadStep, Hea
     Ok(HeadStep::More)
 }
 
-/// Takes a piece, of which no more than the limit allows is read.
+/// Takes a piece, and reads no more of it than the limit allows.
 pub(crate) fn take_piece(partial: &mut PartialHeader, piece: &[u8]) -> Result<HeadStep, HeadFault>
     requires { length partial.old < header_limit }
     ensures { TakesPiece partial.old piece.now result partial.new }

@@ -111,7 +111,7 @@ abbrev pub Gives : Result Next HeadKind → Result Next HeadKind → Type 0
 Gives (Ok next) read = read ≡ Ok next
 Gives (Err kind) read = (kind ≡ Memory) ⊎ (read ≡ Err kind)
 
--- where a line of a body leads that was added to it, by whether it is full
+-- where a line of a body leads once its bytes were added, by whether the line is full
 abbrev pub line_added : List Stanza → List (List ℕ) → List ℕ → Bool → Result Next HeadKind
 line_added ss args body true = Ok (Go (InBody ss args body))
 line_added ss args body false =
