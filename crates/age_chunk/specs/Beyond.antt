@@ -1,5 +1,5 @@
--- How a box that meets its law only on bytes, as one made of tables does, is continued to all lists
--- of numbers.
+-- How a box that meets its law only on bytes, such as one made of tables, is extended to all lists
+-- of numbers, so that it meets the law on them too.
 use Rattle.std.specs.Prelude.{◌≡◌, ℕ, ◌+◌, List, ◌++◌, length, take, replicate, Some}
 use Rattle.std.specs.Prelude.{None, nat_lt, nat_le, ◌&&◌, Bool, true, not, if◌then◌else◌}
 use Rattle.std.specs.List.{list_all}
@@ -21,7 +21,7 @@ is_block nonce block =
     are_bytes nonce
     && (are_bytes block && (nat_le tag_length (length block) && nat_le (length block) block_length))
 
--- the law of a box, of these alone
+-- the law of a box, for these inputs alone
 pub record IsChunkBoxOnBytes (sealing : Seals) (opening : OpensBlock) : Type 0 where
   pub bytes : (nonce text : List ℕ) → length nonce ≡ 12 → is_text nonce text ≡ true
       → are_bytes (sealing nonce text) ≡ true
@@ -33,11 +33,11 @@ pub record IsChunkBoxOnBytes (sealing : Seals) (opening : OpensBlock) : Type 0 w
       → opening nonce block ≡ Some text
       → (is_text nonce text ≡ true) × (sealing nonce text ≡ block)
 
--- as many numbers as a tag has, which are no bytes
+-- a list as long as a tag, of numbers that are no bytes
 abbrev pub no_tag : List ℕ
 no_tag = replicate tag_length 256
 
--- a list that is no text, or any at a nonce that isn't bytes, is sealed with them in place of a tag
+-- a text of bytes at a nonce of bytes is sealed as before; to anything else `no_tag` is appended
 abbrev pub sealing_beyond : Seals → Seals
 sealing_beyond sealing nonce text =
     if is_text nonce text then sealing nonce text else text ++ no_tag
@@ -49,7 +49,7 @@ opening_beyond opening nonce block =
     if is_block nonce block then opening nonce block
     else (if is_sealed then Some front else None)
 
--- continued so, a box that meets the law on bytes meets it
+-- extended so, a box that meets the law on bytes meets it on all lists
 abbrev pub BytesSuffice : Type 0
 BytesSuffice = (sealing : Seals) (opening : OpensBlock) → IsChunkBoxOnBytes sealing opening
     → IsChunkBox (sealing_beyond sealing) (opening_beyond opening)

@@ -6,8 +6,8 @@ ghost use Rattle.age_chunk.specs.Payload.{stream_fault_number};
 use std::alloc::AllocError;
 use thiserror::Error;
 
-/// Why a payload, or a text to be sealed, was refused. Each kind is its number in the list of all
-/// faults.
+/// Why a payload, or a text to be sealed, was refused. The value of each kind is its number in the
+/// list of all faults.
 #[derive(Clone, Copy, Debug, PartialEq, Eq, Error)]
 pub enum StreamKind {
     /// A whole block, or the last one, opens neither as its chunk nor as the last.
@@ -25,7 +25,7 @@ pub enum StreamKind {
     /// Bytes came after the last chunk.
     #[error("bytes after the last chunk")]
     Trailing = 21,
-    /// A further chunk would be number [`CHUNK_LIMIT`](crate::CHUNK_LIMIT).
+    /// A further chunk would have the number [`CHUNK_LIMIT`](crate::CHUNK_LIMIT), which is 2^48.
     #[error("too many chunks")]
     TooManyChunks = 22,
 }
@@ -39,7 +39,7 @@ impl StreamKind {
     }
 }
 
-/// A refusal, and the number of the chunk at which it came, from 0.
+/// Why a stream was refused, and at which chunk, from 0.
 #[derive(Clone, Copy, Debug, PartialEq, Eq, Error)]
 #[error("{kind} at chunk {chunk}")]
 pub struct StreamFault {
@@ -50,7 +50,7 @@ pub struct StreamFault {
 }
 
 impl StreamFault {
-    /// The fault's number in the list of all faults: that of its kind.
+    /// The number of the fault's kind in the list of all faults.
     pub fn number(&self) -> u8
         ensures { result ≡ stream_fault_number self.now.kind }
     {
@@ -71,7 +71,7 @@ impl StreamFault {
 pub struct Memory;
 
 impl Memory {
-    /// The number of running out of memory in the list of all faults.
+    /// 28, the number of running out of memory in the list of all faults.
     pub fn number(&self) -> u8
         ensures { result ≡ 28 }
     {
