@@ -1,4 +1,4 @@
--- The keystream beside the block function of RFC 8439.
+-- The keystream, compared with the block function of RFC 8439.
 use Rattle.std.proofs.Common.{◌≡◌, ℕ, ◌+◌, ◌*◌, ◌/◌, ◌%◌, ◌^◌, ◌<◌, List, slice_index, refl, arith}
 use Rattle.rand_core.specs.Steps.{u32_at}
 use Rattle.rand_chacha.specs.Block.{initial_state, block_word}

@@ -70,7 +70,7 @@ fn draw_blocks(generator: &mut ChaCha20Rng, number: u64, words: &mut [u32; 64])
 }
 
 /// Changes each byte of a text by the keystream's byte at its place, from block `counter` on (RFC
-/// 8439, 2.4). The same call again gives the text back.
+/// 8439, 2.4). A second call with these arguments gives the text back.
 ///
 /// The keystream must be long enough: with 64 bytes a block, `64 * counter` and the text's length
 /// are together at most 2^38.
