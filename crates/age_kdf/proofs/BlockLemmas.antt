@@ -65,8 +65,8 @@ joined_more pass salt q =
     (joined_more_from pass salt 1 q
     ∙ ap (λ i. joined pass salt q ++ pbkdf2_block pass salt i) at)
 
--- a list whose first a items are `front` takes, in place of the k that follow, those of a block of
--- 32
+-- in a list that begins with the a items of `front`, the k items after them become the first of a
+-- block of 32
 pub chunk_written : (front block out written : List ℕ) (a k n : ℕ) → length front ≡ a
     → length block ≡ 32 → length out ≡ n
     → a + k ≤ n → k ≤ 32 → (k ≡ 32) ⊎ (a + k ≡ n) → written ≡ take k block → take a out ≡ front
