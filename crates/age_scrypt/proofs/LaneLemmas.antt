@@ -29,7 +29,7 @@ shifts_rotate k some below =
     let right : (32 - k) % 32 ≡ 32 - k = omega arith in
     for_four _ (λ p q r s. rw (left, right) refl)
 
--- the same, of four vectors
+-- what holds of all words of four vectors holds of four vectors
 pub for_sixteen : (P : List ℕ → List ℕ → List ℕ → List ℕ → Type 0)
     → ((a0 a1 a2 a3 b0 b1 b2 b3 c0 c1 c2 c3 d0 d1 d2 d3 : ℕ)
     → P (a0 ∷ a1 ∷ a2 ∷ a3 ∷ []) (b0 ∷ b1 ∷ b2 ∷ b3 ∷ []) (c0 ∷ c1 ∷ c2 ∷ c3 ∷ [])

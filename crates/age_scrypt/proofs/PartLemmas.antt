@@ -136,7 +136,7 @@ part-xor x y same_len j =
     ap (take 16) (drop-zip2 bit_xor (16 * j) x y same_len)
     ∙ take-zip2 bit_xor 16 (drop (16 * j) x) (drop (16 * j) y)
 
--- a block whose parts are those of two others, changed part by part
+-- a block is the exclusive or of two others if each of its parts is
 pub xored_parts : (x y to : List ℕ) → length x ≡ 256 → length y ≡ 256 → length to ≡ 256
     → ((j : ℕ) → j < 16 → part 16 to j ≡ xor_words (part 16 x j) (part 16 y j)) → to ≡ xor_words x y
 xored_parts x y to x_len y_len to_len h =

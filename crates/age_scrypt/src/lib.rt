@@ -11,8 +11,8 @@
 //! another, and its core, Salsa20/8, works on vectors of four words. So a key at work factor 18
 //! costs 256 MiB and about a second.
 //!
-//! A count of steps, which only contracts see, says how much work was done by that count: a step is
-//! one BlockMix, and nothing else raises it.
+//! A count of steps, which only contracts see, says how much work was done. A step is one BlockMix,
+//! and nothing else raises the count.
 #![tactic(auto)]
 
 ghost use Rattle.std.specs.Prelude.{◌≡◌, ◌+◌, ◌*◌, ◌^◌, ◌≤◌, IfOk, OnOk, OnErr};

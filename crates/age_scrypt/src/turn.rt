@@ -7,7 +7,7 @@ ghost use Rattle.age_scrypt.specs.inner.Workspace.{IsTurned};
 use crate::part::Part;
 use crate::salsa::{diagonals, rows};
 
-/// Writes the block with each part turned over another.
+/// Turns each part of a block, and writes the result over `to`.
 pub(crate) fn turn(from: &[u32], to: &mut [u32])
     requires from { length from.now ≡ 256 }
     requires to { length to.old ≡ 256 }
@@ -18,7 +18,7 @@ pub(crate) fn turn(from: &[u32], to: &mut [u32])
     }
 }
 
-/// Writes over another the block of which this one is turned.
+/// Turns each part of a turned block back, and writes the result over `to`.
 pub(crate) fn turn_back(from: &[u32], to: &mut [u32])
     requires from { length from.now ≡ 256 }
     requires to { length to.old ≡ 256 }

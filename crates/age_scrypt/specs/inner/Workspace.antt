@@ -1,4 +1,5 @@
--- What scrypt works on. Private: no public contract cites this module.
+-- In which form scrypt's code holds words, blocks and its table. Private: no public contract cites
+-- this module.
 use Rattle.std.specs.Prelude.{◌≡◌, ℕ, List, [], ◌∷◌, ◌++◌, slice_index, ◌<◌, length, ◌*◌, ◌%◌, ◌^◌}
 use Rattle.std.specs.Prelude.{◌≤◌, vec_len, vec_capacity}
 use Rattle.std.specs.declared.vec.Vec.{Vec}
@@ -98,7 +99,7 @@ pub record IsFilled {Z : Type 0} (n : ℕ) (old : List ℕ) (table : Vec ℕ Z) 
     : Type 0 where
   -- The table holds n blocks.
   pub len : vec_len table ≡ 256 * n
-  -- Block i of it is V i of the block of which X was turned.
+  -- If X was the turned block b before, block i of the table is V i of b, turned.
   pub blocks : (b : List ℕ) → IsTurned b old → IsTable b n table.items
-  -- X is V n of that block, turned.
+  -- Then X is now V n of b, turned.
   pub mixed : (b : List ℕ) → IsTurned b old → IsTurned (v_block b n) new
