@@ -120,7 +120,7 @@ own_type : (w : PassphraseIdentity) (log : ℕ) (salt key : List ℕ) → has_sc
 unfolding scrypt_head scrypt_stanza
 own_type w log salt key = refl
 
--- the same parts open to the same key
+-- the parts of a stanza open to one key only
 other_key : (w : PassphraseIdentity) (h : Header) (key other : List ℕ) (only : OnlyScrypt h) → Wraps w h only key → IsPassphraseKey w h other → other ≡ key
 other_key w h key other only wraps found =
     let same = same_parts h found.only only in

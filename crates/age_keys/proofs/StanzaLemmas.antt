@@ -8,7 +8,7 @@ use Rattle.age_stanza.specs.declared.header.Header.{Header}
 use Rattle.age_stanza.specs.declared.header.Stanza.{Stanza}
 use Rattle.age_keys.specs.Keys.{has_type, has_scrypt, IsScryptNotAlone}
 
--- two arguments, of which the first is the type
+-- two arguments; the first is the type
 pub two_arguments : (kind t : List ℕ) (args : List (List ℕ)) → has_type kind args ≡ true → 2 ≤ length args → length args < 3
     → t ≡ get_or args 1 t → args ≡ kind ∷ t ∷ []
 two_arguments kind t [] typed most least e = cc
@@ -16,7 +16,7 @@ two_arguments kind t (a ∷ []) typed most least e = absurd (omega arith)
 two_arguments kind t (a ∷ b ∷ []) typed most least e = ap₂ (λ x y. x ∷ y ∷ []) ((bytes_eq-Decides a kind).0 typed) (sym e)
 two_arguments kind t (a ∷ b ∷ d ∷ rest) typed most least e = absurd (omega arith)
 
--- three, of which the first is the type
+-- three arguments; the first is the type
 pub three_arguments : (kind t u : List ℕ) (args : List (List ℕ)) → has_type kind args ≡ true → 3 ≤ length args → length args < 4
     → t ≡ get_or args 1 t → u ≡ get_or args 2 u → args ≡ kind ∷ t ∷ u ∷ []
 three_arguments kind t u [] typed most least e f = cc

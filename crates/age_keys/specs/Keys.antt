@@ -40,7 +40,7 @@ position_key key nonce = hkdf32 key nonce (codes "age-tool position v2")
 unfoldable pub wrapped_key : List ℕ → List ℕ → List ℕ
 wrapped_key wrap_key key = sealing wrap_key (replicate 12 0) [] key
 
--- ---- The age file of a text (C2SP age.md).
+-- ---- Which bytes are the age file of a text (C2SP age.md).
 
 -- the box of a file key and a payload nonce: how it seals a text at a chunk's nonce, and opens a
 -- block there

@@ -83,7 +83,7 @@ pub record IsPassphraseKey (w : PassphraseIdentity) (h : Header) (key : List ℕ
   pub within : only.log ≤ w.max_log
   pub opens : only.body ≡ wrapped_key (wrap_key w.pass only.salt only.log) key
 
--- the faults that a passphrase may return for it: the first that applies
+-- the faults that a passphrase may return for a header: the first that applies
 abbrev pub PassphraseRefuses : PassphraseIdentity → Header → KeyFault → Type 0
 PassphraseRefuses w h ScryptNotAlone = IsScryptNotAlone h
 PassphraseRefuses w h NoMatch = has_scrypt h ≡ false

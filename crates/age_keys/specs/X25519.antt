@@ -11,7 +11,7 @@ use Rattle.age_keys.specs.Keys.{has_type, wrapped_key}
 use Rattle.age_keys.specs.declared.fault.KeyFault.{KeyFault}
 use Rattle.age_keys.specs.declared.fault.KeyFault.TheVariants.{NoMatch, BadX25519, WrongKey}
 
--- ---- The X25519 stanza. X25519 itself stays outside.
+-- ---- The X25519 stanza. The function X25519 isn't defined here: the shared secret is given.
 
 abbrev pub is_x25519 : Stanza → Bool
 is_x25519 s = has_type (codes "X25519") s.args
@@ -24,7 +24,7 @@ pub record IsX25519Stanza (s : Stanza) (share body : List ℕ) : Type 0 where
   pub share_length : length share ≡ 32
   pub body_length : length body ≡ 32
 
--- the fault of a stanza that is none
+-- the fault of a stanza that is no valid X25519 stanza
 abbrev pub ReadRefuses : Stanza → KeyFault → Type 0
 ReadRefuses s NoMatch = is_x25519 s ≡ false
 ReadRefuses s BadX25519 = (is_x25519 s ≡ true)
@@ -82,7 +82,7 @@ pub record IsFirstKey (x : Shared) (stanzas : List Stanza) (key : List ℕ) : Ty
 abbrev pub IsSharedKey : Shared → Header → List ℕ → Type 0
 IsSharedKey x h key = IsUsable x h × IsFirstKey x h.stanzas key
 
--- the faults that a shared secret may return for it: the first that applies
+-- the faults that a shared secret may return for a header: the first that applies
 abbrev pub SharedRefuses : Shared → Header → KeyFault → Type 0
 SharedRefuses x h NoMatch = has_x25519 h ≡ false
 SharedRefuses x h BadX25519 = (has_x25519 h ≡ true) × (IsZero x ⊎ Any IsBadStanza h.stanzas)

@@ -6,8 +6,8 @@ ghost use Rattle.age_keys.specs.Keys.{is_before_work, key_fault_number};
 use std::alloc::AllocError;
 use thiserror::Error;
 
-/// Why a header wasn't opened. No refusal changes anything. Each fault is its number in the list of
-/// all faults.
+/// Why a header wasn't opened. A refusal changes nothing. The value of each fault is its number in
+/// the list of all faults.
 #[derive(Clone, Copy, Debug, PartialEq, Eq, Error)]
 pub enum KeyFault {
     /// A stanza of type `scrypt` stands beside another stanza.
@@ -25,7 +25,7 @@ pub enum KeyFault {
     /// The body of no stanza opens.
     #[error("wrong key")]
     WrongKey = 13,
-    /// The header's MAC isn't that of the file key.
+    /// The header's MAC wasn't made under the file key.
     #[error("header MAC mismatch")]
     MacMismatch = 14,
     /// An X25519 stanza isn't valid, or the shared secret is zero.

@@ -71,7 +71,8 @@ pub(crate) fn mac_of(alloc: Global, header: &Header, key: &FileKey) -> Result<[u
 /// whatever the unlocker refuses, running out of memory for the text that the MAC covers, and a MAC
 /// that wasn't made under the key ([`KeyFault::MacMismatch`]). The unlocker's steps of scrypt are
 /// counted, and there is none before a fault that [is found before any
-/// work](KeyFault::is_before_work).
+/// work](KeyFault::is_before_work). `opened` in `age_vectors/src/keys.rt` parses a header and opens
+/// it.
 pub fn open_header<U: Unlock>(
     alloc: Global,
     header: &Header,

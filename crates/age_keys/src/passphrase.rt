@@ -27,6 +27,8 @@ pub const PASSPHRASE_LIMIT: usize = 65_536;
 /// factor above the limit, however many digits it has ([`KeyFault::WorkTooHigh`]), running out of
 /// memory for scrypt's table ([`KeyFault::Memory`]), and a body that opens to no file key under the
 /// passphrase ([`KeyFault::WrongKey`]).
+///
+/// docs/LIBRARY.md has an example of a decryption, `text_of`, for which this is the unlocker.
 #[derive(Drop)]
 pub struct Passphrase<'a> {
     bytes: &'a [u8],
@@ -45,7 +47,8 @@ impl<'a> Model for Passphrase<'a> {
 
 impl<'a> Passphrase<'a> {
     /// A passphrase of 1 to [`PASSPHRASE_LIMIT`] bytes, whatever they are, and a greatest work
-    /// factor of 1 to [`WORK_FACTOR_LIMIT`]; `None` for any other.
+    /// factor of 1 to [`WORK_FACTOR_LIMIT`]; `None` for any other. A header with work factor n takes
+    /// `1,024 * 2^n` bytes of memory.
     pub fn new(bytes: &'a [u8], max_log: u32) -> Option<Passphrase<'a>>
         ensures { SomeIff result (IsAllowed bytes.now max_log)
             (record { pass = bytes.now; max_log = max_log }) }

@@ -55,7 +55,7 @@ fn are_digits(characters: &[u8]) -> bool
     characters.iter().all(u8::is_ascii_digit)
 }
 
-/// Whether characters spell a work factor: decimal digits, of which the first isn't zero.
+/// Whether characters spell a work factor: decimal digits, and the first isn't zero.
 fn is_work_factor(characters: &[u8]) -> bool
     ensures { IsTrue result ↔ IsWorkFactor characters.now }
 {
@@ -160,7 +160,7 @@ fn scrypt_stanza(
     Ok(Stanza { args, body })
 }
 
-/// The header of one such stanza, and a MAC of zeros.
+/// The header with this scrypt stanza alone, and a MAC of zeros.
 fn header_of(
     alloc: Global,
     salt: &[u8; 16],

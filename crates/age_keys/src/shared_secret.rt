@@ -57,14 +57,17 @@ fn hkdf_salt(share: &[u8; 32], recipient: &[u8; 32]) -> [u8; 64]
     both
 }
 
-/// A shared secret, which was computed elsewhere of a stanza's share and the recipient's identity,
-/// and the recipient. A contract sees both.
+/// A shared secret of X25519, 32 bytes, and the recipient's public key, 32 bytes. The secret was
+/// computed elsewhere from a stanza's share and the recipient's identity. A contract sees both.
 ///
 /// It finds the file key in the first X25519 stanza of a header that opens
-/// (<https://c2sp.org/age#x25519-recipient-stanza>); stanzas of other types are passed over. It
-/// refuses, in this order, a header without an X25519 stanza ([`KeyFault::NoMatch`]), one with an
-/// X25519 stanza of another shape, or any if the secret is zero ([`KeyFault::BadX25519`]), and a
-/// header none of whose X25519 stanzas opens ([`KeyFault::WrongKey`]). It takes no memory.
+/// (<https://c2sp.org/age#x25519-recipient-stanza>), and skips stanzas of other types. It refuses,
+/// in this order, a header without an X25519 stanza ([`KeyFault::NoMatch`]), a header with an
+/// X25519 stanza of another shape, or any such header if the secret is zero
+/// ([`KeyFault::BadX25519`]), and a header in which no X25519 stanza opens
+/// ([`KeyFault::WrongKey`]). It takes no memory.
+///
+/// docs/RECIPES.md says how to make one from a key file.
 #[derive(Drop)]
 pub struct SharedSecret {
     secret: [u8; 32],

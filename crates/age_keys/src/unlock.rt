@@ -17,7 +17,7 @@ use std::marker::Model;
 ///
 /// An implementation states two relations, which key it may return for a header and which fault,
 /// and how many steps of scrypt it makes at most. [`open_header`](crate::open_header) states its
-/// contract in these terms.
+/// contract in these terms. docs/LIBRARY.md has an example, `Either`.
 pub trait Unlock {
     /// The keys that it may return for a header.
     ghost allows: { Self → HeaderValue → List ℕ → Type 0 };

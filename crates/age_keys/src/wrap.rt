@@ -20,7 +20,7 @@ pub(crate) fn wrapped_key(wrap_key: &[u8; 32], key: &FileKey) -> [u8; 32]
     block
 }
 
-/// The file key of which this is the wrapping; `None` if there is no such key.
+/// The file key that this body wraps; `None` if it wraps none.
 pub(crate) fn unwrapped_key(wrap_key: &[u8; 32], body: &[u8; 32]) -> Option<FileKey>
     ensures key { IfSome result (λ key. body.now ≡ wrapped_key wrap_key.now key) }
     ensures none { IfNone result ((key : List ℕ) → body.now ≢ wrapped_key wrap_key.now key) }
