@@ -42,7 +42,8 @@ module _ (opening : List ℕ → List ℕ → Option (List ℕ)) (i : ℕ) (bloc
       ∙ (ap (λ (b : Bool). after_front opening (if b then Some text else None) i block) (le-ltb (i + 1) chunk_limit (omega (arith, all)))
       ∙ ap (λ (o : Option (List ℕ)). at_block opening [] i block false false o) opens)
 
--- the same if the block is in a buffer of n bytes, whose front is the text once it was opened
+-- what one block gives that is in a buffer of n bytes: once it was opened, its text is the buffer's
+-- front
 module _ (opening : List ℕ → List ℕ → Option (List ℕ)) (i n : ℕ) (block new : List ℕ) (len : length block ≡ n) where
   pub before_in : opening (nonce_bytes i false) block ≡ Some (take (text_length (length block)) new) → i + 1 < chunk_limit
       → one_block opening i block ≡ record { texts = take (text_length n) new ∷ []; index = i + 1; status = Open }

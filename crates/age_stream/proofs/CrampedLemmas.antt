@@ -94,7 +94,7 @@ cramped_at opening n r ds i d lt at c =
     m (take i ds) begin in
     omega (arith, here, bytes, came ds i x (take_more ds i d lt))
 
--- a call that is refused memory only for want of room was cramped
+-- a call that is refused memory, as it is only if there is no room, was cramped
 pub cramped_by : {B A E : Type 0} (n : ℕ) (r : ReplayView B) (d : Delivery) (result : Result A E) (len : ℕ) → len ≡ length r.text → len ≤ r.capacity
     → OnErr result (r.capacity < len + could_release n r.opener d) → OnErr result (IsCramped n r d)
 cramped_by n r d (Ok a) len same room full = tt

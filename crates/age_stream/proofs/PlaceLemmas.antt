@@ -102,7 +102,7 @@ kinds a b i j e = ap (λ (s : Status). kind_of s a) e
 places : (a b : StreamKind) (i j : ℕ) → failed a i ≡ failed b j → i ≡ j
 places a b i j e = ap place_of e
 
--- a choice of four, of which the last is the same if it is reached
+-- a choice of four, the last of which is the same if it is reached
 four : {A : Type 0} (b0 b1 b2 : Bool) (w x y u v : A) → (b0 ≡ false → b1 ≡ false → b2 ≡ false → u ≡ v)
     → cond b0 w (cond b1 x (cond b2 y u)) ≡ cond b0 w (cond b1 x (cond b2 y v))
 four true b1 b2 w x y u v f = refl

@@ -83,7 +83,7 @@ opener_right sealing opening n key new valid positive same s text h is =
     subst (ReleasesWritten (sealing key) op m s text) status
     (subst (λ (t : List ℕ). ReleasesWritten (sealing key) op m s t (outcome op m s).status) is (segment_right (sealing key) op valid m positive s))
 
--- the same if more texts were handed over
+-- the headline of an opener that handed over more texts
 pub fed_right : {B : Type 0} (sealing : B → List ℕ → List ℕ → List ℕ) (opening : B → List ℕ → List ℕ → Option (List ℕ)) (n : ℕ) (key : B) (new : OpenerView B)
     → IsChunkBox (sealing key) (opening key) → 0 < n → new.key ≡ key → (s next : Segment) (texts : List (List ℕ)) → Stands opening n new next
     → (outcome (opening key) n next).texts ≡ (outcome (opening key) n s).texts ++ texts

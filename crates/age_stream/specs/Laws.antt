@@ -30,12 +30,13 @@ abbrev pub IsTextLength : ℕ → ℕ → Type 0
 IsTextLength size len =
     (len + tag_length * chunks_for len ≡ size) × (chunks_for len ≤ chunk_limit)
 
--- the length of the texts whose payload has this many bytes, or none if no payload has
+-- the length of the texts whose payload has this many bytes, or none if no payload has this length
 abbrev pub IsTextLengthOf : ℕ → Option ℕ → Type 0
 IsTextLengthOf size len =
     MatchOption len ((l : ℕ) → IsTextLength size l → ⊥) (IsTextLength size)
 
--- texts whose payloads are as long are as long, and a text has the length that its payload says
+-- if the payloads of two texts have the same length, so have the texts, and a text has the length
+-- that its payload says
 abbrev pub LengthsAreOne : Type 0
 LengthsAreOne = ((size len other : ℕ) → IsTextLength size len → IsTextLength size other
     → len ≡ other)
@@ -111,8 +112,8 @@ abbrev pub RestIsAuthentic : Type 0
 RestIsAuthentic = OfAllSealable (λ sealing opening n text. (s : Segment)
     → IsRest sealing opening n text s → IsAuthentic sealing opening n text s)
 
--- so are an undamaged payload, or its rest, and an end, after any deliveries of which each segment
--- that was given up is authentic
+-- an undamaged payload, or its rest, with its end, is authentic too, after any deliveries in which
+-- each segment that was given up is authentic
 abbrev pub UndamagedIsAuthentic : Type 0
 UndamagedIsAuthentic = OfAllSealable (λ sealing opening n text. (k : ℕ)
     (deliveries : List Delivery) (rest : IsUndamaged sealing opening n text k deliveries)
@@ -163,7 +164,7 @@ abbrev pub FreshIsOpen : Type 0
 FreshIsOpen = (opening : OpensBlock) (n k : ℕ)
     → outcome opening n (fresh k) ≡ record { texts = []; index = k; status = Open }
 
--- a segment released no more, and stands at the same chunk; a refusal stays
+-- a segment released nothing more, and stands at the same chunk; a refusal stays
 pub record IsSettled (old new : Outcome) : Type 0 where
   pub texts : new.texts ≡ old.texts
   pub index : new.index ≡ old.index

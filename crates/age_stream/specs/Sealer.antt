@@ -27,7 +27,8 @@ pub record SealerView (B : Type 0) : Type 0 where
   pub failed : Bool
   pub finished : Bool
 
--- a byte beside the text stands for the whole of it
+-- the text of the open chunk: what the buffer holds; or, while the buffer's block is lent, the one
+-- byte that is kept beside it
 abbrev pub text_beside : Option ℕ → List ℕ → List ℕ
 text_beside None text = text
 text_beside (Some byte) text = byte ∷ []

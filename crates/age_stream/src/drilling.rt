@@ -11,7 +11,7 @@ use crate::replay::{Drill, Replay};
 use age_chunk::{ChunkBox, Memory};
 use std::alloc::Global;
 
-/// Gives deliveries to a new [`Replay`], and returns what it then holds.
+/// Gives deliveries to a new [`Replay`], and returns what it then holds, unless memory is refused.
 pub fn drill<B: ChunkBox, const SEALED: usize>(
     alloc: Global,
     key: &B,

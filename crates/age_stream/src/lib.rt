@@ -10,7 +10,7 @@
 //! pieces and lends the text, each out of one buffer of `SEALED` bytes, the length of a whole
 //! block; for age files that is [`BLOCK_LEN`]. Neither takes memory. A [`ChunkBox`] is what seals
 //! and opens a chunk. [`Replay`] and [`drill`] hold the text that came of any list of pieces, ends
-//! and restarts.
+//! and restarts. docs/LIBRARY.md says what to use for what.
 #![tactic(auto)]
 
 mod buffer;

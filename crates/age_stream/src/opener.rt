@@ -203,6 +203,8 @@ impl<'k, B: ChunkBox, const SEALED: usize> OpenerState<'k, B, SEALED> {
 /// A contract sees the key, the bytes of the block that is open, the chunk's number and the status.
 /// They are what the outcome of a segment says: of all bytes since the opener was made, and of the
 /// end of the input.
+///
+/// `feed_piece` in `age_file/src/payload.rt` feeds whole pieces and writes what is lent.
 #[derive(Drop)]
 pub struct Opener<'k, B: ChunkBox, const SEALED: usize> {
     state: OpenerState<'k, B, SEALED>,
@@ -275,7 +277,8 @@ impl<'k, B: ChunkBox, const SEALED: usize> Opener<'k, B, SEALED> {
         self.state.index
     }
 
-    /// Where it stands.
+    /// Whether blocks may still come, the last one was opened, the input ended, or a call was
+    /// refused.
     pub fn status(&self) -> Status
         ensures { result ≡ self.now.status }
     {
@@ -346,11 +349,12 @@ impl<'k, B: ChunkBox, const SEALED: usize> Opener<'k, B, SEALED> {
     }
 
     /// The input ended: what is held is tried as the last chunk, and its text is lent. The text is
-    /// empty if the last chunk came before. Nothing held is [`Truncated`](StreamKind::Truncated),
-    /// fewer bytes than a tag has are [`ChunkCut`](StreamKind::ChunkCut), and a tag alone after
-    /// other chunks is [`EmptyLast`](StreamKind::EmptyLast): a writer makes no empty chunk but for
-    /// the empty text. What doesn't open is [`ChunkDamaged`](StreamKind::ChunkDamaged). After a
-    /// refusal each call is refused with the same fault.
+    /// empty if the last chunk came before. It is refused as [`Truncated`](StreamKind::Truncated)
+    /// if nothing is held, as [`ChunkCut`](StreamKind::ChunkCut) if fewer bytes than a tag has are
+    /// held, and as [`EmptyLast`](StreamKind::EmptyLast) if a tag alone is held after other chunks,
+    /// since a writer makes an empty chunk only for the empty text. What doesn't open is
+    /// [`ChunkDamaged`](StreamKind::ChunkDamaged). After a refusal each call is refused with the
+    /// same fault.
     pub fn end(&mut self) -> Result<&[u8], StreamFault>
         // The opener, once the loan has ended.
         ensures* after { sem 𝓛 (Rests (opener_row B.row SEALED.row B.ChunkBox) self.entry

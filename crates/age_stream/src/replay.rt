@@ -18,7 +18,7 @@ use std::marker::Model;
 pub struct Drill {
     /// The text that is held.
     pub text: Vec<u8>,
-    /// Where the opener of the last segment stands.
+    /// The status of the opener of the last segment.
     pub status: Status,
     /// The number of the chunk at which the last segment stands.
     pub index: u64,
@@ -170,7 +170,7 @@ impl<'k, B: ChunkBox, const SEALED: usize> ReplayState<'k, B, SEALED> {
         }
     }
 
-    /// One delivery, for what it was given before.
+    /// Takes a delivery, whatever deliveries it was given before.
     fn deliver(&mut self, delivery: &Delivery<'_>) -> Result<(), Memory>
         ensures stands { OnOk result (Goes B.opening self.old self.new (λ s.
             after_delivery (B.opening self.old.key.now) (text_length SEALED) s delivery.now)) }
@@ -201,7 +201,8 @@ impl<'k, B: ChunkBox, const SEALED: usize> ReplayState<'k, B, SEALED> {
 }
 
 /// Feeds deliveries to an opener, and holds the text that it released. A restart cuts the text to
-/// the chunks before it and makes a new opener.
+/// the chunks before it and makes a new opener. [`drill`](crate::drill) gives a whole list of
+/// deliveries to a new replay.
 ///
 /// A contract sees the key, the opener of the current segment, the text that is held and the number
 /// of restarts that were refused.
@@ -246,7 +247,7 @@ impl<'k, B: ChunkBox, const SEALED: usize> Replay<'k, B, SEALED> {
         self.state.text.as_slice()
     }
 
-    /// Where the opener of the current segment stands.
+    /// The status of the opener of the current segment.
     pub fn status(&self) -> Status
         ensures { result ≡ self.now.opener.status }
     {
@@ -285,11 +286,12 @@ impl<'k, B: ChunkBox, const SEALED: usize> Replay<'k, B, SEALED> {
         }
     }
 
-    /// Takes a delivery: all bytes of a piece unless a fault comes, which then is the status; an
-    /// end; or a restart at chunk k, which is refused if k is [`CHUNK_LIMIT`] or more or fewer than
-    /// k whole chunks are held. If memory is refused nothing changes. While no block opens except
-    /// as the writer of a text sealed it, what is held is the beginning of that text, and
-    /// [`Done`](Status::Done) comes only with all of it.
+    /// Takes a delivery. Of a piece all bytes are taken, unless a fault comes, which then is the
+    /// status. A restart at chunk k is refused if k is [`CHUNK_LIMIT`] or more, or fewer than k
+    /// whole chunks are held. If memory is refused nothing changes.
+    ///
+    /// While no block opens except as the writer of a text sealed it, what is held is the beginning
+    /// of that text, and [`Done`](Status::Done) comes only with all of it.
     pub fn take(&mut self, delivery: &Delivery<'_>) -> Result<(), Memory>
         ensures { TakesDelivery B.sealing B.opening (text_length SEALED)
             self.old delivery.now result self.new }

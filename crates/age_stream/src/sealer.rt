@@ -131,7 +131,7 @@ impl<'k, B: ChunkBox, const SEALED: usize> SealerState<'k, B, SEALED> {
 /// whole chunk is sealed once a byte after it came, since only then it isn't the last.
 ///
 /// A contract sees the key, the text of the chunk that is open, its number, and whether the sealer
-/// was refused or finished.
+/// was refused or finished. docs/LIBRARY.md has an example, `seal_to`.
 #[derive(Drop)]
 pub struct Sealer<'k, B: ChunkBox, const SEALED: usize> {
     state: SealerState<'k, B, SEALED>,
@@ -203,10 +203,11 @@ impl<'k, B: ChunkBox, const SEALED: usize> Sealer<'k, B, SEALED> {
         }
     }
 
-    /// Takes bytes of the text: what the open chunk has room for, or, after a chunk that is full,
-    /// one. That byte begins the next chunk, and the full one is sealed as not the last and lent.
-    /// Takes nothing of an empty piece. [`TooManyChunks`](StreamKind::TooManyChunks) if a byte
-    /// would need chunk number [`CHUNK_LIMIT`]; then each call is refused so.
+    /// Takes bytes of the text: what the open chunk has room for, or one byte after a chunk that is
+    /// full. That byte begins the next chunk, and the full one is sealed as not the last and lent.
+    /// Takes nothing of an empty piece. It is refused as
+    /// [`TooManyChunks`](StreamKind::TooManyChunks) if a byte would need chunk number
+    /// [`CHUNK_LIMIT`]; then each call is refused so.
     pub fn feed(&mut self, piece: &[u8]) -> Result<Step<'_>, StreamFault>
         requires { self.old.finished ≡ false }
         // The sealer, once the loan has ended.

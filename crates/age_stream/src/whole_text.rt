@@ -64,8 +64,8 @@ impl From<StreamFault> for SealFault {
 }
 
 /// The payload of a text: its chunks, each sealed at its nonce, one after the other
-/// (<https://c2sp.org/age#payload>), in chunks of `SEALED - TAG_LEN` bytes. Refused as by
-/// [`seal_into`].
+/// (<https://c2sp.org/age#payload>), in chunks of `SEALED - TAG_LEN` bytes. It refuses as
+/// [`seal_into`] does.
 pub fn seal_all<B: ChunkBox, const SEALED: usize>(
     alloc: Global,
     key: &B,
@@ -82,8 +82,8 @@ pub fn seal_all<B: ChunkBox, const SEALED: usize>(
 }
 
 /// Appends the payload of a text, in chunks of `SEALED - TAG_LEN` bytes. Memory is asked for once,
-/// before anything is sealed, and only if there is no room for the payload. That aside, only a text
-/// of more than 2^48 chunks is refused. A refusal adds nothing.
+/// before anything is sealed, and only if there is no room for the payload. Apart from that, only a
+/// text of more than 2^48 chunks is refused. A refusal adds nothing.
 pub fn seal_into<B: ChunkBox, const SEALED: usize>(
     key: &B,
     text: &[u8],

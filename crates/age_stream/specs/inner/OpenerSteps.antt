@@ -1,4 +1,4 @@
--- The steps of an opener. Private: no public contract cites this module.
+-- What each step of an opener does. Private: no public contract cites this module.
 use Rattle.std.specs.Prelude.{ℕ, ◌+◌, Bool, true, false, ◌&&◌, ◌==◌, nat_lt, List, [], ◌∷◌, ◌++◌}
 use Rattle.std.specs.Prelude.{length, Option, Some, None, ◌≢◌, ◌≡◌, ◌-◌, ◌≤◌, ◌<◌, min, take, ⊤}
 use Rattle.std.specs.Prelude.{Result, Ok, Err, MatchResult, IfOk, IfErr, OnOk, if◌then◌else◌}

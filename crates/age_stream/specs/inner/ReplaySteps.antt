@@ -1,4 +1,4 @@
--- The steps of a replay. Only private functions cite this.
+-- What each step of a replay does. Private: no public contract cites this module.
 use Rattle.std.specs.Prelude.{◌≡◌, ◌+◌, ◌-◌, ◌<◌, ◌≤◌, ℕ, List, length, take, Option, IfSome}
 use Rattle.std.specs.Prelude.{IfNone, vec_len, vec_capacity}
 use Rattle.age_chunk.specs.ChunkBoxes.{OpensBlock, text_length}

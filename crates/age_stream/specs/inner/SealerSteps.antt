@@ -1,4 +1,4 @@
--- The steps of a sealer. Private: no public contract cites this module.
+-- What each step of a sealer does. Private: no public contract cites this module.
 use Rattle.std.specs.Prelude.{◌≡◌, ℕ, ◌+◌, ◌≤◌, ◌<◌, List, [], ◌++◌, length, take, Bool, true}
 use Rattle.std.specs.Prelude.{false, Option, Some, None, MatchOption, if◌then◌else◌, Result, IfOk}
 use Rattle.std.specs.Prelude.{OnOk, IfErr, OnErr}
