@@ -87,7 +87,7 @@ pub record IsUndamagedFile (Allows : Header → List ℕ → Type 0) (Refused : 
   pub whole : IsWhole Allows Refused coming text
   pub closed : IsClosed (box whole.key whole.nonce) (unbox whole.key whole.nonce) chunk_length text
 
--- the faults that can stop the decryption of an undamaged file all the same
+-- the faults that can stop the decryption even of an undamaged file
 abbrev pub StopsOutside : FileFault → Type 0
 StopsOutside Read = Unit {0}
 StopsOutside Write = Unit {0}

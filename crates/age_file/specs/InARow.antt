@@ -197,7 +197,7 @@ AuthenticRuns Who Allows = (who : Who) (old new : Ports) (written : ℕ) (r : Ru
     × ((p : Position) → IsPositionOf r p → CarriesText text p))
     × (IsDone (Allows who) old new written r → held r ≡ text)
 
--- a header's fault that was found in what was read is that of all that the source had
+-- a header's fault that was found in what was read is the fault of all that the source had
 abbrev pub HeadFaultsStay : Type 0
 HeadFaultsStay = (old new : Option (List ℕ)) (fault : HeadFault) → ReportsFault old new fault
     → IfSome old (λ all. IsHeadFault all fault)

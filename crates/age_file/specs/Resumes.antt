@@ -103,7 +103,7 @@ pub record IsFrom (p : Position) (old new : SourceView) (r : Run) : Type 0 where
   pub old_read : Consumes old.remaining new.remaining (r.copied ++ more)
   pub few : length more ≤ pull_room
 
--- the same fields
+-- two positions have the same fields
 pub record IsSame (p next : Position) : Type 0 where
   pub index : next.index ≡ p.index
   pub file_id_is : next.file_id ≡ p.file_id
@@ -120,7 +120,8 @@ pub record IsSame (p next : Position) : Type 0 where
 -- | in the skipped blocks | 20, 26, 29                  | the old text       | where it began     |
 -- | in the payload        | 17 to 22, 26, 27, 29        | that and more text | where it stopped   |
 
--- the file and the old text, together, gave so much that they are taken for ones that never end
+-- the file and the old text together gave bytes by 2^63 pulls, and so are taken for sources that
+-- never end
 abbrev pub NeverEndTogether : ResumePorts → ResumePorts → Type 0
 NeverEndTogether old new = (bytes : List ℕ) × (texts : List ℕ)
     × Consumes old.main.source.remaining new.main.source.remaining bytes
@@ -254,7 +255,7 @@ pub record ResumesText (keep : PositionPolicy) (Allows : Header → List ℕ →
   pub settled : OnOk result (new.main.sink.settled ≡ true)
   pub named : new.main.sink.label ≡ old.main.sink.label
 
--- what it promises that says where it stood at its end as well
+-- what a resumed decryption promises that also says where it stood at its end
 pub record ResumesKeyed (keep : PositionPolicy) (Allows : Header → List ℕ → Type 0)
     (Refused : Header → KeyFault → Type 0) (p : Position) (old new : ResumePorts)
     (result : Result Done Stopped) (standing : Standing) : Type 0 where

@@ -79,7 +79,7 @@ pub record ReportsFault (old new : Option (List ℕ)) (fault : HeadFault) : Type
 abbrev pub IsByAllPulls : ℕ → Type 0
 IsByAllPulls count = (2 ^ 63 ≤ count) × (count ≤ pull_room * 2 ^ 63)
 
--- a source gave so much that it is taken for one that never ends
+-- a source gave bytes by 2^63 pulls, and so is taken for one that never ends
 abbrev pub NeverEnds : Option (List ℕ) → Option (List ℕ) → Type 0
 NeverEnds old new = (bytes : List ℕ) × Consumes old new bytes × IsByAllPulls (length bytes)
 

@@ -137,9 +137,10 @@ fn fault_again(fault: FileFault) -> FileFault
     }
 }
 
-/// The position of a stop that dropped it, after this many bytes of the text: the file is read
-/// again from its start, and its text is checked and linked once more up to them, but written
-/// nowhere. No more of it is read than the chunk after them takes.
+/// Finds the position at which a decryption stopped, if positions were dropped: after this many
+/// bytes of the text. The file is read again from its start, and its text is checked and linked
+/// once more up to there, but written nowhere. No more of the file is read than the chunk after
+/// that takes.
 ///
 /// It refuses with `Memory` (28), and with `Read` (26) if the second reading ends elsewhere.
 #[tactic(auto, using(crate::proofs::AgainLemmas::ended_again, crate::proofs::AgainLemmas::stopped_elsewhere))]
@@ -203,9 +204,10 @@ fn decrypt_rest<U: Unlock, S: Source, O: Sink>(
     open_payload(&unlocked, position.index, &mut reader, &mut writer)
 }
 
-/// The position of a resumed decryption that dropped it and stopped in its payload, after so many
-/// bytes of the text, those of its old text among them. The file is read again from its start, and
-/// checked and linked from the position on that the run began from; its old text isn't read again.
+/// Finds the position at which a resumed decryption stopped in its payload, if positions were
+/// dropped: after this many bytes of the text, the old text included. The file is read again from
+/// its start, and is checked and linked from the chunk on at which the run began. The old text
+/// isn't read again.
 ///
 /// It refuses as [`position_after`] does.
 pub fn resumed_position_after<U: Unlock, S: Source>(

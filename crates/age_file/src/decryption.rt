@@ -121,6 +121,7 @@ pub(crate) fn open_payload<S: Source, O: Sink>(
 }
 
 /// Decrypts a file, and hands out the position of a stop: [`decrypt_with`], with positions kept.
+/// docs/LIBRARY.md has an example, `text_of`.
 pub fn decrypt<U: Unlock, S: Source, O: Sink>(
     alloc: Global,
     unlock: &U,
@@ -159,8 +160,8 @@ pub fn decrypt_with<U: Unlock, S: Source, O: Sink>(
     decrypt_keyed(alloc, positions, unlock, reader, writer).0
 }
 
-/// Decrypts as [`decrypt_with`] does, and returns the key that opened the file too, if its payload
-/// was reached: with it the file is read again.
+/// Decrypts as [`decrypt_with`] does, and also returns the key that opened the file, if the payload
+/// was reached. By this key [`position_after`](crate::position_after) can read the file again.
 pub fn decrypt_keyed<U: Unlock, S: Source, O: Sink>(
     alloc: Global,
     positions: PositionPolicy,

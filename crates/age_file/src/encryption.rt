@@ -66,6 +66,8 @@ fn write_front<O: Sink>(
 /// `Write` (27) and `ReadNeverEnds` (29), and with `TooManyChunks` (22) if the source gave more
 /// than 2^64 bytes. What was written by then is a prefix of the age file of what was read. After 26
 /// and 29 its last block is missing, so it is never a whole file of a shorter text.
+///
+/// `age_tests/src/tests/engines/full_sink.rt` encrypts and resumes over memory.
 pub fn encrypt<S: Source, O: Sink>(
     alloc: Global,
     secret: &Secret<'_>,

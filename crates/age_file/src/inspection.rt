@@ -79,9 +79,10 @@ fn plain_of(rest: u128) -> Option<u128>
     text_len_of(rest.checked_sub(PAYLOAD_NONCE_LEN as u128)?)
 }
 
-/// Reads a source to its end, and reports what it holds: the header's length, its stanzas, how many
-/// bytes follow it, and the length of the plaintext that this many bytes hold
-/// (<https://c2sp.org/age#header>, <https://c2sp.org/age#payload>).
+/// Reads a source to its end, and reports what it holds: the header's length in bytes, its stanzas,
+/// how many bytes follow it, and the length in bytes of the plaintext that a payload of that length
+/// holds (<https://c2sp.org/age#header>, <https://c2sp.org/age#payload>). It opens nothing, so it
+/// checks neither the header's MAC nor any chunk.
 ///
 /// Refuses with the header's fault (1 to 8), `Read` (26), `Memory` (28) and `ReadNeverEnds` (29).
 /// If the bytes that it read have a fault of the header, it refuses with that, not with 26 or 29.

@@ -63,8 +63,8 @@ pub fn round_trip()
 /// Reading again: if a decryption dropped its position and stopped in its payload, and is read
 /// again over the same bytes, by the key that it found, a position that
 /// [`position_after`](crate::position_after) finds after as many bytes as it wrote is the one with
-/// which it would have stopped, had it kept positions. The same holds of a resumed one, by
-/// [`resumed_position_after`](crate::resumed_position_after).
+/// which it would have stopped, had it kept positions. So is one that
+/// [`resumed_position_after`](crate::resumed_position_after) finds for a resumed decryption.
 pub fn read_again<U: Unlock>()
     ensures decrypted { ReadAgain U U.allows U.refuses }
     ensures resumed { RestReadAgain U U.allows U.refuses }
@@ -73,13 +73,14 @@ pub fn read_again<U: Unlock>()
 }
 
 /// A run of [`decrypt`](crate::decrypt) or [`resume`](crate::resume), while no block opens except
-/// as the writer of a text sealed it: what it wrote begins the text, it is all of the text where
-/// the call is done, and each position carries the chain over the text's first chunks.
+/// as the writer of a text sealed it: what it wrote begins the text, it is all of the text if the
+/// call is done, and each position carries the chain over the text's first chunks.
 pub fn authentic_runs<U: Unlock>()
     ensures { AuthenticRuns U U.allows }
 {}
 
-/// A header's fault that an engine reports is that of the whole input.
+/// The fault of a header that an engine reports is the fault of the whole input, even if the engine
+/// read only a part of it.
 pub fn head_faults_stay()
     ensures { HeadFaultsStay }
 {}
@@ -97,10 +98,10 @@ pub fn undamaged_is_written<U: Unlock>()
     one_header();
 }
 
-/// A second reading comes as far as the first, whose bytes are the same and whose key is known,
-/// unless memory is refused, the source fails, or it never ends. So of a stop in the payload
-/// [`position_after`](crate::position_after) finds the position, and so does
-/// [`resumed_position_after`](crate::resumed_position_after).
+/// A second reading of the same bytes, by the key that the first one found, comes as far as the
+/// first, unless memory is refused, the source fails, or it never ends. So
+/// [`position_after`](crate::position_after) finds the position of a stop in the payload, and so
+/// does [`resumed_position_after`](crate::resumed_position_after).
 pub fn reaches_again<U: Unlock>()
     ensures decrypted { IsReached U U.allows U.refuses }
     ensures resumed { IsRestReached U U.allows U.refuses }

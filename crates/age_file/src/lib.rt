@@ -8,6 +8,8 @@
 //! file whose header an unlocker opens; if it stops, it hands out the position at which to
 //! continue. `resume` continues there: it copies the earlier output up to the position, and opens
 //! the blocks after it, so that what it writes is the whole text.
+//!
+//! docs/LIBRARY.md says which call to use for what, and has examples.
 #![tactic(auto)]
 
 mod again;

@@ -16,7 +16,8 @@ use sha2::{Digest, Sha256};
 pub(crate) const VERSION: &[u8; 16] = b"age-position/v2 ";
 
 /// A place in a payload at which a reader continues after a stop, bound to the file and to the text
-/// before it. It is no part of the age format.
+/// before it. [`text`](Position::text) writes it down, and [`read`](Position::read) reads it. It is
+/// no part of the age format; docs/FORMAT.md says what it holds.
 #[derive(Clone, Copy, Debug, PartialEq, Eq)]
 pub struct Position {
     /// The chunk at which reading continues, counted from 0; below 2^48.

@@ -173,7 +173,8 @@ pub fn resume_with<U: Unlock, S: Source, L: Source, O: Sink>(
     .0
 }
 
-/// The same, with where it stood at its end.
+/// Resumes as [`resume_with`] does, and also returns where it stood at its end. By this
+/// [`resumed_position_after`](crate::resumed_position_after) can find a position that was dropped.
 pub fn resume_keyed<U: Unlock, S: Source, L: Source, O: Sink>(
     alloc: Global,
     positions: PositionPolicy,

@@ -75,7 +75,7 @@ fn take_nonce<S: Source>(reader: &mut Reader<'_, S>) -> Result<[u8; PAYLOAD_NONC
     Ok(nonce)
 }
 
-/// Reads the payload nonce after a header that was opened, and whose text the digest was fed.
+/// Reads the payload nonce after a header that was opened. The digest was fed the header's text.
 fn read_nonce<S: Source>(
     key: FileKey,
     digest: Sha256,

@@ -1,4 +1,5 @@
--- What binds a position to its file and to the text before it. Not of the age format.
+-- How the chain over a text goes on, if positions are kept. Private: no public contract cites this
+-- module.
 use Rattle.std.specs.Prelude.{ℕ, List, Option, Some, None}
 use Rattle.age_file.specs.Bindings.{link, chain}
 use Rattle.age_file.specs.declared.position.PositionPolicy.{PositionPolicy}

@@ -45,7 +45,7 @@ SomeAnswers old new (Ok false) = (new.unread.bytes ≡ []) × IsAtEnd new.source
     × (new.source.failed ≡ old.source.failed)
 SomeAnswers old new (Err fault) = (new.unread.bytes ≡ []) × PullFails old new fault
 
--- so few bytes of a nonce were used, and no byte is left
+-- fewer bytes than a nonce has were used, and no byte is left
 abbrev pub UsesShort : ReaderView → ReaderView → Type 0
 UsesShort old new = (short : List ℕ) × (length short < 16) × Uses old new short
     × (new.unread.bytes ≡ [])

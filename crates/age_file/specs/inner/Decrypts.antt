@@ -63,7 +63,7 @@ pub record OpensPayload (unlocked : Unlocked) (start : ℕ) (old new : Stage)
 
 -- ---- What a second reading did from a position on.
 
--- a sink of which no bytes are seen
+-- a sink that shows no bytes
 abbrev pub unseen : SinkView → SinkView
 unseen s = record {
   taken = None;

@@ -1,4 +1,5 @@
--- The text of a position. Not of the age format.
+-- How the parts of a position's text are spelled. Not of the age format. Private: no public
+-- contract cites this module.
 use Rattle.std.specs.Prelude.{ℕ, List, ◌++◌, codes}
 use Rattle.std.specs.Fmt.{decimal}
 use Rattle.age_stanza.specs.Text.{base64_text}

@@ -1,4 +1,4 @@
--- What was pulled of a source and not used yet. Only private functions cite this.
+-- What was pulled from a source and not used yet. Private: no public contract cites this module.
 use Rattle.std.specs.Prelude.{ℕ, List}
 
 -- the bytes that were pulled and not used yet, and how many pulls gave some

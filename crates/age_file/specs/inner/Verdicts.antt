@@ -1,4 +1,5 @@
--- Whether a position is a file's, and was made under its key.
+-- Whether a position is a file's, and was made under its key. Private: no public contract cites
+-- this module.
 use Rattle.std.specs.Prelude.{◌≡◌, ◌≢◌, ℕ, List, Result, MatchResult}
 use Rattle.age_fault.specs.declared.fault.FileFault.{FileFault}
 use Rattle.age_fault.specs.declared.fault.FileFault.TheVariants.{OtherFile, PositionForged}
