@@ -32,15 +32,15 @@ impl From<FileFault> for OpenFault {
 
 /// Files by their names.
 ///
-/// A name is opaque: only the set interprets it. Beyond what contracts say, an implementation whose
-/// `shows_bytes` is false has to keep this:
+/// A name is opaque: only the set interprets it. An implementation whose `shows_bytes` is false has
+/// to keep more than its contracts say:
 /// - `create` changes nothing of a file that is there. Its bytes are replaced with the first put
-///   that takes some, or by `close`; from then on they may be seen by others.
+///   that takes some, or by `close`; from then on others may see them;
 /// - a sink that is dropped without `close` or `discard` may leave the file with some of the bytes
 ///   that it took, with none, or as it was;
-/// - a stream, which gives each of its bytes once, isn't opened twice to be read, whatever its
-///   names: `check_streams` refuses them before the first is opened, or else `open` the second, before
-///   it opens what could wait for ever;
+/// - a stream gives each of its bytes once, so it isn't opened twice to be read, whatever its names.
+///   `check_streams` refuses two names of one stream before the first is opened; or else `open`
+///   refuses the second, before it opens what could wait forever;
 /// - two names that are one file are refused as such, by `is_same` before the second is opened, or
 ///   else by `prepare` and `create`; and `replace` writes over none that was opened or created.
 pub trait FileSet {
@@ -65,18 +65,20 @@ pub trait FileSet {
         one == other
     }
 
-    /// Refuses names of which two stand for one stream, which gives each of its bytes once: a pipe,
-    /// a socket or a terminal, or standard input, whatever it is. No entry that a set shows is one.
-    /// It opens nothing, and refuses with `Memory` (28) too.
+    /// Refuses with [`SameFile`](OpenFault::SameFile) if two of the names stand for one stream. A
+    /// stream gives each of its bytes once: a pipe, a socket or a terminal, or standard input,
+    /// whatever it is. In a set that shows its entries none is a stream. The call opens nothing. It
+    /// refuses with `Memory` (28) too.
     fn check_streams(&self, _alloc: Global, _names: &[Option<&str>]) -> Result<(), OpenFault>
         ensures { IfErr result (OpenFails shows_bytes FileFault.Memory) }
     {
         Ok(())
     }
 
-    /// Opens a file to be read. Refuses with `Read` (26) if it can't be, with `Memory` (28), and if
-    /// it is a stream that was opened before, which never comes of a set that shows its entries:
-    /// that refuses with `Read` only if there is none.
+    /// Opens a file to be read. Refuses with `Read` (26) if it can't be opened, with `Memory` (28),
+    /// and with [`SameFile`](OpenFault::SameFile) if it is a stream that was opened before. A set
+    /// that shows its entries never refuses with `SameFile`, and with `Read` only if there is no
+    /// such file.
     fn open(&mut self, alloc: Global, name: &str) -> Result<Self::In, OpenFault>
         ensures kept { (view self.new).entries ≡ (view self.old).entries }
         ensures noted { (view self.new).events ≡ (view self.old).events ++ Opened name.now ∷ [] }
@@ -87,9 +89,9 @@ pub trait FileSet {
             → (view self.old).entries name.now ≡ None) }
         ensures faults { IfErr result (OpenFails shows_bytes FileFault.Read) };
 
-    /// Opens a file to be read. One that isn't there counts as empty. Refuses as `open` does, with
-    /// `Read` (26) if it is there and can't be opened; a set that shows its entries refuses with
-    /// `Memory` (28) alone.
+    /// Opens a file to be read. A file that isn't there counts as empty. Refuses as `open` does,
+    /// but with `Read` (26) only if the file is there and can't be opened. A set that shows its
+    /// entries refuses with `Memory` (28) alone.
     fn open_or_empty(&mut self, alloc: Global, name: &str) -> Result<Self::In, OpenFault>
         ensures kept { (view self.new).entries ≡ (view self.old).entries }
         ensures noted { (view self.new).events ≡ (view self.old).events ++ Opened name.now ∷ [] }
@@ -98,8 +100,8 @@ pub trait FileSet {
         ensures shown { shows_bytes ≡ true → IfErr result (λ f. f ≡ Fault FileFault.Memory) }
         ensures faults { IfErr result (OpenFails shows_bytes FileFault.Read) };
 
-    /// How many bytes a file that was opened still has to give, if the set can say; none of a
-    /// pipe or a terminal.
+    /// How many bytes a file that was opened still has to give; `None` if the set can't say, as it
+    /// can't of a pipe or a terminal.
     fn length(&self, source: &Self::In) -> Option<u64>
         ensures shown { shows_bytes ≡ true
             → result ≡ option_map length (Self.In.view source.now).remaining };
@@ -109,10 +111,10 @@ pub trait FileSet {
         false
     }
 
-    /// Sets a file that was opened under this name back to its start: the file that was opened,
-    /// whatever the name stands for now. It changes nothing of the set. Refuses with `Read` (26) if
-    /// it can't, and with `Memory` (28); a set that shows its entries refuses with `Read` only if
-    /// there is none.
+    /// Sets a file that was opened under this name back to its start. It is the file that was
+    /// opened, whatever the name stands for now. Nothing changes in the set. Refuses with `Read`
+    /// (26) if it can't, and with `Memory` (28). A set that shows its entries refuses with `Read`
+    /// only if there is no such file.
     fn reread(&self, alloc: Global, name: &str, source: &mut Self::In) -> Result<(), FileFault>
         ensures again { OnOk result (shows_bytes ≡ true
             → (Self.In.view source.new).remaining ≡ (view self.now).entries name.now) }
@@ -120,11 +122,11 @@ pub trait FileSet {
             → (view self.now).entries name.now ≡ None) }
         ensures faults { IfErr result (IsMemoryOr FileFault.Read) };
 
-    /// Prepares for a file to be replaced later, once the files to be read are open: checks, as far
-    /// as this changes nothing, that it can be. Refuses with `Write` (27) if it can't, with
-    /// `Memory` (28), and as the same file if it was opened or created before, unless it is the
-    /// file of `spared`. A set that shows its entries refuses with `Memory` alone. A file that is
-    /// created after this is refused if it is the prepared one.
+    /// Prepares for a file to be replaced later, once the files to be read are open: checks that it
+    /// can be, as far as this changes nothing. Refuses with `Write` (27) if it can't, with `Memory`
+    /// (28), and with [`SameFile`](OpenFault::SameFile) if it was opened or created before, unless
+    /// it is the file of `spared`. A set that shows its entries refuses with `Memory` alone. A file
+    /// that is created after this is refused if it is the prepared one.
     fn prepare(&mut self, alloc: Global, name: &str, spared: Option<&str>) -> Result<(), OpenFault>
         ensures kept { (view self.new).entries ≡ (view self.old).entries }
         ensures noted { (view self.new).events ≡ (view self.old).events ++ Prepared name.now ∷ [] }
@@ -132,9 +134,10 @@ pub trait FileSet {
         ensures faults { IfErr result (OpenFails shows_bytes FileFault.Write) };
 
     /// Opens a file to be written, and makes it if there is none. No entry changes until it is
-    /// closed. Refuses with `Write` (27) if it can't be, with `Memory` (28), and if it is one that
-    /// was opened, prepared or created before, which never comes of a set that shows its entries; a
-    /// file that it made is gone again then.
+    /// closed. Refuses with `Write` (27) if it can't be opened, with `Memory` (28), and with
+    /// [`SameFile`](OpenFault::SameFile) if it was opened, prepared or created before; a file that
+    /// the call made is then gone again. A set that shows its entries never refuses with
+    /// `SameFile`.
     fn create(&mut self, alloc: Global, name: &str) -> Result<Self::Out, OpenFault>
         ensures kept { (view self.new).entries ≡ (view self.old).entries }
         ensures made { IfOk result (λ o. shows_bytes ≡ true
@@ -142,15 +145,15 @@ pub trait FileSet {
         ensures noted { (view self.new).events ≡ (view self.old).events ++ Created name.now ∷ [] }
         ensures faults { IfErr result (OpenFails shows_bytes FileFault.Write) };
 
-    /// Whether a file that was created is standard error's, to which lines of progress and faults
-    /// go. None is in a set that shows its entries.
+    /// Whether a file that was created is standard error's, which the lines of progress and of
+    /// faults go to. In a set that shows its entries none is.
     fn is_for_faults(&self, _out: &Self::Out) -> bool
         ensures shown { shows_bytes ≡ true → result ≡ false }
     {
         false
     }
 
-    /// Whether a file that was created is a terminal. None is in a set that shows its entries.
+    /// Whether a file that was created is a terminal. In a set that shows its entries none is.
     fn is_terminal(&self, _out: &Self::Out) -> bool
         ensures shown { shows_bytes ≡ true → result ≡ false }
     {

@@ -1,4 +1,4 @@
--- What was done with a set of files.
+-- How code notes what was done with a set of files. Private: no public contract cites this module.
 use Rattle.std.specs.Prelude.{◌≡◌, ◌⊎◌, ℕ, List, refl}
 use Rattle.std.specs.Coded.{Coded, coded_ℕ, coded_list, coded⊎, code_by}
 use base.Stored.{coded_unit}

@@ -22,7 +22,7 @@ use Rattle.age_fileset.specs.contracts.log.Cell.note as f
 use Rattle.age_fileset.proofs.log.Cell.note.Statement.{statement}
 use Rattle.age_fileset.proofs.log.Cell.note.Code as code
 
--- the action, behind its reference
+-- the action, under its reference
 abbrev borrowed : Slot 3
 borrowed = shr_ref_to (1 ∷ []) tt (plain (λ κs. Action (named_lft 3 2 tt κs)))
 
