@@ -10,7 +10,7 @@ use Rattle.age_cli_args.specs.declared.request.Request.TheVariants.{Encrypt, Dri
 
 -- ---- The orders in which a set of files is used.
 
--- from old to new, events came of which these are the order, as far as it was followed
+-- the events that came are a beginning of this order
 pub record Follows (order old new : List Event) : Type 0 where
   pub done : List Event
   pub rest : List Event
