@@ -28,7 +28,7 @@ blocks_front w chunks more h =
     ap (λ (cs : List (List ℕ)). block_bytes (map (pair (seals (key_of w)) false) (enumerate_from 0 cs)))
     (same_front (seals (key_of w)) chunk_length w.chunk chunks h.whole more)
 
--- so of a stream's text the blocks are those of its whole chunks
+-- the blocks of a stream's text are the blocks of its whole chunks
 blocks_held : (s : WriteStream) (text : List ℕ) → (h : HasTaken s text)
     → blocks_of s.writer text ≡ blocks_of s.writer h.chunks
 blocks_held s text h =

@@ -46,7 +46,8 @@ reader_status state chunk =
 abbrev pub answer_of : ℕ → ℕ
 answer_of state = if nat_le 17 state && nat_le state 22 then state else 0
 
--- ---- What the answer of a call means.
+-- ---- Which number a call answers with, what it says of the call, and what a file's length says of its
+-- text.
 
 -- this many bytes were put at the front of a slice, whose bytes were `before`, and are `after`
 pub record PutsFront (count : ℕ) (before after : List ℕ) : Type 0 where
@@ -94,7 +95,7 @@ pub record Measures (size answer text_len last_chunk : ℕ) : Type 0 where
   pub none : answer ≢ 0 → ((len : ℕ) → ¬ IsTextLength size len)
       × (answer ≡ stream_fault_number (ends_as size)) × (text_len ≡ 0) × (last_chunk ≡ 0)
 
--- ---- Where the header of a file may end.
+-- ---- When it is worth a try to open the header of a file that came in part: where the header may end.
 
 -- after the LF at this place the bytes have a line that begins as the end line of a header does and
 -- is as long, and 16 bytes after it
@@ -113,7 +114,7 @@ marks_in len =
     else if nat_le 1 len then 1
     else 0
 
--- the bytes are worth a try, after so many of them weren't enough: one more of these lengths is
+-- the bytes are worth a try, after this many of them weren't enough: one more of these lengths is
 -- reached, or a header may have ended since
 abbrev pub IsWorthATry : List ℕ → ℕ → Type 0
 IsWorthATry front seen = (marks_in seen < marks_in (length front))

@@ -343,7 +343,7 @@ AreParts r [] = Unit {0}
 AreParts r (p ∷ parts) = (p.chunk < chunk_limit) × GoesTo p.chunk r p.begun
     × AreCalls p.begun p.calls × AreParts (last_reader p.begun p.calls) parts
 
--- so each seek goes on in the same file, and what the calls after it did is right, whatever came
+-- each seek goes on in the same file, and what the calls after it did is right, whatever came
 -- before
 abbrev pub PartsAreWritten : Type 0
 PartsAreWritten = (r : Reader) (parts : List Part) → AreParts r parts

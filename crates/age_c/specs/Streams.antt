@@ -19,6 +19,8 @@ use Rattle.age_c.specs.Writers.{FeedsText, FinishesText, IsTextCall, RefusesText
 
 -- ---- A stream that reads: what its numbers and bytes stand for, and what one call does to it.
 
+-- ---- What a stream's numbers and bytes stand for.
+
 -- the bytes of the block that is open
 abbrev pub held_block : Stream → List ℕ
 held_block s = take s.held s.block
@@ -31,6 +33,8 @@ pub record StreamIsAt (s : Stream) (segment : Segment) : Type 0 where
   pub at : IsAt s.reader blocks
   pub is_open : 0 < s.held → (reader_outcome s.reader blocks).status ≡ Open
   pub given : segment ≡ with_piece blocks (held_block s)
+
+-- ---- What one call does to a stream.
 
 -- a stream of any segment is then one of the next, and the call wrote what that released more; the
 -- answer is its fault, or 0, and with a fault nothing was written

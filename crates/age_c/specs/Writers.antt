@@ -202,6 +202,8 @@ FilesAreWhole = (pass : List ℕ) (work : ℕ) (random front : List ℕ) (w : Wr
 
 -- ---- A stream that writes: what its numbers and bytes stand for, and what one call does to it.
 
+-- ---- What a stream's numbers and bytes stand for.
+
 -- the bytes of the chunk that is open
 abbrev pub held_chunk : WriteStream → List ℕ
 held_chunk s = take s.held s.chunk
@@ -213,6 +215,8 @@ pub record HasTaken (s : WriteStream) (text : List ℕ) : Type 0 where
   pub sealed : HasSealed s.writer chunks
   pub given : text ≡ chunks ++ held_chunk s
   pub some : s.held ≡ 0 → s.writer.chunk ≡ 0
+
+-- ---- What one call does to a stream.
 
 -- a stream of any text was given this much more, and the call wrote the blocks of the chunks that
 -- this made whole and no longer the last

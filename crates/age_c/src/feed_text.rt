@@ -14,7 +14,7 @@ use crate::sealing::{seal_last, seal_next};
 use crate::write_stream::WriteStream;
 use age_chunk::{BLOCK_LEN, CHUNK_LEN, CHUNK_LIMIT};
 
-/// Whether a stream can be used, with so much room for a block.
+/// Whether a stream can be used, with this much room for a block.
 fn can_take(stream: &WriteStream, room: usize) -> bool
     ensures { IsTrue result ↔ (CanSeal stream.now.writer × (stream.now.held ≤ chunk_length)
         × (stream.now.held ≡ 0 → stream.now.writer.chunk ≡ 0) × (block_length ≤ room)) }

@@ -16,9 +16,10 @@ pub fn calls_are_written()
     ensures { CallsAreWritten }
 {}
 
-/// So it is after each seek, for any calls of [`age_c_block`](crate::age_c_block),
-/// [`age_c_end`](crate::age_c_end) and [`age_c_seek`](crate::age_c_seek) on one reader: each text
-/// that was written stands in the writer's text at its place.
+/// The headline for a caller who seeks: what [`calls_are_written`] says holds after each seek, for
+/// any calls of [`age_c_block`](crate::age_c_block), [`age_c_end`](crate::age_c_end) and
+/// [`age_c_seek`](crate::age_c_seek) on one reader. Each text that was written stands in the
+/// writer's text at its place.
 pub fn parts_are_written()
     ensures { PartsAreWritten }
 {}
@@ -64,7 +65,8 @@ pub fn texts_are_files()
     ensures { TextsAreFiles }
 {}
 
-/// What was so written, given to a stream that reads in any other pieces, gives the text back.
+/// A file that was written in pieces, given to a stream that reads in any other pieces, gives its
+/// text back.
 pub fn pieces_read_back()
     ensures { PiecesReadBack }
 {}
@@ -75,8 +77,9 @@ pub fn answers_are_feed_calls()
     ensures { AnswersAreFeedCalls }
 {}
 
-/// The same of [`age_c_feed_text`](crate::age_c_feed_text) and
-/// [`age_c_finish_text`](crate::age_c_finish_text), and of [`texts_are_files`].
+/// What [`age_c_feed_text`](crate::age_c_feed_text) and
+/// [`age_c_finish_text`](crate::age_c_finish_text) promise makes each use of them one of the calls
+/// that [`texts_are_files`] and [`pieces_read_back`] speak of.
 pub fn answers_are_text_calls()
     ensures { AnswersAreTextCalls }
 {}

@@ -22,7 +22,7 @@ fn last_chunk_of(text_len: u64) -> u64
     text_len.saturating_sub(1) / CHUNK
 }
 
-/// How a payload of this many bytes ends that is no text's.
+/// How a payload of this many bytes ends, if no text has one of that length.
 fn ends_as(size: u64) -> StreamKind
     ensures { result ≡ ends_as size }
 {
@@ -36,9 +36,9 @@ fn ends_as(size: u64) -> StreamKind
     StreamKind::ChunkCut
 }
 
-/// The length of the text of a file that has this many bytes, and the number of its last chunk, if
-/// the file is whole; nothing is opened. The payload begins where the reader says. The answer is 0,
-/// or the number of the fault with which a file of this length ends, 18 to 20.
+/// The length in bytes of the text of a file that has this many bytes, and the number of its last
+/// chunk, if the file is whole. Nothing is opened. The payload begins where the reader says. The
+/// answer is 0, or the number of the fault with which a file of this length ends, 18 to 20.
 #[unsafe(no_mangle)]
 pub extern "C" fn age_c_size(
     reader: &Reader,

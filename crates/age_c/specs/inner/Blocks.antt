@@ -1,4 +1,5 @@
--- What the parts of a call do to an opener and to a reader. Only private functions cite this.
+-- What the parts of a call do to an opener and to a reader. Private: no public contract cites this
+-- module.
 use Rattle.std.specs.Prelude.{◌≡◌, ◌≢◌, ℕ, List, [], ◌++◌, Some, true, false}
 use Rattle.age_chunk.specs.Payload.{chunk_length}
 use Rattle.age_stream.specs.Opener.{OpenerView, Stands, has_failed}

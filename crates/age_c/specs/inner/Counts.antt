@@ -1,4 +1,5 @@
--- How much work the start of a file takes, by a count of scrypt's steps.
+-- How much work the start of a file takes, by a count of scrypt's steps. Private: no public
+-- contract cites this module.
 use Rattle.std.specs.Prelude.{◌≡◌, ℕ, ◌+◌, ◌≤◌, Bool, true, Result, IfErr}
 use Rattle.std.specs.Bool.{OnTrue}
 use Rattle.age_keys.specs.Keys.{is_before_work as is_before_work_on_keys}

@@ -1,4 +1,4 @@
--- How bytes are held. Only private functions cite this.
+-- How a stream holds the bytes of a piece. Private: no public contract cites this module.
 use Rattle.std.specs.Prelude.{◌≡◌, ℕ, ◌+◌, ◌-◌, List, ◌++◌, length, min, take}
 use Rattle.age_chunk.specs.Payload.{block_length, chunk_length}
 use Rattle.age_c.specs.Streams.{held_block}
@@ -14,7 +14,7 @@ pub record HoldsPiece (piece : List ℕ) (count : ℕ) (old new : Stream) : Type
   pub reader : new.reader ≡ old.reader
   pub held : new.held ≡ old.held
 
--- the same of a text, and then they are held
+-- this many bytes of a text came after those that are held, and are held too
 pub record HoldsText (piece : List ℕ) (count : ℕ) (old new : WriteStream) : Type 0 where
   pub count_is : count ≡ min (length piece) (chunk_length - old.held)
   pub bytes : held_chunk new ≡ held_chunk old ++ take count piece
