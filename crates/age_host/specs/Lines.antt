@@ -1,9 +1,11 @@
--- The lines that show how far a run is.
+-- Which line shows how far a run is, and when a line is due.
 use Rattle.std.specs.Prelude.{◌≡◌, ◌⊎◌, ℕ, ◌+◌, ◌-◌, ◌*◌, ◌/◌, ◌%◌, ◌^◌, min, Bool, List, ◌++◌}
 use Rattle.std.specs.Prelude.{length, take, codes, decimal, nat_eq, nat_lt, nat_le, Option, None}
 use Rattle.std.specs.Prelude.{Some, if◌then◌else◌}
 use Rattle.std.specs.Io.KnownBytes.{Appends}
 use Rattle.age_io.specs.Io.{one_more, SinkView}
+
+-- ---- The text of a line.
 
 -- how much of a length was read, in hundredths, and 100 if more was read than that
 abbrev pub percentage : ℕ → ℕ → ℕ
@@ -47,6 +49,8 @@ progress_line (Some length) count = if nat_lt length count
     ++ (codes " of " ++ (amount (measure_of length).size length
     ++ (codes " " ++ ((measure_of length).name ++ codes "\r"))))))
 
+-- ---- When a line is due.
+
 -- the percentage, or how often 64 MiB were read if no length is known, or after all percentages if
 -- more than the length was read
 abbrev pub mark : Option ℕ → ℕ → ℕ
@@ -62,6 +66,8 @@ first_mark (Some length) = 0
 -- whether a line is due, if the next is due at that mark
 abbrev pub is_due : Option ℕ → ℕ → ℕ → Bool
 is_due length next count = nat_le next (mark length count)
+
+-- ---- What a sink took of a line.
 
 -- a sink took a text whole; or it failed once, and took a front of the text
 abbrev pub Shows : SinkView → List ℕ → SinkView → Type 0

@@ -49,7 +49,7 @@ impl<'r, 'w> HostFiles<'r, 'w> {
         }
     }
 
-    /// Keeps a stream that is to be opened, before that is tried: it may wait for ever.
+    /// Keeps a stream that is to be opened, before that is tried: it may wait forever.
     fn admit_stream(&mut self, alloc: Global, name: &str) -> Result<(), OpenFault>
         ensures kept { self.new.log ≡ self.old.log }
         ensures faults { IfErr result (OpenFails false Read) }

@@ -1,10 +1,10 @@
 //! The machine's files, the line on a terminal that shows how far a run is, and what people read
 //! after a fault: what the program alone uses.
 //!
-//! `HostFiles` is a set of files of which contracts see what was opened, created, replaced and
-//! ended, and none of the bytes. A `ProgressLine` is a meter that shows how many bytes were read on
-//! one line, which it writes over and over into a sink. `Failures` keeps what the machine answered
-//! when something failed, and `explain` says it after the fault that it became.
+//! `HostFiles` is a set of files. Contracts see which files were opened, created, replaced and
+//! ended, and none of their bytes. A `ProgressLine` is a meter that shows how many bytes were read
+//! on one line, which it writes over and over into a sink. `Failures` keeps what the machine
+//! answered when something failed, and `explain` says it after the fault that it became.
 #![tactic(auto)]
 
 mod escaped;

@@ -214,7 +214,7 @@ impl StreamId {
         }
     }
 
-    /// Whether two are one stream, as far as can be told.
+    /// Whether two are one stream, as far as the system shows.
     pub(crate) fn is_same(self, other: StreamId) -> bool {
         match (self, other) {
             (StreamId::Device(CONTROLLING_TERMINAL), StreamId::Device(_)) => true,

@@ -124,7 +124,7 @@ impl Prepared {
     }
 
     /// The pipe or the device to which the name led, if it was one, with that name: no path may
-    /// lead to it, as when the name is that of a descriptor.
+    /// lead to it, as when the name is a descriptor's.
     pub(crate) fn device(&self) -> Option<(&str, Node)> {
         match self.found {
             Found::Device(node) => Some((self.name.as_str(), node)),

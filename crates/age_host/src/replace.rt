@@ -213,7 +213,7 @@ fn replace_found(
 }
 
 /// Puts a file of these bytes where a path led, without following a link that has come there. What
-/// is no file is refused: a pipe that has come there could be waited for for ever.
+/// is no file is refused, since a pipe that has come there might have to be waited for forever.
 fn replace_at(
     alloc: Global,
     rt: &HostRuntime,

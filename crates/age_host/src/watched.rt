@@ -1,4 +1,4 @@
-//! Files and streams of which each failure is kept.
+//! Files and streams whose failures are kept.
 
 ghost use Rattle.std.specs.Prelude.{[], None, true};
 
@@ -109,7 +109,7 @@ impl<'r, 'w> WatchedOut<'r, 'w> {
         self.sink.id()
     }
 
-    /// Keeps its name, and that of the file that was prepared and is the same, if it is one.
+    /// Keeps its name, and the name of the file that was prepared, if this is the same file.
     pub(crate) fn note_same(&self, other: Option<&Prepared>) {
         match other {
             Some(other) => self.failures.note_twice(other.name(), self.name),
