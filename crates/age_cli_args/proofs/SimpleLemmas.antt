@@ -1,4 +1,4 @@
--- The program is one of which the parser of command lines says what each word gives.
+-- The program is simple: the parser of command lines says what each word gives.
 use Rattle.std.proofs.Common.{◌≡◌, true, refl, List, [], None, ap, ◌∙◌}
 use Rattle.clap.specs.Words.{is_simple, is_simple_and_free, Row, Text}
 use Rattle.age_cli_args.specs.Requests.{named, Asks}

@@ -1,9 +1,11 @@
--- The commands of the program, as its parser of command lines sees them.
+-- Which arguments each command of the program takes, as its parser of command lines sees them.
 use Rattle.std.specs.Prelude.{pos, true, Some, codes}
 use Rattle.clap.specs.Words.{App, Rule, Text, new_app, new_rule, with_rule, with_subcommand}
 use Rattle.clap.specs.Simple.{on_top}
 use Rattle.clap.specs.declared.builder.ArgAction.TheVariants.{SetTrue}
 use Rattle.clap.specs.declared.builder.value_parser.ValueParser.TheVariants as vp
+
+-- ---- One argument.
 
 -- `--ID VALUE`
 abbrev pub option_rule : Text → Rule
@@ -19,6 +21,8 @@ number_rule id = record (option_rule id) { parser = Some (vp.Signed (pos 1) (pos
 -- `--ID`
 abbrev pub flag_rule : Text → Rule
 flag_rule id = record (new_rule id) { long = Some id; action = Some SetTrue }
+
+-- ---- Arguments that several commands take, or that belong together.
 
 -- `[--no-sync] [--progress]`
 abbrev pub with_writing : App → App
@@ -41,6 +45,8 @@ with_both_files a =
 abbrev pub with_sealing : App → App
 with_sealing a = with_writing
     (with_rule (with_rule a (number_rule (codes "log"))) (option_rule (codes "random")))
+
+-- ---- The commands, and the program.
 
 -- `encrypt --pass FILE`, how the file is sealed, `IN OUT`
 unfoldable pub encrypting : App

@@ -1,4 +1,5 @@
--- The commands of the program, as its parser of command lines sees them.
+-- How the parser of command lines is built from a table of commands. Private: no public contract
+-- cites this module.
 use Rattle.std.specs.Prelude.{◌≡◌, Bool, true, false, codes, List, [], ◌∷◌}
 use Rattle.clap.specs.Words.{App, Rule, Text, app_of, new_app, new_rule, with_rule, with_subcommand}
 use Rattle.clap.specs.Simple.{on_top}
