@@ -1,6 +1,6 @@
 //! Uses: age_kdf sha2
 //!
-//! HMAC over 1 MiB, beside SHA-256 alone over the same bytes.
+//! HMAC over 1 MiB, compared with SHA-256 alone over these bytes.
 #![tactic(auto)]
 
 use sha2::{Digest, Sha256};

@@ -15,7 +15,7 @@ class Cost(typing.NamedTuple):
 
 
 def least(call, turns):
-    """The least nanoseconds of so many turns of a call."""
+    """The fewest nanoseconds that a call takes in this many turns."""
     best = None
     for _ in range(turns):
         start = time.perf_counter_ns()

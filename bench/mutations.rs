@@ -52,7 +52,7 @@ impl Numbers {
 /// What a parser makes of all bytes, and of an end after them.
 #[derive(Clone, Copy, PartialEq, Eq)]
 enum Outcome {
-    /// A header of so many bytes.
+    /// A header of this many bytes.
     Taken(usize),
     Refused(HeadFault),
     /// A header that isn't spelled as its bytes were, or a fault that didn't stay.

@@ -121,7 +121,7 @@ extern "C" {
 
 #define AGE_C_CHUNK 65536u /* bytes of text in a whole chunk */
 #define AGE_C_BLOCK 65552u /* bytes of its block */
-/* With so many bytes of a file, an age_c_open_.. never returns AGE_C_MORE: a header has at most
+/* With this many bytes of a file, an age_c_open_.. never returns AGE_C_MORE: a header has at most
  * 1,048,576 bytes, and the nonce 16. */
 #define AGE_C_FRONT_MAX 1048592u
 #define AGE_C_SEAL_FRONT 256u /* room that age_c_seal_passphrase asks for */
@@ -207,15 +207,15 @@ AGE_C_MUST_CHECK
 uint32_t age_c_end(age_c_reader *reader, const uint8_t *rest, size_t rest_len, uint8_t *out,
                    size_t out_len, size_t *written);
 
-/* Goes to a chunk by its number, below 2^48: the next block is that of this chunk. Its text begins
- * at chunk * AGE_C_CHUNK of the whole text, and its block at reader->payload_at + chunk *
+/* Goes to a chunk by its number, below 2^48: the next block is this chunk's. Its text begins at
+ * chunk * AGE_C_CHUNK of the whole text, and its block at reader->payload_at + chunk *
  * AGE_C_BLOCK of the file. What the reader was given before is forgotten, a fault and an end too.
  * It isn't known here how many chunks the file has: past the last, no block opens. */
 AGE_C_MUST_CHECK
 uint32_t age_c_seek(age_c_reader *reader, uint64_t chunk);
 
-/* What the length of the whole file says of its text: on 0 a whole file with so many bytes has a
- * text of *text_len bytes, and *last_chunk is the number of its last chunk. No whole file has
+/* What the length of the whole file, in bytes, says of its text: on 0 a whole file of this length
+ * has a text of *text_len bytes, and *last_chunk is the number of its last chunk. No whole file has
  * another length: that is answered with the fault with which such a file ends (AGE_C_TRUNCATED,
  * AGE_C_EMPTY_LAST or AGE_C_CHUNK_CUT), and both are set to 0. Of the reader only payload_at is
  * looked at. A length proves nothing: the file may be cut or damaged. To prove the length of the

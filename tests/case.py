@@ -12,7 +12,7 @@ SECONDS = 60
 
 
 def needs(*tools, root=False):
-    """Leaves a test out where one of these programs isn't installed, or where it isn't root that runs it."""
+    """Leaves a test out if one of these programs isn't installed, or if it isn't root that runs it."""
     missing = [*(it for it in tools if not shutil.which(it)), *(["root"] if root and os.geteuid() else [])]
     return unittest.skipIf(missing, f"needs {' and '.join(missing)}")
 

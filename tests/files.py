@@ -72,7 +72,7 @@ class FilesCase(Case):
         return self.is_there(name) and self.read(name).startswith(b"age-position/v2 %d " % index)
 
     def mount(self, *words):
-        """Mounts something at the last of these words until the test ends, which is left out where that can't be."""
+        """Mounts something at the last of these words until the test ends. The test is left out if that can't be done."""
         if subprocess.run(["mount", *words], capture_output=True).returncode:
             self.skipTest("nothing can be mounted")
         self.addCleanup(subprocess.run, ["umount", words[-1]], check=True)

@@ -1,5 +1,5 @@
 """Refuses each allocation in turn, alone, to the tests of crates that say what a refusal leaves, by a library that is loaded before the C
-library's (tools/shim.c). Such a test passes where each call that takes memory gives what it gives undisturbed, or reports the refusal,
+library's (tools/shim.c). Such a test passes if each call that takes memory gives what it gives undisturbed, or reports the refusal,
 changes nothing, and gives it the next time. The tests are those that `rt ci` or `rt test` built last.
 
 The engines are tried by test_memory, in the built program."""

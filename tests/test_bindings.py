@@ -23,7 +23,7 @@ SANITIZED = [*FLAGS, "-fsanitize=address,undefined", "-fno-sanitize-recover=all"
 STRICT = ["-std=c11", "-Wall", "-Wextra", "-Werror", INCLUDE]
 VALGRIND = ["valgrind", "-q", "--error-exitcode=99", "--leak-check=full", "--max-stackframe=4000000"]
 SOURCES = TOP / "bindings" / "c"
-# The programs in bindings/c/tests that say by their status whether all is right, with their words: those of a run, and those under valgrind.
+# The programs in bindings/c/tests that say by their status whether all is right, with their words: for a run, and for one under valgrind.
 CHECKS = {
     "refusals": (["file"], ["file"]), "misuse": (["3000"], ["150"]), "work": ([], None), "places": ([], None), "seek": ([], ["5"]),
     "stream": ([], ["1"]),
@@ -53,7 +53,7 @@ def as_reported(fault):
 
 
 def expected_cut(end, at):
-    """What is wrong with a payload that ends after `end` bytes, of two chunks of which the second has a byte."""
+    """What is wrong with a payload that ends after `end` bytes, of two chunks, the second of one byte."""
     chunk, rest = divmod(end, BLOCK)
     if end == at:
         return 0, None
@@ -68,7 +68,7 @@ class ProgramsCase(BindingsCase):
     """What programs in several languages print of files."""
 
     def by_c(self, data, size=65_536, word="pw", program=()):
-        """The status, the fault and the text of a file by the C program, which reads so many bytes at a time."""
+        """The status, the fault and the text of a file by the C program, which reads this many bytes at a time."""
         words = [*(program or [LIBRARY / "decrypt"]), word, str(size)]
         run = subprocess.run(words, cwd=self.room, input=data, capture_output=True)
         return (run.returncode, fault_in(run.stderr)), run.stdout
@@ -186,7 +186,7 @@ class CTest(ProgramsCase):
                     cls.made[kind, name] = to
 
     def made_by(self, kind, name):
-        """A C program; the test is left out where it couldn't be made."""
+        """A C program; the test is left out if it couldn't be made."""
         if (kind, name) not in self.made:
             self.skipTest("needs the sanitizers")
         return self.made[kind, name]
@@ -261,7 +261,7 @@ class CTest(ProgramsCase):
         self.see_reports("C", LIBRARY / "decrypt")
 
     def test_names(self):
-        """The faults of the header and of the bindings are those of docs/FAULTS.md, and a compiler warns of an answer that isn't looked at."""
+        """The header file and the bindings have the faults of docs/FAULTS.md, and a compiler warns of an answer that isn't looked at."""
         listed = {int(it[0]): it[1] for it in re.findall(r"^\| (\d+) \| (\w+) \|", (TOP / "docs" / "FAULTS.md").read_text(), re.M)}
         header = (TOP / "include" / "age_c.h").read_text()
         # (a cut header or nonce, 8 and 16 of age_tool, is AGE_C_MORE here, and 23 and up but 28 are of its files)

@@ -1,4 +1,4 @@
-"""Tries the completions of docs/completions in their shells: bash, and zsh and fish where they are installed."""
+"""Tries the completions of docs/completions in their shells: bash, and zsh and fish if they are installed."""
 import os
 import re
 import subprocess

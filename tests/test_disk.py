@@ -1,5 +1,5 @@
 """Runs the built program where a careless one loses files: on block devices, pipes and streams, on links, in folders that can't be written
-or read, beside other runs, and on a disk that fails, by a library that is loaded before the C library's (tools/shim.c)."""
+or read, next to other runs, and on a disk that fails, by a library that is loaded before the C library's (tools/shim.c)."""
 import errno
 import os
 import pathlib
@@ -83,7 +83,7 @@ class DiskTest(FilesCase):
         self.remove("nowhere")
 
     def device(self, name, held):
-        """A block device over a file until the test ends, which is left out where there is none."""
+        """A block device over a file until the test ends. The test is left out if there is none."""
         self.write(name, held + bytes(-len(held) % 4096))
         made = subprocess.run(["losetup", "--show", "-f", self.path(name)], capture_output=True, text=True).stdout.strip()
         if not made:
@@ -183,7 +183,7 @@ class DiskTest(FilesCase):
         self.see("a file system without locks: OUT", self.read("out") == PLAIN)
 
     def sticky_folder(self, setting):
-        """A folder like /tmp, with this setting of the system on until the test ends, which is left out where it can't be set."""
+        """A folder like /tmp, with this setting of the system on until the test ends. The test is left out if it can't be set."""
         setting = pathlib.Path("/proc/sys/fs", setting)
         if not os.access(setting, os.W_OK):
             self.skipTest(f"{setting} can't be set")
@@ -228,7 +228,7 @@ class DiskTest(FilesCase):
         self.see("a full file system, and a position elsewhere: it", self.is_position("saved", 1) or self.is_position("saved", 0))
 
     def mount_ext4(self, name, mib, *words, options="loop"):
-        """Mounts a new ext4 of so many MiB, and returns its folder."""
+        """Mounts a new ext4 of this many MiB, and returns its folder."""
         self.write("image", b"")
         os.truncate(self.path("image"), mib << 20)
         self.path(name).mkdir()
@@ -444,7 +444,7 @@ class DiskTest(FilesCase):
 
     @needs("ldd", "chroot", root=True)
     def test_without_proc(self):
-        """Where the system doesn't show where the standard streams lead, they are refused: what is read could be written over."""
+        """If the system doesn't show where the standard streams lead, they are refused: what is read could be written over."""
         root = self.path("root")
         (root / "dev").mkdir(parents=True)
         for name, leads_to in (("fd", "/proc/self/fd"), ("stdin", "fd/0"), ("stdout", "fd/1"), ("stderr", "fd/2")):

@@ -24,7 +24,7 @@ class Left(typing.NamedTuple):
     saved: bytes
 
     def kind(self, wanted):
-        """What this is, where an undisturbed run leaves `wanted`: None for what it may not be."""
+        """What this is, if an undisturbed run leaves `wanted`: None for what it may not be."""
         if self == wanted:
             return "the right answer"
         if self == Left(1, self.output, MEMORY, b"", b"") and wanted.output.startswith(self.output):

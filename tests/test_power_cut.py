@@ -164,7 +164,7 @@ class Folder:
         return self.stage(len(self.since))
 
     def stage(self, count):
-        """The names after so many of the changes."""
+        """The names after this many of the changes."""
         names = dict(self.names)
         for change in self.since[:count]:
             names |= change
@@ -326,7 +326,7 @@ def cases():
 
 
 def saving_cases(name, save, before, stopped):
-    """The runs with --save, where these files are there before."""
+    """The runs with --save, if these files are there before."""
     decrypt = f"decrypt --save {save}"
     yield Case(f"decrypt {name}", f"{decrypt} --pass ../pass ../age out", before)
     yield Case(f"decrypt {name}, wrong passphrase", f"{decrypt} --pass ../wrong ../age out", before, 1)
@@ -380,7 +380,7 @@ class Room:
         return ended, list(calls(self.path("record")))
 
     def text(self, words, **files):
-        """The text that a command gives where these files are: None where it reports a fault with a number."""
+        """The text that a command gives where these files are: None if it reports a fault with a number."""
         files = {name: part for name, part in files.items() if part}
         key = (words, *(part.digest for part in files.values()), *files)
         if key not in self.texts:

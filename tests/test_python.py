@@ -20,7 +20,7 @@ from tools.workspace import LIBRARY, TOP
 
 AGE = TOP / "bindings" / "tests" / "age"
 
-# a file for an X25519 recipient, its shared secret and recipient, and its text: those of tests/runs.d/shared.run
+# a file for an X25519 recipient, its shared secret and recipient, and its text, as in tests/runs.d/shared.run
 SHARED_HEADER = b"age-encryption.org/v1\n-> X25519 AQIDBAUGBwgJCgsMDQ4PEBESExQVFhcYGRobHB0eHyA\n" \
     b"jZAdkj7SfLxba9aaDaLOH15VqHxjezbflkA4yhWbOAQ\n--- bFHWTtINPd+NDhBKPJJS9Mjszxl4rvMbhTUfrtdiPco\n"
 SHARED_EMPTY = SHARED_HEADER + b"defghijklmnopqrs" + bytes.fromhex("c1ab8f53158f15b5b4a67f29cf8009b3")
@@ -52,7 +52,7 @@ class Counted(io.BytesIO):
 
 
 class Pieces(io.RawIOBase):
-    """A file that gives so many bytes a read."""
+    """A file that gives at most this many bytes to each read."""
 
     def __init__(self, data, size):
         self.held, self.size = io.BytesIO(data), size
@@ -66,7 +66,7 @@ class Pieces(io.RawIOBase):
 
 @contextlib.contextmanager
 def pipe(data, buffering=0):
-    """A pipe that holds so much, and stays open."""
+    """A pipe that holds these bytes, and stays open."""
     source, sink = os.pipe()
     with open(source, "rb", buffering=buffering) as file, open(sink, "wb", buffering=0) as sender:
         sender.write(data)
@@ -137,7 +137,7 @@ class PythonTest(BindingsCase):
         self.assertEqual(run.returncode, 0, run.stdout)
 
     def test_places(self):
-        """The Python module finds the library beside it, and in the folders of a release. AGE_C_LIBRARY goes before."""
+        """The Python module finds the library next to it, and in the folders of a release. AGE_C_LIBRARY goes first."""
         there = {**os.environ, "AGE_C_LIBRARY": ""}
         for folder, library in (
             (".", "libage_c.so"), (".", "agefile/libage_c.so"), ("share/age_tool", "lib/libage_c.so.0"), ("bindings/python", "bindings/out/libage_c.so"),
@@ -250,7 +250,7 @@ class PythonTest(BindingsCase):
             self.see(f"Bech32: {it}", fault_of(agefile._keys.bech32_decoded, it) is None)
         for it in invalid:
             self.see(f"Bech32, invalid: {it!r}", isinstance(fault_of(agefile._keys.bech32_decoded, it), ValueError))
-        # (its bytes are those of BIP 173's list of all letters)
+        # (its bytes are BIP 173's list of all letters)
         held = bytes.fromhex("00443214c74254b635cf84653a56d7c675be77df")
         self.see("the bytes of a Bech32 text", agefile._keys.bech32_decoded(valid[3]) == ("abcdef", held))
 
@@ -347,7 +347,7 @@ class PythonTest(BindingsCase):
         return wrong
 
     def test_zip_members(self):
-        """zipfile reads members of an archive, and little of the file beside them."""
+        """zipfile reads members of an archive, and little else of the file."""
         held = {f"{it}.bin": random.Random(it).randbytes(100_000) for it in range(30)}
         archive = io.BytesIO()
         with zipfile.ZipFile(archive, "w") as out:

@@ -20,20 +20,20 @@ BYTES + BYTES. The lines of a case, whose words are quoted as in a shell:
     remove FILE ..           removes files and folders
     clear                    removes all of them
 
-    limit NUMBER             in the next run no file grows beyond so many bytes
+    limit NUMBER             in the next run no file grows beyond this many bytes
     stdin FILE               the next run's standard input, which is empty otherwise
-    pieces NUMBER BYTES      the same, by a pipe that gives at most so many bytes to each read
+    pieces NUMBER BYTES      the same, by a pipe that gives at most this many bytes to each read
     stdout FILE              the next run's standard output
     stderr FILE              its standard error
 
     $ WORD ..                runs `age_tool WORD ..`
     | TEXT                   a line of its output, with Python's escapes; `| *` alone is any text but none
     ! TEXT                   a line of its standard error; `! *` alone is any text but none
-    ? NUMBER                 its status, where that isn't 0
+    ? NUMBER                 its status, if that isn't 0
 
     holds FILE BYTES         the file, or a slice of it, is these bytes
     begins FILE BYTES        it begins with them
-    size FILE NUMBER         it has so many bytes
+    size FILE NUMBER         it has this many bytes
     leads FILE TARGET        it is still a symbolic link to this
     absent FILE ..           nothing has this name, not even a link
 """
@@ -118,7 +118,7 @@ def unescaped(text):
 
 
 def feed(data, size):
-    """A pipe that gives these bytes, at most so many to each read, and the thread that fills it."""
+    """A pipe that gives these bytes, at most this many to each read, and the thread that fills it."""
     source, sink = os.pipe2(os.O_DIRECT | os.O_CLOEXEC)
 
     def fill():

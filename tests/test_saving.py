@@ -1,5 +1,5 @@
-"""Runs the built program where a position is lost or costs another file: names that change while it runs, folders and file systems that
-refuse a new file, an input that changes before it is read once more."""
+"""Runs the built program in places where a careless one loses a position, or another file for it: names that change while it runs,
+folders and file systems that refuse a new file, an input that changes before it is read once more."""
 import errno
 import fcntl
 import os
@@ -137,7 +137,7 @@ class SavingTest(FilesCase):
                 self.ends("a pipe that may only be written: a run that goes on", first, 1, b"")
 
     def test_direct(self):
-        """Where no file can be made beside that of `--save`, or take its place, it is written itself."""
+        """If no file can be made next to the one of `--save`, or take its place, that one is written itself."""
         long = "s" * 250
         for again in (1, 2):
             self.expect(1, chunk_fault(2), f"decrypt --pass pass --save {long} cut out", f"a long name, {again}")

@@ -25,7 +25,7 @@ static int failed(const char *what) {
     return 2;
 }
 
-/* Prints a fault, with its chunk where it has one. */
+/* Prints a fault, with its chunk if it has one. */
 static int refused(uint32_t answer) {
     fprintf(stderr, "decrypt: %u %s", answer, age_c_fault_name(answer));
     if (answer >= 17 && answer <= 22 && answer != 21)

@@ -18,7 +18,7 @@ type File struct {
 	*io.SectionReader
 }
 
-// OpenAt opens the header of a file of so many bytes, and its last chunk, by which it checks the
+// OpenAt opens the header of a file of this many bytes, and its last chunk, by which it checks the
 // length of the text.
 func OpenAt(file io.ReaderAt, size int64, key Key) (*File, error) {
 	head, err := Open(io.NewSectionReader(file, 0, size), key)

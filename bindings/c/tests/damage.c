@@ -103,7 +103,7 @@ static struct room room_of(size_t most) {
     return (struct room){at + PAGE, size};
 }
 
-/* so many bytes of a room: its first ones, or its last ones */
+/* this many bytes of a room: its first ones, or its last ones */
 static uint8_t *fitted(struct room room, size_t len) {
     return next() % 2 ? room.begin : room.begin + room.size - len;
 }
@@ -500,7 +500,7 @@ static void prepare(void) {
     reader_room = room_of(sizeof(age_c_reader));
 }
 
-/* Damages and reads so many files, and now and then reads one as it is. */
+/* Damages and reads this many files, and now and then reads one as it is. */
 static void read_files(long count) {
     long whole = 0;
     for (long number = 0; number < count; number++) {

@@ -16,7 +16,7 @@ static uint64_t next(void) {
     return seed >> 33;
 }
 
-/* so many bytes; none of them may be a null pointer */
+/* this many bytes; none of them may be a null pointer */
 static uint8_t *some(size_t len) {
     if (len == 0 && next() % 2) return NULL;
     uint8_t *at = malloc(len ? len : 1);

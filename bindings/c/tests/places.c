@@ -44,7 +44,7 @@ static void seal(void) {
     if (age_c_open_passphrase(file, file_len, (const uint8_t *)"pw", 2, 22, &begun) != 0) exit(2);
 }
 
-/* Reads a chunk of a file that has so many bytes by now. The answer, and whether the text is right if it is 0. */
+/* Reads a chunk of a file that has this many bytes by now. The answer, and whether the text is right if it is 0. */
 static uint32_t read_chunk(age_c_reader *reader, uint64_t chunk, size_t have, uint8_t *out, int *right) {
     size_t at = (size_t)(reader->payload_at + chunk * AGE_C_BLOCK), len = at < have ? have - at : 0, written;
     uint32_t answer = age_c_seek(reader, chunk);

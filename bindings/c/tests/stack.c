@@ -1,4 +1,4 @@
-/* Makes each call in a thread of which it may use 100 KiB of stack, and prints how many bytes it used. The thread's own use counts.
+/* Makes each call in a thread with 100 KiB of stack, and prints how many bytes it used. The thread's own use counts.
  *
  * usage: stack FILE: an age file for the passphrase "pw", whose file key is 16 bytes 7
  */

@@ -72,7 +72,7 @@ static size_t piece_of(int kind, size_t left) {
     return most < left ? most : left;
 }
 
-/* the same in pieces; each is in memory of exactly its length */
+/* reads the file in pieces; each is in memory of exactly its length */
 static uint32_t by_pieces(age_c_stream *stream, size_t at, size_t len, size_t *out_len) {
     int kind = (int)(next() % 4);
     uint32_t answer = 0;

@@ -62,13 +62,13 @@ def secret_of(identity: str) -> bytes:
 
 
 def identities_in(text: str) -> list[str]:
-    """The keys in a file of age-keygen: a line each, beside empty lines and comments."""
+    """The keys in a file of age-keygen: one to a line, among empty lines and comments."""
     lines = [it.strip() for it in text.splitlines()]
     return [it for it in lines if it and not it.startswith("#")]
 
 
 def x25519(secret: bytes, point: bytes) -> bytes:
-    """X25519, by the package cryptography where it is installed, else by openssl. Zeros if it is undefined for the point."""
+    """X25519, by the package cryptography if it is installed, else by openssl. Zeros if it is undefined for the point."""
     try:
         from cryptography.hazmat.primitives.asymmetric.x25519 import X25519PrivateKey, X25519PublicKey
     except ImportError:

@@ -82,12 +82,12 @@ class AgeReader(io.RawIOBase):
         return True
 
     def _some(self, most: int) -> Any:
-        """As many bytes as there are, at most so many. (What read1 doesn't find may be the end, or not there yet: read() says which.)"""
+        """As many bytes as there are, at most this many. (What read1 doesn't find may be the end, or not there yet: read() says which.)"""
         read1 = getattr(self._file, "read1", None)
         return (read1(most) if read1 is not None else None) or self._file.read(most)
 
     def _may_open(self, seen: int) -> bool:
-        """Whether the header is worth a try, now that there are more than so many bytes."""
+        """Whether the header is worth a try, now that there are more than this many bytes."""
         place = ctypes.c_uint8.from_buffer(self._rest)
         answer: int = C.age_c_may_open(ctypes.addressof(place), len(self._rest), seen)
         return answer == 0
@@ -239,7 +239,7 @@ class AgeReader(io.RawIOBase):
             pass
 
     def _pass(self, most: int) -> bool:
-        """Passes over at most so many bytes. False at the end."""
+        """Skips at most this many bytes. False at the end."""
         if self._at == self._len and not (more := self._next()):
             if more is None:
                 raise BlockingIOError(errno.EAGAIN, "the file has no more bytes yet")
