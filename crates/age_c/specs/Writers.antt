@@ -26,7 +26,7 @@ pub record HasSealed (w : Writer) (text : List ℕ) : Type 0 where
   pub unfinished : w.state ≡ 1
   pub whole : length text ≡ w.chunk * chunk_length
 
--- the blocks of whole chunks, none of which is the last
+-- the blocks of whole chunks that aren't the last
 abbrev pub blocks_of : Writer → List ℕ → List ℕ
 blocks_of w text = block_bytes
     (map (pair (box w.file_key w.nonce) false)

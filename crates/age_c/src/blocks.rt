@@ -122,7 +122,7 @@ fn end_opener(opener: &mut PayloadOpener<'_>, out: &mut [u8]) -> usize
 
 /// Gives a byte of a piece, if it has one, to a reader that is open to no more, and returns how
 /// many it gave.
-// not inlined: beside another opener its buffer would double what a call takes of the stack
+// not inlined: together with another opener, its buffer would double what a call takes of the stack
 #[inline(never)]
 pub(crate) fn refuse_more(reader: &mut Reader, status: Status, piece: &[u8]) -> usize
     requires usable { CanBeUsed reader.old }

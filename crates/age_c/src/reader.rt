@@ -8,7 +8,7 @@ pub struct Reader {
     pub file_key: [u8; 16],
     /// The payload's nonce.
     pub nonce: [u8; 16],
-    /// Where in the file the payload begins.
+    /// The offset in the file, in bytes, at which the payload begins.
     pub payload_at: u64,
     /// The number of the next chunk.
     pub chunk: u64,
@@ -17,6 +17,6 @@ pub struct Reader {
     /// 1 while blocks are to come, 2 after a whole block that is the last, 3 after the end, and the
     /// fault's number, 17 to 22, after a refusal.
     pub state: u32,
-    /// Nothing.
+    /// Not used: it fills the 64 bytes.
     pub unused: u32,
 }

@@ -11,7 +11,7 @@ pub struct Stream {
     pub reader: Reader,
     /// How many bytes of the block that is open have come.
     pub held: u32,
-    /// Nothing.
+    /// Not used: padding before the block.
     pub unused: u32,
     /// The bytes of the block that is open.
     pub block: [u8; 65_552],

@@ -11,7 +11,7 @@ pub struct WriteStream {
     pub writer: Writer,
     /// How many bytes of the chunk that is open have come.
     pub held: u32,
-    /// Nothing.
+    /// Not used: padding before the chunk.
     pub unused: u32,
     /// The bytes of the chunk that is open.
     pub chunk: [u8; 65_536],

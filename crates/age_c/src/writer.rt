@@ -12,6 +12,6 @@ pub struct Writer {
     pub chunk: u64,
     /// 1 while chunks are to come, 2 after the last.
     pub state: u32,
-    /// Nothing.
+    /// Not used: it fills the 64 bytes.
     pub unused: [u32; 5],
 }
