@@ -2,7 +2,7 @@
 
 use age_io::Durability;
 
-/// The greatest work factor's logarithm that can be asked for.
+/// The greatest work factor that can be asked for.
 pub(crate) const MOST_WORK: u32 = 22;
 
 /// Whether progress is shown while IN is read.
@@ -19,7 +19,8 @@ pub enum ProgressOption {
 pub struct Encrypting<'a> {
     /// The path of the passphrase file (`--pass`).
     pub pass: &'a str,
-    /// The work factor's logarithm, 1 to 22; 18 if `--log` isn't given.
+    /// The work factor, 1 to 22, which is the base-two logarithm of scrypt's N; 18 if `--log` isn't
+    /// given.
     pub log: u32,
     /// The path of the file of random bytes, if `--random` is given.
     pub random: Option<&'a str>,
@@ -43,8 +44,7 @@ pub struct IdentityOptions<'a> {
     pub file_key: Option<&'a str>,
     /// The path of the file of the shared secret, if `--shared` is given.
     pub shared: Option<&'a str>,
-    /// The greatest work factor's logarithm that is accepted, 1 to 22; 22 if `--max-log` isn't
-    /// given.
+    /// The greatest work factor that is accepted, 1 to 22; 22 if `--max-log` isn't given.
     pub max_log: u32,
 }
 
