@@ -9,7 +9,7 @@ use std::test::Fail;
 const HEADER: &[u8] =
     b"age-encryption.org/v1\n-> x\n\n--- AAAAAAAAAAAAAAAAAAAAAAAAAAAAAAAAAAAAAAAAAAA\n";
 
-/// The report is taken by one put and one flush, of which the one fails, or the other.
+/// The report is taken by one put and one flush. One of them fails, or the other.
 #[test]
 fn outputs_that_fail(rt: HostRuntime) -> Result<(), Fail> {
     let alloc = rt.alloc();
