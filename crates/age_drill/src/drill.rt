@@ -95,7 +95,7 @@ fn payload_after(
 }
 
 /// The key of a file's payload, and where in the bytes the payload begins. Faults come in the order
-/// of the bytes: a fault of reading after those of the header and the key.
+/// of the bytes: a fault of reading comes after the faults of the header and the key.
 fn open_payload(
     alloc: Global,
     unlock: &Passphrase<'_>,
