@@ -9,8 +9,9 @@ ghost use Rattle.age_fault.specs.declared.fault.FileFault.TheVariants.{Write};
 use crate::fault::FileFault;
 use age_io::Sink;
 
-/// Writes all of some bytes, and adds to `written` as many as the sink took. If a put fails, it
-/// makes no other, and the bytes that were taken before are counted. Fails only with `Write` (27).
+/// Writes all of some bytes, and adds to `written` as many as the sink took. Requires that the sum
+/// is below 2^128. If a put fails, it makes no other, and the bytes that were taken before are
+/// counted. Fails only with `Write` (27).
 pub fn write_all<O: Sink>(sink: &mut O, bytes: &[u8], written: &mut u128) -> Result<(), FileFault>
     requires { written.old + length bytes.now < 2 ^ 128 }
     ensures writes { Writes (O.view sink.old) (O.view sink.new) written.old written.new bytes.now
