@@ -273,7 +273,7 @@ SkipsShort old new Read = HasFailed old.failed new.failed new.failing
 SkipsShort old new ReadNeverEnds = NeverEnds old.remaining new.remaining
 SkipsShort old new other = ⊥
 
--- a second reading, from the position on, after this old text, of which it reads nothing
+-- a second reading, from the position on; the old text before it isn't read
 module _ (Allows : Header → List ℕ → Type 0) (p : Position) (copied : List ℕ) where
   -- a run of it
   abbrev pub IsRestOf : Run → Type 0

@@ -142,7 +142,7 @@ pub record IsFromStart (r : Run) : Type 0 where
 abbrev pub segment_of : Run → Segment
 segment_of r = record { start = r.first; bytes = r.bytes; ended = r.ended; late = false }
 
--- the outcome of the bytes, and the text that they release, every chunk of which opened
+-- the outcome of the bytes, and the text that they release: every chunk of it was opened
 abbrev pub run_outcome : Run → Outcome
 run_outcome r = outcome (unbox r.file.key r.file.nonce) chunk_length (segment_of r)
 

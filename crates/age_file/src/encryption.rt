@@ -23,9 +23,9 @@ use std::alloc::Global;
 /// How many bytes were read, and how many written.
 #[derive(Clone, Copy, Debug, PartialEq, Eq)]
 pub struct Written {
-    /// The length of the plaintext.
+    /// The length of the plaintext in bytes.
     pub plain: u128,
-    /// The length of the file.
+    /// The length of the age file in bytes.
     pub file: u128,
 }
 

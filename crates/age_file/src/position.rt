@@ -101,7 +101,7 @@ pub(crate) fn file_id(mut digest: Sha256, nonce: &[u8; 16]) -> [u8; 32]
 }
 
 impl Position {
-    /// How long the text before it is.
+    /// How many bytes of text come before it.
     pub(crate) fn old_len(&self) -> u128
         ensures { result ≡ self.now.index * chunk_length }
     {

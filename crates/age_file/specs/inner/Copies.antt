@@ -215,7 +215,7 @@ pub record CopiesText (keep : PositionPolicy) (n chunks : ℕ) (links : List ℕ
   pub answered : MatchResult result (λ _. TextGoes keep n chunks links old new was now out)
       (TextFails n chunks links old new was now out)
 
--- the old text was copied, and its pulls are counted after those of the file
+-- the old text was copied, and its pulls are counted together with the file's
 pub record CopiesBefore (keep : PositionPolicy) (p : Position) (old new : SourceView)
     (before after : Unread) (was now : WriterView) (result : Result (Unit {0}) FileFault)
     : Type 0 where

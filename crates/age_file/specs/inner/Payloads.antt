@@ -24,8 +24,8 @@ pub record AdvancesTally (index : ℕ) (links : Option (List ℕ)) (risen : ℕ)
   pub further : index < risen → (new.index ≡ risen) × (new.chain ≡ link)
   pub still : risen ≤ index → (new.index ≡ index) × (new.chain ≡ links)
 
--- all of the text but for a part was written: the chunks that are counted are those that are whole
--- and were released as not last, and the chain is over them, whatever bytes follow
+-- all of the text except for a part was written: the chunks that are counted are the whole ones
+-- that were released as not last, and the chain is over them, whatever bytes follow
 pub record CountsChunks (keep : PositionPolicy) (opening : List ℕ → List ℕ → Option (List ℕ)) (n : ℕ)
     (base : List ℕ) (s : Segment) (unwritten : List ℕ) (p : Tally) : Type 0 where
   pub index : (more : List ℕ) → p.index
