@@ -83,8 +83,8 @@ impl Model for HostIn {
 }
 
 impl HostIn {
-    /// Opens what a name stands for, and says which regular file it is. Standard output and
-    /// standard error can't be read, nor can a folder.
+    /// Opens what a name stands for, and says which regular file it is. Standard output, standard
+    /// error and folders can't be read.
     pub(crate) fn open(
         alloc: Global,
         rt: &HostRuntime,

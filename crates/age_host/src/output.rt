@@ -105,7 +105,7 @@ impl OutFile {
         }
     }
 
-    /// A file that was there, in place of what it holds.
+    /// A file that was there; what is written replaces what it holds.
     fn of_found(file: File) -> io::Result<OutFile> {
         let is_named = file.metadata()?.nlink() > 0;
         Ok(OutFile {
@@ -303,7 +303,7 @@ impl HostOut {
         Ok(HostOut::new(rt, Target::File(out), id))
     }
 
-    /// A file that is open to be written, in place of what it holds.
+    /// A file that is open to be written; what is written replaces what it holds.
     pub(crate) fn over(rt: &HostRuntime, file: File) -> io::Result<HostOut> {
         HostOut::of_file(rt, OutFile::of_found(file)?)
     }

@@ -18,14 +18,14 @@ use std::rt::HostRuntime;
 /// How many names are tried for a new file.
 const TRIES: u32 = 1000;
 
-/// A file that was made beside another.
+/// A file that was made in the folder of another.
 #[derive(Drop)]
 struct Beside {
     file: File,
     path: String,
 }
 
-/// Why a file beside another didn't take its place.
+/// Why a file that was made next to another didn't take its place.
 #[derive(Drop)]
 enum Unplaced {
     /// It could not be made, or not be renamed.
@@ -40,7 +40,7 @@ impl From<io::Error> for Unplaced {
     }
 }
 
-/// Makes a file beside another, at a path where there is none.
+/// Makes a file next to another, at a path where there is none.
 fn make_beside(alloc: Global, rt: &HostRuntime, path: &PathBuf) -> Result<Beside, Unplaced> {
     for n in 0..TRIES {
         match make_numbered(alloc, rt, path, n) {
@@ -55,7 +55,7 @@ fn make_beside(alloc: Global, rt: &HostRuntime, path: &PathBuf) -> Result<Beside
     Err(Unplaced::NotBeside)
 }
 
-/// Makes a file beside another, under its name with a number.
+/// Makes a file next to another, under its name with a number.
 fn make_numbered(alloc: Global, rt: &HostRuntime, path: &PathBuf, n: u32) -> io::Result<Beside> {
     let name = path.as_str();
     let path = format!(in alloc; "{name}.new-{n}")?;
@@ -113,7 +113,7 @@ fn replace_beside(
     }
 }
 
-/// Writes these bytes to what is open, in place of what it holds.
+/// Writes these bytes to what is open; they replace what it holds.
 fn fill_directly(
     rt: &HostRuntime,
     mut out: HostOut,
