@@ -85,8 +85,8 @@ random_name (Some name) = name
 
 -- the two files by which the arguments are judged, the position, the old text, the input, the file
 -- of the next position, the output; if it stops the next position, as far as these are named. The
--- output is none of the files that are read, the next position goes to no other file than that of
--- the position, and the old text isn't the input.
+-- output is none of the files that are read, the next position replaces no file but the position,
+-- and the old text isn't the input.
 abbrev pub writing_order : Option Text → Option Text → Option Text → Option Text → Option Text
     → Option Text → Option Text → Durability → Order
 writing_order first second position old from to save durability =

@@ -77,7 +77,8 @@ pub fn read_first<S: Source>(
     Ok(held)
 }
 
-/// All bytes of a source; `None` if it gives more than `most`. At most one byte more is pulled.
+/// All bytes of a source; `None` if it gives more than `most`, which has to be below 2^32. At most
+/// one byte more is pulled.
 pub fn read_up_to<S: Source>(
     alloc: Global,
     source: &mut S,
@@ -99,7 +100,8 @@ pub fn read_up_to<S: Source>(
     Ok(Some(first))
 }
 
-/// All bytes of a file; `None` if it has more than `most`. At most one byte more is pulled.
+/// All bytes of a file; `None` if it has more than `most`, which has to be below 2^32. At most one
+/// byte more is pulled.
 pub fn read_file<F: FileSet>(
     alloc: Global,
     files: &mut F,
