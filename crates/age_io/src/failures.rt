@@ -8,7 +8,7 @@ use crate::failed::Failed;
 /// How many calls of a source or a sink have failed, and whether the last one did.
 #[derive(Clone, Copy, Debug, PartialEq, Eq)]
 pub struct Failures {
-    /// How many have failed. It stays at the greatest value of its type.
+    /// How many have failed. Once it is 2^64 - 1 it stays.
     pub count: u64,
     /// Whether the last one did.
     pub last: bool,

@@ -45,8 +45,8 @@ impl Model for MemSink {
 
 impl MemSink {
     /// An empty sink that holds at most `room` bytes, which are reserved here, and takes at most
-    /// `step` a put. Puts and flushes are counted together from 0, and the one numbered `fail_call`
-    /// fails; later ones go on.
+    /// `step` bytes a put, which has to be 1 or more. Puts and flushes are counted together from 0,
+    /// and the one numbered `fail_call` fails; later ones go on.
     pub fn new(
         alloc: Global,
         room: usize,

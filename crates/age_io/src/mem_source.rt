@@ -38,8 +38,8 @@ impl Model for MemSource {
 }
 
 impl MemSource {
-    /// A source of these bytes, at most `step` a pull. The pull numbered `fail_call`, counted from
-    /// 0, fails; later ones go on.
+    /// A source of these bytes, which gives at most `step` bytes a pull; `step` has to be 1 or
+    /// more. The pull numbered `fail_call`, counted from 0, fails; later ones go on.
     pub fn new(bytes: Vec<u8>, step: usize, fail_call: Option<u64>) -> MemSource
         requires { 0 < step }
         ensures { result ≡ record {
