@@ -10,7 +10,7 @@ use thiserror::Error;
 /// the list of all faults.
 #[derive(Clone, Copy, Debug, PartialEq, Eq, Error)]
 pub enum KeyFault {
-    /// A stanza of type `scrypt` stands beside another stanza.
+    /// A stanza of type `scrypt` isn't the only stanza.
     #[error("scrypt stanza not alone")]
     ScryptNotAlone = 9,
     /// The scrypt stanza isn't valid: its arguments, or the length of its body.
