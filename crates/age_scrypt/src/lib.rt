@@ -61,8 +61,9 @@ fn derive_in(
     key
 }
 
-/// The key of a passphrase and a salt at the work factor `log`, from 1 to [`WORK_FACTOR_LIMIT`]:
-/// scrypt with N = `2^log`, r = 8, p = 1 and 32 bytes of output (RFC 7914, section 6).
+/// The key of a passphrase and a salt at the work factor `log`, which has to be from 1 to
+/// [`WORK_FACTOR_LIMIT`]: scrypt with N = `2^log`, r = 8, p = 1 and 32 bytes of output (RFC 7914,
+/// section 6).
 ///
 /// It takes `1,024 * 2^log` bytes of memory and two blocks of 1,024 bytes, all of them before the
 /// first step. If memory is refused, no step is counted.
