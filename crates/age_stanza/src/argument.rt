@@ -88,5 +88,5 @@ impl PartialEq for Argument {
     }
 }
 
-/// The arguments of a stanza, the first of which is its type.
+/// The arguments of a stanza. The first one is the stanza's type.
 pub type Arguments = List<Argument>;

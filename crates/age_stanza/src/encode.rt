@@ -106,8 +106,8 @@ fn whole_text(alloc: Global, header: &Header, len: usize) -> Result<Vec<u8>, All
     Ok(out)
 }
 
-/// The text of a header that [`is_header`](crate::is_header), as the C2SP page defines it. All
-/// memory is taken at once; the only fault is a refusal of it
+/// The text of a header (<https://c2sp.org/age#header>). It requires
+/// [`is_header`](crate::is_header). All memory is taken at once; the only fault is a refusal of it
 /// ([`HeadKind::Memory`](crate::HeadKind::Memory)).
 pub fn encode_head(alloc: Global, header: &Header) -> Result<Vec<u8>, HeadFault>
     requires { HasText header.now }

@@ -184,7 +184,7 @@ ReadsLines held bytes (Ok (Ready taken h)) new = (taken ≤ length bytes)
 ReadsLines held bytes (Err fault) new = ((fault ≡ memory_fault)
     ⊎ (walk Start 1 [] (held ++ bytes) ≡ faulty fault)) × (0 < length bytes)
 
--- a piece, of which no more is read than the limit allows
+-- a piece: no more of it is read than the limit allows
 abbrev pub TakesPiece : List ℕ → List ℕ → Result HeadStep HeadFault → List ℕ → Type 0
 TakesPiece held piece (Ok More) new = (new ≡ held ++ piece)
     × (length (held ++ piece) < header_limit) × IsUnfinished (held ++ piece)
