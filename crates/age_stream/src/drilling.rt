@@ -12,6 +12,7 @@ use age_chunk::{ChunkBox, Memory};
 use std::alloc::Global;
 
 /// Gives deliveries to a new [`Replay`], and returns what it then holds, unless memory is refused.
+/// Requires `SEALED`, the length of a whole block in bytes, from 17 to 65,552.
 pub fn drill<B: ChunkBox, const SEALED: usize>(
     alloc: Global,
     key: &B,

@@ -9,8 +9,9 @@ const TAG: u128 = TAG_LEN as u128;
 
 const BLOCK: u128 = BLOCK_LEN as u128;
 
-/// The length of the text whose payload has this many bytes, in chunks of
-/// [`CHUNK_LEN`](crate::CHUNK_LEN); `None` if no payload has that length.
+/// The length in bytes of the text whose payload has this many bytes, in chunks of
+/// [`CHUNK_LEN`](crate::CHUNK_LEN); `None` if no payload has that length. Requires less than 2^127
+/// bytes.
 pub fn text_len_of(size: u128) -> Option<u128>
     requires { size < 2 ^ 127 }
     ensures { IsTextLengthOf size result }

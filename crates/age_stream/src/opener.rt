@@ -204,7 +204,9 @@ impl<'k, B: ChunkBox, const SEALED: usize> OpenerState<'k, B, SEALED> {
 /// They are what the outcome of a segment says: of all bytes since the opener was made, and of the
 /// end of the input.
 ///
-/// `feed_piece` in `age_file/src/payload.rt` feeds whole pieces and writes what is lent.
+/// `SEALED` is the length of a whole block in bytes, from 17 to 65,552
+/// ([`BLOCK_LEN`](crate::BLOCK_LEN), which age files have); each call that makes an opener requires
+/// this. `feed_piece` in `age_file/src/payload.rt` feeds whole pieces and writes what is lent.
 #[derive(Drop)]
 pub struct Opener<'k, B: ChunkBox, const SEALED: usize> {
     state: OpenerState<'k, B, SEALED>,

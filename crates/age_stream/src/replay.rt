@@ -205,7 +205,8 @@ impl<'k, B: ChunkBox, const SEALED: usize> ReplayState<'k, B, SEALED> {
 /// deliveries to a new replay.
 ///
 /// A contract sees the key, the opener of the current segment, the text that is held and the number
-/// of restarts that were refused.
+/// of restarts that were refused. `SEALED` is the length of a whole block in bytes, from 17 to
+/// 65,552.
 #[derive(Drop)]
 pub struct Replay<'k, B: ChunkBox, const SEALED: usize> {
     state: ReplayState<'k, B, SEALED>,
@@ -222,7 +223,7 @@ impl<'k, B: ChunkBox, const SEALED: usize> Model for Replay<'k, B, SEALED> {
 impl<'k, B: ChunkBox, const SEALED: usize> Replay<'k, B, SEALED> {
     ghost use Rattle.age_stream.specs.Replay.{Replays, TakesDelivery};
 
-    /// A replay that was given nothing yet. Takes no memory.
+    /// A replay that was given nothing yet. Requires `SEALED` from 17 to 65,552. Takes no memory.
     pub fn new(alloc: Global, key: &'k B) -> Self
         requires least { tag_length < SEALED }
         requires most { SEALED ≤ block_length }

@@ -131,7 +131,9 @@ impl<'k, B: ChunkBox, const SEALED: usize> SealerState<'k, B, SEALED> {
 /// whole chunk is sealed once a byte after it came, since only then it isn't the last.
 ///
 /// A contract sees the key, the text of the chunk that is open, its number, and whether the sealer
-/// was refused or finished. docs/LIBRARY.md has an example, `seal_to`.
+/// was refused or finished. `SEALED` is the length of a whole block in bytes, from 17 to 65,552
+/// ([`BLOCK_LEN`](crate::BLOCK_LEN), which age files have). docs/LIBRARY.md has an example,
+/// `seal_to`.
 #[derive(Drop)]
 pub struct Sealer<'k, B: ChunkBox, const SEALED: usize> {
     state: SealerState<'k, B, SEALED>,
@@ -149,7 +151,7 @@ impl<'k, B: ChunkBox, const SEALED: usize> Sealer<'k, B, SEALED> {
     ghost use Rattle.age_stream.specs.Sealer.{Takes, IsTaken, Finishes, IsFinished};
     ghost use Rattle.age_stream.specs.Rows.{sealer_row};
 
-    /// A sealer that was given nothing yet. Takes no memory.
+    /// A sealer that was given nothing yet. Requires `SEALED` from 17 to 65,552. Takes no memory.
     pub fn new(key: &'k B) -> Self
         requires least { tag_length < SEALED }
         requires most { SEALED ≤ block_length }
@@ -205,7 +207,8 @@ impl<'k, B: ChunkBox, const SEALED: usize> Sealer<'k, B, SEALED> {
 
     /// Takes bytes of the text: what the open chunk has room for, or one byte after a chunk that is
     /// full. That byte begins the next chunk, and the full one is sealed as not the last and lent.
-    /// Takes nothing of an empty piece. It is refused as
+    /// Takes nothing of an empty piece. Requires that the sealer [isn't
+    /// finished](Sealer::is_finished). It is refused as
     /// [`TooManyChunks`](StreamKind::TooManyChunks) if a byte would need chunk number
     /// [`CHUNK_LIMIT`]; then each call is refused so.
     pub fn feed(&mut self, piece: &[u8]) -> Result<Step<'_>, StreamFault>
@@ -231,8 +234,8 @@ impl<'k, B: ChunkBox, const SEALED: usize> Sealer<'k, B, SEALED> {
         })
     }
 
-    /// Seals what is held as the last chunk, and lends its block. Refused only if a feed was, with
-    /// the same fault.
+    /// Seals what is held as the last chunk, and lends its block. Requires that the sealer [isn't
+    /// finished](Sealer::is_finished). Refused only if a feed was, with the same fault.
     pub fn finish(&mut self) -> Result<&[u8], StreamFault>
         requires { self.old.finished ≡ false }
         // The sealer, once the loan has ended.

@@ -64,8 +64,8 @@ impl From<StreamFault> for SealFault {
 }
 
 /// The payload of a text: its chunks, each sealed at its nonce, one after the other
-/// (<https://c2sp.org/age#payload>), in chunks of `SEALED - TAG_LEN` bytes. It refuses as
-/// [`seal_into`] does.
+/// (<https://c2sp.org/age#payload>), in chunks of `SEALED - TAG_LEN` bytes. Requires `SEALED` from
+/// 17 to 65,552. It refuses as [`seal_into`] does.
 pub fn seal_all<B: ChunkBox, const SEALED: usize>(
     alloc: Global,
     key: &B,
@@ -81,9 +81,10 @@ pub fn seal_all<B: ChunkBox, const SEALED: usize>(
     Ok(out)
 }
 
-/// Appends the payload of a text, in chunks of `SEALED - TAG_LEN` bytes. Memory is asked for once,
-/// before anything is sealed, and only if there is no room for the payload. Apart from that, only a
-/// text of more than 2^48 chunks is refused. A refusal adds nothing.
+/// Appends the payload of a text, in chunks of `SEALED - TAG_LEN` bytes. Requires `SEALED` from 17
+/// to 65,552. Memory is asked for once, before anything is sealed, and only if there is no room for
+/// the payload. Apart from that, only a text of more than 2^48 chunks is refused. A refusal adds
+/// nothing.
 pub fn seal_into<B: ChunkBox, const SEALED: usize>(
     key: &B,
     text: &[u8],

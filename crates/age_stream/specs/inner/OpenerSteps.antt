@@ -134,7 +134,7 @@ module _ {B : Type 0} {n : ℕ} {g : _} where
     pub status : new.status ≡ status_after (nat_lt 0 (length piece)) old.index old.status
     -- after Ok it holds what it held
     pub held : MatchResult answer (λ _. held_bytes new ≡ held_bytes old) (λ _. ⊤)
-    -- Ok comes only for an empty piece, of which nothing is taken, and a refusal is the status
+    -- Ok comes only for an empty piece, and nothing is taken; a refusal is the status
     pub answered : MatchResult answer (λ s. (s.0 ≡ 0) × (s.1 ≡ false)
         × (length piece ≡ 0)) (λ fault. new.status ≡ Failed fault)
     -- after Ok the status is no refusal
