@@ -1,4 +1,4 @@
-//! Readers and writers of the machine's kind, of which one call fails.
+//! Readers and writers of the machine's kind that fail in one call.
 
 use super::*;
 use age_file::{Failed, Reading, Sink, Source, Writing};

@@ -68,7 +68,7 @@ fn after_two() -> Position {
     }
 }
 
-/// The position of these files whose chain is of zero bytes.
+/// A position of these files, with a chain of zero bytes.
 fn without_chain(index: u64, tag: [u8; 32]) -> Position
     requires { index < CHUNK_LIMIT }
 {
@@ -132,8 +132,8 @@ fn an_old_text_that_is_short_by_a_byte(rt: HostRuntime) {
     assert!(rt; ends(&outcome, 25, 131_071, None));
 }
 
-/// How a run ends with an old text of which one byte is another; it ought to write the front of
-/// that, if the byte stands before the position.
+/// How a run ends with an old text that has another byte at this place; it ought to write the front
+/// of that, if the byte stands before the position.
 fn with_another_byte(alloc: Global, at: usize) -> Option<Outcome> {
     match example_of(alloc, 200_000) {
         Some(example) => {
@@ -173,7 +173,7 @@ fn an_old_text_with_another_byte(rt: HostRuntime) {
     assert!(rt; ends(&with_another_byte(rt.alloc(), 131_072), 0, TEXT_LEN, None));
 }
 
-/// How a run ends with a file of which the last byte of the payload nonce is another.
+/// How a run ends with a file that has another last byte in its payload nonce.
 fn in_another_file(alloc: Global) -> Option<Outcome> {
     match example_of(alloc, 200_000) {
         Some(mut example) => {
