@@ -115,8 +115,8 @@ fn accepts_in(alloc: Global, bytes: &[u8], step: usize, size: usize, zeros: usiz
     taken == size && header.mac == mac && is_of_zeros(&header, zeros)
 }
 
-/// Whether a header of `size` bytes stands in front, with one stanza of the argument `x` and so
-/// many zero bytes, and a MAC of zeros but for its last byte.
+/// Whether a header of `size` bytes stands in front, with one stanza of the argument `x` and this
+/// many zero bytes, and a MAC of zeros except for its last byte.
 fn accepts(alloc: Global, bytes: &[u8], size: usize, zeros: usize, last: u8) -> bool
     ensures { IsTrue result → Accepts bytes.now size }
 {

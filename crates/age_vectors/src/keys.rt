@@ -30,7 +30,7 @@ const AT_TEN: &[u8; 150] = b"age-encryption.org/v1\n-> scrypt EBESExQVFhcYGRobHB
         Qh59WLlLxJRIkowFnzt99qkc7x6EgdHELDUQmvHY874\n\
         --- 2qY5AgJS48JZMvxeEOs4EKHsGHn1+dq7Rvg3gLXzgBM\n";
 
-/// A header whose work factor is one more than the greatest limit.
+/// A header with a work factor of one more than the greatest limit.
 const AT_23: &[u8; 150] = b"age-encryption.org/v1\n-> scrypt AAAAAAAAAAAAAAAAAAAAAA 23\n\
         AAAAAAAAAAAAAAAAAAAAAAAAAAAAAAAAAAAAAAAAAAA\n\
         --- AAAAAAAAAAAAAAAAAAAAAAAAAAAAAAAAAAAAAAAAAAA\n";
@@ -169,7 +169,7 @@ fn work_factor_rows(alloc: Global) -> Result<bool, AllocError> {
     )
 }
 
-/// A body of 31 bytes, and scrypt stanzas beside others.
+/// A body of 31 bytes, and scrypt stanzas together with others.
 fn stanza_rows(alloc: Global) -> bool {
     refuses(
         alloc,

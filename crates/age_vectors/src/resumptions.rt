@@ -152,7 +152,7 @@ fn writes_old(alloc: Global, rest: &Rest<'_>, number: u8, len: usize) -> bool {
     }
 }
 
-/// Positions whose tag isn't theirs: with another index, or of zeros alone.
+/// Positions with a tag that isn't theirs: with another index, or of zeros alone.
 fn refuses_others(alloc: Global, rest: &Rest<'_>) -> bool {
     let mut earlier = rest.position;
     earlier.index = 1;
@@ -197,8 +197,8 @@ fn refuses_another_file(alloc: Global, rest: &Rest<'_>) -> bool {
     )
 }
 
-/// An old text that is as long as it has to be, one that is a byte short, and one whose last byte
-/// before the position is another.
+/// An old text that is as long as it has to be, one that is a byte short, and one that has another
+/// last byte before the position.
 fn refuses_old_texts(alloc: Global, example: &Example, rest: &Rest<'_>) -> bool {
     let (Some(enough), Some(short)) = (rest.old.get(..131_072), rest.old.get(..131_071)) else {
         return false;

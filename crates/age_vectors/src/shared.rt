@@ -25,7 +25,7 @@ pub const X25519_HEADER: [u8; 168] =
         jZAdkj7SfLxba9aaDaLOH15VqHxjezbflkA4yhWbOAQ\n\
         --- bFHWTtINPd+NDhBKPJJS9Mjszxl4rvMbhTUfrtdiPco\n";
 
-/// A header of two X25519 stanzas, of which the second opens.
+/// A header of two X25519 stanzas; the second opens.
 const SECOND: &[u8] =
     b"age-encryption.org/v1\n-> X25519 AQIDBAUGBwgJCgsMDQ4PEBESExQVFhcYGRobHB0eHyA\n\
         j3qlNpeG/TXms2TPf47danvdz6ztdPR3yBvwF3MZghI\n\
@@ -49,7 +49,7 @@ const BOTH: [u8; 266] =
         eW76kh89C/64FSe3TwqnNiwgPUXJGJlt1Y5MoUcY2p0\n\
         --- 7Y2k7eubz0pobTPGaIJsUajg7t05Ng7ko+tRc06PF3c\n";
 
-/// Stanzas of which one has a share of 31 bytes.
+/// Stanzas, one of them with a share of 31 bytes.
 const SHORT_FIRST: &[u8] = b"-> X25519 AQIDBAUGBwgJCgsMDQ4PEBESExQVFhcYGRobHB0eHw\n\
         j3qlNpeG/TXms2TPf47danvdz6ztdPR3yBvwF3MZghI\n\
         -> X25519 ISIjJCUmJygpKissLS4vMDEyMzQ1Njc4OTo7PD0+P0A\n\
