@@ -59,7 +59,7 @@ pub record HasFront (front : List ℕ) (header : Header) (len : ℕ) : Type 0 wh
   pub within : len + 16 ≤ length front
 
 -- the bytes begin with a header and the payload's nonce, the file key is one that is allowed for
--- that header, whose MAC it confirms, and the reader was given nothing of the payload
+-- that header and that its MAC confirms, and the reader was given nothing of the payload
 pub record IsStarted (Allows : Header → List ℕ → Type 0) (front : List ℕ)
     (r : Reader) : Type 0 where
   pub header : Header
@@ -93,7 +93,7 @@ StartRefuses Allows Refused front (Key fault) = (header : Header) × (len : ℕ)
     × HasFront front header len × Refuses Allows Refused header fault
 StartRefuses Allows Refused front fault = HeadRefuses front fault
 
--- the number that is answered
+-- the number that a call answers with if the file isn't begun
 abbrev pub start_fault_number : StartFault → ℕ
 start_fault_number More = more
 start_fault_number (Head fault) = head_fault_number fault.kind
@@ -323,8 +323,8 @@ module _ (r : Reader) (text : List ℕ) (start : ℕ) where
 
 -- ---- The headline for a caller.
 
--- all of that holds after any calls on a reader that is at a chunk and was given nothing, as one
--- that was just begun is at chunk 0, for every text of at most 2^48 chunks
+-- a caller may rely on all of this after any calls on a reader that is at a chunk and was given
+-- nothing, as one that was just begun is at chunk 0, for every text of at most 2^48 chunks
 abbrev pub CallsAreWritten : Type 0
 CallsAreWritten = (r : Reader) (start : ℕ) → IsAt r (fresh start) → start < chunk_limit
     → (calls : List Call) → AreCalls r calls

@@ -16,5 +16,5 @@ starts_before_work other = true
 pub record StartCounts (most : ℕ) (result : Result Reader StartFault) (old new : ℕ) : Type 0 where
   -- no step was made if the fault is found before any work
   pub before : IfErr result (λ fault. OnTrue (starts_before_work fault) (new ≡ old))
-  -- and never more steps than these
+  -- there are never more steps than these
   pub within : new ≤ old + most
