@@ -212,7 +212,7 @@ module _ (Who : Type 0) (Allows : Who → Header → List ℕ → Type 0)
       → MatchResult result (λ done. WritesText old.sink.taken new.sink.taken done.written text)
       (λ stopped. StopsOutside stopped.fault)
 
-  -- and so it is if it is resumed at a position of that file
+  -- the text is written as well if a decryption is resumed at a position of that file
   abbrev pub UndamagedIsResumed : Type 0
   UndamagedIsResumed = (p : Position) (old new : ResumePorts)
       → ResumesText keep (Allows who) (Refused who) p old new result
@@ -249,8 +249,8 @@ pub record WasEncrypted (s : SecretView) (text : List ℕ) (old new : Ports) (wr
   pub sink : old.sink.taken ≡ Some []
   pub done : Encrypts s old new written
 
--- then a decryption of what the sink took, with the same passphrase, gives the text back, or stops
--- as reading, writing or running out of memory may stop it
+-- after an encryption, a decryption of what its sink took, with the same passphrase, gives the text
+-- back, or stops as reading, writing or running out of memory may stop it
 abbrev pub RoundTrip : Type 0
 RoundTrip = (keep : PositionPolicy) (s : SecretView) (max_log : ℕ) (text : List ℕ)
     (was file now last : Ports) (written : Written) (result : Result Done Stopped)

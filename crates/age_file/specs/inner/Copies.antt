@@ -63,7 +63,7 @@ pub record TakesNonce (old new : ReaderView) (nonce : List ℕ) : Type 0 where
   pub few : length new.unread.bytes ≤ pull_room
   pub unfailed : new.source.failed ≡ old.source.failed
 
--- it identifies the file with what the digest was fed
+-- the nonce was read, and identifies the file together with what the digest was fed
 pub record ReadsNonce (key : List ℕ) (digest : Sha256) (old new : ReaderView) (unlocked : Unlocked)
     : Type 0 where
   pub key_is : unlocked.key ≡ key

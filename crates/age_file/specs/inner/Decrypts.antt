@@ -76,7 +76,7 @@ unseen s = record {
 abbrev pub unseen_ports : Ports → Ports
 unseen_ports p = ports p.source (unseen p.sink)
 
--- it decrypted the rest after this old text, which its sink didn't take; that took the rest
+-- a second reading decrypted the rest after this old text; its sink took that rest alone
 pub record ReadsRest (Allows : Header → List ℕ → Type 0) (Refused : Header → KeyFault → Type 0)
     (p : Position) (copied : List ℕ) (old new : Ports) (result : Result Done Stopped) : Type 0 where
   pub is : DecryptsRest Allows p copied Refused (unseen_ports old) (unseen_ports new) result

@@ -63,7 +63,7 @@ abbrev pub ports_of : {S O : Type 0} → (S → SourceView) → (O → SinkView)
     → Ports
 ports_of source sink r w = ports (source r.source.now) (sink w.sink.now)
 
--- it is still the same source and the same intake, or the same sink
+-- a reader still has the same source and the same intake, or a writer the same sink
 abbrev pub SameReader : {S : Type 0} → Reader S → Reader S → Type 0
 SameReader old new = (new.source.ghost_name ≡ old.source.ghost_name)
     × (new.intake.ghost_name ≡ old.intake.ghost_name)
@@ -71,7 +71,7 @@ SameReader old new = (new.source.ghost_name ≡ old.source.ghost_name)
 abbrev pub SameWriter : {O : Type 0} → Writer O → Writer O → Type 0
 SameWriter old new = new.sink.ghost_name ≡ old.sink.ghost_name
 
--- what its meter was shown is still what it gave, since it began so
+-- a source's meter is still shown what the source gave, if it was before
 abbrev pub KeepsMeter : {S : Type 0} → (S → Origin → Type 0) → Reader S → Reader S → Type 0
 KeepsMeter metered old new = (from : Origin) → metered old.source.now from
     → metered new.source.now from

@@ -158,8 +158,8 @@ pub record ReadsWrites (old new : Ports) (written_old written_new : ℕ) (text o
   pub small : length text ≤ 2 ^ 80
 
 module _ (sealing : List ℕ → List ℕ → List ℕ) (n : ℕ) where
-  -- why a source wasn't sealed to its end; if no more came of it, the blocks before the last of
-  -- what did were written
+  -- why a source wasn't sealed to its end; if no more came of it, the blocks of what did come were
+  -- written, except for the last
   abbrev pub SealingFails : Ports → Ports → (text out : List ℕ) → FileFault → Type 0
   SealingFails old new text out (Stream fault) = (chunk_limit * n < length text)
       × (fault ≡ too_many (chunk_limit - 1)) × NoneFailed old new
@@ -178,7 +178,7 @@ module _ (sealing : List ℕ → List ℕ → List ℕ) (n : ℕ) where
     pub plain_is : plain ≡ length text
     pub none_failed : NoneFailed old new
 
-  -- it wasn't, and a front of the payload of what was read was written
+  -- a source wasn't sealed to its end, and a front of the payload of what was read was written
   pub record SealsFront (old new : Ports) (written_old written_new : ℕ) (fault : FileFault)
       : Type 0 where
     pub text : List ℕ
@@ -192,7 +192,7 @@ module _ (sealing : List ℕ → List ℕ → List ℕ) (n : ℕ) where
       (result : Result Written FileFault) : Type 0 where
     -- after Ok all of its text was sealed and written, and its length is answered
     pub done : IfOk result (λ w. SealsAll old new written_old written_new w.plain)
-    -- so is the count of all bytes that were written
+    -- after Ok the count of all bytes that were written is answered
     pub counted : IfOk result (λ w. w.file ≡ written_new)
     -- after a fault, a front of the payload was written
     pub fails : IfErr result (SealsFront old new written_old written_new)
