@@ -81,7 +81,7 @@ file_of (SharedFile name) = Some name.now
 abbrev pub file_bytes : {Z : Type 0} → Option (Vec ℕ Z) → Option (List ℕ)
 file_bytes = option_map (λ v. v.items)
 
--- these bytes are what the file of this name holds, if there are such
+-- these bytes, if there are any, are what the file of this name holds, if there is a name
 abbrev pub IsSecretIn : Files → Option Text → Option (List ℕ) → Type 0
 IsSecretIn old (Some name) (Some bytes) = old name ≡ Some bytes
 IsSecretIn old name bytes = Unit {0}
@@ -99,7 +99,7 @@ Makes (FileKey known) held (ByFileKey key) = key ≡ known
 Makes (SharedFile name) held (ByShared shared) = IsSharedIn held shared
 Makes choice held identity = ⊥
 
--- of what was read of its file it makes all that it makes of the file
+-- what was read of its file is enough: the choice makes of that all that it makes of the file
 abbrev pub IsEnough : Files → Choice → Option (List ℕ) → Type 0
 IsEnough old choice held = (identity : Identity)
     → Makes choice (held_for old (file_of choice)) identity → Makes choice held identity
