@@ -120,16 +120,16 @@ pub record AllowsAlone (Allows : Header → List ℕ → Type 0) (Refused : Head
   pub alone : ¬ IsScryptNotAlone h
   -- the unlocker allows the key
   pub allowed : Allows h key
-  -- and no other key
+  -- the unlocker allows no other key
   pub no_other : (other : List ℕ) → Allows h other → other ≡ key
-  -- it refuses the header only if memory is refused
+  -- the unlocker refuses the header only if memory is refused
   pub never : (fault : KeyFault) → Refused h fault → fault ≡ Memory
   -- the header's MAC was made under the key
   pub mac : IsMacOf h key
 
 -- ---- How much work opening a header takes, by a count of scrypt's steps.
 
--- the fault is found before any work: by looking at the header, whose bodies weren't opened yet
+-- the fault is found before any work: by looking at the header, before a body is opened
 abbrev pub is_before_work : KeyFault → Bool
 is_before_work ScryptNotAlone = true
 is_before_work BadScrypt = true
@@ -138,11 +138,11 @@ is_before_work NoMatch = true
 is_before_work BadX25519 = true
 is_before_work other = false
 
--- what the count was before and after a header was opened or refused
+-- how the count of steps changes as a header is opened or refused
 pub record Counts (most : ℕ) (result : Result (List ℕ) KeyFault) (old new : ℕ) : Type 0 where
   -- no step was made if the fault is found before any work
   pub before : IfErr result (λ fault. OnTrue (is_before_work fault) (new ≡ old))
-  -- and never more steps than these
+  -- there are never more steps than these
   pub within : new ≤ old + most
 
 -- ---- How a refusal is numbered among all faults.
