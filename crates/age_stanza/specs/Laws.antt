@@ -32,7 +32,7 @@ pub data Fed : List (List ℕ) → Parsing → Type 0 where
       → Fed pieces old → IsOpen old → FeedsParser old piece result new
       → Fed (pieces ++ piece ∷ []) new
 
--- what such a parser says of the joined pieces
+-- what a parser that was fed these bytes says of them
 abbrev pub StandsFor : Parsing → List ℕ → Type 0
 StandsFor (reading held) bytes = held ≡ bytes
 StandsFor complete bytes = HasHeader bytes

@@ -42,7 +42,7 @@ pub record FirstFault (bytes before l : List ℕ) : Type 0 where
   pub one_line : IsLine l
   -- some header's text begins with the lines before it
   pub valid_before : Begins before
-  -- and none with the line too
+  -- no header's text begins with these lines and the line
   pub faulty : ¬ Begins (before ++ line l)
 
 -- the version line and whole stanzas
