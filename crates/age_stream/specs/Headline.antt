@@ -23,8 +23,8 @@ module _ (sealing : Seals) (opening : OpensBlock) (n : ℕ) (text : List ℕ) wh
   IsWriters nonce block = IsSome (opening nonce block)
       → Contains (sealed sealing n text) (nonce, block)
 
-  -- each block that the segment tries is the writer's, if it opens: as not the last, those in front
-  -- and the next one, each if it is whole; as the last, the next one
+  -- each block that the segment tries is the writer's, if it opens: the blocks in front and the
+  -- next one, each if it is whole, as not the last; and the next one as the last
   pub record IsAuthentic (s : Segment) : Type 0 where
     pub not_last : (j : ℕ) → j ≤ length (stop opening n s).texts
         → length (block_at n s.bytes j) ≡ n + tag_length
@@ -32,7 +32,7 @@ module _ (sealing : Seals) (opening : OpensBlock) (n : ℕ) (text : List ℕ) wh
     pub last : is_tried (stop opening n s) ≡ true
         → IsWriters (nonce_bytes (stop opening n s).index true) (stop opening n s).block
 
-  -- each segment of the deliveries is authentic, those that were given up too
+  -- each segment of the deliveries is authentic, also the ones that were given up
   abbrev pub AreAuthentic : List Delivery → Type 0
   AreAuthentic deliveries =
       AllByRecursion IsAuthentic (standing opening n deliveries).given_up
@@ -78,11 +78,11 @@ sealed_as (pair ∷ pairs) (chunk ∷ chunks) nonce block =
     else sealed_as pairs chunks nonce block
 
 module _ (sealing : Seals) (n : ℕ) (text : List ℕ) where
-  -- comparing with the writer's blocks, in place of opening
+  -- comparing blocks with the writer's instead of opening them
   abbrev pub compared : OpensBlock
   compared = sealed_as (sealed sealing n text) (chunks n text)
 
-  -- block number i isn't the writer's, and each block before it is, at its own number
+  -- block number i isn't the writer's, and each block before it is the writer's of that number
   pub record IsFirstWrong (s : Segment) (i : ℕ) : Type 0 where
     pub before : (j : ℕ) → s.start + j < i → Contains (sealed sealing n text)
         (nonce_bytes (s.start + j) false, block_at n s.bytes j)

@@ -177,7 +177,7 @@ module _ {B : Type 0} (opening : B → OpensBlock) (size : ℕ) (old : OpenerVie
     pub text : (s : Segment) → Stands opening (text_length size) old s
         → released (opening old.key) (text_length size) (with_end s)
         ≡ released (opening old.key) (text_length size) s ++ handed_bytes answer
-    -- it is as long as what was held without a tag, or empty if no block was open
+    -- the text that is lent is as long as what was held, without a tag; empty if no block was open
     pub len : IfOk answer (λ text. length text.now ≡ text_at_end old)
     -- a fault that came before comes again
     pub again : IfErr answer

@@ -35,18 +35,18 @@ module _ {B : Type 0} {n : _} {g : _} where
       }
 
 module _ {B : Type 0} (opening : B → OpensBlock) (n : ℕ) where
-  -- it stands where the standing says
+  -- a replay stands where the standing says
   pub record IsReplayAt (r : ReplayView B) (s : Standing) : Type 0 where
     pub key : r.opener.key ≡ r.key
     pub segment : Stands opening n r.opener s.segment
     pub text : r.text ≡ text_held (opening r.key) n s
     pub refused : r.refused ≡ s.refused
 
-  -- it was given these deliveries
+  -- a replay was given these deliveries
   abbrev pub Replays : ReplayView B → List Delivery → Type 0
   Replays r deliveries = IsReplayAt r (standing (opening r.key) n deliveries)
 
--- how much text a delivery releases at most: no more room is asked for
+-- how many bytes of text a delivery releases at most: room for no more is asked for
 abbrev pub could_release : {B : Type 0} → ℕ → OpenerView B → Delivery → ℕ
 could_release n o (Piece piece) = text_of_piece n o (length piece.now)
 could_release n o End = text_at_end o
@@ -76,7 +76,7 @@ module _ {B : Type 0} (sealing : B → Seals) (opening : B → OpensBlock) (n : 
     -- memory is refused only if the delivery could release more text than there is room for: never
     -- at a restart, nor after the last chunk or a fault
     pub memory : OnErr answer (IsCramped n old delivery)
-    -- what room there is stays
+    -- the room for text doesn't shrink
     pub capacity : old.capacity ≤ new.capacity
     -- its key stays
     pub key : new.key ≡ old.key

@@ -112,7 +112,7 @@ module _ {B : Type 0} (n : ℕ) (old : SealerView B) where
     pub held : IfOk answer (λ block. new.held ≡ block.now)
     -- a refusal leaves all else as it was
     pub refused : OnErr answer (IsRefused old new)
-    -- it isn't finished by one
+    -- a refusal doesn't finish the sealer
     pub unfinished : OnErr answer (new.finished ≡ false)
 
 -- what `feed` and `finish` answer, for blocks of `size` bytes
@@ -121,7 +121,7 @@ module _ {B : Type 0} (sealing : B → Seals) (size : ℕ) (old : SealerView B) 
     -- bytes are taken as far as the open chunk has room, or one after a full chunk
     pub taken : IfOk answer
         (λ step. step.taken ≡ step_len (text_length size) old.held piece)
-    -- the block that is lent is what they add to the blocks before the last
+    -- the block that is lent is what these bytes add to the blocks before the last
     pub chunk : IfOk answer (λ step. (text : List ℕ) → Holds (text_length size) old text
         → block_bytes (sealed_before_last (sealing old.key) (text_length size)
         (text ++ take step.taken piece))
@@ -131,7 +131,7 @@ module _ {B : Type 0} (sealing : B → Seals) (size : ℕ) (old : SealerView B) 
     pub whole : IfOk answer (λ step. IfSome step.chunk (λ block. length block.now ≡ size))
     -- no byte that is taken needs a chunk too many
     pub fits : IfOk answer (λ _. needs_too_many (text_length size) old piece ≡ false)
-    -- a byte that is refused does, and the fault names the chunk that is open
+    -- a byte that is refused needs one, and the fault names the chunk that is open
     pub refused : IfErr answer
         (λ fault. (needs_too_many (text_length size) old piece ≡ true)
         × (fault ≡ too_many old.index))
@@ -146,7 +146,7 @@ module _ {B : Type 0} (sealing : B → Seals) (size : ℕ) (old : SealerView B) 
     pub fits : OnOk answer (old.failed ≡ false)
     -- the open chunk is one that a payload may have
     pub limit : old.index < chunk_limit
-    -- it is refused only if a feed was, with the same fault
+    -- the end is refused only if a feed was, with the same fault
     pub refused : IfErr answer (λ fault. (old.failed ≡ true) × (fault ≡ too_many old.index))
 
 -- ---- How a whole text is sealed, and why it isn't. A chunk has n bytes.
@@ -168,17 +168,18 @@ module _ (sealing : Seals) (n : ℕ) (text : List ℕ) where
     pub few : OnOk answer (chunk_count n text ≤ chunk_limit)
     -- a refusal has a reason
     pub refused : IfErr answer (SealRefuses n text room)
-    -- and adds nothing
+    -- a refusal adds nothing
     pub unchanged : OnErr answer (new ≡ old)
 
 module _ (sealing : Seals) (opening : OpensBlock) (n : ℕ) (text : List ℕ) where
   -- what `seal_all` answers
   pub record SealsPayload {Z : Type 0} (answer : Result (Vec ℕ Z) SealFault) : Type 0 where
-    -- it is the payload
+    -- the answer is the payload
     pub sealed : IfOk answer (λ bytes. bytes.items ≡ payload sealing n text)
     -- Ok comes only for a text of at most 2^48 chunks
     pub few : OnOk answer (chunk_count n text ≤ chunk_limit)
-    -- delivered in any pieces and then an end, it is held as the text again, with the status Done
+    -- the payload, delivered in any pieces and then an end, is held as the text again, with the
+    -- status Done
     pub gives_back : IfOk answer (λ bytes. IsClosed sealing opening n text
         → GivesBack opening n bytes.items text)
     -- a refusal has a reason; there was no room before

@@ -18,15 +18,15 @@ use Rattle.age_stream.specs.declared.step.Status.TheVariants.{Open, LastSeen, Do
 -- ---- What an opener makes of a segment: the bytes that came from one start up to the next. A
 -- chunk has n bytes, its block n + tag_length.
 
--- the number of its first block, the bytes before its first end, whether an end came, and whether
--- bytes came after that
+-- a segment: the number of its first block, the bytes before its first end, whether an end came,
+-- and whether bytes came after that
 pub record Segment : Type 0 where
   pub start : ℕ
   pub bytes : List ℕ
   pub ended : Bool
   pub late : Bool
 
--- the texts that were released, the chunk at which it stands, and the status
+-- what a segment gives: the texts that are released, the chunk at which it stands, and the status
 pub record Outcome : Type 0 where
   pub texts : List (List ℕ)
   pub index : ℕ
@@ -59,11 +59,11 @@ pub record Frontier : Type 0 where
 abbrev pub is_waiting : Frontier → Bool
 is_waiting b = not b.whole && not b.ended
 
--- the input ended where a block had to begin
+-- the input ended where this block had to begin
 abbrev pub is_missing : Frontier → Bool
 is_missing b = length b.block == 0
 
--- it ended before a block had as many bytes as a tag
+-- the input ended before this block had as many bytes as a tag
 abbrev pub is_cut : Frontier → Bool
 is_cut b = nat_lt (length b.block) tag_length
 
@@ -71,7 +71,7 @@ is_cut b = nat_lt (length b.block) tag_length
 abbrev pub is_empty_last : Frontier → Bool
 is_empty_last b = not b.whole && (length b.block == tag_length && nat_lt 0 b.index)
 
--- it is none of these, but is tried as the last
+-- the block is none of these, and is tried as the last
 abbrev pub is_tried : Frontier → Bool
 is_tried b = not (is_waiting b || (is_cut b || is_empty_last b))
 
@@ -79,7 +79,7 @@ is_tried b = not (is_waiting b || (is_cut b || is_empty_last b))
 abbrev pub stays : Frontier → Status → Outcome
 stays b status = record { texts = b.texts; index = b.index; status = status }
 
--- the first line that holds, or else what comes after all lines
+-- of a table, the result of the first line that holds, or else the one after all lines
 abbrev pub first_line : {A : Type 0} → List (Bool × A) → A → A
 first_line [] other = other
 first_line (line ∷ lines) other = if line.0 then line.1 else first_line lines other
@@ -122,7 +122,7 @@ module _ (opening : OpensBlock) where
   abbrev pub is_too_many : Frontier → Bool
   is_too_many b = b.whole && is_some (opening (nonce_bytes b.index false) b.block)
 
-  -- it doesn't open as the last
+  -- the block doesn't open as the last
   abbrev pub is_damaged : Frontier → Bool
   is_damaged b = is_none (opening (nonce_bytes b.index true) b.block)
 
@@ -132,7 +132,7 @@ module _ (opening : OpensBlock) where
       let texts = text_then (opening (nonce_bytes b.index true) b.block) [] in
       record { texts = b.texts ++ texts; index = b.index; status = status }
 
-  -- the outcome: the first line that holds
+  -- the outcome: the first line of this table that holds
   abbrev pub verdict : Frontier → Outcome
   verdict b =
       first_line (
@@ -155,8 +155,8 @@ module _ (opening : OpensBlock) where
 
 -- ---- What is held after a list of deliveries.
 
--- the segments that were given up, the text before the current one, that one, and how many restarts
--- were refused
+-- what deliveries leave: the segments that were given up, the text before the current segment, that
+-- segment, and how many restarts were refused
 pub record Standing : Type 0 where
   pub given_up : List Segment
   pub base : List ℕ
@@ -178,7 +178,7 @@ abbrev pub with_end : Segment → Segment
 with_end s = record s { ended = true }
 
 module _ (opening : OpensBlock) (n : ℕ) where
-  -- the text before the current segment, and what that released
+  -- the text before the current segment, and what that segment released
   abbrev pub text_held : Standing → List ℕ
   text_held s = s.base ++ flat_map (λ text. text) (outcome opening n s.segment).texts
 
