@@ -39,7 +39,7 @@ fn hold_text(stream: &mut WriteStream, piece: &[u8]) -> usize
     count
 }
 
-/// Whether bytes of a piece can be held before the chunk has to be sealed.
+/// Whether bytes of a piece can be held before the open chunk has to be sealed.
 fn has_room(stream: &WriteStream, piece: &[u8]) -> bool
     ensures room { result ≡ true → 0 < length piece.now → stream.now.held < chunk_length }
     ensures full { result ≡ false → (0 < length piece.now) × (chunk_length ≤ stream.now.held) }
