@@ -64,7 +64,8 @@ abbrev pub IsCut : List ℕ → HeadFault → Type 0
 IsCut bytes fault = EndsInHeader bytes
     × (fault ≡ record { kind = HeadCut; line = line_after bytes })
 
--- the fault of some bytes, after which the input ended: of a line, of their length, or of their end
+-- the fault of some bytes and the end of the input after them: of a line, of their length, or of
+-- their end
 abbrev pub IsHeadFault : List ℕ → HeadFault → Type 0
 IsHeadFault bytes fault = (HasHeader bytes → ⊥) × (IsFault bytes fault ⊎ IsCut bytes fault)
 

@@ -52,8 +52,8 @@ impl Took {
     {}
 }
 
-/// A sink that takes this many bytes and keeps none of them; then it refuses more, and to send them
-/// on.
+/// A sink that takes this many bytes and keeps none of them. Then it refuses more bytes, and a
+/// flush.
 #[derive(Drop)]
 struct Limit {
     left: u128,
@@ -77,7 +77,7 @@ impl Limit {
         }
     }
 
-    /// Refuses, since it took all of them.
+    /// Refuses a call, since the sink took all its bytes.
     fn refuse(&mut self) -> Failed
         requires { self.old.left ≡ 0 }
         ensures left { self.new.left ≡ self.old.left }

@@ -74,8 +74,8 @@ impl Tally {
         }
     }
 
-    /// Counts a chunk that was written, unless it was the last of its text: that leaves the index
-    /// of the opener, and isn't linked.
+    /// Counts a chunk that was written, unless it was the last of its text: a last chunk doesn't
+    /// raise the opener's index, and isn't linked.
     pub(crate) fn count(&mut self, index: u64, chunk: &[u8])
         requires { index < chunk_limit }
         ensures same { self.new.written ≡ self.old.written }
@@ -89,7 +89,7 @@ impl Tally {
         self.advance(index, chain);
     }
 
-    /// Like `count`, with the link given.
+    /// Counts as `count` does, with the link given.
     pub(crate) fn advance(&mut self, index: u64, chain: Option<[u8; 32]>)
         requires { index < chunk_limit }
         ensures same { self.new.written ≡ self.old.written }
