@@ -23,9 +23,10 @@ use std::rt::HostRuntime;
 /// The machine's files. Contracts see what was done with them, and none of their bytes. A name is a
 /// path; `/dev/stdin`, `/dev/stdout`, `/dev/stderr` and their names under `/dev/fd` and
 /// `/proc/self/fd` are the streams that the program was started with. Two regular files or pipes
-/// are one if device and inode say so, and two block devices if their number does. Character
-/// devices and sockets are open to all that write. What is read and gives each of its bytes once is
-/// opened once: a pipe, a socket, a terminal and the like, and standard input, whatever it is.
+/// are one if they have the same device and inode, and two block devices if they have the same
+/// number. Character devices and sockets that are written aren't compared. A stream gives each of
+/// its bytes once, and is opened once to be read: a pipe, a socket, a terminal and the like, and
+/// standard input, whatever that is.
 #[derive(Drop)]
 pub struct HostFiles<'r, 'w> {
     rt: &'r HostRuntime,

@@ -13,15 +13,15 @@ pub(crate) const OUTPUT_MODE: u32 = 0o666;
 /// against which guesses can be tried.
 pub(crate) const POSITION_MODE: u32 = 0o600;
 
-/// Opens a file to be written without emptying it; `None` if there is none. It is opened as one
-/// that may have to be made: so the system refuses a file or a pipe of somebody else's in a sticky
-/// folder, if it guards these.
+/// Opens a file to be written without emptying it; `None` if there is none. It is opened as if it
+/// might have to be made (`O_CREAT`), since only then the system refuses somebody else's file or
+/// pipe in a sticky folder, if it protects these.
 pub(crate) fn open_to_write(rt: &HostRuntime, name: &str) -> io::Result<Option<File>> {
     open_there(rt, name, false)
 }
 
-/// Opens it to be read too, if that is allowed: then a pipe that has come to its place isn't waited
-/// for.
+/// Opens a file to be written and read, or only to be written if reading isn't allowed. If a pipe
+/// has come to its place, opening it to be read too doesn't wait for a reader.
 pub(crate) fn open_at_once(rt: &HostRuntime, name: &str) -> io::Result<Option<File>> {
     match open_there(rt, name, true) {
         Err(error) if error.kind() == io::ErrorKind::PermissionDenied => open_to_write(rt, name),

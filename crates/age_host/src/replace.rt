@@ -158,10 +158,10 @@ fn if_found(opened: Option<File>, found: Node) -> io::Result<File> {
     }
 }
 
-/// The pipe or the device that was found at a name, open to be written. A pipe isn't waited for: it
-/// is open to be read too for a moment, and what is written then fails if nobody else reads it. Of
-/// a pipe that this run may not read a reader is waited for: the system opens it in no other way
-/// without one.
+/// The pipe or the device that was found at a name, open to be written. A pipe is opened to be read
+/// too for a moment, so that opening it doesn't wait for a reader; what is written then fails if
+/// nobody else reads it. If this run may not read the pipe, it waits for a reader: there is no
+/// other way to open it.
 fn open_device(rt: &HostRuntime, name: &str, found: Node) -> io::Result<File> {
     if !fs::metadata(rt, name)?.file_type().is_fifo() {
         return if_found(open_to_write(rt, name)?, found);

@@ -1,20 +1,20 @@
-//! Tries reads and writes of the machine again that it says to try again.
+//! Which reads and writes of the machine are tried again after they failed.
 
 use std::io;
 use std::rt::HostRuntime;
 use std::thread::sleep;
 use std::time::Duration;
 
-/// How often a read or a write is tried at most. Waiting for a descriptor that isn't ready may take
-/// as long as for one that lets its reader wait.
+/// How many times a read or a write is tried at most. A non-blocking descriptor that isn't ready
+/// may have to be waited for as long as a blocking one.
 pub(crate) const TRIES: u64 = u64::MAX;
 
-/// For how many milliseconds to wait for a descriptor that isn't ready.
+/// How many milliseconds pass before a descriptor that wasn't ready is tried again.
 const PAUSE: u64 = 1;
 
-/// Whether a read or a write that failed is to be tried again: it was interrupted, or another
-/// program, which shares the descriptor, has made it one that isn't waited for, and so it is waited
-/// for here.
+/// Whether a read or a write that failed is to be tried again: it was interrupted, or its
+/// descriptor is non-blocking and isn't ready. Another program that shares the descriptor may have
+/// made it so. Then this waits a moment first.
 pub(crate) fn is_to_retry(rt: &HostRuntime, error: &io::Error) -> bool {
     match error.kind() {
         io::ErrorKind::Interrupted => true,
