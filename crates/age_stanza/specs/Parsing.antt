@@ -33,7 +33,7 @@ IsLine l = AllByRecursion (λ c. c ≢ 10) l
 abbrev pub AreLines : List ℕ → Type 0
 AreLines bytes = (bytes ≡ []) ⊎ ((lines : List ℕ) × (bytes ≡ line lines))
 
--- l is the first line, after the lines before it, with which no header's text begins
+-- l is the first faulty line, after the lines before it: no header's text begins with these and l
 pub record FirstFault (bytes before l : List ℕ) : Type 0 where
   pub rest : List ℕ
   -- the bytes are the lines before it, the line and a rest
