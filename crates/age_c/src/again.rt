@@ -73,11 +73,11 @@ fn marks_in(len: usize) -> u32
     }
 }
 
-/// Whether it is worth opening the header that `front` begins with, after an answer of [`MORE`]
-/// here or of an `age_c_open_..` said that its first `seen` bytes weren't enough: 0 if so, else
-/// [`MORE`]. It is worth it as soon as the header and the nonce are there. Before that it is so
-/// rarely that all calls for one header together take a time that is linear in its length, into
-/// however small pieces it was cut.
+/// Whether it is worth a try to open the header that `front` begins with, after an answer of
+/// [`MORE`] here or of an `age_c_open_..` said that its first `seen` bytes weren't enough: 0 if so,
+/// else [`MORE`]. It is as soon as the header and the nonce are there, and only a few times before.
+/// So all calls for one header together take time that is linear in its length, however small its
+/// pieces are.
 #[unsafe(no_mangle)]
 pub extern "C" fn age_c_may_open(front: &[u8], seen: usize) -> u32
     ensures begun { (header : Header) (len : ℕ) → HasFront front.now header len

@@ -1,5 +1,5 @@
--- The key of a file's payload, and the file's box by that key. Private: no public contract cites
--- this module.
+-- By which key and box a reader or a writer opens or seals the payload of its file. Private: no
+-- public contract cites this module.
 use Rattle.std.specs.Prelude.{ℕ, List, []}
 use Rattle.age_cipher.specs.Aead.{sealing as sealing_with, opening as opening_with}
 use Rattle.age_chunk.specs.ChunkBoxes.{Seals, OpensBlock}
