@@ -1,4 +1,4 @@
--- The keystream of ChaCha20 (RFC 8439, 2.3 and 2.4), byte by byte.
+-- What the keystream of ChaCha20 is (RFC 8439, 2.3 and 2.4), byte by byte.
 --
 -- RFC 8439 ends a block's initial state with a 32-bit counter and the three words of the nonce. The
 -- generator reads the same four words as a counter of 64 bits and a stream number of 64 bits. So

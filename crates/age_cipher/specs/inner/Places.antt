@@ -1,4 +1,4 @@
--- A text that is changed place by place. Private: no public contract cites this module.
+-- How a text is changed place by place. Private: no public contract cites this module.
 use Rattle.std.specs.Prelude.{◌≡◌, ℕ, ◌/◌, ◌%◌, ◌<◌, List, length, bit_xor, slice_index}
 use Rattle.std.specs.Int.{byte_at}
 
