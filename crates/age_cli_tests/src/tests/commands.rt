@@ -15,7 +15,7 @@ const SEALED: &[u8] = b"age-encryption.org/v1\n-> scrypt dGhlIHNjcnlwdCBzYWx0IQ 
 const CLEAR: &[u8; 40] =
     b"abcd\0\0\0\0\0\0\0\0\0\0\0\0\0\0\0\0efgh\0\0\0\0\0\0\0\0\0\0\x01\x01\0\0\0\0";
 
-/// A header whose work factor is one more than any that is accepted.
+/// A header with a work factor of one more than the greatest that is accepted.
 const FACTOR_23: &[u8] = b"age-encryption.org/v1\n-> scrypt AAAAAAAAAAAAAAAAAAAAAA 23\n\
         AAAAAAAAAAAAAAAAAAAAAAAAAAAAAAAAAAAAAAAAAAA\n\
         --- AAAAAAAAAAAAAAAAAAAAAAAAAAAAAAAAAAAAAAAAAAA\n0123456789abcdef0123456789abcdef";
@@ -209,7 +209,7 @@ const RESUMING: [&str; 9] = [
     "WHOLE",
 ];
 
-/// Whether the position is that after two chunks; the chain over them is Python's.
+/// Whether this is the position after two chunks; the chain over them is Python's.
 fn is_after_two_chunks(files: &MemFiles) -> bool {
     match files.get("POSITION") {
         Some(text) => {
@@ -351,7 +351,7 @@ fn work_factor_23(rt: HostRuntime) {
 }
 
 /// Whether a drill prints a line for each delivery, and refuses a bad script, and a command line
-/// that says of no key, or of two.
+/// that names no key, or two.
 fn is_drilled(alloc: Global) -> bool {
     let mut files = MemFiles::new(alloc, ROOM);
     let lines = Ended {
