@@ -1,4 +1,5 @@
--- The sealing of chunks under a payload key is valid, by the laws of the cipher.
+-- The sealing of chunks under a payload key is valid, by the laws of the cipher. The code cites this
+-- proof, so it can't stand in `proofs/`.
 use Rattle.std.specs.Prelude.{ℕ, List, []}
 use Rattle.std.proofs.Common.{sym}
 use Rattle.age_cipher.specs.Aead.{sealing, opening}
