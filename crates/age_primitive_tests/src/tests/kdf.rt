@@ -19,7 +19,7 @@ const LONG_KEY: [u8; 200] = [
     193, 194, 195, 196, 197, 198, 199,
 ];
 
-// By python: hmac.digest(bytes(i % 251 for i in range(n)), b"message", "sha256").hex(), for n of
+// By Python: hmac.digest(bytes(i % 251 for i in range(n)), b"message", "sha256").hex(), for n of
 // 64, 65 and 200.
 const OF_64: [u8; 32] = [
     0xeb, 0x97, 0xf1, 0x52, 0x11, 0xc0, 0x2e, 0x38, 0xe3, 0x21, 0x3e, 0xdb, 0x04, 0x5e, 0x83, 0x01,

@@ -13,7 +13,7 @@ const LABELLED_SALT: [u8; 44] =
     *b"age-encryption.org/v1/scrypt\x00\x01\x02\x03\x04\x05\x06\x07\x08\x09\x0a\x0b\x0c\x0d\x0e\
         \x0f";
 
-// By python, for each log and each salt:
+// By Python, for each log and each salt:
 //     hashlib.scrypt(b"correct horse", salt=salt, n=2**log, r=8, p=1, dklen=32, maxmem=2**30)
 const KEYS_AT_1: [[u8; 32]; 3] = [
     [
