@@ -14,7 +14,7 @@ use age_stream::{BLOCK_LEN, seal_all};
 use sha2::{Digest, Sha256};
 use std::alloc::Global;
 
-// By python's hashlib, hmac and cryptography: the file key is the bytes 0 to 15, the payload nonce
+// By Python's hashlib, hmac and cryptography: the file key is the bytes 0 to 15, the payload nonce
 // 100 to 115, and the one stanza, of type `x`, has an empty body.
 const KEY: [u8; 16] = [0, 1, 2, 3, 4, 5, 6, 7, 8, 9, 10, 11, 12, 13, 14, 15];
 
@@ -107,7 +107,7 @@ fn long_text(alloc: Global, len: u32) -> Option<Vec<u8>> {
     Some(text)
 }
 
-/// The file of a text, sealed here; a test compares the digest of one with python's.
+/// The file of a text, sealed here; a test compares the digest of one with Python's.
 fn file_of(alloc: Global, text: &[u8]) -> Option<Vec<u8>> {
     let key = payload_key(&FileKey::new(KEY), &NONCE);
     match seal_all::<PayloadKey, BLOCK_LEN>(alloc, &key, text) {
@@ -409,7 +409,7 @@ fn long_run(alloc: Global, cut: usize, plan: &Plan) -> Option<Outcome> {
     }
 }
 
-/// Whether the long text's file is python's.
+/// Whether the long text's file is Python's.
 fn is_long_file_right(alloc: Global) -> bool {
     match example_of(alloc, 200_000) {
         Some(example) => {
@@ -474,7 +474,7 @@ fn a_byte_after_a_full_last_chunk(rt: HostRuntime) {
     assert!(rt; ends(&two_chunks(rt.alloc(), b"\0"), 21, 131_072, Some(1)));
 }
 
-/// The text of the position after two chunks of the long text, by python's base64.
+/// The text of the position after two chunks of the long text, by Python's base64.
 const POSITION_TEXT: &[u8; 150] = b"age-position/v2 2 d1OYKDfjAFYr1YZ8jnp3n37BEIqWWo6NZKua5lA6O3I \
         Z/+/pb0gy0Qz9r4nrfQPNKnIsXURwLLWg+TFayQJBo4 hEND0PoQZoUO3u7dpzXqdX+6bFzqNvs/DBT45+lEskk\n";
 
@@ -540,7 +540,7 @@ fn is_refused(alloc: Global, front: &[u8], end: &[u8]) -> bool {
     }
 }
 
-/// Whether the text is refused in which the last character has low bits that no byte takes.
+/// Whether a text is refused if its last character has low bits that no byte takes.
 fn is_loose_refused(alloc: Global) -> bool {
     match zero_position(alloc, b"age-position/v2 3", b"") {
         Some(mut text) => {

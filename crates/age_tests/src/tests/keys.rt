@@ -9,7 +9,7 @@ use age_stanza::{HeadParser, HeadStep, Header, is_header};
 use age_stream::ChunkBox;
 use std::alloc::Global;
 
-// By python's hmac, hashlib, base64 and cryptography: the file key is the bytes 0 to 15, the
+// By Python's hmac, hashlib, base64 and cryptography: the file key is the bytes 0 to 15, the
 // payload's nonce 16 to 31, the share 1 to 32, and the body is zeros.
 const KEY_TEXT: &str = "000102030405060708090a0b0C0D0E0F";
 

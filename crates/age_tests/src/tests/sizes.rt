@@ -65,7 +65,7 @@ fn decrypts_from(
     }
 }
 
-/// Whether a text has a file of this length, from which it comes back.
+/// Whether a text has a file of this length, and comes back from it.
 fn comes_back(alloc: Global, text: &[u8], file: usize) -> bool {
     match encrypted(alloc, text, file) {
         Some(bytes) => bytes.len() == file && decrypts(alloc, bytes.as_slice(), text),
@@ -73,7 +73,7 @@ fn comes_back(alloc: Global, text: &[u8], file: usize) -> bool {
     }
 }
 
-/// Whether a text of this many bytes has a file of this length, from which it comes back.
+/// Whether a text of this many bytes has a file of this length, and comes back from it.
 fn there_and_back(alloc: Global, plain: usize, file: usize) -> bool {
     match vec![in alloc; 7u8; plain] {
         Ok(text) => comes_back(alloc, text.as_slice(), file),
