@@ -1,4 +1,4 @@
--- A key that the definitions find in the header of a text.
+-- Which key the definitions find in the header of a text.
 use Rattle.std.specs.Prelude.{ℕ, List, take}
 use Rattle.age_stanza.specs.Grammar.{HeadText}
 use Rattle.age_stanza.specs.declared.header.Header.{Header}
