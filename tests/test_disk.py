@@ -371,7 +371,7 @@ class DiskTest(FilesCase):
             self.see(f"every call number {every} is interrupted: standard output", self.read("out") == PLAIN)
 
     def test_not_waiting(self):
-        """A pipe that another program has made one that isn't waited for is waited for all the same."""
+        """A pipe that another program has made non-blocking is waited for too."""
         reader, writer = os.pipe()
         os.set_blocking(reader, False)
         first = self.started("decrypt --pass pass /dev/stdin out", stdin=reader)
@@ -397,7 +397,7 @@ class DiskTest(FilesCase):
         self.see("standard output doesn't wait: all of it", b"".join(held) == PLAIN)
 
     def test_closed(self):
-        """Where standard streams are closed, nothing that is meant for them goes to a file."""
+        """If standard streams are closed, nothing that is meant for them goes to a file."""
         for streams in ("<&-", ">&-", "2>&-", "<&- >&-", "<&- 2>&-", ">&- 2>&-", "<&- >&- 2>&-"):
             self.remove("saved", "out")
             words = f"{self.program} decrypt --progress --pass pass --save saved cut out {streams}"

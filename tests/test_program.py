@@ -1,4 +1,4 @@
-"""Runs the built program in ways that a transcript can't: with closed streams, on streams that it shares with other programs, at a terminal, on
+"""Runs the built program as a transcript can't: with closed streams, on streams that it shares with other programs, at a terminal, on
 words that aren't UTF-8 or would forge a line, on a file and a pipe that are long enough for its progress, and with too little memory.
 No contract sees the bytes of a real file, pipe or device. What a transcript can show is in tests/runs.d, and the report of a header
 from standard input is the stored run of crates/age_tool."""

@@ -257,7 +257,7 @@ class SavingTest(FilesCase):
         self.expect(1, chunk_fault(1), "decrypt --pass pass --save start cut old")
 
     def test_changed_inputs_of_resume(self):
-        """The same of a run that was resumed at chunk 1. What is before that isn't opened again."""
+        """The input of a run that was resumed at chunk 1 changes. What is before that chunk isn't opened again."""
         self.stop_at_chunk_1()
         words = "resume --position start --old old"
         changed = b"age_tool: 26 Read\n" + reason("read cut again", "it has changed")
