@@ -104,9 +104,9 @@ abbrev pub AreFeedCalls : Stream → List FeedCall → Type 0
 AreFeedCalls s [] = Unit {0}
 AreFeedCalls s (c ∷ calls) = IsFeedCall s c × AreFeedCalls c.after calls
 
--- the headline for a caller whose pieces have any length: so it is after any calls on a stream that
--- holds nothing and whose reader is at a chunk and was given nothing, as it is at chunk 0 after an
--- `age_c_open_..`, and at the chunk that it goes to after `age_c_seek`
+-- the headline for a caller whose pieces have any length: what `IsTextRight` says holds after any
+-- calls on a stream that holds nothing and whose reader is at a chunk and was given nothing, as it
+-- is at chunk 0 after an `age_c_open_..`, and at the chunk that it goes to after `age_c_seek`
 abbrev pub FeedsAreWritten : Type 0
 FeedsAreWritten = (s : Stream) (start : ℕ) → IsAt s.reader (fresh start) → s.held ≡ 0
     → start < chunk_limit → (calls : List FeedCall) → AreFeedCalls s calls
