@@ -10,7 +10,7 @@ import re
 
 from tools.workspace import CRATES
 
-# (quotes belong to a name, so that the word of a string is no name of a definition)
+# (with its quotes, so that a string of one word names no definition)
 NAME = r"[^\s(){}\[\];,:.&]+"
 WORD = re.compile(NAME)
 QUALIFIED = re.compile(rf"({NAME})\.({NAME})")
