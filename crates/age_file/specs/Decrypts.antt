@@ -65,22 +65,27 @@ DecryptStops keep Allows Refused old new (Some r) stopped = IsFromStart r
 
 -- ---- A file that is undamaged.
 
--- the source is an age file of this text, and the unlocker yields its key and no other, and can
--- fail only by running out of memory
+-- the source is an age file of this text, and the unlocker opens it
 pub record IsWhole (Allows : Header → List ℕ → Type 0) (Refused : Header → KeyFault → Type 0)
     (coming : Option (List ℕ)) (text : List ℕ) : Type 0 where
   pub header : Header
   pub key : List ℕ
   pub nonce : List ℕ
   pub bytes : List ℕ
+  -- the bytes are the age file of the text, with this header, key and nonce
   pub file : FileOf header key nonce text bytes
+  -- the source has these bytes and no more
   pub all : coming ≡ Some bytes
+  -- the text isn't too long for a payload
   pub few : chunk_count chunk_length text ≤ chunk_limit
+  -- no scrypt stanza stands beside another stanza
   pub alone : ¬ IsScryptNotAlone header
+  -- the unlocker yields no key but the file's
   pub only : (k : List ℕ) → Allows header k → k ≡ key
+  -- the unlocker fails only if memory runs out
   pub never : (fault : KeyFault) → Refused header fault → fault ≡ KeyMemory
 
--- the source is such a file, and its last block, if that is full, doesn't open as one before the
+-- the source is a whole file, and its last block, if that is full, doesn't open as one before the
 -- last
 pub record IsUndamagedFile (Allows : Header → List ℕ → Type 0) (Refused : Header → KeyFault → Type 0)
     (coming : Option (List ℕ)) (text : List ℕ) : Type 0 where
@@ -101,16 +106,19 @@ StopsOutside other = ⊥
 abbrev pub WritesText : Option (List ℕ) → Option (List ℕ) → ℕ → List ℕ → Type 0
 WritesText old new written text = Appends old new text × (written ≡ length text)
 
--- what a decryption promises, whether positions are kept or dropped: its run, if it came to the
--- payload; how it ended and how it stopped; that the sink sent on what it took; and that the sink
--- keeps its label
+-- what a decryption promises, whether positions are kept or dropped
 pub record Decrypts (keep : PositionPolicy) (Allows : Header → List ℕ → Type 0)
     (Refused : Header → KeyFault → Type 0) (old new : Ports) (result : Result Done Stopped)
     : Type 0 where
+  -- the run, if the decryption came to the payload
   pub run : Option Run
+  -- after Ok it ended as this run
   pub done : IfOk result (λ done. IsSomeAnd run (DecryptEnds Allows old new done))
+  -- after a fault it stopped in this run, or before the payload
   pub stopped : IfErr result (DecryptStops keep Allows Refused old new run)
+  -- after Ok the sink sent on what it took
   pub settled : OnOk result (new.sink.settled ≡ true)
+  -- the sink keeps its label
   pub named : new.sink.label ≡ old.sink.label
 
 -- ---- A decryption that hands out the key.

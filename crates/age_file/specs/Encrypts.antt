@@ -29,18 +29,23 @@ pub record SecretView : Type 0 where
 abbrev pub AgeFile : SecretView → List ℕ → List ℕ → Type 0
 AgeFile s text bytes = FileOf (scrypt_head s.pass s.log s.salt s.key) s.key s.nonce text bytes
 
--- the age file of all that the source gave, of no more than 2^48 chunks, was written, and both are
--- counted
+-- the age file of all that the source gave was written
 pub record Encrypts (s : SecretView) (old new : Ports) (written : Written) : Type 0 where
   pub text : List ℕ
   pub file : List ℕ
+  -- the text has no more than 2^48 chunks
   pub few : chunk_count chunk_length text ≤ chunk_limit
+  -- the file is the text's
   pub is : AgeFile s text file
+  -- the text is all that the source gave
   pub read : Consumes old.source.remaining new.source.remaining text
   pub at_end : IsAtEnd new.source.remaining
+  -- the sink took the file
   pub wrote : Appends old.sink.taken new.sink.taken file
+  -- the bytes of both are counted
   pub plain_is : written.plain ≡ length text
   pub file_is : written.file ≡ length file
+  -- no call of the source or the sink failed
   pub none_failed : NoneFailed old new
 
 -- ---- How an encryption stopped.

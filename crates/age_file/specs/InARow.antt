@@ -48,14 +48,16 @@ HandsOut first (r ∷ earlier) p = IsPositionOf r.run p ⊎ IsSame r.position p
 abbrev pub HasEnded : Run → Type 0
 HasEnded r = (r.out ≡ run_text r) × ((run_outcome r).status ≡ AllDone)
 
--- a run copied the beginning of what was written before, and wrote the beginning of its text after
--- it; no block that came and is tried opens, except as the writer of this text sealed it
+-- a resumed run follows on earlier ones
 pub record FollowsOn (text : List ℕ) (first : Run) (earlier : List ResumedRun) (r : ResumedRun)
     : Type 0 where
   pub at : r.run.first ≡ r.position.index
+  -- it copied the beginning of what was written before, which has the position's chain
   pub old : IsPrefixOf r.run.copied (held (last first earlier))
   pub old_text : IsOldText r.position r.run.copied
+  -- after that it wrote the beginning of the text that it released
   pub prefix : IsPrefixOf r.run.out (run_text r.run)
+  -- no block that came and is tried opens, except as the writer of this text sealed it
   pub authentic : IsTexts text r.run
 
 abbrev pub AllFollow : List ℕ → Run → List ResumedRun → Type 0
@@ -63,14 +65,16 @@ AllFollow text first [] = IsFromStart first × IsAuthenticRun first text
     × IsPrefixOf first.out (run_text first)
 AllFollow text first (r ∷ earlier) = FollowsOn text first earlier r × AllFollow text first earlier
 
--- what the last of such runs wrote begins the text, and is all of it if it ended; so does what one
--- more run wrote that stopped while it copied that output; and a position that the last one handed
--- out carries the chain over the text's first chunks
+-- what the last of such runs wrote, and which positions it handed out
 pub record WritesRight (text : List ℕ) (first : Run) (runs : List ResumedRun) : Type 0 where
+  -- what the last run wrote begins the text
   pub prefix : IsPrefixOf (held (last first runs)) text
+  -- what one more run wrote that stopped while it copied that output begins the text too
   pub in_copy : (copied : List ℕ) → IsPrefixOf copied (held (last first runs))
       → IsPrefixOf copied text
+  -- the last run wrote all of the text if it ended
   pub all : HasEnded (last first runs) → held (last first runs) ≡ text
+  -- each position that the last run handed out carries the chain over the text's first chunks
   pub carries : (p : Position) → HandsOut first runs p → CarriesText text p
 
 abbrev pub RunsInARow : Type 0
@@ -161,12 +165,13 @@ module _ (Who : Type 0) (Allows : Who → Header → List ℕ → Type 0)
 
 -- ---- Bound positions: what a position that carries a text's chain says of a resumed run.
 
--- the position carries the chain over this text's first chunks, the bytes that were copied have
--- that chain only if they are these chunks, and no block that came and is tried opens, except as
--- the writer of this text sealed it
+-- the position binds a resumed run to this text
 pub record BindsTo (text : List ℕ) (p : Position) (r : Run) : Type 0 where
   pub few : chunk_count chunk_length text ≤ chunk_limit
+  -- the position carries the chain over the text's first chunks, and the bytes that were copied
+  -- have that chain only if they are these chunks
   pub to : IsBoundTo p r.copied text
+  -- no block that came and is tried opens, except as the writer of this text sealed it
   pub authentic : IsTexts text r
 
 -- the copied bytes are the text's, and what was written begins it
@@ -174,7 +179,8 @@ pub record Bound (text : List ℕ) (p : Position) (r : Run) : Type 0 where
   pub copied : r.copied ≡ take (p.index * chunk_length) text
   pub begins : IsPrefixOf (held r) text
 
--- every resumed run is bound so; and if the call is done, all of the text was written
+-- every resumed run that a position binds to a text is bound; and if the call is done, all of the
+-- text was written
 module _ (Who : Type 0) (Allows : Who → Header → List ℕ → Type 0) where
   abbrev pub RunsAreBound : Type 0
   RunsAreBound = (who : Who) (text : List ℕ) (p : Position) (old new : ResumePorts) (written : ℕ)

@@ -79,26 +79,30 @@ pub record ResumePorts : Type 0 where
 abbrev pub resume_ports : Ports → SourceView → ResumePorts
 resume_ports main old = record { main = main; old = old }
 
--- only these bytes were written, the first of those that were read from the old text, at most one
--- pull past what the position needs; if that text begins with the chunks of a text before the
--- position, these bytes begin that text
+-- only these bytes of the old text were written
 pub record WritesOld (p : Position) (old new : ResumePorts) (written : ℕ) (copied : List ℕ)
     : Type 0 where
+  -- what was read of the old text
   pub pulled : List ℕ
   pub read : Consumes old.old.remaining new.old.remaining pulled
+  -- it is at most one pull more than the position needs
   pub few : length pulled ≤ p.index * chunk_length + pull_room
+  -- the first of these bytes were written, and nothing else
   pub front : IsPrefixOf copied pulled
   pub wrote : Appends old.main.sink.taken new.main.sink.taken copied
   pub count : written ≡ length copied
+  -- if the old text begins with the chunks of a text before the position, they begin that text
   pub of : (text : List ℕ) → BeginsWith p old.old.remaining text → IsPrefixOf copied text
 
--- a run from a position, which is the file's and the old text's; of that at most one pull past it
--- was read
+-- a run that begins from a position
 pub record IsFrom (p : Position) (old new : SourceView) (r : Run) : Type 0 where
   pub index : r.first ≡ p.index
+  -- the position is the file's, and was made under its key
   pub own : HasId p r.file
   pub tagged : HasTag p r.file
+  -- what was copied is the text that the position was made for
   pub old_text : IsOldText p r.copied
+  -- of the old text at most one pull more was read
   pub more : List ℕ
   pub old_read : Consumes old.remaining new.remaining (r.copied ++ more)
   pub few : length more ≤ pull_room
@@ -227,32 +231,39 @@ module _ (Allows : Header → List ℕ → Type 0) (p : Position) (old new : Res
 
 -- ---- A file that is undamaged from a position on.
 
--- the source is an age file of this text, and the unlocker has its key and no other; the position
--- is this file's, of a chunk that the text has, and carries its chain; the old text is the text's
--- before that chunk; and the last block, if that is full, doesn't open as one before the last
+-- an age file of this text is undamaged from this position on
 pub record IsUndamagedRest (Allows : Header → List ℕ → Type 0)
     (Refused : Header → KeyFault → Type 0) (p : Position) (coming old_coming : Option (List ℕ))
     (text : List ℕ) : Type 0 where
+  -- the source is an age file of the text, and the unlocker opens it
   pub whole : IsWhole Allows Refused coming text
+  -- the position is of a chunk that the text has
   pub below : p.index < chunk_count chunk_length text
+  -- the position is the file's, and was made under its key
   pub own : p.file_id ≡ file_id whole.file.front whole.nonce
   pub tagged : IsTagged p whole.key whole.nonce
+  -- the position carries the chain over the text's first chunks
   pub carries : p.chain ≡ chain_over p.index text
+  -- the old text begins with these chunks
   pub old_text : BeginsWith p old_coming text
+  -- the last block, if it is full, doesn't open as one before the last
   pub closed : IsClosed (box whole.key whole.nonce) (unbox whole.key whole.nonce) chunk_length text
 
 -- ---- What a resumed decryption promises.
 
--- what a resumed decryption promises, whether positions are kept or dropped: its run, if it came to
--- the payload; how it ended and how it stopped; that the sink sent on what it took; and that the
--- sink keeps its label
+-- what a resumed decryption promises, whether positions are kept or dropped
 pub record ResumesText (keep : PositionPolicy) (Allows : Header → List ℕ → Type 0)
     (Refused : Header → KeyFault → Type 0) (p : Position) (old new : ResumePorts)
     (result : Result Done Stopped) : Type 0 where
+  -- the run, if the decryption came to the payload
   pub run : Option Run
+  -- after Ok it ended as this run
   pub done : IfOk result (λ done. IsSomeAnd run (ResumeEnds Allows p old new done))
+  -- after a fault it stopped in this run, or before the payload
   pub stopped : IfErr result (ResumeStops Allows p old new keep Refused run)
+  -- after Ok the sink sent on what it took
   pub settled : OnOk result (new.main.sink.settled ≡ true)
+  -- the sink keeps its label
   pub named : new.main.sink.label ≡ old.main.sink.label
 
 -- what a resumed decryption promises that also says where it stood at its end
