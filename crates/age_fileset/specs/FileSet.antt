@@ -25,10 +25,12 @@ pub data Event : Type 0 where
 -- ---- What contracts see of a set of files, the faults that it returns, and what it reads of a
 -- file that may be missing.
 
--- the bytes of the entry of each name, if there is one; and what was opened, prepared, created,
--- replaced and closed, in order, whether it succeeded or not, even if the entries aren't shown
+-- what contracts see of a set of files
 pub record FilesView : Type 0 where
+  -- the bytes of the entry of each name, if there is one
   pub entries : List ℕ → Option (List ℕ)
+  -- what was opened, prepared, created, replaced and closed, in order, whether it succeeded or not;
+  -- also of a set that doesn't show its entries
   pub events : List Event
 
 -- this fault, or memory ran out
@@ -65,12 +67,15 @@ pub record PutsEntry {E : Type 0} (name bytes : List ℕ) (result : Result (Unit
   -- Nothing changes at all, if it failed.
   pub err : OnErr result (new ≡ old)
 
--- the files, the names that can't be written, and how many bytes a file that is written can hold,
--- and what was done
+-- a set of files over memory
 pub record Shelf : Type 0 where
+  -- the files
   pub entries : List MemEntry
+  -- the names that can't be written
   pub refused : List (List ℕ)
+  -- how many bytes a file that is written can hold
   pub room : ℕ
+  -- what was done
   pub events : List Event
 
 -- the sink of a new file that holds at most this many bytes
