@@ -66,12 +66,15 @@ NamesTwice (a ∷ rest) = IsOneOf a.name a.others ⊎ NamesTwice rest
 -- ---- The order in which a command opens and makes the files that the arguments name, and which of
 -- these names have to differ.
 
--- the names that have to differ, and what a command opens, creates and replaces: what its arguments
--- are judged by; if it ends well; and with all that a stop may add
+-- which names of a command have to differ, and what it opens, creates and replaces
 pub record Order : Type 0 where
+  -- the names that have to differ
   pub apart : List Apart
+  -- what the command opens to judge its arguments
   pub judged : List Event
+  -- all that the command does if it ends well
   pub done : List Event
+  -- that, and all that a stop may add
   pub whole : List Event
 
 -- a command that writes nothing opens these files
