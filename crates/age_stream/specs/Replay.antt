@@ -13,13 +13,16 @@ use Rattle.age_stream.specs.declared.replay.ReplayState.{ReplayState}
 
 -- ---- What a replay stands for. A chunk has n bytes.
 
--- a replay's key, the opener of the current segment, the text that is held, how many bytes there is
--- room for with no more memory, and how many restarts were refused
+-- what contracts see of a replay
 pub record ReplayView (B : Type 0) : Type 0 where
   pub key : B
+  -- the opener of the current segment
   pub opener : OpenerView B
+  -- the text that is held
   pub text : List ℕ
+  -- how many bytes of text there is room for with no more memory
   pub capacity : ℕ
+  -- how many restarts were refused
   pub refused : ℕ
 
 -- what a contract sees of a replay's state
