@@ -25,8 +25,8 @@ use Rattle.age_file.specs.declared.decryption.Stopped.{Stopped}
 use Rattle.age_file.specs.declared.encryption.Written.{Written}
 use Rattle.age_file.specs.declared.position.PositionPolicy.{PositionPolicy}
 
--- ---- Runs in a row: a decryption, and then resumed ones, each of which has the output of the run
--- before as its old text.
+-- ---- Runs in a row: a decryption, and then resumed ones, each with the output of the run before as
+-- its old text.
 
 -- a resumed run and the position that it began from; if it stopped in the blocks that are skipped,
 -- no bytes are after them

@@ -76,7 +76,7 @@ pub record ReportsFault (old new : Option (List ℕ)) (fault : HeadFault) : Type
   pub no_header : HasHeader bytes → ⊥
   pub reports : IsFault bytes fault ⊎ (IsAtEnd new × IsCut bytes fault)
 
--- this many bytes came by 2^63 pulls, each of which gave some
+-- this many bytes came by 2^63 pulls that each gave some
 abbrev pub IsByAllPulls : ℕ → Type 0
 IsByAllPulls count = (2 ^ 63 ≤ count) × (count ≤ pull_room * 2 ^ 63)
 

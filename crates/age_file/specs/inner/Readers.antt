@@ -78,7 +78,7 @@ KeepsMeter metered old new = (from : Origin) → metered old.source.now from
 
 -- ---- What pulls into the intake did.
 
--- from its start a source gave these bytes by this many pulls, each of which gave some
+-- from its start a source gave these bytes by this many pulls that each gave some
 pub record Pulled (start now : Option (List ℕ)) (pulls : ℕ) (bytes : List ℕ) : Type 0 where
   pub consumed : Consumes start now bytes
   pub each_gave : pulls ≤ length bytes
