@@ -23,6 +23,10 @@ position, file and old output don't belong together; 26 a file can't be read;
 A name is a path: `-` is a file of that name; /dev/stdin and /dev/stdout are the
 standard streams. OUT must not be one of the files that are read, under any name.
 
+From age: `age -p -o OUT IN` is `age_tool encrypt --pass FILE IN OUT`, and
+`age -d -o OUT IN` is `age_tool decrypt --pass FILE IN OUT`, where FILE holds the
+passphrase. Nothing is asked at a terminal.
+
 `age_tool COMMAND --help` explains a command.";
 
 pub(crate) const ENCRYPT: &str = "Encrypt a file with a passphrase";
@@ -58,7 +62,7 @@ OUT is the complete plaintext. A position saved by this run goes with the OUT of
 this run, and --save may name the file of --position again. If none was saved,
 the old position still goes with the old output.";
 
-pub(crate) const INSPECT: &str = "Report what the header of an age file contains";
+pub(crate) const INSPECT: &str = "Show what the header of an age file says";
 
 pub(crate) const AFTER_INSPECT: &str = "Example: age_tool inspect notes.txt.age
 
@@ -85,8 +89,8 @@ has at most 1,000 lines and 1,048,576 bytes, a payload at most 16,777,216 bytes.
 
 pub(crate) const PASS: &str = "File with the passphrase, 1 to 65,536 bytes. The
 passphrase is the file's contents; one trailing newline
-is ignored, a carriage return isn't. From /dev/tty it is
-shown as it is typed";
+is ignored, a carriage return isn't. At /dev/tty it is
+shown as it is typed, and Ctrl-D ends it";
 
 pub(crate) const LOG: &str = "Work factor, 1 to 22 [default: 18]. Opening the file
 takes 2^N KiB of memory; each step doubles the time";
@@ -103,17 +107,17 @@ then its recipient, 32 bytes each";
 pub(crate) const MAX_LOG: &str = "Refuse work factors above N, 1 to 22 [default: 22].
 A file with work factor 22 takes 4 GiB of memory";
 
-pub(crate) const SAVE: &str = "If decryption stops, save its position here, so that
-`resume` can continue, and replace the position that it
-was given; no other file that is read or written. Slower
-from a pipe. Best on a disk that OUT can't fill";
+pub(crate) const SAVE: &str = "If decryption stops at a fault, save its position here,
+for `resume`. A run that is killed, as by Ctrl-C, saves
+none. May be the file of --position, but no other file
+that is read or written. Slower from a pipe. Best on a
+disk that OUT can't fill";
 
 pub(crate) const NO_SYNC: &str = "Don't wait until OUT, a regular file or a block device,
-has reached the disk. What is refused late (NFS, a
-quota) isn't noticed then";
+has reached the disk. Errors that come only then (NFS,
+quotas) go unnoticed";
 
-pub(crate) const PROGRESS: &str = "Show on standard error, which must not go to OUT, how
-much of IN was read";
+pub(crate) const PROGRESS: &str = "Show on standard error how much of IN has been read";
 
 pub(crate) const POSITION: &str = "File with the position that the stopped run saved";
 

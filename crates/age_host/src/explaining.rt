@@ -40,7 +40,7 @@ pub fn explain<O: Sink>(rt: &HostRuntime, heard: &Heard<O>, failures: &Failures<
             if let Some(second) = lines.next().and_then(fault_in) {
                 explain_fault(rt, second, failures.unsaved());
             }
-            give_hint(rt, first);
+            give_hint(rt, first, failures.last_read());
         }
         None => explain_refusal(rt, line, failures),
     }
@@ -55,10 +55,20 @@ fn explain_fault(rt: &HostRuntime, fault: Reported, failure: Option<Failure<'_>>
     }
 }
 
+/// Whether a fault came of a named file that holds nothing.
+fn is_of_empty(fault: Reported, last: Amount<'_>) -> bool {
+    fault.number == 8 && fault.is_first_line && last.bytes == 0 && !last.name.is_empty()
+}
+
 /// Says what to do after a fault, at a terminal.
-fn give_hint(rt: &HostRuntime, fault: Reported) {
+fn give_hint(rt: &HostRuntime, fault: Reported, last: Amount<'_>) {
+    let hint = if is_of_empty(fault, last) {
+        Some("the file is empty")
+    } else {
+        hint_of(fault.number, fault.is_first_line)
+    };
     if rt.stderr().is_terminal()
-        && let Some(hint) = hint_of(fault.number, fault.is_first_line)
+        && let Some(hint) = hint
     {
         let _ = eprintln!(rt; "age_tool: hint: {hint} (more: man age_tool)");
     }
@@ -85,7 +95,7 @@ fn explain_passphrase(rt: &HostRuntime, last: Amount<'_>) {
     let name = Escaped(last.name.as_bytes());
     let _ = match last.bytes {
         0 => eprintln!(rt; "age_tool: {name} is empty"),
-        1 => eprintln!(rt; "age_tool: {name} holds nothing but a line feed"),
+        1 => eprintln!(rt; "age_tool: {name} holds nothing but a newline"),
         _ => eprintln!(rt; "age_tool: {name} holds more than 65,536 bytes"),
     };
 }

@@ -4,7 +4,9 @@
 /// one of a header's first line. docs/FAULTS.md has the same sentences.
 pub(crate) fn hint_of(number: u8, is_first_line: bool) -> Option<&'static str> {
     match number {
-        7 | 8 if is_first_line => Some("this is perhaps no age file: its first line doesn't end"),
+        7 | 8 if is_first_line => Some(
+            "this may not be an age file: its first line has no newline",
+        ),
         1..=8 => hint_of_header(number),
         9..=15 => hint_of_key(number),
         16..=21 => hint_of_payload(number),
@@ -28,18 +30,20 @@ fn hint_of_header(number: u8) -> Option<&'static str> {
 
 fn hint_of_key(number: u8) -> Option<&'static str> {
     match number {
-        9 | 10 => Some("no age program writes such a header: don't trust the file"),
+        9 | 10 => Some(
+            "no age program writes such a header: the file was altered, or made otherwise",
+        ),
         11 => Some(
             "if you trust the file and have the memory, 2^N KiB, give a larger --max-log, \
              at most 22",
         ),
         12 => Some(
             "age_tool inspect shows the stanzas: --pass opens scrypt, --shared X25519, \
-             and --file-key any file",
+             and --file-key any file; a key file is for age -d -i",
         ),
         13 => Some(
-            "check the passphrase, or the shared secret: one line feed at the end of the \
-             passphrase's file is ignored, a second one or a carriage return isn't",
+            "check the passphrase, or the shared secret: one newline at the end of the \
+             passphrase's file is ignored, a second one, a carriage return or a BOM isn't",
         ),
         14 => Some("the header was altered, or --file-key is the key of another file"),
         15 => Some("check the file of --shared: the secret, and the recipient that it is for"),
@@ -52,13 +56,13 @@ fn hint_of_payload(number: u8) -> Option<&'static str> {
         16 => Some("the file ends after its header: fetch all of it"),
         17 => Some(
             "the file is damaged or cut off here, or something was appended to it: \
-             fetch it again; resume goes on from a position that --save saved",
+             fetch it again; age_tool resume continues from a position that --save saved",
         ),
         18 | 20 => Some(
             "the file is cut off here: fetch the rest; \
-             resume goes on from a position that --save saved",
+             age_tool resume continues from a position that --save saved",
         ),
-        19 => Some("no age program writes such a payload: don't trust the file"),
+        19 => Some("no age program writes such a payload: the file was altered, or made otherwise"),
         21 => Some(
             "something was appended to the file: OUT has the whole text, \
              but the file isn't as its writer left it",
