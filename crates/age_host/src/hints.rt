@@ -31,7 +31,7 @@ fn hint_of_header(number: u8) -> Option<&'static str> {
 fn hint_of_key(number: u8) -> Option<&'static str> {
     match number {
         9 | 10 => Some(
-            "no age program writes such a header: the file was altered, or made otherwise",
+            "no age program writes such a header: the file was altered or forged, don't trust it",
         ),
         11 => Some(
             "if you trust the file and have the memory, 2^N KiB, give a larger --max-log, \
@@ -62,7 +62,9 @@ fn hint_of_payload(number: u8) -> Option<&'static str> {
             "the file is cut off here: fetch the rest; \
              age_tool resume continues from a position that --save saved",
         ),
-        19 => Some("no age program writes such a payload: the file was altered, or made otherwise"),
+        19 => Some(
+            "no age program writes such a payload: the file was altered or forged, don't trust it",
+        ),
         21 => Some(
             "something was appended to the file: OUT has the whole text, \
              but the file isn't as its writer left it",
