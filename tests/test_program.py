@@ -148,6 +148,7 @@ class ProgramTest(Case):
 
     def test_hints(self):
         """At a terminal a fault gives the hint that docs/FAULTS.md has in its row."""
+        self.write("empty", b"")
         self.write("no-line", b"not an age file")
         self.write("armored", b"-----BEGIN AGE ENCRYPTED FILE-----\n")
         self.write("cut-header", self.age[:100])
@@ -155,7 +156,8 @@ class ProgramTest(Case):
         page = (TOP / "docs" / "FAULTS.md").read_text().replace("`", "").replace(r"\|", "|")
         for what, fault, beginning, words in (
             ("an armored file", "2 Armored line 1", "remove the armor", "decrypt --pass pass armored back"),
-            ("what is no age file", "8 HeadCut line 1", "this is perhaps no age file", "decrypt --pass pass no-line back"),
+            ("an empty file", "8 HeadCut line 1", "the file is empty", "decrypt --pass pass empty back"),
+            ("what is no age file", "8 HeadCut line 1", "this may not be an age file", "decrypt --pass pass no-line back"),
             ("a cut header", "8 HeadCut line 3", "the file was cut off", "decrypt --pass pass cut-header back"),
             ("a limit", "11 WorkTooHigh", "if you trust the file", "decrypt --pass pass --max-log 9 plain.age back"),
             ("a wrong passphrase", "13 WrongKey", "check the passphrase", "decrypt --pass wrong plain.age back"),
