@@ -33,7 +33,8 @@ use Rattle.age_file.specs.inner.Payloads.{SegmentDone}
 use Rattle.age_file.specs.Runs.{Run, segment_of, held, Reads, IsRun, GivesPosition, PayloadFails}
 use Rattle.age_file.specs.Runs.{IsDone, OpenedFile, IsPositionOf, pull_room}
 use Rattle.age_file.proofs.RunLemmas.{position_given, position_due}
-use Rattle.age_file.specs.inner.Verdicts.{PositionRefused}
+use Rattle.age_file.specs.inner.Verdicts.{PositionRefused, StartRefuses}
+use Rattle.age_file.specs.inner.Rests.{ResumesRest}
 use Rattle.age_file.specs.Decrypts.{StartFails}
 use Rattle.age_io.specs.Io.{SourceView, SinkView}
 use Rattle.age_file.specs.inner.Unread.{Unread}
@@ -203,15 +204,15 @@ module _ (keep : PositionPolicy) (Allows : Header → List ℕ → Type 0) (Refu
   stopped_early one old new fault same text f =
       stopped_before one old new fault same text (before_fails old new fault f)
 
-  -- the position was refused
-  pub refused : OneHeader → (old new : ResumePorts) (u : Unread) (unlocked : Unlocked)
-      (fault : FileFault) → new.main.sink ≡ old.main.sink → new.old ≡ old.old
-      → StartsAt Allows old.main.source (reader_view new.main.source u) unlocked
-      → PositionRefused p unlocked.id unlocked.key unlocked.nonce fault
+  -- or the position was refused
+  pub refused : OneHeader → (old new : ResumePorts) (u : Unread) (fault : FileFault)
+      → new.main.sink ≡ old.main.sink → new.old ≡ old.old
+      → StartRefuses Allows Refused p old.main.source (reader_view new.main.source u) fault
       → ResumesKeyed keep Allows Refused p old new
       (Err (record { fault = fault; written = 0; position = None })) Before
-  refused one old new u unlocked fault same text s f =
-      stopped_before one old new fault same text (verdict_fails old new u unlocked fault s f)
+  refused one old new u fault same text (inl f) = stopped_early one old new fault same text f
+  refused one old new u fault same text (inr f) =
+      stopped_before one old new fault same text (verdict_fails old new u f.0 fault f.1 f.2)
 
   -- the position is this file's
   abbrev pub IsVerified : Unlocked → Type 0
@@ -520,7 +521,7 @@ module _ (keep : PositionPolicy) (Allows : Header → List ℕ → Type 0) (Refu
       same_given Dropped position at = at
 
       -- the blocks before were not all passed over
-      pub skip_stopped : OneHeader → (m : ReaderView) (fault : FileFault)
+      skip_stopped : OneHeader → (m : ReaderView) (fault : FileFault)
           (result : Result Done Stopped) → EndsAs unlocked s1.writer.tally (Err fault) result
           → SkipFails block_length p.index s1.reader m fault
           → ResumesKeyed keep Allows Refused p (before a first x) (after (stage m s1.writer) z)
@@ -688,7 +689,7 @@ module _ (keep : PositionPolicy) (Allows : Header → List ℕ → Type 0) (Refu
             b.is.prefix b.counts.index
 
         -- the whole run
-        pub rest_ended : OneHeader → (s2 : Stage) (run : Result (Unit {0}) FileFault)
+        rest_ended : OneHeader → (s2 : Stage) (run : Result (Unit {0}) FileFault)
             (result : Result Done Stopped)
             → DecryptsPayload (opens (payload_key unlocked.key unlocked.nonce)) chunk_length p.index
             (stage m s1.writer) s2 run
@@ -762,3 +763,18 @@ module _ (keep : PositionPolicy) (Allows : Header → List ℕ → Type 0) (Refu
               stands = sym (key_of s2 (Err fault) b);
               due = due_of s2 (Err fault) b;
             })
+
+      -- they were, or not
+      pub rest_resumed : OneHeader → (s2 : Stage) (result : Result Done Stopped)
+          (standing : Standing) → ResumesRest unlocked p.index s1 s2 result standing
+          → ResumesKeyed keep Allows Refused p (before a first x) (after s2 z) result standing
+      rest_resumed one s2 result Before r = absurd r
+      rest_resumed one s2 result Skipping r =
+          subst (λ (w : WriterView). ResumesKeyed keep Allows Refused p (before a first x)
+          (after (stage s2.reader w) z) result Skipping) (sym r.same)
+          (skip_stopped one s2.reader r.fault result r.ended r.why)
+      rest_resumed one s2 result (InPayload key) (given, r) =
+          subst (λ (k : List ℕ). ResumesKeyed keep Allows Refused p (before a first x) (after s2 z)
+          result (InPayload k)) (sym given)
+          (rest_ended r.now r.passed r.size r.passes one s2 r.opened.run result r.opened.decrypts
+          r.opened.ended)

@@ -7,3 +7,4 @@ pub mod Readers
 pub mod PositionTexts
 pub mod Unread
 pub mod Verdicts
+pub mod Rests

@@ -1,17 +1,18 @@
 //! Continues a decryption that stopped.
 
-ghost use Rattle.std.specs.Prelude.{◌≡◌, [], Err};
+ghost use Rattle.std.specs.Prelude.{◌≡◌, [], Err, IfOk, IfErr};
 ghost use Rattle.age_chunk.specs.Payload.{chunk_length};
 ghost use Rattle.age_io.specs.Io.{Origin};
 ghost use Rattle.age_file.specs.declared.standing.Standing.TheVariants.{Before, Skipping};
 ghost use Rattle.age_file.specs.inner.Decrypts.{EndsAs};
-ghost use Rattle.age_file.specs.inner.Readers.{view_of_reader, view_of_writer, SameReader};
-ghost use Rattle.age_file.specs.inner.Readers.{SameWriter};
+ghost use Rattle.age_file.specs.inner.Readers.{view_of_reader, view_of_writer, stage_of, SameReader};
+ghost use Rattle.age_file.specs.inner.Readers.{KeepsMeter, SameWriter};
 ghost use Rattle.age_file.specs.inner.Copies.{CopiesText, CopiesBefore};
 ghost use Rattle.age_file.specs.Runs.{ports};
 ghost use Rattle.age_file.specs.declared.position.PositionPolicy.TheVariants.{Kept};
 ghost use Rattle.age_file.specs.inner.Bindings.{chain_if};
-ghost use Rattle.age_file.specs.inner.Verdicts.{VerdictOn};
+ghost use Rattle.age_file.specs.inner.Verdicts.{VerdictOn, StartsFor, StartRefuses};
+ghost use Rattle.age_file.specs.inner.Rests.{HasRoomAfter, ResumesRest};
 ghost use Rattle.age_file.specs.Resumes.{resume_ports, ResumesText, ResumesKeyed};
 
 use crate::copy::copy_chunks;
@@ -63,6 +64,26 @@ fn verify(unlocked: &Unlocked, position: &Position) -> Result<(), FileFault>
     Ok(())
 }
 
+/// Reads a file up to its payload, and refuses a position that isn't its.
+fn start_for<U: Unlock, S: Source>(
+    alloc: Global,
+    unlock: &U,
+    position: &Position,
+    reader: &mut Reader<'_, S>,
+) -> Result<Unlocked, FileFault>
+    requires { (reader.old.intake.now.bytes ≡ []) × (reader.old.intake.now.pulls ≡ 0) }
+    ensures found { IfOk result (StartsFor (U.allows unlock.now) position.now
+        (S.view reader.old.source.now) (view_of_reader S.view reader.new)) }
+    ensures fails { IfErr result (StartRefuses (U.allows unlock.now) (U.refuses unlock.now)
+        position.now (S.view reader.old.source.now) (view_of_reader S.view reader.new)) }
+    ensures same { SameReader reader.old reader.new }
+    ensures metered { KeepsMeter S.metered reader.old reader.new }
+{
+    let unlocked = start(alloc, unlock, reader)?;
+    verify(&unlocked, position)?;
+    Ok(unlocked)
+}
+
 /// Copies the old text that a position was made for.
 fn copy_old<L: Source, O: Sink>(
     positions: PositionPolicy,
@@ -111,6 +132,30 @@ fn copy_before<L: Source, O: Sink>(
     let copied = copy_old(positions, position, &mut reader, writer);
     intake.count_on(reader.intake);
     copied
+}
+
+/// Skips the blocks of the old text, and decrypts the payload from there on.
+fn resume_rest<S: Source, O: Sink>(
+    unlocked: &Unlocked,
+    position: &Position,
+    reader: &mut Reader<'_, S>,
+    writer: &mut Writer<'_, O>,
+) -> (Result<Done, Stopped>, Standing)
+    requires { HasRoomAfter position.now.index (stage_of S.view O.view reader.old writer.old) }
+    ensures resumes { ResumesRest unlocked.now position.now.index
+        (stage_of S.view O.view reader.old writer.old)
+        (stage_of S.view O.view reader.new writer.new) result.0 result.1 }
+    ensures same_reader { SameReader reader.old reader.new }
+    ensures metered { KeepsMeter S.metered reader.old reader.new }
+    ensures same_writer { SameWriter writer.old writer.new }
+{
+    match skip_blocks(reader, position.index) {
+        Ok(()) => {}
+        Err(fault) => return skipping(fault, unlocked, &writer.tally),
+    }
+    let result = open_payload(unlocked, position.index, reader, writer);
+    let key = KnownKey::new(*unlocked.key.bytes());
+    (result, Standing::InPayload(key))
 }
 
 /// Continues a decryption that stopped, and hands out the position of a stop: [`resume_with`], with
@@ -198,14 +243,10 @@ pub fn resume_keyed<U: Unlock, S: Source, L: Source, O: Sink>(
         source: reader,
         intake: &mut intake,
     };
-    let unlocked = match start(alloc, unlock, &mut reader) {
+    let unlocked = match start_for(alloc, unlock, position, &mut reader) {
         Ok(unlocked) => unlocked,
         Err(fault) => return nowhere(Stopped::early(fault)),
     };
-    match verify(&unlocked, position) {
-        Ok(()) => {}
-        Err(fault) => return nowhere(Stopped::early(fault)),
-    }
     let tally = Tally::new(PositionPolicy::Kept);
     let mut writer = Writer {
         sink: writer,
@@ -222,11 +263,5 @@ pub fn resume_keyed<U: Unlock, S: Source, L: Source, O: Sink>(
         Ok(()) => {}
         Err(fault) => return nowhere(Stopped::after(fault, &writer.tally, None)),
     }
-    match skip_blocks(&mut reader, position.index) {
-        Ok(()) => {}
-        Err(fault) => return skipping(fault, &unlocked, &writer.tally),
-    }
-    let result = open_payload(&unlocked, position.index, &mut reader, &mut writer);
-    let key = KnownKey::new(*unlocked.key.bytes());
-    (result, Standing::InPayload(key))
+    resume_rest(&unlocked, position, &mut reader, &mut writer)
 }
