@@ -12,7 +12,7 @@ use Rattle.age_stanza.specs.declared.header.Header.{Header}
 use Rattle.age_io.specs.Io.{SourceView, SinkView}
 use Rattle.age_keys.specs.declared.fault.KeyFault.{KeyFault}
 use Rattle.age_file.specs.Runs.{NeverEnds, Ports, ports, Run, IsRun, IsPositionOf, GivesPosition}
-use Rattle.age_file.specs.Runs.{PayloadFails, held}
+use Rattle.age_file.specs.Runs.{PayloadFails, held, IsDone, NoneFailed}
 use Rattle.age_file.specs.Resumes.{IsOldText, IsRestOf, IsFoundFrom, RestEndsElsewhere, RestStops}
 use Rattle.age_file.specs.Resumes.{SkipsShort}
 use Rattle.age_file.specs.inner.Decrypts.{ReadsRest, unseen}
@@ -157,6 +157,33 @@ module _ (before after : SinkView) (most : ℕ) (took : List ℕ) (left : ℕ)
           all,
         )
 
+    -- it came to the end
+    pub rest_ended_again : (done : Done) (settled : after.settled ≡ nat_lt 0 left)
+        → ReadsRest Allows Refused p copied (ports old before) (ports new after) (Ok done)
+        → RestEndsElsewhere Allows p copied Refused old new written Read
+    rest_ended_again done settled d =
+        record {
+          before = unseen before;
+          after = unseen after;
+          result = Ok done;
+          decrypts = d.is;
+          elsewhere = (by d.is.run d.is.rest d.is.done d.wrote, refl);
+        } where
+          by : (run : Option Run) → IfSome run (IsRestOf Allows p copied)
+              → IsSomeAnd run (λ r. IsDone Allows (ports old (unseen before))
+              (ports new (unseen after)) done.written r
+              × NoneFailed (ports old (unseen before)) (ports new (unseen after)))
+              → IfSome run (λ r. Appends before.taken after.taken r.out) → done.written < written
+          by None rest ends wrote = absurd ends
+          by (Some r) rest ends wrote =
+              let some : 0 < left = ltb-true 0 left (sym settled ∙ d.settled) in
+              omega (
+                arith,
+                some,
+                rest_took r done.written (ports old (unseen before)) (ports new (unseen after)) rest
+                    ends.0.is wrote,
+              )
+
     module _ (stopped : Stopped) (full : after.failing ≡ true → left ≡ 0)
         (d : ReadsRest Allows Refused p copied (ports old before) (ports new after)
         (Err stopped)) where
@@ -204,6 +231,17 @@ module _ (before after : SinkView) (most : ℕ) (took : List ℕ) (left : ℕ)
               refl,
             );
           }
+
+      -- it wrote another number of bytes
+      pub rest_stopped_elsewhere : stopped.written ≢ written
+          → RestEndsElsewhere Allows p copied Refused old new written (fault_again stopped.fault)
+      rest_stopped_elsewhere other =
+          rest_elsewhere (by d.is.run d.is.rest d.is.stopped d.wrote) where
+            by : (run : Option Run) → IfSome run (IsRestOf Allows p copied) → Stops run → Wrote run
+                → (stopped.written < written) ⊎ (run ≡ None)
+            by None rest s wrote = inr refl
+            by (Some r) rest s wrote =
+                inl (fewer stopped.written left written (took_here r rest s wrote) other)
 
       -- it has no position, so that it didn't come to its payload
       pub rest_stopped_before : stopped.position ≡ None
