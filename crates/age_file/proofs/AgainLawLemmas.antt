@@ -195,7 +195,7 @@ read_again one Who Allows Refused who before after r stopped old new bytes p s s
     (same_position one (Allows who) before after stopped.written r old new bytes p s.0 s.1.is shown
     again found)
 
--- ---- The same for a resumed run.
+-- ---- A resumed run, whose rest is read again from the position that it began from.
 
 rest_position : OneHeader → (Allows : Header → List ℕ → Type 0) (p : Position)
     (before after : ResumePorts) (written : ℕ) (r : Run) (old new : SourceView) (bytes : List ℕ)

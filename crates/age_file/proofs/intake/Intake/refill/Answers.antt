@@ -43,7 +43,7 @@ returns-in-Ok-eq0-clause-refills g c =
     let read = rw c.in-Ok-eq0.field-0-test at c.in-Ok-eq0.ensures.bytes in
     record {
       answered = (
-        refl,
+        refl {a = []},
         same,
         read.1 refl (omega (
           arith,
