@@ -33,7 +33,7 @@ use Rattle.age_file.specs.inner.Payloads.{SegmentDone}
 use Rattle.age_file.specs.Runs.{Run, segment_of, held, Reads, IsRun, GivesPosition, PayloadFails}
 use Rattle.age_file.specs.Runs.{IsDone, OpenedFile, IsPositionOf, pull_room}
 use Rattle.age_file.proofs.RunLemmas.{position_given, position_due}
-use Rattle.age_file.specs.inner.Verdicts.{PositionRefused, StartRefuses}
+use Rattle.age_file.specs.inner.Verdicts.{PositionRefused, StartForFails}
 use Rattle.age_file.specs.inner.Rests.{ResumesRest}
 use Rattle.age_file.specs.Decrypts.{StartFails}
 use Rattle.age_io.specs.Io.{SourceView, SinkView}
@@ -207,7 +207,7 @@ module _ (keep : PositionPolicy) (Allows : Header → List ℕ → Type 0) (Refu
   -- or the position was refused
   pub refused : OneHeader → (old new : ResumePorts) (u : Unread) (fault : FileFault)
       → new.main.sink ≡ old.main.sink → new.old ≡ old.old
-      → StartRefuses Allows Refused p old.main.source (reader_view new.main.source u) fault
+      → StartForFails Allows Refused p old.main.source (reader_view new.main.source u) fault
       → ResumesKeyed keep Allows Refused p old new
       (Err (record { fault = fault; written = 0; position = None })) Before
   refused one old new u fault same text (inl f) = stopped_early one old new fault same text f

@@ -11,7 +11,7 @@ ghost use Rattle.age_file.specs.inner.Copies.{CopiesText, CopiesBefore};
 ghost use Rattle.age_file.specs.Runs.{ports};
 ghost use Rattle.age_file.specs.declared.position.PositionPolicy.TheVariants.{Kept};
 ghost use Rattle.age_file.specs.inner.Bindings.{chain_if};
-ghost use Rattle.age_file.specs.inner.Verdicts.{VerdictOn, StartsFor, StartRefuses};
+ghost use Rattle.age_file.specs.inner.Verdicts.{VerdictOn, StartsFor, StartForFails};
 ghost use Rattle.age_file.specs.inner.Rests.{HasRoomAfter, ResumesRest};
 ghost use Rattle.age_file.specs.Resumes.{resume_ports, ResumesText, ResumesKeyed};
 
@@ -74,7 +74,7 @@ fn start_for<U: Unlock, S: Source>(
     requires { (reader.old.intake.now.bytes ≡ []) × (reader.old.intake.now.pulls ≡ 0) }
     ensures found { IfOk result (StartsFor (U.allows unlock.now) position.now
         (S.view reader.old.source.now) (view_of_reader S.view reader.new)) }
-    ensures fails { IfErr result (StartRefuses (U.allows unlock.now) (U.refuses unlock.now)
+    ensures fails { IfErr result (StartForFails (U.allows unlock.now) (U.refuses unlock.now)
         position.now (S.view reader.old.source.now) (view_of_reader S.view reader.new)) }
     ensures same { SameReader reader.old reader.new }
     ensures metered { KeepsMeter S.metered reader.old reader.new }

@@ -32,8 +32,8 @@ pub record StartsFor (Allows : Header → List ℕ → Type 0) (p : Position) (o
   pub tagged : IsTagged p unlocked.key unlocked.nonce
 
 -- it wasn't, or the position is refused
-abbrev pub StartRefuses : (Header → List ℕ → Type 0) → (Header → KeyFault → Type 0) → Position
+abbrev pub StartForFails : (Header → List ℕ → Type 0) → (Header → KeyFault → Type 0) → Position
     → SourceView → ReaderView → FileFault → Type 0
-StartRefuses Allows Refused p old new fault = StartFails Allows Refused old new.source fault
+StartForFails Allows Refused p old new fault = StartFails Allows Refused old new.source fault
     ⊎ ((unlocked : Unlocked) × StartsAt Allows old new unlocked
     × PositionRefused p unlocked.id unlocked.key unlocked.nonce fault)
