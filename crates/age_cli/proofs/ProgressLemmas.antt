@@ -38,7 +38,7 @@ shows_run shown_by shows name coming left before ended began counted given lent 
       reading_of name begun.0 coming left before (shown_by began) (shown_by counted) ended begun.2 kept.1 ends_so,
     )
 
--- of an input that is the same where contracts see it
+-- of an input that is the same if contracts see it
 pub run_of : (shows : Bool) (coming input left : Option (List ℕ)) (old new : Option (List Shown)) → (shows ≡ true → coming ≡ input)
     → ShowsRun shows coming left old new → ShowsRun shows input left old new
 run_of shows coming input left old new same run = (
@@ -60,9 +60,13 @@ shown_once shows input left old new r run whole = record {
 }
 
 -- one, and then perhaps another, of what stopped
-pub shown_twice : (shows : Bool) (input left : Option (List ℕ)) (old middle new : Option (List Shown)) (e : Ending) → ShowsRun shows input left old middle
-    → (new ≡ middle) ⊎ ((again rest : Option (List ℕ)) × ShowsRun shows again rest middle new) → ShowsProgress shows old new input (Err e)
-shown_twice shows input left old middle new e run again = record { left = left; middle = middle; first = run; whole = tt; again = again }
+pub shown_twice : (shows : Bool) (input left : Option (List ℕ)) (old middle new : Option (List Shown)) (r : Result (Unit {0}) Ending) → ShowsRun shows input left old middle
+    → OnOk r (new ≡ middle) → (new ≡ middle) ⊎ ((again rest : Option (List ℕ)) × ShowsRun shows again rest middle new) → OnOk r (IsAtEnd left)
+    → ShowsProgress shows old new input r
+shown_twice shows input left old middle new (Ok x) run same again ended =
+    record { left = left; middle = middle; first = run; whole = (ended, same); again = again }
+shown_twice shows input left old middle new (Err e) run same again ended =
+    record { left = left; middle = middle; first = run; whole = tt; again = again }
 
 -- an engine that ended has read its source to the end
 pub sealing_at_end : (s : SecretView) (before after : Ports) (r : Result Written FileFault) → IfOk r (Encrypts s before after)

@@ -37,10 +37,10 @@ use Rattle.age_cli.specs.inner.Openings.{Saves}
 use Rattle.age_cli.specs.declared.interruption.Interruption.{Interruption}
 use Rattle.std.specs.Io.KnownBytes.{IsAtEnd}
 use Rattle.age_cli.proofs.CommandStopLemmas.{ends_from}
-use Rattle.age_cli.proofs.ProgressLemmas.{opening_at_end}
+use Rattle.age_cli.proofs.ProgressLemmas.{at_end_of, opening_at_end}
 use Rattle.age_cli.specs.inner.Endings.{Concludes, IsPut, Left, opening_end}
-use Rattle.age_cli.specs.inner.Rereadings.{again_of, ConcludesAgain, DecryptsOpened, HoldsInput}
-use Rattle.age_cli.specs.inner.Rereadings.{IsFoundIn, stopped_at}
+use Rattle.age_cli.specs.inner.Rereadings.{again_of, ConcludesAgain, ConcludesDecryption, DecryptsOpened}
+use Rattle.age_cli.specs.inner.Rereadings.{HoldsInput, IsFoundIn, stopped_at}
 
 pub some_of : (o : Option (List ℕ)) → is_some o ≡ true → (bytes : List ℕ) × (o ≡ Some bytes)
 some_of None there = absurd (true≢false (sym there))
@@ -50,20 +50,12 @@ pub kept_some : (save : Option Text) → is_some save ≡ true → Kept ≡ kept
 kept_some None there = absurd (true≢false (sym there))
 kept_some (Some name) there = refl
 
--- what is there, or else this
-abbrev pair_in : Stopped × List ℕ → Option (Stopped × List ℕ) → Stopped × List ℕ
-pair_in other None = other
-pair_in other (Some both) = both
-
--- the result, the key and the choice of a decryption that is read again
-pub again_is : (reread : Bool) (end : Result Done Stopped) (key : Option (List ℕ)) (s : Stopped) (k : List ℕ) → again_of reread end key ≡ Some (s, k)
-    → (reread ≡ true) × (end ≡ Err s) × (key ≡ Some k)
-again_is reread (Ok x) key s k is = absurd (none-some (s, k) is)
-again_is reread (Err x) None s k is = absurd (none-some (s, k) is)
-again_is true (Err x) (Some y) s k is =
-    let both = ap (pair_in (s, k)) is in
-    (refl, ap (λ (t : Stopped × List ℕ). Err t.0) both, ap (λ (t : Stopped × List ℕ). Some t.1) both)
-again_is false (Err x) (Some y) s k is = absurd (none-some (s, k) is)
+-- nothing is read again that can't be
+pub is_asked : (reread : Bool) (end : Result Done Stopped) (key : Option (List ℕ)) (again : Stopped × List ℕ) → again_of reread end key ≡ Some again → reread ≡ true
+is_asked true end key again is = refl
+is_asked false (Ok x) key again is = absurd (none-some again is)
+is_asked false (Err x) None again is = absurd (none-some again is)
+is_asked false (Err x) (Some k) again is = absurd (none-some again is)
 
 -- a stop before the payload has no position, kept or not
 unread : (keep other : PositionPolicy) (i : Identity) (before after : Ports) (run : Option Run) (s : Stopped) → FindsKey run None
@@ -71,43 +63,34 @@ unread : (keep other : PositionPolicy) (i : Identity) (before after : Ports) (ru
 unread keep other i before after None s none stops = stops
 unread keep other i before after (Some r) s none stops = absurd (none-some r.file.key none)
 
--- one that isn't read again ended as if positions had been kept when one is to be saved
-pub stopped_so : (reread : Bool) (end : Result Done Stopped) (key : Option (List ℕ)) (keep other : PositionPolicy) (i : Identity) (before after : Ports)
-    → again_of reread end key ≡ None → (reread ≡ false → keep ≡ other)
-    → (d : DecryptsKeyed keep (allows_by i) (refuses_by i) before after end key)
-    → IfErr end (DecryptStops other (allows_by i) (refuses_by i) before after d.is.run)
-stopped_so reread (Ok done) key keep other i before after none same d = tt
-stopped_so reread (Err s) None keep other i before after none same d = unread keep other i before after d.is.run s d.found d.is.stopped
-stopped_so true (Err s) (Some k) keep other i before after none same d = absurd (none-some (s, k) (sym none))
-stopped_so false (Err s) (Some k) keep other i before after none same d =
-    subst (λ (x : PositionPolicy). DecryptStops x (allows_by i) (refuses_by i) before after d.is.run s) (same refl) d.is.stopped
-
 module _ (IsPorts : Ports → Type 0) (shows : Bool) (d : Decrypting) (i : Identity) (before after : Ports) (after_is : IsPorts after) (old new : FilesView)
     (Unshown : Type 0) (Progress : Option (List ℕ) → Result (Unit {0}) Ending → Type 0) (silent : d.progress ≡ Silent → Unshown) where
-  pub opened_once : (reread : Bool) (end : Result Done Stopped) (key : Option (List ℕ)) (keep : PositionPolicy) (r : Result (Unit {0}) Ending)
-      → again_of reread end key ≡ None → (reread ≡ false → keep ≡ kept_for (option_text d.save))
-      → DecryptsKeyed keep (allows_by i) (refuses_by i) before after end key
-      → (engine : Result (Unit {0}) Interruption) → engine ≡ opening_end end
-      → (OnOk (opening_end end) (IsAtEnd after.source.remaining) → d.progress ≡ Shown → (input : Option (List ℕ))
-      → (shows ≡ true → before.source.remaining ≡ input) → Progress input r)
-      → Concludes shows (option_text d.save) d.durability after.sink engine old new r
+  abbrev Shows : Result (Unit {0}) Ending → Type 0
+  Shows r = d.progress ≡ Shown → (input : Option (List ℕ)) → (shows ≡ true → before.source.remaining ≡ input)
+      → OnOk r (IsAtEnd after.source.remaining) → Progress input r
+
+  -- one that isn't read again ended as if positions had been kept when one is to be saved
+  opened_once : (end : Result Done Stopped) (key : Option (List ℕ)) (keep : PositionPolicy) (r : Result (Unit {0}) Ending)
+      → (did : DecryptsKeyed keep (allows_by i) (refuses_by i) before after end key)
+      → IfErr end (DecryptStops (kept_for (option_text d.save)) (allows_by i) (refuses_by i) before after did.is.run) → Shows r
+      → Concludes shows (option_text d.save) d.durability after.sink (opening_end end) old new r
       → DecryptsOpened IsPorts shows d i before old new Unshown Progress r
-  opened_once reread end key keep r none same did engine is shown concludes = record {
+  opened_once end key keep r did stops shown concludes = record {
     after = after;
     after_is = after_is;
     decrypted = end;
     run = did.is.run;
     done = did.is.done;
-    stopped = λ shown holds. stopped_so reread end key keep (kept_for (option_text d.save)) i before after none same did;
+    stopped = λ shown holds. stops;
     named = did.is.named;
-    concludes = subst (λ (e : Result (Unit {0}) Interruption). Concludes shows (option_text d.save) d.durability after.sink e old new r) is concludes;
+    concludes = concludes;
     silent = silent;
-    shown = shown (opening_at_end (allows_by i) before after did.is.run end did.is.done);
+    shown = λ asked input same. shown asked input same
+        (at_end_of _ (opening_end end) r _ (opening_at_end (allows_by i) before after did.is.run end did.is.done) concludes.done);
   }
 
   module _ (law : ReadAgain Identity allows_by refuses_by) (s : Stopped) (key : List ℕ) (saves : is_some (option_text d.save) ≡ true) (ending : Ending)
-      (did : DecryptsKeyed Dropped (allows_by i) (refuses_by i) before after (Err s) (Some key))
-      (shown : d.progress ≡ Shown → (input : Option (List ℕ)) → (shows ≡ true → before.source.remaining ≡ input) → Progress input (Err ending)) where
+      (did : DecryptsKeyed Dropped (allows_by i) (refuses_by i) before after (Err s) (Some key)) (shown : Shows (Err ending)) where
     abbrev At : PositionPolicy → Option Run → Position → Type 0
     At keep run p = DecryptStops keep (allows_by i) (refuses_by i) before after run (stopped_at s p)
 
@@ -138,23 +121,31 @@ module _ (IsPorts : Ports → Type 0) (shows : Bool) (d : Decrypting) (i : Ident
       named = did.is.named;
       concludes = concludes;
       silent = silent;
-      shown = shown;
+      shown = λ asked input same. shown asked input same tt;
     }
 
-    pub opened_again : ConcludesAgain shows d after.sink None s key old new ending → DecryptsOpened IsPorts shows d i before old new Unshown Progress (Err ending)
+    opened_again : ConcludesAgain shows d after.sink None s key old new ending → DecryptsOpened IsPorts shows d i before old new Unshown Progress (Err ending)
     opened_again (inl (p, found, concludes)) =
         opened_at p (λ shown holds. found_so did.is.run p did.found did.is.stopped holds (found shown (λ e. holds.other (e ∙ did.is.named)))) concludes
     opened_again (inr all) =
         let due = due_so did.is.run did.found did.due did.is.stopped in
         opened_at due.0 (λ shown holds. due.1) (all due.0)
 
-pub keyed_as : (keep : PositionPolicy) (i : Identity) (before after : Ports) (end : Result Done Stopped) (key : Option (List ℕ)) (s : Stopped) (k : List ℕ)
-    → keep ≡ Dropped → end ≡ Err s → key ≡ Some k → DecryptsKeyed keep (allows_by i) (refuses_by i) before after end key
-    → DecryptsKeyed Dropped (allows_by i) (refuses_by i) before after (Err s) (Some k)
-keyed_as keep i before after end key s k dropped stopped known did =
-    subst (λ (x : Option (List ℕ)). DecryptsKeyed Dropped (allows_by i) (refuses_by i) before after (Err s) x) known
-    (subst (λ (x : Result Done Stopped). DecryptsKeyed Dropped (allows_by i) (refuses_by i) before after x key) stopped
-    (subst (λ (x : PositionPolicy). DecryptsKeyed x (allows_by i) (refuses_by i) before after end key) dropped did))
+  pub opened_by : ReadAgain Identity allows_by refuses_by → (reread : Bool) (end : Result Done Stopped) (key : Option (List ℕ)) (keep : PositionPolicy)
+      (r : Result (Unit {0}) Ending) → (reread ≡ true → is_some (option_text d.save) ≡ true) → (reread ≡ true → keep ≡ Dropped)
+      → (reread ≡ false → keep ≡ kept_for (option_text d.save)) → DecryptsKeyed keep (allows_by i) (refuses_by i) before after end key → Shows r
+      → ConcludesDecryption shows d after.sink None end (again_of reread end key) old new r
+      → DecryptsOpened IsPorts shows d i before old new Unshown Progress r
+  opened_by law reread (Ok done) key keep r saves dropped kept did shown concludes = opened_once (Ok done) key keep r did tt shown concludes
+  opened_by law reread (Err s) None keep r saves dropped kept did shown concludes =
+      opened_once (Err s) None keep r did (unread keep (kept_for (option_text d.save)) i before after did.is.run s did.found did.is.stopped) shown concludes
+  opened_by law false (Err s) (Some key) keep r saves dropped kept did shown concludes =
+      opened_once (Err s) (Some key) keep r did
+      (subst (λ (x : PositionPolicy). DecryptStops x (allows_by i) (refuses_by i) before after did.is.run s) (kept refl) did.is.stopped) shown concludes
+  opened_by law true (Err s) (Some key) keep (Ok x) saves dropped kept did shown concludes = absurd concludes
+  opened_by law true (Err s) (Some key) keep (Err e) saves dropped kept did shown concludes =
+      opened_again law s key (saves refl) e
+      (subst (λ (x : PositionPolicy). DecryptsKeyed x (allows_by i) (refuses_by i) before after (Err s) (Some key)) (dropped refl) did) shown concludes
 
 -- a position that was found by this key, over these bytes
 pub finds_so : (bytes : Option (List ℕ)) (key : List ℕ) (old new : SourceView) (written : ℕ) (r : Result Position FileFault) → old.remaining ≡ bytes

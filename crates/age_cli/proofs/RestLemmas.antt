@@ -2,7 +2,6 @@
 use Rattle.std.proofs.Common.{◌≡◌, ◌≢◌, ◌∙◌, ◌⊎◌, ◌++◌, ℕ, List, Option, Some, None, Bool, true, false}
 use Rattle.std.proofs.Common.{Result, Ok, Err, OnOk, IfOk, IfErr, ap, sym, subst, refl, inl, inr, ⊎_elim, true≢false}
 use Rattle.std.specs.Prelude.{is_some, IfSome, IsSomeAnd}
-use Rattle.std.proofs.lemmas.Option.{none-some}
 use Rattle.age_io.specs.Io.{SourceView}
 use Rattle.age_file.proofs.AgainLawLemmas.{rest_kept}
 use Rattle.age_file.specs.Resumes.{ResumePorts, resume_ports, ResumesKeyed, ResumeStops, StandsAt}
@@ -23,18 +22,12 @@ use Rattle.age_identity.specs.Identities.{allows_by, refuses_by}
 use Rattle.age_ending.specs.declared.ending.Ending.{Ending}
 use Rattle.age_identity.specs.declared.identity.Identity.{Identity}
 use Rattle.age_cli.specs.Acts.{kept_for}
-use Rattle.age_cli.specs.declared.interruption.Interruption.{Interruption}
 use Rattle.age_cli.specs.inner.Endings.{Concludes, opening_end}
-use Rattle.age_cli.specs.inner.Rereadings.{again_of, key_of, placed, ConcludesAgain, HoldsInput, IsFoundIn}
+use Rattle.age_cli.specs.inner.Rereadings.{again_of, key_of, placed, ConcludesAgain, ConcludesDecryption, HoldsInput, IsFoundIn}
 use Rattle.age_cli.specs.inner.Rereadings.{ResumesOpened, stopped_at}
 use Rattle.std.specs.Io.KnownBytes.{IsAtEnd}
-use Rattle.age_cli.proofs.ProgressLemmas.{resuming_at_end}
-use Rattle.age_cli.proofs.RereadLemmas.{again_is, kept_some, some_of}
-
--- the choice, by what was made of the end and of where it stood
-pub again_as : (reread : Bool) (end end' : Result Done Stopped) (key key' : Option (List ℕ)) → end' ≡ end → key' ≡ key
-    → again_of reread end' key' ≡ again_of reread end key
-again_as reread end end' key key' at is = ap (λ (e : Result Done Stopped). again_of reread e key') at ∙ ap (again_of reread end) is
+use Rattle.age_cli.proofs.ProgressLemmas.{at_end_of, resuming_at_end}
+use Rattle.age_cli.proofs.RereadLemmas.{kept_some, some_of}
 
 -- a stop in the skipped blocks, had positions been kept
 skipping_kept : (i : Identity) (from : Position) (before after : ResumePorts) (s : Stopped) → StopsInSkipped (allows_by i) from before after Dropped s
@@ -69,100 +62,40 @@ module _ (i : Identity) (from : Position) (before after : ResumePorts) where
   skipping_as None s stands = inr (inr (skipping_kept i from before after s stands))
   skipping_as (Some r) s stands = absurd stands
 
-  -- one that isn't read again ended as if positions had been kept, if one is to be saved
-  pub rested : (reread : Bool) (end : Result Done Stopped) (standing : Standing) (keep other : PositionPolicy)
-      → again_of reread (placed reread standing from end) (key_of standing) ≡ None
-      → (reread ≡ true → (keep ≡ Dropped) × (Kept ≡ other)) → (reread ≡ false → keep ≡ other)
-      → (d : ResumesKeyed keep (allows_by i) (refuses_by i) from before after end standing)
-      → IfErr (placed reread standing from end) (Stops other d.is.run)
-  rested false (Ok x) Before keep other none dropped same d = tt
-  rested false (Ok x) Skipping keep other none dropped same d = tt
-  rested false (Ok x) (InPayload k) keep other none dropped same d = tt
-  rested true (Ok x) Before keep other none dropped same d = tt
-  rested true (Ok x) Skipping keep other none dropped same d = tt
-  rested true (Ok x) (InPayload k) keep other none dropped same d = tt
-  rested false (Err s) Before keep other none dropped same d = subst (λ (x : PositionPolicy). Stops x d.is.run s) (same refl) d.is.stopped
-  rested false (Err s) Skipping keep other none dropped same d = subst (λ (x : PositionPolicy). Stops x d.is.run s) (same refl) d.is.stopped
-  rested false (Err s) (InPayload k) keep other none dropped same d = subst (λ (x : PositionPolicy). Stops x d.is.run s) (same refl) d.is.stopped
-  rested true (Err s) Before keep other none dropped same d = before_as keep other d.is.run s d.stands
-  rested true (Err s) Skipping keep other none dropped same d =
-      let both = dropped refl in
-      subst (λ (x : PositionPolicy). Stops x d.is.run (stopped_at s from)) both.1
-      (skipping_as d.is.run s (subst (λ (x : PositionPolicy). Stands x d.is.run (Err s) Skipping) both.0 d.stands))
-  rested true (Err s) (InPayload k) keep other none dropped same d = absurd (none-some (s, k) (sym none))
-
-  -- one that ended
-  pub placed_done : (P : Done → Type 0) (reread : Bool) (end : Result Done Stopped) (standing : Standing) → IfOk end P → IfOk (placed reread standing from end) P
-  placed_done P false (Ok x) Before so = so
-  placed_done P false (Ok x) Skipping so = so
-  placed_done P false (Ok x) (InPayload k) so = so
-  placed_done P true (Ok x) Before so = so
-  placed_done P true (Ok x) Skipping so = so
-  placed_done P true (Ok x) (InPayload k) so = so
-  placed_done P false (Err s) Before so = tt
-  placed_done P false (Err s) Skipping so = tt
-  placed_done P false (Err s) (InPayload k) so = tt
-  placed_done P true (Err s) Before so = tt
-  placed_done P true (Err s) Skipping so = tt
-  placed_done P true (Err s) (InPayload k) so = tt
-
-  -- one that is read again stopped in its payload, by this key
-  pub paid : (reread : Bool) (end : Result Done Stopped) (standing : Standing) (s : Stopped) (k : List ℕ)
-      → again_of reread (placed reread standing from end) (key_of standing) ≡ Some (s, k)
-      → (reread ≡ true) × (end ≡ Err s) × (standing ≡ InPayload k)
-  paid reread end (InPayload y) s k is =
-      let a = again_is reread (placed reread (InPayload y) from end) (Some y) s k is in
-      (a.0, unplaced reread end y ∙ a.1, in_payload y k a.2) where
-        unplaced : (reread : Bool) (end : Result Done Stopped) (y : List ℕ) → end ≡ placed reread (InPayload y) from end
-        unplaced false end y = refl
-        unplaced true end y = refl
-
-        in_payload : (y k : List ℕ) → Some y ≡ Some k → InPayload y ≡ InPayload k
-        in_payload y k e = cc
-  paid reread end Before s k is = absurd (none-some k (again_is reread (placed reread Before from end) None s k is).2)
-  paid reread end Skipping s k is = absurd (none-some k (again_is reread (placed reread Skipping from end) None s k is).2)
-
 module _ (IsPorts : Ports → Type 0) (shows : Bool) (d : Decrypting) (i : Identity) (from : Position) (first last : SourceView) (before after : Ports)
     (after_is : IsPorts after) (last_is : IsPorts (ports last after.sink)) (old new : FilesView) (Unshown : Type 0) (Progress : Option (List ℕ) → Result (Unit {0}) Ending → Type 0)
     (silent : d.progress ≡ Silent → Unshown) where
   abbrev Did : PositionPolicy → Result Done Stopped → Standing → Type 0
   Did keep end standing = ResumesKeyed keep (allows_by i) (refuses_by i) from (resume_ports before first) (resume_ports after last) end standing
 
-  pub resumed_once : (reread : Bool) (end : Result Done Stopped) (standing : Standing) (keep : PositionPolicy) (r : Result (Unit {0}) Ending)
-      → (end' : Result Done Stopped) → end' ≡ placed reread standing from end
-      → again_of reread end' (key_of standing) ≡ None
-      → (reread ≡ true → is_some (option_text d.save) ≡ true) → (reread ≡ true → keep ≡ Dropped) → (reread ≡ false → keep ≡ kept_for (option_text d.save))
-      → Did keep end standing
-      → (engine : Result (Unit {0}) Interruption) → engine ≡ opening_end end'
-      → (OnOk (opening_end end') (IsAtEnd after.source.remaining) → d.progress ≡ Shown → (input : Option (List ℕ))
-      → (shows ≡ true → before.source.remaining ≡ input) → Progress input r)
-      → Concludes shows (option_text d.save) d.durability after.sink engine old new r
+  abbrev Shows : Result (Unit {0}) Ending → Type 0
+  Shows r = d.progress ≡ Shown → (input : Option (List ℕ)) → (shows ≡ true → before.source.remaining ≡ input)
+      → OnOk r (IsAtEnd after.source.remaining) → Progress input r
+
+  -- one that isn't read again ended as if positions had been kept, if one is to be saved
+  resumed_once : (run : Option Run) (end : Result Done Stopped) (r : Result (Unit {0}) Ending) → after.sink.label ≡ before.sink.label
+      → IfOk end (λ done. IsSomeAnd run (ResumeEnds (allows_by i) from (resume_ports before first) (resume_ports after last) done))
+      → IfErr end (Stops i from (resume_ports before first) (resume_ports after last) (kept_for (option_text d.save)) run) → Shows r
+      → Concludes shows (option_text d.save) d.durability after.sink (opening_end end) old new r
       → ResumesOpened IsPorts shows d i from first before old new Unshown Progress r
-  resumed_once reread end standing keep r end' at none saves dropped same did engine is shown concludes =
-      let done = subst (λ (e : Result Done Stopped). IfOk e (λ done. IsSomeAnd did.is.run (ResumeEnds (allows_by i) from (resume_ports before first)
-      (resume_ports after last) done))) (sym at)
-      (placed_done i from (resume_ports before first) (resume_ports after last) _ reread end standing did.is.done) in record {
-        after = after;
-        after_is = after_is;
-        last = last;
-        last_is = last_is;
-        resumed = end';
-        run = did.is.run;
-        done = done;
-        stopped = λ shown holds. subst (λ (e : Result Done Stopped). IfErr e (ResumeStops (allows_by i) from (resume_ports before first)
-            (resume_ports after last) (kept_for (option_text d.save)) (refuses_by i) did.is.run)) (sym at)
-            (rested i from (resume_ports before first) (resume_ports after last) reread end standing keep (kept_for (option_text d.save))
-            (subst (λ (e : Result Done Stopped). again_of reread e (key_of standing) ≡ None) at none)
-            (λ is. (dropped is, kept_some (option_text d.save) (saves is))) same did);
-        named = did.is.named;
-        concludes = subst (λ (e : Result (Unit {0}) Interruption). Concludes shows (option_text d.save) d.durability after.sink e old new r) is concludes;
-        silent = silent;
-        shown = shown (resuming_at_end (allows_by i) from (resume_ports before first) (resume_ports after last) did.is.run end' done);
-      }
+  resumed_once run end r named done stops shown concludes = record {
+    after = after;
+    after_is = after_is;
+    last = last;
+    last_is = last_is;
+    resumed = end;
+    run = run;
+    done = done;
+    stopped = λ shown holds. stops;
+    named = named;
+    concludes = concludes;
+    silent = silent;
+    shown = λ asked input same. shown asked input same
+        (at_end_of _ (opening_end end) r _ (resuming_at_end (allows_by i) from (resume_ports before first) (resume_ports after last) run end done) concludes.done);
+  }
 
   module _ (law : RestReadAgain Identity allows_by refuses_by) (s : Stopped) (key : List ℕ) (saves : is_some (option_text d.save) ≡ true) (ending : Ending)
-      (did : Did Dropped (Err s) (InPayload key))
-      (shown : d.progress ≡ Shown → (input : Option (List ℕ)) → (shows ≡ true → before.source.remaining ≡ input) → Progress input (Err ending)) where
+      (did : Did Dropped (Err s) (InPayload key)) (shown : Shows (Err ending)) where
     abbrev At : PositionPolicy → Option Run → Position → Type 0
     At keep run p = ResumeStops (allows_by i) from (resume_ports before first) (resume_ports after last) keep (refuses_by i) run (stopped_at s p)
 
@@ -200,10 +133,10 @@ module _ (IsPorts : Ports → Type 0) (shows : Bool) (d : Decrypting) (i : Ident
       named = did.is.named;
       concludes = concludes;
       silent = silent;
-      shown = shown;
+      shown = λ asked input same. shown asked input same tt;
     }
 
-    pub resumed_again : ConcludesAgain shows d after.sink (Some from) s key old new ending
+    resumed_again : ConcludesAgain shows d after.sink (Some from) s key old new ending
         → ResumesOpened IsPorts shows d i from first before old new Unshown Progress (Err ending)
     resumed_again (inl (p, found, concludes)) =
         opened_at p (λ shown holds. found_so did.is.run p did.stands did.is.stopped holds (found shown (λ e. holds.other (e ∙ did.is.named)))) concludes
@@ -211,10 +144,45 @@ module _ (IsPorts : Ports → Type 0) (shows : Bool) (d : Decrypting) (i : Ident
         let due = due_so did.is.run did.stands did.due did.is.stopped in
         opened_at due.0 (λ shown holds. due.1) (all due.0)
 
-pub resumed_as : (keep : PositionPolicy) (i : Identity) (from : Position) (before after : ResumePorts) (end : Result Done Stopped) (standing : Standing) (s : Stopped)
-    (k : List ℕ) → keep ≡ Dropped → end ≡ Err s → standing ≡ InPayload k → ResumesKeyed keep (allows_by i) (refuses_by i) from before after end standing
-    → ResumesKeyed Dropped (allows_by i) (refuses_by i) from before after (Err s) (InPayload k)
-resumed_as keep i from before after end standing s k dropped stopped known did =
-    subst (λ (x : Standing). ResumesKeyed Dropped (allows_by i) (refuses_by i) from before after (Err s) x) known
-    (subst (λ (x : Result Done Stopped). ResumesKeyed Dropped (allows_by i) (refuses_by i) from before after x standing) stopped
-    (subst (λ (x : PositionPolicy). ResumesKeyed x (allows_by i) (refuses_by i) from before after end standing) dropped did))
+  abbrev Concluded : Result (Unit {0}) Ending → Result Done Stopped → Option (Stopped × List ℕ) → Type 0
+  Concluded r end again = ConcludesDecryption shows d after.sink (Some from) end again old new r
+
+  as_kept : (s : Stopped) (standing : Standing) (keep : PositionPolicy) (r : Result (Unit {0}) Ending) → keep ≡ kept_for (option_text d.save)
+      → Did keep (Err s) standing → Shows r → Concluded r (Err s) None → ResumesOpened IsPorts shows d i from first before old new Unshown Progress r
+  as_kept s standing keep r kept did shown concludes =
+      resumed_once did.is.run (Err s) r did.is.named tt
+      (subst (λ (x : PositionPolicy). Stops i from (resume_ports before first) (resume_ports after last) x did.is.run s) kept did.is.stopped) shown concludes
+
+  by : RestReadAgain Identity allows_by refuses_by → (reread : Bool) (end : Result Done Stopped) (standing : Standing) (keep : PositionPolicy)
+      (r : Result (Unit {0}) Ending) → (reread ≡ true → is_some (option_text d.save) ≡ true) → (reread ≡ true → keep ≡ Dropped)
+      → (reread ≡ false → keep ≡ kept_for (option_text d.save)) → Did keep end standing → Shows r
+      → Concluded r (placed reread standing from end) (again_of reread (placed reread standing from end) (key_of standing))
+      → ResumesOpened IsPorts shows d i from first before old new Unshown Progress r
+  by law false (Ok x) standing keep r saves dropped kept did shown concludes = resumed_once did.is.run (Ok x) r did.is.named did.is.done tt shown concludes
+  by law true (Ok x) Before keep r saves dropped kept did shown concludes = resumed_once did.is.run (Ok x) r did.is.named did.is.done tt shown concludes
+  by law true (Ok x) Skipping keep r saves dropped kept did shown concludes = resumed_once did.is.run (Ok x) r did.is.named did.is.done tt shown concludes
+  by law true (Ok x) (InPayload k) keep r saves dropped kept did shown concludes = resumed_once did.is.run (Ok x) r did.is.named did.is.done tt shown concludes
+  by law false (Err s) Before keep r saves dropped kept did shown concludes = as_kept s Before keep r (kept refl) did shown concludes
+  by law false (Err s) Skipping keep r saves dropped kept did shown concludes = as_kept s Skipping keep r (kept refl) did shown concludes
+  by law false (Err s) (InPayload k) keep r saves dropped kept did shown concludes = as_kept s (InPayload k) keep r (kept refl) did shown concludes
+  by law true (Err s) Before keep r saves dropped kept did shown concludes =
+      resumed_once did.is.run (Err s) r did.is.named tt
+      (before_as i from (resume_ports before first) (resume_ports after last) keep (kept_for (option_text d.save)) did.is.run s did.stands) shown concludes
+  by law true (Err s) Skipping keep r saves dropped kept did shown concludes =
+      resumed_once did.is.run (Err (stopped_at s from)) r did.is.named tt
+      (subst (λ (x : PositionPolicy). Stops i from (resume_ports before first) (resume_ports after last) x did.is.run (stopped_at s from)) (kept_some (option_text d.save) (saves refl))
+      (skipping_as i from (resume_ports before first) (resume_ports after last) did.is.run s
+      (subst (λ (x : PositionPolicy). Stands i from (resume_ports before first) (resume_ports after last) x did.is.run (Err s) Skipping) (dropped refl) did.stands))) shown concludes
+  by law true (Err s) (InPayload k) keep (Ok x) saves dropped kept did shown concludes = absurd concludes
+  by law true (Err s) (InPayload k) keep (Err e) saves dropped kept did shown concludes =
+      resumed_again law s k (saves refl) e (subst (λ (x : PositionPolicy). Did x (Err s) (InPayload k)) (dropped refl) did) shown concludes
+
+  pub resumed_by : RestReadAgain Identity allows_by refuses_by → (reread : Bool) (end : Result Done Stopped) (standing : Standing) (keep : PositionPolicy)
+      (r : Result (Unit {0}) Ending) → (reread ≡ true → is_some (option_text d.save) ≡ true) → (reread ≡ true → keep ≡ Dropped)
+      → (reread ≡ false → keep ≡ kept_for (option_text d.save)) → Did keep end standing → Shows r
+      → (end' : Result Done Stopped) (key : Option (List ℕ)) → end' ≡ placed reread standing from end → key ≡ key_of standing
+      → Concluded r end' (again_of reread end' key) → ResumesOpened IsPorts shows d i from first before old new Unshown Progress r
+  resumed_by law reread end standing keep r saves dropped kept did shown end' key at is concludes =
+      by law reread end standing keep r saves dropped kept did shown
+      (subst (λ (e : Result Done Stopped). Concluded r e (again_of reread e (key_of standing))) at
+      (subst (λ (k : Option (List ℕ)). Concluded r end' (again_of reread end' k)) is concludes))

@@ -224,7 +224,7 @@ ShowsRun shows input left old new = (coming : Option (List ℕ)) × (size : Opti
     × (shows ≡ true → (coming ≡ input) × (size ≡ option_map length input))
     × ShowsReading size coming left old new
 
--- one reading of the input, to its end if all was done; where it stopped perhaps a second one, by
+-- one reading of the input, to its end if all was done; if it stopped, perhaps a second one, by
 -- which its position was looked for
 pub record ShowsProgress (shows : Bool) (old new : Option (List ShownOne)) (input : Option (List ℕ))
     (ended : Result (Unit {0}) Ending) : Type 0 where
@@ -313,6 +313,6 @@ module _ (IsPorts : Ports → Type 0) where
     pub silent : progress_of asked ≡ Silent → Unshown
     -- Progress that was shown is that of reading IN, however the command ended.
     pub progress : Unshown ⊎ Progress (input_of asked before.entries) ended
-    -- If all was done, it was shown where it was asked for.
+    -- If all was done, it was shown if it was asked for.
     pub shown : OnOk ended
         (progress_of asked ≡ Shown → Progress (input_of asked before.entries) ended)

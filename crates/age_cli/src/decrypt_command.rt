@@ -1,9 +1,8 @@
 //! The command that decrypts a file.
 
-ghost use Rattle.std.specs.Prelude.{◌≡◌, true, false, is_some, Some};
+ghost use Rattle.std.specs.Prelude.{◌≡◌, true, Some};
 ghost use Rattle.age_file.specs.Decrypts.{DecryptsKeyed};
 ghost use Rattle.age_file.specs.Runs.{ports};
-ghost use Rattle.age_file.specs.declared.position.PositionPolicy.TheVariants.{Dropped};
 ghost use Rattle.age_cli_args.specs.Requests.{option_text};
 ghost use Rattle.age_cli_args.specs.declared.request.ProgressOption.TheVariants.{Silent, Shown};
 ghost use Rattle.age_cli_args.specs.declared.request.Request.TheVariants.{Decrypt};
@@ -12,13 +11,12 @@ ghost use Rattle.age_identity.specs.Identities.{allows_by, refuses_by};
 ghost use Rattle.age_identity.specs.Orders.{opening_event, NamesTwice, order_asked};
 ghost use Rattle.age_ending.specs.Endings.{Tells};
 ghost use Rattle.age_identity.specs.Files.{SourceFails};
-ghost use Rattle.age_cli.specs.Acts.{Acts, PortsOf, kept_for, ShowsProgress, ShowsRun};
+ghost use Rattle.age_cli.specs.Acts.{Acts, PortsOf, ShowsProgress, ShowsRun};
 ghost use Rattle.age_cli.specs.inner.Openings.{IsReadAs, Judges};
-ghost use Rattle.age_cli.specs.inner.Rereadings.{DecryptsOpened, again_of};
+ghost use Rattle.age_cli.specs.inner.Rereadings.{DecryptsOpened};
 
-use crate::interruption::opening_end;
-use crate::output::{Content, Output, begin_meter, conclude, end_meter, open_both};
-use crate::reread::{Again, conclude_again};
+use crate::output::{Content, Output, begin_meter, end_meter, open_both};
+use crate::reread::{Decrypted, can_reread, conclude_decryption, positions_at_first};
 use crate::taking::Taking;
 use age_cli_args::{Decrypting, ProgressOption};
 use age_ending::{Announcement, Ending, Usage};
@@ -72,16 +70,6 @@ pub(crate) fn names_a_file_twice<F: FileSet>(files: &F, asked: &Decrypting<'_>) 
     is_read(files, asked, save)
 }
 
-/// Positions are kept if one is to be saved.
-pub(crate) fn positions_for(save: Option<&str>) -> PositionPolicy
-    ensures { result ≡ kept_for (option_text save.entry) }
-{
-    match save {
-        Some(_) => PositionPolicy::Kept,
-        None => PositionPolicy::Dropped,
-    }
-}
-
 /// Reads the passphrase or shared-secret file, if the options name one. Refuses first if two names
 /// that must differ are one file, or two names of what is read stand for one stream.
 pub(crate) fn read_secret<F: FileSet>(
@@ -101,24 +89,6 @@ pub(crate) fn read_secret<F: FileSet>(
     }
     files.check_streams(alloc, read)?;
     Ok(choice.read(alloc, files)?)
-}
-
-/// Whether a position is to be saved, and the input can be read once more to find it.
-pub(crate) fn can_reread<F: FileSet>(files: &F, source: &F::In, save: Option<&str>) -> bool
-    ensures { result ≡ true → is_some (option_text save.entry) ≡ true }
-{
-    save.is_some() && files.can_reread(source)
-}
-
-/// Positions are dropped if the input can be read once more to find one.
-pub(crate) fn positions_at_first(is_reread: bool, save: Option<&str>) -> PositionPolicy
-    ensures dropped { is_reread ≡ true → result ≡ Dropped }
-    ensures kept { is_reread ≡ false → result ≡ kept_for (option_text save.entry) }
-{
-    if is_reread {
-        return PositionPolicy::Dropped;
-    }
-    positions_for(save)
 }
 
 /// How a decryption ended, with the key that opened the input and with the input.
@@ -170,24 +140,6 @@ fn open_text<F: FileSet, P: Meter>(
     }
 }
 
-/// The stop and the key by which the input is read once more, if that is to be done.
-pub(crate) fn again_of(
-    is_reread: bool,
-    end: &Result<Done, Stopped>,
-    key: Option<KnownKey>,
-) -> Option<(Stopped, KnownKey)>
-    ensures { result ≡ again_of is_reread end.now key }
-{
-    match end {
-        Ok(_) => None,
-        Err(stopped) => match key {
-            Some(key) if is_reread => Some((*stopped, key)),
-            Some(_) => None,
-            None => None,
-        },
-    }
-}
-
 /// Decrypts the input into the output, ends that, and saves the position of a stop. Linking the
 /// text for it takes longer than decrypting: if the input can be read again, that is done only once
 /// it stopped.
@@ -222,27 +174,15 @@ fn decrypt_opened<F: FileSet, E: Sink, P: Meter>(
         &mut *progress,
     );
     let Opened { end, key, source } = opened;
-    match again_of(is_reread, &end, key) {
-        Some((stopped, key)) => {
-            let again = Again {
-                source,
-                key,
-                stopped,
-                from: None,
-            };
-            Err(conclude_again(alloc, files, out, asked, again, faults, announced, progress))
-        }
-        None => conclude(
-            alloc,
-            files,
-            out,
-            asked.save,
-            asked.durability,
-            faults,
-            announced,
-            opening_end(end),
-        ),
-    }
+    let decrypted = Decrypted {
+        end,
+        key,
+        source,
+        from: None,
+    };
+    conclude_decryption(
+        alloc, files, out, asked, is_reread, decrypted, faults, announced, progress,
+    )
 }
 
 /// Decrypts a file as asked. If it stops, the line of its fault is put to `faults`, and then its

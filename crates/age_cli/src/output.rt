@@ -133,7 +133,7 @@ pub(crate) fn end_meter<M: Meter>(meter: &mut M)
     meter.end();
 }
 
-/// Ends the output where the engine stopped: with what was written, or as it was, if nothing was.
+/// Ends the output of an engine that stopped: with what was written, or as it was, if nothing was.
 pub(crate) fn leave<F: FileSet>(files: &mut F, out: Taking<F>, durability: Durability)
     ensures left { F.shows_bytes ≡ true → IsPut (F.Out.view out.out).taken
         ((F.view files.old).entries (F.Out.view out.out).label)

@@ -1,34 +1,95 @@
 //! How the position of a stop is found by reading the input once more.
 
-ghost use Rattle.std.specs.Prelude.{◌≡◌, ◌⊎◌, ℕ, List, Option, true, is_some, IfOk, IfErr};
+ghost use Rattle.std.specs.Prelude.{◌≡◌, ◌⊎◌, ℕ, List, Option, true, false, is_some, IfOk, IfErr};
+ghost use Rattle.std.specs.Prelude.{OnOk};
 ghost use Rattle.age_io.specs.Io.{Origin};
 ghost use Rattle.age_fault.specs.declared.fault.FileFault.TheVariants.{Read};
+ghost use Rattle.age_file.specs.declared.position.PositionPolicy.TheVariants.{Dropped};
 ghost use Rattle.age_fileset.specs.FileSet.{IsMemoryOr};
 ghost use Rattle.age_cli_args.specs.Requests.{option_text};
 ghost use Rattle.age_cli_args.specs.declared.request.ProgressOption.TheVariants.{Silent};
-ghost use Rattle.age_ending.specs.Endings.{Announces};
-ghost use Rattle.age_cli.specs.Acts.{ShowsRun};
-ghost use Rattle.age_cli.specs.inner.Rereadings.{IsFoundIn, ConcludesAgain};
+ghost use Rattle.age_ending.specs.Endings.{Announces, Tells};
+ghost use Rattle.age_cli.specs.Acts.{ShowsRun, kept_for};
+ghost use Rattle.age_cli.specs.inner.Rereadings.{IsFoundIn, ConcludesAgain, ConcludesDecryption};
+ghost use Rattle.age_cli.specs.inner.Rereadings.{again_of};
 
-use crate::interruption::save;
-use crate::output::{begin_meter, end_meter, leave};
+use crate::interruption::{opening_end, save};
+use crate::output::{begin_meter, conclude, end_meter, leave};
 use crate::taking::Taking;
 use age_cli_args::{Decrypting, ProgressOption};
 use age_ending::{Announcement, Ending, announce};
-use age_file::{FileFault, Position, Stopped, position_after, resumed_position_after};
+use age_file::{
+    Done, FileFault, Position, PositionPolicy, Stopped, position_after, resumed_position_after,
+};
 use age_fileset::FileSet;
 use age_io::{Meter, Metered, Sink, Source};
 use age_keys::KnownKey;
 use std::alloc::Global;
 
-/// What is read once more: the input, by the key that opened it, up to where it stopped.
+/// Positions are kept if one is to be saved.
+fn positions_for(save: Option<&str>) -> PositionPolicy
+    ensures { result ≡ kept_for (option_text save.entry) }
+{
+    match save {
+        Some(_) => PositionPolicy::Kept,
+        None => PositionPolicy::Dropped,
+    }
+}
+
+/// Whether a position is to be saved, and the input can be read once more to find it.
+pub(crate) fn can_reread<F: FileSet>(files: &F, source: &F::In, save: Option<&str>) -> bool
+    ensures { result ≡ true → is_some (option_text save.entry) ≡ true }
+{
+    save.is_some() && files.can_reread(source)
+}
+
+/// Positions are dropped if the input can be read once more to find one.
+pub(crate) fn positions_at_first(is_reread: bool, save: Option<&str>) -> PositionPolicy
+    ensures dropped { is_reread ≡ true → result ≡ Dropped }
+    ensures kept { is_reread ≡ false → result ≡ kept_for (option_text save.entry) }
+{
+    if is_reread {
+        return PositionPolicy::Dropped;
+    }
+    positions_for(save)
+}
+
+/// How a decryption ended, with the input and with the key that opened it.
 #[derive(Drop)]
-pub(crate) struct Again<S: Source> {
+pub(crate) struct Decrypted<S: Source> {
+    pub(crate) end: Result<Done, Stopped>,
+    pub(crate) key: Option<KnownKey>,
     pub(crate) source: S,
-    pub(crate) key: KnownKey,
-    pub(crate) stopped: Stopped,
     /// The position that it began from, if it was resumed.
     pub(crate) from: Option<Position>,
+}
+
+/// What is read once more: the input, by the key that opened it, up to where it stopped.
+#[derive(Drop)]
+struct Again<S: Source> {
+    source: S,
+    key: KnownKey,
+    stopped: Stopped,
+    /// The position that it began from, if it was resumed.
+    from: Option<Position>,
+}
+
+/// The stop and the key by which the input is read once more, if that is to be done.
+fn again_of(
+    is_reread: bool,
+    end: &Result<Done, Stopped>,
+    key: Option<KnownKey>,
+) -> Option<(Stopped, KnownKey)>
+    ensures { result ≡ again_of is_reread end.now key }
+{
+    match end {
+        Ok(_) => None,
+        Err(stopped) => match key {
+            Some(key) if is_reread => Some((*stopped, key)),
+            Some(_) => None,
+            None => None,
+        },
+    }
 }
 
 /// The position after this many bytes of the text, by reading its file from its start.
@@ -95,7 +156,7 @@ fn find_again<F: FileSet, P: Meter>(
 
 /// Ends the output of a decryption that stopped and dropped its position, puts the line of its
 /// fault, and then finds the position and saves it: a second reading may take long.
-pub(crate) fn conclude_again<F: FileSet, E: Sink, P: Meter>(
+fn conclude_again<F: FileSet, E: Sink, P: Meter>(
     alloc: Global,
     files: &mut F,
     out: Taking<F>,
@@ -123,5 +184,59 @@ pub(crate) fn conclude_again<F: FileSet, E: Sink, P: Meter>(
             Err(second) => Ending::Unsaved(fault, second),
         },
         Err(second) => Ending::Unsaved(fault, second),
+    }
+}
+
+/// Ends the output of a decryption, and saves the position of a stop, which is found by reading the
+/// input once more if that can be done.
+pub(crate) fn conclude_decryption<F: FileSet, E: Sink, P: Meter>(
+    alloc: Global,
+    files: &mut F,
+    out: Taking<F>,
+    asked: &Decrypting<'_>,
+    is_reread: bool,
+    decrypted: Decrypted<F::In>,
+    faults: &mut E,
+    announced: &mut Announcement,
+    progress: &mut P,
+) -> Result<(), Ending>
+    requires { is_reread ≡ true → is_some (option_text asked.now.save) ≡ true }
+    ensures announced { Tells announced.new result (E.view faults.old) (E.view faults.new)
+        (faults.new ≡ faults.old) }
+    ensures concludes { ConcludesDecryption (F.shows_bytes) asked.now (F.Out.view out.out)
+        decrypted.from decrypted.end (again_of is_reread decrypted.end decrypted.key)
+        (F.view files.old) (F.view files.new) result }
+    ensures silent { asked.now.progress ≡ Silent → progress.new ≡ progress.old }
+    ensures whole { OnOk result (P.shown progress.new ≡ P.shown progress.old) }
+    ensures shown { (P.shown progress.new ≡ P.shown progress.old)
+        ⊎ ((input left : Option (List ℕ)) × ShowsRun (F.shows_bytes) input left
+        (P.shown progress.old) (P.shown progress.new)) }
+{
+    let Decrypted {
+        end,
+        key,
+        source,
+        from,
+    } = decrypted;
+    match again_of(is_reread, &end, key) {
+        Some((stopped, key)) => {
+            let again = Again {
+                source,
+                key,
+                stopped,
+                from,
+            };
+            Err(conclude_again(alloc, files, out, asked, again, faults, announced, progress))
+        }
+        None => conclude(
+            alloc,
+            files,
+            out,
+            asked.save,
+            asked.durability,
+            faults,
+            announced,
+            opening_end(end),
+        ),
     }
 }

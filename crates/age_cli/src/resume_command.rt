@@ -16,12 +16,9 @@ ghost use Rattle.age_cli.specs.Acts.{Acts, PortsOf, ShowsProgress, ShowsRun};
 ghost use Rattle.age_cli.specs.Commands.{HoldsNoPosition, IsPositionIn, old_for};
 ghost use Rattle.age_cli.specs.inner.Rereadings.{ResumesOpened, key_of, placed};
 
-use crate::decrypt_command::{
-    again_of, can_reread, is_given_as, names_a_file_twice, positions_at_first, read_secret,
-};
-use crate::interruption::opening_end;
-use crate::output::{Content, Output, begin_meter, conclude, end_meter, open_both};
-use crate::reread::{Again, conclude_again};
+use crate::decrypt_command::{is_given_as, names_a_file_twice, read_secret};
+use crate::output::{Content, Output, begin_meter, end_meter, open_both};
+use crate::reread::{Decrypted, can_reread, conclude_decryption, positions_at_first};
 use crate::taking::Taking;
 use age_cli_args::{Decrypting, ProgressOption, Resuming};
 use age_ending::{Announcement, Ending};
@@ -242,7 +239,7 @@ fn resume_text<F: FileSet, P: Meter>(
 }
 
 /// Resumes the decryption of the input into the output, ends that, and saves the position of a
-/// stop. Where the input can be read again, the text is linked for it only once it stopped.
+/// stop. If the input can be read again, the text is linked for it only once it stopped.
 fn resume_opened<F: FileSet, E: Sink, P: Meter>(
     alloc: Global,
     files: &mut F,
@@ -282,28 +279,15 @@ fn resume_opened<F: FileSet, E: Sink, P: Meter>(
         standing,
         source,
     } = resumed;
-    let end = placed(is_reread, &standing, position, end);
-    match again_of(is_reread, &end, key_of(standing)) {
-        Some((stopped, key)) => {
-            let again = Again {
-                source,
-                key,
-                stopped,
-                from: Some(*position),
-            };
-            Err(conclude_again(alloc, files, out, asked, again, faults, announced, progress))
-        }
-        None => conclude(
-            alloc,
-            files,
-            out,
-            asked.save,
-            asked.durability,
-            faults,
-            announced,
-            opening_end(end),
-        ),
-    }
+    let decrypted = Decrypted {
+        end: placed(is_reread, &standing, position, end),
+        key: key_of(standing),
+        source,
+        from: Some(*position),
+    };
+    conclude_decryption(
+        alloc, files, out, asked, is_reread, decrypted, faults, announced, progress,
+    )
 }
 
 /// Continues a decryption as asked. If it stops, the line of its fault is put to `faults`, and then

@@ -1,6 +1,6 @@
 -- How a position is found by reading the input once more. What only private code cites.
 use Rattle.std.specs.Prelude.{◌≡◌, ◌≢◌, ◌⊎◌, ℕ, Bool, true, List, Option, Some, is_some, None}
-use Rattle.std.specs.Prelude.{Result, Err, IfOk, IfErr, IsSomeAnd, if◌then◌else◌}
+use Rattle.std.specs.Prelude.{Result, Err, IfOk, IfErr, IsErrAnd, IsSomeAnd, if◌then◌else◌}
 use Rattle.age_io.specs.Io.{SourceView, SinkView}
 use Rattle.age_file.specs.Decrypts.{IsFoundAgain, DecryptEnds, DecryptStops}
 use Rattle.age_file.specs.Resumes.{IsOldText, IsFoundFrom, resume_ports, ResumeEnds, ResumeStops}
@@ -52,6 +52,16 @@ module _ (shows : Bool) (d : Decrypting) (sink : SinkView) (from : Option Positi
   ConcludesAgain = ((p : Position) × (shows ≡ true → d.from.now ≢ sink.label
       → IsFoundIn from (old.entries d.from.now) key stopped.written p) × ConcludesAt p)
       ⊎ ((p : Position) → ConcludesAt p)
+
+-- OUT was ended after a decryption that ended so, and the position of a stop was saved: the one that
+-- it has, or, of a stop and a key by which the input is read once more, one that is found so
+abbrev pub ConcludesDecryption : Bool → Decrypting → SinkView → Option Position
+    → Result Done Stopped → Option (Stopped × List ℕ) → FilesView → FilesView
+    → Result (Unit {0}) Ending → Type 0
+ConcludesDecryption shows d sink from end None old new result =
+    Concludes shows (option_text d.save) d.durability sink (opening_end end) old new result
+ConcludesDecryption shows d sink from end (Some again) old new result =
+    IsErrAnd result (ConcludesAgain shows d sink from again.0 again.1 old new)
 
 -- where a resumed one stopped, had positions been kept: in the skipped blocks it is where it began
 abbrev pub placed : Bool → Standing → Position → Result Done Stopped → Result Done Stopped
