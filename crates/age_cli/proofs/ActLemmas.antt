@@ -16,7 +16,7 @@ use Rattle.age_identity.specs.Files.{Files}
 use Rattle.age_ending.specs.Endings.{is_usage}
 use Rattle.age_identity.specs.Files.{HasReason}
 use Rattle.age_ending.specs.declared.ending.Ending.{Ending}
-use Rattle.age_cli.specs.Acts.{Acts, EndsBefore, GivesNone, HasEngineEnded, OfEngine, OfSomeEngine}
+use Rattle.age_cli.specs.Acts.{Acts, EndsBefore, GivesNone, HasEngineEnded, OfEngine}
 use Rattle.age_cli.specs.Acts.{Spares, progress_of, input_of, IsUsage, LeavesOut, WritesOut}
 use Rattle.age_cli.proofs.CommandLemmas.{not_well, this_error, just_error}
 use Rattle.age_identity.proofs.EventLemmas.{longer}
@@ -61,7 +61,6 @@ module _ (IsPorts : Ports → Type 0) (shows : Bool) (asked : Request) (before a
       → Unshown → Acted
   acts_early e is kept early reason follows judged apart blamed silent = record {
     done = not_well r e is _;
-    ran = not_well r e is _;
     stops = λ shown. this_error r e is _ (inl (kept, early shown, reason shown));
     usage = this_error r e is _ (λ usage. kept);
     blamed = λ shown. this_error r e is _ (blamed shown);
@@ -77,17 +76,17 @@ module _ (IsPorts : Ports → Type 0) (shows : Bool) (asked : Request) (before a
   }
 
   -- a command ended once its engine had run
-  pub acts_concluded : OnOk r (shows ≡ true → OfEngine IsPorts asked before.entries (λ engine paths. WritesOut IsPorts engine paths before.entries after.entries))
-      → OnOk r (OfSomeEngine IsPorts asked (HasEngineEnded IsPorts)) → (shows ≡ true → IfErr r (λ e. OfEngine IsPorts asked before.entries (λ engine paths. LeavesOut IsPorts engine paths before.entries after.entries e)))
+  pub acts_concluded : OnOk r (OfEngine IsPorts shows asked before.entries (λ engine paths. HasEngineEnded IsPorts engine
+      × (shows ≡ true → WritesOut IsPorts engine paths before.entries after.entries)))
+      → (shows ≡ true → IfErr r (λ e. OfEngine IsPorts shows asked before.entries (λ engine paths. LeavesOut IsPorts engine paths before.entries after.entries e)))
       → IfErr r (λ e. is_usage e ≡ false) → (shows ≡ true → Spares asked before.entries after.entries)
       → Follows (order_asked asked).whole before.events after.events → OnOk r (after.events ≡ before.events ++ (order_asked asked).done)
       → (NamesTwice (order_asked asked).apart → ⊥) → (progress_of asked ≡ Silent → Unshown) × (progress_of asked ≡ Shown → Progress (input_of asked before.entries) r) → Acted
-  acts_concluded done ran stops fault spares order finished apart shown =
+  acts_concluded done stops fault spares order finished apart shown =
       let impossible : (P : Type 0) → IfErr r (λ e. IsUsage e → P) =
       λ P. IfErr-weaker r _ _ (λ e no usage. absurd (true≢false (sym usage ∙ no))) fault in
       record {
         done = done;
-        ran = ran;
         stops = λ shown. IfErr-weaker r _ _ (λ e s. inr s) (stops shown);
         usage = impossible _;
         blamed = λ shown. impossible _;

@@ -12,15 +12,16 @@ use Rattle.age_fileset.specs.declared.files.OpenFault.TheVariants.{SameFile}
 use Rattle.age_fileset.specs.declared.files.OpenFault.TheVariants as create
 use Rattle.age_ending.specs.Endings.{EndsEarly, is_usage}
 use Rattle.age_identity.specs.Files.{HasReason, IsUnmade, IsUnread}
-use Rattle.age_identity.specs.Identities.{Chooses, IsSecretIn, Makes, file_of, OpensBy}
+use Rattle.age_identity.specs.Identities.{Chooses, IsSecretIn, Makes, file_of}
 use Rattle.age_identity.specs.Files.{Files}
 use Rattle.age_identity.specs.declared.choice.Choice.{Choice}
 use Rattle.age_identity.specs.declared.identity.Identity.{Identity}
-use Rattle.age_cli_args.specs.declared.request.IdentityOptions.{IdentityOptions}
 use Rattle.clap.specs.Words.{Text}
 use Rattle.age_ending.specs.inner.Endings.{ending_of}
 use Rattle.age_ending.specs.declared.ending.Ending.{Ending}
 use Rattle.age_ending.specs.declared.ending.Ending.TheVariants.{Fault}
+use Rattle.age_cli_args.specs.declared.request.Decrypting.{Decrypting}
+use Rattle.age_cli.specs.Acts.{OpensOf}
 use Rattle.age_cli.specs.Commands.{HoldsNoPosition}
 use Rattle.age_cli.specs.inner.Openings.{Judges}
 
@@ -148,7 +149,9 @@ secret_in (Some name) (Some bytes) = refl
 secret_in (Some name) None = tt
 secret_in None held = tt
 
--- what a choice made is what the options and some files make
-pub some_files : (options : IdentityOptions) (choice : Choice) (held : Option (List ℕ)) (identity : Identity) → Chooses options choice → Makes choice held identity
-    → (files : Files) × OpensBy files options identity
-some_files options choice held identity chooses makes = (λ q. held, chooses.opens (λ q. held) held identity (secret_in (file_of choice) held) makes)
+-- what a choice made is what the options and these files make, or, if contracts don't see them, some
+pub found_by : (shows : Bool) (d : Decrypting) (choice : Choice) (held : Option (List ℕ)) (identity : Identity) → Chooses d.identity choice → Makes choice held identity
+    → (old : Files) → (shows ≡ true → IsSecretIn old (file_of choice) held) → OpensOf shows d old identity
+found_by true d choice held identity chooses makes old is = (old, (λ shown. refl), chooses.opens old held identity (is refl) makes)
+found_by false d choice held identity chooses makes old is =
+    (λ q. held, (λ shown. absurd (true≢false (sym shown))), chooses.opens (λ q. held) held identity (secret_in (file_of choice) held) makes)

@@ -24,10 +24,9 @@ use Rattle.age_cli_args.specs.declared.request.Request.TheVariants.{Encrypt, Dec
 use Rattle.age_identity.specs.Orders.{Follows, identity_order, preparing, making, replacing}
 use Rattle.age_identity.specs.Orders.{NamesTwice, order_asked, random_name}
 use Rattle.age_identity.specs.Files.{Files, SparesBoth}
-use Rattle.age_identity.specs.Identities.{OpensBy}
 use Rattle.age_ending.specs.declared.ending.Ending.{Ending}
 use Rattle.age_identity.specs.declared.identity.Identity.{Identity}
-use Rattle.age_cli.specs.Acts.{Acts, HasEngineEnded, OfEngine, OfSomeEngine, Spares, paths_of}
+use Rattle.age_cli.specs.Acts.{Acts, HasEngineEnded, OfEngine, OpensOf, Spares, paths_of}
 use Rattle.age_cli.specs.Acts.{progress_of, input_of, Engine, encrypt_engine, decrypt_engine, resume_engine}
 use Rattle.age_cli.specs.Acts.{Paths, LeavesOut}
 use Rattle.age_cli.specs.Acts.{WritesOut, kept_for}
@@ -40,6 +39,7 @@ use Rattle.age_cli.proofs.CommandStopLemmas.{the_run}
 use Rattle.age_cli.proofs.EngineLemmas.{Kept, ends_so, kept_sealing, kept_opening, kept_resuming}
 use Rattle.age_cli.proofs.EngineLemmas.{wrote_out, stopped_out, spared_out}
 use Rattle.age_cli.proofs.EventLemmas.{then_concluded, then_closed}
+use Rattle.age_cli.proofs.ObeyLemmas.{both_done}
 
 -- IN and OUT were found so
 abbrev pub Found : Paths → Files → Ports → Type 0
@@ -63,8 +63,7 @@ module _ (IsPorts : Ports → Type 0) (shows : Bool) (asked : Request) (old open
     (durability : Durability) (before after : Ports) (end : Result (Unit {0}) Interruption) (r : Result (Unit {0}) Ending) (xs ys : List Event) where
   acts_of_engine : IsPorts before → IsPorts after → (order_asked asked).done ≡ xs ++ (ys ++ making (Some p.to) durability)
       → (order_asked asked).whole ≡ (xs ++ (ys ++ making (Some p.to) durability)) ++ replacing p.save durability
-      → (shows ≡ true → (P : Engine → Paths → Type 0) → P engine p → OfEngine IsPorts asked old.entries P)
-      → OnOk end (OfSomeEngine IsPorts asked (HasEngineEnded IsPorts))
+      → ((P : Engine → Paths → Type 0) → P engine p → OfEngine IsPorts shows asked old.entries P) → OnOk end (HasEngineEnded IsPorts engine)
       → (SparesBoth (Some p.to) p.save old.entries new.entries → Spares asked old.entries new.entries)
       → opened.entries ≡ old.entries → (shows ≡ true → Found p old.entries before) → after.sink.label ≡ before.sink.label
       → (shows ≡ true → Kept engine before after end) → Concludes shows p.save durability after.sink end opened new r
@@ -72,10 +71,10 @@ module _ (IsPorts : Ports → Type 0) (shows : Bool) (asked : Request) (old open
       → (progress_of asked ≡ Silent → Unshown) × (progress_of asked ≡ Shown → Progress (input_of asked old.entries) r) → Acts IsPorts shows asked old new Failed Unshown Progress r
   acts_of_engine before_is after_is done_is whole_is of ran spares kept found named promise concludes noted apart unsaved silent =
       acts_concluded IsPorts shows asked old new Failed Unshown Progress r
-      (on_ok_weaker r (λ wrote shown. of shown (λ e q. WritesOut IsPorts e q old.entries new.entries) (wrote shown))
-      (wrote_out IsPorts engine shows p durability old opened new before after before_is after_is end r kept found named promise concludes))
-      (on_ok_weaker r (λ done. ends_so end ran done.0) concludes.done)
-      (λ shown. IfErr-weaker r _ _ (λ e stops. of shown (λ n q. LeavesOut IsPorts n q old.entries new.entries e) stops)
+      (on_ok_weaker r (λ both. of (λ e q. HasEngineEnded IsPorts e × (shows ≡ true → WritesOut IsPorts e q old.entries new.entries)) both)
+      (both_done _ _ r (on_ok_weaker r (λ done. ends_so end ran done.0) concludes.done)
+      (wrote_out IsPorts engine shows p durability old opened new before after before_is after_is end r kept found named promise concludes)))
+      (λ shown. IfErr-weaker r _ _ (λ e stops. of (λ n q. LeavesOut IsPorts n q old.entries new.entries e) stops)
       (stopped_out IsPorts engine shows p durability old opened new before after before_is after_is end r kept found named promise concludes unsaved shown))
       concludes.fault
       (λ shown. spares
@@ -100,21 +99,20 @@ module _ (IsPorts : Ports → Type 0) (shows : Bool) (old opened new : FilesView
       acts_of_engine IsPorts shows (Encrypt e) old opened new Failed Unshown Progress (encrypt_engine secret) (record { from = e.from.now; to = e.to.now; save = None }) e.durability
       before after end r (Opened e.pass.now ∷ Opened (random_name (option_text e.random)) ∷ []) (Opened e.from.now ∷ []) before_is after_is refl
       refl
-      (λ shown P holds. (secret, made shown, holds))
-      (subst (λ (n : Result (Unit {0}) Interruption). OnOk n (OfSomeEngine IsPorts (Encrypt e) (HasEngineEnded IsPorts))) (sym is)
-      (sealing_ran sealed (λ written sealed_so. (secret, (before, after, before_is, after_is, (written, sealed_so)))) ends)) (λ spared. spared) kept found named
+      (λ P holds. (secret, made, holds))
+      (subst (λ (n : Result (Unit {0}) Interruption). OnOk n (HasEngineEnded IsPorts (encrypt_engine secret))) (sym is)
+      (sealing_ran sealed (λ written sealed_so. (before, after, before_is, after_is, (written, sealed_so))) ends)) (λ spared. spared) kept found named
       (λ shown. subst (λ (n : Result (Unit {0}) Interruption). Kept (encrypt_engine secret) before after n) (sym is) (kept_sealing secret before after sealed ends fails))
       concludes noted apart (λ same. cc) silent
 
 module _ (IsPorts : Ports → Type 0) (shows : Bool) (old opened new : FilesView) (Failed Unshown : Type 0) (Progress : Option (List ℕ) → Result (Unit {0}) Ending → Type 0) (before : Ports) (before_is : IsPorts before)
     (r : Result (Unit {0}) Ending) (kept : opened.entries ≡ old.entries) where
-  pub decrypt_acts : (d : Decrypting) (identity : Identity) → ((files : Files) × OpensBy files d.identity identity)
-      → (shows ≡ true → OpensBy old.entries d.identity identity) → (shows ≡ true → Found (paths_of d) old.entries before)
+  pub decrypt_acts : (d : Decrypting) (identity : Identity) → OpensOf shows d old.entries identity → (shows ≡ true → Found (paths_of d) old.entries before)
       → DecryptsOpened IsPorts shows d identity before opened new Unshown Progress r
       → opened.events ≡ old.events ++ (identity_order (option_text d.identity.pass) (option_text d.identity.shared)
       ++ ((Opened d.from.now ∷ preparing (option_text d.save)) ++ Created d.to.now ∷ []))
       → (NamesTwice (order_asked (Decrypt d)).apart → ⊥) → Acts IsPorts shows (Decrypt d) old new Failed Unshown Progress r
-  decrypt_acts d identity by opens found did noted apart =
+  decrypt_acts d identity opens found did noted apart =
       let k = kept_for (option_text d.save) in
       let holds : shows ≡ true → HoldsInput d before opened =
       λ shown. let f = found shown in record {
@@ -124,24 +122,22 @@ module _ (IsPorts : Ports → Type 0) (shows : Bool) (old opened new : FilesView
       } in
       acts_of_engine IsPorts shows (Decrypt d) old opened new Failed Unshown Progress (decrypt_engine k identity) (paths_of d) d.durability before did.after
       (opening_end did.decrypted) r (identity_order (option_text d.identity.pass) (option_text d.identity.shared)) (Opened d.from.now ∷ preparing (option_text d.save))
-      before_is did.after_is refl refl (λ shown P holds. (identity, opens shown, holds))
-      (opening_ran did.decrypted (λ done so. let of = the_run did.run so in
-      (identity, by, (before, did.after, before_is, did.after_is, (done, of.0, of.1)))) did.done) (λ spared. spared) kept found did.named
+      before_is did.after_is refl refl (λ P holds. (identity, opens, holds))
+      (opening_ran did.decrypted (λ done so. let of = the_run did.run so in (before, did.after, before_is, did.after_is, (done, of.0, of.1))) did.done) (λ spared. spared) kept found did.named
       (λ shown. kept_opening k identity before did.after did.run did.decrypted did.done (did.stopped shown (holds shown))) did.concludes noted apart
       (λ same. apart (inr (inl (inl (d.to.now, same, refl))))) (did.silent, λ asked. did.shown asked (old.entries d.from.now) (λ shown. (found shown).1))
 
-  pub resume_acts : (a : Resuming) (identity : Identity) (from : Position) (first : SourceView) → ((files : Files) × OpensBy files a.decrypting.identity identity)
-      → (shows ≡ true → OpensBy old.entries a.decrypting.identity identity)
+  pub resume_acts : (a : Resuming) (identity : Identity) (from : Position) (first : SourceView) → OpensOf shows a.decrypting old.entries identity
       → (shows ≡ true → WasEarlier a from old.entries first) → IsPorts (ports first before.sink)
       → (shows ≡ true → Found (paths_of a.decrypting) old.entries before)
       → ResumesOpened IsPorts shows a.decrypting identity from first before opened new Unshown Progress r
       → opened.events ≡ old.events ++ (identity_order (option_text a.decrypting.identity.pass) (option_text a.decrypting.identity.shared)
       ++ ((Opened a.position.now ∷ Opened a.old.now ∷ Opened a.decrypting.from.now ∷ preparing (option_text a.decrypting.save)) ++ Created a.decrypting.to.now ∷ []))
       → (NamesTwice (order_asked (Resume a)).apart → ⊥) → Acts IsPorts shows (Resume a) old new Failed Unshown Progress r
-  resume_acts a identity from first by opens earlier first_is found did noted apart =
+  resume_acts a identity from first opens earlier first_is found did noted apart =
       let d = a.decrypting in
       let k = kept_for (option_text d.save) in
-      let engine = resume_engine IsPorts k identity from (old_for from (old.entries a.old.now)) in
+      let engine = resume_engine IsPorts k identity from first.remaining in
       let holds : shows ≡ true → HoldsInput d before opened =
       λ shown. let f = found shown in record {
         there = subst (λ (files : Files). is_some (files d.from.now) ≡ true) (sym kept) f.0;
@@ -151,10 +147,17 @@ module _ (IsPorts : Ports → Type 0) (shows : Bool) (old opened new : FilesView
       acts_of_engine IsPorts shows (Resume a) old opened new Failed Unshown Progress engine (paths_of d) d.durability before did.after (opening_end did.resumed) r
       (identity_order (option_text d.identity.pass) (option_text d.identity.shared))
       (Opened a.position.now ∷ Opened a.old.now ∷ Opened d.from.now ∷ preparing (option_text d.save)) before_is did.after_is refl refl
-      (λ shown P holds. (identity, opens shown, from, (earlier shown).0, (earlier shown).1, holds))
+      (λ P holds. (
+        identity,
+        opens,
+        from,
+        first.remaining,
+        (λ shown. let was = earlier shown in
+            (was.0, was.2, ap is_some was.2 ∙ was.1)),
+        holds,
+      ))
       (opening_ran did.resumed (λ done so. let of = the_run did.run so in
-      (identity, by, from, first.remaining, (before, did.after, before_is, did.after_is, (first, did.last, first_is, did.last_is, refl, (done, of.0, of.1)))))
-      did.done) (λ spared. spared) kept found did.named
-      (λ shown. kept_resuming IsPorts k identity from (old_for from (old.entries a.old.now)) before did.after first did.last did.run did.resumed first_is
-      did.last_is (sym (earlier shown).2) did.done (did.stopped shown (holds shown))) did.concludes noted apart
+      (before, did.after, before_is, did.after_is, (first, did.last, first_is, did.last_is, refl, (done, of.0, of.1)))) did.done) (λ spared. spared) kept found did.named
+      (λ shown. kept_resuming IsPorts k identity from first.remaining before did.after first did.last did.run did.resumed first_is
+      did.last_is refl did.done (did.stopped shown (holds shown))) did.concludes noted apart
       (λ same. apart (inr (inl (inl (d.to.now, same, refl))))) (did.silent, λ asked. did.shown asked (old.entries d.from.now) (λ shown. (found shown).1))

@@ -33,8 +33,8 @@ use Rattle.age_identity.specs.Files.{Files}
 use Rattle.age_identity.specs.declared.identity.Identity.{Identity}
 use Rattle.age_identity.specs.Identities.{IsIdentity, OpensBy, allows_by, refuses_by}
 use Rattle.age_ending.specs.declared.ending.Ending.{Ending}
-use Rattle.age_cli.specs.Acts.{Acts, EndsBefore, OfEngine, decrypt_engine, resume_engine, Ran}
-use Rattle.age_cli.specs.Acts.{IsLeft}
+use Rattle.age_cli.specs.Acts.{Acts, EndsBefore, HasEngineEnded, OfEngine, OpensOf, decrypt_engine, resume_engine}
+use Rattle.age_cli.specs.Acts.{IsLeft, Ran}
 use Rattle.age_cli.specs.Acts.{IsUnclosed, LeavesOut, WritesOut, kept_for}
 use Rattle.age_cli.specs.Runs.{World, Obeys, Prints}
 use Rattle.age_identity.specs.Files.{HasReason}
@@ -295,6 +295,10 @@ module _ (words : List Text) (shows : Bool) (IsPorts : Ports → Type 0) (before
   abbrev pub new : Files
   new = after.files.entries
 
+  -- what opened the input is what the files make
+  opened_by : (d : Decrypting) (identity : Identity) → OpensOf shows d old identity → OpensBy old d.identity identity
+  opened_by d identity by = subst (λ (f : Files). OpensBy f d.identity identity) (by.1 shown) by.2
+
   -- with no request nothing differs, and with status 0 help was asked for
   declined : (r : Result (Unit {0}) Ending) → OnErr r (status ≡ 0 → ⊥) → OnOk r (IsForHelp words × Prints before.output after.output) → refusals words ≡ [] → after.files ≡ before.files → (to : Text)
       → KeepsOut (old to) (new to) status text
@@ -303,20 +307,20 @@ module _ (words : List Text) (shows : Bool) (IsPorts : Ports → Type 0) (before
 
   module _ (e : Decrypting) (auth : IsWritersInput e old text) where
     decrypted : (r : Result (Unit {0}) Ending) → OnErr r (status ≡ 0 → ⊥)
-        → OnOk r (shows ≡ true → OfEngine IsPorts (Decrypt e) old (λ engine paths. WritesOut IsPorts engine paths old new))
+        → OnOk r (OfEngine IsPorts shows (Decrypt e) old (λ engine paths. HasEngineEnded IsPorts engine × (shows ≡ true → WritesOut IsPorts engine paths old new)))
         → IfErr r (λ ending. ((new ≡ old) × EndsBefore (Decrypt e) old ending × HasReason old after.files.events Failed ending)
-        ⊎ OfEngine IsPorts (Decrypt e) old (λ engine paths. LeavesOut IsPorts engine paths old new ending))
+        ⊎ OfEngine IsPorts shows (Decrypt e) old (λ engine paths. LeavesOut IsPorts engine paths old new ending))
         → KeepsOut (old e.to.now) (new e.to.now) status text
-    decrypted (Ok done) failed wrote stopped =
-        let did = wrote shown in
+    decrypted (Ok done) failed did stopped =
+        let wrote = did.2.1 shown in
         kept_whole (old e.to.now) (new e.to.now) status text
-        (whole_out IsPorts (kept_for (option_text e.save)) did.0 (old e.from.now) (new e.to.now) text did.2.there (auth did.0 did.1) did.2.output)
+        (whole_out IsPorts (kept_for (option_text e.save)) did.0 (old e.from.now) (new e.to.now) text wrote.there (auth did.0 (opened_by e did.0 did.1)) wrote.output)
     decrypted (Err ending) failed wrote (inl same) =
         kept_stopped (old e.to.now) (new e.to.now) status text failed (inl (ap (λ (f : Files). f e.to.now) same.0))
     decrypted (Err ending) failed wrote (inr did) =
         kept_stopped (old e.to.now) (new e.to.now) status text failed
         (held_stop IsPorts (kept_for (option_text e.save)) did.0 (old e.from.now) (old e.to.now) (new e.to.now) did.2.position did.2.fault text did.2.there
-        (auth did.0 did.1) did.2.output)
+        (auth did.0 (opened_by e did.0 did.1)) did.2.output)
 
   -- of what is asked, whichever request was made of the words
   pub headline_of : (r : Result (Unit {0}) Ending) → OnErr r (status ≡ 0 → ⊥)
@@ -334,27 +338,33 @@ module _ (words : List Text) (shows : Bool) (IsPorts : Ports → Type 0) (before
       subst (λ (t : Text). KeepsOut (old t) (new t) status text) same.to (decrypted e mine r failed acts.done (acts.stops shown))
 
   module _ (s : Resuming) (auth : IsWritersResumption s old text) where
+    -- the old text is what the files hold for the position
+    fronts : (p : Position) (old_text : Option (List ℕ)) → IsPositionIn (old s.position.now) p → old_text ≡ old_for p (old s.old.now) → (all : List ℕ)
+        → old_text ≡ Some all → Fronts p.index text all
+    fronts p old_text at is all same = old_front p (old s.old.now) text (λ all held. auth.old_text p at all held) all (sym is ∙ same)
+
     resumed : (r : Result (Unit {0}) Ending) → OnErr r (status ≡ 0 → ⊥)
-        → OnOk r (shows ≡ true → OfEngine IsPorts (Resume s) old (λ engine paths. WritesOut IsPorts engine paths old new))
+        → OnOk r (OfEngine IsPorts shows (Resume s) old (λ engine paths. HasEngineEnded IsPorts engine × (shows ≡ true → WritesOut IsPorts engine paths old new)))
         → IfErr r (λ ending. ((new ≡ old) × EndsBefore (Resume s) old ending × HasReason old after.files.events Failed ending)
-        ⊎ OfEngine IsPorts (Resume s) old (λ engine paths. LeavesOut IsPorts engine paths old new ending))
+        ⊎ OfEngine IsPorts shows (Resume s) old (λ engine paths. LeavesOut IsPorts engine paths old new ending))
         → KeepsOut (old s.decrypting.to.now) (new s.decrypting.to.now) status text
-    resumed (Ok done) failed wrote stopped =
+    resumed (Ok done) failed did stopped =
         let d = s.decrypting in
-        let did = wrote shown in
         let p = did.2 in
+        let was = did.4 shown in
+        let wrote = did.5.1 shown in
         kept_whole (old d.to.now) (new d.to.now) status text
-        (whole_resumed did.0 p (old d.from.now) (old_for p (old s.old.now)) text did.5.there did.4 auth.few
-        (old_front p (old s.old.now) text (λ all same. auth.old_text p did.3 all same)) (auth.rest p did.3 did.0 did.1)
-        IsPorts (kept_for (option_text d.save)) (new d.to.now) did.5.output)
+        (whole_resumed did.0 p (old d.from.now) did.3 text wrote.there was.2 auth.few (fronts p did.3 was.0 was.1)
+        (auth.rest p was.0 did.0 (opened_by d did.0 did.1)) IsPorts (kept_for (option_text d.save)) (new d.to.now) wrote.output)
     resumed (Err ending) failed wrote (inl same) =
         kept_stopped (old s.decrypting.to.now) (new s.decrypting.to.now) status text failed (inl (ap (λ (f : Files). f s.decrypting.to.now) same.0))
     resumed (Err ending) failed wrote (inr did) =
         let d = s.decrypting in
         let p = did.2 in
+        let was = did.4 shown in
         kept_stopped (old d.to.now) (new d.to.now) status text failed
-        (resumed_stop did.0 p (old d.from.now) (old_for p (old s.old.now)) text did.5.there did.4 auth.few
-        (old_front p (old s.old.now) text (λ all same. auth.old_text p did.3 all same)) (auth.rest p did.3 did.0 did.1)
+        (resumed_stop did.0 p (old d.from.now) did.3 text did.5.there was.2 auth.few (fronts p did.3 was.0 was.1)
+        (auth.rest p was.0 did.0 (opened_by d did.0 did.1))
         IsPorts (kept_for (option_text d.save)) (old d.to.now) (new d.to.now) did.5.position did.5.fault did.5.output)
 
   pub resumed_headline_of : (r : Result (Unit {0}) Ending) → OnErr r (status ≡ 0 → ⊥)

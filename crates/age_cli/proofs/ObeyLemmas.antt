@@ -113,8 +113,7 @@ module _ (IsPorts : Ports → Type 0) (shows : Bool) (before after : FilesView) 
   pub drill_acts : (d : Drilling) → Follows (order_asked (Drill d)).whole before.events after.events
       → OnOk r (after.events ≡ before.events ++ (order_asked (Drill d)).done) → Acts IsPorts shows (Drill d) before after Failed Unshown Progress r
   drill_acts d whole finished = record {
-    done = always r _ (λ shown. tt);
-    ran = always r _ tt;
+    done = always r _ tt;
     stops = λ shown. every_fault r _ (λ e. inr tt);
     usage = every_fault r _ (λ e usage. kept);
     blamed = λ shown. every_fault r _ (λ e usage. inr tt);
@@ -136,8 +135,7 @@ module _ (IsPorts : Ports → Type 0) (shows : Bool) (before after : FilesView) 
       let impossible : (P : Type 0) → IfErr r (λ e. IsUsage e → P) =
       λ P. IfErr-weaker r _ _ (λ e no usage. absurd (true≢false (sym usage ∙ no))) fault in
       record {
-        done = always r _ (λ shown. tt);
-        ran = always r _ tt;
+        done = always r _ tt;
         stops = λ shown. every_fault r _ (λ e. inr tt);
         usage = impossible _;
         blamed = λ shown. impossible _;

@@ -185,6 +185,12 @@ Spares (Resume r) old new =
     SparesBoth (Some r.decrypting.to.now) (option_text r.decrypting.save) old new
 Spares other old new = SparesBoth None None old new
 
+-- the options and what their file holds, which may be anything if contracts don't see it, make what
+-- opens the input
+abbrev pub OpensOf : Bool → Decrypting → Files → Identity → Type 0
+OpensOf shows d old identity =
+    (held : Files) × (shows ≡ true → held ≡ old) × OpensBy held d.identity identity
+
 -- whether progress is shown
 abbrev pub progress_of : Request → ProgressOption
 progress_of (Encrypt e) = e.progress
@@ -236,35 +242,24 @@ pub record ShowsProgress (shows : Bool) (old new : Option (List ShownOne)) (inpu
       ⊎ ((input left : Option (List ℕ)) × ShowsRun shows input left middle new)
 
 module _ (IsPorts : Ports → Type 0) where
-  -- what is asked and what the files hold make an engine, and this holds of it and of the names
-  abbrev pub OfEngine : Request → Files → (Engine → Paths → Type 0) → Type 0
-  OfEngine (Encrypt e) old P =
-      (secret : SecretView) × MakesSecret e old secret
+  -- what is asked and what the files hold make an engine, and this holds of it and of the names;
+  -- files that contracts don't see may hold anything
+  abbrev pub OfEngine : Bool → Request → Files → (Engine → Paths → Type 0) → Type 0
+  OfEngine shows (Encrypt e) old P =
+      (secret : SecretView) × (shows ≡ true → MakesSecret e old secret)
       × P (encrypt_engine secret) (record { from = e.from.now; to = e.to.now; save = None })
-  OfEngine (Decrypt d) old P =
-      (identity : Identity) × OpensBy old d.identity identity
+  OfEngine shows (Decrypt d) old P =
+      (identity : Identity) × OpensOf shows d old identity
       × P (decrypt_engine (kept_for (option_text d.save)) identity) (paths_of d)
-  OfEngine (Resume r) old P =
+  OfEngine shows (Resume r) old P =
       let d = r.decrypting in
-      (identity : Identity) × OpensBy old d.identity identity
-      × (position : Position) × IsPositionIn (old r.position.now) position
-      × (is_some (old_for position (old r.old.now)) ≡ true)
-      × P (resume_engine IsPorts (kept_for (option_text d.save)) identity position
-      (old_for position (old r.old.now))) (paths_of d)
-  OfEngine other old P = Unit {0}
-
-  -- what is asked makes an engine, whatever the files hold, and this holds of it
-  abbrev pub OfSomeEngine : Request → (Engine → Type 0) → Type 0
-  OfSomeEngine (Encrypt e) P = (secret : SecretView) × P (encrypt_engine secret)
-  OfSomeEngine (Decrypt d) P =
-      (identity : Identity) × ((old : Files) × OpensBy old d.identity identity)
-      × P (decrypt_engine (kept_for (option_text d.save)) identity)
-  OfSomeEngine (Resume r) P =
-      let d = r.decrypting in
-      (identity : Identity) × ((old : Files) × OpensBy old d.identity identity)
+      (identity : Identity) × OpensOf shows d old identity
       × (position : Position) × (old_text : Option (List ℕ))
+      × (shows ≡ true → IsPositionIn (old r.position.now) position
+      × (old_text ≡ old_for position (old r.old.now)) × (is_some old_text ≡ true))
       × P (resume_engine IsPorts (kept_for (option_text d.save)) identity position old_text)
-  OfSomeEngine other P = Unit {0}
+      (paths_of d)
+  OfEngine shows other old P = Unit {0}
 
   -- the engine ended, over a source and a sink of the files
   abbrev pub HasEngineEnded : Engine → Type 0
@@ -277,16 +272,14 @@ module _ (IsPorts : Ports → Type 0) where
   pub record Acts (shows : Bool) (asked : Request) (before after : FilesView)
       (Failed Unshown : Type 0) (Progress : Option (List ℕ) → Result (Unit {0}) Ending → Type 0)
       (ended : Result (Unit {0}) Ending) : Type 0 where
-    -- OUT holds what the engine promises for what the names stood for at the call.
-    pub done : OnOk ended (shows ≡ true → OfEngine asked before.entries
-        (λ engine paths. WritesOut IsPorts engine paths before.entries after.entries))
-    -- The engine ran, also if contracts don't see the files.
-    pub ran : OnOk ended (OfSomeEngine asked HasEngineEnded)
+    -- The engine ended, and OUT holds what it promises for what the names stood for at the call.
+    pub done : OnOk ended (OfEngine shows asked before.entries (λ engine paths. HasEngineEnded engine
+        × (shows ≡ true → WritesOut IsPorts engine paths before.entries after.entries)))
     -- Nothing differs, and 26 and 27 have a reason; or OUT holds what the engine promises for a
     -- stop, and the file of `--save` its position.
     pub stops : shows ≡ true → IfErr ended (λ ending. ((after.entries ≡ before.entries)
         × EndsBefore asked before.entries ending
-        × HasReason before.entries after.events Failed ending) ⊎ OfEngine asked before.entries
+        × HasReason before.entries after.events Failed ending) ⊎ OfEngine shows asked before.entries
         (λ engine paths. LeavesOut IsPorts engine paths before.entries after.entries ending))
     -- A command line that is refused changes no file.
     pub usage : IfErr ended (λ e. IsUsage e → after.entries ≡ before.entries)

@@ -9,7 +9,7 @@ use Rattle.age_identity.specs.Files.{SourceFails}
 use Rattle.age_ending.specs.declared.ending.Ending.{Ending}
 use Rattle.age_ending.specs.declared.ending.Ending.TheVariants.{Usage}
 use Rattle.age_cli.specs.Acts.{paths_of}
-use Rattle.age_cli.proofs.CommandLemmas.{in_order, reason_at, some_files}
+use Rattle.age_cli.proofs.CommandLemmas.{in_order, reason_at, found_by}
 use Rattle.age_cli.proofs.ReportLemmas.{unmade}
 use Rattle.age_cli.proofs.ActLemmas.{acts_early}
 use Rattle.age_cli.proofs.FinalLemmas.{Found, decrypt_acts}
@@ -80,8 +80,8 @@ returns-clause-acts g c =
     let before = ports (g.F.In.Source.view c.in_ok-source.source) (g.F.Out.Sink.view c.in_ok-source.out.out) in
     decrypt_acts _ _ (view c.args.files.now) (view c.open_both.new.files) (view c.decrypt_opened.new.files) _ _ _ before
     (record { source = c.in_ok-source.source; sink = c.in_ok-source.out.out; is = refl }) c.decrypt_opened.result (both.kept ∙ judged.kept) d
-    c.in_ok-identity.identity (some_files _ _ _ _ c.in_ok-choice.ensures.chooses c.in_ok-identity.ensures.makes)
-    (λ shown. c.in_ok-choice.ensures.chooses.opens (view c.args.files.now).entries _ _ (judged.read shown).0 c.in_ok-identity.ensures.makes)
+    c.in_ok-identity.identity
+    (found_by _ d _ _ _ c.in_ok-choice.ensures.chooses c.in_ok-identity.ensures.makes (view c.args.files.now).entries (λ shown. (judged.read shown).0))
     (λ shown. subst (λ (f : Files). Found (paths_of d) f before) judged.kept (both.opened shown)) c.decrypt_opened.ensures.opened
     (then_did _ _ _ (identity_order (option_text d.identity.pass) (option_text d.identity.shared))
     (Opened d.from.now ∷ (preparing (option_text d.save) ++ Created d.to.now ∷ [])) judged.noted both.noted)

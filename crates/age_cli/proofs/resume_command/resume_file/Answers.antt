@@ -17,7 +17,7 @@ use Rattle.age_cli.specs.Commands.{HoldsNoPosition}
 use Rattle.age_cli.proofs.ReportLemmas.{unmade}
 use Rattle.age_cli.proofs.ActLemmas.{acts_early}
 use Rattle.age_cli.proofs.CommandLemmas.{bad_position, in_order, position_fault, position_reason}
-use Rattle.age_cli.proofs.CommandLemmas.{reason_at, some_files}
+use Rattle.age_cli.proofs.CommandLemmas.{reason_at, found_by}
 use Rattle.age_cli.proofs.FinalLemmas.{Found, WasEarlier, resume_acts}
 use Rattle.age_identity.proofs.EventLemmas.{longer, none_done, then_did, then_follows}
 use Rattle.age_cli.proofs.resume_command.resume_file.Goals as goal
@@ -122,8 +122,7 @@ returns-clause-acts g c =
     resume_acts _ _ (view c.args.files.now) (view c.open_both.new.files) (view c.resume_opened.new.files) _ _ _ before
     (record { source = c.in_ok-source.source; sink = c.in_ok-source.out.out; is = refl }) c.resume_opened.result (both.kept ∙ (earlier.kept ∙ judged.kept)) r
     c.in_ok-identity.identity c.in_ok-position.position (In first)
-    (some_files _ _ _ _ c.in_ok-choice.ensures.chooses c.in_ok-identity.ensures.makes)
-    (λ shown. c.in_ok-choice.ensures.chooses.opens (view c.args.files.now).entries _ _ (judged.read shown).0 c.in_ok-identity.ensures.makes)
+    (found_by _ d _ _ _ c.in_ok-choice.ensures.chooses c.in_ok-identity.ensures.makes (view c.args.files.now).entries (λ shown. (judged.read shown).0))
     (λ shown. subst (λ (f : Files). WasEarlier r c.in_ok-position.position f (In first)) judged.kept (earlier.found shown))
     (record { source = first; sink = c.in_ok-source.out.out; is = refl })
     (λ shown. subst (λ (f : Files). Found (paths_of d) f before) (earlier.kept ∙ judged.kept) (both.opened shown)) c.resume_opened.ensures.opened
