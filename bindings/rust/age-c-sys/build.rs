@@ -1,51 +1,81 @@
 //! Links the library: libage_c.a of the folder that AGE_C_DIR names, else the one that
 //! `bindings/build` made, or of a release, in whose folders this crate is, else the library that is
-//! installed, as pkg-config finds it.
+//! installed, as pkg-config finds it. If there is none, it says so, and looks again at the next build.
 
 use std::path::{Path, PathBuf};
 use std::process::Command;
 
-/// The folder that has libage_c.a, if one is known.
-fn folder() -> Option<PathBuf> {
-    if let Some(named) = std::env::var_os("AGE_C_DIR") {
-        return Some(named.into());
-    }
-    let here = std::env::var("CARGO_MANIFEST_DIR").ok()?;
-    ["../../out", "../../../../lib"]
-        .map(|it| Path::new(&here).join(it))
+/// Where libage_c.a may be.
+fn places() -> Vec<PathBuf> {
+    let folders: Vec<PathBuf> = match std::env::var_os("AGE_C_DIR") {
+        Some(named) => vec![named.into()],
+        None => {
+            let here = std::env::var_os("CARGO_MANIFEST_DIR").unwrap_or_default();
+            ["../../out", "../../../../lib"]
+                .map(|it| Path::new(&here).join(it))
+                .into()
+        }
+    };
+    folders
         .into_iter()
-        .find(|it| it.join("libage_c.a").exists())
-}
-
-/// The folders where pkg-config says that the library is.
-fn installed() -> Vec<String> {
-    let asked = Command::new("pkg-config")
-        .args(["--libs-only-L", "age_c"])
-        .output();
-    let said = asked
-        .map(|it| String::from_utf8_lossy(&it.stdout).into_owned())
-        .unwrap_or_default();
-    said.split_whitespace()
-        .filter_map(|it| it.strip_prefix("-L").map(String::from))
+        .map(|it| it.join("libage_c.a"))
         .collect()
 }
 
+/// The folders where pkg-config says that the library is, if it knows the library. A folder that
+/// AGE_C_DIR names isn't replaced by them.
+fn installed() -> Option<Vec<String>> {
+    if std::env::var_os("AGE_C_DIR").is_some() {
+        return None;
+    }
+    let asked = Command::new("pkg-config")
+        .args(["--libs-only-L", "age_c"])
+        .output()
+        .ok()?;
+    if !asked.status.success() {
+        return None;
+    }
+    let said = String::from_utf8_lossy(&asked.stdout);
+    let folders = said
+        .split_whitespace()
+        .filter_map(|it| it.strip_prefix("-L"));
+    Some(folders.map(String::from).collect())
+}
+
+/// Says that there is no library, and lets the next build look again.
+fn warn(places: &[PathBuf]) {
+    let listed: Vec<String> = places.iter().map(|it| it.display().to_string()).collect();
+    println!(
+        "cargo:warning=libage_c isn't there ({}): run bindings/build, install the library, \
+         or set AGE_C_DIR to the folder of libage_c.a",
+        listed.join(", ")
+    );
+    // (cargo runs this again as long as one of them isn't there)
+    for place in places {
+        println!("cargo:rerun-if-changed={}", place.display());
+    }
+}
+
 fn main() {
-    println!("cargo:rerun-if-env-changed=AGE_C_DIR");
-    match folder() {
-        Some(folder) => {
+    for name in ["AGE_C_DIR", "PKG_CONFIG_PATH", "PKG_CONFIG_LIBDIR"] {
+        println!("cargo:rerun-if-env-changed={name}");
+    }
+    let places = places();
+    if let Some(found) = places.iter().find(|it| it.exists()) {
+        println!("cargo:rerun-if-changed={}", found.display());
+        if let Some(folder) = found.parent() {
             println!("cargo:rustc-link-search=native={}", folder.display());
-            println!("cargo:rustc-link-lib=static=age_c");
-            println!(
-                "cargo:rerun-if-changed={}",
-                folder.join("libage_c.a").display()
-            );
         }
-        None => {
-            for folder in installed() {
+        println!("cargo:rustc-link-lib=static=age_c");
+        return;
+    }
+    match installed() {
+        Some(folders) => {
+            for folder in folders {
                 println!("cargo:rustc-link-search=native={folder}");
             }
-            println!("cargo:rustc-link-lib=dylib=age_c");
         }
+        None => warn(&places),
     }
+    println!("cargo:rustc-link-lib=dylib=age_c");
 }

@@ -5,13 +5,15 @@ use std::ffi::CStr;
 use std::fmt;
 use std::io::{self, ErrorKind};
 
-/// A fault, by its number in docs/FAULTS.md, and its chunk if it has one. 254 says that the file
-/// ends in its header or in the 16 bytes after it, 255 that an argument is out of range.
+/// A fault, by its number in docs/FAULTS.md, and its chunk if it has one.
 ///
 /// An [`io::Error`] carries it: [`AgeError::of`] finds it there.
 #[derive(Clone, Copy, Debug, PartialEq, Eq)]
 pub struct AgeError {
+    /// The number in docs/FAULTS.md. 254 says that the file ends in its header or in the 16 bytes
+    /// after it, 255 that an argument is out of range.
     pub number: u32,
+    /// The number of the chunk that it is about, from 0.
     pub chunk: Option<u64>,
     /// The header was opened by a file key, which 14 is about.
     by_file_key: bool,
@@ -53,15 +55,43 @@ impl AgeError {
         matches!(self.number, 12 | 13) || self.number == 14 && self.by_file_key
     }
 
-    /// The file ends too early: in its header, before a chunk, or in the first bytes of one. One
-    /// that ends later in a chunk can't be told from a damaged one.
+    /// The file ends too early: in its header, before a chunk, or in the first 15 bytes of one. A
+    /// file that was cut elsewhere, as nearly every one is, can't be told from a damaged one: it is
+    /// [`AgeError::is_damaged`]. So treat both alike.
     pub fn is_truncated(&self) -> bool {
         matches!(self.number, 18 | 20 | AGE_C_MORE)
     }
 
-    /// The file isn't as its writer left it, or no age program writes such a file.
+    /// The file isn't as its writer left it, which may be cut short, or no age program writes such
+    /// a file.
     pub fn is_damaged(&self) -> bool {
         !self.is_wrong_key() && !self.is_truncated() && matches!(self.number, 3..=10 | 14..=22)
+    }
+
+    /// What it means, in a few words.
+    fn meaning(&self) -> &'static str {
+        match self.number {
+            1 => "the file isn't an age file",
+            2 => "the file is armored",
+            3..=6 => "the header is damaged",
+            7 => "the header is too long",
+            9 | 10 => "no age program writes such a header",
+            11 => "the work factor is above the limit",
+            12 => "the file isn't for a key of this kind",
+            13 => "the passphrase or key doesn't open the file",
+            14 if self.by_file_key => "the file key doesn't fit, or the header was altered",
+            14 => "the header was altered",
+            15 => "an X25519 stanza is malformed, or the shared secret is zero",
+            17 => "the file is damaged or cut off",
+            18 | 20 => "the file is cut off",
+            19 => "no age program writes such a payload",
+            21 => "something was appended to the file",
+            22 => "the file has too many chunks",
+            28 => "there isn't enough memory",
+            AGE_C_MORE => "the file ends in its header or just after it",
+            AGE_C_MISUSED => "an argument is out of range",
+            _ => "the file can't be read or written",
+        }
     }
 
     fn kind(&self) -> ErrorKind {
@@ -76,10 +106,10 @@ impl AgeError {
 
 impl fmt::Display for AgeError {
     fn fmt(&self, f: &mut fmt::Formatter<'_>) -> fmt::Result {
-        write!(f, "{} {}", self.number, self.name())?;
+        write!(f, "{} ({} {}", self.meaning(), self.number, self.name())?;
         match self.chunk {
-            Some(chunk) => write!(f, " chunk {chunk}"),
-            None => Ok(()),
+            Some(chunk) => write!(f, ", chunk {chunk})"),
+            None => f.write_str(")"),
         }
     }
 }

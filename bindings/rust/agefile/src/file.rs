@@ -1,10 +1,12 @@
 //! A reader at any place.
 
 use crate::reader::open_header;
+use crate::state::State;
 use crate::{AgeError, Key};
 use age_c_sys::{
     age_c_block, age_c_end, age_c_seek, age_c_size, AgeCReader, AGE_C_BLOCK, AGE_C_CHUNK,
 };
+use std::fmt;
 use std::io::{self, BufRead, ErrorKind, Read, Seek, SeekFrom};
 
 const CHUNK: u64 = AGE_C_CHUNK as u64;
@@ -53,7 +55,7 @@ fn fill<R: Read>(file: &mut R, room: &mut [u8], have: &mut usize) -> io::Result<
 pub struct AgeFile<R> {
     file: R,
     begin: u64, // where the age file begins in the file
-    reader: AgeCReader,
+    reader: State<AgeCReader>,
     len: u64,
     last: u64,  // the number of the last chunk
     place: u64, // in the text
@@ -67,18 +69,14 @@ impl<R: Read + Seek> AgeFile<R> {
     /// the length of the text.
     pub fn open(mut file: R, key: Key) -> io::Result<AgeFile<R>> {
         let begin = file.stream_position()?;
-        let mut reader = AgeCReader::default();
+        let mut reader = State::<AgeCReader>::default();
         open_header(&mut file, key, &mut reader)?;
         let end = file.seek(SeekFrom::End(0))?.saturating_sub(begin);
         let (mut len, mut last) = (0, 0);
         // SAFETY: the pointers are those of values of these types.
-        let answer = unsafe { age_c_size(&reader, end, &mut len, &mut last) };
+        let answer = unsafe { age_c_size(&*reader, end, &mut len, &mut last) };
         if answer != 0 {
-            let chunk = end.saturating_sub(reader.payload_at) / BLOCK;
-            let reader = AgeCReader {
-                fault_chunk: chunk,
-                ..reader
-            };
+            reader.fault_chunk = end.saturating_sub(reader.payload_at) / BLOCK;
             return Err(AgeError::of_block(answer, &reader).into());
         }
         let mut made = AgeFile {
@@ -101,6 +99,16 @@ impl<R: Read + Seek> AgeFile<R> {
         self.len
     }
 
+    /// The file that is read.
+    pub fn get_ref(&self) -> &R {
+        &self.file
+    }
+
+    /// Gives back the file, which stands anywhere.
+    pub fn into_inner(self) -> R {
+        self.file
+    }
+
     /// Whether the text has no byte.
     pub fn is_empty(&self) -> bool {
         self.len == 0
@@ -117,7 +125,7 @@ impl<R: Read + Seek> AgeFile<R> {
         let mut have = 0;
         fill(&mut self.file, &mut self.block, &mut have)?;
         // SAFETY: the reader is one.
-        let answer = unsafe { age_c_seek(&mut self.reader, chunk) };
+        let answer = unsafe { age_c_seek(&mut *self.reader, chunk) };
         if answer != 0 {
             return Err(AgeError::of_block(answer, &self.reader).into());
         }
@@ -128,6 +136,16 @@ impl<R: Read + Seek> AgeFile<R> {
         }
         self.held = Some((chunk, len));
         Ok(len)
+    }
+}
+
+impl<R> fmt::Debug for AgeFile<R> {
+    /// Shows no key, and no text.
+    fn fmt(&self, f: &mut fmt::Formatter<'_>) -> fmt::Result {
+        f.debug_struct("AgeFile")
+            .field("len", &self.len)
+            .field("place", &self.place)
+            .finish_non_exhaustive()
     }
 }
 

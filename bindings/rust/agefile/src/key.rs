@@ -2,20 +2,39 @@
 
 use crate::MAX_WORK;
 use age_c_sys::{age_c_open_key, age_c_open_passphrase, age_c_open_shared, AgeCReader};
+use std::fmt;
 
-/// What opens the header of a file.
+/// What opens the header of a file. Its `Debug` shows no secret.
 #[derive(Clone, Copy)]
 pub enum Key<'a> {
-    /// A passphrase. Work factors above `max_work`, 1 to [`MAX_WORK`], are refused: an untrusted
-    /// file may demand 4 GiB of memory.
-    Passphrase { passphrase: &'a [u8], max_work: u32 },
+    /// A passphrase.
+    Passphrase {
+        /// 1 to 65,536 bytes.
+        passphrase: &'a [u8],
+        /// Work factors above it, which is 1 to [`MAX_WORK`], are refused: an untrusted file may
+        /// demand 4 GiB of memory.
+        max_work: u32,
+    },
     /// The file key, 16 bytes.
     FileKey(&'a [u8]),
-    /// An X25519 shared secret and the recipient that it was computed for, 32 bytes each.
+    /// An X25519 shared secret. It depends on the file's header: bindings/README.md shows how to
+    /// compute it ("Files for an X25519 key").
     Shared {
+        /// X25519(identity, SHARE) for the header's `-> X25519 SHARE`, 32 bytes.
         secret: &'a [u8],
+        /// X25519(identity, 9), 32 bytes.
         recipient: &'a [u8],
     },
+}
+
+impl fmt::Debug for Key<'_> {
+    fn fmt(&self, f: &mut fmt::Formatter<'_>) -> fmt::Result {
+        f.write_str(match self {
+            Key::Passphrase { .. } => "Key::Passphrase",
+            Key::FileKey(_) => "Key::FileKey",
+            Key::Shared { .. } => "Key::Shared",
+        })
+    }
 }
 
 impl<'a> Key<'a> {

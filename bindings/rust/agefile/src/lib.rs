@@ -1,9 +1,15 @@
 //! Age files (<https://c2sp.org/age>), read and written by proved code.
 //!
 //! [`AgeReader`] reads any [`std::io::Read`] from its beginning to its end, [`AgeFile`] reads one
-//! that is [`std::io::Seek`] at any place, and [`AgeWriter`] writes. No byte of a block is returned
-//! before the block was checked, and the end (`Ok(0)`) only once it was checked that nothing is
-//! missing.
+//! that is [`std::io::Seek`] at any place, and [`AgeWriter`] writes. No byte is returned before its
+//! chunk has been authenticated. The end (`Ok(0)`) is reported only after the last chunk has been.
+//!
+//! A call returns the text of one chunk at most. So all of the text before a damaged chunk has been
+//! returned when a call returns the fault, and that call returns no byte.
+//!
+//! When a reader or writer is dropped, its file key and what it holds of a chunk in the library's
+//! state are overwritten. Buffers of text aren't, nor what the library used of the stack and of
+//! memory that it freed.
 //!
 //! ```no_run
 //! use agefile::{AgeReader, Key};
@@ -15,10 +21,13 @@
 //! # Ok::<(), io::Error>(())
 //! ```
 
+#![warn(missing_docs)]
+
 mod error;
 mod file;
 mod key;
 mod reader;
+mod state;
 mod writer;
 
 pub use error::AgeError;

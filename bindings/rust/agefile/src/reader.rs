@@ -1,10 +1,12 @@
 //! A reader from the beginning to the end.
 
+use crate::state::State;
 use crate::{AgeError, Key};
 use age_c_sys::{
     age_c_feed, age_c_finish, age_c_may_open, AgeCReader, AgeCStream, AGE_C_BLOCK, AGE_C_CHUNK,
     AGE_C_FRONT_MAX, AGE_C_MORE,
 };
+use std::fmt;
 use std::io::{self, BufRead, ErrorKind, Read};
 
 /// Whether the header is worth a try, now that there are more than `seen` bytes.
@@ -45,7 +47,7 @@ pub(crate) fn open_header<R: Read>(
 /// The text of an age file, from its beginning to its end.
 pub struct AgeReader<R> {
     file: R,
-    stream: Box<AgeCStream>,
+    stream: State<AgeCStream>,
     piece: Vec<u8>, // what was read
     from: usize,    // where in it begins what isn't given to the stream yet
     to: usize,      // and where it ends
@@ -59,7 +61,7 @@ pub struct AgeReader<R> {
 impl<R: Read> AgeReader<R> {
     /// Opens the header. It reads no more of the file than it needs, and what comes along.
     pub fn open(mut file: R, key: Key) -> io::Result<AgeReader<R>> {
-        let mut stream = Box::<AgeCStream>::default();
+        let mut stream = State::<AgeCStream>::default();
         let mut piece = open_header(&mut file, key, &mut stream.reader)?;
         let to = piece.len();
         piece.resize(to.max(AGE_C_BLOCK), 0);
@@ -75,6 +77,16 @@ impl<R: Read> AgeReader<R> {
             fault: None,
             ended: false,
         })
+    }
+
+    /// The file that is read.
+    pub fn get_ref(&self) -> &R {
+        &self.file
+    }
+
+    /// Gives back the file. More of it may have been read than text was returned.
+    pub fn into_inner(self) -> R {
+        self.file
     }
 
     /// Reads a piece, up to the end of the block that is open. None is left at the end.
@@ -121,6 +133,17 @@ impl<R: Read> AgeReader<R> {
         }
         self.ended = end;
         Ok(())
+    }
+}
+
+impl<R> fmt::Debug for AgeReader<R> {
+    /// Shows no key, and no text.
+    fn fmt(&self, f: &mut fmt::Formatter<'_>) -> fmt::Result {
+        f.debug_struct("AgeReader")
+            .field("chunk", &self.stream.reader.chunk)
+            .field("fault", &self.fault)
+            .field("ended", &self.ended)
+            .finish_non_exhaustive()
     }
 }
 

@@ -1,25 +1,59 @@
 //! A writer.
 
+use crate::state::State;
 use crate::AgeError;
 use age_c_sys::{
     age_c_feed_text, age_c_finish_text, age_c_seal_passphrase, AgeCWriteStream, AGE_C_BLOCK,
 };
+use std::fmt;
 use std::fs::File;
-use std::io::{self, Read, Write};
+use std::io::{self, ErrorKind, Read, Write};
 
 /// Writes an age file, which is whole once [`AgeWriter::finish`] returned `Ok`. If it is dropped
 /// before, the file has no last chunk, and every reader refuses it.
+///
+/// After a call failed, the file can't be finished: each later call fails too, and says why.
 pub struct AgeWriter<W> {
     out: W,
-    stream: Box<AgeCWriteStream>,
+    stream: State<AgeCWriteStream>,
     block: Vec<u8>,
-    failed: bool,
+    failed: Option<Failure>,
+}
+
+/// Why a file can't be finished.
+enum Failure {
+    Fault(AgeError),
+    /// What it was written to failed: how, and in which words.
+    Output(ErrorKind, String),
+    /// A call hasn't returned: it panicked.
+    InCall,
+}
+
+impl Failure {
+    fn of(error: &io::Error) -> Failure {
+        // (who gets these tries again, which is of no use)
+        let kind = match error.kind() {
+            ErrorKind::WouldBlock | ErrorKind::Interrupted => ErrorKind::Other,
+            kind => kind,
+        };
+        Failure::Output(kind, error.to_string())
+    }
+
+    /// The error of each later call.
+    fn again(&self) -> io::Error {
+        let text = "the age file isn't whole, because an earlier write failed";
+        match self {
+            Failure::Fault(fault) => (*fault).into(),
+            Failure::Output(kind, cause) => io::Error::new(*kind, format!("{text}: {cause}")),
+            Failure::InCall => io::Error::other(text),
+        }
+    }
 }
 
 /// Bytes of the system's random generator: the file key, the salt and the nonce.
-fn random() -> io::Result<[u8; 48]> {
-    let mut bytes = [0; 48];
-    File::open("/dev/urandom")?.read_exact(&mut bytes)?;
+fn random() -> io::Result<State<[u8; 48]>> {
+    let mut bytes = State::new([0; 48]);
+    File::open("/dev/urandom")?.read_exact(&mut *bytes)?;
     Ok(bytes)
 }
 
@@ -27,7 +61,8 @@ impl<W: Write> AgeWriter<W> {
     /// Begins a file under a passphrase. The work factor, 1 to 22, says what a reader has to spend:
     /// 2^work KiB of memory. 18 is usual.
     pub fn create(mut out: W, passphrase: &[u8], work: u32) -> io::Result<AgeWriter<W>> {
-        let (mut stream, mut block) = (Box::<AgeCWriteStream>::default(), vec![0; AGE_C_BLOCK]);
+        let mut stream = State::<AgeCWriteStream>::default();
+        let mut block = vec![0; AGE_C_BLOCK];
         let (random, mut written) = (random()?, 0);
         // SAFETY: each slice is as long as it says, and none is null; nothing overlaps.
         let answer = unsafe {
@@ -51,26 +86,36 @@ impl<W: Write> AgeWriter<W> {
             out,
             stream,
             block,
-            failed: false,
+            failed: None,
         })
+    }
+
+    /// What is written to.
+    pub fn get_ref(&self) -> &W {
+        &self.out
+    }
+
+    /// Gives back what was written to, without the last chunk: every reader refuses the file.
+    pub fn into_inner(self) -> W {
+        self.out
     }
 
     /// Makes a call, and passes on what it wrote. If that fails, the file can't be finished.
     fn write_by(&mut self, call: impl FnOnce(&mut Self, &mut usize) -> u32) -> io::Result<()> {
-        if self.failed {
-            return Err(io::Error::other(
-                "a block couldn't be written: the file isn't whole",
-            ));
+        if let Some(failure) = &self.failed {
+            return Err(failure.again());
         }
-        self.failed = true;
+        self.failed = Some(Failure::InCall);
         let mut written = 0;
         let answer = call(self, &mut written);
         if answer != 0 {
-            return Err(AgeError::of_header(answer, false).into());
+            let fault = AgeError::of_header(answer, false);
+            self.failed = Some(Failure::Fault(fault));
+            return Err(fault.into());
         }
-        self.out.write_all(&self.block[..written])?;
-        self.failed = false;
-        Ok(())
+        let put = self.out.write_all(&self.block[..written]);
+        self.failed = put.as_ref().err().map(Failure::of);
+        put
     }
 
     /// Seals the last chunk, so that the file is whole, and gives back what was written to.
@@ -82,6 +127,16 @@ impl<W: Write> AgeWriter<W> {
         })?;
         self.out.flush()?;
         Ok(self.out)
+    }
+}
+
+impl<W> fmt::Debug for AgeWriter<W> {
+    /// Shows no key, and no text.
+    fn fmt(&self, f: &mut fmt::Formatter<'_>) -> fmt::Result {
+        f.debug_struct("AgeWriter")
+            .field("chunk", &self.stream.writer.chunk)
+            .field("failed", &self.failed.is_some())
+            .finish_non_exhaustive()
     }
 }
 

@@ -141,7 +141,10 @@ fn says_what_is_wrong() {
         );
     }
     let error = text_in(&[&full[..], b"0"].concat(), PW).unwrap_err();
-    assert_eq!(error.to_string(), "21 Trailing");
+    assert_eq!(
+        error.to_string(),
+        "something was appended to the file (21 Trailing)"
+    );
     assert!(AgeError::of(&error).unwrap().is_damaged());
 }
 
@@ -376,8 +379,122 @@ fn a_file_that_failed_is_not_finished() {
         writer.write_all(&text_of(200_000)).unwrap_err().kind(),
         ErrorKind::WriteZero
     );
-    assert!(writer.write_all(b"x").is_err());
-    assert!(writer.finish().is_err());
+    for later in [writer.write_all(b"x"), writer.finish().map(|_| ())] {
+        let error = later.unwrap_err();
+        assert_eq!(error.kind(), ErrorKind::WriteZero);
+        let cause = "because an earlier write failed: failed to write whole buffer";
+        assert!(error.to_string().ends_with(cause), "{error}");
+    }
     assert!(AgeWriter::create(Vec::new(), b"", 1).is_err());
     assert!(AgeWriter::create(Vec::new(), b"pw", 23).is_err());
+}
+
+/// What is written to would block, and then takes everything.
+struct Blocking(bool);
+
+impl Write for Blocking {
+    fn write(&mut self, bytes: &[u8]) -> io::Result<usize> {
+        if std::mem::take(&mut self.0) && bytes.len() > 1_000 {
+            return Err(io::Error::new(ErrorKind::WouldBlock, "not now"));
+        }
+        self.0 = true;
+        Ok(bytes.len())
+    }
+
+    fn flush(&mut self) -> io::Result<()> {
+        Ok(())
+    }
+}
+
+/// Who tries again what would block isn't told to try again for ever.
+#[test]
+fn a_block_that_is_lost_stays_lost() {
+    let mut writer = AgeWriter::create(Blocking(true), b"pw", 1).unwrap();
+    let error = writer.write_all(&text_of(200_000)).unwrap_err();
+    assert_eq!(error.kind(), ErrorKind::WouldBlock);
+    let error = writer.write_all(b"x").unwrap_err();
+    assert_eq!(error.kind(), ErrorKind::Other);
+    assert!(error.to_string().ends_with(": not now"), "{error}");
+}
+
+#[test]
+fn says_what_it_means_first() {
+    let data = sealed(&text_of(200_000));
+    let said = |data: &[u8], key| text_in(data, key).unwrap_err().to_string();
+    assert_eq!(
+        said(&data, Key::passphrase(b"other")),
+        "the passphrase or key doesn't open the file (13 WrongKey)"
+    );
+    assert_eq!(
+        said(&data[..data.len() - 5], PW),
+        "the file is damaged or cut off (17 ChunkDamaged, chunk 3)"
+    );
+    assert_eq!(
+        said(&data[..50], PW),
+        "the file ends in its header or just after it (254 HeaderOrNonceCut)"
+    );
+}
+
+#[test]
+fn shows_no_key_and_no_text() {
+    let data = sealed(b"horse");
+    let pass = Key::Passphrase {
+        passphrase: b"pw-horse",
+        max_work: 22,
+    };
+    let mut writer = AgeWriter::create(Vec::new(), b"pw-horse", 1).unwrap();
+    writer.write_all(b"horse").unwrap();
+    let error = AgeReader::open(&data[..], pass).unwrap_err();
+    let shown = [
+        format!("{:?}", AgeReader::open(&data[..], PW).unwrap()),
+        format!("{:?}", AgeFile::open(Cursor::new(&data), PW).unwrap()),
+        format!("{writer:?} {pass:?} {error:?}"),
+    ]
+    .concat();
+    for bytes in [&b"horse"[..], b"pw-horse"] {
+        let numbers = format!("{bytes:?}");
+        let text = std::str::from_utf8(bytes).unwrap();
+        assert!(!shown.contains(text) && !shown.contains(numbers.trim_matches(['[', ']'])));
+    }
+    assert!(shown.contains("Key::Passphrase"));
+}
+
+#[test]
+fn gives_back_what_it_was_given() {
+    let text = text_of(70_000);
+    let mut writer = AgeWriter::create(Vec::new(), b"pw", 1).unwrap();
+    writer.write_all(&text).unwrap();
+    assert!(writer.get_ref().len() > BLOCK);
+    let cut = writer.into_inner();
+    assert!(AgeError::of(&text_in(&cut, PW).unwrap_err())
+        .unwrap()
+        .is_truncated());
+
+    let data = sealed(&text);
+    let mut reader = AgeReader::open(Cursor::new(&data), PW).unwrap();
+    reader.read_exact(&mut [0; 10]).unwrap();
+    assert!(reader.get_ref().position() > 0);
+    assert_eq!(reader.into_inner().into_inner(), &data);
+    let file = AgeFile::open(Cursor::new(&data), PW).unwrap();
+    assert_eq!(file.get_ref().get_ref(), &&data);
+    assert_eq!(file.into_inner().into_inner(), &data);
+}
+
+/// All of the text before a damaged chunk is returned, and then the fault.
+#[test]
+fn returns_what_comes_before_a_fault() {
+    let text = text_of(200_000);
+    let mut data = sealed(&text);
+    let begin = data.len() - 200_000 - 4 * 16;
+    data[begin + 2 * BLOCK + 100] ^= 1;
+    let mut reader = AgeReader::open(&data[..], PW).unwrap();
+    let (mut got, mut into) = (Vec::new(), vec![0; 1 << 20]);
+    let error = loop {
+        match reader.read(&mut into) {
+            Ok(n) => got.extend_from_slice(&into[..n]),
+            Err(error) => break error,
+        }
+    };
+    assert_eq!(AgeError::of(&error).unwrap().chunk, Some(2));
+    assert!(got == text[..131_072]);
 }
