@@ -1,8 +1,14 @@
 // Package agefile reads and writes age files (https://c2sp.org/age) by proved code.
 //
 // Open gives an io.Reader over any io.Reader, OpenAt one that reads at any place of an io.ReaderAt,
-// and Create an io.WriteCloser. No byte of a block is returned before the block was checked, and
-// io.EOF only once it was checked that nothing is missing.
+// and Create an io.WriteCloser. No byte is returned before its chunk has been authenticated, and
+// io.EOF is reported only after the last chunk has been.
+//
+// A Reader returns all of the text before a damaged chunk, then 0 bytes and a *Fault. ReadAt
+// returns the bytes before such a chunk together with the *Fault.
+//
+// A Writer overwrites its file key when it is closed or abandoned, and a Reader when it has returned
+// io.EOF or a *Fault. A Reader that is left before that doesn't, nor does a File, or a Key.
 //
 // It links libage_c.a, which bindings/build puts into this folder; with -tags age_c_system the
 // library that is installed, as pkg-config finds it.
@@ -23,13 +29,14 @@ import (
 const MaxWork = C.AGE_C_WORK_MAX
 
 // What errors.Is finds in a Fault, beside io.ErrUnexpectedEOF: the file ends too early, in its
-// header, before a chunk, or in the first bytes of one. (One that ends later in a chunk can't be
-// told from a damaged one.)
+// header, before a chunk, or in the first 15 bytes of one. A file that was cut elsewhere, as nearly
+// every one is, can't be told from a damaged one: it is ErrDamaged. So treat both alike.
 var (
 	// ErrWrongKey: another passphrase, secret or file key, or another kind of key.
 	ErrWrongKey = errors.New("agefile: the key isn't the file's")
-	// ErrDamaged: the file isn't as its writer left it, or no age program writes such a file.
-	ErrDamaged = errors.New("agefile: the file is damaged")
+	// ErrDamaged: the file isn't as its writer left it, which may be cut short, or no age program
+	// writes such a file.
+	ErrDamaged = errors.New("agefile: the file is damaged or cut off")
 )
 
 // A Fault says what is wrong with a file, by its number in docs/FAULTS.md. 254 says that the file
@@ -41,11 +48,49 @@ type Fault struct {
 }
 
 func (f *Fault) Error() string {
-	text := fmt.Sprintf("%d %s", f.Number, C.GoString(C.age_c_fault_name(C.uint32_t(f.Number))))
+	place := ""
 	if f.Chunk >= 0 {
-		text += fmt.Sprintf(" chunk %d", f.Chunk)
+		place = fmt.Sprintf(", chunk %d", f.Chunk)
 	}
-	return text
+	name := C.GoString(C.age_c_fault_name(C.uint32_t(f.Number)))
+	return fmt.Sprintf("agefile: %s (%d %s%s)", f.meaning(), f.Number, name, place)
+}
+
+// meanings says in a few words what each number means.
+var meanings = map[uint32]string{
+	1:               "the file isn't an age file",
+	2:               "the file is armored",
+	3:               "the header is damaged",
+	4:               "the header is damaged",
+	5:               "the header is damaged",
+	6:               "the header is damaged",
+	7:               "the header is too long",
+	9:               "no age program writes such a header",
+	10:              "no age program writes such a header",
+	11:              "the work factor is above the limit",
+	12:              "the file isn't for a key of this kind",
+	13:              "the passphrase or key doesn't open the file",
+	14:              "the header was altered",
+	15:              "an X25519 stanza is malformed, or the shared secret is zero",
+	17:              "the file is damaged or cut off",
+	18:              "the file is cut off",
+	19:              "no age program writes such a payload",
+	20:              "the file is cut off",
+	21:              "something was appended to the file",
+	22:              "the file has too many chunks",
+	28:              "there isn't enough memory",
+	C.AGE_C_MORE:    "the file ends in its header or just after it",
+	C.AGE_C_MISUSED: "an argument is out of range",
+}
+
+func (f *Fault) meaning() string {
+	if f.Number == 14 && f.byKey {
+		return "the file key doesn't fit, or the header was altered"
+	}
+	if text, ok := meanings[f.Number]; ok {
+		return text
+	}
+	return "the file can't be read or written"
 }
 
 // Is lets errors.Is find ErrWrongKey, ErrDamaged and io.ErrUnexpectedEOF.
@@ -96,7 +141,8 @@ func FileKey(key []byte) Key {
 }
 
 // SharedSecret is an X25519 shared secret and the recipient that it was computed for, 32 bytes
-// each.
+// each. For the header's `-> X25519 SHARE`, secret is X25519(identity, SHARE) and recipient is
+// X25519(identity, 9): bindings/README.md shows how to compute them ("Files for an X25519 key").
 func SharedSecret(secret, recipient []byte) Key {
 	return Key{open: func(front []byte, reader *C.age_c_reader) C.uint32_t {
 		return C.age_c_open_shared(place(front), length(front), place(secret), length(secret),

@@ -405,3 +405,118 @@ type shrinking struct{ data []byte }
 func (s *shrinking) ReadAt(into []byte, off int64) (int, error) {
 	return bytes.NewReader(s.data).ReadAt(into, off)
 }
+
+// What it means comes first.
+func TestMessages(t *testing.T) {
+	data := sealed(t, textOf(200000))
+	full := sealed(t, textOf(65536))
+	for _, it := range []struct {
+		data []byte
+		key  Key
+		text string
+	}{
+		{data, Passphrase([]byte("other"), MaxWork), "agefile: the passphrase or key doesn't open the file (13 WrongKey)"},
+		{data, FileKey(make([]byte, 16)), "agefile: the file key doesn't fit, or the header was altered (14 MacMismatch)"},
+		{data[:len(data)-5], pw(), "agefile: the file is damaged or cut off (17 ChunkDamaged, chunk 3)"},
+		{data[:50], pw(), "agefile: the file ends in its header or just after it (254 HeaderOrNonceCut)"},
+		{append(full, 0), pw(), "agefile: something was appended to the file (21 Trailing)"},
+		{data, Passphrase(nil, MaxWork), "agefile: an argument is out of range (255 Misused)"},
+	} {
+		if err := faultOf(it.data, it.key, false); err == nil || err.Error() != it.text {
+			t.Errorf("%v, not %s", err, it.text)
+		}
+	}
+}
+
+// All of the text before a damaged chunk is returned, and then the fault.
+func TestBeforeAFault(t *testing.T) {
+	text := textOf(200000)
+	data := sealed(t, text)
+	data[len(data)-200000-4*16+2*65552+100] ^= 1
+	reader, err := Open(bytes.NewReader(data), pw())
+	if err != nil {
+		t.Fatal(err)
+	}
+	var got []byte
+	for into := make([]byte, 1<<20); err == nil; {
+		var n int
+		n, err = reader.Read(into)
+		if got = append(got, into[:n]...); n > 0 && err != nil {
+			t.Error(n, "bytes with", err)
+		}
+	}
+	if !errors.Is(err, ErrDamaged) || !bytes.Equal(got, text[:131072]) {
+		t.Error(len(got), err)
+	}
+	into := make([]byte, 1<<20)
+	n, err := opened(t, data).ReadAt(into, 1000)
+	if !errors.Is(err, ErrDamaged) || !bytes.Equal(into[:n], text[1000:131072]) {
+		t.Error("at a place:", n, err)
+	}
+}
+
+// A copy that fails: with Abandon deferred, the file isn't whole.
+func TestFailedCopy(t *testing.T) {
+	for _, fails := range []bool{false, true} {
+		var out bytes.Buffer
+		text := io.Reader(bytes.NewReader(textOf(1000)))
+		if fails {
+			text = io.MultiReader(text, iotest.ErrReader(io.ErrClosedPipe))
+		}
+		err := func() error {
+			w, err := Create(&out, []byte("pw"), 1)
+			if err != nil {
+				return err
+			}
+			defer w.Abandon()
+			if _, err := io.Copy(w, text); err != nil {
+				return err
+			}
+			return w.Close()
+		}()
+		if errors.Is(err, io.ErrClosedPipe) != fails {
+			t.Error(fails, err)
+		}
+		if err := faultOf(out.Bytes(), pw(), false); (err != nil) != fails {
+			t.Error("the file:", fails, err)
+		}
+	}
+}
+
+// No file key is left in a reader that has ended, nor in a writer that is closed or abandoned.
+func TestKeysAreOverwritten(t *testing.T) {
+	data := sealed(t, textOf(70000))
+	changed := append([]byte{}, data...)
+	changed[len(data)-1] ^= 1
+	for _, it := range [][]byte{data, changed} {
+		reader, err := Open(bytes.NewReader(it), pw())
+		if err != nil {
+			t.Fatal(err)
+		}
+		if reader.stream.reader == (Reader{}).stream.reader {
+			t.Error("no key to read with")
+		}
+		_, first := io.Copy(io.Discard, reader)
+		if reader.stream != (Reader{}).stream {
+			t.Error("a reader's key is left")
+		}
+		if _, err := reader.Read(make([]byte, 10)); err != first && (first != nil || err != io.EOF) {
+			t.Error("another end:", err, first)
+		}
+	}
+	for _, end := range []func(w *Writer){(*Writer).Abandon, func(w *Writer) { _ = w.Close() }} {
+		w, err := Create(io.Discard, []byte("pw"), 1)
+		if err != nil {
+			t.Fatal(err)
+		}
+		if _, err := w.Write([]byte("text")); err != nil {
+			t.Fatal(err)
+		}
+		if end(w); w.stream != (Writer{}).stream {
+			t.Error("a writer's key is left")
+		}
+		if _, err := w.Write([]byte("x")); err == nil {
+			t.Error("it is written on")
+		}
+	}
+}

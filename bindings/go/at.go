@@ -13,7 +13,8 @@ import (
 
 // A File reads the text of an age file at any place. ReadAt may be called by any number of
 // goroutines at a time; Read and Seek, which move one place, by one. Size is the length of the
-// text, which was checked when the file was opened.
+// text, which was checked when the file was opened. If a chunk is damaged, the bytes before it are
+// returned with its *Fault.
 type File struct {
 	*io.SectionReader
 }
@@ -32,6 +33,7 @@ func OpenAt(file io.ReaderAt, size int64, key Key) (*File, error) {
 	}
 	r := &places{file: file, begun: head.stream.reader, end: size, kept: -1}
 	r.size, r.last = int64(text), int64(last)
+	head.stream = C.age_c_stream{} // its copy of the file key
 	if _, err := r.open(r.last, head.chunk); err != nil {
 		return nil, err
 	}

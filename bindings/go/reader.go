@@ -110,6 +110,11 @@ func (r *Reader) feed(room []byte, end bool) (int, error) {
 	}
 	if answer != 0 {
 		r.err = blockFault(answer, &r.stream.reader)
+	}
+	if r.err != nil {
+		r.stream = C.age_c_stream{} // which held the file key
+	}
+	if answer != 0 {
 		return 0, r.err
 	}
 	return int(written), nil

@@ -13,6 +13,9 @@ import (
 
 // A Writer writes an age file, which is whole once Close returned nil. One goroutine at a time may
 // use it.
+//
+// Close seals what was written so far as the whole text. So never call it after what gives the text
+// failed: call Abandon, or defer Abandon instead of Close, which does nothing after a Close.
 type Writer struct {
 	out    io.Writer
 	stream C.age_c_write_stream
@@ -34,6 +37,9 @@ func Create(out io.Writer, passphrase []byte, factor int) (*Writer, error) {
 	answer := C.age_c_seal_passphrase(place(passphrase), length(passphrase), work(factor),
 		place(random), length(random), place(w.block), length(w.block), &written,
 		&w.stream.writer)
+	for i := range random { // the first 16 are the file key
+		random[i] = 0
+	}
 	if answer != 0 {
 		return nil, &Fault{Number: uint32(answer), Chunk: -1}
 	}
@@ -81,9 +87,11 @@ func (w *Writer) Write(text []byte) (int, error) {
 	return done, nil
 }
 
-// Close seals the last chunk, so that the file is whole. It doesn't close what is written to.
+// Close seals the last chunk, so that the file is whole, even if text is missing: if what gives the
+// text failed, call Abandon first. It doesn't close what is written to.
 func (w *Writer) Close() error {
 	if w.err != nil {
+		w.wipe()
 		return w.err
 	}
 	var written C.size_t
@@ -92,12 +100,20 @@ func (w *Writer) Close() error {
 	if err == nil {
 		w.err = errClosed
 	}
+	w.wipe()
 	return err
 }
 
-// Abandon leaves the file without its last chunk: every reader refuses it.
+// Abandon leaves the file without its last chunk: every reader refuses it. After Close it does
+// nothing.
 func (w *Writer) Abandon() {
 	if w.err == nil {
 		w.err = errClosed
 	}
+	w.wipe()
+}
+
+// wipe overwrites the file key and the open chunk. w.err is set, so that no call follows.
+func (w *Writer) wipe() {
+	w.stream = C.age_c_write_stream{}
 }
