@@ -14,7 +14,8 @@
  *                                     &written);
  *                 fwrite(out, 1, written, stdout);
  *             }
- *             have = fread(bytes, 1, sizeof bytes, stdin), at = 0;
+ *             have = fread(bytes, 1, sizeof bytes, stdin);
+ *             at = 0;
  *         } while (answer == 0 && have > 0);
  *         if (answer == 0) {
  *             answer = age_c_finish(&stream, out, sizeof out, &written);
@@ -23,33 +24,40 @@
  *     }
  *     if (answer != 0) fprintf(stderr, "%u %s\n", answer, age_c_fault_name(answer));
  *
- * bindings/c/decrypt.c (share/age_tool/decrypt.c of a release) is a whole program.
+ * bindings/c/decrypt.c (share/age_tool/decrypt.c of a release) is a whole program, and
+ * bindings/README.md has one that writes a file and one that reads from any place on.
  *
- * WHAT HOLDS. Each text that a call writes was checked: while nobody forges a tag, the texts of one
- * reader, joined, are a prefix of what the file's writer wrote, and once the end (age_c_end or
- * age_c_finish) returned 0 they are all of it. Before that the text may be cut short: don't act on
- * it as if it were whole. After age_c_seek the same holds from that chunk on: the texts since then
- * are a prefix of what follows in the writer's text from the chunk's first byte, and once the end
- * returned 0 they are all that follows, so that the length of the text is known. An undamaged
- * payload gives all of its text, and each call returns 0. The first whole block that isn't the
- * writer's is refused with 17, and `fault_chunk` is its number. What a writer wrote, from
- * age_c_seal_passphrase to an age_c_seal_end or age_c_finish_text that returned 0, is the age file
- * of the text. Into which pieces a payload or a text was cut makes no difference.
+ * WHAT HOLDS. Every byte written to `out` has been authenticated. Unless a tag is forged, the
+ * output of one reader is a prefix of the original plaintext. It is complete only once age_c_end or
+ * age_c_finish has returned 0: don't act on it before as if it were whole. After age_c_seek the
+ * same holds from that chunk on: the output since then is a prefix of what follows in the plaintext
+ * from the chunk's first byte, and once the end returned 0 it is all that follows, so that the
+ * length of the text is known. An undamaged payload gives all of its text, and each call returns 0.
+ * The first whole block that isn't the writer's is refused with 17, and `fault_chunk` is its
+ * number; the text before it has been written by earlier calls. A file that was cut inside a chunk,
+ * as nearly every cut file is, ends with 17 too: nobody can tell it from a damaged one. What a
+ * writer wrote, from age_c_seal_passphrase to an age_c_seal_end or age_c_finish_text that returned
+ * 0, is the age file of the text. Into which pieces a payload or a text was cut makes no
+ * difference.
  *
  * OWNERSHIP. A reader or writer is 64 bytes of plain numbers, and a stream of either holds one
  * block or chunk besides, in the caller's memory: there is nothing to free, and it may be copied (a
  * copy of a reader goes on from the same place; never go on from a copy of a writer, which would
  * seal two texts under one nonce). It holds the file key, and a stream that writes holds text too:
- * overwrite it when you are done, if that matters to you. The library keeps no pointer and no
- * state. Only age_c_open_.. and age_c_seal_passphrase allocate, by malloc, and free all of it
- * before they return: with a passphrase of work factor N, 2^N KiB. A call uses less than 100 KiB of
- * stack.
+ * overwrite it when you are done, by explicit_bzero (a compiler may leave out a memset). The
+ * library keeps no pointer and no state. Only age_c_open_.. and age_c_seal_passphrase allocate, by
+ * malloc, and free all of it before they return: with a passphrase of work factor N, 2^N KiB, and
+ * for the header up to 16 bytes for each of its bytes, which is 16 MiB for a hostile header of
+ * 1 MiB. A call uses less than 100 KiB of stack.
+ *
+ * NOT PROMISED. Constant time, and that no trace of keys and passphrases is left: the library
+ * overwrites neither its stack nor the memory that it frees, such as scrypt's table.
  *
  * POINTERS. Each points to at least as many bytes as the length after it says, and may be null if
- * that is 0; no other pointer may be null. What a call writes to overlaps nothing else that the
- * call is given. Bytes may stand at any address; a reader, a writer, a stream and the numbers that
- * a call writes are aligned as their types are. Nobody else writes to them, neither during a call
- * nor between two: what holds of them holds of what the library left there. The library can't check
+ * that is 0; no other pointer may be null. An output buffer must not overlap any other argument,
+ * nor may a reader, a writer, a stream or a number that a call writes. Bytes may stand at any
+ * address; the others are aligned as their types are. Nothing else may modify these objects, during
+ * a call or between calls, except `held` of a stream, which you set to 0. The library can't check
  * this.
  *
  * THREADS, SIGNALS, FORK. Any number of calls may run at the same time, on different readers,
@@ -64,10 +72,10 @@
  * of `out`, has set *written and *taken (or *text_len and *last_chunk) to 0, and has changed
  * nothing else, with one exception: a fault 17 to 22 of age_c_block, age_c_end, age_c_feed or
  * age_c_finish is kept in the reader (and then age_c_feed took *taken bytes all the same). Each
- * later call of these on it returns that fault again, unless it is misused. After an end returned
- * 0, it returns 0 again if it is given no bytes, and writes nothing; so does age_c_feed. Any other
- * call of these returns AGE_C_TRAILING, unless it is misused. age_c_seek ends both: the reader goes
- * on as one that was just begun, at that chunk.
+ * later call of these four on it returns that fault again, unless it is misused. After an end has
+ * returned 0, repeating it with no bytes returns 0 and writes nothing, and so does age_c_feed with
+ * an empty piece. Any other call of the four that passes bytes returns AGE_C_TRAILING, unless it is
+ * misused. age_c_seek ends both: the reader goes on as one that was just begun, at that chunk.
  *
  * MISUSE. A call returns AGE_C_MISUSED if, and only if, a length, a work factor or a chunk's number
  * isn't as the call's comment says, or it takes a block or chunk, or goes to one, and its reader or
@@ -75,8 +83,10 @@
  * or a writer's isn't 1; or a stream's `held` is AGE_C_BLOCK or more; or that of one that writes is
  * more than AGE_C_CHUNK, or 0 though its `chunk` isn't. This is looked at before anything else.
  *
- * The library is for x86-64 Linux: glibc 2.34 or later, and a processor with the instructions of
+ * The library is for x86-64 Linux: glibc 2.14 or later, and a processor with the instructions of
  * x86-64-v2. Link libage_c.a, which holds all that it needs but the C library; or libage_c.so.
+ * Versions follow semantic versioning: within 1.x a later library runs what was built with an
+ * earlier one, and an incompatible one has another soname than libage_c.so.0.
  */
 #ifndef AGE_C_H
 #define AGE_C_H
@@ -128,7 +138,7 @@ extern "C" {
 #define AGE_C_PASS_MAX 65536u /* bytes of a passphrase; at least 1 */
 #define AGE_C_WORK_MAX 22u    /* the greatest work factor; at least 1 */
 
-/* What a call returns has to be looked at: a compiler warns if it isn't. */
+/* Return values must be checked; compilers warn if they aren't. */
 #ifndef AGE_C_MUST_CHECK
 #if defined __GNUC__
 #define AGE_C_MUST_CHECK __attribute__((warn_unused_result))
@@ -137,7 +147,8 @@ extern "C" {
 #endif
 #endif
 
-/* Where a file is being read. Only the library writes to it. */
+/* Where a file is being read. Only the library writes to it, or to a stream of it, except `held` of
+ * a stream, which you set to 0. */
 typedef struct age_c_reader {
     uint8_t file_key[16];
     uint8_t nonce[16];
@@ -148,7 +159,8 @@ typedef struct age_c_reader {
     uint32_t unused;
 } age_c_reader;
 
-/* How far a file was written. Only the library writes to it. */
+/* How far a file was written. Only the library writes to it, or to a stream of it, except `held`
+ * of a stream, which you set to 0. */
 typedef struct age_c_writer {
     uint8_t file_key[16];
     uint8_t nonce[16];
@@ -157,7 +169,7 @@ typedef struct age_c_writer {
     uint32_t unused[5];
 } age_c_writer;
 
-#ifdef __cplusplus
+#if defined __cplusplus && __cplusplus >= 201103L
 static_assert(sizeof(age_c_reader) == 64 && sizeof(age_c_writer) == 64, "64 bytes each");
 #elif defined __STDC_VERSION__ && __STDC_VERSION__ >= 201112L
 _Static_assert(sizeof(age_c_reader) == 64 && sizeof(age_c_writer) == 64, "64 bytes each");
@@ -181,17 +193,18 @@ AGE_C_MUST_CHECK
 uint32_t age_c_open_key(const uint8_t *front, size_t front_len, const uint8_t *file_key,
                         size_t file_key_len, age_c_reader *reader);
 
-/* The same by an X25519 shared secret and the recipient that it was computed for, 32 bytes each. */
+/* Opens with an X25519 shared secret. For `-> X25519 SHARE`, secret is X25519(identity, SHARE) and
+ * recipient is X25519(identity, 9), 32 bytes each. bindings/README.md shows how to compute them
+ * ("Files for an X25519 key"). */
 AGE_C_MUST_CHECK
 uint32_t age_c_open_shared(const uint8_t *front, size_t front_len, const uint8_t *secret,
                            size_t secret_len, const uint8_t *recipient, size_t recipient_len,
                            age_c_reader *reader);
 
-/* Whether it is worth opening the header that `front` begins with, after its first `seen` bytes
- * weren't enough, by an answer of AGE_C_MORE here or of an age_c_open_..: 0 if so, else AGE_C_MORE.
- * It is 0 as soon as the header and the nonce are there, and before that so rarely that a header
- * that comes in small pieces takes a time that is linear in its length. (At the end of the file
- * call an age_c_open_.. in any case, to learn what is wrong.) */
+/* Tells whether to call age_c_open_.. again. `seen` is how many bytes you had when you last got
+ * AGE_C_MORE, from this call or from that one. Returns 0 if so, else AGE_C_MORE. It returns 0 as
+ * soon as the header and the nonce are there. Calling age_c_open_.. only on 0 keeps a slow header
+ * linear. (At the end of the file call it in any case, to learn what is wrong.) */
 AGE_C_MUST_CHECK
 uint32_t age_c_may_open(const uint8_t *front, size_t front_len, size_t seen);
 
@@ -210,7 +223,12 @@ uint32_t age_c_end(age_c_reader *reader, const uint8_t *rest, size_t rest_len, u
 /* Goes to a chunk by its number, below 2^48: the next block is this chunk's. Its text begins at
  * chunk * AGE_C_CHUNK of the whole text, and its block at reader->payload_at + chunk *
  * AGE_C_BLOCK of the file. What the reader was given before is forgotten, a fault and an end too.
- * It isn't known here how many chunks the file has: past the last, no block opens. */
+ * It isn't known here how many chunks the file has: past the last, no block opens. The reader of a
+ * stream has to forget the open block as well, else an undamaged file gives 17:
+ *
+ *     answer = age_c_seek(&stream.reader, chunk);
+ *     stream.held = 0;
+ */
 AGE_C_MUST_CHECK
 uint32_t age_c_seek(age_c_reader *reader, uint64_t chunk);
 
@@ -229,8 +247,8 @@ uint32_t age_c_size(const age_c_reader *reader, uint64_t file_len, uint64_t *tex
 
 /* A reader that takes its payload in pieces of any length. Set `held` to 0, as `= {0}` does, and
  * open the header with &stream->reader; give what follows payload_at by age_c_feed. To go to
- * a chunk, call age_c_seek with &stream->reader and set `held` to 0 again. Nothing has to be freed,
- * and a copy goes on from the same place. */
+ * a chunk, call age_c_seek with &stream->reader, and always set `held` to 0 after it, as shown
+ * there. Nothing has to be freed, and a copy goes on from the same place. */
 typedef struct age_c_stream {
     age_c_reader reader;
     uint32_t held; /* bytes of the block that is open: fewer than AGE_C_BLOCK */
@@ -301,7 +319,7 @@ uint32_t age_c_finish_text(age_c_write_stream *stream, uint8_t *out, size_t out_
 
 /* The name of what a call returned, as age_tool prints it: "WrongKey" of AGE_C_WRONG_KEY, "Ok" of
  * 0, "HeaderOrNonceCut" of AGE_C_MORE, "Misused" of AGE_C_MISUSED, and "Unknown" of any other
- * number. It is a string of the library, never to be freed. */
+ * number. Returns a static string; don't free it. */
 const char *age_c_fault_name(uint32_t answer);
 
 #ifdef __cplusplus
