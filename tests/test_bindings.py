@@ -28,6 +28,12 @@ CHECKS = {
     "refusals": (["file"], ["file"]), "misuse": (["3000"], ["150"]), "work": ([], None), "places": ([], None), "seek": ([], ["5"]),
     "stream": ([], ["1"]),
 }
+# What the Go and Rust modules say of faults, before the number and name.
+MEANINGS = {
+    "1 NotAge": "the file isn't an age file", "13 WrongKey": "the passphrase or key doesn't open the file",
+    "17 ChunkDamaged": "the file is damaged or cut off", "21 Trailing": "something was appended to the file",
+    "254 HeaderOrNonceCut": "the file ends in its header or just after it",
+}
 # What tests/damage.c has to find of a reader that is wrong on purpose.
 FLAWS = {
     "ignores-end": "an end returns 0", "takes-cut": "an end returns 0", "refuses-end": "an end returns 0", "skips-block": "the text is",
@@ -73,15 +79,18 @@ class ProgramsCase(BindingsCase):
         run = subprocess.run(words, cwd=self.room, input=data, capture_output=True)
         return (run.returncode, fault_in(run.stderr)), run.stdout
 
-    def see_reports(self, what, program):
-        """What a program prints of faults."""
+    def see_reports(self, what, program, prefix=None):
+        """What a program prints of faults: as age_tool, or what it means first, after a prefix."""
         data = self.sealed(plain_of(131_072))
-        for word, file, fault in (
-            ("other", data, "13 WrongKey"), ("pw", flipped(data, len(data) - 1), "17 ChunkDamaged chunk 1"), ("pw", data + b"0", "21 Trailing"),
-            ("pw", data[:50], "254 HeaderOrNonceCut"), ("pw", b"x\n", "1 NotAge"),
+        for word, file, fault, place in (
+            ("other", data, "13 WrongKey", ""), ("pw", flipped(data, len(data) - 1), "17 ChunkDamaged", "chunk 1"),
+            ("pw", data[:-5], "17 ChunkDamaged", "chunk 1"), ("pw", data + b"0", "21 Trailing", ""), ("pw", data[:50], "254 HeaderOrNonceCut", ""),
+            ("pw", b"x\n", "1 NotAge", ""),
         ):
             run = subprocess.run([program, word], cwd=self.room, input=file, capture_output=True)
-            self.see(f"{what}: {fault}", (run.returncode, run.stderr.decode().partition(": ")[2]) == (1, fault + "\n"), run.stderr)
+            said = run.stderr.decode().partition(": ")[2]
+            line = f"{fault} {place}".strip() if prefix is None else f"{prefix}{MEANINGS[fault]} ({fault}{place and ', ' + place})"
+            self.see(f"{what}: {fault}", (run.returncode, said) == (1, line + "\n"), run.stderr)
 
 
 class FilesTest(ProgramsCase):
@@ -231,8 +240,9 @@ class CTest(ProgramsCase):
 
     @needs("c++")
     def test_header_in_cpp(self):
-        words = ["c++", "-std=c++11", "-Wall", "-Wextra", "-Werror", "-fsyntax-only", "-x", "c++", TOP / "include" / "age_c.h"]
-        self.succeeds("the header in C++", words)
+        for std in ("c++98", "c++11", "c++17"):
+            words = ["c++", f"-std={std}", "-Wall", "-Wextra", "-Werror", "-fsyntax-only", "-x", "c++", TOP / "include" / "age_c.h"]
+            self.succeeds(f"the header in {std}", words)
 
     def damage(self, *words):
         """Damages files at random: how that ended, and how often each rule didn't hold."""
@@ -295,7 +305,8 @@ class CTest(ProgramsCase):
         begin = "int main(int argc, char **argv) { const uint8_t *pass = (const uint8_t *)argv[argc - 1]; size_t pass_len = strlen(argv[1]);"
         program = '#include "age_c.h"\n#include <stdio.h>\n#include <string.h>\n' + f"{begin}\n{sample}\nreturn answer != 0; }}\n"
         self.path("sample.c").write_text(program)
-        words = ["cc", *STRICT, "-o", self.path("sample"), self.path("sample.c")]
+        comma = ["-Wcomma"] if shutil.which("clang") else []
+        words = ["clang" if comma else "cc", *STRICT, *comma, "-o", self.path("sample"), self.path("sample.c")]
         run = subprocess.run([*words, LIBRARY / "libage_c.a"], capture_output=True, text=True)
         self.see("the sample in age_c.h", run.returncode == 0, run.stderr)
         if run.returncode == 0:
@@ -316,6 +327,10 @@ class CTest(ProgramsCase):
         taken = subprocess.run(["nm", "-D", "--undefined-only", "-j", LIBRARY / "libage_c.so"], capture_output=True, text=True).stdout.split()
         allowed = {"malloc", "realloc", "free", "memcpy", "memmove", "memset"}
         self.see(f"the shared library calls {taken}, and age_c.h says {allowed}", {it.partition("@")[0] for it in taken} == allowed)
+        symbols = subprocess.run(["objdump", "-T", LIBRARY / "libage_c.so"], capture_output=True, text=True).stdout
+        versions = [tuple(map(int, it.split("."))) for it in re.findall(r"\(GLIBC_([\d.]+)\)", symbols)]
+        said = re.search(r"glibc (\d+)\.(\d+) or later", (TOP / "include" / "age_c.h").read_text())
+        self.see(f"the shared library needs of glibc {versions}", versions and max(versions) == tuple(map(int, said.groups())))
         if run.returncode == 0:
             needed = subprocess.run(["ldd", made], capture_output=True, text=True).stdout
             self.see("the shared library isn't used", f"libage_c.so.0 => {LIBRARY}/libage_c.so.0" in needed, needed)
@@ -333,8 +348,8 @@ class LanguagesTest(ProgramsCase):
             self.assertEqual(run.returncode, 0, (words, (run.stdout + run.stderr)[-2000:]))
             self.see(f"{what}: {' '.join(map(str, words))}", True)
 
-    def see_example(self, what, program):
-        """A program in another language: files of all lengths, whole and cut by a byte."""
+    def see_example(self, what, program, prefix):
+        """A program in another language: files of all lengths, whole and cut by a byte, and what it says, after a prefix."""
         for length in LENGTHS:
             text = plain_of(length)
             data = self.sealed(text)
@@ -343,7 +358,7 @@ class LanguagesTest(ProgramsCase):
             run = subprocess.run([program, "pw"], cwd=self.room, input=data[:-1], capture_output=True)
             is_cut = text.startswith(run.stdout) and len(run.stdout) <= length // 65_536 * 65_536
             self.see(f"{what}: {length} bytes, cut", run.returncode == 1 and is_cut)
-        self.see_reports(what, program)
+        self.see_reports(what, program, prefix)
 
     def see_sample(self, what, words, last):
         """The program in bindings/README.md, over a file that age made: the text and the last bytes of it, as the language writes them."""
@@ -353,11 +368,45 @@ class LanguagesTest(ProgramsCase):
         text = b"hello, passphrase\n"
         self.see(f"the sample in {what}", run.returncode == 0 and run.stdout in (text + last, last + text), run.stdout, run.stderr)
 
-    def see_copy(self, what):
+    def see_copy(self, what, text=b"a text of mine"):
         """The file that a sample wrote."""
         self.write("horse", b"correct horse")
         run = self.tool("decrypt", "--pass", "horse", "--no-sync", "copy.age", "copy")
-        self.see(f"the copy of the sample in {what}", run.returncode == 0 and self.read("copy") == b"a text of mine", run.stderr)
+        self.see(f"the copy of the sample in {what}", run.returncode == 0 and self.read("copy") == text, run.stderr)
+
+    def see_cut_samples(self, what, words):
+        """A sample treats a file that was cut in a chunk as one that was cut before it."""
+        data = self.path("notes.age").read_bytes()
+        for end in (len(data) - 3, len(data) - 18 - 16):
+            self.write("notes.age", data[:end])
+            run = subprocess.run(words, cwd=self.room, capture_output=True, text=True)
+            self.see(f"the sample in {what}, cut", (run.returncode, run.stderr[:31]) == (1, "the file is damaged or cut off:"), run.stderr)
+
+    @needs("cc")
+    def test_c(self):
+        """The C program in bindings/README.md, which reads a text from standard input."""
+        self.path("sample.c").write_text(sample_of("c"))
+        comma = ["-Wcomma"] if shutil.which("clang") else []
+        words = ["clang" if comma else "cc", *STRICT, *comma, "-o", self.path("sample-c"), self.path("sample.c"), LIBRARY / "libage_c.a"]
+        self.succeed("C", self.room, {}, words)
+        shutil.copy(TOP / "bindings" / "tests" / "age" / "passphrase.age", self.path("notes.age"))
+        text = plain_of(200_000)
+        run = subprocess.run([self.path("sample-c")], cwd=self.room, input=text, capture_output=True)
+        self.see("the sample in C", (run.returncode, run.stdout) == (0, b"rase\n"), run.stderr)
+        self.see_copy("C", text)
+        # (from here on with little work)
+        self.write("horse", b"correct horse")
+        self.write("in", text)
+        self.tool(*"encrypt --pass horse --log 1 --no-sync in notes.age".split(), check=True)
+        for place in (0, 70_000, 131_072, 199_999, 200_000):
+            self.path("sample.c").write_text(sample_of("c").replace("pass_len, 18,", "pass_len, 1,").replace("from, 13,", f"from, {place},"))
+            self.succeed("C", self.room, {}, words)
+            run = subprocess.run([self.path("sample-c")], cwd=self.room, input=b"", capture_output=True)
+            self.see(f"the sample in C from {place}", (run.returncode, run.stdout) == (0, text[place:]), run.stderr)
+            self.see_copy("C", b"")
+        self.path("notes.age").write_bytes(self.read("notes.age")[:-1])
+        run = subprocess.run([self.path("sample-c")], cwd=self.room, input=b"", capture_output=True)
+        self.see("the sample in C, cut", (run.returncode, run.stderr) == (1, b"17 ChunkDamaged\n"), run.stderr)
 
     def test_python(self):
         self.path("sample.py").write_text(sample_of("python"))
@@ -382,9 +431,28 @@ class LanguagesTest(ProgramsCase):
             else:
                 self.leave_out(f"{tool} over the Rust crates", f"needs {tool}")
         self.succeed("Rust", TOP / "bindings" / "rust", {"AGE_C_DIR": str(LIBRARY)}, *commands)
-        self.see_example("Rust", to / "release" / "examples" / "decrypt")
+        self.see_example("Rust", to / "release" / "examples" / "decrypt", "")
         self.see_sample("Rust", [to / "release" / "sample"], b"rase\n")
         self.see_copy("Rust")
+        self.see_cut_samples("Rust", [to / "release" / "sample"])
+
+    @needs("cargo")
+    def test_rust_without_the_library(self):
+        """A build of the Rust crates says that the library isn't there, and the next one finds it once it is, and then stays fresh."""
+        rust = self.path("bindings") / "rust"
+        shutil.copytree(TOP / "bindings" / "rust", rust, ignore=shutil.ignore_patterns("target"))
+        env = {name: value for name, value in os.environ.items() if name != "AGE_C_DIR"}
+        env |= {"PKG_CONFIG_PATH": "", "PKG_CONFIG_LIBDIR": str(self.path("none")), "CARGO_TERM_COLOR": "never"}
+        build = lambda: subprocess.run(["cargo", "build", "--offline", "--examples", "-v"], cwd=rust, env=env, capture_output=True, text=True)
+        run = build()
+        words = f"warning: age-c-sys@1.1.0: libage_c isn't there ({rust}/age-c-sys/../../out/libage_c.a, "
+        self.see("the library isn't there", run.returncode != 0 and words in run.stderr and "bindings/build" in run.stderr, run.stderr[-2000:])
+        (self.path("bindings") / "out").mkdir()
+        shutil.copy(LIBRARY / "libage_c.a", self.path("bindings") / "out")
+        run = build()
+        self.see("the library is there", run.returncode == 0 and "warning: " not in run.stderr, run.stderr[-2000:])
+        run = build()
+        self.see("nothing changed", run.returncode == 0 and "Fresh age-c-sys" in run.stderr and "Dirty" not in run.stderr, run.stderr[-2000:])
 
     @needs("go")
     def test_go(self):
@@ -409,5 +477,7 @@ class LanguagesTest(ProgramsCase):
             else:
                 self.leave_out(f"Go with {tool}", f"needs {tool}")
         self.succeed("Go", TOP / "bindings" / "go", env, *commands)
-        self.see_example("Go", program)
+        self.see_example("Go", program, "agefile: ")
         self.see_sample("Go", [user / "vendored"], b"")
+        self.see_copy("Go")
+        self.see_cut_samples("Go", [user / "vendored"])
