@@ -2,6 +2,7 @@ package agefile
 
 import (
 	"bytes"
+	"encoding/hex"
 	"errors"
 	"io"
 	"math/rand"
@@ -64,6 +65,31 @@ func TestFiles(t *testing.T) {
 	text, err := io.ReadAll(reader)
 	if err != nil || string(text) != "hello, passphrase\n" {
 		t.Fatalf("%q, %v", text, err)
+	}
+}
+
+// A file that age 1.1.1 made for a recipient: the secret is the one of its stanza and of the
+// identity in key.txt beside it.
+func TestSharedSecret(t *testing.T) {
+	data, err := os.ReadFile("../tests/age/one.age")
+	if errors.Is(err, os.ErrNotExist) {
+		t.Skip("this folder stands alone")
+	}
+	if err != nil {
+		t.Fatal(err)
+	}
+	secret, _ := hex.DecodeString("a63e711bbe766ac02492dac2ddac009640a5dec3407e1d76637592c111245643")
+	recipient, _ := hex.DecodeString("ebaa24287c1e692527056fc5ea4806639e8c56c9257e953b6dc556e8be34d20f")
+	reader, err := Open(bytes.NewReader(data), SharedSecret(secret, recipient))
+	if err != nil {
+		t.Fatal(err)
+	}
+	if text, err := io.ReadAll(reader); err != nil || string(text) != "hello, recipient\n" {
+		t.Errorf("%q, %v", text, err)
+	}
+	secret[0] ^= 1
+	if _, err := Open(bytes.NewReader(data), SharedSecret(secret, recipient)); !errors.Is(err, ErrWrongKey) {
+		t.Error("another secret:", err)
 	}
 }
 

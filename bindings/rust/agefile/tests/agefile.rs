@@ -69,6 +69,32 @@ fn reads_a_file_of_age() {
     );
 }
 
+/// The bytes of hexadecimal digits.
+fn bytes_of(digits: &str) -> Vec<u8> {
+    let pair = |at| u8::from_str_radix(&digits[at..at + 2], 16).unwrap();
+    (0..digits.len()).step_by(2).map(pair).collect()
+}
+
+/// The secret is the one of the file's stanza and of the identity in key.txt beside it.
+#[test]
+fn reads_a_file_for_an_x25519_key() {
+    let path = concat!(env!("CARGO_MANIFEST_DIR"), "/../../tests/age/one.age");
+    let Ok(data) = std::fs::read(path) else {
+        return; // this folder stands alone
+    };
+    let secret = bytes_of("a63e711bbe766ac02492dac2ddac009640a5dec3407e1d76637592c111245643");
+    let recipient = bytes_of("ebaa24287c1e692527056fc5ea4806639e8c56c9257e953b6dc556e8be34d20f");
+    let opened = |secret: &[u8]| {
+        let recipient = &recipient;
+        text_in(&data, Key::Shared { secret, recipient })
+    };
+    assert_eq!(opened(&secret).unwrap(), b"hello, recipient\n");
+    let fault = AgeError::of(&opened(&[1; 32]).unwrap_err()).unwrap();
+    assert_eq!((fault.number, fault.is_wrong_key()), (13, true));
+    let fault = AgeError::of(&opened(&[0; 32]).unwrap_err()).unwrap();
+    assert_eq!(fault.number, 15);
+}
+
 #[test]
 fn reads_lines() {
     let data = sealed(b"one\ntwo\n");
