@@ -47,8 +47,8 @@
  * overwrite it when you are done, by explicit_bzero (a compiler may leave out a memset). The
  * library keeps no pointer and no state. Only age_c_open_.. and age_c_seal_passphrase allocate, by
  * malloc, and free all of it before they return: with a passphrase of work factor N, 2^N KiB, and
- * for the header up to 16 bytes for each of its bytes, which is 16 MiB for a hostile header of
- * 1 MiB. A call uses less than 100 KiB of stack.
+ * for the header up to about 16 bytes for each of its bytes, which is 16 MiB for a hostile header
+ * of 1 MiB. A call uses less than 100 KiB of stack.
  *
  * NOT PROMISED. Constant time, and that no trace of keys and passphrases is left: the library
  * overwrites neither its stack nor the memory that it frees, such as scrypt's table.
@@ -56,9 +56,9 @@
  * POINTERS. Each points to at least as many bytes as the length after it says, and may be null if
  * that is 0; no other pointer may be null. An output buffer must not overlap any other argument,
  * nor may a reader, a writer, a stream or a number that a call writes. Bytes may stand at any
- * address; the others are aligned as their types are. Nothing else may modify these objects, during
- * a call or between calls, except `held` of a stream, which you set to 0. The library can't check
- * this.
+ * address; these objects are aligned as their types are. Nothing else may modify a reader, a writer
+ * or a stream, during a call or between calls, except `held` of a stream, which you set to 0; nor,
+ * during a call, any bytes that it was given. The library can't check this.
  *
  * THREADS, SIGNALS, FORK. Any number of calls may run at the same time, on different readers,
  * writers and streams. The library takes no lock, and calls nothing but malloc, realloc, free,
