@@ -49,7 +49,7 @@ pub struct AgeCWriter {
 #[derive(Clone)]
 pub struct AgeCStream {
     pub reader: AgeCReader,
-    /// Bytes of the block that is open.
+    /// Bytes of the block that is open. Set it to 0 after each [`age_c_seek`].
     pub held: u32,
     pub unused: u32,
     pub block: [u8; AGE_C_BLOCK],
