@@ -16,6 +16,7 @@ import zipfile
 from tests import bindings
 from tests.bindings import BLOCK, CHUNK, KEY, PYTHON, BindingsCase, by_python, flipped, raised
 from tests.case import needs
+from tests.test_python_files import slow
 from tools.workspace import LIBRARY, TOP
 
 AGE = TOP / "bindings" / "tests" / "age"
@@ -230,9 +231,30 @@ class PythonTest(BindingsCase):
         run = self.command("decrypt", "--pass", "pw", "-", "-", given=data[:-1])
         self.see("-m agefile", (run.returncode, run.stdout, run.stderr) == (1, text[:2 * CHUNK], b"agefile: 17 ChunkDamaged chunk 2\n"), run.stderr)
 
-    def command(self, *words, given=None):
+    def command(self, *words, given=None, **more):
         env = {**os.environ, "PYTHONPATH": str(PYTHON)}
-        return subprocess.run([sys.executable, "-B", "-m", "agefile", *words], cwd=self.room, env=env, input=given, capture_output=True)
+        more = more or {"input": given}
+        return subprocess.run([sys.executable, "-B", "-m", "agefile", *words], cwd=self.room, env=env, capture_output=True, **more)
+
+    def slow_command(self, data, *words):
+        """The same, with a standard input that doesn't block, and to which the data comes in pieces."""
+        with slow(data, 90_000) as source:
+            return self.command(*words, stdin=source)
+
+    def test_slow_input(self):
+        """Standard input that doesn't block is read to its end."""
+        text = random.Random(9).randbytes(300_000)
+        data = self.sealed(text)
+        run = self.slow_command(text, "encrypt", "--pass", "pw", "--log", "1", "-", "made.age")
+        self.see("encrypt", run.returncode == 0 and self.judged(self.read("made.age")) == ((0, None), text), run.stderr)
+        run = self.slow_command(data, "decrypt", "--pass", "pw", "-", "-")
+        self.see("decrypt", (run.returncode, run.stdout) == (0, text), run.stderr)
+        for what, sent, want in (("whole", data, 0), ("cut", data[:-1], 1), ("cut early", data[:100_000], 1), ("cut in its header", data[:50], 1)):
+            run = self.slow_command(sent, "test", "--pass", "pw", "-")
+            self.see(f"test of a file that is {what}", run.returncode == want, run.stderr)
+        self.path("keys").write_text((AGE / "key.txt").read_text())
+        run = self.slow_command((AGE / "one.age").read_bytes(), "shared", "keys", "-")
+        self.see("shared", run.returncode == 0 and len(run.stdout) == 64, run.stderr)
 
     def test_bech32(self):
         """The test vectors of BIP 173."""

@@ -1,12 +1,18 @@
 """Tries the file objects of the Python module: what they seal, seeks, sources that fail, that don't block or come in pieces, threads, and
 calls from inside a call."""
+import contextlib
+import csv
+import gc
 import io
 import os
 import pickle
+import shutil
 import signal
 import sys
 import tarfile
 import threading
+import time
+import warnings
 import zlib
 
 from tests import bindings
@@ -47,25 +53,76 @@ class Halting(io.RawIOBase):
         return self.held.readinto(memoryview(room)[:self.size])
 
 
-def by_pieces(data, size, buffering, word):
-    """The fault and the text of a file that comes through a pipe, piece after piece."""
+@contextlib.contextmanager
+def slow(data, size=7_000, buffering=0):
+    """A pipe that doesn't block, to which another thread sends the data in pieces: a read often comes before them."""
     source, sink = os.pipe()
     os.set_blocking(source, False)
+
+    def sends():
+        with open(sink, "wb", buffering=0) as sender, contextlib.suppress(BrokenPipeError):
+            for at in range(0, len(data), size):
+                time.sleep(0.002)
+                sender.write(data[at:at + size])
+
+    thread = threading.Thread(target=sends)
+    thread.start()
+    try:
+        with open(source, "rb", buffering=buffering) as file:
+            yield file
+    finally:
+        thread.join()
+
+
+def by_pieces(data, size, buffering, word):
+    """The fault and the text of a file that comes through such a pipe."""
     text = b""
-    with open(source, "rb", buffering=buffering) as under, open(sink, "wb", buffering=0) as sender:
+    with slow(data, size, buffering) as under:
         try:
             file = agefile.open(under, passphrase=word)
-            for at in range(0, len(data) + 1, size):
-                while got := file.read(4_096):
-                    text += got
-                assert got is None, "the end, though the file isn't there yet"
-                sender.write(data[at:at + size])
-            sender.close()
             while got := file.read(4_096):
                 text += got
-            return (None if got == b"" else "waits"), text
+            return None if got == b"" else "waits", text
         except agefile.AgeError as fault:
             return fault.number, text
+
+
+def loop(read):
+    """What the calls return, up to what counts as the end."""
+    found = []
+    while piece := read():
+        found.append(piece)
+    return found
+
+
+def readinto_loop(read, room):
+    found = b""
+    while count := read(room):
+        found += room[:count]
+    return found
+
+
+def copied(file):
+    out = io.BytesIO()
+    shutil.copyfileobj(file, out)
+    return out.getvalue()
+
+
+def by_csv(file):
+    with io.TextIOWrapper(file, newline="") as text:
+        return b"".join(",".join(it).encode() + b"\n" for it in csv.reader(text))
+
+
+# The ways to read a file to its end: each gives what it read.
+WAYS = {
+    "read": lambda file: file.read(), "read in pieces": lambda file: b"".join(loop(lambda: file.read(20_000))),
+    "a large read": lambda file: file.read(1 << 30), "read1": lambda file: b"".join(loop(lambda: file.read1(9_000))),
+    "readline": lambda file: b"".join(loop(file.readline)), "lines": lambda file: b"".join(file), "readlines": lambda file: b"".join(file.readlines()),
+    "readinto": lambda file: readinto_loop(file.readinto, bytearray(9_000)), "readinto1": lambda file: readinto_loop(file.readinto1, bytearray(9_000)),
+    "a raw read": lambda file: b"".join(loop(lambda: file.raw.read(9_000))), "a raw readall": lambda file: file.raw.readall(), "copyfileobj": copied,
+    "text": lambda file: io.TextIOWrapper(file, newline="").read().encode(),
+    "lines of text": lambda file: "".join(io.TextIOWrapper(file, newline="")).encode(), "csv": by_csv,
+}
 
 
 def together(calls):
@@ -213,18 +270,6 @@ class PythonFilesTest(BindingsCase):
         with agefile.open(Unsteady(data), file_key=KEY) as file:
             self.see("a failed read isn't reported", raised(OSError, file.read))
             self.see("seek in what can't seek", raised(io.UnsupportedOperation, file.seek, 0) and not file.seekable())
-        reader = agefile.AgeReader(Unsteady(data), file_key=KEY)
-        got, failures = b"", 0
-        while True:
-            try:
-                piece = reader.read(50_000)
-            except OSError:
-                failures += 1
-                continue
-            if not piece:
-                break
-            got += piece
-        self.see("a text that is read on after a failed read", (got, failures) == (text, 1))
         under = Unsteady()
         file = agefile.open(under, "wb", passphrase="pw", work=1)
         self.see("a failed write isn't reported", raised(OSError, file.write, text))
@@ -234,6 +279,119 @@ class PythonFilesTest(BindingsCase):
         parts = fault.number, fault.name, fault.place, str(fault)
         self.see("a fault that is pickled", parts == (17, "ChunkDamaged", 3, "17 ChunkDamaged chunk 3"), parts)
         self.see("bytes with an encoding", raised(ValueError, lambda: agefile.open(io.BytesIO(data), "rb", file_key=KEY, encoding="utf-8")))
+
+    def test_forgotten_writers(self):
+        """A writer that was never closed, perhaps after an exception, leaves a file that isn't whole, and a warning."""
+        class Sink(io.BytesIO):
+            flushed = 0
+
+            def flush(self):
+                self.flushed += 1
+
+        def forgets(mode, text, out):
+            agefile.open(out, mode, passphrase="pw", work=1).write(text)
+            raise KeyError
+
+        for mode, text in (("wb", b"half"), ("wt", "half"), ("wb", bytes(100_000)), ("wt", "a" * 100_000)):
+            out = Sink()
+            with warnings.catch_warnings(record=True) as found:
+                warnings.simplefilter("always")
+                raised(KeyError, forgets, mode, text, out)
+                gc.collect()
+            fault, got = by_python(out.getvalue(), passphrase="pw")
+            self.see(f"a forgotten writer, {mode}, {len(text)}", fault[0] == 20 and len(got) < len(text), fault)
+            self.see(f"its warning, {mode}", [it.category for it in found] == [ResourceWarning], found)
+        for mode, text in (("wb", b"text"), ("wt", "text")):
+            out = Sink()
+            file = agefile.open(out, mode, passphrase="pw", work=1)
+            file.write(text)
+            under = file.detach() if mode == "wt" else file
+            with warnings.catch_warnings(record=True) as found:
+                warnings.simplefilter("always")
+                del file
+                gc.collect()
+                under.close()
+            self.see(f"a writer that is closed, {mode}", by_python(out.getvalue(), passphrase="pw") == ((0, None), b"text") and not found, found)
+        with warnings.catch_warnings(record=True) as found:
+            warnings.simplefilter("always")
+            path = self.path("text.age")
+            path.write_bytes(self.sealed(b"text"))
+            self.see("a forgotten reader", agefile.open(path, "rt", passphrase="pw").read() == "text")
+            gc.collect()
+
+    def test_sinks(self):
+        """What a file object that is written to has to have: write, and nothing else."""
+        class Plain:
+            held = b""
+
+            def write(self, piece):
+                self.held += piece[:1_000]
+                return min(len(piece), 1_000)
+
+        for left in (False, True):
+            out = Plain()
+            file = agefile.open(out, "wb", passphrase="pw", work=1)
+            file.write(b"text")
+            file.flush()
+            (file.abandon if left else file.close)()
+            self.see("a sink without flush", by_python(out.held, passphrase="pw") == (((20, 0), b"") if left else ((0, None), b"text")))
+        text = plain_of(3_000_000)
+        source, sink = os.pipe()
+        os.set_blocking(sink, False)
+        found = []
+        with open(source, "rb") as under, open(sink, "wb", buffering=0) as out:
+            reader = threading.Thread(target=lambda: (time.sleep(0.1), found.append(under.read())))
+            reader.start()
+            with agefile.open(out, "wb", passphrase="pw", work=1) as file:
+                file.write(text)
+            out.close()
+            reader.join()
+        self.see("a pipe that takes no more at times", by_python(found[0], passphrase="pw") == ((0, None), text))
+        out = Halting(b"")
+        out.write = lambda piece: None
+        self.see("a sink that takes nothing", raised(BlockingIOError, agefile.open, out, "wb", passphrase="pw", work=1))
+
+    def test_closed(self):
+        """What io's classes refuse once they are closed."""
+        data = self.sealed(b"text")
+        for mode in ("rb", "rt", "wb", "wt"):
+            for any_place in (False, True) if mode[0] == "r" else (False,):
+                keys = {"file_key": KEY, "random_access": any_place} if mode[0] == "r" else {"passphrase": "pw", "work": 1}
+                file = agefile.open(io.BytesIO(data), mode, **keys)
+                files = [file, *([file.raw] if mode == "rb" else [file.buffer] if mode[1] == "t" else [])]
+                file.close()
+                file.close()
+                for it in files:
+                    names = ["tell", "flush", "read" if mode[0] == "r" else "writable", "readable" if mode[0] == "r" else "writable"]
+                    names += ["seekable"] if mode[0] == "r" else []
+                    for name in names:
+                        self.see(f"{name} of a closed {type(it).__name__}, {mode}", raised(ValueError, getattr(it, name)))
+        under = io.BytesIO(data)
+        with agefile.open(under, file_key=KEY) as file:
+            file.read()
+        self.see("a file object that was passed in is left open", not under.closed)
+
+    def test_keys_in_memory(self):
+        """What close() overwrites."""
+        text = plain_of(100_000)
+        data = self.sealed(text)
+        for any_place in (False, True):
+            file = agefile.open(io.BytesIO(data), file_key=KEY, random_access=any_place)
+            raw = file.raw
+            file.seek(70_000)
+            file.read(10)
+            held = [raw._stream, raw._begun, raw._text.held]
+            self.see("the key is held while the file is open", KEY in bytes(held[0]) and KEY in bytes(held[1]))
+            file.close()
+            self.see("the key is held after close", not any(any(bytes(it)) for it in held))
+        kept, os.urandom = os.urandom, lambda n: RANDOM[:n]
+        for left in (False, True):
+            file = agefile.open(io.BytesIO(), "wb", passphrase="pw", work=1)
+            file.write(text)
+            self.see("the key is held while it is written", KEY in bytes(file._stream) and text[-100:] in bytes(file._stream))
+            (file.abandon if left else file.close)()
+            self.see("the key is held after the end", not any(bytes(file._stream)))
+        os.urandom = kept
 
     def test_seeks(self):
         """A seek that fails leaves the file where it stood, though what is under it was read on."""
@@ -267,13 +425,46 @@ class PythonFilesTest(BindingsCase):
                     wanted = fault, text[:65_536] if fault == 17 else b"" if fault else text
                     name = f"a pipe that doesn't block, {what}, pieces of {size}, buffering {buffering}"
                     self.see(name, by_pieces(sent, size, buffering, word) == wanted)
-        under = Halting(data, 10)
-        with agefile.open(under, file_key=KEY) as file:
-            under.left, under.stops = 50, 5
-            self.see("reads that find nothing yet", [file.read(10) for _ in range(5)] == [None] * 5 and file.read() == text)
-        with agefile.open(Halting(data, stops=1), file_key=KEY) as file:
-            self.see("a header that comes late", not file.seekable() and file.read(5) == text[:5] and file.seekable() and file.seek(1) == 1)
+        for buffered in (True, False):
+            under = Halting(data, 10)
+            file = agefile.open(under, file_key=KEY)
+            file = file if buffered else file.detach()
+            under.left, under.stops = 50, 1
+            self.see("no bytes yet, and nothing to wait for", raised(BlockingIOError, file.read, 10) and raised(OSError, file.read, 10))
+            self.see("a seek after that", file.seek(0) == 0 and file.read() == text)
+        self.see("a header of which there are no bytes yet", raised(BlockingIOError, agefile.open, Halting(data, stops=1), file_key=KEY))
 
+    def test_slow_sources(self):
+        """Whatever reads from a source that doesn't block gets the whole text, or the fault at its end."""
+        text = b"".join(b"%d,line\n" % it for it in range(20_000))
+        data = self.sealed(text)
+        for what, read in WAYS.items():
+            for buffering in (0, -1):
+                with slow(data, 30_000, buffering) as under:
+                    self.see(f"{what} of a slow source, buffering {buffering}", read(agefile.open(under, file_key=KEY)) == text)
+            with slow(data[:-1], 60_000) as under:
+                self.see(f"{what} of a slow source that is cut", raised(agefile.Damaged, read, agefile.open(under, file_key=KEY)))
+
+    def test_failing_sources(self):
+        """After a source failed, or a read was interrupted, nothing is read until a seek: bytes may be lost."""
+        text = b"".join(b"%d,line\n" % it for it in range(20_000))
+        data = self.sealed(text)
+        for kind in (OSError, KeyboardInterrupt, InterruptedError, KeyError, None):
+            for what, read in WAYS.items():
+                for after in (0, 1, 3, 6):
+                    under = Halting(data)
+                    file = agefile.open(under, file_key=KEY)
+                    under.left, under.stops, under.stop = after, 1, kind and kind("once")
+                    found = [raised((kind or BlockingIOError, OSError), read, file)]
+                    found += [raised(OSError, call) for call in (lambda: file.read(1), file.readline, file.raw.read) if not file.closed]
+                    self.see(f"{what} of a source that fails once with {kind}", found and all(found), found)
+                    if not file.closed:
+                        self.see(f"{what} again, after a seek", file.seek(0) == 0 and read(file) == text)
+        under = Halting(data)
+        with agefile.open(under, file_key=KEY, random_access=True) as file:
+            under.left, under.stops, under.stop = 2, 1, OSError("once")
+            self.see("a failed read at any place", raised(OSError, file.read) and raised(OSError, file.read, 1))
+            self.see("a seek after that", file.seek(100_000) == 100_000 and file.read() == text[100_000:] and file.seek(0) == 0 and file.read() == text)
 
 class ThreadsTest(BindingsCase):
     """Several threads with one file. They change places as often as Python lets them."""

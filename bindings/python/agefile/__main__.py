@@ -5,12 +5,12 @@ import argparse
 import contextlib
 import getpass
 import os
-import shutil
 import sys
-from typing import Any
+from typing import Any, Iterator
 
 import agefile
 from agefile import _keys, _library
+from agefile._source import some
 
 
 def passphrase_of(words: argparse.Namespace, again: bool = False) -> str | bytes:
@@ -22,6 +22,12 @@ def passphrase_of(words: argparse.Namespace, again: bool = False) -> str | bytes
     if again and getpass.getpass("the same again: ") != given:
         raise ValueError("the passphrases differ")
     return given
+
+
+def pieces(file: Any) -> Iterator[bytes]:
+    """What a file has, up to its end."""
+    while piece := some(file, 1 << 20):
+        yield piece
 
 
 def source(name: str) -> Any:
@@ -41,7 +47,8 @@ def encrypt(words: argparse.Namespace) -> None:
     given = passphrase_of(words, again=True)
     with source(words.input) as file, sink(words.output, words.input) as under:
         with agefile.open(under, "wb", passphrase=given, work=words.log) as out:
-            shutil.copyfileobj(file, out, 1 << 20)
+            for piece in pieces(file):
+                out.write(piece)
         under.flush()
 
 
@@ -60,7 +67,9 @@ def test(words: argparse.Namespace) -> None:
 
 def shared(words: argparse.Namespace) -> None:
     with source(words.input) as file:
-        front = file.read(_library.FRONT_MAX)
+        front = b""
+        while piece := some(file, _library.FRONT_MAX - len(front)):
+            front += piece
     answer, pair = _keys.tried(identities_of(words.keys), front, _library.ReaderState())
     if answer != 0:
         raise _library.fault_of(answer)

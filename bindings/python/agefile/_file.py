@@ -2,12 +2,11 @@
 from __future__ import annotations
 
 import ctypes
-import errno
 import io
 from typing import Any
 
 from ._library import BLOCK, CHUNK, PLACED, C, fault_of
-from ._reader import AgeReader
+from ._reader import LOST, AgeReader
 
 
 class AgeFile(AgeReader):
@@ -19,7 +18,7 @@ class AgeFile(AgeReader):
         self._size = self._skip = 0
         super().__init__(file, *words, **more)
         if not self.seekable():
-            raise io.UnsupportedOperation("random_access needs a file that can be sought in, and that doesn't wait for its header")
+            raise io.UnsupportedOperation("random_access needs a file that can be sought in")
         self._measure()
 
     def _measure(self) -> None:
@@ -31,27 +30,24 @@ class AgeFile(AgeReader):
             raise fault_of(answer, max(0, payload) // BLOCK if answer in PLACED else None)
         self._size = size.value
         self._to_chunk(last.value)
-        while not self._ended:  # the end of a full chunk is a call of its own
-            if self._next() is None:
-                raise BlockingIOError(errno.EAGAIN, "the file has no more bytes yet")
+        while self._next():  # the end of a full chunk is a call of its own
+            pass
         self._go(0)
 
     def _to_chunk(self, chunk: int) -> None:
         """What is read next is that chunk."""
+        self._fault = OSError(LOST)
         answer = C.age_c_seek(self._state, chunk)
         if answer != 0:
             raise fault_of(answer)
-        self._before, self._skip = chunk * CHUNK, 0
-        self._at = self._len = self._stream.held = 0
-        self._have = None
-        self._rest.clear()
-        self._fault, self._ended = None, False
+        self._skip = 0
+        self._restart(chunk * CHUNK)
 
-    def _take(self, room: memoryview) -> int | None:
+    def _take(self, room: memoryview) -> int:
         self._file.seek(self._payload_at + self._before // CHUNK * BLOCK + self._stream.held)
         return super()._take(room)
 
-    def _next(self) -> bool | None:
+    def _next(self) -> bool:
         more = super()._next()
         if more:
             self._at, self._skip = min(self._skip, self._len), 0

@@ -56,6 +56,11 @@ def fault_of(number: int, place: int | None = None) -> AgeError:
     return _KINDS.get(number, AgeError)(number, place)
 
 
+def again(fault: Exception) -> Exception:
+    """The same once more. (One that was raised holds what its callers held.)"""
+    return type(fault)(*fault.args)
+
+
 class ReaderState(ctypes.Structure):
     """age_c_reader of age_c.h."""
     _fields_ = [
@@ -142,6 +147,12 @@ class Bytes:
     @property
     def given(self) -> tuple[Any, int]:
         return self.place, len(self.held)
+
+
+def wipe(*held: Any) -> None:
+    """Overwrites structures and arrays of C."""
+    for it in held:
+        ctypes.memset(ctypes.byref(it), 0, ctypes.sizeof(it))
 
 
 def raw(given: Any) -> bytes:
