@@ -64,6 +64,17 @@ class _Text(io.TextIOWrapper):
         else:
             self.close()
 
+    def __del__(self) -> None:
+        # what was never closed isn't finished: io.TextIOWrapper would close it
+        try:
+            under = self.buffer
+        except ValueError:  # it was detached, or never there
+            return
+        if isinstance(under, AgeWriter):
+            under.__del__()
+        else:
+            super().__del__()
+
 
 @overload
 def open(file: Path | BinaryIO | Any, mode: Literal["r", "rb"] = "rb", *, passphrase: str | bytes | None = None,

@@ -4,11 +4,14 @@ from __future__ import annotations
 import ctypes
 import io
 import os
+import select
+import warnings
 from types import TracebackType
 from typing import Any
 
 from ._calls import OneCall
-from ._library import BLOCK, CHUNK, SEAL_FRONT, Bytes, C, WriteStreamState, fault_of, secret
+from ._library import BLOCK, CHUNK, SEAL_FRONT, Bytes, C, WriteStreamState, fault_of, secret, wipe
+from ._source import wait
 
 Begun = tuple[WriteStreamState, memoryview]
 
@@ -18,6 +21,7 @@ def begun(passphrase: Any, work: int) -> Begun:
     stream, out, written = WriteStreamState(), Bytes(SEAL_FRONT), ctypes.c_size_t()
     held, random = Bytes(secret(passphrase)), Bytes(os.urandom(48))
     answer = C.age_c_seal_passphrase(*held.given, work, *random.given, *out.given, written, stream.writer)
+    wipe(held.place, random.place)
     if answer != 0:
         raise fault_of(answer)
     return stream, out.view[:written.value]
@@ -32,12 +36,16 @@ class AgeWriter(io.BufferedIOBase):
         self._stream, front = begun
         self._count, self._taken = 0, ctypes.c_size_t()
         self._out, self._written = Bytes(BLOCK), ctypes.c_size_t()
-        self._failed = self._over = False
+        self._failed = False
         self._write(front)
+        self._over = False
 
     def _write(self, out: memoryview) -> None:
         while out:
-            out = out[self._file.write(out) or 0:]
+            if (count := self._file.write(out)) is None:  # the file doesn't block, and took nothing
+                wait(self._file, select.POLLOUT)
+            else:
+                out = out[count:]
 
     def _change(self) -> None:
         """Begins what changes the file: until it is done, and if an exception ends it, the file can't be finished."""
@@ -51,15 +59,19 @@ class AgeWriter(io.BufferedIOBase):
             raise fault_of(answer)
         self._write(self._out.view[:self._written.value])
 
+    def _check_open(self) -> None:
+        if self.closed:
+            raise ValueError("the file is closed")
+
     def writable(self) -> bool:
+        self._check_open()
         return True
 
     def write(self, data: Any) -> int:
         return self._calls.make(self._add, memoryview(data).cast("B"))
 
     def _add(self, data: memoryview) -> int:
-        if self.closed:
-            raise ValueError("the file is closed")
+        self._check_open()
         self._change()
         self._count += len(data)
         left = data
@@ -71,15 +83,17 @@ class AgeWriter(io.BufferedIOBase):
         return len(data)
 
     def tell(self) -> int:
+        self._check_open()
         return self._count
 
     def flush(self) -> None:
         """Passes on what is sealed; a chunk that isn't full stays."""
+        self._check_open()
         if not self._over:
             self._calls.make(self._pass_on)
 
     def _pass_on(self) -> None:
-        if not getattr(self._file, "closed", False):
+        if hasattr(self._file, "flush") and not getattr(self._file, "closed", False):
             self._file.flush()
 
     def close(self) -> None:
@@ -102,6 +116,7 @@ class AgeWriter(io.BufferedIOBase):
     def _leave(self) -> None:
         if self.closed:
             return
+        wipe(self._stream)
         try:
             self._pass_on()
         finally:
@@ -118,5 +133,8 @@ class AgeWriter(io.BufferedIOBase):
 
     def __del__(self) -> None:
         # a writer that was never closed, so perhaps after an exception, isn't finished
-        if hasattr(self, "_owned"):
-            self.abandon()
+        if hasattr(self, "_over") and not self.closed:
+            try:
+                warnings.warn("an age file that was never closed isn't whole", ResourceWarning, source=self)
+            finally:
+                self.abandon()
