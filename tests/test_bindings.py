@@ -151,10 +151,7 @@ class FilesTest(ProgramsCase):
         whole = self.sealed(plain_of(131_072))
         for more in (b"\0", bytes(16), bytes(BLOCK)):
             self.see_same(whole + more, plain_of(131_072), f"{len(more)} bytes after a full last chunk")
-        self.see("a work factor of 0 isn't refused", by_python(data, passphrase="pw", max_work=0)[0] == (255, None))
-        self.see("an empty passphrase isn't refused", by_python(data, passphrase="")[0] == (255, None))
         self.see("another file key", by_python(data, file_key=b"8" * 16)[0] == (14, None))
-        self.see("a file key of 15 bytes", by_python(data, file_key=b"8" * 15)[0] == (255, None))
 
     def test_memory(self):
         """A longer file takes no more memory."""

@@ -4,6 +4,7 @@ import contextlib
 import io
 import os
 import pickle
+import pydoc
 import random
 import shutil
 import signal
@@ -110,8 +111,7 @@ class PythonTest(BindingsCase):
         self.see("a shared secret doesn't open its file", by_python(SHARED_EMPTY, **keys) == ((0, None), b""))
         for what, pair, number in (
             ("another secret", (SECRET[::-1], RECIPIENT), 13), ("another recipient", (SECRET, SECRET), 13),
-            ("a zero secret", (bytes(32), RECIPIENT), 15), ("a secret of 31 bytes", (SECRET[:31], RECIPIENT), 255),
-            ("a recipient of 33 bytes", (SECRET, RECIPIENT + b"0"), 255),
+            ("a zero secret", (bytes(32), RECIPIENT), 15),
         ):
             self.see(f"{what}: not {number}", by_python(SHARED_EMPTY, shared=pair)[0] == (number, None))
         self.see("a passphrase for a file of a recipient: not 12", by_python(SHARED_EMPTY, passphrase="pw")[0] == (12, None))
@@ -129,8 +129,63 @@ class PythonTest(BindingsCase):
         for mode in ("rb", "wb"):
             self.see(f"no key, {mode}", raised(ValueError, agefile.open, none, mode))
             self.see(f"a number for a passphrase, {mode}", raised(TypeError, agefile.open, io.BytesIO(), mode, passphrase=4))
-        self.see("a number for a key", raised(TypeError, agefile.open, io.BytesIO(), file_key=16))
         self.see("a file is made before the arguments are looked at", not none.exists())
+
+    def test_ranges(self):
+        """What is refused says what is allowed. The file stays as it is."""
+        path = self.path("kept")
+        path.write_bytes(b"kept")
+        key = (AGE / "key.txt").read_text().split()[-1]
+        for kind, allowed, words in (
+            (ValueError, "1 to 65,536 bytes, not 0", {"passphrase": ""}), (ValueError, "not 65,537", {"passphrase": b"a" * 65_537}),
+            (TypeError, "str or bytes, not int", {"passphrase": 4}), (TypeError, "bytes, not int", {"file_key": 16}),
+            (TypeError, "bytes, not str", {"file_key": "0" * 16}), (ValueError, "16 bytes, not 15", {"file_key": bytes(15)}),
+            (ValueError, "16 bytes, not 17", {"file_key": bytes(17)}), (TypeError, "a pair", {"shared": bytes(64)}),
+            (TypeError, "a pair", {"shared": (SECRET,)}), (ValueError, "32 bytes, not 31", {"shared": (SECRET[:31], RECIPIENT)}),
+            (ValueError, "32 bytes, not 33", {"shared": (SECRET, RECIPIENT + b"0")}), (TypeError, "bytes, not str", {"shared": ("a" * 32, RECIPIENT)}),
+            (TypeError, "a str, several", {"identity": key.encode()}), (TypeError, "a str, several", {"identity": 5}),
+            (TypeError, "not PosixPath", {"identity": AGE / "key.txt"}), (TypeError, "a str, not bytes", {"identity": [key.encode()]}),
+            (ValueError, "AGE-SECRET-KEY-1", {"identity": []}), (ValueError, "AGE-SECRET-KEY-1", {"identity": "# a comment\n\n"}),
+            (ValueError, "AGE-SECRET-KEY-1", {"identity": str(AGE / "key.txt")}),
+        ):
+            for mode in ("rb", "rt", "wb", "xb", "wt") if "passphrase" in words else ("rb", "rt"):
+                for file in (path, self.path("none"), io.BytesIO()):
+                    fault = fault_of(agefile.open, file, mode, **words)
+                    self.see(f"{words}, {mode}", type(fault) is kind and allowed in str(fault), repr(fault))
+        for name in ("work", "max_work"):
+            for kind, given in (
+                (ValueError, 0), (ValueError, 23), (ValueError, -1), (ValueError, 2**32 + 1), (ValueError, 2**64 + 18), (TypeError, "18"),
+                (TypeError, 18.0), (TypeError, None),
+            ):
+                for mode in ("rb", "wb"):
+                    fault = fault_of(agefile.open, path, mode, passphrase="pw", **{name: given})
+                    self.see(f"{name} {given!r}, {mode}", type(fault) is kind and "from 1 to 22" in str(fault) and name in str(fault), repr(fault))
+        for mode in ("rb", "wb"):
+            for file in (5, None, object(), io.StringIO()):
+                fault = fault_of(agefile.open, file, mode, passphrase="pw", work=1)
+                self.see(f"{file!r} for a file, {mode}", type(fault) is TypeError and "binary" in str(fault), repr(fault))
+        self.see("a mode", "rb, wb" in str(fault_of(agefile.open, path, "r+b", passphrase="pw")))
+        self.see("a refused call changes the file", path.read_bytes() == b"kept" and not self.path("none").exists())
+        data = self.sealed(b"text")
+        self.see("the greatest work factor", agefile.open(io.BytesIO(data), passphrase="pw", max_work=22, work=22).read() == b"text")
+
+    def test_refused_memory(self):
+        """What can't be allocated is an AgeError and a MemoryError."""
+        script = "import agefile, io, resource\nresource.setrlimit(resource.RLIMIT_AS, (1 << 30, 1 << 30))\n" \
+            "try: agefile.open(io.BytesIO(), 'wb', passphrase='pw', work=22)\n" \
+            "except MemoryError as fault: print(isinstance(fault, agefile.AgeError), fault.number, fault)"
+        run = subprocess.run([sys.executable, "-B", "-c", script], env={**os.environ, "PYTHONPATH": str(PYTHON)}, capture_output=True, text=True)
+        self.see("refused memory", run.stdout == "True 28 there isn't enough memory for the work factor (28 Memory)\n", run.stdout, run.stderr)
+
+    def test_names(self):
+        """The version, and the names that a user sees."""
+        told = self.tool("--version", check=True).stdout.decode().split()[1]
+        run = self.command("--version")
+        self.see("the version", agefile.__version__ == told and run.stdout == f"agefile {told}\n".encode(), agefile.__version__, run.stdout)
+        for name in agefile.__all__:
+            self.see(f"{name} is of another module", getattr(agefile, name).__module__ == "agefile")
+        text = pydoc.plain(pydoc.render_doc(agefile.open))
+        self.see("help", "Any" not in text and "passphrase: 'str | bytes | None'" in text, text)
 
     @needs("mypy")
     def test_types(self):
@@ -169,13 +224,22 @@ class PythonTest(BindingsCase):
             ("a changed byte", flipped, {"file_key": KEY}, agefile.Damaged, 17),
             ("bytes after the end", self.sealed(bytes(CHUNK)) + b"0", {"file_key": KEY}, agefile.Damaged, 21),
             ("a changed header", data.replace(b"\n-> scrypt", b"\n-> scrYpt"), {"passphrase": "pw"}, other, 12),
-            ("no age file", b"x\n", {"passphrase": "pw"}, agefile.AgeError, 1), ("no passphrase", data, {"passphrase": ""}, agefile.AgeError, 255),
+            ("no age file", b"x\n", {"passphrase": "pw"}, agefile.AgeError, 1),
         ):
             fault = fault_of(lambda: agefile.open(io.BytesIO(given), **keys).read())
             self.see(what, type(fault) is kind and fault.number == number, fault)
         fault = pickle.loads(pickle.dumps(agefile._library.fault_of(17, 3)))
-        self.see("a pickled fault", (type(fault), str(fault)) == (agefile.Damaged, "17 ChunkDamaged chunk 3"), fault)
+        self.see("a pickled fault", (type(fault), fault.args) == (agefile.Damaged, (17, 3)), fault)
         self.see("a fault is an OSError", not issubclass(agefile.AgeError, OSError))
+        for fault, told in (
+            (agefile.WrongKey(13), "the passphrase or key doesn't open the file (13 WrongKey)"), (agefile.Truncated(20, 2), "the file was cut (20 Truncated chunk 2)"),
+        ):
+            self.see(f"what is said of a fault: {fault}", str(fault) == told)
+        # (those of docs/FAULTS.md that the library returns)
+        for number in (*range(1, 23), 28, 254, 255):
+            fault = agefile.AgeError(number)
+            meaning, _, rest = str(fault).partition(" (")
+            self.see(f"what is said of fault {number}: {fault}", "readable" not in meaning and rest == f"{number} {fault.name})" and fault.name != "Unknown")
 
     def test_early_answers(self):
         """A header that is there is answered, though its sender sends nothing more and doesn't close."""
@@ -229,7 +293,14 @@ class PythonTest(BindingsCase):
         data = self.path("made.age").read_bytes()
         self.see("-m agefile encrypt: age_tool doesn't read it", self.judged(data) == ((0, None), text))
         run = self.command("decrypt", "--pass", "pw", "-", "-", given=data[:-1])
-        self.see("-m agefile", (run.returncode, run.stdout, run.stderr) == (1, text[:2 * CHUNK], b"agefile: 17 ChunkDamaged chunk 2\n"), run.stderr)
+        self.see("-m agefile", (run.returncode, run.stdout, run.stderr) == (1, text[:2 * CHUNK], f"agefile: {agefile.Damaged(17, 2)}\n".encode()), run.stderr)
+        for words in (("decrypt", "made.age", "-"), ("decrypt", "-", "-"), ("test", "-"), ("encrypt", "plain", "none.age")):
+            for given in (b"", data, b"pw\npw\n"):
+                run = self.command(*words, input=given, start_new_session=True)
+                line = run.stderr.decode()
+                is_said = line.startswith("agefile: no passphrase") and "--pass" in line and line.count("\n") == 1
+                self.see(f"-m agefile {words} without a terminal", run.returncode == 1 and run.stdout == b"" and is_said, line)
+        self.see("-m agefile encrypt without a passphrase made a file", not self.path("none.age").exists())
 
     def command(self, *words, given=None, **more):
         env = {**os.environ, "PYTHONPATH": str(PYTHON)}
@@ -288,7 +359,8 @@ class PythonTest(BindingsCase):
             ("one.age", key, b"hello, recipient\n"), ("one.age", [*other, *key], b"hello, recipient\n"), ("two.age", key, b"hello, both\n"),
             ("two.age", other, b"hello, both\n"), ("other.age", other, b"hello, other\n"), ("one.age", other, 13), ("passphrase.age", key, 12),
         ):
-            for given in (keys, iter(keys), keys[0]) if len(keys) == 1 else (keys,):
+            of_file = "# of age-keygen\n\n" + "\r\n".join(keys) + "\n"
+            for given in (keys, iter(keys), of_file, io.StringIO(of_file), [of_file, *keys], *(keys if len(keys) == 1 else [])):
                 fault = got = None
                 try:
                     with agefile.open(AGE / name, identity=given) as file:
@@ -307,6 +379,9 @@ class PythonTest(BindingsCase):
                 self.see("age_tool --shared", run.returncode == 0 and self.path("by-shared").read_bytes() == want, run.stderr)
         with agefile.open(AGE / "passphrase.age", passphrase="correct horse") as file:
             self.see("a file of age for a passphrase", file.read() == b"hello, passphrase\n")
+        with open(AGE / "key.txt", encoding="ascii") as file:
+            self.see("an open key file", agefile.open(AGE / "one.age", identity=file).read() == b"hello, recipient\n")
+        self.see("the keys in a file", agefile.identities_in((AGE / "key.txt").read_text()) == key and len(key) == 1)
         bad = ("age1xyz", public, key[0][:-1], "", key[0].lower().replace("1", "I"))
         for it in bad:
             self.see(f"a bad key: {it}", isinstance(fault_of(agefile.open, AGE / "one.age", identity=it), ValueError))

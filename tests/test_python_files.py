@@ -222,11 +222,8 @@ class PythonFilesTest(BindingsCase):
             pass
         self.see("a writer that an exception left is whole", self.judged(path.read_bytes())[0] == (20, 3))
         kept = path.read_bytes()
-        try:
-            agefile.open(path, "wb", passphrase="", work=1)
-            self.see("an empty passphrase encrypts", False)
-        except agefile.AgeError as fault:
-            self.see("a bad passphrase changes the file", fault.number == 255 and path.read_bytes() == kept)
+        self.see("an empty passphrase encrypts", raised(ValueError, agefile.open, path, "wb", passphrase="", work=1))
+        self.see("a bad passphrase changes the file", path.read_bytes() == kept)
         with agefile.open(path, "wt", passphrase="pw", work=1, encoding="utf-8") as file:
             file.write("zwei\nZeilen ü\n")
         with agefile.open(path, "rt", passphrase="pw", encoding="utf-8") as file:
@@ -276,8 +273,8 @@ class PythonFilesTest(BindingsCase):
         self.see("a file with a block that is missing is written on", raised(ValueError, file.write, text))
         self.see("a file with a block that is missing is closed as if it were whole", raised(ValueError, file.close) and file.closed)
         fault = pickle.loads(pickle.dumps(agefile.AgeError(17, 3)))
-        parts = fault.number, fault.name, fault.place, str(fault)
-        self.see("a fault that is pickled", parts == (17, "ChunkDamaged", 3, "17 ChunkDamaged chunk 3"), parts)
+        parts = fault.number, fault.name, fault.place, str(fault).partition(" (")[2]
+        self.see("a fault that is pickled", parts == (17, "ChunkDamaged", 3, "17 ChunkDamaged chunk 3)"), parts)
         self.see("bytes with an encoding", raised(ValueError, lambda: agefile.open(io.BytesIO(data), "rb", file_key=KEY, encoding="utf-8")))
 
     def test_forgotten_writers(self):

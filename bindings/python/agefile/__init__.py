@@ -1,4 +1,4 @@
-"""Reads and writes age files (https://c2sp.org/age) by proved code, in the manner of gzip:
+"""Reads and writes age files (https://c2sp.org/age) with formally verified code; the interface follows gzip's:
 
     import agefile, tarfile
     with agefile.open("backup.tar.age", "rb", passphrase="correct horse") as file:
@@ -12,17 +12,21 @@ It needs libage_c.so, made by `bindings/build`: the file that the environment va
 names, else the one beside this package, of its release or of its checkout, else one that the loader
 finds. `python3 -m agefile` encrypts, decrypts and tests files.
 
-Reading: no byte of a block is returned before the block was checked, and the end of the file (b"")
-only once it was checked that nothing is missing. What is wrong raises AgeError, mostly one of its
-kinds: WrongKey, Truncated (the file was cut) or Damaged. So a loop that reads to the end without an
-exception has seen the whole text; one that stops earlier may have seen the beginning of a file that
-was cut. A file that can't seek can be read, but not sought in; in one
-that can, seek() reads on to the place, from the beginning if it lies before. If the source doesn't
-block and has no more bytes yet, read() returns None, or what there is, as io.RawIOBase does: b""
-alone means the end. seek() raises BlockingIOError then. After a seek that failed the file stands
-where it stood.
+Reading: no byte is returned before its chunk (65,536 bytes of text) has been authenticated, and the
+end of the file (b"") is reported only after the last chunk has been. So a loop that reads to the
+end without an exception has seen the whole text; one that stops earlier may have seen the beginning
+of a file that was cut. What is wrong with a file raises AgeError, mostly one of its kinds:
+WrongKey, Damaged and Truncated. Most files that were cut are Damaged: they end within a chunk. A
+read that fails returns nothing: what comes before a damaged chunk is returned by reads of at most a
+chunk, such as read1(), but not by a larger read() that runs into it.
 
-With random_access=True a seek takes the same time wherever it goes, and reads nothing:
+A read waits for bytes, even if the source doesn't block. BlockingIOError says that there is nothing
+to wait for: the source returned None, and has no fileno(). After any exception but a fault of the
+file, bytes may be lost. So each read raises OSError then, until a seek() to a place that you know.
+
+A file that can't seek can be read, but not sought in; in one that can, seek() reads on to the
+place, from the beginning if it lies before. After a seek that failed the file stands where it
+stood. With random_access=True a seek takes the same time wherever it goes, and reads nothing:
 
     with agefile.open("photos.zip.age", passphrase="correct horse", random_access=True) as file:
         zipfile.ZipFile(file).extract("photos/1.jpg")
@@ -31,11 +35,15 @@ The last chunk is opened first, so that the length is checked, and each byte tha
 then; what is passed over isn't. The file has to be one that can be sought in.
 
 Writing: the file is whole once close() returned. A `with` block that is left by an exception
-abandons it: it then ends in a way that every reader reports. A write that an exception interrupts
-makes the file one that can't be finished.
+abandons it: it then ends in a way that every reader reports. So does one that is never closed. But
+contextlib.closing, and an io.TextIOWrapper or io.BufferedWriter of your own over a writer, close it
+even after an exception: what was written until then is a whole file. A write that an exception
+interrupts makes the file one that can't be finished.
 
-Threads may share a file, as with open(): calls wait for each other, and a write is never mixed with
-another one. Text ("rt", "wt") is for one thread at a time, as io.TextIOWrapper is.
+A file object that you pass in is left open. Threads may share a file; calls are serialized. Text
+("rt", "wt") is for one thread at a time, as io.TextIOWrapper is. close() overwrites the key and the
+text that this module holds. That is best effort: copies that Python made, of a passphrase for
+instance, stay in memory.
 """
 from __future__ import annotations
 
@@ -43,16 +51,36 @@ import builtins
 import io
 import os
 from types import TracebackType
-from typing import Any, BinaryIO, Iterable, Literal, Union, overload
+from typing import Any, Iterable, Literal, Protocol, Union, overload
 
+from ._arguments import see_one, work_factor
 from ._file import AgeFile
-from ._library import CHUNK, AgeError, Damaged, Truncated, WrongKey
-from ._reader import AgeReader, see_one
+from ._keys import identities_in, identities_of
+from ._library import CHUNK, VERSION, AgeError, Damaged, OutOfMemory, Truncated, WrongKey
+from ._reader import AgeReader, opening_of
 from ._writer import AgeWriter, begun
 
-__all__ = ["open", "AgeError", "WrongKey", "Truncated", "Damaged", "AgeReader", "AgeFile", "AgeWriter"]
+__all__ = ["open", "identities_in", "AgeError", "WrongKey", "Truncated", "Damaged", "OutOfMemory", "AgeReader", "AgeFile", "AgeWriter"]
+__version__ = f"{VERSION // 10_000}.{VERSION // 100 % 100}.{VERSION % 100}"
+
+for _it in (identities_in, AgeError, WrongKey, Truncated, Damaged, OutOfMemory, AgeReader, AgeFile, AgeWriter):
+    _it.__module__ = __name__
 
 Path = Union[str, bytes, "os.PathLike[str]", "os.PathLike[bytes]"]
+
+
+class Source(Protocol):
+    """A binary file object that is read."""
+
+    def read(self, size: int, /) -> bytes | None:
+        ...
+
+
+class Sink(Protocol):
+    """A binary file object that is written to."""
+
+    def write(self, data: memoryview, /) -> int | None:
+        ...
 
 
 class _Text(io.TextIOWrapper):
@@ -76,47 +104,74 @@ class _Text(io.TextIOWrapper):
             super().__del__()
 
 
+def _opened(file: Any, mode: str) -> tuple[Any, bool]:
+    """The file object, and whether it was opened here."""
+    if isinstance(file, (str, bytes, os.PathLike)):
+        return builtins.open(file, mode + "b", buffering=0 if mode == "r" else -1), True
+    if isinstance(file, io.TextIOBase):
+        raise TypeError("a file that is open as text: open it in binary mode")
+    if not hasattr(file, "read" if mode == "r" else "write"):
+        raise TypeError(f"file is a path or a binary file object, not {type(file).__name__}")
+    return file, False
+
+
 @overload
-def open(file: Path | BinaryIO | Any, mode: Literal["r", "rb"] = "rb", *, passphrase: str | bytes | None = None,
-         file_key: bytes | None = None, shared: tuple[bytes, bytes] | None = None, identity: str | Iterable[str] | None = None,
-         max_work: int = 22, random_access: bool = False) -> io.BufferedReader:
+def open(file: Path | Source, mode: Literal["r", "rb"] = "rb", *, passphrase: str | bytes | None = None, file_key: bytes | None = None,
+         shared: tuple[bytes, bytes] | None = None, identity: str | Iterable[str] | None = None, max_work: int = 22,
+         random_access: bool = False) -> io.BufferedReader:
     ...
 
 
 @overload
-def open(file: Path | BinaryIO | Any, mode: Literal["w", "x", "wb", "xb"], *, passphrase: str | bytes, work: int = 18) -> AgeWriter:
+def open(file: Path | Sink, mode: Literal["w", "x", "wb", "xb"], *, passphrase: str | bytes, work: int = 18) -> AgeWriter:
     ...
 
 
 @overload
-def open(file: Path | BinaryIO | Any, mode: Literal["rt", "wt", "xt"], *, passphrase: str | bytes | None = None,
-         file_key: bytes | None = None, shared: tuple[bytes, bytes] | None = None, identity: str | Iterable[str] | None = None,
-         work: int = 18, max_work: int = 22, random_access: bool = False, encoding: str | None = None, errors: str | None = None,
+def open(file: Path | Source, mode: Literal["rt"], *, passphrase: str | bytes | None = None, file_key: bytes | None = None,
+         shared: tuple[bytes, bytes] | None = None, identity: str | Iterable[str] | None = None, max_work: int = 22,
+         random_access: bool = False, encoding: str | None = None, errors: str | None = None,
          newline: str | None = None) -> io.TextIOWrapper:
     ...
 
 
-def open(file: Any, mode: str = "rb", *, passphrase: Any = None, file_key: Any = None, shared: Any = None, identity: Any = None,
-         work: int = 18, max_work: int = 22, random_access: bool = False, encoding: str | None = None, errors: str | None = None,
-         newline: str | None = None) -> Any:
+@overload
+def open(file: Path | Sink, mode: Literal["wt", "xt"], *, passphrase: str | bytes, work: int = 18, encoding: str | None = None,
+         errors: str | None = None, newline: str | None = None) -> io.TextIOWrapper:
+    ...
+
+
+def open(file: Path | Source | Sink, mode: str = "rb", *, passphrase: str | bytes | None = None, file_key: bytes | None = None,
+         shared: tuple[bytes, bytes] | None = None, identity: str | Iterable[str] | None = None, work: int = 18, max_work: int = 22,
+         random_access: bool = False, encoding: str | None = None, errors: str | None = None,
+         newline: str | None = None) -> io.BufferedReader | AgeWriter | io.TextIOWrapper:
     """Opens an age file, which is a path or a binary file object: "rb" to read it, "wb" (or "xb", which refuses a file that is there)
-    to write it under a passphrase; "rt", "wt" and "xt" the same as text. It is read by a passphrase, by a file_key of 16 bytes, by
-    shared, a pair of an X25519 shared secret and the recipient that it was computed for, or by identity, one key of age-keygen
-    ("AGE-SECRET-KEY-1..") or several. Work factors above max_work are refused: an untrusted file may demand 2^22 KiB of memory. With
-    random_access a seek takes the same time wherever it goes. A file object isn't closed."""
+    to write it under a passphrase; "rt", "wt" and "xt" the same as text. A file object is left open.
+
+    It is read by one of these keys: a passphrase (a str is encoded as UTF-8); a file_key of 16 bytes; shared, a pair of an X25519
+    shared secret and the recipient that it was computed for, of 32 bytes each; or identity: a key of age-keygen ("AGE-SECRET-KEY-1.."),
+    several, the text of a key file, or one that is open as text.
+
+    work is the work factor of a file that is written, from 1 to 22: its key takes 2^work KiB of memory. Work factors above max_work are
+    refused: an untrusted file may demand 4 GiB. With random_access a seek takes the same time wherever it goes.
+
+    An argument that isn't allowed is a TypeError or a ValueError, and what is wrong with the file an AgeError."""
     if mode not in ("r", "w", "x", "rb", "wb", "xb", "rt", "wt", "xt"):
-        raise ValueError(f"bad mode {mode!r}")
+        raise ValueError(f"mode is rb, wb, xb, rt, wt or xt, not {mode!r}")
     if not mode.endswith("t") and (encoding, errors, newline) != (None, None, None):
         raise ValueError("encoding, errors and newline are for text alone")
     if mode[0] != "r" and passphrase is None:
-        raise ValueError("a passphrase is needed")
+        raise ValueError("a file is written under a passphrase")
     if mode[0] != "r" and random_access:
         raise ValueError("random_access is for reading alone")
     see_one(passphrase, file_key, shared, identity)
+    work_factor("work", work)
+    if identity is not None:
+        identity = identities_of(identity)
+    opening_of(passphrase, file_key, shared, identity, max_work)
     # what can't be begun leaves the file as it is
-    beginning = None if mode[0] == "r" else begun(passphrase, work)
-    owned = isinstance(file, (str, bytes, os.PathLike))
-    under = builtins.open(file, mode[0] + "b", buffering=0 if beginning is None else -1) if owned else file
+    beginning = begun(passphrase, work) if mode[0] != "r" else None
+    under, owned = _opened(file, mode[0])
     made: Any
     try:
         if beginning is None:
@@ -124,8 +179,8 @@ def open(file: Any, mode: str = "rb", *, passphrase: Any = None, file_key: Any =
             made = io.BufferedReader(kind(under, passphrase, file_key, shared, max_work, owned, identity), CHUNK)
         else:
             made = AgeWriter(under, beginning, owned)
+        return _Text(made, encoding, errors, newline) if mode.endswith("t") else made
     except BaseException:
         if owned:
             under.close()
         raise
-    return _Text(made, encoding, errors, newline) if mode.endswith("t") else made

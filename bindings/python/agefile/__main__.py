@@ -6,6 +6,7 @@ import contextlib
 import getpass
 import os
 import sys
+import warnings
 from typing import Any, Iterator
 
 import agefile
@@ -18,10 +19,20 @@ def passphrase_of(words: argparse.Namespace, again: bool = False) -> str | bytes
     if words.passphrase is not None:
         with open(words.passphrase, "rb") as file:
             return file.read().removesuffix(b"\n")
-    given = getpass.getpass("passphrase: ")
-    if again and getpass.getpass("the same again: ") != given:
+    given = asked("passphrase: ")
+    if again and asked("the same again: ") != given:
         raise ValueError("the passphrases differ")
     return given
+
+
+def asked(what: str) -> str:
+    """What is typed at the terminal. Without one, getpass would warn, and take a line of standard input for it."""
+    try:
+        with warnings.catch_warnings():
+            warnings.simplefilter("error", getpass.GetPassWarning)
+            return getpass.getpass(what)
+    except (EOFError, getpass.GetPassWarning):
+        raise ValueError("no passphrase was typed: name its file by --pass, or run at a terminal") from None
 
 
 def pieces(file: Any) -> Iterator[bytes]:
@@ -79,7 +90,7 @@ def shared(words: argparse.Namespace) -> None:
 
 def identities_of(name: str) -> list[str]:
     with open(name, encoding="ascii") as file:
-        return _keys.identities_in(file.read())
+        return _keys.identities_of(file)
 
 
 def opened(file: Any, words: argparse.Namespace) -> Any:
@@ -91,6 +102,7 @@ def opened(file: Any, words: argparse.Namespace) -> Any:
 def words_of() -> argparse.Namespace:
     top = argparse.ArgumentParser("python3 -m agefile", description="Encrypts, decrypts and tests age files. Only status 0 means that OUT "
                                   "is whole: after a fault it holds a checked beginning. - is standard input or output.")
+    top.add_argument("--version", action="version", version=f"agefile {agefile.__version__}")
     commands = top.add_subparsers(required=True, metavar="COMMAND")
     for call, what in ((encrypt, "encrypt IN to OUT under a passphrase"), (decrypt, "decrypt IN to OUT"), (test, "decrypt IN to nowhere")):
         command = commands.add_parser(call.__name__, help=what, description=what)

@@ -6,7 +6,8 @@ import base64
 import os
 import re
 import subprocess
-from typing import Iterable, Iterator, Tuple
+from collections.abc import Iterable, Iterator
+from typing import Tuple
 
 from ._library import Bytes, C, Opened, ReaderState
 
@@ -55,16 +56,34 @@ def _joined(values: list[int]) -> bytes:
 
 def secret_of(identity: str) -> bytes:
     """The 32 bytes of a key that begins with AGE-SECRET-KEY-1."""
-    prefix, secret = bech32_decoded(identity.strip())
-    if prefix != "age-secret-key-" or len(secret) != 32:
+    if not identity.upper().startswith("AGE-SECRET-KEY-1"):
         raise ValueError("not a key of age-keygen, which begins with AGE-SECRET-KEY-1")
+    prefix, secret = bech32_decoded(identity)
+    if prefix != "age-secret-key-" or len(secret) != 32:
+        raise ValueError("not a key of age-keygen: it has another length")
     return secret
 
 
 def identities_in(text: str) -> list[str]:
-    """The keys in a file of age-keygen: one to a line, among empty lines and comments."""
+    """The keys in the text of a file of age-keygen: one to a line, among empty lines and comments."""
     lines = [it.strip() for it in text.splitlines()]
     return [it for it in lines if it and not it.startswith("#")]
+
+
+def identities_of(given: str | Iterable[str]) -> list[str]:
+    """The keys that are given: a key, the text of a file of them, the lines of such a file that is open, or several of these."""
+    if isinstance(given, (bytes, bytearray, memoryview)) or not isinstance(given, Iterable):
+        raise TypeError(f"identity is a str, several, or a key file that is open as text, not {type(given).__name__}")
+    found: list[str] = []
+    for it in [given] if isinstance(given, str) else given:
+        if not isinstance(it, str):
+            raise TypeError(f"an identity is a str, not {type(it).__name__}")
+        found += identities_in(it)
+    if not found:
+        raise ValueError("identity has no key: one begins with AGE-SECRET-KEY-1")
+    for it in found:
+        secret_of(it)
+    return found
 
 
 def x25519(secret: bytes, point: bytes) -> bytes:
@@ -114,9 +133,6 @@ def _pairs(identities: Iterable[str], front: bytes) -> Iterator[Pair]:
 
 def opening(identities: list[str]) -> Opened:
     """The call that opens the bytes that a file begins with, by the keys of age-keygen."""
-    for it in identities:
-        secret_of(it)  # so that a bad key is refused before the file is read
-
     def opened(front: bytes, state: ReaderState) -> int:
         return tried(identities, front, state)[0]
 

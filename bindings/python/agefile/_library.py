@@ -6,6 +6,7 @@ import os
 import pathlib
 from typing import Any, Callable, Iterable
 
+VERSION = 1_01_00  # major, minor and patch, as AGE_C_VERSION
 CHUNK = 65_536
 BLOCK = 65_552
 FRONT_MAX = 1_048_592
@@ -16,11 +17,10 @@ PLACED = (17, 18, 19, 20, 22)  # the faults that have a chunk
 
 
 class AgeError(Exception):
-    """A fault: `number` and `name` as docs/FAULTS.md lists them, and `place`, the number of the chunk, if it has one. 254 says that the
-    file ends in its header or in the 16 bytes after it, 255 that an argument is out of range, such as an empty passphrase, or that a
-    read was interrupted.
+    """What is wrong with a file: its `number` and `name` in docs/FAULTS.md, and `place`, the number of the chunk, if it has one. 254
+    says that the file ends in its header or in the 16 bytes after it.
 
-    It is no OSError, so that what takes an OSError for an answer (zipfile.is_zipfile does) doesn't take damage for one."""
+    It isn't an OSError, so that code that treats an OSError as "no" (zipfile.is_zipfile) can't mistake damage for it."""
 
     def __init__(self, number: int, place: int | None = None) -> None:
         super().__init__(number, place)
@@ -29,7 +29,8 @@ class AgeError(Exception):
         self.place = place
 
     def __str__(self) -> str:
-        return f"{self.number} {self.name}" + ("" if self.place is None else f" chunk {self.place}")
+        chunk = "" if self.place is None else f" chunk {self.place}"
+        return f"{_MEANINGS.get(self.number, 'the file is not readable')} ({self.number} {self.name}{chunk})"
 
 
 class WrongKey(AgeError):
@@ -37,17 +38,35 @@ class WrongKey(AgeError):
 
 
 class Truncated(AgeError):
-    """The file ends too early: in its header (254), before a chunk (20), or in the first bytes of one (18). One that ends later in a
-    chunk can't be told from a damaged one: that is Damaged."""
+    """The file ends too early: in its header (254), before a chunk (20), or in the first bytes of one (18). Most files that were cut end
+    later in a chunk. That can't be told from damage: it is Damaged."""
 
 
 class Damaged(AgeError):
-    """The file isn't as its writer left it, or no age program writes such a file."""
+    """The file was cut in a chunk, or isn't as its writer left it, or no age program writes such a file."""
+
+
+class OutOfMemory(AgeError, MemoryError):
+    """There isn't enough memory for the work factor (28): N takes 2^N KiB."""
 
 
 _KINDS: dict[int, type[AgeError]] = {
     **dict.fromkeys((12, 13), WrongKey), **dict.fromkeys((8, 16, 18, 20, MORE), Truncated),
-    **dict.fromkeys((3, 4, 5, 6, 7, 9, 10, 14, 15, 17, 19, 21, 22), Damaged),
+    **dict.fromkeys((3, 4, 5, 6, 7, 9, 10, 14, 15, 17, 19, 21, 22), Damaged), 28: OutOfMemory,
+}
+
+_MEANINGS = {
+    1: "the file doesn't begin as an age file does", 2: "the file is armored: remove the armor first",
+    3: "the header is damaged: a line should begin a stanza", 4: "the header is damaged: the body of a stanza isn't base64",
+    5: "the header is damaged: its last line is malformed", 6: "the header is damaged: it has no stanza",
+    7: "the header is too long: this may not be an age file", 9: "the header was altered or forged: a passphrase stanza isn't alone",
+    10: "the header was altered or forged: the passphrase stanza is malformed", 11: "the work factor is above max_work",
+    12: "the file isn't for this kind of key", 13: "the passphrase or key doesn't open the file",
+    14: "the header was altered, or the file key is another file's", 15: "an X25519 stanza is malformed, or the shared secret is zero",
+    17: "the file is damaged here, or was cut, or something was appended", 19: "the file was altered or forged: its last chunk is empty",
+    **dict.fromkeys((8, 16, MORE), "the file ends in its header or right after it"), **dict.fromkeys((18, 20), "the file was cut"),
+    21: "something was appended to the file", 22: "the file has too many chunks", 28: "there isn't enough memory for the work factor",
+    MISUSED: "a call of the library was misused",
 }
 
 
@@ -128,8 +147,8 @@ def _library() -> ctypes.CDLL:
         getattr(library, function).argtypes = arguments
         getattr(library, function).restype = number
     library.age_c_fault_name.argtypes, library.age_c_fault_name.restype = [number], ctypes.c_char_p
-    if library.age_c_version() != 10100:
-        raise ImportError(f"{name}: version {library.age_c_version()}, not 10100")
+    if library.age_c_version() != VERSION:
+        raise ImportError(f"{name}: version {library.age_c_version()}, not {VERSION}")
     return library
 
 
@@ -153,15 +172,6 @@ def wipe(*held: Any) -> None:
     """Overwrites structures and arrays of C."""
     for it in held:
         ctypes.memset(ctypes.byref(it), 0, ctypes.sizeof(it))
-
-
-def raw(given: Any) -> bytes:
-    """Its bytes. (A number has none, though bytes() would make zeros of it.)"""
-    return bytes(memoryview(given))
-
-
-def secret(text: Any) -> bytes:
-    return text.encode() if isinstance(text, str) else raw(text)
 
 
 Opened = Callable[[Any, ReaderState], int]

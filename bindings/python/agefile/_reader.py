@@ -7,31 +7,24 @@ import operator
 from typing import Any
 
 from . import _keys
+from ._arguments import KEY, key, pair, secret, see_one, work_factor
 from ._calls import OneCall
 from ._library import BLOCK, CHUNK, FRONT_MAX, MORE, PLACED, Bytes, C, Opened, ReaderState, StreamState, WrongKey, again, fault_of, \
-    opening, raw, secret, wipe
+    opening, wipe
 from ._source import some, some_into
 
 
-def see_one(*keys: Any) -> None:
-    given = sum(it is not None for it in keys)
-    if given == 0:
-        raise ValueError("a passphrase, a file_key, shared (secret, recipient) or an identity is needed")
-    if given > 1:
-        raise TypeError("give one of passphrase, file_key, shared and identity")
-
-
-def _opening(passphrase: Any, file_key: Any, shared: Any, identity: Any, max_work: int) -> Opened:
+def opening_of(passphrase: Any, file_key: Any, shared: Any, identity: Any, max_work: Any) -> Opened:
     """The call that opens the bytes that a file begins with, by the one key that is given."""
     see_one(passphrase, file_key, shared, identity)
+    most = work_factor("max_work", max_work)
     if identity is not None:
-        return _keys.opening([identity] if isinstance(identity, str) else list(identity))
+        return _keys.opening(_keys.identities_of(identity))
     if passphrase is not None:
-        return opening(C.age_c_open_passphrase, [secret(passphrase)], max_work)
+        return opening(C.age_c_open_passphrase, [secret(passphrase)], most)
     if file_key is not None:
-        return opening(C.age_c_open_key, [raw(file_key)])
-    of, recipient = shared
-    return opening(C.age_c_open_shared, [raw(of), raw(recipient)])
+        return opening(C.age_c_open_key, [key("file_key", file_key, KEY)])
+    return opening(C.age_c_open_shared, pair(shared))
 
 
 LOST = "a read of this file failed or was interrupted, so that bytes may be lost: seek to a place that you know, or open it again"
@@ -56,7 +49,7 @@ class AgeReader(io.RawIOBase):
         self._rest = bytearray()  # what was read with the header and isn't used yet
         self._payload_at = 0
         self._begun: ReaderState | None = None
-        self._begin(_opening(passphrase, file_key, shared, identity, max_work), file_key is not None)
+        self._begin(opening_of(passphrase, file_key, shared, identity, max_work), file_key is not None)
 
     # ---- the header
 

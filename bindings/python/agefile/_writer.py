@@ -9,18 +9,20 @@ import warnings
 from types import TracebackType
 from typing import Any
 
+from ._arguments import secret, work_factor
 from ._calls import OneCall
-from ._library import BLOCK, CHUNK, SEAL_FRONT, Bytes, C, WriteStreamState, fault_of, secret, wipe
+from ._library import BLOCK, CHUNK, SEAL_FRONT, Bytes, C, WriteStreamState, fault_of, wipe
 from ._source import wait
 
 Begun = tuple[WriteStreamState, memoryview]
 
 
-def begun(passphrase: Any, work: int) -> Begun:
+def begun(passphrase: Any, work: Any) -> Begun:
     """A stream, and what stands before the payload."""
+    log = work_factor("work", work)
     stream, out, written = WriteStreamState(), Bytes(SEAL_FRONT), ctypes.c_size_t()
     held, random = Bytes(secret(passphrase)), Bytes(os.urandom(48))
-    answer = C.age_c_seal_passphrase(*held.given, work, *random.given, *out.given, written, stream.writer)
+    answer = C.age_c_seal_passphrase(*held.given, log, *random.given, *out.given, written, stream.writer)
     wipe(held.place, random.place)
     if answer != 0:
         raise fault_of(answer)
