@@ -239,7 +239,7 @@ class PythonTest(BindingsCase):
         for number in (*range(1, 23), 28, 254, 255):
             fault = agefile.AgeError(number)
             meaning, _, rest = str(fault).partition(" (")
-            self.see(f"what is said of fault {number}: {fault}", "readable" not in meaning and rest == f"{number} {fault.name})" and fault.name != "Unknown")
+            self.see(f"what is said of fault {number}: {fault}", "read" not in meaning and rest == f"{number} {fault.name})" and fault.name != "Unknown")
 
     def test_early_answers(self):
         """A header that is there is answered, though its sender sends nothing more and doesn't close."""

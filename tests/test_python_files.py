@@ -390,6 +390,37 @@ class PythonFilesTest(BindingsCase):
             self.see("the key is held after the end", not any(bytes(file._stream)))
         os.urandom = kept
 
+    def test_what_finishes(self):
+        """What the docstring says of writers that are closed after an exception."""
+        def fails(out, wrap):
+            with wrap(agefile.open(out, "wb", passphrase="pw", work=1)) as file:
+                file.write("text" if isinstance(file, io.TextIOBase) else b"text")
+                raise KeyError
+
+        for what, wrap, is_whole in (
+            ("with", lambda it: it, False), ("contextlib.closing", contextlib.closing, True), ("TextIOWrapper", io.TextIOWrapper, True),
+            ("BufferedWriter", io.BufferedWriter, True),
+        ):
+            out = io.BytesIO()
+            self.see(f"the exception of {what}", raised(KeyError, fails, out, wrap))
+            fault, text = by_python(out.getvalue(), passphrase="pw")
+            self.see(f"what {what} leaves", (fault, text) == (((0, None), b"text") if is_whole else ((20, 0), b"")), fault)
+
+    def test_before_damage(self):
+        """What read1 returns before a fault: all chunks before the one that is damaged."""
+        text = plain_of(300_000)
+        data = bytearray(self.sealed(text))
+        data[-50_000] ^= 1
+        for size in (10_000, 50_000, 65_536, 1_000_000):
+            got = b""
+            with agefile.open(io.BytesIO(data), file_key=KEY) as file:
+                try:
+                    while piece := file.read1(size):
+                        got += piece
+                    self.see("a damaged chunk is read", False)
+                except agefile.Damaged as fault:
+                    self.see(f"before a damaged chunk, by {size}", (fault.place, got) == (3, text[:3 * 65_536]), fault, len(got))
+
     def test_seeks(self):
         """A seek that fails leaves the file where it stood, though what is under it was read on."""
         text = plain_of(200_000)

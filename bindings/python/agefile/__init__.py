@@ -17,8 +17,8 @@ end of the file (b"") is reported only after the last chunk has been. So a loop 
 end without an exception has seen the whole text; one that stops earlier may have seen the beginning
 of a file that was cut. What is wrong with a file raises AgeError, mostly one of its kinds:
 WrongKey, Damaged and Truncated. Most files that were cut are Damaged: they end within a chunk. A
-read that fails returns nothing: what comes before a damaged chunk is returned by reads of at most a
-chunk, such as read1(), but not by a larger read() that runs into it.
+read() that runs into a damaged chunk returns nothing of what comes before it; read1() returns all
+of that first.
 
 A read waits for bytes, even if the source doesn't block. BlockingIOError says that there is nothing
 to wait for: the source returned None, and has no fileno(). After any exception but a fault of the

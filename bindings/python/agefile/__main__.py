@@ -130,7 +130,7 @@ def main() -> int:
     words = words_of()
     try:
         words.call(words)
-    except (agefile.AgeError, OSError, ValueError) as fault:
+    except (agefile.AgeError, OSError, ValueError, ImportError) as fault:
         print(f"agefile: {fault}", file=sys.stderr)
         return 1
     except KeyboardInterrupt:
