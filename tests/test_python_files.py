@@ -489,6 +489,18 @@ class PythonFilesTest(BindingsCase):
                     if not file.closed:
                         self.see(f"{what} again, after a seek", file.seek(0) == 0 and read(file) == text)
         under = Halting(data)
+        with agefile.open(under, file_key=KEY) as file:
+            begin = file.read(100)
+            under.left, under.stops, under.stop = 2, 2, OSError("twice")
+            self.see("a failed seek, and a failed read", raised(OSError, file.seek, 150_000) and raised(OSError, file.read, 200_000))
+            self.see("a read after both", raised(OSError, file.read, 1) and file.seek(100) == 100 and begin + file.read() == text)
+        for whence, offset, place in ((io.SEEK_END, 0, len(text)), (io.SEEK_END, -7, len(text) - 7), (io.SEEK_SET, 150_000, 150_000)):
+            under = Halting(data)
+            with agefile.open(under, file_key=KEY) as file:
+                under.left, under.stops, under.stop = 4, 1, OSError("once")
+                self.see("a failed read", raised(OSError, file.read))
+                self.see(f"a seek by {offset} from {whence} after it", file.seek(offset, whence) == place and file.read() == text[place:])
+        under = Halting(data)
         with agefile.open(under, file_key=KEY, random_access=True) as file:
             under.left, under.stops, under.stop = 2, 1, OSError("once")
             self.see("a failed read at any place", raised(OSError, file.read) and raised(OSError, file.read, 1))

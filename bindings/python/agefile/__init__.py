@@ -21,8 +21,9 @@ read() that runs into a damaged chunk returns nothing of what comes before it; r
 of that first.
 
 A read waits for bytes, even if the source doesn't block. BlockingIOError says that there is nothing
-to wait for: the source returned None, and has no fileno(). After any exception but a fault of the
-file, bytes may be lost. So each read raises OSError then, until a seek() to a place that you know.
+to wait for: the source returned None, and has no fileno(). After an exception of the source, or one
+that interrupts a read, bytes may be lost. So each read raises OSError then, until a seek() to a
+place that you know. (A KeyboardInterrupt may also come between two reads: don't read on after it.)
 
 A file that can't seek can be read, but not sought in; in one that can, seek() reads on to the
 place, from the beginning if it lies before. After a seek that failed the file stands where it

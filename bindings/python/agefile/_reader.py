@@ -45,7 +45,8 @@ class AgeReader(io.RawIOBase):
         self._at = self._len = self._before = 0
         self._back_to: int | None = None  # where a seek began that failed
         self._fault: Exception | None = None  # why the stream can't go on from where it is
-        self._lost = self._ended = False
+        self._lost = False  # whether a read failed since the last seek
+        self._ended = False
         self._rest = bytearray()  # what was read with the header and isn't used yet
         self._payload_at = 0
         self._begun: ReaderState | None = None
@@ -127,7 +128,11 @@ class AgeReader(io.RawIOBase):
         return True
 
     def readinto(self, room: Any) -> int:
-        return self._calls.make(self._read_into, memoryview(room).cast("B"))
+        try:
+            return self._calls.make(self._read_into, memoryview(room).cast("B"))
+        except BaseException:
+            self._lost = True
+            raise
 
     def _read_into(self, room: memoryview) -> int:
         self._check_open()
@@ -139,11 +144,14 @@ class AgeReader(io.RawIOBase):
         n = min(len(room), self._len - self._at)
         room[:n] = self._text.view[self._at:self._at + n]
         self._at += n
-        self._lost = False
         return n
 
     def readall(self) -> bytes:
-        return self._calls.make(self._read_all)
+        try:
+            return self._calls.make(self._read_all)
+        except BaseException:
+            self._lost = True
+            raise
 
     def _read_all(self) -> bytes:
         self._check_open()
@@ -152,15 +160,13 @@ class AgeReader(io.RawIOBase):
         while self._at < self._len or self._next():
             parts.write(self._text.view[self._at:self._len])
             self._at = self._len
-        self._lost = False
         return parts.getvalue()
 
     def _begin_read(self) -> None:
-        """Begins a read, where a seek began that failed if one did: what is above, such as a BufferedReader, counts on it. Until the read
-        is done, and if an exception ends it, bytes may be lost."""
+        """Refuses a read after one that failed. Otherwise it goes back to where a seek began that failed, if one did: what is above, such
+        as a BufferedReader, counts on it."""
         if self._lost:
             raise again(self._fault or OSError(LOST))
-        self._lost = True
         if self._back_to is not None:
             self._go(self._back_to)
             self._back_to = None
