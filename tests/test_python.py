@@ -290,6 +290,14 @@ class PythonTest(BindingsCase):
             run = self.command(*words, given=given)
             self.see(f"-m agefile: {what}", (run.returncode, run.stdout) == (want, out), run.returncode, run.stderr.decode()[-300:])
         self.see("-m agefile decrypt", self.path("back").read_bytes() == text)
+        self.write("empty", b"\n")
+        for words, status in (
+            (("encrypt", "--pass", "pw", "--log", "23"), 2), (("encrypt", "--pass", "pw", "--log", "0"), 2), (("encrypt", "--pass", "empty"), 1),
+            (("decrypt", "--pass", "pw", "--max-log", "23"), 2), (("decrypt", "--pass", "empty"), 1), (("decrypt", "--identity", "empty"), 1),
+        ):
+            run = self.command(*words, "made.age", "back")
+            is_said = run.stderr.splitlines()[-1].startswith((b"agefile: ", b"python3 -m agefile "))
+            self.see(f"-m agefile {words}", run.returncode == status and is_said and self.read("back") == text, run.stderr)
         data = self.path("made.age").read_bytes()
         self.see("-m agefile encrypt: age_tool doesn't read it", self.judged(data) == ((0, None), text))
         run = self.command("decrypt", "--pass", "pw", "-", "-", given=data[:-1])

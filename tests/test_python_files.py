@@ -298,6 +298,16 @@ class PythonFilesTest(BindingsCase):
             fault, got = by_python(out.getvalue(), passphrase="pw")
             self.see(f"a forgotten writer, {mode}, {len(text)}", fault[0] == 20 and len(got) < len(text), fault)
             self.see(f"its warning, {mode}", [it.category for it in found] == [ResourceWarning], found)
+        out = Sink()
+        file = agefile.open(out, "wt", passphrase="pw", work=1)
+        file.write("text")
+        under = file.buffer
+        with warnings.catch_warnings(record=True) as found:
+            warnings.simplefilter("always")
+            del file
+            gc.collect()
+        under.close()
+        self.see("text that was never written, and a writer that is closed", by_python(out.getvalue(), passphrase="pw") == ((20, 0), b""))
         for mode, text in (("wb", b"text"), ("wt", "text")):
             out = Sink()
             file = agefile.open(out, mode, passphrase="pw", work=1)

@@ -11,18 +11,21 @@ from typing import Any, Iterator
 
 import agefile
 from agefile import _keys, _library
+from agefile._arguments import WORK_MAX, secret
 from agefile._source import some
 
+FACTORS = range(1, WORK_MAX + 1)
 
-def passphrase_of(words: argparse.Namespace, again: bool = False) -> str | bytes:
+
+def passphrase_of(words: argparse.Namespace, again: bool = False) -> bytes:
     """The passphrase in the file of --pass, but one newline at its end, or one that is asked for."""
     if words.passphrase is not None:
         with open(words.passphrase, "rb") as file:
-            return file.read().removesuffix(b"\n")
+            return secret(file.read().removesuffix(b"\n"))
     given = asked("passphrase: ")
     if again and asked("the same again: ") != given:
         raise ValueError("the passphrases differ")
-    return given
+    return secret(given)
 
 
 def asked(what: str) -> str:
@@ -112,9 +115,9 @@ def words_of() -> argparse.Namespace:
         if call is not encrypt:
             keys.add_argument("--identity", dest="keys", metavar="FILE", help="a file of age-keygen, whose keys open IN")
         if call is encrypt:
-            command.add_argument("--log", type=int, default=18, metavar="N", help="the work factor, 1 to 22: it takes 2^N KiB (18)")
+            command.add_argument("--log", type=int, default=18, choices=FACTORS, metavar="N", help="the work factor, 1 to 22: it takes 2^N KiB (18)")
         else:
-            command.add_argument("--max-log", type=int, default=22, metavar="N", help="the greatest work factor to accept (22)")
+            command.add_argument("--max-log", type=int, default=22, choices=FACTORS, metavar="N", help="the greatest work factor to accept (22)")
         command.add_argument("input", metavar="IN")
         if call is not test:
             command.add_argument("output", metavar="OUT")
