@@ -1,9 +1,13 @@
 """What tests of the C library and of the modules over it have in common: files of age_tool, and what each language says of them."""
+import contextlib
 import functools
 import io
 import os
 import random
+import signal
 import sys
+import threading
+import time
 
 from tests.case import Case
 from tools import workspace
@@ -62,6 +66,42 @@ def by_python(data, size=-1, **keys):
     except module().AgeError as fault:
         return (fault.number, fault.place), text
     return (0, None), text
+
+
+@contextlib.contextmanager
+def limited(seconds):
+    """Ends a call that would wait forever."""
+    def ended(*_):
+        raise TimeoutError(f"no answer in {seconds} s")
+
+    kept = signal.signal(signal.SIGALRM, ended)
+    signal.alarm(seconds)
+    try:
+        yield
+    finally:
+        signal.alarm(0)
+        signal.signal(signal.SIGALRM, kept)
+
+
+@contextlib.contextmanager
+def slow(data, size=7_000, buffering=0):
+    """A pipe that doesn't block, to which another thread sends the data in pieces: a read often comes before them."""
+    source, sink = os.pipe()
+    os.set_blocking(source, False)
+
+    def sends():
+        with open(sink, "wb", buffering=0) as sender, contextlib.suppress(BrokenPipeError):
+            for at in range(0, len(data), size):
+                time.sleep(0.002)
+                sender.write(data[at:at + size])
+
+    thread = threading.Thread(target=sends)
+    thread.start()
+    try:
+        with limited(60), open(source, "rb", buffering=buffering) as file:
+            yield file
+    finally:
+        thread.join()
 
 
 class BindingsCase(Case):

@@ -1,5 +1,5 @@
-"""Tries the Python module: the kinds of faults, headers that come slowly, the command line, keys and shared secrets, what an argument may
-be, its types, where it finds the library, and files that are read at any place."""
+"""Tries the Python module: the kinds of faults and what is said of them, headers that come slowly, the command line, keys and shared
+secrets, what an argument may be, its types and names, where it finds the library, and files that are read at any place."""
 import contextlib
 import io
 import os
@@ -7,7 +7,6 @@ import pickle
 import pydoc
 import random
 import shutil
-import signal
 import socket
 import subprocess
 import sys
@@ -15,9 +14,8 @@ import threading
 import zipfile
 
 from tests import bindings
-from tests.bindings import BLOCK, CHUNK, KEY, PYTHON, BindingsCase, by_python, flipped, raised
+from tests.bindings import BLOCK, CHUNK, KEY, PYTHON, BindingsCase, by_python, flipped, limited, raised, slow
 from tests.case import needs
-from tests.test_python_files import slow
 from tools.workspace import LIBRARY, TOP
 
 AGE = TOP / "bindings" / "tests" / "age"
@@ -86,21 +84,6 @@ def paired(data):
     with one, two, one.makefile("rb") as file:
         two.sendall(data)
         yield file
-
-
-@contextlib.contextmanager
-def limited(seconds):
-    """Ends a call that would wait forever."""
-    def ended(*_):
-        raise TimeoutError(f"no answer in {seconds} s")
-
-    kept = signal.signal(signal.SIGALRM, ended)
-    signal.alarm(seconds)
-    try:
-        yield
-    finally:
-        signal.alarm(0)
-        signal.signal(signal.SIGALRM, kept)
 
 
 class PythonTest(BindingsCase):

@@ -1,5 +1,5 @@
-"""Tries the file objects of the Python module: what they seal, seeks, sources that fail, that don't block or come in pieces, threads, and
-calls from inside a call."""
+"""Tries the file objects of the Python module: what they seal, seeks, sources that fail, that don't block or come in pieces, writers that
+nobody closes, what is left after close, threads, and calls from inside a call."""
 import contextlib
 import csv
 import gc
@@ -16,7 +16,7 @@ import warnings
 import zlib
 
 from tests import bindings
-from tests.bindings import KEY, LENGTHS, RANDOM, BindingsCase, by_python, plain_of, raised
+from tests.bindings import KEY, LENGTHS, RANDOM, BindingsCase, by_python, plain_of, raised, slow
 from tools.workspace import TOP
 
 
@@ -51,27 +51,6 @@ class Halting(io.RawIOBase):
                 raise self.stop
             return None
         return self.held.readinto(memoryview(room)[:self.size])
-
-
-@contextlib.contextmanager
-def slow(data, size=7_000, buffering=0):
-    """A pipe that doesn't block, to which another thread sends the data in pieces: a read often comes before them."""
-    source, sink = os.pipe()
-    os.set_blocking(source, False)
-
-    def sends():
-        with open(sink, "wb", buffering=0) as sender, contextlib.suppress(BrokenPipeError):
-            for at in range(0, len(data), size):
-                time.sleep(0.002)
-                sender.write(data[at:at + size])
-
-    thread = threading.Thread(target=sends)
-    thread.start()
-    try:
-        with open(source, "rb", buffering=buffering) as file:
-            yield file
-    finally:
-        thread.join()
 
 
 def by_pieces(data, size, buffering, word):
