@@ -84,7 +84,7 @@ def limited(seconds):
 
 
 @contextlib.contextmanager
-def slow(data, size=7_000, buffering=0):
+def slow(data, size=7_000, buffering=0, pause=0.002):
     """A pipe that doesn't block, to which another thread sends the data in pieces: a read often comes before them."""
     source, sink = os.pipe()
     os.set_blocking(source, False)
@@ -92,7 +92,7 @@ def slow(data, size=7_000, buffering=0):
     def sends():
         with open(sink, "wb", buffering=0) as sender, contextlib.suppress(BrokenPipeError):
             for at in range(0, len(data), size):
-                time.sleep(0.002)
+                time.sleep(pause)
                 sender.write(data[at:at + size])
 
     thread = threading.Thread(target=sends)

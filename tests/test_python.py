@@ -298,9 +298,9 @@ class PythonTest(BindingsCase):
         more = more or {"input": given}
         return subprocess.run([sys.executable, "-B", "-m", "agefile", *words], cwd=self.room, env=env, capture_output=True, **more)
 
-    def slow_command(self, data, *words):
-        """The same, with a standard input that doesn't block, and to which the data comes in pieces."""
-        with slow(data, 90_000) as source:
+    def slow_command(self, data, *words, size=90_000):
+        """The same, with a standard input that doesn't block, and to which the data comes in pieces, some after the program began."""
+        with slow(data, size, pause=0.15) as source:
             return self.command(*words, stdin=source)
 
     def test_slow_input(self):
@@ -315,7 +315,7 @@ class PythonTest(BindingsCase):
             run = self.slow_command(sent, "test", "--pass", "pw", "-")
             self.see(f"test of a file that is {what}", run.returncode == want, run.stderr)
         self.path("keys").write_text((AGE / "key.txt").read_text())
-        run = self.slow_command((AGE / "one.age").read_bytes(), "shared", "keys", "-")
+        run = self.slow_command((AGE / "one.age").read_bytes(), "shared", "keys", "-", size=100)
         self.see("shared", run.returncode == 0 and len(run.stdout) == 64, run.stderr)
 
     def test_bech32(self):

@@ -432,6 +432,40 @@ class PythonFilesTest(BindingsCase):
                 self.see(f"what follows a failed seek{words}", begin + rest == text)
                 self.see(f"a seek after a failed one, {words}", file.seek(70_000) == 70_000 and file.read(5) == text[70_000:70_005])
 
+    def test_interrupted_seeks(self):
+        """A seek that is interrupted once it has moved the source, or the library's reader, leaves the file where it stood, too."""
+        text = plain_of(200_000)
+        data = self.sealed(text)
+
+        class Moving(io.BytesIO):
+            fails = False
+
+            def seek(self, *words):
+                place = super().seek(*words)
+                if self.fails:
+                    self.fails = False
+                    raise OSError("once")
+                return place
+
+        kept = agefile._library.C.age_c_seek
+
+        def interrupted(*words):
+            agefile._library.C.age_c_seek = kept
+            kept(*words)
+            raise KeyboardInterrupt
+
+        for any_place in (False, True):
+            under = Moving(data)
+            file = agefile.open(under, file_key=KEY, random_access=any_place)
+            file.seek(100_000)
+            self.see("a read before the seek", file.read(10) == text[100_000:100_010])
+            if any_place:
+                agefile._library.C.age_c_seek = interrupted
+            else:
+                under.fails = True
+            self.see("a seek that is interrupted", raised((OSError, KeyboardInterrupt), file.seek, 0) and file.tell() == 100_010)
+            self.see("what follows it", file.read() == text[100_010:])
+
     def test_waiting(self):
         """A source that doesn't block: what isn't there yet is neither the end nor a fault."""
         text = plain_of(70_000)
