@@ -456,7 +456,7 @@ class PythonFilesTest(BindingsCase):
 
         for any_place in (False, True):
             under = Moving(data)
-            file = agefile.open(under, file_key=KEY, random_access=any_place)
+            file = agefile.open(under, file_key=KEY, random_access=any_place).detach()
             file.seek(100_000)
             self.see("a read before the seek", file.read(10) == text[100_000:100_010])
             if any_place:
