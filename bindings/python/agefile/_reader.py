@@ -4,7 +4,7 @@ from __future__ import annotations
 import ctypes
 import io
 import operator
-from typing import Any
+from typing import Any, Iterable
 
 from . import _keys
 from ._arguments import KEY, key, pair, secret, see_one, work_factor
@@ -34,8 +34,9 @@ class AgeReader(io.RawIOBase):
     """The text of an age file, raw: `open` puts a buffer around it. After a read that fails, for whatever reason, each one fails, until
     a seek: what is above, such as a BufferedReader, may have lost bytes."""
 
-    def __init__(self, file: Any, passphrase: Any = None, file_key: Any = None, shared: Any = None, max_work: int = 22,
-                 owned: bool = False, identity: Any = None) -> None:
+    def __init__(self, file: Any, passphrase: str | bytes | None = None, file_key: bytes | None = None,
+                 shared: tuple[bytes, bytes] | None = None, max_work: int = 22, owned: bool = False,
+                 identity: str | Iterable[str] | None = None) -> None:
         super().__init__()
         self._file, self._owned, self._calls = file, owned, OneCall()
         self._stream = StreamState()
