@@ -1,52 +1,28 @@
 -- What a caller may rely on after any calls on one reader.
-use Rattle.std.proofs.Common.{inl, inr, ◌≡◌, ◌≢◌, ℕ, ◌<◌, ◌≤◌, ◌*◌, refl, ap, sym, subst, ◌∙◌}
-use Rattle.std.proofs.Common.{arith}
-use Rattle.std.proofs.Common.{List, [], ◌∷◌, ◌++◌, length, take, drop, Bool, true, false}
-use Rattle.std.specs.Prelude.{◌==◌, ◌⊎◌, if◌then◌else◌, Some}
+use Rattle.std.proofs.Common.{inl, inr, ◌≡◌, ◌≢◌, ℕ, ◌<◌, ◌≤◌, ◌*◌, refl, ap, sym, subst, ◌∙◌, arith, List, [], ◌∷◌, ◌++◌, length, take, drop, Bool, true}
+use Rattle.std.proofs.Common.{false}
+use Rattle.std.specs.Prelude.{◌==◌, ◌⊎◌}
 use Rattle.std.specs.List.{flat_map, AllByRecursion}
 use Rattle.std.proofs.lemmas.Bool.{cases_lt}
 use Rattle.std.proofs.lemmas.Bool.Decides.{eqb_tells}
-use Rattle.std.proofs.lemmas.List.{append_assoc, append-nil, drop_at, length-append, length-take}
-use Rattle.std.proofs.lemmas.List.{nil_from_length}
+use Rattle.std.proofs.lemmas.List.{append_assoc, append-nil, drop_at, length-append, length-take, nil_from_length}
 use Rattle.age_chunk.specs.Payload.{chunk_limit, block_length, chunk_count, chunk_length, payload}
 use Rattle.age_chunk.specs.declared.fault.StreamKind.TheVariants.{ChunkDamaged, TooManyChunks}
 use Rattle.age_keys.specs.inner.PayloadBox.{box_valid}
 use Rattle.age_stream.specs.Laws.{IsClosed, IsSealable}
-use Rattle.age_stream.specs.Segment.{fresh, Segment, Outcome, outcome, failed}
+use Rattle.age_stream.specs.Segment.{fresh, Segment, Outcome, outcome}
 use Rattle.age_stream.specs.Headline.{IsPrefixOf, IsRest, IsRight, IsFirstWrong}
 use Rattle.age_stream.specs.declared.step.Status.{Status}
 use Rattle.age_stream.specs.declared.step.Status.TheVariants.{Done, Failed}
 use Rattle.age_stream.proofs.FreshLemmas.{fresh_outcome}
 use Rattle.age_stream.proofs.LawLemmas.{released_is_written, rest_is_authentic}
 use Rattle.age_c.specs.declared.reader.Reader.{Reader}
-use Rattle.age_c.specs.Calls.{answer_of, misused, reader_status}
-use Rattle.age_c.specs.Readers.{IsAt, SameFile, reader_text, Call, IsCall, AreCalls, last_reader}
-use Rattle.age_c.specs.Readers.{segment_from, texts_of, after_block, after_end, given_by, AllAnswer}
-use Rattle.age_c.specs.Readers.{AreCallsAuthentic, AreRight, AreUndamaged, IsTextRight, AreParts}
-use Rattle.age_c.specs.Readers.{CallsAreWritten, GiveBlocks, GivesWrong, IsRefusedAt, Part}
-use Rattle.age_c.specs.Readers.{PartsAreWritten}
+use Rattle.age_c.specs.Calls.{misused, reader_status}
+use Rattle.age_c.specs.Readers.{IsAt, SameFile, reader_text, Call, IsCall, AreCalls, last_reader, texts_of, given_by, AllAnswer, AreCallsAuthentic}
+use Rattle.age_c.specs.Readers.{AreUndamaged, IsTextRight, AreParts, CallsAreWritten, Part, PartsAreWritten}
 use Rattle.age_c.specs.inner.Keys.{key_of_reader as key_of, opens, seals}
-use Rattle.age_c.proofs.CallFaultLemmas.{IsKnown, all_known, all_map, all_refused, answer_by}
-use Rattle.age_c.proofs.CallFaultLemmas.{damaged_is}
-use Rattle.age_c.proofs.CallFaultLemmas.{known_fault, known_state}
+use Rattle.age_c.proofs.CallFaultLemmas.{IsKnown, all_known, all_map, known_fault, known_state}
 use Rattle.age_c.proofs.CallLemmas.{After, StandsAt, all_calls, done_after, done_status, last_is}
-use Rattle.age_c.proofs.CallLemmas.{next, one_more, status_at, taken_next}
-use Rattle.age_c.proofs.FirstWrongLemmas.{IsOpen, blocks_more, block_refused, Grows, grows}
-use Rattle.age_c.proofs.FirstWrongLemmas.{rest_refused}
-
--- calls before and after one
-calls_parts : (before : List Call) (one : Call) (later : List Call) (r : Reader)
-    → AreCalls r (before ++ one ∷ later)
-    → AreCalls r before × IsCall (last_reader r before) one × AreCalls one.after later
-calls_parts [] one later r are = (tt, are.0, are.1)
-calls_parts (c ∷ before) one later r are =
-    let rest = calls_parts before one later c.after are.1 in ((are.0, rest.0), rest.1, rest.2)
-
-segment_parts : (before : List Call) (one : Call) (later : List Call) (s : Segment)
-    → segment_from s (before ++ one ∷ later)
-    ≡ segment_from (next one (segment_from s before)) later
-segment_parts [] one later s = refl
-segment_parts (c ∷ before) one later s = segment_parts before one later (next c s)
 
 -- what is left of a text after this many bytes
 rest_of : (n : ℕ) (text : List ℕ) → n ≤ length text → (more rest : List ℕ)
@@ -234,71 +210,9 @@ module _ (r : Reader) (start : ℕ) (h : IsAt r (fresh start)) (limit : start < 
   text_right_of_blocks =
       text_right r start limit calls text few after.start after.text_is known_calls ended_calls
 
-  -- ---- the first wrong block
-
-  module _ (authentic : AreCallsAuthentic r text start calls) (i : ℕ) (before : List Call) (wrong : Call)
-      (later : List Call) (parts : calls ≡ before ++ wrong ∷ later)
-      (blocks : GiveBlocks r text start before i) (bad : GivesWrong r text i wrong) where
-    here : AreCalls r before × IsCall (last_reader r before) wrong × AreCalls wrong.after later
-    here = calls_parts before wrong later r (subst (λ (cs : List Call). AreCalls r cs) parts are)
-
-    abbrev s0 : Segment
-    s0 = segment_from (fresh start) before
-
-    begun : IsOpen r text few r (fresh start) start
-    begun =
-        let is = fresh_outcome (opens key) chunk_length start in
-        record {
-          stands = fresh_stands;
-          is_open = ap (λ (o : Outcome). o.status) is;
-          index = ap (λ (o : Outcome). o.index) is;
-          small = limit;
-        }
-
-    reached_wrong : IsOpen r text few (last_reader r before) s0 i × AllAnswer 0 before
-    reached_wrong = blocks_more r text few before r (fresh start) start i begun here.0 blocks
-
-    whole_is : given ≡ segment_from (next wrong s0) later
-    whole_is = ap (segment_from (fresh start)) parts ∙ segment_parts before wrong later (fresh start)
-
-    refused_by : (is_end : Bool) → wrong.is_end ≡ is_end
-        → (outcome (opens key) chunk_length (next wrong s0)).status ≡ failed ChunkDamaged i
-    refused_by true is =
-        let to : next wrong s0 ≡ after_end wrong.bytes s0 = taken_next wrong s0 bad.taken
-        ∙ ap (λ (b : Bool). if b then after_end wrong.bytes s0 else after_block wrong.bytes s0) is in
-        let grown : Grows (after_end wrong.bytes s0) given =
-        subst (Grows (after_end wrong.bytes s0)) (sym (whole_is ∙ ap (λ (t : Segment). segment_from t later) to))
-        (grows later (after_end wrong.bytes s0)) in
-        let size = bad.rest is in
-        ap (λ (t : Segment). (outcome (opens key) chunk_length t).status) to
-        ∙ rest_refused r text few (last_reader r before) s0 given i reached_wrong.0 authentic wrong.bytes bad.wrong size.0 size.1 grown
-    refused_by false is =
-        let to : next wrong s0 ≡ after_block wrong.bytes s0 = taken_next wrong s0 bad.taken
-        ∙ ap (λ (b : Bool). if b then after_end wrong.bytes s0 else after_block wrong.bytes s0) is in
-        let grown : Grows (after_block wrong.bytes s0) given =
-        subst (Grows (after_block wrong.bytes s0)) (sym (whole_is ∙ ap (λ (t : Segment). segment_from t later) to))
-        (grows later (after_block wrong.bytes s0)) in
-        ap (λ (t : Segment). (outcome (opens key) chunk_length t).status) to
-        ∙ block_refused r text few (last_reader r before) s0 given i reached_wrong.0 authentic wrong.bytes bad.wrong (bad.block is) grown
-
-    first_refused : IsRefusedAt i before wrong later
-    first_refused =
-        let is = refused_by wrong.is_end refl in
-        let stands = one_more key (last_reader r before) wrong s0 reached_wrong.0.stands here.1 in
-        let numbers = damaged_is wrong.after.state wrong.after.fault_chunk i
-        (status_at key wrong.after (next wrong s0) stands ∙ ap Some is) in
-        record {
-          zero = reached_wrong.1;
-          there = answer_by (last_reader r before) wrong here.1 bad.taken ∙ ap answer_of numbers.0;
-          chunk = numbers.1;
-          stays = all_refused key i later wrong.after (next wrong s0) stands is here.2;
-        }
-
 pub calls_are_written : CallsAreWritten
-calls_are_written r start h limit calls are text few = record {
-  text_is = text_right_of_blocks r start h limit calls are text few;
-  refused = first_refused r start h limit calls are text few;
-}
+calls_are_written r start h limit calls are text few =
+    text_right_of_blocks r start h limit calls are text few
 
 -- ---- seeks
 
@@ -324,7 +238,7 @@ same_calls (c ∷ calls) r are =
 -- parts from a reader of the same file on
 parts_from : (first r : Reader) (parts : List Part) → SameFile first r → AreParts r parts
     → (text : List ℕ) → chunk_count chunk_length text ≤ chunk_limit
-    → AllByRecursion (λ (p : Part). SameFile first p.begun × AreRight p.begun text p.chunk p.calls) parts
+    → AllByRecursion (λ (p : Part). SameFile first p.begun × IsTextRight p.begun text p.chunk p.calls) parts
 parts_from first r [] same are text few = tt
 parts_from first r (p ∷ parts) same are text few =
     let here = same_file first r p.begun same are.1.same in (

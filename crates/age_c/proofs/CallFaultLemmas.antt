@@ -1,24 +1,18 @@
 -- A reader that was refused stays so.
-use Rattle.std.proofs.Common.{inl, inr, ◌≡◌, ◌≢◌, ℕ, ◌+◌, ◌≤◌, refl, ap, sym, ◌∙◌, arith}
-use Rattle.std.proofs.Common.{List, [], ◌∷◌, Bool, true, false}
-use Rattle.std.specs.Prelude.{◌==◌, ◌&&◌, ◌⊎◌, nat_le, if◌then◌else◌, Some, None, Option}
+use Rattle.std.proofs.Common.{inl, inr, ◌≡◌, ◌≢◌, ℕ, ◌+◌, ◌≤◌, refl, ap, sym, ◌∙◌, arith, List, [], ◌∷◌, Bool, true, false}
+use Rattle.std.specs.Prelude.{◌==◌, ◌&&◌, ◌⊎◌, nat_le, if◌then◌else◌, Some, Option}
 use Rattle.std.specs.List.{AllByRecursion}
-use Rattle.std.proofs.lemmas.Bool.{false≢true, and_parts, leb-true, cases_lt, eqb-true}
-use Rattle.std.proofs.lemmas.Bool.Decides.{eqb_tells}
+use Rattle.std.proofs.lemmas.Bool.{false≢true, and_parts, leb-true, cases_lt}
 use Rattle.age_chunk.specs.Payload.{chunk_length}
 use Rattle.age_chunk.specs.declared.fault.StreamFault.{StreamFault}
-use Rattle.age_chunk.specs.declared.fault.StreamKind.{StreamKind}
-use Rattle.age_chunk.specs.declared.fault.StreamKind.TheVariants.{ChunkDamaged, ChunkCut}
-use Rattle.age_chunk.specs.declared.fault.StreamKind.TheVariants.{EmptyLast, Truncated, Trailing}
-use Rattle.age_chunk.specs.declared.fault.StreamKind.TheVariants.{TooManyChunks}
+use Rattle.age_chunk.specs.declared.fault.StreamKind.TheVariants.{ChunkDamaged, ChunkCut, EmptyLast, Truncated, Trailing, TooManyChunks}
 use Rattle.age_stream.specs.declared.step.Status.{Status}
-use Rattle.age_stream.specs.declared.step.Status.TheVariants.{Open, LastSeen, Done, Failed}
-use Rattle.age_stream.specs.Segment.{Segment, outcome, failed, with_piece, with_end}
+use Rattle.age_stream.specs.declared.step.Status.TheVariants.{Open, Failed}
+use Rattle.age_stream.specs.Segment.{Segment, outcome, with_piece, with_end}
 use Rattle.age_stream.proofs.LawLemmas.{closed_stays}
 use Rattle.age_c.specs.declared.reader.Reader.{Reader}
-use Rattle.age_c.specs.Calls.{answer_of, failed_at, misused, reader_status}
+use Rattle.age_c.specs.Calls.{answer_of, misused, reader_status}
 use Rattle.age_c.specs.Readers.{Call, IsCall, AreCalls, after_block, after_end, segment_from}
-use Rattle.age_c.specs.Readers.{StaysRefused}
 use Rattle.age_c.specs.inner.Keys.{opens}
 use Rattle.age_c.proofs.ReaderLemmas.{some_is}
 use Rattle.age_c.proofs.CallLemmas.{StandsAt, next, one_more, status_at}
@@ -82,70 +76,6 @@ refused_of n chunk some =
       | inl lt ↦ refused_first n chunk (three n 17 fault.least (omega (arith, lt)))
       | inr le ↦ refused_last n chunk (three n 20 le (omega (arith, fault.most)))
     ]
-
--- numbers of no refusal are answered by 0
-unfailed_by : (n chunk : ℕ) (status : Status) → ((f : StreamFault) → status ≢ Failed f)
-    → reader_status n chunk ≡ Some status
-    → ((answer_of n == 0) ≡ true) × (answer_of n ≡ 0)
-    ⊎ ((answer_of n == 0) ≡ false) × (answer_of n ≢ 0) → answer_of n ≡ 0
-unfailed_by n chunk status fine is (inl zero) = zero.1
-unfailed_by n chunk status fine is (inr some) =
-    let refused = refused_of n chunk some.1 in
-    absurd (fine refused.0 (some_is (sym is ∙ refused.1)))
-
-pub unfailed : (n chunk : ℕ) (status : Status) → ((f : StreamFault) → status ≢ Failed f)
-    → reader_status n chunk ≡ Some status → answer_of n ≡ 0
-unfailed n chunk status fine is =
-    unfailed_by n chunk status fine is (eqb_tells (answer_of n) 0)
-
--- the kind and the place of a refusal
-abbrev kind_of : Status → StreamKind
-kind_of (Failed f) = f.kind
-kind_of other = ChunkDamaged
-
-abbrev place_of : Status → ℕ
-place_of (Failed f) = f.chunk
-place_of other = 0
-
-other_kind : (kind : StreamKind) (chunk i : ℕ) → (kind ≡ ChunkDamaged → ⊥)
-    → Some (failed kind chunk) ≡ Some (failed ChunkDamaged i) → ⊥
-other_kind kind chunk i ne e = ne (ap kind_of (some_is e))
-
--- the numbers of a damaged chunk
-damaged_by : (a b c d e f g h j : Bool) (chunk i : ℕ)
-    → (if a then Some Open
-    else if b then Some LastSeen
-    else if c then Some Done
-    else if d then failed_at ChunkDamaged chunk
-    else if e then failed_at ChunkCut chunk
-    else if f then failed_at EmptyLast chunk
-    else if g then failed_at Truncated chunk
-    else if h then failed_at Trailing chunk
-    else if j then failed_at TooManyChunks chunk
-    else None) ≡ Some (failed ChunkDamaged i)
-    → (d ≡ true) × (chunk ≡ i)
-damaged_by true b c d e f g h j chunk i is = cc
-damaged_by false true c d e f g h j chunk i is = cc
-damaged_by false false true d e f g h j chunk i is = cc
-damaged_by false false false true e f g h j chunk i is = (refl, ap place_of (some_is is))
-damaged_by false false false false true f g h j chunk i is =
-    absurd (other_kind ChunkCut chunk i (λ e. cc) is)
-damaged_by false false false false false true g h j chunk i is =
-    absurd (other_kind EmptyLast chunk i (λ e. cc) is)
-damaged_by false false false false false false true h j chunk i is =
-    absurd (other_kind Truncated chunk i (λ e. cc) is)
-damaged_by false false false false false false false true j chunk i is =
-    absurd (other_kind Trailing chunk i (λ e. cc) is)
-damaged_by false false false false false false false false true chunk i is =
-    absurd (other_kind TooManyChunks chunk i (λ e. cc) is)
-damaged_by false false false false false false false false false chunk i is = cc
-
-pub damaged_is : (n chunk i : ℕ) → reader_status n chunk ≡ Some (failed ChunkDamaged i)
-    → (n ≡ 17) × (chunk ≡ i)
-damaged_is n chunk i is =
-    let both = damaged_by (n == 1) (n == 2) (n == 3) (n == 17) (n == 18) (n == 19) (n == 20)
-    (n == 21) (n == 22) chunk i is in
-    (eqb-true n 17 both.0, both.1)
 
 -- ---- segments
 
@@ -249,21 +179,3 @@ known_state k whole c known other some =
     let is = known.answer other in
     let fault = fault_from c.after.state (λ zero. some (is ∙ zero)) in
     sym fault.is ∙ sym is
-
--- after a refusal with 17 each call is refused so
-pub all_refused : (k : List ℕ) (i : ℕ) (calls : List Call) (r : Reader) (s : Segment)
-    → StandsAt k r s → (outcome (opens k) chunk_length s).status ≡ failed ChunkDamaged i
-    → AreCalls r calls → AllByRecursion (StaysRefused i) calls
-all_refused k i [] r s stands is are = tt
-all_refused k i (c ∷ calls) r s stands is are =
-    let after = one_more k r c s stands are.0 in
-    let still = (next_stays (opens k) chunk_length (record { kind = ChunkDamaged; chunk = i }) c s
-    (record { timely = stands.at.timely; is = is })).is in
-    let numbers = damaged_is c.after.state c.after.fault_chunk i
-    (status_at k c.after (next c s) after ∙ ap Some still) in (
-      record {
-        answer = λ other. answer_by r c are.0 other ∙ ap answer_of numbers.0;
-        chunk = numbers.1;
-      },
-      all_refused k i calls c.after (next c s) after still are.1,
-    )

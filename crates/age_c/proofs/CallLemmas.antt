@@ -1,6 +1,5 @@
 -- What a list of calls does to a reader.
-use Rattle.std.proofs.Common.{inl, inr, ◌≡◌, ◌≢◌, ℕ, refl, ap, sym, subst, ◌∙◌, arith}
-use Rattle.std.proofs.Common.{List, [], ◌∷◌, ◌++◌, take, Bool, true, false}
+use Rattle.std.proofs.Common.{inl, inr, ◌≡◌, ◌≢◌, ℕ, refl, ap, sym, subst, ◌∙◌, arith, List, [], ◌∷◌, ◌++◌, take, Bool, true, false}
 use Rattle.std.specs.Prelude.{◌==◌, ◌⊎◌, if◌then◌else◌, Some}
 use Rattle.std.proofs.lemmas.List.{append_assoc, append-nil}
 use Rattle.std.proofs.lemmas.Bool.{ne_eqb, false≢true}
@@ -10,9 +9,8 @@ use Rattle.age_stream.specs.Segment.{Segment, outcome, released, with_piece}
 use Rattle.age_stream.specs.declared.step.Status.TheVariants.{Done}
 use Rattle.age_c.specs.Calls.{Answers, reader_status, misused}
 use Rattle.age_c.specs.declared.reader.Reader.{Reader}
-use Rattle.age_c.specs.Readers.{IsAt, reader_text, TakesBlock, AnswersAreCalls, call_of, Call}
-use Rattle.age_c.specs.Readers.{IsCall, AreCalls, after_block, after_end, after_call, last_reader}
-use Rattle.age_c.specs.Readers.{segment_from, texts_of}
+use Rattle.age_c.specs.Readers.{IsAt, reader_text, TakesBlock, AnswersAreCalls, call_of, Call, IsCall, AreCalls, after_block, after_end, after_call}
+use Rattle.age_c.specs.Readers.{last_reader, segment_from, texts_of}
 use Rattle.age_c.specs.inner.Keys.{key_of_reader as key_of, opens}
 use Rattle.age_c.proofs.ReaderLemmas.{key_same, some_is}
 

@@ -1,16 +1,12 @@
 -- Where the header of a file ends.
-use Rattle.std.proofs.Common.{◌≡◌, ℕ, ◌+◌, List, [], ◌∷◌, ◌++◌, length, take, drop, refl, ap, sym}
-use Rattle.std.proofs.Common.{◌∙◌, arith}
+use Rattle.std.proofs.Common.{◌≡◌, ℕ, ◌+◌, List, [], ◌∷◌, ◌++◌, length, take, drop, refl, ap, sym, ◌∙◌, arith}
 use Rattle.std.specs.Prelude.{codes, get_or, nat_eq}
 use Rattle.std.specs.List.{flat_map, starts_with}
-use Rattle.std.proofs.lemmas.List.{append_assoc, append-nil, drop_at, get_or_at, length-append}
-use Rattle.std.proofs.lemmas.List.{length-take}
-use Rattle.std.proofs.lemmas.List.{take-append-drop}
+use Rattle.std.proofs.lemmas.List.{append_assoc, append-nil, drop_at, get_or_at, length-append, length-take, take-append-drop}
 use Rattle.age_stanza.specs.declared.header.Header.{Header}
 use Rattle.age_stanza.specs.declared.header.Stanza.{Stanza}
 use Rattle.age_stanza.specs.Text.{base64_text}
-use Rattle.age_stanza.specs.Grammar.{argument_line, end_line, head_text, in_lines, line}
-use Rattle.age_stanza.specs.Grammar.{stanza_text, version}
+use Rattle.age_stanza.specs.Grammar.{argument_line, end_line, head_text, in_lines, line, stanza_text, version}
 use Rattle.age_stanza.proofs.TextLemmas.{length-text}
 use Rattle.age_c.specs.Calls.{EndsAt}
 use Rattle.age_c.specs.Readers.{HasFront}

@@ -1,7 +1,6 @@
 pub mod ReaderLemmas
 pub mod CallLemmas
 pub mod CallFaultLemmas
-pub mod FirstWrongLemmas
 pub mod AuthenticCallLemmas
 pub mod StreamLemmas
 pub mod WriterLemmas

@@ -1,7 +1,6 @@
 -- From a reader's numbers to an opener and back.
-use Rattle.std.proofs.Common.{◌≡◌, ◌≢◌, take, ℕ, ◌+◌, ◌*◌, ◌/◌, ◌<◌, ◌≤◌, ap, sym, subst, ◌∙◌, refl}
-use Rattle.std.proofs.Common.{arith, List, [], ◌∷◌, ◌++◌, length, true, false, Some, None, Bool}
-use Rattle.std.proofs.Common.{append-nil}
+use Rattle.std.proofs.Common.{◌≡◌, ◌≢◌, take, ℕ, ◌+◌, ◌*◌, ◌/◌, ◌<◌, ◌≤◌, ap, sym, subst, ◌∙◌, refl, arith, List, [], ◌∷◌, ◌++◌, length, true, false, Some}
+use Rattle.std.proofs.Common.{None, Bool, append-nil}
 use Rattle.std.specs.Prelude.{Option, IfSome}
 use Rattle.std.specs.List.{flat_map}
 use Rattle.std.specs.Borrow.{Bor}

@@ -1,6 +1,5 @@
 -- What a list of calls does to a stream that reads.
-use Rattle.std.proofs.Common.{inl, inr, ◌≡◌, ◌≢◌, ℕ, refl, ap, sym, subst, ◌∙◌, arith}
-use Rattle.std.proofs.Common.{List, [], ◌∷◌, ◌++◌, length, take, Bool, true, false}
+use Rattle.std.proofs.Common.{inl, inr, ◌≡◌, ◌≢◌, ℕ, refl, ap, sym, subst, ◌∙◌, arith, List, [], ◌∷◌, ◌++◌, length, take, Bool, true, false}
 use Rattle.std.specs.Prelude.{◌==◌, ◌⊎◌, Some}
 use Rattle.std.specs.List.{AllByRecursion}
 use Rattle.std.proofs.lemmas.Bool.{false≢true}
@@ -12,10 +11,8 @@ use Rattle.age_stream.specs.Segment.{Segment, fresh, outcome, released, with_end
 use Rattle.age_stream.specs.declared.step.Status.TheVariants.{Done}
 use Rattle.age_c.specs.declared.stream.Stream.{Stream}
 use Rattle.age_c.specs.Calls.{Answers, answer_of, misused, reader_status}
-use Rattle.age_c.specs.Readers.{Call, after_call, reader_outcome, reader_text, segment_from}
-use Rattle.age_c.specs.Readers.{texts_of}
-use Rattle.age_c.specs.Streams.{Moves, StreamIsAt, held_block, AnswersAreFeedCalls, AreFeedCalls}
-use Rattle.age_c.specs.Streams.{FeedCall, FeedsAreWritten, IsFeedCall, PiecesReadBack}
+use Rattle.age_c.specs.Readers.{Call, after_call, reader_outcome, reader_text, segment_from, texts_of}
+use Rattle.age_c.specs.Streams.{Moves, StreamIsAt, held_block, AnswersAreFeedCalls, AreFeedCalls, FeedCall, FeedsAreWritten, IsFeedCall, PiecesReadBack}
 use Rattle.age_c.specs.Streams.{bytes_written, feed_call_of, reader_call, reader_calls, text_taken}
 use Rattle.age_c.specs.inner.Keys.{key_of_reader as key_of, opens}
 use Rattle.age_c.proofs.CallFaultLemmas.{IsKnown, Timely, stays, timely_piece}

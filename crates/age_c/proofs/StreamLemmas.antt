@@ -1,7 +1,5 @@
 -- What a stream's steps do to the segment that it was given.
-use Rattle.std.proofs.Common.{inl, inr, ◌≡◌, ◌≢◌, ℕ, ◌+◌, ◌<◌, ◌≤◌, refl, ap, sym, subst, ◌∙◌}
-use Rattle.std.proofs.Common.{arith}
-use Rattle.std.proofs.Common.{List, [], ◌++◌, length, take, Bool, true, false}
+use Rattle.std.proofs.Common.{inl, inr, ◌≡◌, ◌≢◌, ℕ, ◌+◌, ◌<◌, ◌≤◌, refl, ap, sym, subst, ◌∙◌, arith, List, [], ◌++◌, length, take, Bool, true, false}
 use Rattle.std.specs.Prelude.{Some, min, ◌-◌}
 use Rattle.std.specs.List.{flat_map}
 use Rattle.std.proofs.lemmas.Bool.{cases_lt}
@@ -16,8 +14,7 @@ use Rattle.age_stream.proofs.LawLemmas.{pieces_join}
 use Rattle.age_c.specs.declared.reader.Reader.{Reader}
 use Rattle.age_c.specs.declared.stream.Stream.{Stream}
 use Rattle.age_c.specs.Calls.{answer_of, reader_status}
-use Rattle.age_c.specs.Readers.{TakesBlock, TakesEnd, after_block, IsAt, SameFile, reader_outcome}
-use Rattle.age_c.specs.Readers.{IsBlockCall, reader_text}
+use Rattle.age_c.specs.Readers.{TakesBlock, TakesEnd, after_block, IsAt, SameFile, reader_outcome, IsBlockCall, reader_text}
 use Rattle.age_c.specs.Streams.{FeedsStream, FinishesStream, IsStreamCall, StreamIsAt, held_block}
 use Rattle.age_c.proofs.ReaderLemmas.{some_is}
 

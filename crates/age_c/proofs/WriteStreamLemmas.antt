@@ -1,25 +1,21 @@
 -- What a call, and a list of them, does to a stream that writes.
-use Rattle.std.proofs.Common.{inl, inr, ◌≡◌, ◌≢◌, ℕ, ◌<◌, ◌≤◌, refl, ap, ap₂, sym, subst}
-use Rattle.std.proofs.Common.{◌∙◌, arith, List, [], ◌∷◌, ◌++◌, length, take, true, false}
+use Rattle.std.proofs.Common.{inl, inr, ◌≡◌, ◌≢◌, ℕ, ◌<◌, ◌≤◌, refl, ap, ap₂, sym, subst, ◌∙◌, arith, List, [], ◌∷◌, ◌++◌, length, take, true, false}
 use Rattle.std.specs.Prelude.{map, ◌==◌, ◌⊎◌}
 use Rattle.std.specs.List.{enumerate_from}
 use Rattle.std.proofs.lemmas.List.{append_assoc, append-nil, take_all}
 use Rattle.std.proofs.lemmas.Bool.{false≢true}
 use Rattle.std.proofs.lemmas.Bool.Decides.{eqb_tells}
-use Rattle.age_chunk.specs.Payload.{block_bytes, chunk_count, chunk_length, chunk_limit, pair}
-use Rattle.age_chunk.specs.Payload.{payload}
+use Rattle.age_chunk.specs.Payload.{block_bytes, chunk_count, chunk_length, chunk_limit, pair, payload}
 use Rattle.age_keys.specs.Keys.{box}
 use Rattle.age_c.specs.declared.writer.Writer.{Writer}
 use Rattle.age_c.specs.declared.write_stream.WriteStream.{WriteStream}
 use Rattle.age_c.specs.Calls.{misused}
 use Rattle.age_c.specs.Writers.{HasSealed, SameKeys, SealsChunk, SealsLast, blocks_of, key_in}
 use Rattle.age_c.specs.Writers.{salt_in, FeedsText, FinishesText, HasTaken, TakesText, held_chunk}
-use Rattle.age_c.specs.Streams.{AnswersAreTextCalls, AreTextCalls, IsTextCallOn, TextCall}
-use Rattle.age_c.specs.Streams.{TextsAreFiles, WritesFile, bytes_written, stream_after, text_taken}
+use Rattle.age_c.specs.Streams.{AnswersAreTextCalls, AreTextCalls, IsTextCallOn, TextCall, TextsAreFiles, WritesFile, bytes_written, stream_after, text_taken}
 use Rattle.age_c.specs.inner.Holding.{HoldsText}
 use Rattle.age_c.specs.inner.Keys.{key_of_writer as key_of, seals}
-use Rattle.age_c.proofs.WriterLemmas.{idle_or_did, key_same, mac_holds, none_yet, not_end}
-use Rattle.age_c.proofs.WriterLemmas.{same_front}
+use Rattle.age_c.proofs.WriterLemmas.{idle_or_did, key_same, mac_holds, none_yet, not_end, same_front}
 
 -- more text changes no block that was written
 blocks_front : (w : Writer) (chunks more : List ℕ) → HasSealed w chunks

@@ -1,30 +1,22 @@
 -- What one call, and a list of them, does to a writer.
-use Rattle.std.proofs.Common.{inl, inr, ◌≡◌, ◌≢◌, ℕ, suc, ◌+◌, ◌*◌, ◌<◌, ◌≤◌, refl, ap, sym, subst}
-use Rattle.std.proofs.Common.{◌∙◌, arith, List, [], ◌∷◌, ◌++◌, length}
-use Rattle.std.proofs.Common.{take, drop, Bool, true, false}
-use Rattle.std.specs.Prelude.{map, ◌==◌, ◌⊎◌, if◌then◌else◌}
+use Rattle.std.proofs.Common.{inl, inr, ◌≡◌, ◌≢◌, ℕ, suc, ◌+◌, ◌*◌, ◌<◌, ◌≤◌, refl, ap, sym, subst, ◌∙◌, arith, List, [], ◌∷◌, ◌++◌, length, take, drop, Bool}
+use Rattle.std.proofs.Common.{true, false}
+use Rattle.std.specs.Prelude.{map, ◌==◌, ◌⊎◌}
 use Rattle.std.specs.List.{enumerate_from}
 use Rattle.std.specs.Simd.{first_chunks}
-use Rattle.std.proofs.lemmas.List.{append_assoc, append-nil, drop_at, length-append, map-append}
-use Rattle.std.proofs.lemmas.List.{take_all}
+use Rattle.std.proofs.lemmas.List.{append-nil, drop_at, length-append, map-append, take_all}
 use Rattle.std.proofs.lemmas.Bool.Decides.{eqb_tells}
 use Rattle.std.proofs.lemmas.Grind.{flat_map-append}
-use Rattle.age_chunk.specs.Payload.{nonce_bytes, chunk_limit, pair, block_bytes, payload}
-use Rattle.age_chunk.specs.Payload.{last_index, last_chunk, chunk_length}
-use Rattle.age_chunk.proofs.FirstChunkLemmas.{first_chunks_more, first_chunks-append}
-use Rattle.age_chunk.proofs.FirstChunkLemmas.{length-first_chunks}
+use Rattle.age_chunk.specs.Payload.{nonce_bytes, chunk_limit, pair, block_bytes, payload, last_index, last_chunk, chunk_length}
+use Rattle.age_chunk.proofs.FirstChunkLemmas.{first_chunks_more, first_chunks-append, length-first_chunks}
 use Rattle.age_stream.proofs.ChunkLemmas.{enumerate_from_more}
 use Rattle.age_stream.proofs.SealingLemmas.{last_index_is}
 use Rattle.age_c.specs.declared.writer.Writer.{Writer}
 use Rattle.age_c.specs.inner.Keys.{key_of_writer as key_of, seals}
-use Rattle.age_c.specs.Writers.{HasSealed, SealsChunk, SealsLast, SameKeys, blocks_of, SealCall}
-use Rattle.age_c.specs.Writers.{IsSealCall, AreSealCalls, CallsArePayload, taken_by, writer_after}
-use Rattle.age_c.specs.Writers.{written_by, AnswersAreSealCalls, FilesAreWhole, WritesOrRefuses}
-use Rattle.age_c.specs.Writers.{salt_in, key_in}
+use Rattle.age_c.specs.Writers.{HasSealed, SealsChunk, SealsLast, SameKeys, blocks_of, WritesOrRefuses}
 use Rattle.age_c.specs.Calls.{Answers, misused}
-use Rattle.age_keys.specs.Keys.{box, header_mac, IsMacOf}
+use Rattle.age_keys.specs.Keys.{header_mac, IsMacOf}
 use Rattle.age_keys.specs.Scrypt.{scrypt_head}
-use Rattle.std.proofs.lemmas.Bool.{false≢true}
 use Rattle.std.proofs.Common.{ap₂}
 
 pub key_same : (was now : Writer) → SameKeys was now → key_of now ≡ key_of was
@@ -167,66 +159,9 @@ seals_last old new rest bytes limit finished same short some is =
       same = same;
     }
 
--- ---- a list of calls
-
-record After (w : Writer) (text more bytes : List ℕ) (last : Writer) : Type 0 where
-  pub sealed : HasSealed last (text ++ more)
-  pub blocks : blocks_of last (text ++ more) ≡ blocks_of w text ++ bytes
-  pub key : key_of last ≡ key_of w
-
-abbrev taken : SealCall → List ℕ
-taken c = if c.answer == 0 then c.text else []
-
 pub not_end : (is_end : Bool) (answer : ℕ) → (is_end ≡ true → answer ≢ 0) → answer ≡ 0 → is_end ≡ false
 not_end true answer other zero = absurd (other refl zero)
 not_end false answer other zero = refl
-
-one_by : (w : Writer) (c : SealCall) (text : List ℕ) → HasSealed w text → IsSealCall w c
-    → (c.is_end ≡ true → c.answer ≢ 0)
-    → ((c.answer == 0) ≡ true) × (c.answer ≡ 0) ⊎ ((c.answer == 0) ≡ false) × (c.answer ≢ 0)
-    → After w text (taken c) c.bytes c.after
-one_by w c text h is middle (inl zero) =
-    let seals = is.1 zero.1 (not_end c.is_end c.answer middle zero.1) in
-    let t : taken c ≡ c.text = ap (λ (b : Bool). if b then c.text else []) zero.0 in
-    record {
-      sealed = subst (λ (more : List ℕ). HasSealed c.after (text ++ more)) (sym t)
-          (seals.sealed text h);
-      blocks = ap (λ (more : List ℕ). blocks_of c.after (text ++ more)) t ∙ seals.blocks text h;
-      key = key_same w c.after seals.same;
-    }
-one_by w c text h is middle (inr other) =
-    let idle = is.0 other.1 in
-    let t : taken c ≡ [] = ap (λ (b : Bool). if b then c.text else []) other.0 in
-    let all : text ++ taken c ≡ text = ap (λ (more : List ℕ). text ++ more) t ∙ append-nil text in
-    record {
-      sealed = subst (λ (t : List ℕ). HasSealed c.after t) (sym all)
-          (subst (λ (w : Writer). HasSealed w text) (sym idle.0) h);
-      blocks = ap (blocks_of c.after) all ∙ (ap (λ (w : Writer). blocks_of w text) idle.0
-          ∙ (sym (append-nil (blocks_of w text))
-          ∙ ap (λ (b : List ℕ). blocks_of w text ++ b) (sym idle.1)));
-      key = ap key_of idle.0;
-    }
-
-all_calls : (calls : List SealCall) (w : Writer) (text : List ℕ) → HasSealed w text
-    → AreSealCalls w calls
-    → After w text (taken_by calls) (written_by calls) (writer_after w calls)
-all_calls [] w text h are = record {
-  sealed = subst (HasSealed w) (sym (append-nil text)) h;
-  blocks = ap (blocks_of w) (append-nil text) ∙ sym (append-nil (blocks_of w text));
-  key = refl;
-}
-all_calls (c ∷ calls) w text h are =
-    let first = one_by w c text h are.0 are.1 (eqb_tells c.answer 0) in
-    let others = all_calls calls c.after (text ++ taken c) first.sealed are.2 in
-    let join : text ++ taken c ++ taken_by calls ≡ text ++ (taken c ++ taken_by calls) =
-    append_assoc text (taken c) (taken_by calls) in
-    record {
-      sealed = subst (HasSealed (writer_after c.after calls)) join others.sealed;
-      blocks = ap (blocks_of (writer_after c.after calls)) (sym join)
-          ∙ (others.blocks ∙ (ap (λ (b : List ℕ). b ++ written_by calls) first.blocks
-          ∙ append_assoc (blocks_of w text) c.bytes (written_by calls)));
-      key = others.key ∙ first.key;
-    }
 
 -- a writer that was given no text wrote no block
 pub none_yet : (w : Writer) → HasSealed w [] → blocks_of w [] ≡ []
@@ -234,19 +169,6 @@ none_yet w h =
     let z : w.chunk ≡ 0 = omega (arith, h.whole) in
     ap (λ (n : ℕ). block_bytes (map (pair (seals (key_of w)) false)
     (enumerate_from 0 (first_chunks chunk_length n [])))) z
-
-pub calls_are_payload : CallsArePayload
-calls_are_payload w h calls are last is is_end zero =
-    let after = all_calls calls w [] h are in
-    let seals_last = is.2 zero is_end in
-    let whole = seals_last.payload_is (taken_by calls) after.sealed in
-    let front : blocks_of (writer_after w calls) (taken_by calls) ≡ written_by calls =
-    after.blocks ∙ ap (λ (b : List ℕ). b ++ written_by calls) (none_yet w h) in
-    sym (ap (λ (k : List ℕ). payload (seals k) chunk_length (taken_by calls ++ last.text))
-    (sym after.key)
-    ∙ (whole ∙ ap (λ (b : List ℕ). b ++ last.bytes) front))
-
--- ---- answers are calls
 
 pub idle_or_did : {State : Type 0} (old new : State) (before after : List ℕ) (answer written : ℕ)
     (Fits : Type 0) (Does : List ℕ → State → Type 0) (Why : ℕ → Type 0)
@@ -264,36 +186,8 @@ idle_or_did old new before after answer written Fits Does Why it (inr other) = (
   λ zero. (it.taken other.1).wrote zero,
 )
 
-pub answers_are_seal_calls : AnswersAreSealCalls
-answers_are_seal_calls old new text before after answer written = (
-  λ it.
-      let both = idle_or_did old new before after answer written _ _ _ it
-      (eqb_tells answer misused) in
-      (both.0, λ zero middle. both.1 zero, λ zero is. absurd (false≢true is)),
-  λ it.
-      let both = idle_or_did old new before after answer written _ _ _ it
-      (eqb_tells answer misused) in
-      (both.0, λ zero middle. absurd (false≢true (sym middle)), λ zero is. both.1 zero),
-)
-
 -- ---- whole files
 
 pub mac_holds : (pass : List ℕ) (work : ℕ) (salt key : List ℕ) → IsMacOf (scrypt_head pass work salt key) key
 unfolding scrypt_head header_mac
 mac_holds pass work salt key = refl
-
-pub files_are_whole : FilesAreWhole
-files_are_whole pass work random front w begins calls are last is is_end zero =
-    let whole = calls_are_payload w begins.start calls are last is is_end zero in
-    let after = all_calls calls w [] begins.start are in
-    let text = taken_by calls ++ last.text in (
-      record {
-        front = begins.front.front;
-        head = begins.front.head;
-        mac = mac_holds pass work (salt_in random) (key_in random);
-        size = begins.front.size;
-        parts = ap₂ (λ (a b : List ℕ). a ++ b) begins.front.parts
-            (whole ∙ ap₂ (λ (k n : List ℕ). payload (box k n) chunk_length text) begins.key begins.nonce);
-      },
-      (is.2 zero is_end).few (taken_by calls) after.sealed,
-    )

@@ -2,15 +2,12 @@
 -- on after any calls.
 use Rattle.std.specs.Prelude.{◌≡◌, ℕ, ◌<◌, IsSome, false, List, [], Some, ◌⊎◌, ◌+◌, ◌≤◌, length}
 use Rattle.std.specs.Prelude.{take, drop, ◌≢◌, ◌==◌, Bool, true, ◌∷◌, ◌++◌, if◌then◌else◌, ◌*◌}
-use Rattle.std.specs.Prelude.{Contains}
 use Rattle.std.specs.List.{flat_map, AllByRecursion}
 use Rattle.age_stanza.specs.Grammar.{HeadText, header_limit}
 use Rattle.age_stanza.specs.Parsing.{HasHeader, NoFault, IsFault, memory_fault, head_fault_number}
 use Rattle.age_stanza.specs.declared.header.Header.{Header}
-use Rattle.age_chunk.specs.Payload.{chunk_limit, chunk_length, block_length, nonce_bytes}
-use Rattle.age_chunk.specs.Payload.{chunk_count, sealed, payload}
-use Rattle.age_stream.specs.Segment.{Segment, Outcome, outcome, released, rest_bytes, fresh}
-use Rattle.age_stream.specs.Segment.{with_piece, with_end}
+use Rattle.age_chunk.specs.Payload.{chunk_limit, chunk_length, block_length, chunk_count, payload}
+use Rattle.age_stream.specs.Segment.{Segment, Outcome, outcome, released, rest_bytes, fresh, with_piece, with_end}
 use Rattle.age_stream.specs.declared.step.Status.TheVariants.{Open}
 use Rattle.age_keys.specs.Keys.{unbox, Opens, Refuses, key_fault_number, box}
 use Rattle.age_keys.specs.declared.fault.KeyFault.{KeyFault}
@@ -18,7 +15,6 @@ use Rattle.age_c.specs.Calls.{reader_status, more, Answers, answer_of, misused}
 use Rattle.age_c.specs.declared.reader.Reader.{Reader}
 use Rattle.age_c.specs.declared.start.StartFault.{StartFault}
 use Rattle.age_c.specs.declared.start.StartFault.TheVariants.{More, Head, Key}
-use Rattle.age_chunk.specs.ChunkBoxes.{tag_length}
 use Rattle.age_stream.specs.Laws.{IsClosed}
 use Rattle.age_stream.specs.Headline.{IsAuthentic, IsPrefixOf, IsFirstWrong}
 
@@ -223,51 +219,6 @@ given_by start calls = segment_from (fresh start) calls
 abbrev pub AllAnswer : ℕ → List Call → Type 0
 AllAnswer answer calls = AllByRecursion (λ (c : Call). c.answer ≢ misused → c.answer ≡ answer) calls
 
--- the reader stays refused with 17 at this block
-pub record StaysRefused (i : ℕ) (c : Call) : Type 0 where
-  pub answer : c.answer ≢ misused → c.answer ≡ 17
-  pub chunk : c.after.fault_chunk ≡ i
-
--- the first call that gave a wrong block, block number i, is refused for it, none before it is, and
--- each one after it is
-pub record IsRefusedAt (i : ℕ) (before : List Call) (wrong : Call) (later : List Call)
-    : Type 0 where
-  -- the calls before it answered 0
-  pub zero : AllAnswer 0 before
-  -- the wrong call answered 17
-  pub there : wrong.answer ≡ 17
-  -- the reader after it says which block it was
-  pub chunk : wrong.after.fault_chunk ≡ i
-  -- the calls after it stay refused
-  pub stays : AllByRecursion (StaysRefused i) later
-
--- ---- Which blocks are the writer's.
-
--- a text that was sealed for this reader's file
-module _ (r : Reader) (text : List ℕ) where
-  -- the writer of the text sealed this block as number i, and as the last or not
-  abbrev pub IsBlock : ℕ → Bool → List ℕ → Type 0
-  IsBlock i last block =
-      Contains (sealed (box r.file_key r.nonce) chunk_length text) (nonce_bytes i last, block)
-
-  -- the calls gave the writer's blocks from number i up to the one before j, none of them the last;
-  -- calls may be misused in between
-  abbrev pub GiveBlocks : ℕ → List Call → ℕ → Type 0
-  GiveBlocks i [] j = i ≡ j
-  GiveBlocks i (c ∷ calls) j =
-      ((c.answer ≡ misused) × GiveBlocks i calls j)
-      ⊎ ((c.answer ≢ misused) × (c.is_end ≡ false) × IsBlock i false c.bytes
-      × GiveBlocks (i + 1) calls j)
-
-  -- the call gave a block that the writer didn't seal as number i: a whole one, or what is left at
-  -- the end, if that is more than a tag
-  pub record GivesWrong (i : ℕ) (c : Call) : Type 0 where
-    pub taken : c.answer ≢ misused
-    pub block : c.is_end ≡ false → length c.bytes ≡ block_length
-    pub rest : c.is_end ≡ true
-        → (tag_length < length c.bytes) × (length c.bytes < block_length)
-    pub wrong : (last : Bool) → ¬ IsBlock i last c.bytes
-
 -- ---- What a caller may rely on.
 
 -- calls on the reader since it was at this chunk
@@ -313,14 +264,6 @@ module _ (r : Reader) (text : List ℕ) (start : ℕ) where
     -- 22 never comes
     pub few : AreCallsAuthentic calls → AllByRecursion (λ (c : Call). c.answer ≢ 22) calls
 
-  -- what a caller of blocks may rely on
-  pub record AreRight (calls : List Call) : Type 0 where
-    pub text_is : IsTextRight calls
-    -- the first block that isn't the writer's is refused with 17
-    pub refused : AreCallsAuthentic calls → (i : ℕ) (before : List Call) (wrong : Call)
-        (later : List Call) → calls ≡ before ++ wrong ∷ later → GiveBlocks r text start before i
-        → GivesWrong r text i wrong → IsRefusedAt i before wrong later
-
 -- ---- The headline for a caller.
 
 -- a caller may rely on all of this after any calls on a reader that is at a chunk and was given
@@ -328,7 +271,7 @@ module _ (r : Reader) (text : List ℕ) (start : ℕ) where
 abbrev pub CallsAreWritten : Type 0
 CallsAreWritten = (r : Reader) (start : ℕ) → IsAt r (fresh start) → start < chunk_limit
     → (calls : List Call) → AreCalls r calls
-    → (text : List ℕ) → chunk_count chunk_length text ≤ chunk_limit → AreRight r text start calls
+    → (text : List ℕ) → chunk_count chunk_length text ≤ chunk_limit → IsTextRight r text start calls
 
 -- a seek that answered 0: the chunk that it went to, and the reader after it; and the calls up to
 -- the next such seek. A seek that was misused stands among them, as a call that was misused
@@ -348,5 +291,5 @@ AreParts r (p ∷ parts) = (p.chunk < chunk_limit) × GoesTo p.chunk r p.begun
 abbrev pub PartsAreWritten : Type 0
 PartsAreWritten = (r : Reader) (parts : List Part) → AreParts r parts
     → (text : List ℕ) → chunk_count chunk_length text ≤ chunk_limit
-    → AllByRecursion (λ (p : Part). SameFile r p.begun × AreRight p.begun text p.chunk p.calls)
+    → AllByRecursion (λ (p : Part). SameFile r p.begun × IsTextRight p.begun text p.chunk p.calls)
     parts

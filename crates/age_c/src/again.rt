@@ -1,7 +1,6 @@
 //! The function by which C learns when a header is worth another try.
 
-ghost use Rattle.std.specs.Prelude.{◌≡◌, ◌≢◌, ℕ, ◌+◌, ◌<◌, ◌≤◌, ◌↔◌, IsTrue, true, false};
-ghost use Rattle.std.specs.Prelude.{length};
+ghost use Rattle.std.specs.Prelude.{◌≡◌, ◌≢◌, ℕ, ◌+◌, ◌<◌, ◌≤◌, ◌↔◌, IsTrue, true, false, length};
 ghost use Rattle.age_stanza.specs.declared.header.Header.{Header};
 ghost use Rattle.age_c.specs.Calls.{more, EndsAt, IsWorthATry, marks_in};
 ghost use Rattle.age_c.specs.Readers.{HasFront};

@@ -1,11 +1,9 @@
 //! The functions by which C writes a file in pieces of any length.
 
-ghost use Rattle.std.specs.Prelude.{◌≡◌, ◌≢◌, ◌+◌, ◌<◌, ◌≤◌, ◌↔◌, IsTrue, true, false, [], length};
-ghost use Rattle.std.specs.Prelude.{take};
+ghost use Rattle.std.specs.Prelude.{◌≡◌, ◌≢◌, ◌+◌, ◌<◌, ◌≤◌, ◌↔◌, IsTrue, true, false, [], length, take};
 ghost use Rattle.age_chunk.specs.Payload.{block_length, chunk_length, chunk_limit};
 ghost use Rattle.age_c.specs.Calls.{Answers, PutsFront};
-ghost use Rattle.age_c.specs.Writers.{CanSeal, WritesOrRefuses, FeedsText, FinishesText};
-ghost use Rattle.age_c.specs.Writers.{IsTextCall, RefusesText};
+ghost use Rattle.age_c.specs.Writers.{CanSeal, WritesOrRefuses, FeedsText, FinishesText, IsTextCall, RefusesText};
 ghost use Rattle.age_c.specs.inner.Holding.{HoldsText};
 
 use crate::MISUSED;

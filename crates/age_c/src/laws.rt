@@ -4,14 +4,13 @@
 ghost use Rattle.age_c.specs.Readers.{CallsAreWritten, PartsAreWritten, AnswersAreCalls};
 ghost use Rattle.age_c.specs.Streams.{AnswersAreFeedCalls, AnswersAreTextCalls, FeedsAreWritten};
 ghost use Rattle.age_c.specs.Streams.{PiecesReadBack, TextsAreFiles};
-ghost use Rattle.age_c.specs.Writers.{AnswersAreSealCalls, CallsArePayload, FilesAreWhole};
 
 /// The headline for a caller: after any calls of [`age_c_block`](crate::age_c_block) and
 /// [`age_c_end`](crate::age_c_end) on a reader that was just begun, or went to a chunk, while no
 /// block opens except as the writer of a text sealed it, what was written is the beginning of that
 /// text from that chunk on, and all of it if the last call is an end that answered 0; then the
 /// chunk begins within the text, so that its length is known. An undamaged payload gives all of it,
-/// and 0 each time. The first block that isn't the writer's is refused with 17.
+/// and 0 each time.
 pub fn calls_are_written()
     ensures { CallsAreWritten }
 {}
@@ -24,30 +23,10 @@ pub fn parts_are_written()
     ensures { PartsAreWritten }
 {}
 
-/// What any calls of [`age_c_seal_block`](crate::age_c_seal_block) and then one of
-/// [`age_c_seal_end`](crate::age_c_seal_end) that answers 0 write is the payload of the text that
-/// they took.
-pub fn calls_are_payload()
-    ensures { CallsArePayload }
-{}
-
-/// What [`age_c_seal_passphrase`](crate::age_c_seal_passphrase) wrote, followed by what such calls
-/// write, is the age file of the text.
-pub fn files_are_whole()
-    ensures { FilesAreWhole }
-{}
-
 /// What [`age_c_block`](crate::age_c_block) and [`age_c_end`](crate::age_c_end) promise makes each
 /// use of them one of the calls that [`calls_are_written`] speaks of.
 pub fn answers_are_calls()
     ensures { AnswersAreCalls }
-{}
-
-/// What [`age_c_seal_block`](crate::age_c_seal_block) and [`age_c_seal_end`](crate::age_c_seal_end)
-/// promise makes each use of them one of the calls that [`calls_are_payload`] and
-/// [`files_are_whole`] speak of.
-pub fn answers_are_seal_calls()
-    ensures { AnswersAreSealCalls }
 {}
 
 /// The headline for a caller whose pieces have any length: what [`calls_are_written`] says of blocks

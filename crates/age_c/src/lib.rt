@@ -32,14 +32,13 @@ pub use again::age_c_may_open;
 pub use feed::{age_c_feed, age_c_finish};
 pub use feed_text::{age_c_feed_text, age_c_finish_text};
 pub use laws::{
-    answers_are_calls, answers_are_feed_calls, answers_are_seal_calls, answers_are_text_calls,
-    calls_are_payload, calls_are_written, feeds_are_written, files_are_whole, parts_are_written,
-    pieces_read_back, texts_are_files,
+    answers_are_calls, answers_are_feed_calls, answers_are_text_calls, calls_are_written,
+    feeds_are_written, parts_are_written, pieces_read_back, texts_are_files,
 };
 pub use open::{age_c_open_key, age_c_open_passphrase, age_c_open_shared, age_c_version};
 pub use read::{age_c_block, age_c_end};
 pub use reader::Reader;
-pub use seal::{age_c_seal_block, age_c_seal_end, age_c_seal_passphrase};
+pub use seal::age_c_seal_passphrase;
 pub use seek::age_c_seek;
 pub use size::age_c_size;
 pub use stream::Stream;

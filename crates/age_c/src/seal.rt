@@ -1,10 +1,8 @@
 //! The functions by which C writes a file.
 
-ghost use Rattle.std.specs.Prelude.{◌≡◌, ◌+◌, ◌↔◌, IsTrue};
-ghost use Rattle.age_chunk.specs.Payload.{chunk_limit};
+ghost use Rattle.std.specs.Prelude.{◌≡◌, ◌↔◌, IsTrue};
 ghost use Rattle.age_c.specs.Calls.{Answers};
-ghost use Rattle.age_c.specs.Writers.{CanSeal, IsStartCall, IsChunkCall, IsLastCall};
-ghost use Rattle.age_c.specs.Writers.{WritesOrRefuses, BeginsFileFrom, SealsChunk, SealsLast};
+ghost use Rattle.age_c.specs.Writers.{CanSeal, IsStartCall, WritesOrRefuses, BeginsFileFrom};
 
 use crate::MISUSED;
 use crate::blocks::put;
@@ -60,54 +58,4 @@ pub extern "C" fn age_c_seal_passphrase(
         }
         Err(fault) => fault.number(),
     }
-}
-
-/// Seals a whole chunk of 65,536 bytes that isn't the last into `out`, which has room for 65,552 or
-/// more. A chunk that can only be the last, since a payload has at most 2^48, is refused with 22,
-/// and nothing is changed.
-#[unsafe(no_mangle)]
-pub extern "C" fn age_c_seal_block(
-    writer: &mut Writer,
-    text: &[u8],
-    out: &mut [u8],
-    written: &mut usize,
-) -> u32
-    ensures { Answers (IsChunkCall writer.old text.now out.old)
-        (WritesOrRefuses (SealsChunk text.now writer.old)
-        (λ answer. (answer ≡ 22) × (writer.old.chunk + 1 ≡ chunk_limit)) writer.old)
-        writer.old writer.new result written.new out.old out.new }
-{
-    *written = 0;
-    if !can_be_used(writer) || text.len() != CHUNK_LEN || out.len() < BLOCK_LEN {
-        return MISUSED;
-    }
-    if writer.chunk == CHUNK_LIMIT - 1 {
-        return TOO_MANY_CHUNKS;
-    }
-    *written = seal_next(writer, text, out);
-    0
-}
-
-/// Seals what is left of the text, 0 to 65,536 bytes, as the last chunk into `out`, which has room
-/// for 16 bytes more. It has no byte only if the whole text has none.
-#[unsafe(no_mangle)]
-pub extern "C" fn age_c_seal_end(
-    writer: &mut Writer,
-    rest: &[u8],
-    out: &mut [u8],
-    written: &mut usize,
-) -> u32
-    ensures { Answers (IsLastCall writer.old rest.now out.old)
-        (WritesOrRefuses (SealsLast rest.now writer.old) (λ _. ⊥) writer.old)
-        writer.old writer.new result written.new out.old out.new }
-{
-    *written = 0;
-    if !can_be_used(writer) || rest.len() > CHUNK_LEN || (rest.is_empty() && writer.chunk > 0) {
-        return MISUSED;
-    }
-    if out.len() < rest.len() + 16 {
-        return MISUSED;
-    }
-    *written = seal_last(writer, rest, out);
-    0
 }

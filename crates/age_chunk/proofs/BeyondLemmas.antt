@@ -1,6 +1,5 @@
 -- A box that is valid on bytes is valid once it is continued to all lists.
-use Rattle.std.specs.Prelude.{◌≡◌, ℕ, ◌+◌, List, ◌++◌, length, take, Option, Some, None, nat_lt}
-use Rattle.std.specs.Prelude.{nat_le, ◌&&◌, Bool, true, false, not, cond, if◌then◌else◌}
+use Rattle.std.specs.Prelude.{◌≡◌, ℕ, ◌+◌, List, ◌++◌, length, take, Option, Some, None, nat_lt, nat_le, ◌&&◌, Bool, true, false, not, cond, if◌then◌else◌}
 use Rattle.std.specs.Str.{bytes_eq}
 use Rattle.std.proofs.Common.{refl, sym, ap, ◌∙◌, arith}
 use Rattle.std.proofs.lemmas.Slice.Eq.{bytes_eq-Decides}
@@ -10,8 +9,7 @@ use Rattle.std.proofs.lemmas.Bool.{le-leb, leb-true, and_parts}
 use Rattle.std.proofs.lemmas.Option.{cond_some}
 use Rattle.age_chunk.specs.ChunkBoxes.{Seals, OpensBlock, IsChunkBox, tag_length, text_length}
 use Rattle.age_chunk.specs.Payload.{chunk_length, block_length}
-use Rattle.age_chunk.specs.Beyond.{are_bytes, is_text, is_block, IsChunkBoxOnBytes, no_tag}
-use Rattle.age_chunk.specs.Beyond.{sealing_beyond, opening_beyond}
+use Rattle.age_chunk.specs.Beyond.{are_bytes, is_text, is_block, IsChunkBoxOnBytes, no_tag, sealing_beyond, opening_beyond}
 
 by_cases : {P : Type 0} (b : Bool) → (b ≡ true → P) → (b ≡ false → P) → P
 by_cases true left right = left refl

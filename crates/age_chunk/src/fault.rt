@@ -4,31 +4,48 @@ ghost use Rattle.std.specs.Prelude.{◌≡◌, Some, None};
 ghost use Rattle.age_chunk.specs.Payload.{stream_fault_number};
 
 use std::alloc::AllocError;
+use std::{error, fmt};
 use thiserror::Error;
 
 /// Why a payload, or a text to be sealed, was refused. The value of each kind is its number in the
 /// list of all faults.
-#[derive(Clone, Copy, Debug, PartialEq, Eq, Error)]
+#[derive(Clone, Copy, Debug, PartialEq, Eq)]
 pub enum StreamKind {
     /// A whole block, or the last one, opens neither as its chunk nor as the last.
-    #[error("chunk damaged")]
     ChunkDamaged = 17,
     /// The input ended with 1 to 15 bytes of a block, fewer than a tag.
-    #[error("chunk cut")]
     ChunkCut = 18,
     /// The last chunk is empty though chunks came before it.
-    #[error("empty last chunk")]
     EmptyLast = 19,
     /// The input ended before the last chunk.
-    #[error("payload truncated")]
     Truncated = 20,
     /// Bytes came after the last chunk.
-    #[error("bytes after the last chunk")]
     Trailing = 21,
     /// A further chunk would have the number [`CHUNK_LIMIT`](crate::CHUNK_LIMIT), which is 2^48.
-    #[error("too many chunks")]
     TooManyChunks = 22,
 }
+
+impl StreamKind {
+    /// What is said of it.
+    fn text(&self) -> &'static str {
+        match self {
+            StreamKind::ChunkDamaged => "chunk damaged",
+            StreamKind::ChunkCut => "chunk cut",
+            StreamKind::EmptyLast => "empty last chunk",
+            StreamKind::Truncated => "payload truncated",
+            StreamKind::Trailing => "bytes after the last chunk",
+            StreamKind::TooManyChunks => "too many chunks",
+        }
+    }
+}
+
+impl fmt::Display for StreamKind {
+    fn fmt<W: fmt::Write>(&self, f: &mut fmt::Formatter<W>) -> fmt::Result {
+        f.write_str(self.text())
+    }
+}
+
+impl error::Error for StreamKind {}
 
 impl StreamKind {
     /// The kind's number in the list of all faults.

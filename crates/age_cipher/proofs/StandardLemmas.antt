@@ -3,8 +3,7 @@ use Rattle.std.proofs.Common.{◌≡◌, ℕ, ◌+◌, ◌*◌, ◌/◌, ◌%◌
 use Rattle.rand_core.specs.Steps.{u32_at}
 use Rattle.rand_chacha.specs.Block.{initial_state, block_word}
 use Rattle.rand_chacha.specs.ChaCha.{key_of}
-use Rattle.age_cipher.specs.Keystream.{stream_number, block_place, keystream_byte}
-use Rattle.age_cipher.specs.Keystream.{state, state_word, block_byte}
+use Rattle.age_cipher.specs.Keystream.{stream_number, block_place, keystream_byte, state, state_word, block_byte}
 use Rattle.age_cipher.proofs.KeystreamLemmas.{u32_at-lt}
 
 -- the generator's last four words are the counter and the nonce

@@ -1,12 +1,10 @@
 //! The AEAD of ChaCha20 and Poly1305 (RFC 8439, 2.8), in place.
 
-ghost use Rattle.std.specs.Prelude.{◌≡◌, ◌-◌, ◌≤◌, ◌↔◌, [], ◌∷◌, length, take};
-ghost use Rattle.std.specs.Prelude.{drop, IsTrue};
+ghost use Rattle.std.specs.Prelude.{◌≡◌, ◌-◌, ◌≤◌, ◌↔◌, [], ◌∷◌, length, take, drop, IsTrue};
 ghost use Rattle.std.specs.List.{concat};
 ghost use Rattle.std.specs.Bool.{OnTrue, OnFalse};
 ghost use Rattle.age_cipher.specs.Poly1305.{poly1305};
-ghost use Rattle.age_cipher.specs.Aead.{block_limit, one_time_key, padding, tag, sealing};
-ghost use Rattle.age_cipher.specs.Aead.{IsSealing};
+ghost use Rattle.age_cipher.specs.Aead.{block_limit, one_time_key, padding, tag, sealing, IsSealing};
 
 use crate::authenticator::poly1305;
 use crate::keystream::xor_stream;

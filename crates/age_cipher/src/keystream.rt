@@ -1,7 +1,6 @@
 //! ChaCha20 (RFC 8439, 2.4), whose words come from the generator of `rand_chacha`.
 
-ghost use Rattle.std.specs.Prelude.{◌≡◌, ℕ, ◌+◌, ◌*◌, ◌%◌, ◌^◌, ◌<◌, ◌≤◌};
-ghost use Rattle.std.specs.Prelude.{length, slice_index};
+ghost use Rattle.std.specs.Prelude.{◌≡◌, ℕ, ◌+◌, ◌*◌, ◌%◌, ◌^◌, ◌<◌, ◌≤◌, length, slice_index};
 ghost use Rattle.rand_chacha.specs.ChaCha.{word_at, key_of};
 ghost use Rattle.age_cipher.specs.Keystream.{stream_number, block_place, ciphertext};
 

@@ -1,7 +1,6 @@
 -- What a command did, from what its steps did.
-use Rattle.std.proofs.Common.{◌≡◌, ◌∙◌, ◌⊎◌, ◌++◌, Option, Some, None, ap, sym, inl, inr, Bool}
-use Rattle.std.proofs.Common.{true, false, true≢false, List, ℕ, refl}
-use Rattle.std.proofs.Common.{Result, Ok, Err, OnOk, IfErr}
+use Rattle.std.proofs.Common.{◌≡◌, ◌∙◌, ◌⊎◌, ◌++◌, Option, Some, None, ap, sym, inl, inr, Bool, true, false, true≢false, List, ℕ, refl, Result, Ok, Err, OnOk}
+use Rattle.std.proofs.Common.{IfErr}
 use Rattle.std.specs.Prelude.{IsErr, IsErrAnd}
 use Rattle.age_file.specs.Runs.{Ports}
 use Rattle.age_fileset.specs.FileSet.{Event, FilesView}
@@ -9,17 +8,15 @@ use Rattle.age_cli_args.specs.Requests.{option_text}
 use Rattle.age_cli_args.specs.declared.request.ProgressOption.{ProgressOption}
 use Rattle.age_cli_args.specs.declared.request.ProgressOption.TheVariants.{Shown, Silent}
 use Rattle.age_cli_args.specs.declared.request.Request.{Request}
-use Rattle.age_cli_args.specs.declared.request.Request.TheVariants.{Inspect, Decrypt, Resume}
-use Rattle.age_cli_args.specs.declared.request.Request.TheVariants.{Encrypt, Drill}
-use Rattle.age_identity.specs.Orders.{Follows, replacing, NamesTwice, order_asked}
-use Rattle.age_identity.specs.Files.{Files}
-use Rattle.age_ending.specs.Endings.{is_usage}
-use Rattle.age_identity.specs.Files.{HasReason}
-use Rattle.age_ending.specs.declared.ending.Ending.{Ending}
-use Rattle.age_cli.specs.Acts.{Acts, EndsBefore, GivesNone, HasEngineEnded, OfEngine}
-use Rattle.age_cli.specs.Acts.{Spares, progress_of, input_of, IsUsage, LeavesOut, WritesOut}
+use Rattle.age_cli_args.specs.declared.request.Request.TheVariants.{Inspect, Decrypt, Resume, Encrypt, Drill}
+use Rattle.age_command.specs.Orders.{Follows, replacing, NamesTwice, order_asked}
+use Rattle.age_command.specs.Files.{Files}
+use Rattle.age_command.specs.Endings.{is_usage}
+use Rattle.age_command.specs.Files.{HasReason}
+use Rattle.age_command.specs.declared.ending.Ending.{Ending}
+use Rattle.age_cli.specs.Acts.{Acts, EndsBefore, GivesNone, HasEngineEnded, OfEngine, Spares, progress_of, input_of, IsUsage, LeavesOut, WritesOut}
 use Rattle.age_cli.proofs.CommandLemmas.{not_well, this_error, just_error}
-use Rattle.age_identity.proofs.EventLemmas.{longer}
+use Rattle.age_command.proofs.EventLemmas.{longer}
 use Rattle.std.proofs.lemmas.Result.{IfErr-weaker}
 
 -- if no file differs, none but the outputs does

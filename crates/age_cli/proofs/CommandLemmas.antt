@@ -1,7 +1,6 @@
 -- What holds if a command or a step of one ends early, and of what a step read.
-use Rattle.std.proofs.Common.{◌≡◌, ◌∙◌, ◌⊎◌, ◌++◌, ◌∷◌, [], inl, inr, ap, sym, subst, refl, Bool}
-use Rattle.std.proofs.Common.{true, false, true≢false, append-nil, List, ℕ, Option, Some, None}
-use Rattle.std.proofs.Common.{Result, Ok, Err, IfOk, IfErr, OnOk}
+use Rattle.std.proofs.Common.{◌≡◌, ◌∙◌, ◌⊎◌, ◌++◌, ◌∷◌, [], inl, inr, ap, sym, subst, refl, Bool, true, false, true≢false, append-nil, List, ℕ, Option, Some}
+use Rattle.std.proofs.Common.{None, Result, Ok, Err, IfOk, IfErr, OnOk}
 use Rattle.std.specs.Prelude.{IsErr, IsErrAnd, is_some, OnErr}
 use Rattle.std.specs.Io.KnownBytes.{Consumes}
 use Rattle.age_fault.specs.declared.fault.FileFault.{FileFault}
@@ -10,16 +9,16 @@ use Rattle.age_fileset.specs.FileSet.{IsMemoryOr, OpenFails, Event, Opened, File
 use Rattle.age_fileset.specs.declared.files.OpenFault.{OpenFault}
 use Rattle.age_fileset.specs.declared.files.OpenFault.TheVariants.{SameFile}
 use Rattle.age_fileset.specs.declared.files.OpenFault.TheVariants as create
-use Rattle.age_ending.specs.Endings.{EndsEarly, is_usage}
-use Rattle.age_identity.specs.Files.{HasReason, IsUnmade, IsUnread}
-use Rattle.age_identity.specs.Identities.{Chooses, IsSecretIn, Makes, file_of}
-use Rattle.age_identity.specs.Files.{Files}
-use Rattle.age_identity.specs.declared.choice.Choice.{Choice}
-use Rattle.age_identity.specs.declared.identity.Identity.{Identity}
+use Rattle.age_command.specs.Endings.{EndsEarly, is_usage}
+use Rattle.age_command.specs.Files.{HasReason, IsUnmade, IsUnread}
+use Rattle.age_command.specs.Identities.{Chooses, IsSecretIn, Makes, file_of}
+use Rattle.age_command.specs.Files.{Files}
+use Rattle.age_command.specs.declared.choice.Choice.{Choice}
+use Rattle.age_command.specs.declared.identity.Identity.{Identity}
 use Rattle.clap.specs.Words.{Text}
-use Rattle.age_ending.specs.inner.Endings.{ending_of}
-use Rattle.age_ending.specs.declared.ending.Ending.{Ending}
-use Rattle.age_ending.specs.declared.ending.Ending.TheVariants.{Fault}
+use Rattle.age_command.specs.inner.Endings.{ending_of}
+use Rattle.age_command.specs.declared.ending.Ending.{Ending}
+use Rattle.age_command.specs.declared.ending.Ending.TheVariants.{Fault}
 use Rattle.age_cli_args.specs.declared.request.Decrypting.{Decrypting}
 use Rattle.age_cli.specs.Acts.{OpensOf}
 use Rattle.age_cli.specs.Commands.{HoldsNoPosition}

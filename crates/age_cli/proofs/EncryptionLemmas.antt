@@ -1,6 +1,5 @@
 -- What an encryption did, step by step.
-use Rattle.std.proofs.Common.{◌≡◌, ◌<◌, ◌∙◌, ◌++◌, ap, sym, List, ℕ, length, Option, Some}
-use Rattle.std.proofs.Common.{append_assoc, arith}
+use Rattle.std.proofs.Common.{◌≡◌, ◌<◌, ◌∙◌, ◌++◌, ap, sym, List, ℕ, length, Option, Some, append_assoc, arith}
 use Rattle.std.proofs.lemmas.List.{length-append}
 use Rattle.age_file.specs.Encrypts.{SecretView}
 use Rattle.age_cli.specs.Commands.{IsRandomIn}

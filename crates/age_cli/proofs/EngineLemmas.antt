@@ -1,7 +1,6 @@
 -- What becomes of OUT, from what an engine promises and how OUT was ended.
-use Rattle.std.proofs.Common.{◌≡◌, ◌∙◌, ◌⊎◌, ℕ, ap, sym, subst, refl, inl, inr, Bool, true, false}
-use Rattle.std.proofs.Common.{true≢false, List, [], Option, Some}
-use Rattle.std.proofs.Common.{Result, Ok, Err, OnOk, IfOk, IfErr, ⊎_elim, rules}
+use Rattle.std.proofs.Common.{◌≡◌, ◌∙◌, ◌⊎◌, ℕ, ap, sym, subst, refl, inl, inr, Bool, true, false, true≢false, List, [], Option, Some, Result, Ok, Err, OnOk}
+use Rattle.std.proofs.Common.{IfOk, IfErr, ⊎_elim, rules}
 use Rattle.std.specs.Prelude.{IsOk, IsSomeAnd, is_some}
 use Rattle.std.proofs.lemmas.Result.{on_ok_weaker, IfErr-weaker}
 use Rattle.age_io.specs.Io.{SourceView}
@@ -18,16 +17,13 @@ use Rattle.age_file.specs.declared.position.PositionPolicy.{PositionPolicy}
 use Rattle.age_fault.specs.declared.fault.FileFault.{FileFault}
 use Rattle.age_fault.specs.declared.fault.FileFault.TheVariants as fault
 use Rattle.age_fileset.specs.FileSet.{FilesView}
-use Rattle.age_identity.specs.Files.{Files, SparesBoth}
-use Rattle.age_ending.specs.declared.ending.Ending.{Ending}
-use Rattle.age_identity.specs.declared.identity.Identity.{Identity}
-use Rattle.age_identity.specs.Identities.{allows_by, refuses_by}
-use Rattle.age_cli.specs.Acts.{Engine, Ran, encrypt_engine, decrypt_engine, resume_engine, Paths}
-use Rattle.age_cli.specs.Acts.{WritesOut, LeavesOut}
-use Rattle.age_cli.specs.Acts.{IsLeft, IsUnclosed, EndsOf}
+use Rattle.age_command.specs.Files.{Files, SparesBoth}
+use Rattle.age_command.specs.declared.ending.Ending.{Ending}
+use Rattle.age_command.specs.declared.identity.Identity.{Identity}
+use Rattle.age_command.specs.Identities.{allows_by, refuses_by}
+use Rattle.age_cli.specs.Acts.{Engine, Ran, encrypt_engine, decrypt_engine, resume_engine, Paths, WritesOut, LeavesOut, IsLeft, IsUnclosed, EndsOf}
 use Rattle.age_cli.specs.declared.interruption.Interruption.{Interruption}
-use Rattle.age_cli.specs.inner.Endings.{sealing_end, opening_end, Left}
-use Rattle.age_cli.specs.inner.Endings.{Concludes}
+use Rattle.age_cli.specs.inner.Endings.{sealing_end, opening_end, Left, Concludes}
 use Rattle.age_cli.proofs.CommandStopLemmas.{the_run}
 
 -- an engine's promise, of how it ended

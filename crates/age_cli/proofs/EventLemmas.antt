@@ -3,8 +3,8 @@ use Rattle.std.proofs.Common.{◌≡◌, ◌∙◌, ◌++◌, ◌∷◌, [], ap,
 use Rattle.clap.specs.Words.{Text}
 use Rattle.age_io.specs.declared.durability.Durability.{Durability}
 use Rattle.age_fileset.specs.FileSet.{Event, Created, Closed}
-use Rattle.age_identity.specs.Orders.{Follows, making}
-use Rattle.age_identity.proofs.EventLemmas.{then_did, then_follows}
+use Rattle.age_command.specs.Orders.{Follows, making}
+use Rattle.age_command.proofs.EventLemmas.{then_did, then_follows}
 
 -- the output was created last, and then it was ended, and the file of the position may have been replaced
 pub then_concluded : (xs ys : List Event) (to : Text) (d : Durability) (rest old mid new : List Event) → mid ≡ old ++ (xs ++ (ys ++ Created to ∷ []))

@@ -1,7 +1,6 @@
 -- What a command did whose engine ran.
-use Rattle.std.proofs.Common.{◌≡◌, ◌⊎◌, ◌∙◌, ◌++◌, ◌∷◌, ap, sym, subst, refl, inl, inr, true, List}
-use Rattle.std.proofs.Common.{[], Bool, Option, ℕ, Some, None, append-nil}
-use Rattle.std.proofs.Common.{Result, Ok, Err, OnOk, IfOk, IfErr}
+use Rattle.std.proofs.Common.{◌≡◌, ◌⊎◌, ◌∙◌, ◌++◌, ◌∷◌, ap, sym, subst, refl, inl, inr, true, List, [], Bool, Option, ℕ, Some, None, append-nil, Result, Ok}
+use Rattle.std.proofs.Common.{Err, OnOk, IfOk, IfErr}
 use Rattle.std.specs.Prelude.{is_some}
 use Rattle.std.proofs.lemmas.Result.{on_ok_weaker, IfErr-weaker}
 use Rattle.age_io.specs.Io.{SourceView}
@@ -21,23 +20,19 @@ use Rattle.age_cli_args.specs.declared.request.Decrypting.{Decrypting}
 use Rattle.age_cli_args.specs.declared.request.Resuming.{Resuming}
 use Rattle.age_cli_args.specs.declared.request.Request.{Request}
 use Rattle.age_cli_args.specs.declared.request.Request.TheVariants.{Encrypt, Decrypt, Resume}
-use Rattle.age_identity.specs.Orders.{Follows, identity_order, preparing, making, replacing}
-use Rattle.age_identity.specs.Orders.{NamesTwice, order_asked, random_name}
-use Rattle.age_identity.specs.Files.{Files, SparesBoth}
-use Rattle.age_ending.specs.declared.ending.Ending.{Ending}
-use Rattle.age_identity.specs.declared.identity.Identity.{Identity}
-use Rattle.age_cli.specs.Acts.{Acts, HasEngineEnded, OfEngine, OpensOf, Spares, paths_of}
-use Rattle.age_cli.specs.Acts.{progress_of, input_of, Engine, encrypt_engine, decrypt_engine, resume_engine}
-use Rattle.age_cli.specs.Acts.{Paths, LeavesOut}
-use Rattle.age_cli.specs.Acts.{WritesOut, kept_for}
+use Rattle.age_command.specs.Orders.{Follows, identity_order, preparing, making, replacing, NamesTwice, order_asked, random_name}
+use Rattle.age_command.specs.Files.{Files, SparesBoth}
+use Rattle.age_command.specs.declared.ending.Ending.{Ending}
+use Rattle.age_command.specs.declared.identity.Identity.{Identity}
+use Rattle.age_cli.specs.Acts.{Acts, HasEngineEnded, OfEngine, OpensOf, Spares, paths_of, progress_of, input_of, Engine, encrypt_engine, decrypt_engine}
+use Rattle.age_cli.specs.Acts.{resume_engine, Paths, LeavesOut, WritesOut, kept_for}
 use Rattle.age_cli.specs.Commands.{MakesSecret, IsPositionIn, old_for}
 use Rattle.age_cli.specs.declared.interruption.Interruption.{Interruption}
 use Rattle.age_cli.specs.inner.Endings.{Concludes, sealing_end, opening_end}
 use Rattle.age_cli.specs.inner.Rereadings.{DecryptsOpened, HoldsInput, ResumesOpened}
 use Rattle.age_cli.proofs.ActLemmas.{acts_concluded}
 use Rattle.age_cli.proofs.CommandStopLemmas.{the_run}
-use Rattle.age_cli.proofs.EngineLemmas.{Kept, ends_so, kept_sealing, kept_opening, kept_resuming}
-use Rattle.age_cli.proofs.EngineLemmas.{wrote_out, stopped_out, spared_out}
+use Rattle.age_cli.proofs.EngineLemmas.{Kept, ends_so, kept_sealing, kept_opening, kept_resuming, wrote_out, stopped_out, spared_out}
 use Rattle.age_cli.proofs.EventLemmas.{then_concluded, then_closed}
 use Rattle.age_cli.proofs.ObeyLemmas.{both_done}
 

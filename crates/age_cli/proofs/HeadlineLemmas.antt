@@ -1,8 +1,6 @@
 -- The headline for OUT, from what the commands did.
-use Rattle.std.proofs.Common.{◌≡◌, ◌≤◌, ◌*◌, ◌∙◌, ◌⊎◌, ◌++◌, ℕ, inl, inr, ap, sym, subst, refl}
-use Rattle.std.proofs.Common.{true, true≢false, codes, List, [], length, take, Option, Some, None}
-use Rattle.std.proofs.Common.{append-nil, append_assoc, arith, rules, ⊎_elim, Bool, false, Result}
-use Rattle.std.proofs.Common.{Ok, Err}
+use Rattle.std.proofs.Common.{◌≡◌, ◌≤◌, ◌*◌, ◌∙◌, ◌⊎◌, ◌++◌, ℕ, inl, inr, ap, sym, subst, refl, true, true≢false, codes, List, [], length, take, Option, Some}
+use Rattle.std.proofs.Common.{None, append-nil, append_assoc, arith, rules, ⊎_elim, Bool, false, Result, Ok, Err}
 use Rattle.std.proofs.lemmas.List.{length-take, take_at}
 use Rattle.std.specs.Prelude.{is_some, ◌==◌, if◌then◌else◌, bytes_eq, OnErr, OnOk, IfErr}
 use Rattle.std.specs.Option.{option_map_or}
@@ -19,25 +17,22 @@ use Rattle.age_file.specs.declared.position.PositionPolicy.{PositionPolicy}
 use Rattle.age_file.specs.declared.position.Position.{Position}
 use Rattle.age_fileset.specs.FileSet.{FilesView}
 use Rattle.age_fault.specs.declared.fault.FileFault.{FileFault}
-use Rattle.age_cli_args.specs.Requests.{Asks, IsForHelp, refusals, IsIdentityOptions, IsDecrypting}
-use Rattle.age_cli_args.specs.Requests.{IsResuming, Requests, option_text}
+use Rattle.age_cli_args.specs.Requests.{Asks, IsForHelp, refusals, IsIdentityOptions, IsDecrypting, IsResuming, Requests, option_text}
 use Rattle.age_cli_args.specs.declared.request.IdentityOptions.{IdentityOptions}
 use Rattle.age_cli_args.specs.declared.request.Decrypting.{Decrypting}
 use Rattle.age_cli_args.specs.declared.request.Resuming.{Resuming}
 use Rattle.age_cli_args.specs.declared.request.Request.{Request}
-use Rattle.age_cli_args.specs.declared.request.Request.TheVariants.{Inspect, Encrypt, Decrypt}
-use Rattle.age_cli_args.specs.declared.request.Request.TheVariants.{Resume, Drill}
+use Rattle.age_cli_args.specs.declared.request.Request.TheVariants.{Inspect, Encrypt, Decrypt, Resume, Drill}
 use Rattle.age_cli_args.proofs.SimpleLemmas.{no_command}
 use Rattle.age_cli_args.proofs.NumberLemmas.{one_number}
-use Rattle.age_identity.specs.Files.{Files}
-use Rattle.age_identity.specs.declared.identity.Identity.{Identity}
-use Rattle.age_identity.specs.Identities.{IsIdentity, OpensBy, allows_by, refuses_by}
-use Rattle.age_ending.specs.declared.ending.Ending.{Ending}
-use Rattle.age_cli.specs.Acts.{Acts, EndsBefore, HasEngineEnded, OfEngine, OpensOf, decrypt_engine, resume_engine}
-use Rattle.age_cli.specs.Acts.{IsLeft, Ran}
-use Rattle.age_cli.specs.Acts.{IsUnclosed, LeavesOut, WritesOut, kept_for}
+use Rattle.age_command.specs.Files.{Files}
+use Rattle.age_command.specs.declared.identity.Identity.{Identity}
+use Rattle.age_command.specs.Identities.{IsIdentity, OpensBy, allows_by, refuses_by}
+use Rattle.age_command.specs.declared.ending.Ending.{Ending}
+use Rattle.age_cli.specs.Acts.{Acts, EndsBefore, HasEngineEnded, OfEngine, OpensOf, decrypt_engine, resume_engine, IsLeft, Ran, IsUnclosed, LeavesOut}
+use Rattle.age_cli.specs.Acts.{WritesOut, kept_for}
 use Rattle.age_cli.specs.Runs.{World, Obeys, Prints}
-use Rattle.age_identity.specs.Files.{HasReason}
+use Rattle.age_command.specs.Files.{HasReason}
 use Rattle.age_cli.specs.Commands.{IsPositionIn, old_for}
 use Rattle.age_cli.proofs.CommandStopLemmas.{stop_wrote, resume_wrote}
 use Rattle.age_file.proofs.RunLemmas.{writes_all}

@@ -5,7 +5,7 @@ use Rattle.age_cli_args.specs.Requests.{option_text}
 use Rattle.age_cli_args.specs.declared.request.Resuming.{Resuming}
 use Rattle.age_cli_args.specs.declared.request.Request.{Request}
 use Rattle.age_cli_args.specs.declared.request.Request.TheVariants.{Decrypt, Resume}
-use Rattle.age_identity.specs.Orders.{IsSameName, NamesTwice, order_asked}
+use Rattle.age_command.specs.Orders.{IsSameName, NamesTwice, order_asked}
 
 abbrev pub Twice : Request → Type 0
 Twice asked = NamesTwice (order_asked asked).apart

@@ -1,7 +1,6 @@
 -- What each arm of the part that obeys the words promises, from what its callee does.
-use Rattle.std.proofs.Common.{◌≡◌, ◌∙◌, ◌++◌, ap, sym, subst, refl, inl, inr, List, [], ◌∷◌, Bool}
-use Rattle.std.proofs.Common.{true, false, true≢false, Option}
-use Rattle.std.proofs.Common.{Result, Ok, Err, length, rules}
+use Rattle.std.proofs.Common.{◌≡◌, ◌∙◌, ◌++◌, ap, sym, subst, refl, inl, inr, List, [], ◌∷◌, Bool, true, false, true≢false, Option, Result, Ok, Err, length}
+use Rattle.std.proofs.Common.{rules}
 use Rattle.std.specs.Borrow.{Bor}
 use Rattle.std.specs.Prelude.{OnOk, IfErr, IsOk, IsErrAnd, ◌==◌}
 use Rattle.std.proofs.lemmas.List.{nil_from_length}
@@ -17,21 +16,21 @@ use Rattle.age_cli_args.specs.declared.request.Request.TheVariants.{Inspect, Dri
 use Rattle.age_cli_args.specs.declared.request.Drilling.{Drilling}
 use Rattle.age_file.specs.Runs.{Ports}
 use Rattle.age_fileset.specs.FileSet.{FilesView}
-use Rattle.age_ending.specs.Endings.{is_usage}
-use Rattle.age_identity.specs.Orders.{Follows, order_asked}
-use Rattle.age_ending.specs.declared.ending.Ending.{Ending}
+use Rattle.age_command.specs.Endings.{is_usage}
+use Rattle.age_command.specs.Orders.{Follows, order_asked}
+use Rattle.age_command.specs.declared.ending.Ending.{Ending}
 use Rattle.age_cli.specs.Acts.{Acts, IsUsage}
 use Rattle.age_cli.specs.Runs.{FailsWriting, IsRefusal}
 use Rattle.age_io.specs.Io.{SinkView}
 use Rattle.age_cli.specs.Commands.{FailsReport}
 use Rattle.age_cli_args.specs.declared.request.Request.{Request}
-use Rattle.age_ending.specs.declared.ending.Ending.TheVariants.{Words, Usage, Fault, Unsaved}
+use Rattle.age_command.specs.declared.ending.Ending.TheVariants.{Words, Usage, Fault, Unsaved}
 use Rattle.clap.specs.Kinds.{Kinds}
 use Rattle.clap.specs.declared.error.kind.ErrorKind.TheVariants.{OutOfMemory}
 use Rattle.std.proofs.Common.{ℕ, ◌⊎◌}
 use Rattle.age_cli.specs.inner.Endings.{IsForOutput}
 use Rattle.age_cli.proofs.ActLemmas.{shown_not_silent, spares_kept}
-use Rattle.age_identity.proofs.EventLemmas.{followed}
+use Rattle.age_command.proofs.EventLemmas.{followed}
 
 -- whether there are words
 pub no_words : (ws : List (Bor Text)) (test : Bool) → test ≡ (length ws == 0) → test ≡ true → texts ws ≡ []

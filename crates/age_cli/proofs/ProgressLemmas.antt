@@ -16,7 +16,7 @@ use Rattle.age_file.specs.declared.decryption.Done.{Done}
 use Rattle.age_file.specs.declared.decryption.Stopped.{Stopped}
 use Rattle.age_fault.specs.declared.fault.FileFault.{FileFault}
 use Rattle.age_stanza.specs.declared.header.Header.{Header}
-use Rattle.age_ending.specs.declared.ending.Ending.{Ending}
+use Rattle.age_command.specs.declared.ending.Ending.{Ending}
 use Rattle.age_cli_args.specs.declared.request.ProgressOption.TheVariants as progress
 use Rattle.age_cli.specs.Acts.{ShowsRun, ShowsProgress}
 use Rattle.age_cli.specs.declared.interruption.Interruption.{Interruption}

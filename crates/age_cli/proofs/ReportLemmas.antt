@@ -5,18 +5,15 @@ use Rattle.age_io.specs.Io.{SinkView, SourceView}
 use Rattle.age_fault.proofs.ByteLemmas.{Appends-then, risen}
 use Rattle.age_fault.specs.Faults.{HasRisen}
 use Rattle.age_fault.specs.declared.fault.FileFault.{FileFault}
-use Rattle.age_fault.specs.declared.fault.FileFault.TheVariants.{Head, Key, NonceCut, Stream}
-use Rattle.age_fault.specs.declared.fault.FileFault.TheVariants.{BadPosition, OtherFile, ShortText}
-use Rattle.age_fault.specs.declared.fault.FileFault.TheVariants.{Read, Write, Memory, ReadNeverEnds}
-use Rattle.age_fault.specs.declared.fault.FileFault.TheVariants.{PositionForged, OldTextDiffers}
+use Rattle.age_fault.specs.declared.fault.FileFault.TheVariants.{Head, Key, NonceCut, Stream, BadPosition, OtherFile, ShortText, Read, Write, Memory}
+use Rattle.age_fault.specs.declared.fault.FileFault.TheVariants.{ReadNeverEnds, PositionForged, OldTextDiffers}
 use Rattle.age_file.proofs.ByteLemmas.{fault_of_all}
 use Rattle.age_file.specs.Runs.{HeadFails, NoHeadFault}
-use Rattle.age_ending.specs.Endings.{Announces, ReportsEnding, ReportsRest, TakesLine, Tells}
-use Rattle.age_ending.specs.Endings.{fault_line}
-use Rattle.age_ending.specs.declared.ending.Announcement.{Announcement}
-use Rattle.age_ending.specs.declared.ending.Announcement.TheVariants.{Unmade, Made, Failed}
-use Rattle.age_ending.specs.declared.ending.Ending.{Ending}
-use Rattle.age_ending.specs.declared.ending.Ending.TheVariants.{Words, Usage, Fault, Unsaved}
+use Rattle.age_command.specs.Endings.{Announces, ReportsEnding, ReportsRest, TakesLine, Tells, fault_line}
+use Rattle.age_command.specs.declared.ending.Announcement.{Announcement}
+use Rattle.age_command.specs.declared.ending.Announcement.TheVariants.{Unmade, Made, Failed}
+use Rattle.age_command.specs.declared.ending.Ending.{Ending}
+use Rattle.age_command.specs.declared.ending.Ending.TheVariants.{Words, Usage, Fault, Unsaved}
 use Rattle.age_cli.specs.Acts.{status_by, ending_status}
 use Rattle.age_cli.specs.Commands.{FailsReport}
 

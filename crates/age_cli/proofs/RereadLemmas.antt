@@ -1,18 +1,14 @@
 -- What a decryption did whose position was found by reading the input once more.
-use Rattle.std.proofs.Common.{◌≡◌, ◌≢◌, ◌∙◌, ◌⊎◌, ◌∷◌, ◌++◌, [], ℕ, List, Option, Some, None, Bool}
-use Rattle.std.proofs.Common.{true, false}
-use Rattle.std.proofs.Common.{Result, Ok, Err, OnOk, IfOk, IfErr, ap, sym, subst, refl, inl, inr, ⊎_elim}
-use Rattle.std.proofs.Common.{true≢false}
+use Rattle.std.proofs.Common.{◌≡◌, ◌≢◌, ◌∙◌, ◌⊎◌, ◌∷◌, ◌++◌, [], ℕ, List, Option, Some, None, Bool, true, false, Result, Ok, Err, OnOk, IfOk, IfErr, ap, sym}
+use Rattle.std.proofs.Common.{subst, refl, inl, inr, ⊎_elim, true≢false}
 use Rattle.std.specs.Prelude.{is_some, IfSome}
 use Rattle.std.proofs.lemmas.Option.{none-some}
 use Rattle.clap.specs.Words.{Text}
 use Rattle.age_fault.specs.declared.fault.FileFault.{FileFault}
 use Rattle.age_fault.specs.declared.fault.FileFault.TheVariants.{Read, Write}
-use Rattle.age_fault.specs.declared.fault.FileFault.TheVariants as fault
 use Rattle.age_file.proofs.AgainLawLemmas.{stops_kept}
-use Rattle.age_file.specs.Decrypts.{FindsPosition, IsElsewhere, IsFoundAgain, ReadAgain}
-use Rattle.age_file.specs.Decrypts.{fault_again, DecryptStops, DecryptsKeyed, FindsKey}
-use Rattle.age_file.specs.Resumes.{IsOldText, FindsFrom}
+use Rattle.age_file.specs.Again.{IsTextBefore, IsFoundAgain, ReadAgain}
+use Rattle.age_file.specs.Decrypts.{DecryptStops, DecryptsKeyed, FindsKey}
 use Rattle.age_file.specs.Runs.{Ports, Run, IsPositionOf}
 use Rattle.age_file.specs.declared.decryption.Done.{Done}
 use Rattle.age_file.specs.declared.decryption.Stopped.{Stopped}
@@ -25,13 +21,13 @@ use Rattle.age_io.specs.declared.durability.Durability.{Durability}
 use Rattle.age_cli_args.specs.Requests.{option_text}
 use Rattle.age_cli_args.specs.declared.request.Decrypting.{Decrypting}
 use Rattle.age_cli_args.specs.declared.request.ProgressOption.TheVariants.{Silent, Shown}
-use Rattle.age_identity.specs.Identities.{allows_by, refuses_by}
-use Rattle.age_ending.specs.declared.ending.Ending.{Ending}
-use Rattle.age_identity.specs.declared.identity.Identity.{Identity}
-use Rattle.age_ending.specs.Endings.{is_usage}
-use Rattle.age_identity.specs.Orders.{Follows, replacing}
-use Rattle.age_identity.specs.Files.{Files, SparesBut, SparesBoth}
-use Rattle.age_identity.proofs.EventLemmas.{then_follows}
+use Rattle.age_command.specs.Identities.{allows_by, refuses_by}
+use Rattle.age_command.specs.declared.ending.Ending.{Ending}
+use Rattle.age_command.specs.declared.identity.Identity.{Identity}
+use Rattle.age_command.specs.Endings.{is_usage}
+use Rattle.age_command.specs.Orders.{Follows, replacing}
+use Rattle.age_command.specs.Files.{Files, SparesBut, SparesBoth}
+use Rattle.age_command.proofs.EventLemmas.{then_follows}
 use Rattle.age_cli.specs.Acts.{EndsOf, IsSaved, SaveFails, kept_for}
 use Rattle.age_cli.specs.inner.Openings.{Saves}
 use Rattle.age_cli.specs.declared.interruption.Interruption.{Interruption}
@@ -39,8 +35,7 @@ use Rattle.std.specs.Io.KnownBytes.{IsAtEnd}
 use Rattle.age_cli.proofs.CommandStopLemmas.{ends_from}
 use Rattle.age_cli.proofs.ProgressLemmas.{at_end_of, opening_at_end}
 use Rattle.age_cli.specs.inner.Endings.{Concludes, IsPut, Left, opening_end}
-use Rattle.age_cli.specs.inner.Rereadings.{again_of, ConcludesAgain, ConcludesDecryption, DecryptsOpened}
-use Rattle.age_cli.specs.inner.Rereadings.{HoldsInput, IsFoundIn, stopped_at}
+use Rattle.age_cli.specs.inner.Rereadings.{again_of, ConcludesAgain, ConcludesDecryption, DecryptsOpened, HoldsInput, IsFoundIn, stopped_at}
 
 pub some_of : (o : Option (List ℕ)) → is_some o ≡ true → (bytes : List ℕ) × (o ≡ Some bytes)
 some_of None there = absurd (true≢false (sym there))
@@ -101,7 +96,7 @@ module _ (IsPorts : Ports → Type 0) (shows : Bool) (d : Decrypting) (i : Ident
         let bytes = some_of (old.entries d.from.now) holds.there in
         let same : key ≡ r.file.key = cc in
         law i before after r s first last bytes.0 p stops (holds.gives ∙ bytes.1) (is ∙ bytes.1)
-        (subst (λ (k : List ℕ). IsFoundAgain (λ _ x. x ≡ k) first last s.written p) same again)
+        (subst (λ (k : List ℕ). IsFoundAgain (λ _ x. x ≡ k) None [] first last s.written p) same (again [] refl))
 
     due_so : (run : Option Run) → FindsKey run (Some key) → IfSome run (λ r. (p : Position) × IsPositionOf r p)
         → DecryptStops Dropped (allows_by i) (refuses_by i) before after run s → (p : Position) × At Kept run p
@@ -148,38 +143,10 @@ module _ (IsPorts : Ports → Type 0) (shows : Bool) (d : Decrypting) (i : Ident
       (subst (λ (x : PositionPolicy). DecryptsKeyed x (allows_by i) (refuses_by i) before after (Err s) (Some key)) (dropped refl) did) shown concludes
 
 -- a position that was found by this key, over these bytes
-pub finds_so : (bytes : Option (List ℕ)) (key : List ℕ) (old new : SourceView) (written : ℕ) (r : Result Position FileFault) → old.remaining ≡ bytes
-    → FindsPosition (λ _ k. k ≡ key) (λ _ _. ⊥) old new written r → IfOk r (IsFoundIn None bytes key written)
-finds_so bytes key old new written (Ok p) is found = (old, new, is, found)
-finds_so bytes key old new written (Err f) is found = tt
-
-pub finds_from : (from : Position) (bytes : Option (List ℕ)) (key : List ℕ) (old new : SourceView) (written : ℕ) (r : Result Position FileFault) → old.remaining ≡ bytes
-    → ((copied : List ℕ) → IsOldText from copied → FindsFrom (λ _ k. k ≡ key) from copied (λ _ _. ⊥) old new written r) → IfOk r (IsFoundIn (Some from) bytes key written)
-finds_from from bytes key old new written (Ok p) is found = (old, new, is, found)
-finds_from from bytes key old new written (Err f) is found = tt
-
-again_fault : (f : FileFault) → IsMemoryOr Read (fault_again f)
-again_fault fault.Memory = inr refl
-again_fault (fault.Head f) = inl refl
-again_fault (fault.Key f) = inl refl
-again_fault fault.NonceCut = inl refl
-again_fault (fault.Stream f) = inl refl
-again_fault fault.BadPosition = inl refl
-again_fault fault.OtherFile = inl refl
-again_fault fault.ShortText = inl refl
-again_fault fault.Read = inl refl
-again_fault fault.Write = inl refl
-again_fault fault.ReadNeverEnds = inl refl
-again_fault fault.PositionForged = inl refl
-again_fault fault.OldTextDiffers = inl refl
-
-pub fails_so : (key : List ℕ) (old new : SourceView) (written : ℕ) (r : Result Position FileFault)
-    → FindsPosition (λ _ k. k ≡ key) (λ _ _. ⊥) old new written r → IfErr r (IsMemoryOr Read)
-fails_so key old new written (Ok p) found = tt
-fails_so key old new written (Err f) ends = by ends.result ends.elsewhere where
-  by : (result : Result Done Stopped) → IsElsewhere ends.decrypts.run written f result → IsMemoryOr Read f
-  by (Ok done) is = inl is.1
-  by (Err s) is = subst (IsMemoryOr Read) (sym is.2) (again_fault s.fault)
+pub finds_so : (from : Option Position) (bytes : Option (List ℕ)) (key : List ℕ) (old new : SourceView) (written : ℕ) (r : Result Position FileFault) → old.remaining ≡ bytes
+    → ((copied : List ℕ) → IsTextBefore from copied → IfOk r (IsFoundAgain (λ _ k. k ≡ key) from copied old new written)) → IfOk r (IsFoundIn from bytes key written)
+finds_so from bytes key old new written (Ok p) is found = (old, new, is, found)
+finds_so from bytes key old new written (Err f) is found = tt
 
 -- why a position isn't saved that wasn't found
 pub unfound : (f : FileFault) → IsMemoryOr Read f → IsMemoryOr Write f ⊎ (f ≡ Read)

@@ -4,8 +4,8 @@ use Rattle.std.proofs.Common.{Result, Ok, Err, OnOk, IfOk, IfErr, ap, sym, subst
 use Rattle.std.specs.Prelude.{is_some, IfSome, IsSomeAnd}
 use Rattle.age_io.specs.Io.{SourceView}
 use Rattle.age_file.proofs.AgainLawLemmas.{rest_kept}
-use Rattle.age_file.specs.Resumes.{ResumePorts, resume_ports, ResumesKeyed, ResumeStops, StandsAt}
-use Rattle.age_file.specs.Resumes.{RestReadAgain, StopsInSkipped, ResumeEnds, IsFoundFrom}
+use Rattle.age_file.specs.Resumes.{ResumePorts, resume_ports, ResumesKeyed, ResumeStops, StandsAt, StopsInSkipped, ResumeEnds}
+use Rattle.age_file.specs.Again.{RestReadAgain, IsFoundAgain}
 use Rattle.age_file.specs.Runs.{Ports, ports, Run, IsPositionOf}
 use Rattle.age_file.specs.declared.decryption.Done.{Done}
 use Rattle.age_file.specs.declared.decryption.Stopped.{Stopped}
@@ -18,13 +18,12 @@ use Rattle.age_fileset.specs.FileSet.{FilesView}
 use Rattle.age_cli_args.specs.Requests.{option_text}
 use Rattle.age_cli_args.specs.declared.request.Decrypting.{Decrypting}
 use Rattle.age_cli_args.specs.declared.request.ProgressOption.TheVariants.{Silent, Shown}
-use Rattle.age_identity.specs.Identities.{allows_by, refuses_by}
-use Rattle.age_ending.specs.declared.ending.Ending.{Ending}
-use Rattle.age_identity.specs.declared.identity.Identity.{Identity}
+use Rattle.age_command.specs.Identities.{allows_by, refuses_by}
+use Rattle.age_command.specs.declared.ending.Ending.{Ending}
+use Rattle.age_command.specs.declared.identity.Identity.{Identity}
 use Rattle.age_cli.specs.Acts.{kept_for}
 use Rattle.age_cli.specs.inner.Endings.{Concludes, opening_end}
-use Rattle.age_cli.specs.inner.Rereadings.{again_of, key_of, placed, ConcludesAgain, ConcludesDecryption, HoldsInput, IsFoundIn}
-use Rattle.age_cli.specs.inner.Rereadings.{ResumesOpened, stopped_at}
+use Rattle.age_cli.specs.inner.Rereadings.{again_of, key_of, placed, ConcludesAgain, ConcludesDecryption, HoldsInput, IsFoundIn, ResumesOpened, stopped_at}
 use Rattle.std.specs.Io.KnownBytes.{IsAtEnd}
 use Rattle.age_cli.proofs.ProgressLemmas.{at_end_of, resuming_at_end}
 use Rattle.age_cli.proofs.RereadLemmas.{kept_some, some_of}
@@ -111,7 +110,7 @@ module _ (IsPorts : Ports → Type 0) (shows : Bool) (d : Decrypting) (i : Ident
     found_so (Some r) p stands stops holds (x, y, is, again) =
         let bytes = some_of (old.entries d.from.now) holds.there in
         law i from (resume_ports before first) (resume_ports after last) r s x y bytes.0 p stops (holds.gives ∙ bytes.1) (is ∙ bytes.1)
-        (subst (λ (k : List ℕ). IsFoundFrom (λ _ z. z ≡ k) from r.copied x y s.written p) stands (again r.copied stops.0.old_text))
+        (subst (λ (k : List ℕ). IsFoundAgain (λ _ z. z ≡ k) (Some from) r.copied x y s.written p) stands (again r.copied stops.0.old_text))
 
     due_so : (run : Option Run) → Here run → IfSome run (λ r. (p : Position) × IsPositionOf r p) → Dropping run → (p : Position) × At Kept run p
     due_so None stands due stops = absurd stands

@@ -1,6 +1,5 @@
 -- What an output took, by what it says of that.
-use Rattle.std.proofs.Common.{◌≡◌, ◌∙◌, ℕ, ap, sym, List, [], length, Option, Some, None, Bool}
-use Rattle.std.proofs.Common.{true, false, true≢false, rules}
+use Rattle.std.proofs.Common.{◌≡◌, ◌∙◌, ℕ, ap, sym, List, [], length, Option, Some, None, Bool, true, false, true≢false, rules}
 use Rattle.std.specs.Prelude.{IsSomeAnd, ◌==◌, ◌≢◌}
 use Rattle.std.proofs.lemmas.List.{nil_from_length}
 

@@ -1,7 +1,6 @@
 -- What a command does with files, done or stopped.
-use Rattle.std.specs.Prelude.{◌≡◌, ℕ, true, Result, Ok, Err, if◌then◌else◌, List, [], Option, Some}
-use Rattle.std.specs.Prelude.{◌⊎◌, is_some, None, Bool, ◌++◌, OnOk, IfErr, IsErrAnd, ◌≢◌}
-use Rattle.std.specs.Prelude.{option_map, length}
+use Rattle.std.specs.Prelude.{◌≡◌, ℕ, true, Result, Ok, Err, if◌then◌else◌, List, [], Option, Some, ◌⊎◌, is_some, None}
+use Rattle.std.specs.Prelude.{Bool, ◌++◌, OnOk, IfErr, IsErrAnd, ◌≢◌, option_map, length}
 use Rattle.std.specs.Io.KnownBytes.{IsAtEnd}
 use Rattle.clap.specs.Words.{Text}
 use Rattle.age_io.specs.Io.{SourceView, SinkView, Shown as ShownOne, ShowsReading}
@@ -10,8 +9,7 @@ use Rattle.age_fault.specs.declared.fault.FileFault.TheVariants.{Read, Write, Ba
 use Rattle.age_file.specs.Runs.{Ports, ports, Run}
 use Rattle.age_file.specs.Encrypts.{SecretView, Encrypts, EncryptFails}
 use Rattle.age_file.specs.Decrypts.{DecryptEnds, DecryptStops}
-use Rattle.age_file.specs.Resumes.{ResumePorts, resume_ports, ResumeEnds, ResumeStops}
-use Rattle.age_file.specs.Resumes.{position_text}
+use Rattle.age_file.specs.Resumes.{ResumePorts, resume_ports, ResumeEnds, ResumeStops, position_text}
 use Rattle.age_file.specs.declared.decryption.Done.{Done}
 use Rattle.age_file.specs.declared.encryption.Written.{Written}
 use Rattle.age_file.specs.declared.position.Position.{Position}
@@ -23,15 +21,14 @@ use Rattle.age_cli_args.specs.declared.request.Decrypting.{Decrypting}
 use Rattle.age_cli_args.specs.declared.request.ProgressOption.{ProgressOption}
 use Rattle.age_cli_args.specs.declared.request.ProgressOption.TheVariants.{Silent, Shown}
 use Rattle.age_cli_args.specs.declared.request.Request.{Request}
-use Rattle.age_cli_args.specs.declared.request.Request.TheVariants.{Encrypt, Decrypt, Resume}
-use Rattle.age_cli_args.specs.declared.request.Request.TheVariants.{Inspect, Drill}
-use Rattle.age_ending.specs.Endings.{is_usage, EndsEarly}
-use Rattle.age_ending.specs.declared.ending.Ending.{Ending}
-use Rattle.age_ending.specs.declared.ending.Ending.TheVariants.{Fault, Unsaved}
-use Rattle.age_identity.specs.Files.{HasReason, Files, SparesBut, SparesBoth}
-use Rattle.age_identity.specs.declared.identity.Identity.{Identity}
-use Rattle.age_identity.specs.Identities.{allows_by, refuses_by, OpensBy}
-use Rattle.age_identity.specs.Orders.{Follows, NamesTwice, order_asked}
+use Rattle.age_cli_args.specs.declared.request.Request.TheVariants.{Encrypt, Decrypt, Resume, Inspect, Drill}
+use Rattle.age_command.specs.Endings.{is_usage, EndsEarly}
+use Rattle.age_command.specs.declared.ending.Ending.{Ending}
+use Rattle.age_command.specs.declared.ending.Ending.TheVariants.{Fault, Unsaved}
+use Rattle.age_command.specs.Files.{HasReason, Files, SparesBut, SparesBoth}
+use Rattle.age_command.specs.declared.identity.Identity.{Identity}
+use Rattle.age_command.specs.Identities.{allows_by, refuses_by, OpensBy}
+use Rattle.age_command.specs.Orders.{Follows, NamesTwice, order_asked}
 use Rattle.age_cli.specs.Commands.{MakesSecret, HoldsNoPosition, IsPositionIn, old_for}
 
 -- ---- How a command or a run ended: with all done, or with an ending.

@@ -18,11 +18,11 @@ use Rattle.age_file.specs.declared.report.StanzaReport.{StanzaReport}
 use Rattle.age_fileset.specs.FileSet.{or_empty}
 use Rattle.age_cli_args.specs.Requests.{option_text}
 use Rattle.age_cli_args.specs.declared.request.Encrypting.{Encrypting}
-use Rattle.age_ending.specs.declared.ending.Ending.{Ending}
-use Rattle.age_ending.specs.declared.ending.Ending.TheVariants.{Fault}
-use Rattle.age_identity.specs.Orders.{random_name}
-use Rattle.age_identity.specs.Identities.{IsPassphraseIn}
-use Rattle.age_identity.specs.Files.{Files}
+use Rattle.age_command.specs.declared.ending.Ending.{Ending}
+use Rattle.age_command.specs.declared.ending.Ending.TheVariants.{Fault}
+use Rattle.age_command.specs.Orders.{random_name}
+use Rattle.age_command.specs.Identities.{IsPassphraseIn}
+use Rattle.age_command.specs.Files.{Files}
 
 -- ---- What `encrypt` makes a file of.
 

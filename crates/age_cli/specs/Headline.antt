@@ -13,13 +13,13 @@ use Rattle.age_cli_args.specs.Requests.{Requests, IsForHelp}
 use Rattle.age_cli_args.specs.declared.request.Decrypting.{Decrypting}
 use Rattle.age_cli_args.specs.declared.request.Request.TheVariants.{Decrypt, Resume}
 use Rattle.age_cli_args.specs.declared.request.Resuming.{Resuming}
-use Rattle.age_identity.specs.Files.{Files}
-use Rattle.age_identity.specs.Identities.{allows_by, OpensBy}
-use Rattle.age_identity.specs.declared.identity.Identity.{Identity}
+use Rattle.age_command.specs.Files.{Files}
+use Rattle.age_command.specs.Identities.{allows_by, OpensBy}
+use Rattle.age_command.specs.declared.identity.Identity.{Identity}
 use Rattle.age_cli.specs.Acts.{ShowsProgress, IsUsage}
 use Rattle.age_cli.specs.Runs.{World, Runs, Declines, IsRefusal}
 use Rattle.age_cli.specs.Commands.{IsPositionIn, FailsReport}
-use Rattle.age_ending.specs.declared.ending.Ending.{Ending}
+use Rattle.age_command.specs.declared.ending.Ending.{Ending}
 
 -- ---- A decryption from the start.
 

@@ -11,10 +11,10 @@ use Rattle.age_fileset.specs.FileSet.{FilesView}
 use Rattle.age_cli_args.specs.Requests.{IsForHelp, Requests, option_text}
 use Rattle.age_cli_args.specs.declared.request.Request.{Request}
 use Rattle.age_cli_args.specs.declared.request.Request.TheVariants.{Inspect, Drill}
-use Rattle.age_ending.specs.Endings.{ReportsEnding}
-use Rattle.age_ending.specs.declared.ending.Ending.{Ending}
-use Rattle.age_ending.specs.declared.ending.Ending.TheVariants.{Fault}
-use Rattle.age_identity.specs.Files.{IsUnread}
+use Rattle.age_command.specs.Endings.{ReportsEnding}
+use Rattle.age_command.specs.declared.ending.Ending.{Ending}
+use Rattle.age_command.specs.declared.ending.Ending.TheVariants.{Fault}
+use Rattle.age_command.specs.Files.{IsUnread}
 use Rattle.age_cli.specs.Acts.{Acts, IsUsage, status_by}
 use Rattle.age_cli.specs.Commands.{Reports, ReportsFile, FailsReport, seen}
 

@@ -1,16 +1,16 @@
 //! The command that reports what a file holds.
 
 ghost use Rattle.std.specs.Prelude.{◌≡◌, ◌⊎◌, [], ◌∷◌, ◌++◌, true, OnOk, IfErr};
-ghost use Rattle.age_ending.specs.declared.ending.Ending.TheVariants.{Fault};
+ghost use Rattle.age_command.specs.declared.ending.Ending.TheVariants.{Fault};
 ghost use Rattle.age_fileset.specs.FileSet.{Opened};
 ghost use Rattle.age_cli.specs.Commands.{Reports, ReportsFile, FailsReport, seen};
 ghost use Rattle.age_cli.specs.Runs.{FailsWriting};
-ghost use Rattle.age_identity.specs.Files.{IsUnread, SourceFails};
+ghost use Rattle.age_command.specs.Files.{IsUnread, SourceFails};
 ghost use Rattle.age_fault.specs.Faults.{HasRisen};
 ghost use Rattle.age_fault.specs.declared.fault.FileFault.TheVariants.{Read};
 
 use crate::print::text_of;
-use age_ending::{Ending, put_bytes};
+use age_command::{Ending, put_bytes};
 use age_file::{FileFault, Sink, Source, flush_all, inspect};
 use age_fileset::{FileSet, OpenFault};
 use std::alloc::Global;

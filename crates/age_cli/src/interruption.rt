@@ -2,14 +2,14 @@
 
 ghost use Rattle.std.specs.Prelude.{◌≡◌, true, false, None, OnOk, IfErr};
 ghost use Rattle.age_cli_args.specs.Requests.{option_text};
-ghost use Rattle.age_ending.specs.Endings.{is_usage, Announces};
+ghost use Rattle.age_command.specs.Endings.{is_usage, Announces};
 ghost use Rattle.age_cli.specs.Acts.{SaveFails, EndsOf};
-ghost use Rattle.age_identity.specs.Orders.{Follows, replacing};
-ghost use Rattle.age_identity.specs.Files.{SparesBoth};
+ghost use Rattle.age_command.specs.Orders.{Follows, replacing};
+ghost use Rattle.age_command.specs.Files.{SparesBoth};
 ghost use Rattle.age_cli.specs.inner.Endings.{sealing_end, opening_end};
 ghost use Rattle.age_cli.specs.inner.Openings.{Saves};
 
-use age_ending::{Announcement, Ending, announce};
+use age_command::{Announcement, Ending, announce};
 use age_file::{Done, FileFault, Position, Stopped, Written};
 use age_fileset::FileSet;
 use age_io::{Durability, Sink};

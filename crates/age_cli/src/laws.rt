@@ -2,7 +2,7 @@
 
 ghost use Rattle.age_cli.specs.Acts.{PortsOf};
 ghost use Rattle.age_cli.specs.Headline.{RunsKeepOut, RefusesInSilence, ReportsAccept};
-ghost use Rattle.age_identity.specs.Files.{SourceFails};
+ghost use Rattle.age_command.specs.Files.{SourceFails};
 
 use age_file::{Sink, Source};
 use age_fileset::FileSet;

@@ -3,13 +3,13 @@
 ghost use Rattle.std.specs.Prelude.{◌≡◌, ◌⊎◌, IfErr, IsErrAnd, IsOk, OnOk};
 ghost use Rattle.clap.specs.declared.error.kind.ErrorKind.TheVariants.{OutOfMemory};
 ghost use Rattle.age_fault.specs.declared.fault.FileFault.TheVariants.{Memory};
-ghost use Rattle.age_ending.specs.declared.ending.Ending.TheVariants.{Fault};
+ghost use Rattle.age_command.specs.declared.ending.Ending.TheVariants.{Fault};
 ghost use Rattle.clap.specs.Words.{kind_of};
 ghost use Rattle.clap.specs.Walk.{texts};
 ghost use Rattle.age_cli.specs.Acts.{PortsOf, ending_status, ShowsProgress};
 ghost use Rattle.age_cli.specs.Runs.{world, IsRefusal, Obeys, Prints, FailsWriting, Runs};
-ghost use Rattle.age_ending.specs.Endings.{Tells};
-ghost use Rattle.age_identity.specs.Files.{SourceFails};
+ghost use Rattle.age_command.specs.Endings.{Tells};
+ghost use Rattle.age_command.specs.Files.{SourceFails};
 ghost use Rattle.age_cli.specs.inner.Endings.{IsForOutput};
 
 use crate::decrypt_command::decrypt_file;
@@ -17,8 +17,7 @@ use crate::encrypt_command::encrypt_file;
 use crate::inspect_command::{report, report_file};
 use crate::resume_command::resume_file;
 use age_cli_args::{Request, read_request};
-use age_drill::drill_file;
-use age_ending::{Announcement, Ending, Usage, put_bytes, report_ending};
+use age_command::{Announcement, Ending, Usage, drill_file, put_bytes, report_ending};
 use age_file::{FileFault, Sink, Source, flush_all};
 use age_fileset::FileSet;
 use age_io::Meter;

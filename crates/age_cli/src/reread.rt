@@ -1,26 +1,22 @@
 //! How the position of a stop is found by reading the input once more.
 
-ghost use Rattle.std.specs.Prelude.{◌≡◌, ◌⊎◌, ℕ, List, Option, true, false, is_some, IfOk, IfErr};
-ghost use Rattle.std.specs.Prelude.{OnOk};
+ghost use Rattle.std.specs.Prelude.{◌≡◌, ◌⊎◌, ℕ, List, Option, true, false, is_some, IfOk, IfErr, OnOk};
 ghost use Rattle.age_io.specs.Io.{Origin};
 ghost use Rattle.age_fault.specs.declared.fault.FileFault.TheVariants.{Read};
 ghost use Rattle.age_file.specs.declared.position.PositionPolicy.TheVariants.{Dropped};
 ghost use Rattle.age_fileset.specs.FileSet.{IsMemoryOr};
 ghost use Rattle.age_cli_args.specs.Requests.{option_text};
 ghost use Rattle.age_cli_args.specs.declared.request.ProgressOption.TheVariants.{Silent};
-ghost use Rattle.age_ending.specs.Endings.{Announces, Tells};
+ghost use Rattle.age_command.specs.Endings.{Announces, Tells};
 ghost use Rattle.age_cli.specs.Acts.{ShowsRun, kept_for};
-ghost use Rattle.age_cli.specs.inner.Rereadings.{IsFoundIn, ConcludesAgain, ConcludesDecryption};
-ghost use Rattle.age_cli.specs.inner.Rereadings.{again_of};
+ghost use Rattle.age_cli.specs.inner.Rereadings.{IsFoundIn, ConcludesAgain, ConcludesDecryption, again_of};
 
 use crate::interruption::{opening_end, save};
 use crate::output::{begin_meter, conclude, end_meter, leave};
 use crate::taking::Taking;
 use age_cli_args::{Decrypting, ProgressOption};
-use age_ending::{Announcement, Ending, announce};
-use age_file::{
-    Done, FileFault, Position, PositionPolicy, Stopped, position_after, resumed_position_after,
-};
+use age_command::{Announcement, Ending, announce};
+use age_file::{Done, FileFault, Position, PositionPolicy, Stopped, position_after};
 use age_fileset::FileSet;
 use age_io::{Meter, Metered, Sink, Source};
 use age_keys::KnownKey;
@@ -93,7 +89,7 @@ fn again_of(
 }
 
 /// The position after this many bytes of the text, by reading its file from its start.
-#[tactic(auto, using(crate::proofs::RereadLemmas::finds_so, crate::proofs::RereadLemmas::fails_so))]
+#[tactic(auto, using(crate::proofs::RereadLemmas::finds_so))]
 fn position_in<S: Source>(
     alloc: Global,
     from: &Option<Position>,
@@ -105,10 +101,7 @@ fn position_in<S: Source>(
     ensures faults { IfErr result (IsMemoryOr Read) }
     ensures metered { (began : Origin) → S.metered source.old began → S.metered source.new began }
 {
-    match from {
-        None => position_after(alloc, key, written, source),
-        Some(from) => resumed_position_after(alloc, key, from, written, source),
-    }
+    position_after(alloc, key, from, written, source)
 }
 
 /// The position of a stop, by reading the input once more.

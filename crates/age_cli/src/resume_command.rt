@@ -8,10 +8,10 @@ ghost use Rattle.age_cli_args.specs.declared.request.ProgressOption.TheVariants.
 ghost use Rattle.age_cli_args.specs.declared.request.Request.TheVariants.{Resume};
 ghost use Rattle.age_file.specs.Resumes.{resume_ports, ResumesKeyed};
 ghost use Rattle.age_file.specs.Runs.{ports};
-ghost use Rattle.age_identity.specs.Identities.{allows_by, refuses_by};
-ghost use Rattle.age_identity.specs.Orders.{Follows, NamesTwice, order_asked};
-ghost use Rattle.age_ending.specs.Endings.{Tells};
-ghost use Rattle.age_identity.specs.Files.{SourceFails, IsUnread};
+ghost use Rattle.age_command.specs.Identities.{allows_by, refuses_by};
+ghost use Rattle.age_command.specs.Orders.{Follows, NamesTwice, order_asked};
+ghost use Rattle.age_command.specs.Endings.{Tells};
+ghost use Rattle.age_command.specs.Files.{SourceFails, IsUnread};
 ghost use Rattle.age_cli.specs.Acts.{Acts, PortsOf, ShowsProgress, ShowsRun};
 ghost use Rattle.age_cli.specs.Commands.{HoldsNoPosition, IsPositionIn, old_for};
 ghost use Rattle.age_cli.specs.inner.Rereadings.{ResumesOpened, key_of, placed};
@@ -21,12 +21,11 @@ use crate::output::{Content, Output, begin_meter, end_meter, open_both};
 use crate::reread::{Decrypted, can_reread, conclude_decryption, positions_at_first};
 use crate::taking::Taking;
 use age_cli_args::{Decrypting, ProgressOption, Resuming};
-use age_ending::{Announcement, Ending};
+use age_command::{Announcement, Choice, Ending, Identity, read_file};
 use age_file::{
     Done, FileFault, Position, PositionPolicy, Source, Standing, Stopped, read_again, resume_keyed,
 };
 use age_fileset::{FileSet, OpenFault};
-use age_identity::{Choice, Identity, read_file};
 use age_io::{Meter, Metered, Sink};
 use age_keys::KnownKey;
 use std::alloc::Global;

@@ -1,7 +1,6 @@
 //! An output that knows whether it took anything.
 
-ghost use Rattle.std.specs.Prelude.{◌≡◌, ◌==◌, true, length, Some, IsSomeAnd};
-ghost use Rattle.std.specs.Prelude.{[]};
+ghost use Rattle.std.specs.Prelude.{◌≡◌, ◌==◌, true, length, Some, IsSomeAnd, []};
 ghost use Rattle.std.proofs.Props.{props};
 
 use age_fileset::FileSet;

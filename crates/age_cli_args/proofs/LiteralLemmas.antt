@@ -1,10 +1,8 @@
 -- The words of command lines, and what they ask for.
-use Rattle.std.proofs.Common.{◌≡◌, refl, codes, Bool, true, false, List, [], ◌∷◌, Option, Some}
-use Rattle.std.proofs.Common.{None, option_map, map}
+use Rattle.std.proofs.Common.{◌≡◌, refl, codes, Bool, true, false, List, [], ◌∷◌, Option, Some, None, option_map, map}
 use Rattle.clap.specs.Words.{Row, Text, first_of, one_of}
 use Rattle.clap.proofs.OnLiterals.{clap_on_literals}
-use Rattle.age_cli_args.specs.Commands.{age_tool, encrypting, decrypting, resuming, inspecting}
-use Rattle.age_cli_args.specs.Commands.{drilling}
+use Rattle.age_cli_args.specs.Commands.{age_tool, encrypting, decrypting, resuming, inspecting, drilling}
 use Rattle.age_cli_args.specs.Requests.{refusals, named, is_given}
 
 abbrev words : List Text

@@ -3,8 +3,7 @@ use Rattle.std.proofs.Common.{◌≡◌, true, refl, List, [], None, ap, ◌∙�
 use Rattle.clap.specs.Words.{is_simple, is_simple_and_free, Row, Text}
 use Rattle.age_cli_args.specs.Requests.{named, Asks}
 use Rattle.clap.proofs.OnLiterals.{clap_on_literals}
-use Rattle.age_cli_args.specs.Commands.{age_tool, encrypting, decrypting, resuming, inspecting}
-use Rattle.age_cli_args.specs.Commands.{drilling}
+use Rattle.age_cli_args.specs.Commands.{age_tool, encrypting, decrypting, resuming, inspecting, drilling}
 
 pub is_simple-age_tool : is_simple age_tool ≡ true
 unfolding clap_on_literals age_tool encrypting decrypting resuming inspecting drilling

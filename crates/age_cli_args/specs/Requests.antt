@@ -17,8 +17,7 @@ use Rattle.age_cli_args.specs.declared.request.IdentityOptions.{IdentityOptions}
 use Rattle.age_cli_args.specs.declared.request.ProgressOption.{ProgressOption}
 use Rattle.age_cli_args.specs.declared.request.ProgressOption.TheVariants.{Shown, Silent}
 use Rattle.age_cli_args.specs.declared.request.Request.{Request}
-use Rattle.age_cli_args.specs.declared.request.Request.TheVariants.{Inspect, Decrypt, Resume}
-use Rattle.age_cli_args.specs.declared.request.Request.TheVariants.{Encrypt, Drill}
+use Rattle.age_cli_args.specs.declared.request.Request.TheVariants.{Inspect, Decrypt, Resume, Encrypt, Drill}
 use Rattle.age_cli_args.specs.declared.request.Resuming.{Resuming}
 
 -- ---- What the words after the program's name ask for, by the definitions of the parser of command

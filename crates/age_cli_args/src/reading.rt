@@ -1,14 +1,11 @@
 //! Reads what the arguments ask for.
 
 ghost use Rattle.std.specs.Prelude.{◌≡◌, ◌≤◌, ℕ, None, Some, IfNone, IfOk, IfSome};
-ghost use Rattle.clap.specs.Words.{subcommand_rows_of, rows_of, found_of, one_of, first_of};
-ghost use Rattle.clap.specs.Words.{FailsBy};
+ghost use Rattle.clap.specs.Words.{subcommand_rows_of, rows_of, found_of, one_of, first_of, FailsBy};
 ghost use Rattle.clap.specs.Walk.{texts};
-ghost use Rattle.age_cli_args.specs.Requests.{refusals, is_given, IsNumber, option_text};
-ghost use Rattle.age_cli_args.specs.Requests.{IsDurability};
-ghost use Rattle.age_cli_args.specs.Requests.{IsProgress, IsEncrypting, IsIdentityOptions};
-ghost use Rattle.age_cli_args.specs.Requests.{IsDecrypting, IsResuming, IsDrilling, IsRequest};
-ghost use Rattle.age_cli_args.specs.Requests.{Requests};
+ghost use Rattle.age_cli_args.specs.Requests.{refusals, is_given, IsNumber, option_text, IsDurability, IsProgress};
+ghost use Rattle.age_cli_args.specs.Requests.{IsEncrypting, IsIdentityOptions, IsDecrypting, IsResuming, IsDrilling};
+ghost use Rattle.age_cli_args.specs.Requests.{IsRequest, Requests};
 ghost use Rattle.age_cli_args.specs.declared.request.Encrypting.{Encrypting};
 ghost use Rattle.age_cli_args.specs.declared.request.IdentityOptions.{IdentityOptions};
 ghost use Rattle.age_cli_args.specs.declared.request.Decrypting.{Decrypting};

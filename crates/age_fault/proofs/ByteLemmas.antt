@@ -1,7 +1,5 @@
 -- Bytes that are shown, one call after another; results in other words.
-use Rattle.std.proofs.Common.{◌≡◌, ℕ, ◌+◌, ◌-◌, ◌^◌, min, List, ◌++◌, Option, Some, None, Result}
-use Rattle.std.proofs.Common.{Ok, Err, sym, ap}
-use Rattle.std.proofs.Common.{◌∙◌, append_assoc, inl, inr, arith}
+use Rattle.std.proofs.Common.{◌≡◌, ℕ, ◌+◌, ◌-◌, ◌^◌, min, List, ◌++◌, Option, Some, None, Result, Ok, Err, sym, ap, ◌∙◌, append_assoc, inl, inr, arith}
 use Rattle.std.proofs.lemmas.Bool.{cases_lt}
 use Rattle.std.specs.Prelude.{MatchResult, IfErr}
 use Rattle.std.specs.Io.KnownBytes.{Consumes, Appends, Keeps}

@@ -7,9 +7,8 @@ use Rattle.age_chunk.specs.Payload as stream
 use Rattle.age_keys.specs.Keys as key
 use Rattle.age_io.specs.Io.{one_more, SinkView}
 use Rattle.age_fault.specs.declared.fault.FileFault.{FileFault}
-use Rattle.age_fault.specs.declared.fault.FileFault.TheVariants.{Head, Key, NonceCut, Stream}
-use Rattle.age_fault.specs.declared.fault.FileFault.TheVariants.{BadPosition, OtherFile, ShortText}
-use Rattle.age_fault.specs.declared.fault.FileFault.TheVariants.{Read, Write, Memory, ReadNeverEnds}
+use Rattle.age_fault.specs.declared.fault.FileFault.TheVariants.{Head, Key, NonceCut, Stream, BadPosition, OtherFile}
+use Rattle.age_fault.specs.declared.fault.FileFault.TheVariants.{ShortText, Read, Write, Memory, ReadNeverEnds}
 use Rattle.age_fault.specs.declared.fault.FileFault.TheVariants.{PositionForged, OldTextDiffers}
 
 -- ---- The number, the name and the place of a fault.

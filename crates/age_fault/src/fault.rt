@@ -1,8 +1,7 @@
 //! Why a file could not be read or written.
 
 ghost use Rattle.std.specs.Prelude.{◌≡◌};
-ghost use Rattle.age_fault.specs.declared.fault.FileFault.TheVariants.{Stream};
-ghost use Rattle.age_fault.specs.declared.fault.FileFault.TheVariants.{Memory as MemoryFault};
+ghost use Rattle.age_fault.specs.declared.fault.FileFault.TheVariants.{Stream, Memory as MemoryFault};
 ghost use Rattle.age_fault.specs.Faults.{fault_number, fault_place, name_of, name_by};
 ghost use Rattle.age_stanza.specs.Parsing.{head_fault_number};
 ghost use Rattle.age_keys.specs.Keys.{key_fault_number};
@@ -14,52 +13,53 @@ use age_io::Memory;
 use age_keys::KeyFault;
 use age_stanza::{HeadFault, HeadKind};
 use std::alloc::{AllocError, AllocFailed};
-use thiserror::Error;
+use std::error::Error;
+use std::fmt;
 
 /// Why a file could not be read or written. Running out of memory is one case, whichever layer it
 /// came from. docs/FAULTS.md lists all faults by their numbers.
-#[derive(Clone, Copy, Debug, PartialEq, Eq, Error)]
+#[derive(Clone, Copy, Debug, PartialEq, Eq)]
 pub enum FileFault {
     /// The header is not one, at this line (1 to 8).
-    #[error("{0}")]
     Head(HeadFault),
     /// The header was not opened (9 to 15).
-    #[error("{0}")]
     Key(KeyFault),
     /// Fewer than 16 bytes follow the header (16).
-    #[error("payload nonce cut")]
     NonceCut,
     /// The payload, or the text to be sealed, was refused at this chunk (17 to 22).
-    #[error("{0}")]
     Stream(StreamFault),
     /// The text isn't a position's (23).
-    #[error("bad position")]
     BadPosition,
     /// The position belongs to another file (24).
-    #[error("position of another file")]
     OtherFile,
     /// The old text is shorter than the position needs (25).
-    #[error("old text too short")]
     ShortText,
     /// A source failed in this call (26).
-    #[error("the input could not be read")]
     Read,
     /// A sink failed in this call (27).
-    #[error("the output could not be written")]
     Write,
     /// Memory was refused (28).
-    #[error("out of memory")]
     Memory,
     /// The sources gave bytes by 2^63 pulls in one call (29).
-    #[error("the input never ends")]
     ReadNeverEnds,
     /// The position was not made under this file's key (30).
-    #[error("forged position")]
     PositionForged,
     /// The old text is not the one that the position was made for (31).
-    #[error("old text differs")]
     OldTextDiffers,
 }
+
+impl fmt::Display for FileFault {
+    fn fmt<W: fmt::Write>(&self, f: &mut fmt::Formatter<W>) -> fmt::Result {
+        match self {
+            FileFault::Head(fault) => fmt::Display::fmt(fault, f),
+            FileFault::Key(fault) => fmt::Display::fmt(fault, f),
+            FileFault::Stream(fault) => fmt::Display::fmt(fault, f),
+            _ => f.write_str(self.text()),
+        }
+    }
+}
+
+impl Error for FileFault {}
 
 impl From<AllocError> for FileFault {
     ghost from_gives = { λ _ e. e ≡ MemoryFault };
@@ -145,6 +145,23 @@ impl FileFault {
             FileFault::Head(fault) => fault.place(),
             FileFault::Stream(fault) => fault.place(),
             _ => None,
+        }
+    }
+
+    /// What is said of a fault that no other crate found.
+    fn text(&self) -> &'static str {
+        match self {
+            FileFault::NonceCut => "payload nonce cut",
+            FileFault::BadPosition => "bad position",
+            FileFault::OtherFile => "position of another file",
+            FileFault::ShortText => "old text too short",
+            FileFault::Read => "the input could not be read",
+            FileFault::Write => "the output could not be written",
+            FileFault::Memory => "out of memory",
+            FileFault::ReadNeverEnds => "the input never ends",
+            FileFault::PositionForged => "forged position",
+            FileFault::OldTextDiffers => "old text differs",
+            _ => "",
         }
     }
 

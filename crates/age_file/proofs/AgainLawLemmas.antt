@@ -1,5 +1,5 @@
 -- A position that is found by reading again is the run's.
-use Rattle.std.proofs.Common.{◌≡◌, ℕ, ◌/◌, ◌<◌, ◌≤◌, min, List, [], ◌++◌, length, Option, Some}
+use Rattle.std.proofs.Common.{◌≡◌, ℕ, ◌/◌, ◌<◌, ◌≤◌, min, List, [], ◌++◌, length, Option, Some, None}
 use Rattle.std.proofs.Common.{refl, sym, ap, subst, ◌∙◌, arith, append_assoc, true, false, ◌*◌}
 use Rattle.std.proofs.lemmas.List.{length-append}
 use Rattle.age_chunk.specs.Payload.{block_length, chunk_limit, chunk_length}
@@ -9,15 +9,15 @@ use Rattle.age_stream.specs.Headline.{IsPrefixOf}
 use Rattle.age_stream.specs.Segment.{Segment, outcome, released}
 use Rattle.age_io.specs.Io.{SourceView}
 use Rattle.age_keys.specs.declared.fault.KeyFault.{KeyFault}
-use Rattle.age_file.specs.Decrypts.{DecryptStops, IsFoundAgain, ReadAgain}
-use Rattle.age_file.specs.Resumes.{ResumePorts, IsFrom, ResumeStops, IsFoundFrom, RestReadAgain}
+use Rattle.age_file.specs.Decrypts.{DecryptStops}
+use Rattle.age_file.specs.Resumes.{ResumePorts, ResumeStops}
+use Rattle.age_file.specs.Again.{first_of, IsFoundAgain, ReadAgain, RestReadAgain}
 use Rattle.age_file.specs.declared.decryption.Stopped.{Stopped}
 use Rattle.age_file.specs.declared.position.PositionPolicy.TheVariants.{Kept, Dropped}
 use Rattle.age_keys.specs.Keys.{payload_key, position_key, box, unbox}
 use Rattle.age_keys.specs.inner.PayloadBox.{box_valid}
 use Rattle.age_file.specs.Bindings.{file_id, chain, chain_over, position_tag}
-use Rattle.age_file.specs.Runs.{Ports, Run, IsFromStart, IsRun, IsPositionOf, Reads, held, run_text}
-use Rattle.age_file.specs.Runs.{segment_of, run_outcome}
+use Rattle.age_file.specs.Runs.{Ports, Run, IsRun, IsPositionOf, Reads, held, run_text, segment_of, run_outcome}
 use Rattle.age_file.specs.declared.position.Position.{Position}
 use Rattle.age_file.proofs.UndamagedLemmas.{left_of, none_left, same_front}
 use Rattle.age_file.proofs.AgainRunLemmas.{stand_alike}
@@ -157,23 +157,31 @@ module _ (r q : Run) (k : ℕ) (at : Position) (left rest : List ℕ) (limit : k
       (index_of q first_q held_q keys ∙ (sym alike.place ∙ sym (index_of r first_r refl refl)))
       found
 
-same_position : OneHeader → (Allows : Header → List ℕ → Type 0) (before after : Ports)
-    (written : ℕ) (r : Run) (old new : SourceView) (bytes : List ℕ) (p : Position)
-    → IsFromStart r → IsRun Allows before after written r
+found_position : OneHeader → (Allows : Header → List ℕ → Type 0) (from : Option Position)
+    (before after : Ports) (written : ℕ) (r : Run) (old new : SourceView) (bytes : List ℕ)
+    (next : Position)
+    → first_of from < chunk_limit → r.first ≡ first_of from → IsRun Allows before after written r
     → before.source.remaining ≡ Some bytes → old.remaining ≡ Some bytes
-    → IsFoundAgain (λ _ key. key ≡ r.file.key) old new written p → IsPositionOf r p
-same_position one Allows before after written r old new bytes p from is shown again found =
+    → IsFoundAgain (λ _ key. key ≡ r.file.key) from r.copied old new written next
+    → IsPositionOf r next
+found_position one Allows from before after written r old new bytes next limit first is shown again
+    found =
     let q = found.run in
     let f = fronts one Allows (λ _ key. key ≡ r.file.key) before.source.remaining
     after.source.remaining old.remaining new.remaining bytes r q shown again is.reads
     found.is.reads in
     let same = f.4 in
-    let behind : r.bytes ++ f.0 ≡ q.bytes ++ f.1 =
-    ap (λ (t : List ℕ). (t ++ r.bytes) ++ f.0) (sym from.none_skipped)
-    ∙ (same.behind ∙ ap (λ (t : List ℕ). (t ++ q.bytes) ++ f.1) found.from_start.none_skipped) in
-    same_stand r q 0 p f.0 f.1 (omega arith) from.zero found.from_start.zero
-    (found.from_start.none_copied ∙ sym from.none_copied) (omega (arith, ap length from.none_copied))
-    found.is.reads.opens.allowed same.header_bytes same.nonce behind (sym is.count ∙ found.is.count)
+    let passed : length r.skipped ≡ length q.skipped =
+    is.skipped_size ∙ (ap (λ (n : ℕ). n * block_length) (first ∙ sym found.first_is)
+    ∙ sym found.is.skipped_size) in
+    let all : r.skipped ++ (r.bytes ++ f.0) ≡ q.skipped ++ (q.bytes ++ f.1) =
+    sym (append_assoc r.skipped r.bytes f.0)
+    ∙ (same.behind ∙ append_assoc q.skipped q.bytes f.1) in
+    let behind =
+    (same_front r.skipped q.skipped (r.bytes ++ f.0) (q.bytes ++ f.1) passed all).1 in
+    same_stand r q (first_of from) next f.0 f.1 limit first found.first_is found.copied_is
+    (is.copied_size ∙ ap (λ (n : ℕ). n * chunk_length) first) found.is.reads.opens.allowed
+    same.header_bytes same.nonce behind (sym is.count ∙ found.is.count)
     (λ e. none_left after.source.remaining f.0 f.2 (is.at_end e))
     (λ e. none_left new.remaining f.1 f.3 (found.is.at_end e)) is.prefix found.is.prefix found.here
 
@@ -192,37 +200,12 @@ pub read_again : OneHeader → (Who : Type 0) (Allows : Who → Header → List 
     (Refused : Who → Header → KeyFault → Type 0) → ReadAgain Who Allows Refused
 read_again one Who Allows Refused who before after r stopped old new bytes p s shown again found =
     stops_kept (Allows who) (Refused who) before after r stopped p s
-    (same_position one (Allows who) before after stopped.written r old new bytes p s.0 s.1.is shown
-    again found)
+    (found_position one (Allows who) None before after stopped.written r old new bytes p
+    (omega arith) s.0.zero s.1.is shown again
+    (subst (λ (c : List ℕ). IsFoundAgain (λ _ key. key ≡ r.file.key) None c old new stopped.written p)
+    (sym s.0.none_copied) found))
 
 -- ---- A resumed run, whose rest is read again from the position that it began from.
-
-rest_position : OneHeader → (Allows : Header → List ℕ → Type 0) (p : Position)
-    (before after : ResumePorts) (written : ℕ) (r : Run) (old new : SourceView) (bytes : List ℕ)
-    (next : Position)
-    → IsFrom p before.old after.old r → IsRun Allows before.main after.main written r
-    → before.main.source.remaining ≡ Some bytes → old.remaining ≡ Some bytes
-    → IsFoundFrom (λ _ key. key ≡ r.file.key) p r.copied old new written next
-    → IsPositionOf r next
-rest_position one Allows p before after written r old new bytes next from is shown again found =
-    let q = found.run in
-    let f = fronts one Allows (λ _ key. key ≡ r.file.key) before.main.source.remaining
-    after.main.source.remaining old.remaining new.remaining bytes r q shown again is.reads
-    found.is.reads in
-    let same = f.4 in
-    let passed : length r.skipped ≡ length q.skipped =
-    is.skipped_size ∙ (ap (λ (n : ℕ). n * block_length) (from.index ∙ sym found.rest.0)
-    ∙ sym found.is.skipped_size) in
-    let all : r.skipped ++ (r.bytes ++ f.0) ≡ q.skipped ++ (q.bytes ++ f.1) =
-    sym (append_assoc r.skipped r.bytes f.0)
-    ∙ (same.behind ∙ append_assoc q.skipped q.bytes f.1) in
-    let behind =
-    (same_front r.skipped q.skipped (r.bytes ++ f.0) (q.bytes ++ f.1) passed all).1 in
-    same_stand r q p.index next f.0 f.1 p.within from.index found.rest.0 found.rest.1
-    (is.copied_size ∙ ap (λ (n : ℕ). n * chunk_length) from.index) found.is.reads.opens.allowed
-    same.header_bytes same.nonce behind (sym is.count ∙ found.is.count)
-    (λ e. none_left after.main.source.remaining f.0 f.2 (is.at_end e))
-    (λ e. none_left new.remaining f.1 f.3 (found.is.at_end e)) is.prefix found.is.prefix found.here
 
 pub rest_kept : (Allows : Header → List ℕ → Type 0) (Refused : Header → KeyFault → Type 0)
     (p : Position) (before after : ResumePorts) (r : Run) (stopped : Stopped) (next : Position)
@@ -240,5 +223,5 @@ pub rest_read_again : OneHeader → (Who : Type 0) (Allows : Who → Header → 
 rest_read_again one Who Allows Refused who p before after r stopped old new bytes next s shown again
     found =
     rest_kept (Allows who) (Refused who) p before after r stopped next s
-    (rest_position one (Allows who) p before after stopped.written r old new bytes next s.0 s.2.is
-    shown again found)
+    (found_position one (Allows who) (Some p) before.main after.main stopped.written r old new bytes
+    next p.within s.0.index s.2.is shown again found)

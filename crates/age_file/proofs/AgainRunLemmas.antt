@@ -1,26 +1,21 @@
 -- Two runs over the same bytes that wrote as many: they stand at the same place.
-use Rattle.std.proofs.Common.{◌≡◌, ℕ, ◌+◌, ◌*◌, ◌/◌, ◌<◌, ◌≤◌, min, List, [], ◌∷◌, ◌++◌, length}
-use Rattle.std.proofs.Common.{take, Option, drop, Bool, true, false, refl, sym, ap, subst, ◌∙◌}
-use Rattle.std.proofs.Common.{arith, inl, inr, true≢false, ⊎_elim, append_assoc, append-nil}
+use Rattle.std.proofs.Common.{◌≡◌, ℕ, ◌+◌, ◌*◌, ◌/◌, ◌<◌, ◌≤◌, min, List, [], ◌∷◌, ◌++◌, length, take, Option, drop, Bool, true, false, refl, sym, ap, subst}
+use Rattle.std.proofs.Common.{◌∙◌, arith, inl, inr, true≢false, ⊎_elim, append_assoc, append-nil}
 use Rattle.std.specs.Prelude.{◌⊎◌, nat_lt, slice_get}
 use Rattle.std.specs.List.{flat_map}
 use Rattle.std.proofs.lemmas.Grind.{flat_map-append}
 use Rattle.std.proofs.lemmas.List.{length-append, length-take, take-append-drop, length-take-le}
 use Rattle.std.proofs.lemmas.Bool.{cases_lt}
 use Rattle.std.proofs.Math.Nat.{le-div_iff_mul-le}
-use Rattle.age_chunk.specs.declared.fault.StreamFault.{StreamFault}
 use Rattle.age_chunk.specs.ChunkBoxes.{IsChunkBox, tag_length}
 use Rattle.age_stream.specs.Headline.{IsPrefixOf}
-use Rattle.age_stream.specs.Segment.{Segment, Outcome, outcome, released, front_texts, whole_blocks}
-use Rattle.age_stream.specs.Segment.{rest_bytes, with_piece, with_end}
-use Rattle.age_stream.specs.Laws.{IsSettled}
+use Rattle.age_stream.specs.Segment.{Segment, Outcome, outcome, released, front_texts, whole_blocks, rest_bytes, with_piece, with_end}
 use Rattle.age_stream.specs.declared.step.Status.{Status}
-use Rattle.age_stream.specs.declared.step.Status.TheVariants.{Open, Failed}
+use Rattle.age_stream.specs.declared.step.Status.TheVariants.{Open}
 use Rattle.age_stream.proofs.GoingLemmas.{going, going_outcome}
 use Rattle.age_stream.proofs.GrowingLemmas.{begins_stop}
 use Rattle.age_stream.proofs.TableLemmas.{by_blocks}
-use Rattle.age_stream.proofs.LawLemmas.{chunks_are_counted, closed_stays, end_closes}
-use Rattle.age_stream.proofs.LawLemmas.{released_grows}
+use Rattle.age_stream.proofs.LawLemmas.{chunks_are_counted, closed_stays, end_closes, released_grows}
 use Rattle.age_file.proofs.ByteLemmas.{prefix_trans}
 use Rattle.age_file.proofs.UndamagedLemmas.{same_front}
 
@@ -248,104 +243,3 @@ module _ (sealing : List ℕ → List ℕ → List ℕ)
             let q2 = subst (λ (u : List ℕ). IsPrefixOf y (released opening n (part k u f))) m.1 q in
             subst (λ (u : List ℕ). StandAlike (part k s e) (part k u f) x y) (sym m.1)
             (either s m.0 e f x y p q2 len (one_extends k s m.0 e f start none))
-
-  -- what failed releases no more, with more bytes and an end
-  failed_text : (k : ℕ) (bytes more : List ℕ) (f : Bool) (fault : StreamFault)
-      → (outcome opening n (part k bytes false)).status ≡ Failed fault
-      → released opening n (part k (bytes ++ more) f) ≡ released opening n (part k bytes false)
-  failed_text k bytes more f fault is = by f where
-    flat : List (List ℕ) → List ℕ
-    flat = flat_map (λ (t : List ℕ). t)
-
-    shut : (s : Segment) → (outcome opening n s).status ≡ Failed fault
-        → (outcome opening n s).status ≡ Open → ⊥
-    shut s failed o = let clash : Open ≡ Failed fault = sym o ∙ failed in cc
-
-    later : IsSettled (outcome opening n (part k bytes false))
-        (outcome opening n (part k (bytes ++ more) false))
-    later = (closed_stays opening n (part k bytes false) (λ _. refl)
-        (shut (part k bytes false) is)).0 more
-
-    by : (f : Bool) → released opening n (part k (bytes ++ more) f)
-        ≡ released opening n (part k bytes false)
-    by false = ap flat later.texts
-    by true =
-        let fed = part k (bytes ++ more) false in
-        ap flat ((closed_stays opening n fed (λ _. refl) (shut fed (later.fault fault is))).1.texts
-        ∙ later.texts)
-
-  abbrev Reaches : Segment → Segment → Type 0
-  Reaches a b = length (released opening n a) ≤ length (released opening n b)
-
-  extends_reach : (a b : Segment) → Extends a b → Reaches a b
-  extends_reach a b x =
-      omega (
-        arith,
-        length-append (released opening n a) x.text.0,
-        ap length x.text.1,
-      )
-
-  same_reach : (a b : Segment) → released opening n a ≡ released opening n b → Reaches a b
-  same_reach a b e = omega (arith, ap length e)
-
-  -- of two readings of the same bytes, one that saw the end or failed released as much as the other
-  pub reaches : (k : ℕ) (s t a b : List ℕ) (e f : Bool) → length base ≡ k * n → s ++ a ≡ t ++ b
-      → (e ≡ true → a ≡ []) → (f ≡ true → b ≡ [])
-      → (f ≡ true) ⊎ ((fault : StreamFault) × ((outcome opening n (part k t f)).status ≡ Failed fault))
-      → Reaches (part k s e) (part k t f)
-  reaches k s t a b e f start both ends_a ends_b closed =
-      elim (cases_lt (length t) (length s)) [
-        | inl lt ↦ shorter f ends_b closed lt
-        | inr le ↦ (let m = longer s t a b both le in
-            let none : e ≡ true → m.0 ≡ [] =
-            λ is. (none_more m.0 b (sym (ends_a is) ∙ m.2)).0 in
-            subst (λ (u : List ℕ). Reaches (part k s e) (part k u f)) (sym m.1)
-            (ordered m.0 e f none
-            (⊎_elim (λ is. inl is) (λ c. inr (
-              c.0,
-              subst (λ (u : List ℕ).
-                  (outcome opening n (part k u f)).status ≡ Failed c.0) m.1 c.1,
-            )) closed)))
-      ] where
-        shorter : (f : Bool) → (f ≡ true → b ≡ [])
-            → (f ≡ true) ⊎ ((fault : StreamFault)
-            × ((outcome opening n (part k t f)).status ≡ Failed fault))
-            → length t < length s → Reaches (part k s e) (part k t f)
-        shorter true ends c lt =
-            omega (
-              arith,
-              lt,
-              ap length both,
-              length-append s a,
-              length-append t b,
-              ap length (ends refl),
-            )
-        shorter false ends (inl is) lt = absurd (true≢false (sym is))
-        shorter false ends (inr c) lt =
-            let m = longer t s b a (sym both) (omega (arith, lt)) in
-            subst (λ (u : List ℕ). Reaches (part k u e) (part k t false)) (sym m.1)
-            (same_reach (part k (t ++ m.0) e) (part k t false) (failed_text k t m.0 e c.0 c.1))
-
-        ordered : (m : List ℕ) (e f : Bool) → (e ≡ true → m ≡ [])
-            → (f ≡ true) ⊎ ((fault : StreamFault)
-            × ((outcome opening n (part k (s ++ m) f)).status ≡ Failed fault))
-            → Reaches (part k s e) (part k (s ++ m) f)
-        ordered m false false none c =
-            extends_reach (part k s false) (part k (s ++ m) false)
-            (piece_extends (part k s false) m start (λ _. refl))
-        ordered m false true none c =
-            extends_reach (part k s false) (part k (s ++ m) true)
-            (extends_on (part k s false) (part k (s ++ m) false) (part k (s ++ m) true)
-            (piece_extends (part k s false) m start (λ _. refl))
-            (end_extends (part k (s ++ m) false) (λ _. refl)))
-        ordered m true true none c =
-            let same : s ++ m ≡ s = ap (λ (t : List ℕ). s ++ t) (none refl) ∙ append-nil s in
-            same_reach (part k s true) (part k (s ++ m) true)
-            (ap (λ (t : List ℕ). released opening n (part k t true)) (sym same))
-        ordered m true false none (inl is) = absurd (true≢false (sym is))
-        ordered m true false none (inr c) =
-            let same : s ++ m ≡ s = ap (λ (t : List ℕ). s ++ t) (none refl) ∙ append-nil s in
-            same_reach (part k s true) (part k (s ++ m) false)
-            (ap (λ (t : List ℕ). released opening n (part k t true))
-            (sym (append-nil (s ++ m) ∙ same))
-            ∙ failed_text k (s ++ m) [] true c.0 c.1)

@@ -1,16 +1,13 @@
 -- Bytes that are shown, one call after another.
-use Rattle.std.proofs.Common.{◌≡◌, ℕ, ◌≤◌, List, [], ◌++◌, length, take, drop, Option, Some, None}
-use Rattle.std.proofs.Common.{refl, sym, ap, subst}
-use Rattle.std.proofs.Common.{◌∙◌, append_assoc, append-nil, inl, inr, arith}
+use Rattle.std.proofs.Common.{◌≡◌, ℕ, ◌≤◌, List, [], ◌++◌, length, take, drop, Option, Some, None, refl, sym, ap, subst, ◌∙◌, append_assoc, append-nil, inl}
+use Rattle.std.proofs.Common.{inr, arith}
 use Rattle.std.specs.Prelude.{◌⊎◌, IfSome}
 use Rattle.std.specs.Io.KnownBytes.{Consumes, IsAtEnd}
 use Rattle.std.proofs.lemmas.List.{append_cancel_left, length-append, take-append-drop}
 use Rattle.age_io.specs.Io.{SourceView}
 use Rattle.age_stanza.specs.declared.fault.HeadFault.{HeadFault}
 use Rattle.age_stanza.specs.declared.fault.HeadKind.{HeadKind}
-use Rattle.age_stanza.specs.declared.fault.HeadKind.TheVariants.{NotAge, Armored, BadStanzaLine}
-use Rattle.age_stanza.specs.declared.fault.HeadKind.TheVariants.{BadBody, BadEndLine, NoStanza}
-use Rattle.age_stanza.specs.declared.fault.HeadKind.TheVariants.{HeadTooLong, HeadCut, Memory}
+use Rattle.age_stanza.specs.declared.fault.HeadKind.TheVariants.{NotAge, Armored, BadStanzaLine, BadBody, BadEndLine, NoStanza, HeadTooLong, HeadCut, Memory}
 use Rattle.age_stanza.specs.Parsing.{HasHeader, IsFault, memory_fault}
 use Rattle.std.proofs.KnownBytes.{Consumes-nil}
 use Rattle.age_stanza.proofs.AnyPiecesLemmas.{more_fault}
@@ -19,12 +16,10 @@ use Rattle.age_stanza.proofs.PieceLemmas.{none_held}
 use Rattle.age_stanza.proofs.FaultLemmas.{no_fault}
 use Rattle.age_stream.specs.Headline.{IsPrefixOf}
 use Rattle.age_fault.proofs.ByteLemmas.{Consumes-then}
-use Rattle.age_file.specs.Runs.{pull_room, EndsInHeader, InHeader, IsCut, IsHeadFault, ReportsFault}
-use Rattle.age_file.specs.Runs.{StopsAtHeader, HeadFails}
+use Rattle.age_file.specs.Runs.{pull_room, EndsInHeader, InHeader, IsCut, IsHeadFault, ReportsFault, StopsAtHeader, HeadFails}
 use Rattle.age_fault.specs.inner.Faults.{fault_of, fault_by_kind}
 use Rattle.age_fault.specs.declared.fault.FileFault.{FileFault}
-use Rattle.age_fault.specs.declared.fault.FileFault.TheVariants.{Head, Read, ReadNeverEnds}
-use Rattle.age_fault.specs.declared.fault.FileFault.TheVariants.{Memory as FileMemory}
+use Rattle.age_fault.specs.declared.fault.FileFault.TheVariants.{Head, Read, ReadNeverEnds, Memory as FileMemory}
 use Rattle.age_file.specs.inner.Readers.{Pulled, PullFails, ReaderView, reader_view}
 use Rattle.age_fault.specs.Faults.{HasFailed}
 use Rattle.age_file.specs.inner.Unread.{Unread}

@@ -1,7 +1,5 @@
 -- Calls in a row, by the number of calls.
-use Rattle.std.proofs.Common.{refl, inl, inr, ◌≡◌, ℕ, ◌≤◌, ◌<◌, arith, List, [], ◌∷◌, ◌++◌, Option}
-use Rattle.std.proofs.Common.{None, Some}
-use Rattle.std.proofs.Common.{sym, ap, subst, ◌∙◌, append-nil}
+use Rattle.std.proofs.Common.{refl, inl, inr, ◌≡◌, ℕ, ◌≤◌, ◌<◌, arith, List, [], ◌∷◌, ◌++◌, Option, None, Some, sym, ap, subst, ◌∙◌, append-nil}
 use Rattle.std.specs.Prelude.{Result, Ok, Err, IfSome, IsSomeAnd}
 use Rattle.std.specs.Io.KnownBytes.{Consumes, Appends}
 use Rattle.age_stanza.specs.declared.header.Header.{Header}
@@ -9,13 +7,10 @@ use Rattle.age_stream.specs.Headline.{IsPrefixOf}
 use Rattle.age_chunk.specs.Payload.{chunk_count, chunk_length, chunk_limit}
 use Rattle.age_keys.specs.declared.fault.KeyFault.{KeyFault}
 use Rattle.age_io.specs.Io.{SinkView}
-use Rattle.age_file.specs.Runs.{Ports, Run, held, IsTexts, IsAuthenticRun, IsPositionOf}
-use Rattle.age_file.specs.Runs.{CarriesText, GivesPosition, WritesNone, StopsInPayload, NeverEnds}
+use Rattle.age_file.specs.Runs.{Ports, Run, held, IsTexts, IsAuthenticRun, IsPositionOf, CarriesText, GivesPosition, WritesNone, StopsInPayload, NeverEnds}
 use Rattle.age_file.specs.Decrypts.{DecryptStops}
-use Rattle.age_file.specs.Resumes.{ResumePorts, WritesOld, IsFrom, IsSame, NeverEndTogether}
-use Rattle.age_file.specs.Resumes.{StopsInOld, StopsInSkipped, ResumeStops}
-use Rattle.age_file.specs.InARow.{TookBeginning, AnswersRight, FirstCall, NextCall, DecryptAnswers}
-use Rattle.age_file.specs.InARow.{ResumeAnswers, taken, AreInARow, AreTexts, AllAnswerRight}
+use Rattle.age_file.specs.Resumes.{ResumePorts, WritesOld, IsFrom, IsSame, NeverEndTogether, StopsInOld, StopsInSkipped, ResumeStops}
+use Rattle.age_file.specs.InARow.{TookBeginning, AnswersRight, FirstCall, NextCall, DecryptAnswers, ResumeAnswers, taken, AreInARow, AreTexts, AllAnswerRight}
 use Rattle.age_file.specs.declared.decryption.Done.{Done}
 use Rattle.age_file.specs.declared.decryption.Stopped.{Stopped}
 use Rattle.age_file.specs.declared.position.Position.{Position}

@@ -1,6 +1,5 @@
 -- What was copied, one step after another.
-use Rattle.std.proofs.Common.{append_assoc, ◌≡◌, ℕ, suc, ◌+◌, ◌*◌, ◌<◌, Err, List, [], ◌∷◌, ◌++◌}
-use Rattle.std.proofs.Common.{length, take, drop, sym, ap, subst, ◌∙◌, arith, append-nil}
+use Rattle.std.proofs.Common.{append_assoc, ◌≡◌, ℕ, suc, ◌+◌, ◌*◌, ◌<◌, Err, List, [], ◌∷◌, ◌++◌, length, take, drop, sym, ap, subst, ◌∙◌, arith, append-nil}
 use Rattle.std.proofs.lemmas.List.{length-append, take_all, take-append-drop}
 use Rattle.std.proofs.Math.Seq.{drop-append_seam}
 use Rattle.std.specs.Simd.{first_chunks}
@@ -10,11 +9,9 @@ use Rattle.age_stream.specs.Headline.{IsPrefixOf}
 use Rattle.age_fault.specs.Faults.{HasFailed}
 use Rattle.age_file.specs.Bindings.{link, chain}
 use Rattle.age_file.specs.inner.Readers.{ReaderView, WriterView}
-use Rattle.age_file.specs.inner.Copies.{Passes, Dries, FailsInCopy, CopiesChunk, CopiesAll}
-use Rattle.age_file.specs.inner.Copies.{TextFails}
+use Rattle.age_file.specs.inner.Copies.{Passes, Dries, FailsInCopy, CopiesChunk, CopiesAll, TextFails}
 use Rattle.age_fault.specs.declared.fault.FileFault.{FileFault}
-use Rattle.age_fault.specs.declared.fault.FileFault.TheVariants.{ShortText, Read, Write}
-use Rattle.age_fault.specs.declared.fault.FileFault.TheVariants.{ReadNeverEnds, OldTextDiffers}
+use Rattle.age_fault.specs.declared.fault.FileFault.TheVariants.{ShortText, Read, Write, ReadNeverEnds, OldTextDiffers}
 use Rattle.age_fault.proofs.ByteLemmas.{Appends-then}
 use Rattle.age_file.proofs.CountLemmas.{chain_on}
 use Rattle.age_file.proofs.SkipLemmas.{passes_then, dries_then, within}

@@ -1,6 +1,5 @@
 -- Counting the chunks that were written, one step after another. A chunk has n bytes.
-use Rattle.std.proofs.Common.{inl, inr, ◌≡◌, ℕ, ◌+◌, ◌-◌, ◌*◌, ◌/◌, ◌<◌, ◌≤◌, min, List, [], ◌∷◌}
-use Rattle.std.proofs.Common.{◌++◌, length, take, Option, Some, refl, sym, ap, ◌∙◌, arith}
+use Rattle.std.proofs.Common.{inl, inr, ◌≡◌, ℕ, ◌+◌, ◌-◌, ◌*◌, ◌/◌, ◌<◌, ◌≤◌, min, List, [], ◌∷◌, ◌++◌, length, take, Option, Some, refl, sym, ap, ◌∙◌, arith}
 use Rattle.std.proofs.Common.{append-nil, append_assoc, Bool, true, false, replicate}
 use Rattle.std.specs.Prelude.{◌⊎◌}
 use Rattle.std.specs.Simd.{first_chunks}
@@ -11,13 +10,11 @@ use Rattle.std.proofs.lemmas.Bool.{cases_lt}
 use Rattle.std.proofs.Math.Bool.{or-false}
 use Rattle.std.proofs.Math.Nat.{le-div_iff_mul-le}
 use Rattle.age_chunk.specs.ChunkBoxes.{IsChunkBox}
-use Rattle.age_stream.specs.Segment.{Segment, Outcome, outcome, released, with_piece, with_end}
-use Rattle.age_stream.specs.Segment.{fresh}
+use Rattle.age_stream.specs.Segment.{Segment, Outcome, outcome, released, with_piece, with_end, fresh}
 use Rattle.age_stream.specs.Laws.{counted_chunks}
 use Rattle.age_stream.specs.declared.step.Status.{Status}
 use Rattle.age_stream.specs.declared.step.Status.TheVariants.{Open}
-use Rattle.age_stream.proofs.LawLemmas.{chunks_are_counted, closed_stays, end_closes}
-use Rattle.age_stream.proofs.LawLemmas.{fresh_is_open, released_grows}
+use Rattle.age_stream.proofs.LawLemmas.{chunks_are_counted, closed_stays, end_closes, fresh_is_open, released_grows}
 use Rattle.age_chunk.proofs.FirstChunkLemmas.{first_chunks-append, length-first_chunks}
 use Rattle.age_file.specs.Bindings.{link, chain}
 use Rattle.age_file.specs.inner.Bindings.{link_if, chain_if}

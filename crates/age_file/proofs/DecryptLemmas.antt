@@ -1,9 +1,6 @@
 -- From what was read and decrypted to what a decryption did.
-use Rattle.std.proofs.Common.{Some, None, refl, ◌≡◌, ℕ, ◌*◌, ◌<◌, List, [], ◌++◌, length, Option}
-use Rattle.std.proofs.Common.{sym, ap, subst, ◌∙◌, arith}
-use Rattle.std.proofs.Common.{append_assoc}
+use Rattle.std.proofs.Common.{Some, None, refl, ◌≡◌, ℕ, ◌*◌, ◌<◌, List, [], ◌++◌, length, Option, sym, ap, subst, ◌∙◌, arith, append_assoc}
 use Rattle.std.specs.Prelude.{Result, MatchResult, OnOk, Ok, Err, true}
-use Rattle.age_stanza.specs.Laws.{OneHeader}
 use Rattle.age_file.specs.declared.decryption.Done.{Done}
 use Rattle.age_file.specs.declared.decryption.Stopped.{Stopped}
 use Rattle.age_stanza.specs.declared.header.Header.{Header}
@@ -16,8 +13,7 @@ use Rattle.age_file.specs.inner.Readers.{Pulled, Stage}
 use Rattle.age_file.specs.inner.Payloads.{DecryptsPayload, SegmentFails, SegmentDone, HasCounted}
 use Rattle.age_file.specs.Decrypts.{StartFails, DecryptsKeyed, DecryptStops}
 use Rattle.age_file.specs.inner.Copies.{StartsAt}
-use Rattle.age_file.specs.Runs.{Run, IsFromStart, segment_of, held, IsRun, PayloadFails, IsDone}
-use Rattle.age_file.specs.Runs.{IsPositionOf, NeverEnds, Ports, NoneFailed}
+use Rattle.age_file.specs.Runs.{Run, IsFromStart, segment_of, held, IsRun, PayloadFails, IsDone, IsPositionOf, NeverEnds, Ports, NoneFailed}
 use Rattle.age_file.proofs.RunLemmas.{position_given, position_due}
 use Rattle.age_file.specs.Bindings.{file_id, position_tag, chain}
 use Rattle.age_file.specs.inner.Bindings.{chain_if}
@@ -196,14 +192,14 @@ module _ (keep : PositionPolicy) (Allows : Header → List ℕ → Type 0) (Refu
       new.writer.tally.within p.key_is p.nonce_is p.id p.is.prefix p.counts.index
 
   -- the whole run
-  pub run_ended : OneHeader → (a : SourceView) (unlocked : Unlocked) (old new : Stage)
+  pub run_ended : (a : SourceView) (unlocked : Unlocked) (old new : Stage)
       (run : Result (Unit {0}) FileFault) (result : Result Done Stopped)
       → old.reader.source.failed ≡ a.failed
       → new.writer.sink.label ≡ old.writer.sink.label → OnOk run (new.writer.sink.settled ≡ true)
       → IsDecrypted a unlocked old new run
       → EndsAs unlocked new.writer.tally run result
       → DecryptsKeyed keep Allows Refused (before a old) (after new) result (Some unlocked.key)
-  run_ended one a unlocked old new (Ok done) result same named settled p is =
+  run_ended a unlocked old new (Ok done) result same named settled p is =
       let d = decrypt_done a unlocked old new same p in
       subst (λ (r : Result Done Stopped). DecryptsKeyed keep Allows Refused (before a old)
       (after new) r (Some unlocked.key))
@@ -219,7 +215,7 @@ module _ (keep : PositionPolicy) (Allows : Header → List ℕ → Type 0) (Refu
         found = ap Some (sym p.key_is);
         due = due_of a unlocked old new _ p;
       })
-  run_ended one a unlocked old new (Err fault) result same named settled p (next, at, is) =
+  run_ended a unlocked old new (Err fault) result same named settled p (next, at, is) =
       let stops = decrypt_stops a unlocked old new fault next same p at in
       let stopped : Stopped = record {
         fault = fault;
@@ -242,11 +238,11 @@ module _ (keep : PositionPolicy) (Allows : Header → List ℕ → Type 0) (Refu
       })
 
   -- no payload came to be opened
-  pub stopped_early : OneHeader → (old new : Ports) (fault : FileFault) → new.sink ≡ old.sink
+  pub stopped_early : (old new : Ports) (fault : FileFault) → new.sink ≡ old.sink
       → StartFails Allows Refused old.source new.source fault
       → DecryptsKeyed keep Allows Refused old new
       (Err (record { fault = fault; written = 0; position = None })) None
-  stopped_early one old new fault same f =
+  stopped_early old new fault same f =
       let stopped : Stopped = record { fault = fault; written = 0; position = None } in
       let stops : DecryptStops keep Allows Refused old new None stopped =
       (record { sink = same; written = refl; position = refl }, f) in

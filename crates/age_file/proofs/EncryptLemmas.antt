@@ -1,27 +1,21 @@
 -- A file's front, and what of the file was written.
-use Rattle.std.proofs.Common.{◌≡◌, ℕ, refl, sym, ap, subst, ◌∙◌, List, [], ◌++◌, length}
-use Rattle.std.proofs.Common.{append_assoc, append-nil, arith, Result, Ok, Err, IfOk, IfErr}
+use Rattle.std.proofs.Common.{◌≡◌, ℕ, refl, sym, ap, subst, ◌∙◌, List, [], ◌++◌, length, append_assoc, append-nil, arith, Result, Ok, Err, IfOk, IfErr}
 use Rattle.std.proofs.lemmas.List.{length-append}
 use Rattle.std.specs.Io.KnownBytes.{Consumes, Appends}
 use Rattle.std.proofs.KnownBytes.{Consumes-nil}
 use Rattle.age_chunk.specs.Payload.{payload, chunk_length}
 use Rattle.age_keys.specs.Keys.{header_mac, IsMacOf, box}
 use Rattle.age_keys.specs.Scrypt.{scrypt_head}
-use Rattle.age_file.specs.Encrypts.{AgeFile, Encrypts, EncryptsFront, EncryptFails, WhyStopped}
-use Rattle.age_file.specs.Encrypts.{without_last, SecretView}
-use Rattle.age_file.specs.inner.Seals.{BeginsFile, FrontFails, WritesFront, front_of, SealingFails}
-use Rattle.age_file.specs.inner.Seals.{SealsAll, SealsFront}
+use Rattle.age_file.specs.Encrypts.{AgeFile, Encrypts, EncryptsFront, EncryptFails, WhyStopped, without_last, SecretView}
+use Rattle.age_file.specs.inner.Seals.{BeginsFile, FrontFails, WritesFront, front_of, SealingFails, SealsAll, SealsFront}
 use Rattle.age_file.specs.declared.encryption.Written.{Written}
 use Rattle.age_fault.specs.Faults.{Writes, HasFailed}
 use Rattle.age_io.specs.Io.{SourceView}
 use Rattle.age_file.specs.inner.Readers.{WriterView}
 use Rattle.age_file.specs.Runs.{Ports, ports, NoneFailed, WriteFailed}
 use Rattle.age_fault.specs.declared.fault.FileFault.{FileFault}
-use Rattle.age_fault.specs.declared.fault.FileFault.TheVariants.{Head, Key, NonceCut, Stream}
-use Rattle.age_fault.specs.declared.fault.FileFault.TheVariants.{BadPosition, OtherFile, ShortText}
-use Rattle.age_fault.specs.declared.fault.FileFault.TheVariants.{Read, Write, Memory}
-use Rattle.age_fault.specs.declared.fault.FileFault.TheVariants.{ReadNeverEnds, PositionForged}
-use Rattle.age_fault.specs.declared.fault.FileFault.TheVariants.{OldTextDiffers}
+use Rattle.age_fault.specs.declared.fault.FileFault.TheVariants.{Head, Key, NonceCut, Stream, BadPosition, OtherFile, ShortText, Read, Write, Memory}
+use Rattle.age_fault.specs.declared.fault.FileFault.TheVariants.{ReadNeverEnds, PositionForged, OldTextDiffers}
 use Rattle.age_fault.proofs.ByteLemmas.{Appends-then}
 
 mac_holds : (pass : List ℕ) (log : ℕ) (salt key : List ℕ)

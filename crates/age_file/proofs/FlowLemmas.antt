@@ -1,8 +1,7 @@
 -- What flows from a source through an opener to a sink, one turn after another. A chunk has n
 -- bytes.
-use Rattle.std.proofs.Common.{◌≡◌, ℕ, ◌+◌, ◌*◌, ◌^◌, ◌<◌, ◌≤◌, List, [], ◌++◌, length, Option, refl}
-use Rattle.std.proofs.Common.{sym, ap, subst, ◌∙◌, arith}
-use Rattle.std.proofs.Common.{append-nil, append_assoc, Bool, true, false}
+use Rattle.std.proofs.Common.{◌≡◌, ℕ, ◌+◌, ◌*◌, ◌^◌, ◌<◌, ◌≤◌, List, [], ◌++◌, length, Option, refl, sym, ap, subst, ◌∙◌, arith, append-nil, append_assoc, Bool}
+use Rattle.std.proofs.Common.{true, false}
 use Rattle.std.specs.Prelude.{Result, Ok, Err, ◌⊎◌}
 use Rattle.std.specs.Io.KnownBytes.{IsAtEnd}
 use Rattle.std.proofs.lemmas.List.{length-append}
@@ -13,8 +12,7 @@ use Rattle.age_stream.specs.Opener.{OpenerView, has_failed}
 use Rattle.age_fault.specs.Faults.{HasFailed}
 use Rattle.age_file.specs.Runs.{NoneFailed, ReadFailed, WriteFailed, pull_room}
 use Rattle.age_file.specs.inner.Unread.{Unread}
-use Rattle.age_file.specs.inner.Readers.{ReaderView, reader_view, WriterView, Stage, stage}
-use Rattle.age_file.specs.inner.Readers.{ports_at, Pulled, Refills, PullFails}
+use Rattle.age_file.specs.inner.Readers.{ReaderView, reader_view, WriterView, Stage, stage, ports_at, Pulled, Refills, PullFails}
 use Rattle.age_file.specs.inner.Payloads.{Releases, FeedsPiece, FeedFails}
 use Rattle.age_fault.specs.declared.fault.FileFault.{FileFault}
 use Rattle.age_fault.specs.declared.fault.FileFault.TheVariants.{Stream, Read, Write, ReadNeverEnds}

@@ -1,22 +1,18 @@
 -- From what an opener did to the segment that it was given.
-use Rattle.std.proofs.Common.{◌<◌, ◌*◌, length, ◌≡◌, ℕ, List, [], ◌++◌, Option, refl, sym, ap}
-use Rattle.std.proofs.Common.{subst, ◌∙◌, append-nil, append_assoc}
-use Rattle.std.proofs.Common.{true, false, inl, inr, arith}
+use Rattle.std.proofs.Common.{◌<◌, ◌*◌, length, ◌≡◌, ℕ, List, [], ◌++◌, Option, refl, sym, ap, subst, ◌∙◌, append-nil, append_assoc, true, false, inl, inr}
+use Rattle.std.proofs.Common.{arith}
 use Rattle.std.proofs.lemmas.List.{length-append}
 use Rattle.std.specs.Prelude.{Result, MatchResult, OnOk, Ok, Err}
 use Rattle.std.specs.List.{flat_map}
 use Rattle.age_stream.specs.declared.step.Status.TheVariants.{Done}
-use Rattle.age_stream.specs.Segment.{Segment, Outcome, outcome, released, with_piece, with_end}
-use Rattle.age_stream.specs.Segment.{fresh}
+use Rattle.age_stream.specs.Segment.{Segment, Outcome, outcome, released, with_piece, with_end, fresh}
 use Rattle.age_stream.specs.Opener.{OpenerView, Stands, has_failed}
 use Rattle.age_stream.specs.Headline.{IsPrefixOf}
 use Rattle.age_stream.proofs.LawLemmas.{fresh_is_open, released_grows}
 use Rattle.age_fault.specs.Faults.{HasFailed}
 use Rattle.age_file.specs.Runs.{NoneFailed}
 use Rattle.age_file.specs.inner.Readers.{WriterView, Stage, stage, ports_at}
-use Rattle.age_file.specs.inner.Payloads.{Releases, ClosesPayload, FeedFails, segment}
-use Rattle.age_file.specs.inner.Payloads.{DecryptsPayload}
-use Rattle.age_file.specs.inner.Payloads.{SegmentFails, SegmentDone, CountsChunks, HasCounted}
+use Rattle.age_file.specs.inner.Payloads.{Releases, ClosesPayload, FeedFails, segment, DecryptsPayload, SegmentFails, SegmentDone, CountsChunks, HasCounted}
 use Rattle.age_fault.specs.declared.fault.FileFault.{FileFault}
 use Rattle.age_fault.specs.declared.fault.FileFault.TheVariants.{Stream, Read, Write, ReadNeverEnds}
 use Rattle.age_chunk.specs.ChunkBoxes.{IsChunkBox}

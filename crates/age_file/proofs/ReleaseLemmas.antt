@@ -1,6 +1,5 @@
 -- Feeding an opener and writing what it releases, one call after another.
-use Rattle.std.proofs.Common.{◌<◌, ◌*◌, Some, None, ◌≡◌, ℕ, ◌+◌, ◌≤◌, List, [], ◌++◌, length, take}
-use Rattle.std.proofs.Common.{Option, refl, sym, ap, subst, ◌∙◌, arith, append-nil}
+use Rattle.std.proofs.Common.{◌<◌, ◌*◌, Some, None, ◌≡◌, ℕ, ◌+◌, ◌≤◌, List, [], ◌++◌, length, take, Option, refl, sym, ap, subst, ◌∙◌, arith, append-nil}
 use Rattle.std.proofs.Common.{append_assoc, false}
 use Rattle.std.specs.List.{flat_map}
 use Rattle.std.specs.Borrow.{Bor}
@@ -11,8 +10,7 @@ use Rattle.age_stream.specs.Segment.{Segment, outcome, released, with_piece}
 use Rattle.age_stream.specs.Opener.{has_failed, OpenerView, Stands, chunk_texts, chunk_bytes}
 use Rattle.age_stream.proofs.LawLemmas.{pieces_join}
 use Rattle.age_fault.specs.Faults.{HasFailed}
-use Rattle.age_file.specs.inner.Payloads.{Releases, FeedGoes, FeedFails, AdvancesTally}
-use Rattle.age_file.specs.inner.Payloads.{CountsChunks}
+use Rattle.age_file.specs.inner.Payloads.{Releases, FeedGoes, FeedFails, AdvancesTally, CountsChunks}
 use Rattle.age_file.specs.inner.Readers.{WriterView}
 use Rattle.age_fault.specs.declared.fault.FileFault.{FileFault}
 use Rattle.age_fault.specs.declared.fault.FileFault.TheVariants.{Stream, Write}

@@ -1,21 +1,16 @@
 -- From what was read, copied, skipped and decrypted to what a resumed decryption did.
-use Rattle.std.proofs.Common.{◌≡◌, ℕ, ◌+◌, ◌*◌, ◌/◌, ◌<◌, ◌≤◌, List, [], ◌++◌, length, take, drop}
-use Rattle.std.proofs.Common.{Option, Some, None, refl, inl, inr, sym, ap, subst, ◌∙◌}
-use Rattle.std.proofs.Common.{suc, ◌^◌, arith, append-nil, append_assoc}
+use Rattle.std.proofs.Common.{◌≡◌, ℕ, ◌+◌, ◌*◌, ◌/◌, ◌<◌, ◌≤◌, List, [], ◌++◌, length, take, drop, Option, Some, None, refl, inl, inr, sym, ap, subst, ◌∙◌, suc}
+use Rattle.std.proofs.Common.{◌^◌, arith, append-nil, append_assoc}
 use Rattle.std.specs.Prelude.{Result, MatchResult, Ok, Err}
-use Rattle.age_stanza.specs.Laws.{OneHeader}
-use Rattle.age_file.specs.Resumes.{ResumesKeyed, ResumePorts, WritesOld, IsFrom, IsSame, BeginsWith}
-use Rattle.age_file.specs.Resumes.{StandsAt}
+use Rattle.age_file.specs.Resumes.{ResumesKeyed, ResumePorts, WritesOld, IsFrom, IsSame, BeginsWith, StandsAt}
 use Rattle.age_file.specs.declared.standing.Standing.{Standing}
 use Rattle.age_file.specs.declared.standing.Standing.TheVariants.{Before, Skipping, InPayload}
-use Rattle.age_file.specs.Resumes.{IsOldText, NeverEndTogether, BeforeOldFails, InOldFails}
-use Rattle.age_file.specs.Resumes.{StopsInOld, InSkippedFails, StopsInSkipped, ResumeStops}
+use Rattle.age_file.specs.Resumes.{IsOldText, NeverEndTogether, BeforeOldFails, InOldFails, StopsInOld, InSkippedFails, StopsInSkipped, ResumeStops}
 use Rattle.age_file.specs.declared.decryption.Done.{Done}
 use Rattle.age_file.specs.declared.decryption.Stopped.{Stopped}
 use Rattle.std.specs.Simd.{first_chunks}
 use Rattle.std.specs.Io.KnownBytes.{Consumes, Appends}
-use Rattle.std.proofs.lemmas.List.{length-append, length-take, take_at, take-append-drop}
-use Rattle.std.proofs.lemmas.List.{take-append-le}
+use Rattle.std.proofs.lemmas.List.{length-append, length-take, take_at, take-append-drop, take-append-le}
 use Rattle.std.proofs.Math.Nat.{mul-le-mul_right}
 use Rattle.age_stanza.specs.declared.header.Header.{Header}
 use Rattle.age_stream.specs.Headline.{IsPrefixOf}
@@ -28,10 +23,8 @@ use Rattle.age_file.specs.declared.position.PositionPolicy.TheVariants.{Kept, Dr
 use Rattle.age_file.specs.inner.Copies.{CopiesText, Passes, SkipFails, Uses, StartsAt}
 use Rattle.age_fault.specs.Faults.{HasFailed}
 use Rattle.age_file.specs.inner.Readers.{ReaderView, reader_view, WriterView, Stage, stage, Pulled}
-use Rattle.age_file.specs.inner.Payloads.{HasCounted, HasPlace, DecryptsPayload, SegmentFails}
-use Rattle.age_file.specs.inner.Payloads.{SegmentDone}
-use Rattle.age_file.specs.Runs.{Run, segment_of, held, Reads, IsRun, GivesPosition, PayloadFails}
-use Rattle.age_file.specs.Runs.{IsDone, OpenedFile, IsPositionOf, pull_room}
+use Rattle.age_file.specs.inner.Payloads.{HasCounted, HasPlace, DecryptsPayload, SegmentFails, SegmentDone}
+use Rattle.age_file.specs.Runs.{Run, segment_of, held, Reads, IsRun, GivesPosition, PayloadFails, IsDone, OpenedFile, IsPositionOf, pull_room}
 use Rattle.age_file.proofs.RunLemmas.{position_given, position_due}
 use Rattle.age_file.specs.inner.Verdicts.{PositionRefused, StartForFails}
 use Rattle.age_file.specs.inner.Rests.{ResumesRest}
@@ -39,14 +32,11 @@ use Rattle.age_file.specs.Decrypts.{StartFails}
 use Rattle.age_io.specs.Io.{SourceView, SinkView}
 use Rattle.age_file.specs.inner.Unread.{Unread}
 use Rattle.age_fault.specs.declared.fault.FileFault.{FileFault}
-use Rattle.age_fault.specs.declared.fault.FileFault.TheVariants.{Stream, OtherFile, ShortText, Read}
-use Rattle.age_fault.specs.declared.fault.FileFault.TheVariants.{Write, ReadNeverEnds}
-use Rattle.age_fault.specs.declared.fault.FileFault.TheVariants.{PositionForged, OldTextDiffers}
+use Rattle.age_fault.specs.declared.fault.FileFault.TheVariants.{Stream, OtherFile, ShortText, Read, Write, ReadNeverEnds, PositionForged, OldTextDiffers}
 use Rattle.age_file.specs.declared.position.Position.{Position}
 use Rattle.age_file.specs.declared.position.PositionPolicy.{PositionPolicy}
 use Rattle.age_file.specs.declared.start.Unlocked.{Unlocked}
-use Rattle.age_file.proofs.ByteLemmas.{prefix_trans, preceded, preceded_consumed, counted_on}
-use Rattle.age_file.proofs.ByteLemmas.{counted_back}
+use Rattle.age_file.proofs.ByteLemmas.{prefix_trans, preceded, preceded_consumed, counted_on, counted_back}
 use Rattle.age_fault.proofs.ByteLemmas.{Appends-then}
 use Rattle.age_file.proofs.DecryptLemmas.{own_tag}
 use Rattle.age_chunk.specs.Payload.{block_length, chunk_length, chunk_limit}
@@ -132,12 +122,12 @@ module _ (keep : PositionPolicy) (Allows : Header → List ℕ → Type 0) (Refu
   abbrev EarlyStop : ResumePorts → ResumePorts → Stopped → Type 0
   EarlyStop old new stopped = ResumeStops Allows p old new keep Refused None stopped
 
-  stopped_with : OneHeader → (old new : ResumePorts) (stopped : Stopped) (standing : Standing)
+  stopped_with : (old new : ResumePorts) (stopped : Stopped) (standing : Standing)
       → EarlyStop old new stopped
       → StandsAt Allows p old new keep Refused None (Err stopped) standing
       → new.main.sink.label ≡ old.main.sink.label
       → ResumesKeyed keep Allows Refused p old new (Err stopped) standing
-  stopped_with one old new stopped standing stops stands named = record {
+  stopped_with old new stopped standing stops stands named = record {
     is = record {
       run = None;
       done = tt;
@@ -184,35 +174,35 @@ module _ (keep : PositionPolicy) (Allows : Header → List ℕ → Type 0) (Refu
   )
   verdict_fails old new u unlocked other s f = absurd f
 
-  stopped_before : OneHeader → (old new : ResumePorts) (fault : FileFault)
+  stopped_before : (old new : ResumePorts) (fault : FileFault)
       → new.main.sink ≡ old.main.sink → new.old ≡ old.old
       → BeforeOldFails Allows p old new Refused fault
       → ResumesKeyed keep Allows Refused p old new
       (Err (record { fault = fault; written = 0; position = None })) Before
-  stopped_before one old new fault same text f =
-      stopped_with one old new (record { fault = fault; written = 0; position = None }) Before
+  stopped_before old new fault same text f =
+      stopped_with old new (record { fault = fault; written = 0; position = None }) Before
       (inl (record { sink = same; written = refl; position = refl }, text, f))
       (inl (record { sink = same; written = refl; position = refl }, text, f))
       (ap (λ (s : SinkView). s.label) same)
 
   -- no payload came to be opened
-  pub stopped_early : OneHeader → (old new : ResumePorts) (fault : FileFault)
+  pub stopped_early : (old new : ResumePorts) (fault : FileFault)
       → new.main.sink ≡ old.main.sink → new.old ≡ old.old
       → StartFails Allows Refused old.main.source new.main.source fault
       → ResumesKeyed keep Allows Refused p old new
       (Err (record { fault = fault; written = 0; position = None })) Before
-  stopped_early one old new fault same text f =
-      stopped_before one old new fault same text (before_fails old new fault f)
+  stopped_early old new fault same text f =
+      stopped_before old new fault same text (before_fails old new fault f)
 
   -- or the position was refused
-  pub refused : OneHeader → (old new : ResumePorts) (u : Unread) (fault : FileFault)
+  pub refused : (old new : ResumePorts) (u : Unread) (fault : FileFault)
       → new.main.sink ≡ old.main.sink → new.old ≡ old.old
       → StartForFails Allows Refused p old.main.source (reader_view new.main.source u) fault
       → ResumesKeyed keep Allows Refused p old new
       (Err (record { fault = fault; written = 0; position = None })) Before
-  refused one old new u fault same text (inl f) = stopped_early one old new fault same text f
-  refused one old new u fault same text (inr f) =
-      stopped_before one old new fault same text (verdict_fails old new u f.0 fault f.1 f.2)
+  refused old new u fault same text (inl f) = stopped_early old new fault same text f
+  refused old new u fault same text (inr f) =
+      stopped_before old new fault same text (verdict_fails old new u f.0 fault f.1 f.2)
 
   -- the position is this file's
   abbrev pub IsVerified : Unlocked → Type 0
@@ -349,12 +339,12 @@ module _ (keep : PositionPolicy) (Allows : Header → List ℕ → Type 0) (Refu
         (f.0.0, λ e. f.1 (f.0.4 ∙ ap Some e))
     copy_fails other c = absurd c.answered.1
 
-    pub copy_stopped : OneHeader → (fault : FileFault)
+    pub copy_stopped : (fault : FileFault)
         → CopiesText keep chunk_length p.index p.chain x z first s1.writer (Err fault)
         → ResumesKeyed keep Allows Refused p (before a first x) (after s1 z)
         (Err (record { fault = fault; written = s1.writer.tally.written; position = None })) Before
-    copy_stopped one fault c =
-        stopped_with one (before a first x) (after s1 z)
+    copy_stopped fault c =
+        stopped_with (before a first x) (after s1 z)
         (record { fault = fault; written = s1.writer.tally.written; position = None }) Before
         (inr (inl (copy_fails fault c))) (inr (copy_fails fault c)) c.named
 
@@ -521,12 +511,12 @@ module _ (keep : PositionPolicy) (Allows : Header → List ℕ → Type 0) (Refu
       same_given Dropped position at = at
 
       -- the blocks before were not all passed over
-      skip_stopped : OneHeader → (m : ReaderView) (fault : FileFault)
+      skip_stopped : (m : ReaderView) (fault : FileFault)
           (result : Result Done Stopped) → EndsAs unlocked s1.writer.tally (Err fault) result
           → SkipFails block_length p.index s1.reader m fault
           → ResumesKeyed keep Allows Refused p (before a first x) (after (stage m s1.writer) z)
           result Skipping
-      skip_stopped one m fault result (next, at, is) f =
+      skip_stopped m fault result (next, at, is) f =
           let here = same_given keep next
           (subst (λ (l : Option (List ℕ)). PositionAt unlocked s1.writer.tally.index l next)
           c.answered.4 at) in
@@ -535,7 +525,7 @@ module _ (keep : PositionPolicy) (Allows : Header → List ℕ → Type 0) (Refu
           let stops = skipped_fails m next fault here f in
           subst (λ (r : Result Done Stopped). ResumesKeyed keep Allows Refused p old new r Skipping)
           (sym is)
-          (stopped_with one old new (record
+          (stopped_with old new (record
           { fault = fault; written = s1.writer.tally.written; position = next }) Skipping
           (inr (inr stops)) stops c.named)
 
@@ -689,14 +679,14 @@ module _ (keep : PositionPolicy) (Allows : Header → List ℕ → Type 0) (Refu
             b.is.prefix b.counts.index
 
         -- the whole run
-        rest_ended : OneHeader → (s2 : Stage) (run : Result (Unit {0}) FileFault)
+        rest_ended : (s2 : Stage) (run : Result (Unit {0}) FileFault)
             (result : Result Done Stopped)
             → DecryptsPayload (opens (payload_key unlocked.key unlocked.nonce)) chunk_length p.index
             (stage m s1.writer) s2 run
             → EndsAs unlocked s2.writer.tally run result
             → ResumesKeyed keep Allows Refused p (before a first x) (after s2 z) result
             (InPayload unlocked.key)
-        rest_ended one s2 (Ok done) result d is =
+        rest_ended s2 (Ok done) result d is =
             let b = decrypted s2 (Ok done) d in
             let f = b.answered in
             let old = before a first x in
@@ -726,7 +716,7 @@ module _ (keep : PositionPolicy) (Allows : Header → List ℕ → Type 0) (Refu
               stands = sym (key_of s2 (Ok done) b);
               due = due_of s2 (Ok done) b;
             })
-        rest_ended one s2 (Err fault) result d (next, at, is) =
+        rest_ended s2 (Err fault) result d (next, at, is) =
             let b = decrypted s2 (Err fault) d in
             let links = subst (λ (l : Option (List ℕ)). PositionAt unlocked s2.writer.tally.index l
             next) b.counts.chain_is at in
@@ -765,16 +755,16 @@ module _ (keep : PositionPolicy) (Allows : Header → List ℕ → Type 0) (Refu
             })
 
       -- they were, or not
-      pub rest_resumed : OneHeader → (s2 : Stage) (result : Result Done Stopped)
+      pub rest_resumed : (s2 : Stage) (result : Result Done Stopped)
           (standing : Standing) → ResumesRest unlocked p.index s1 s2 result standing
           → ResumesKeyed keep Allows Refused p (before a first x) (after s2 z) result standing
-      rest_resumed one s2 result Before r = absurd r
-      rest_resumed one s2 result Skipping r =
+      rest_resumed s2 result Before r = absurd r
+      rest_resumed s2 result Skipping r =
           subst (λ (w : WriterView). ResumesKeyed keep Allows Refused p (before a first x)
           (after (stage s2.reader w) z) result Skipping) (sym r.same)
-          (skip_stopped one s2.reader r.fault result r.ended r.why)
-      rest_resumed one s2 result (InPayload key) (given, r) =
+          (skip_stopped s2.reader r.fault result r.ended r.why)
+      rest_resumed s2 result (InPayload key) (given, r) =
           subst (λ (k : List ℕ). ResumesKeyed keep Allows Refused p (before a first x) (after s2 z)
           result (InPayload k)) (sym given)
-          (rest_ended r.now r.passed r.size r.passes one s2 r.opened.run result r.opened.decrypts
+          (rest_ended r.now r.passed r.size r.passes s2 r.opened.run result r.opened.decrypts
           r.opened.ended)

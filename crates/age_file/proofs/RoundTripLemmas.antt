@@ -1,13 +1,11 @@
 -- What was encrypted under a passphrase, decrypted with it.
-use Rattle.std.proofs.Common.{◌≡◌, ℕ, ◌≤◌, List, [], ◌++◌, Option, Some, None, refl, sym, ap, subst}
-use Rattle.std.proofs.Common.{◌∙◌, append-nil}
+use Rattle.std.proofs.Common.{◌≡◌, ℕ, ◌≤◌, List, [], ◌++◌, Option, Some, None, refl, sym, ap, subst, ◌∙◌, append-nil}
 use Rattle.std.specs.Prelude.{Result, Ok, Err, MatchResult}
 use Rattle.age_stanza.specs.Laws.{OneHeader}
 use Rattle.age_chunk.specs.Payload.{chunk_count, chunk_length, chunk_limit}
 use Rattle.age_stream.specs.Laws.{IsClosed}
 use Rattle.age_keys.specs.Keys.{box, unbox}
-use Rattle.age_keys.specs.Scrypt.{PassphraseOpens, PassphraseIdentity, IsPassphraseKey}
-use Rattle.age_keys.specs.Scrypt.{PassphraseRefuses, scrypt_head}
+use Rattle.age_keys.specs.Scrypt.{PassphraseOpens, PassphraseIdentity, IsPassphraseKey, PassphraseRefuses, scrypt_head}
 use Rattle.age_file.specs.Runs.{Ports, Run}
 use Rattle.age_file.specs.Encrypts.{SecretView, AgeFile}
 use Rattle.age_file.specs.Decrypts.{IsWhole, IsUndamagedFile, StopsOutside}

@@ -1,6 +1,5 @@
 -- What a run wrote of a text, if what opens is the writer's; and its position.
-use Rattle.std.proofs.Common.{◌≡◌, ℕ, ◌*◌, ◌<◌, ◌≤◌, ◌/◌, min, List, ◌++◌, length, take, Option}
-use Rattle.std.proofs.Common.{Some, None, refl, sym, ap, subst, ◌∙◌, arith, append_assoc}
+use Rattle.std.proofs.Common.{◌≡◌, ℕ, ◌*◌, ◌<◌, ◌≤◌, ◌/◌, min, List, ◌++◌, length, take, Option, Some, None, refl, sym, ap, subst, ◌∙◌, arith, append_assoc}
 use Rattle.std.specs.Simd.{first_chunks}
 use Rattle.std.proofs.lemmas.List.{length-append}
 use Rattle.std.proofs.Math.Nat.{le-div_iff_mul-le}
@@ -14,8 +13,7 @@ use Rattle.age_keys.specs.inner.PayloadBox.{box_valid}
 use Rattle.age_file.specs.Bindings.{file_id, chain, position_tag}
 use Rattle.age_file.specs.inner.Bindings.{chain_if}
 use Rattle.age_file.specs.inner.Decrypts.{IsPositionAt, PositionAt}
-use Rattle.age_file.specs.Runs.{Run, IsFromStart, segment_of, run_outcome, run_text, held, IsTexts}
-use Rattle.age_file.specs.Runs.{CarriesText, IsAuthenticRun, IsPositionOf, GivesPosition}
+use Rattle.age_file.specs.Runs.{Run, IsFromStart, segment_of, run_outcome, run_text, held, IsTexts, CarriesText, IsAuthenticRun, IsPositionOf, GivesPosition}
 use Rattle.age_file.specs.declared.position.Position.{Position}
 use Rattle.age_file.specs.declared.position.PositionPolicy.{PositionPolicy}
 use Rattle.age_file.specs.declared.position.PositionPolicy.TheVariants.{Kept, Dropped}

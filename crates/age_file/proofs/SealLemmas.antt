@@ -1,6 +1,5 @@
 -- One feed of a sealer, and what then was written.
-use Rattle.std.proofs.Common.{◌≡◌, ℕ, ◌+◌, ◌-◌, ◌*◌, ◌^◌, ◌<◌, ◌≤◌, sym, ap, subst, ◌∙◌, List, []}
-use Rattle.std.proofs.Common.{◌++◌, length, take, drop, Option, append-nil, append_assoc}
+use Rattle.std.proofs.Common.{◌≡◌, ℕ, ◌+◌, ◌-◌, ◌*◌, ◌^◌, ◌<◌, ◌≤◌, sym, ap, subst, ◌∙◌, List, [], ◌++◌, length, take, drop, Option, append-nil, append_assoc}
 use Rattle.std.proofs.Common.{take-append-drop, take-add, Bool, false, true, arith}
 use Rattle.std.specs.Prelude.{nat_lt, ◌==◌, ◌&&◌, ◌||◌}
 use Rattle.std.proofs.Math.Nat.{div-le_self, div-mul-le_self}
@@ -16,14 +15,10 @@ use Rattle.age_stream.specs.Opener.{chunk_bytes}
 use Rattle.age_stream.proofs.LawLemmas.{payload_is_longer}
 use Rattle.age_fault.specs.Faults.{HasFailed}
 use Rattle.age_file.specs.inner.Readers.{WriterView}
-use Rattle.age_file.specs.inner.Seals.{front_of, IsTooLong, SealsSome, GoesOn, SealFails, HasRoom}
-use Rattle.age_file.specs.inner.Seals.{Wrote}
+use Rattle.age_file.specs.inner.Seals.{front_of, IsTooLong, SealsSome, GoesOn, SealFails, HasRoom, Wrote}
 use Rattle.age_fault.specs.declared.fault.FileFault.{FileFault}
-use Rattle.age_fault.specs.declared.fault.FileFault.TheVariants.{Head, Key, NonceCut, Stream}
-use Rattle.age_fault.specs.declared.fault.FileFault.TheVariants.{BadPosition, OtherFile, ShortText}
-use Rattle.age_fault.specs.declared.fault.FileFault.TheVariants.{Read, Write, Memory}
-use Rattle.age_fault.specs.declared.fault.FileFault.TheVariants.{ReadNeverEnds, PositionForged}
-use Rattle.age_fault.specs.declared.fault.FileFault.TheVariants.{OldTextDiffers}
+use Rattle.age_fault.specs.declared.fault.FileFault.TheVariants.{Head, Key, NonceCut, Stream, BadPosition, OtherFile, ShortText, Read, Write, Memory}
+use Rattle.age_fault.specs.declared.fault.FileFault.TheVariants.{ReadNeverEnds, PositionForged, OldTextDiffers}
 use Rattle.age_fault.proofs.ByteLemmas.{Appends-then}
 
 pub step_len_le : (m : ℕ) (held piece : List ℕ) → step_len m held piece ≤ length piece

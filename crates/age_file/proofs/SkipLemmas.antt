@@ -1,6 +1,5 @@
 -- What was passed over, one step after another.
-use Rattle.std.proofs.Common.{Ok, Err, false, suc, ◌≤◌, ◌≡◌, ℕ, ◌*◌, ◌<◌, List, [], ◌++◌, length}
-use Rattle.std.proofs.Common.{subst, ◌∙◌, arith, append-nil, refl}
+use Rattle.std.proofs.Common.{Ok, Err, false, suc, ◌≤◌, ◌≡◌, ℕ, ◌*◌, ◌<◌, List, [], ◌++◌, length, subst, ◌∙◌, arith, append-nil, refl}
 use Rattle.std.proofs.lemmas.List.{length-append}
 use Rattle.std.proofs.Math.Nat.{mul-le-mul_right}
 use Rattle.age_file.specs.inner.Readers.{PullFails, ReaderView}

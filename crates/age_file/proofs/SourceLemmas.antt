@@ -1,14 +1,12 @@
 -- A source's text, piece by piece, and what of its payload was written.
-use Rattle.std.proofs.Common.{◌*◌, refl, ◌≡◌, ℕ, ◌<◌, ◌≤◌, ◌/◌, sym, ap, subst, ◌∙◌, List, [], ◌∷◌}
-use Rattle.std.proofs.Common.{◌++◌, length, append-nil, append_assoc, true, false, arith}
+use Rattle.std.proofs.Common.{◌*◌, refl, ◌≡◌, ℕ, ◌<◌, ◌≤◌, ◌/◌, sym, ap, subst, ◌∙◌, List, [], ◌∷◌, ◌++◌, length, append-nil, append_assoc, true, false, arith}
 use Rattle.std.specs.Prelude.{map}
 use Rattle.std.specs.List.{enumerate_from}
 use Rattle.std.specs.Simd.{first_chunks}
 use Rattle.std.proofs.lemmas.Grind.{flat_map-append}
 use Rattle.std.proofs.lemmas.List.{length-append}
 use Rattle.age_stream.specs.Headline.{IsPrefixOf}
-use Rattle.age_chunk.specs.Payload.{pair, block_bytes, payload, sealed_before_last, last_index}
-use Rattle.age_chunk.specs.Payload.{last_chunk}
+use Rattle.age_chunk.specs.Payload.{pair, block_bytes, payload, sealed_before_last, last_index, last_chunk}
 use Rattle.age_stream.specs.Sealer.{SealerView, Holds}
 use Rattle.age_stream.proofs.LawLemmas.{sealed_grows}
 use Rattle.age_io.specs.Io.{SourceView, SinkView}
@@ -17,11 +15,8 @@ use Rattle.age_file.specs.inner.Readers.{ReaderView, WriterView, PullFails}
 use Rattle.age_file.specs.Runs.{Ports, pull_room}
 use Rattle.age_file.specs.inner.Seals.{front_of, SealsSome, GoesOn, SealFails, SealingFails, Wrote}
 use Rattle.age_fault.specs.declared.fault.FileFault.{FileFault}
-use Rattle.age_fault.specs.declared.fault.FileFault.TheVariants.{Head, Key, NonceCut, Stream}
-use Rattle.age_fault.specs.declared.fault.FileFault.TheVariants.{BadPosition, OtherFile, ShortText}
-use Rattle.age_fault.specs.declared.fault.FileFault.TheVariants.{Read, Write, Memory}
-use Rattle.age_fault.specs.declared.fault.FileFault.TheVariants.{ReadNeverEnds, PositionForged}
-use Rattle.age_fault.specs.declared.fault.FileFault.TheVariants.{OldTextDiffers}
+use Rattle.age_fault.specs.declared.fault.FileFault.TheVariants.{Head, Key, NonceCut, Stream, BadPosition, OtherFile, ShortText, Read, Write, Memory}
+use Rattle.age_fault.specs.declared.fault.FileFault.TheVariants.{ReadNeverEnds, PositionForged, OldTextDiffers}
 use Rattle.age_file.proofs.ByteLemmas.{prefix_trans}
 use Rattle.age_fault.proofs.ByteLemmas.{Appends-then}
 use Rattle.age_file.proofs.SealLemmas.{goes_then}

@@ -1,6 +1,5 @@
 -- What was read up to a payload, one step after another.
-use Rattle.std.proofs.Common.{◌≡◌, ◌≤◌, inl, inr, ℕ, ◌<◌, List, [], ◌++◌, length, take, drop}
-use Rattle.std.proofs.Common.{Option, sym, ap, subst, ◌∙◌, arith, append-nil, append_assoc}
+use Rattle.std.proofs.Common.{◌≡◌, ◌≤◌, inl, inr, ℕ, ◌<◌, List, [], ◌++◌, length, take, drop, Option, sym, ap, subst, ◌∙◌, arith, append-nil, append_assoc}
 use Rattle.std.specs.Prelude.{Result, Ok, Err, IfOk, IfErr}
 use Rattle.sha2.specs.Hashers.{Holds256}
 use Rattle.sha2.specs.declared.Sha256.{Sha256}
@@ -9,9 +8,7 @@ use Rattle.age_io.specs.Io.{SourceView}
 use Rattle.age_stanza.specs.declared.header.Header.{Header}
 use Rattle.age_stanza.specs.Grammar.{HeadText}
 use Rattle.age_keys.specs.declared.fault.KeyFault.{KeyFault}
-use Rattle.age_keys.specs.declared.fault.KeyFault.TheVariants.{ScryptNotAlone, BadScrypt}
-use Rattle.age_keys.specs.declared.fault.KeyFault.TheVariants.{WorkTooHigh, NoMatch, WrongKey}
-use Rattle.age_keys.specs.declared.fault.KeyFault.TheVariants.{MacMismatch, BadX25519}
+use Rattle.age_keys.specs.declared.fault.KeyFault.TheVariants.{ScryptNotAlone, BadScrypt, WorkTooHigh, NoMatch, WrongKey, MacMismatch, BadX25519}
 use Rattle.age_keys.specs.declared.fault.KeyFault.TheVariants.{Memory as KeyMemory}
 use Rattle.age_keys.specs.Keys.{Opens, Refuses}
 use Rattle.age_file.specs.inner.Unread.{Unread}
@@ -23,8 +20,7 @@ use Rattle.age_file.specs.Decrypts.{StartFails}
 use Rattle.age_file.specs.inner.Copies.{Uses, UsesShort, NonceFails, ReadsNonce, StartsAt}
 use Rattle.age_file.specs.declared.start.Unlocked.{Unlocked}
 use Rattle.age_fault.specs.declared.fault.FileFault.{FileFault}
-use Rattle.age_fault.specs.declared.fault.FileFault.TheVariants.{Head, NonceCut, Read, Memory}
-use Rattle.age_fault.specs.declared.fault.FileFault.TheVariants.{ReadNeverEnds}
+use Rattle.age_fault.specs.declared.fault.FileFault.TheVariants.{Head, NonceCut, Read, Memory, ReadNeverEnds}
 use Rattle.age_file.proofs.ByteLemmas.{cut_pulled, head_pulled}
 
 pub uses_then : (x y z : ReaderView) (p q r : List ℕ) → p ++ q ≡ r → Uses x y p → Uses y z q

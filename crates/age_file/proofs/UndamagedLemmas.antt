@@ -1,6 +1,5 @@
 -- What can't stop the decryption of an age file that is undamaged.
-use Rattle.std.proofs.Common.{inl, inr, ◌≡◌, ℕ, ◌+◌, ◌*◌, ◌<◌, ◌≤◌, List, [], ◌++◌, length, take}
-use Rattle.std.proofs.Common.{drop, Option, Some, None, refl, sym, ap, subst, ◌∙◌, arith}
+use Rattle.std.proofs.Common.{inl, inr, ◌≡◌, ℕ, ◌+◌, ◌*◌, ◌<◌, ◌≤◌, List, [], ◌++◌, length, take, drop, Option, Some, None, refl, sym, ap, subst, ◌∙◌, arith}
 use Rattle.std.proofs.Common.{append-nil, append_assoc, Bool, true, false}
 use Rattle.std.proofs.lemmas.List.{length-append, drop_at, take_at, drop_all}
 use Rattle.std.specs.Io.KnownBytes.{Appends, Consumes, IsAtEnd}
@@ -23,13 +22,10 @@ use Rattle.age_keys.specs.declared.fault.KeyFault.TheVariants.{MacMismatch, Memo
 use Rattle.age_keys.specs.Keys.{IsMacOf, payload_key, Refuses, RefusesKey, box, unbox}
 use Rattle.age_keys.specs.inner.PayloadBox.{box_valid}
 use Rattle.age_fault.specs.declared.fault.FileFault.{FileFault}
-use Rattle.age_fault.specs.declared.fault.FileFault.TheVariants.{Head, Key, NonceCut, Stream, Read}
-use Rattle.age_fault.specs.declared.fault.FileFault.TheVariants.{Write, Memory, ReadNeverEnds}
-use Rattle.age_file.specs.Runs.{Ports, IsHeadFault, NeverEnds, Run, IsFromStart, run_outcome, IsRun}
-use Rattle.age_file.specs.Runs.{PayloadFails, IsDone}
+use Rattle.age_fault.specs.declared.fault.FileFault.TheVariants.{Head, Key, NonceCut, Stream, Read, Write, Memory, ReadNeverEnds}
+use Rattle.age_file.specs.Runs.{Ports, IsHeadFault, NeverEnds, Run, IsFromStart, run_outcome, IsRun, PayloadFails, IsDone}
 use Rattle.age_file.specs.declared.position.PositionPolicy.{PositionPolicy}
-use Rattle.age_file.specs.Decrypts.{StartFails, DecryptStops, IsWhole, IsUndamagedFile, WritesText}
-use Rattle.age_file.specs.Decrypts.{StopsOutside}
+use Rattle.age_file.specs.Decrypts.{StartFails, DecryptStops, IsWhole, IsUndamagedFile, WritesText, StopsOutside}
 use Rattle.age_file.specs.inner.Payloads.{segment}
 use Rattle.age_file.specs.declared.decryption.Stopped.{Stopped}
 use Rattle.age_file.proofs.ByteLemmas.{fault_of_all}

@@ -1,7 +1,6 @@
 -- What can't stop a resumed decryption of an age file that is undamaged, after the text that it was
 -- made for.
-use Rattle.std.proofs.Common.{inl, inr, ◌≡◌, ℕ, ◌*◌, ◌≤◌, List, ◌++◌, length, take, Option, Some}
-use Rattle.std.proofs.Common.{None, sym, ap, ◌∙◌, arith, append_assoc}
+use Rattle.std.proofs.Common.{inl, inr, ◌≡◌, ℕ, ◌*◌, ◌≤◌, List, ◌++◌, length, take, Option, Some, None, sym, ap, ◌∙◌, arith, append_assoc}
 use Rattle.std.proofs.lemmas.List.{length-append, length-take}
 use Rattle.std.specs.Simd.{first_chunks}
 use Rattle.std.specs.Io.KnownBytes.{IsAtEnd}
@@ -13,20 +12,15 @@ use Rattle.age_keys.specs.Keys.{position_key}
 use Rattle.age_file.specs.Bindings.{file_id, chain, position_tag}
 use Rattle.age_file.specs.Decrypts.{WritesText, StopsOutside}
 use Rattle.age_file.specs.Runs.{Run, Reads, IsDone, OpenedFile, HasId, HasTag}
-use Rattle.age_file.specs.Resumes.{ResumePorts, WritesOld, IsFrom, IsUndamagedRest}
-use Rattle.age_file.specs.Resumes.{NeverEndTogether, BeforeOldFails, InOldFails, InSkippedFails}
+use Rattle.age_file.specs.Resumes.{ResumePorts, WritesOld, IsFrom, IsUndamagedRest, NeverEndTogether, BeforeOldFails, InOldFails, InSkippedFails}
 use Rattle.age_file.specs.Resumes.{StopsInSkipped, ResumeStops}
 use Rattle.age_file.specs.declared.decryption.Stopped.{Stopped}
 use Rattle.age_file.specs.declared.position.Position.{Position}
 use Rattle.age_file.specs.declared.position.PositionPolicy.{PositionPolicy}
 use Rattle.age_fault.specs.declared.fault.FileFault.{FileFault}
-use Rattle.age_fault.specs.declared.fault.FileFault.TheVariants.{Head, Key, NonceCut, Stream}
-use Rattle.age_fault.specs.declared.fault.FileFault.TheVariants.{OtherFile, ShortText, Read, Write}
-use Rattle.age_fault.specs.declared.fault.FileFault.TheVariants.{Memory, ReadNeverEnds}
+use Rattle.age_fault.specs.declared.fault.FileFault.TheVariants.{Head, Key, NonceCut, Stream, OtherFile, ShortText, Read, Write, Memory, ReadNeverEnds}
 use Rattle.age_fault.specs.declared.fault.FileFault.TheVariants.{PositionForged, OldTextDiffers}
-use Rattle.age_file.proofs.UndamagedLemmas.{left_of, none_left, start_undamaged, front_is}
-use Rattle.age_file.proofs.UndamagedLemmas.{opened_as}
-use Rattle.age_file.proofs.UndamagedLemmas.{no_early_end, same_front, payload_undamaged, run_writes}
+use Rattle.age_file.proofs.UndamagedLemmas.{left_of, none_left, start_undamaged, front_is, opened_as, no_early_end, same_front, payload_undamaged, run_writes}
 use Rattle.age_file.proofs.UndamagedLemmas.{own_authentic, IsOpenedAs}
 use Rattle.age_chunk.specs.Payload.{chunk_length}
 

@@ -1,27 +1,23 @@
 -- What a decryption promises, done or stopped, and what reading its file again finds.
 use Rattle.std.specs.Prelude.{Option, ◌≢◌, ◌⊎◌, ℕ, ◌<◌, ◌≤◌, List, ◌++◌, length, ◌≡◌, Some, None}
-use Rattle.std.specs.Prelude.{true, Result, IfOk, IfErr, IfSome, OnOk, IsSomeAnd, Ok, Err}
+use Rattle.std.specs.Prelude.{true, Result, IfOk, IfErr, IfSome, OnOk, IsSomeAnd}
 use Rattle.std.specs.Io.KnownBytes.{Consumes, IsAtEnd, Appends}
 use Rattle.age_stanza.specs.Grammar.{HeadText}
 use Rattle.age_stanza.specs.declared.header.Header.{Header}
 use Rattle.age_chunk.specs.Payload.{chunk_count, chunk_length, chunk_limit}
-use Rattle.age_io.specs.Io.{SourceView, SinkView}
+use Rattle.age_io.specs.Io.{SourceView}
 use Rattle.age_stream.specs.Laws.{IsClosed}
 use Rattle.age_keys.specs.Keys.{Opens, Refuses, IsScryptNotAlone, box, unbox, FileOf}
 use Rattle.age_keys.specs.declared.fault.KeyFault.{KeyFault}
 use Rattle.age_keys.specs.declared.fault.KeyFault.TheVariants.{Memory as KeyMemory}
-use Rattle.age_fault.specs.Faults.{HasFailed}
 use Rattle.age_fault.specs.declared.fault.FileFault.{FileFault}
-use Rattle.age_fault.specs.declared.fault.FileFault.TheVariants.{Key, NonceCut, Read, Write, Memory}
-use Rattle.age_fault.specs.declared.fault.FileFault.TheVariants.{ReadNeverEnds}
+use Rattle.age_fault.specs.declared.fault.FileFault.TheVariants.{Key, NonceCut, Read, Write, Memory, ReadNeverEnds}
 use Rattle.age_file.specs.Runs.{pull_room, InHeader, HeadFails, NeverEnds, Ports, NoneFailed, Run}
 use Rattle.age_file.specs.Runs.{IsFromStart, WritesNone, StopsInPayload, IsDone, IsPositionOf}
-use Rattle.age_file.specs.Runs.{ports, IsRun}
 use Rattle.age_file.specs.declared.decryption.Done.{Done}
 use Rattle.age_file.specs.declared.decryption.Stopped.{Stopped}
 use Rattle.age_file.specs.declared.position.Position.{Position}
 use Rattle.age_file.specs.declared.position.PositionPolicy.{PositionPolicy}
-use Rattle.age_file.specs.declared.position.PositionPolicy.TheVariants.{Kept, Dropped}
 
 -- ---- What was read up to a payload.
 
@@ -136,72 +132,3 @@ pub record DecryptsKeyed (keep : PositionPolicy) (Allows : Header → List ℕ �
   pub found : FindsKey is.run key
   -- if it came to its payload there is a position, whether it is kept or not
   pub due : IfSome is.run (λ r. (p : Position) × IsPositionOf r p)
-
--- ---- Where a run stopped, found by reading its file once more.
-
--- memory was refused, or the file could not be read again to where the run had stopped
-abbrev pub fault_again : FileFault → FileFault
-fault_again Memory = Memory
-fault_again other = Read
-
--- a second reading came to its end or stopped, after fewer bytes or before its payload; it never
--- stopped because the sink refused
-abbrev pub IsElsewhere : Option Run → ℕ → FileFault → Result Done Stopped → Type 0
-IsElsewhere run written fault (Ok done) = (done.written < written) × (fault ≡ Read)
-IsElsewhere run written fault (Err stopped) = ((stopped.written < written) ⊎ (run ≡ None))
-    × (stopped.fault ≢ Write) × (fault ≡ fault_again stopped.fault)
-
-module _ (Allows : Header → List ℕ → Type 0) where
-  -- the position of a run over what was read again, which wrote this many bytes
-  pub record IsFoundAgain (old new : SourceView) (written : ℕ) (p : Position) : Type 0 where
-    pub run : Run
-    pub from_start : IsFromStart run
-    pub before : SinkView
-    pub after : SinkView
-    pub is : IsRun Allows (ports old before) (ports new after) written run
-    pub here : IsPositionOf run p
-
-  -- a decryption of what was read again ended elsewhere
-  pub record EndsElsewhere (Refused : Header → KeyFault → Type 0) (old new : SourceView)
-      (written : ℕ) (fault : FileFault) : Type 0 where
-    pub before : SinkView
-    pub after : SinkView
-    pub result : Result Done Stopped
-    pub decrypts : Decrypts Kept Allows Refused (ports old before) (ports new after) result
-    pub elsewhere : IsElsewhere decrypts.run written fault result
-
-  -- what a search for the position after this many bytes promises
-  abbrev pub FindsPosition : (Header → KeyFault → Type 0) → SourceView → SourceView → ℕ
-      → Result Position FileFault → Type 0
-  FindsPosition Refused old new written (Ok p) = IsFoundAgain old new written p
-  FindsPosition Refused old new written (Err fault) = EndsElsewhere Refused old new written fault
-
--- A decryption that dropped its position and stopped in its payload is read again: by the key that
--- it found, over the same bytes. A position that the second reading finds after as many bytes is
--- the one with which it would have stopped, had it kept positions.
-abbrev pub ReadAgain : (Who : Type 0) → (Who → Header → List ℕ → Type 0)
-    → (Who → Header → KeyFault → Type 0) → Type 0
-ReadAgain Who Allows Refused = (who : Who) (before after : Ports) (r : Run) (stopped : Stopped)
-    (old new : SourceView) (bytes : List ℕ) (p : Position)
-    → DecryptStops Dropped (Allows who) (Refused who) before after (Some r) stopped
-    → before.source.remaining ≡ Some bytes → old.remaining ≡ Some bytes
-    → IsFoundAgain (λ _ key. key ≡ r.file.key) old new stopped.written p
-    → DecryptStops Kept (Allows who) (Refused who) before after (Some r)
-    (record { fault = stopped.fault; written = stopped.written; position = Some p })
-
--- what else keeps a second reading from coming as far: memory was refused, the source failed, or it
--- never ended
-abbrev pub IsOutside : SourceView → SourceView → FileFault → Type 0
-IsOutside old new fault = (fault ≡ Memory) ⊎ HasFailed old.failed new.failed new.failing
-    ⊎ NeverEnds old.remaining new.remaining
-
--- A decryption that stopped in its payload is read again: by the key that it found, over the same
--- bytes. The second reading ends elsewhere only for such a reason.
-abbrev pub IsReached : (Who : Type 0) → (Who → Header → List ℕ → Type 0)
-    → (Who → Header → KeyFault → Type 0) → Type 0
-IsReached Who Allows Refused = (who : Who) (keep : PositionPolicy) (before after : Ports) (r : Run)
-    (stopped : Stopped) (old new : SourceView) (bytes : List ℕ) (fault : FileFault)
-    → DecryptStops keep (Allows who) (Refused who) before after (Some r) stopped
-    → before.source.remaining ≡ Some bytes → old.remaining ≡ Some bytes
-    → EndsElsewhere (λ _ key. key ≡ r.file.key) (λ _ _. ⊥) old new stopped.written fault
-    → IsOutside old new fault

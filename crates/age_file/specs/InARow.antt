@@ -11,9 +11,8 @@ use Rattle.age_stream.specs.declared.step.Status.TheVariants.{Done as AllDone}
 use Rattle.age_keys.specs.Scrypt.{PassphraseIdentity, IsAllowed, IsPassphraseKey, PassphraseRefuses}
 use Rattle.age_keys.specs.Keys.{box, unbox}
 use Rattle.age_keys.specs.declared.fault.KeyFault.{KeyFault}
-use Rattle.age_file.specs.Runs.{Run, IsFromStart, run_outcome, run_text, held, IsTexts}
-use Rattle.age_file.specs.Runs.{IsAuthenticRun, IsPositionOf, CarriesText, Ports, IsRun, IsDone}
-use Rattle.age_file.specs.Runs.{IsHeadFault, ReportsFault}
+use Rattle.age_file.specs.Runs.{Run, IsFromStart, run_outcome, run_text, held, IsTexts, IsAuthenticRun, IsPositionOf}
+use Rattle.age_file.specs.Runs.{CarriesText, Ports, IsRun, IsDone, IsHeadFault, ReportsFault}
 use Rattle.age_file.specs.Resumes.{IsSame, IsOldText, ResumePorts, ResumeEnds, ResumeStops}
 use Rattle.age_file.specs.Resumes.{IsBoundTo, IsFrom, IsUndamagedRest, ResumesText}
 use Rattle.age_file.specs.Decrypts.{DecryptEnds, DecryptStops, IsWhole, StopsOutside, Decrypts}

@@ -3,6 +3,7 @@ pub mod Reports
 pub mod Bindings
 pub mod Resumes
 pub mod Decrypts
+pub mod Again
 pub mod Encrypts
 pub mod InARow
 pub mod inner

@@ -1,32 +1,28 @@
 -- What resuming at a position promises: from the text of the position to the end of the payload.
-use Rattle.std.specs.Prelude.{◌≡◌, ◌≢◌, ℕ, List, ◌++◌, length, codes, ◌*◌, ◌≤◌, take, Option, Some}
-use Rattle.std.specs.Prelude.{◌⊎◌, ◌/◌, ◌+◌, ◌<◌, None, true, Result, IfOk, IfErr, OnOk, IsSomeAnd}
-use Rattle.std.specs.Prelude.{IfSome, Ok, Err}
+use Rattle.std.specs.Prelude.{◌≡◌, ◌≢◌, ℕ, List, ◌++◌, length, codes, ◌*◌, ◌≤◌, take, Option, Some, ◌⊎◌, ◌/◌, ◌+◌, ◌<◌}
+use Rattle.std.specs.Prelude.{None, true, Result, IfOk, IfErr, OnOk, IsSomeAnd, IfSome, Err}
 use Rattle.std.specs.Io.KnownBytes.{Consumes, Appends, IsAtEnd}
 use Rattle.base64.specs.GeneralPurpose.{IsBytes}
 use Rattle.age_stanza.specs.Text.{base64_text}
 use Rattle.age_stanza.specs.declared.header.Header.{Header}
 use Rattle.age_chunk.specs.Payload.{chunk_length, block_length, chunk_count}
 use Rattle.age_chunk.specs.declared.fault.StreamKind.TheVariants.{Truncated}
-use Rattle.age_io.specs.Io.{SourceView, SinkView}
+use Rattle.age_io.specs.Io.{SourceView}
 use Rattle.age_stream.specs.Headline.{IsPrefixOf}
 use Rattle.age_stream.specs.Laws.{IsClosed}
 use Rattle.age_keys.specs.Keys.{box, unbox}
 use Rattle.age_keys.specs.declared.fault.KeyFault.{KeyFault}
 use Rattle.age_fault.specs.Faults.{HasFailed}
 use Rattle.age_fault.specs.declared.fault.FileFault.{FileFault}
-use Rattle.age_fault.specs.declared.fault.FileFault.TheVariants.{Stream, OtherFile, ShortText, Read}
-use Rattle.age_fault.specs.declared.fault.FileFault.TheVariants.{Write, ReadNeverEnds}
-use Rattle.age_fault.specs.declared.fault.FileFault.TheVariants.{PositionForged, OldTextDiffers}
+use Rattle.age_fault.specs.declared.fault.FileFault.TheVariants.{Stream, OtherFile, ShortText, Read, Write}
+use Rattle.age_fault.specs.declared.fault.FileFault.TheVariants.{ReadNeverEnds, PositionForged, OldTextDiffers}
 use Rattle.age_file.specs.declared.position.Position.{Position}
 use Rattle.age_file.specs.Bindings.{position_front, chain_over, file_id}
-use Rattle.age_file.specs.Runs.{CarriesText, Ports, Run, HasId, HasTag, pull_room, IsByAllPulls}
-use Rattle.age_file.specs.Runs.{Reads, GivesPosition, WritesNone, StopsInPayload, IsDone}
-use Rattle.age_file.specs.Runs.{NoneFailed, ReadFailed, WriteFailed, OpenedFile, IsTagged, ports}
-use Rattle.age_file.specs.Runs.{IsRun, IsPositionOf, NeverEnds}
-use Rattle.age_file.specs.Decrypts.{StartFails, IsWhole, IsElsewhere, IsOutside}
+use Rattle.age_file.specs.Runs.{CarriesText, Ports, Run, HasId, HasTag, pull_room, IsByAllPulls, Reads, GivesPosition}
+use Rattle.age_file.specs.Runs.{WritesNone, StopsInPayload, IsDone, NoneFailed, ReadFailed, WriteFailed, OpenedFile}
+use Rattle.age_file.specs.Runs.{IsTagged, IsPositionOf}
+use Rattle.age_file.specs.Decrypts.{StartFails, IsWhole}
 use Rattle.age_file.specs.declared.position.PositionPolicy.{PositionPolicy}
-use Rattle.age_file.specs.declared.position.PositionPolicy.TheVariants.{Kept, Dropped}
 use Rattle.age_file.specs.declared.decryption.Done.{Done}
 use Rattle.age_file.specs.declared.decryption.Stopped.{Stopped}
 use Rattle.age_file.specs.declared.standing.Standing.{Standing}
@@ -274,90 +270,3 @@ pub record ResumesKeyed (keep : PositionPolicy) (Allows : Header → List ℕ �
   pub stands : StandsAt Allows p old new keep Refused is.run result standing
   -- if it came to its payload there is a position, whether it is kept or not
   pub due : IfSome is.run (λ r. (next : Position) × IsPositionOf r next)
-
--- ---- Where a resumed run stopped, found by reading the rest of its file once more.
-
--- why the blocks before a position were not passed over
-abbrev pub SkipsShort : SourceView → SourceView → FileFault → Type 0
-SkipsShort old new (Stream fault) = IsAtEnd new.remaining
-SkipsShort old new Read = HasFailed old.failed new.failed new.failing
-SkipsShort old new ReadNeverEnds = NeverEnds old.remaining new.remaining
-SkipsShort old new other = ⊥
-
--- a second reading, from the position on; the old text before it isn't read
-module _ (Allows : Header → List ℕ → Type 0) (p : Position) (copied : List ℕ) where
-  -- a run of it
-  abbrev pub IsRestOf : Run → Type 0
-  IsRestOf r = (r.first ≡ p.index) × (r.copied ≡ copied)
-
-  -- no payload came, or not all blocks before the position
-  abbrev pub RestFails : (Header → KeyFault → Type 0) → SourceView → SourceView → FileFault → Type 0
-  RestFails Refused old new fault = StartFails Allows Refused old new fault
-      ⊎ ((f : OpenedFile) × (skipped : List ℕ) × Reads Allows old.remaining new.remaining f skipped
-      × (length skipped < p.index * block_length) × SkipsShort old new fault)
-
-  -- what it promises if it stopped
-  abbrev pub RestStops : (Header → KeyFault → Type 0) → Ports → Ports → Option Run → Stopped → Type 0
-  RestStops Refused old new None stopped = (stopped.position ≡ None)
-      × RestFails Refused old.source new.source stopped.fault
-  RestStops Refused old new (Some r) stopped = StopsInPayload Kept Allows
-      (NeverEnds old.source.remaining new.source.remaining) old new stopped r
-
-  -- what it promises: its run, if it came to the payload; and how it ended
-  pub record DecryptsRest (Refused : Header → KeyFault → Type 0) (old new : Ports)
-      (result : Result Done Stopped) : Type 0 where
-    pub run : Option Run
-    pub rest : IfSome run IsRestOf
-    pub done : IfOk result (λ done. IsSomeAnd run (λ r. IsDone Allows old new done.written r
-        × NoneFailed old new))
-    pub stopped : IfErr result (RestStops Refused old new run)
-
-  -- the position of a run over what was read again, which has written this many bytes with the old text
-  pub record IsFoundFrom (old new : SourceView) (written : ℕ) (next : Position) : Type 0 where
-    pub run : Run
-    pub rest : IsRestOf run
-    pub before : SinkView
-    pub after : SinkView
-    pub is : IsRun Allows (ports old before) (ports new after) written run
-    pub here : IsPositionOf run next
-
-  -- the second reading ended elsewhere
-  pub record RestEndsElsewhere (Refused : Header → KeyFault → Type 0) (old new : SourceView)
-      (written : ℕ) (fault : FileFault) : Type 0 where
-    pub before : SinkView
-    pub after : SinkView
-    pub result : Result Done Stopped
-    pub decrypts : DecryptsRest Refused (ports old before) (ports new after) result
-    pub elsewhere : IsElsewhere decrypts.run written fault result
-
-  -- what a search from the position promises, after this many bytes, the old text's among them
-  abbrev pub FindsFrom : (Header → KeyFault → Type 0) → SourceView → SourceView → ℕ
-      → Result Position FileFault → Type 0
-  FindsFrom Refused old new written (Ok next) = IsFoundFrom old new written next
-  FindsFrom Refused old new written (Err fault) = ((written < p.index * chunk_length)
-      × (fault ≡ Read)) ⊎ RestEndsElsewhere Refused old new written fault
-
--- A resumed decryption that dropped its position and stopped in its payload is read again from the
--- position that it began from: by the key that it found, over the same bytes. A position that the
--- second reading finds after as many bytes is the one with which it would have stopped, had it kept
--- positions.
-abbrev pub RestReadAgain : (Who : Type 0) → (Who → Header → List ℕ → Type 0)
-    → (Who → Header → KeyFault → Type 0) → Type 0
-RestReadAgain Who Allows Refused = (who : Who) (p : Position) (before after : ResumePorts) (r : Run)
-    (stopped : Stopped) (old new : SourceView) (bytes : List ℕ) (next : Position)
-    → ResumeStops (Allows who) p before after Dropped (Refused who) (Some r) stopped
-    → before.main.source.remaining ≡ Some bytes → old.remaining ≡ Some bytes
-    → IsFoundFrom (λ _ key. key ≡ r.file.key) p r.copied old new stopped.written next
-    → ResumeStops (Allows who) p before after Kept (Refused who) (Some r)
-    (record { fault = stopped.fault; written = stopped.written; position = Some next })
-
--- It ends elsewhere only if memory is refused, the source fails, or it never ends.
-abbrev pub IsRestReached : (Who : Type 0) → (Who → Header → List ℕ → Type 0)
-    → (Who → Header → KeyFault → Type 0) → Type 0
-IsRestReached Who Allows Refused = (who : Who) (keep : PositionPolicy) (p : Position)
-    (before after : ResumePorts) (r : Run) (stopped : Stopped) (old new : SourceView)
-    (bytes : List ℕ) (fault : FileFault)
-    → ResumeStops (Allows who) p before after keep (Refused who) (Some r) stopped
-    → before.main.source.remaining ≡ Some bytes → old.remaining ≡ Some bytes
-    → FindsFrom (λ _ key. key ≡ r.file.key) p r.copied (λ _ _. ⊥) old new stopped.written (Err fault)
-    → IsOutside old new fault

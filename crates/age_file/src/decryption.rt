@@ -19,7 +19,6 @@ use crate::tally::Tally;
 use age_fault::FileFault;
 use age_io::{Sink, Source};
 use age_keys::{KnownKey, Unlock, payload_key, position_key};
-use age_stanza::one_header;
 use std::alloc::Global;
 use thiserror::Error;
 
@@ -174,7 +173,6 @@ pub fn decrypt_keyed<U: Unlock, S: Source, O: Sink>(
         (ports (S.view reader.new) (O.view writer.new)) result.0 result.1 }
     ensures metered { (from : Origin) → S.metered reader.old from → S.metered reader.new from }
 {
-    one_header();
     let Ok(mut intake) = Intake::new(alloc) else {
         return (Err(Stopped::early(FileFault::Memory)), None);
     };

@@ -1,7 +1,6 @@
 //! Reads a file to its end, and reports what it holds.
 
-ghost use Rattle.std.specs.Prelude.{◌≡◌, ◌^◌, ◌<◌, ◌≤◌, IfOk, IfErr};
-ghost use Rattle.std.specs.Prelude.{OnOk, map};
+ghost use Rattle.std.specs.Prelude.{◌≡◌, ◌^◌, ◌<◌, ◌≤◌, IfOk, IfErr, OnOk, map};
 ghost use Rattle.age_file.specs.Runs.{HeadFails, NoHeadFault};
 ghost use Rattle.age_file.specs.inner.Readers.{view_of_reader, SameReader, CountsRest, RestFails};
 ghost use Rattle.age_file.specs.Reports.{stanza_report, IsPlainOf, Inspects};

@@ -3,11 +3,9 @@ ghost use Rattle.std.specs.Prelude.{ℕ, List, Result};
 ghost use Rattle.age_file.specs.declared.decryption.Done.{Done};
 ghost use Rattle.age_file.specs.declared.decryption.Stopped.{Stopped};
 ghost use Rattle.age_file.specs.declared.position.PositionPolicy.{PositionPolicy};
-ghost use Rattle.age_file.specs.InARow.{RunsInARow, CallsInARow, RunsAreBound, DoneIsBound};
-ghost use Rattle.age_file.specs.InARow.{AgeFileIsWhole, RoundTrip, AuthenticRuns, HeadFaultsStay};
-ghost use Rattle.age_file.specs.InARow.{UndamagedIsDecrypted, UndamagedIsResumed};
-ghost use Rattle.age_file.specs.Decrypts.{ReadAgain, IsReached};
-ghost use Rattle.age_file.specs.Resumes.{RestReadAgain, IsRestReached};
+ghost use Rattle.age_file.specs.InARow.{RunsInARow, CallsInARow, RunsAreBound, DoneIsBound, AgeFileIsWhole, RoundTrip};
+ghost use Rattle.age_file.specs.InARow.{AuthenticRuns, HeadFaultsStay, UndamagedIsDecrypted, UndamagedIsResumed};
+ghost use Rattle.age_file.specs.Again.{ReadAgain, RestReadAgain};
 
 use age_keys::{Unlock, passphrase_opens};
 use age_stanza::one_header;
@@ -63,8 +61,7 @@ pub fn round_trip()
 /// Reading again: if a decryption dropped its position and stopped in its payload, and is read
 /// again over the same bytes, by the key that it found, a position that
 /// [`position_after`](crate::position_after) finds after as many bytes as it wrote is the one with
-/// which it would have stopped, had it kept positions. So is one that
-/// [`resumed_position_after`](crate::resumed_position_after) finds for a resumed decryption.
+/// which it would have stopped, had it kept positions. So is one of a resumed decryption.
 pub fn read_again<U: Unlock>()
     ensures decrypted { ReadAgain U U.allows U.refuses }
     ensures resumed { RestReadAgain U U.allows U.refuses }
@@ -94,17 +91,6 @@ pub fn undamaged_is_written<U: Unlock>()
         (text : List ℕ) → UndamagedIsDecrypted U U.allows U.refuses keep who result text }
     ensures resumed { (keep : PositionPolicy) (who : U) (result : Result Done Stopped)
         (text : List ℕ) → UndamagedIsResumed U U.allows U.refuses keep who result text }
-{
-    one_header();
-}
-
-/// A second reading of the same bytes, by the key that the first one found, comes as far as the
-/// first, unless memory is refused, the source fails, or it never ends. So
-/// [`position_after`](crate::position_after) finds the position of a stop in the payload, and so
-/// does [`resumed_position_after`](crate::resumed_position_after).
-pub fn reaches_again<U: Unlock>()
-    ensures decrypted { IsReached U U.allows U.refuses }
-    ensures resumed { IsRestReached U U.allows U.refuses }
 {
     one_header();
 }

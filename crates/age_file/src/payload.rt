@@ -1,13 +1,10 @@
 //! Opens what a source gives, and writes each chunk once its tag was checked.
 
-ghost use Rattle.std.specs.Prelude.{◌≡◌, ◌+◌, ◌^◌, ◌<◌, length, IfOk, OnOk};
-ghost use Rattle.std.specs.Prelude.{true, false};
+ghost use Rattle.std.specs.Prelude.{◌≡◌, ◌+◌, ◌^◌, ◌<◌, length, IfOk, OnOk, true, false};
 ghost use Rattle.age_stream.specs.Opener.{has_failed};
 ghost use Rattle.age_file.specs.inner.Decrypts.{opens};
-ghost use Rattle.age_file.specs.inner.Payloads.{FeedsOnce, FeedsPiece, ClosesPayload, HasPlace};
-ghost use Rattle.age_file.specs.inner.Payloads.{DecryptsPayload};
-ghost use Rattle.age_file.specs.inner.Readers.{view_of_writer, stage_of, SameReader, KeepsMeter};
-ghost use Rattle.age_file.specs.inner.Readers.{SameWriter};
+ghost use Rattle.age_file.specs.inner.Payloads.{FeedsOnce, FeedsPiece, ClosesPayload, HasPlace, DecryptsPayload};
+ghost use Rattle.age_file.specs.inner.Readers.{view_of_writer, stage_of, SameReader, KeepsMeter, SameWriter};
 ghost use Rattle.age_chunk.specs.Payload.{chunk_length, chunk_limit};
 
 use crate::reader::{Reader, Writer};

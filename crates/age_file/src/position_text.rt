@@ -1,8 +1,6 @@
 //! The text of a position.
 
-ghost use Rattle.std.specs.Prelude.{◌≡◌, ◌≢◌, ◌<◌, ℕ, List, length, IfOk, IfErr, IfSome};
-ghost use Rattle.std.specs.Prelude.{IfNone};
-ghost use Rattle.std.specs.Prelude.{decimal};
+ghost use Rattle.std.specs.Prelude.{◌≡◌, ◌≢◌, ◌<◌, ℕ, List, length, IfOk, IfErr, IfSome, IfNone, decimal};
 ghost use Rattle.age_file.specs.Resumes.{position_text, NoPosition, IsDigest};
 ghost use Rattle.age_file.specs.inner.PositionTexts.{index_text, field_text, fields_text};
 ghost use Rattle.age_fault.specs.declared.fault.FileFault.TheVariants.{BadPosition, Memory};

@@ -27,7 +27,6 @@ use crate::tally::Tally;
 use age_fault::FileFault;
 use age_io::{Sink, Source};
 use age_keys::{KnownKey, Unlock, position_key};
-use age_stanza::one_header;
 use std::alloc::Global;
 
 /// A stop before the old text was found to be the position's.
@@ -219,7 +218,7 @@ pub fn resume_with<U: Unlock, S: Source, L: Source, O: Sink>(
 }
 
 /// Resumes as [`resume_with`] does, and also returns where it stood at its end. By this
-/// [`resumed_position_after`](crate::resumed_position_after) can find a position that was dropped.
+/// [`position_after`](crate::position_after) can find a position that was dropped.
 pub fn resume_keyed<U: Unlock, S: Source, L: Source, O: Sink>(
     alloc: Global,
     positions: PositionPolicy,
@@ -235,7 +234,6 @@ pub fn resume_keyed<U: Unlock, S: Source, L: Source, O: Sink>(
         result.0 result.1 }
     ensures metered { (from : Origin) → S.metered reader.old from → S.metered reader.new from }
 {
-    one_header();
     let (Ok(mut intake), Ok(old_intake)) = (Intake::new(alloc), Intake::new(alloc)) else {
         return nowhere(Stopped::early(FileFault::Memory));
     };

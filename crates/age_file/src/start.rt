@@ -1,11 +1,9 @@
 //! Reads a file up to its payload.
 
-ghost use Rattle.std.specs.Prelude.{◌≡◌, ◌+◌, ◌-◌, ◌≤◌, [], ◌++◌, length, take, min};
-ghost use Rattle.std.specs.Prelude.{IfOk, IfErr};
+ghost use Rattle.std.specs.Prelude.{◌≡◌, ◌+◌, ◌-◌, ◌≤◌, [], ◌++◌, length, take, min, IfOk, IfErr};
 ghost use Rattle.age_file.specs.Decrypts.{StartFails};
 ghost use Rattle.age_file.specs.inner.Readers.{view_of_reader, SameReader, KeepsMeter};
-ghost use Rattle.age_file.specs.inner.Copies.{Uses, SomeAnswers, NonceFails, TakesNonce};
-ghost use Rattle.age_file.specs.inner.Copies.{ReadsNonce, StartsAt};
+ghost use Rattle.age_file.specs.inner.Copies.{Uses, SomeAnswers, NonceFails, TakesNonce, ReadsNonce, StartsAt};
 ghost use Rattle.age_file.specs.Runs.{pull_room};
 
 use crate::head::read_head;

@@ -4,6 +4,8 @@ ghost use Rattle.std.specs.Prelude.{◌≡◌, ◌<◌, ◌*◌, ℕ, List, [], 
 ghost use Rattle.age_file.specs.inner.Bindings.{chain_if, link_if};
 ghost use Rattle.age_file.specs.declared.position.PositionPolicy.TheVariants.{Kept};
 ghost use Rattle.age_chunk.specs.Payload.{chunk_limit, chunk_length};
+ghost use Rattle.std.specs.Simd.{first_chunks};
+ghost use Rattle.age_file.specs.Again.{first_of, IsTextBefore};
 
 use crate::position::{Position, PositionPolicy, next_link};
 
@@ -38,8 +40,21 @@ impl Tally {
         }
     }
 
+    /// The text before a position was written, or nothing.
+    pub(crate) fn before(from: &Option<Position>) -> Tally
+        ensures written { result.written ≡ first_of from.now * chunk_length }
+        ensures index { result.index ≡ first_of from.now }
+        ensures chain { (copied : List ℕ) → IsTextBefore from.now copied → result.chain
+            ≡ chain_if Kept (first_chunks chunk_length (first_of from.now) copied) }
+    {
+        match from {
+            Some(position) => Tally::at(position),
+            None => Tally::new(PositionPolicy::Kept),
+        }
+    }
+
     /// The old text of a position was written.
-    pub(crate) fn at(position: &Position) -> Tally
+    fn at(position: &Position) -> Tally
         ensures written { result.written ≡ position.now.index * chunk_length }
         ensures index { result.index ≡ position.now.index }
         ensures chain { result.chain ≡ Some position.now.chain }

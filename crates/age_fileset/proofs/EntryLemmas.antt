@@ -1,6 +1,5 @@
 -- The files of a list, after one is put.
-use Rattle.std.proofs.Common.{◌≡◌, ℕ, List, [], ◌∷◌, ◌++◌, length, get_or, Option, Some, None, true}
-use Rattle.std.proofs.Common.{false, Bool, refl, sym, ap, ◌∙◌, arith}
+use Rattle.std.proofs.Common.{◌≡◌, ℕ, List, [], ◌∷◌, ◌++◌, length, get_or, Option, Some, None, true, false, Bool, refl, sym, ap, ◌∙◌, arith}
 use Rattle.std.specs.Prelude.{position, option_map, find, nat_lt, is_some}
 use Rattle.std.proofs.Common.{cond}
 use Rattle.std.specs.Option.{option_or}

@@ -1,7 +1,6 @@
 //! Files over memory, as a list.
 
-ghost use Rattle.std.specs.Prelude.{◌≡◌, IsOk, ℕ, List, IfOk, is_some, true, position};
-ghost use Rattle.std.specs.Prelude.{option_map};
+ghost use Rattle.std.specs.Prelude.{◌≡◌, IsOk, ℕ, List, IfOk, is_some, true, position, option_map};
 ghost use Rattle.age_fileset.specs.FileSet.{has_name, entry_of, PutsEntry};
 
 use age_stanza::Bytes;

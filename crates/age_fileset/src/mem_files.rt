@@ -1,8 +1,7 @@
 //! Files over memory.
 
-ghost use Rattle.std.specs.Prelude.{◌≡◌, ◌↔◌, ◌⊎◌, ◌++◌, ◌∷◌, ◌<◌, ◌≤◌, IsTrue, [], true, Some};
-ghost use Rattle.std.specs.Prelude.{None, OnOk, OnErr, IfOk, IsErrOf, IsOk, IfErr, IsOkUnless};
-ghost use Rattle.std.specs.Prelude.{Contains, is_some, option_map, length};
+ghost use Rattle.std.specs.Prelude.{◌≡◌, ◌↔◌, ◌⊎◌, ◌++◌, ◌∷◌, ◌<◌, ◌≤◌, IsTrue, [], true, Some, None, OnOk, OnErr};
+ghost use Rattle.std.specs.Prelude.{IfOk, IsErrOf, IsOk, IfErr, IsOkUnless, Contains, is_some, option_map, length};
 ghost use Rattle.std.specs.Io.KnownBytes.{WriteAppends, Keeps};
 ghost use Rattle.age_io.specs.Io.{Puts, Flushes};
 ghost use Rattle.age_fileset.specs.FileSet.{entry_of, empty_with, PutsEntry, IsMemoryOr, OpenFails};

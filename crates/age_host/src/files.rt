@@ -4,14 +4,10 @@ ghost use Rattle.std.specs.Prelude.{◌≡◌, true, false, None, Some, Err, IfE
 ghost use Rattle.age_fault.specs.declared.fault.FileFault.TheVariants.{Read, Write, Memory};
 ghost use Rattle.age_fileset.specs.FileSet.{IsMemoryOr, OpenFails};
 ghost use Rattle.age_fileset.specs.declared.files.OpenFault.TheVariants.{SameFile};
-ghost use Rattle.age_host.specs.declared.names.FileId.{FileId};
+ghost use Rattle.age_disk.specs.declared.names.FileId.{FileId};
 
-use crate::failures::{Action, Failures};
-use crate::input::HostIn;
-use crate::names::{FileId, Stream, StreamId, found_at};
-use crate::output::HostOut;
-use crate::prepare::Prepared;
-use crate::replace::replace;
+use age_disk::{FileId, HostIn, HostOut, Prepared, Stream, StreamId, found_at, replace};
+use age_messages::{Action, Failures};
 use crate::watched::{WatchedIn, WatchedOut};
 use age_fault::FileFault;
 use age_fileset::{FileSet, Log, OpenFault};

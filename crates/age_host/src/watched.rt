@@ -2,11 +2,8 @@
 
 ghost use Rattle.std.specs.Prelude.{[], None, true};
 
-use crate::failures::{Action, Failures};
-use crate::input::HostIn;
-use crate::names::FileId;
-use crate::output::HostOut;
-use crate::prepare::Prepared;
+use age_disk::{FileId, HostIn, HostOut, Prepared};
+use age_messages::{Action, Failures};
 use age_io::{Durability, Failed, Sink, Source};
 use std::io::{self, Read, Write};
 use std::rt::HostRuntime;

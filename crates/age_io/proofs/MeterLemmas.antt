@@ -1,7 +1,6 @@
 -- What a meter is shown of a source, from where that began.
 use base.Fml.{GName}
-use Rattle.std.proofs.Common.{ℕ, ◌+◌, ◌≤◌, ◌≡◌, List, [], ◌∷◌, length, take, ◌++◌, map, sym, ap, ap₂, ◌∙◌, refl, subst, arith}
-use Rattle.std.proofs.Common.{Option, Some, None}
+use Rattle.std.proofs.Common.{ℕ, ◌+◌, ◌≤◌, ◌≡◌, List, [], ◌∷◌, length, take, ◌++◌, map, sym, ap, ap₂, ◌∙◌, refl, subst, arith, Option, Some, None}
 use Rattle.std.proofs.lemmas.List.{map-append, append_assoc, append-nil, length-append, length-take-le}
 use Rattle.std.proofs.lemmas.List.Sums.{sum_by-append}
 use Rattle.std.proofs.KnownBytes.{Consumes-trans, Consumes-nil}

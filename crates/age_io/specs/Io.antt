@@ -1,8 +1,7 @@
 -- What contracts see of sources, sinks and meters, and what those over memory do.
 use base.Fml.{GName}
-use Rattle.std.specs.Prelude.{ℕ, List, Option, Bool, ◌+◌, ◌-◌, ◌^◌, min, option_map, Result, Ok}
-use Rattle.std.specs.Prelude.{Err, ◌≡◌, [], ◌∷◌, ◌++◌, Some, None, ◌≢◌, ◌⊎◌, length, take, drop}
-use Rattle.std.specs.Prelude.{true, false, map, IfSome}
+use Rattle.std.specs.Prelude.{ℕ, List, Option, Bool, ◌+◌, ◌-◌, ◌^◌, min, option_map, Result, Ok, Err, ◌≡◌, [], ◌∷◌}
+use Rattle.std.specs.Prelude.{◌++◌, Some, None, ◌≢◌, ◌⊎◌, length, take, drop, true, false, map, IfSome}
 use Rattle.std.specs.List.{sum}
 use Rattle.std.specs.Io.KnownBytes.{Consumes}
 use Rattle.age_io.specs.declared.failed.Failed.{Failed}

@@ -1,7 +1,6 @@
 //! A source over memory, with a plan of failures.
 
-ghost use Rattle.std.specs.Prelude.{◌≡◌, ◌<◌, ◌≤◌, Some, length, take, IfOk, MatchResult};
-ghost use Rattle.std.specs.Prelude.{drop, false};
+ghost use Rattle.std.specs.Prelude.{◌≡◌, ◌<◌, ◌≤◌, Some, length, take, IfOk, MatchResult, drop, false};
 ghost use Rattle.std.specs.Io.KnownBytes.{ReadConsumes};
 ghost use Rattle.age_io.specs.Io.{Feeding, Pulls};
 

@@ -1,7 +1,6 @@
 //! Where bytes go.
 
-ghost use Rattle.std.specs.Prelude.{◌≡◌, ◌<◌, ◌≤◌, ℕ, [], length, true, IfOk, OnOk};
-ghost use Rattle.std.specs.Prelude.{MatchResult, Bool, false, is_err};
+ghost use Rattle.std.specs.Prelude.{◌≡◌, ◌<◌, ◌≤◌, ℕ, [], length, true, IfOk, OnOk, MatchResult, Bool, false, is_err};
 ghost use Rattle.std.specs.Io.KnownBytes.{WriteAppends, Keeps};
 ghost use Rattle.age_io.specs.Io.{one_more, SinkView};
 ghost use Rattle.std.specs.Coded.{coded_ℕ, coded×, coded_bool};

@@ -1,9 +1,7 @@
 -- Blocks of 32 bytes that are joined, and a slice that takes them one by one.
-use Rattle.std.proofs.Common.{◌≡◌, ℕ, zero, suc, ◌+◌, ◌-◌, ◌*◌, ◌≤◌, List, [], ◌++◌, length, take}
-use Rattle.std.proofs.Common.{drop, refl, sym, ap, ◌∙◌, add-one, arith, ◌⊎◌, inl, inr}
+use Rattle.std.proofs.Common.{◌≡◌, ℕ, zero, suc, ◌+◌, ◌-◌, ◌*◌, ◌≤◌, List, [], ◌++◌, length, take, drop, refl, sym, ap, ◌∙◌, add-one, arith, ◌⊎◌, inl, inr}
 use Rattle.std.specs.List.{range_with_len, flat_map}
-use Rattle.std.proofs.lemmas.List.{append-nil, append_assoc, length-append, length-take, take_all}
-use Rattle.std.proofs.lemmas.List.{take_at, drop_all, length-drop}
+use Rattle.std.proofs.lemmas.List.{append-nil, append_assoc, length-append, length-take, take_all, take_at, drop_all, length-drop}
 use Rattle.std.proofs.Math.Seq.{take-append-add}
 use Rattle.sha2.specs.Sha256.{sha256, digest_bytes}
 use Rattle.age_kdf.specs.Derivation.{hmac, pbkdf2_block}

@@ -1,6 +1,5 @@
 -- An array's `map` by a closure that keeps what it captured.
-use Rattle.std.proofs.Common.{◌≡◌, ℕ, zero, suc, ◌+◌, ◌<◌, ◌∙◌, List, length, map, get_or, ap, sym}
-use Rattle.std.proofs.Common.{subst, arith}
+use Rattle.std.proofs.Common.{◌≡◌, ℕ, zero, suc, ◌+◌, ◌<◌, ◌∙◌, List, length, map, get_or, ap, sym, subst, arith}
 use Rattle.std.specs.Fn.{Called, Mut}
 use Rattle.std.specs.Array.{MapsFrom, IsMapOf}
 use Rattle.std.proofs.lemmas.List.{ext_get_or, length-map, get_or-map}

@@ -1,6 +1,5 @@
 -- How keys are derived from others: HMAC, HKDF and PBKDF2, all with SHA-256.
-use Rattle.std.specs.Prelude.{ℕ, ◌-◌, List, ◌++◌, length, map, replicate, bit_xor, nat_le}
-use Rattle.std.specs.Prelude.{if◌then◌else◌, [], ◌∷◌, take}
+use Rattle.std.specs.Prelude.{ℕ, ◌-◌, List, ◌++◌, length, map, replicate, bit_xor, nat_le, if◌then◌else◌, [], ◌∷◌, take}
 use Rattle.std.specs.List.{range_with_len, flat_map}
 use Rattle.std.specs.Int.{w32, to_be_bytes, div_ceil}
 use Rattle.sha2.specs.Sha256.{sha256}

@@ -1,6 +1,5 @@
 -- What the passphrase that a header was made for finds in it.
-use Rattle.std.proofs.Common.{◌≡◌, ◌≢◌, ℕ, ◌+◌, ◌≤◌, true, Option, Some, None, Result, List, []}
-use Rattle.std.proofs.Common.{◌∷◌, length, get_or, replicate, refl, sym, ap, ap₂, ◌∙◌, arith}
+use Rattle.std.proofs.Common.{◌≡◌, ◌≢◌, ℕ, ◌+◌, ◌≤◌, true, Option, Some, None, Result, List, [], ◌∷◌, length, get_or, replicate, refl, sym, ap, ap₂, ◌∙◌, arith}
 use Rattle.std.proofs.lemmas.Bool.{false≢true}
 use Rattle.std.specs.Prelude.{codes, IfSome, IfNone, MatchResult}
 use Rattle.std.specs.Option.{ok_or}
@@ -13,12 +12,9 @@ use Rattle.age_stanza.specs.declared.header.Stanza.{Stanza}
 use Rattle.age_stanza.specs.Text.{base64_text}
 use Rattle.age_cipher.proofs.SealingLemmas.{length-sealing, one_text as one_sealed}
 use Rattle.age_keys.specs.declared.fault.KeyFault.{KeyFault}
-use Rattle.age_keys.specs.declared.fault.KeyFault.TheVariants.{ScryptNotAlone, BadScrypt}
-use Rattle.age_keys.specs.declared.fault.KeyFault.TheVariants.{WorkTooHigh, NoMatch, WrongKey}
-use Rattle.age_keys.specs.declared.fault.KeyFault.TheVariants.{MacMismatch, BadX25519, Memory}
+use Rattle.age_keys.specs.declared.fault.KeyFault.TheVariants.{ScryptNotAlone, BadScrypt, WorkTooHigh, NoMatch, WrongKey, MacMismatch, BadX25519, Memory}
 use Rattle.age_keys.specs.Keys.{header_mac, wrapped_key, has_scrypt, IsMacOf, AllowsAlone}
-use Rattle.age_keys.specs.Scrypt.{PassphraseIdentity, IsPassphraseKey, PassphraseRefuses, wrap_key}
-use Rattle.age_keys.specs.Scrypt.{IsWorkFactor, IsScryptStanza, OnlyScrypt, scrypt_stanza}
+use Rattle.age_keys.specs.Scrypt.{PassphraseIdentity, IsPassphraseKey, PassphraseRefuses, wrap_key, IsWorkFactor, IsScryptStanza, OnlyScrypt, scrypt_stanza}
 use Rattle.age_keys.specs.Scrypt.{scrypt_head}
 use Rattle.age_stanza.proofs.Base64Lemmas.{one_text}
 use Rattle.age_keys.proofs.StanzaLemmas.{not_beside}

@@ -4,37 +4,53 @@ ghost use Rattle.std.specs.Prelude.{◌≡◌, None};
 ghost use Rattle.age_keys.specs.Keys.{is_before_work, key_fault_number};
 
 use std::alloc::AllocError;
-use thiserror::Error;
+use std::{error, fmt};
 
 /// Why a header wasn't opened. A refusal changes nothing. The value of each fault is its number in
 /// the list of all faults.
-#[derive(Clone, Copy, Debug, PartialEq, Eq, Error)]
+#[derive(Clone, Copy, Debug, PartialEq, Eq)]
 pub enum KeyFault {
     /// A stanza of type `scrypt` isn't the only stanza.
-    #[error("scrypt stanza not alone")]
     ScryptNotAlone = 9,
     /// The scrypt stanza isn't valid: its arguments, or the length of its body.
-    #[error("bad scrypt stanza")]
     BadScrypt = 10,
     /// The scrypt stanza's work factor is above the limit.
-    #[error("work factor too high")]
     WorkTooHigh = 11,
     /// No stanza is of the type that is looked for.
-    #[error("no matching stanza")]
     NoMatch = 12,
     /// The body of no stanza opens.
-    #[error("wrong key")]
     WrongKey = 13,
     /// The header's MAC wasn't made under the file key.
-    #[error("header MAC mismatch")]
     MacMismatch = 14,
     /// An X25519 stanza isn't valid, or the shared secret is zero.
-    #[error("bad X25519 stanza")]
     BadX25519 = 15,
     /// A growth of memory was refused.
-    #[error("out of memory")]
     Memory = 28,
 }
+
+impl KeyFault {
+    /// What is said of it.
+    fn text(&self) -> &'static str {
+        match self {
+            KeyFault::ScryptNotAlone => "scrypt stanza not alone",
+            KeyFault::BadScrypt => "bad scrypt stanza",
+            KeyFault::WorkTooHigh => "work factor too high",
+            KeyFault::NoMatch => "no matching stanza",
+            KeyFault::WrongKey => "wrong key",
+            KeyFault::MacMismatch => "header MAC mismatch",
+            KeyFault::BadX25519 => "bad X25519 stanza",
+            KeyFault::Memory => "out of memory",
+        }
+    }
+}
+
+impl fmt::Display for KeyFault {
+    fn fmt<W: fmt::Write>(&self, f: &mut fmt::Formatter<W>) -> fmt::Result {
+        f.write_str(self.text())
+    }
+}
+
+impl error::Error for KeyFault {}
 
 impl KeyFault {
     /// The fault's number in the list of all faults.

@@ -1,8 +1,7 @@
 //! A passphrase, which finds the file key in a scrypt stanza.
 
 ghost use Rattle.std.specs.Option.{SomeIff};
-ghost use Rattle.age_keys.specs.Scrypt.{IsAllowed, IsPassphraseKey, PassphraseRefuses};
-ghost use Rattle.age_keys.specs.Scrypt.{passphrase_steps};
+ghost use Rattle.age_keys.specs.Scrypt.{IsAllowed, IsPassphraseKey, PassphraseRefuses, passphrase_steps};
 
 use crate::fault::KeyFault;
 use crate::key::FileKey;

@@ -1,11 +1,9 @@
 -- A list cut into parts of k: what a write to one part leaves, and the list as its parts joined.
-use Rattle.std.proofs.Common.{◌≡◌, ◌≢◌, ◌++◌, ◌+◌, ◌-◌, ◌*◌, ◌<◌, ◌≤◌, ℕ, zero, suc, List, [], ◌∷◌}
-use Rattle.std.proofs.Common.{bit_xor, refl, sym, ap, ap₂, ◌∙◌, arith, length, take, drop}
+use Rattle.std.proofs.Common.{◌≡◌, ◌≢◌, ◌++◌, ◌+◌, ◌-◌, ◌*◌, ◌<◌, ◌≤◌, ℕ, zero, suc, List, [], ◌∷◌, bit_xor, refl, sym, ap, ap₂, ◌∙◌, arith, length, take, drop}
 use Rattle.std.proofs.Common.{length-take, length-drop, inl, inr}
 use Rattle.std.specs.List.{flat_map, range_with_len}
 use Rattle.std.proofs.Math.Nat.{mul-le-mul_left}
-use Rattle.std.proofs.lemmas.List.{drop_all, drop-take, drop-drop, take-append-drop, take_at}
-use Rattle.std.proofs.lemmas.List.{drop_at, append_assoc, length-append, drop-append-le}
+use Rattle.std.proofs.lemmas.List.{drop_all, drop-take, drop-drop, take-append-drop, take_at, drop_at, append_assoc, length-append, drop-append-le}
 use Rattle.std.proofs.lemmas.List.{take-append-le, take_all}
 use Rattle.std.proofs.lemmas.Simd.{length-zip2}
 use Rattle.std.specs.Simd.Lanes.{zip2}

@@ -1,14 +1,12 @@
 -- Parts that are kept as their diagonals.
-use Rattle.std.proofs.Common.{◌≡◌, ◌++◌, ◌+◌, ◌*◌, ◌/◌, ◌%◌, ◌<◌, ◌≤◌, ℕ, zero, suc, List, [], ◌∷◌}
-use Rattle.std.proofs.Common.{bit_xor, refl, sym, ap, ap₂, ◌∙◌, arith, length, take, drop}
+use Rattle.std.proofs.Common.{◌≡◌, ◌++◌, ◌+◌, ◌*◌, ◌/◌, ◌%◌, ◌<◌, ◌≤◌, ℕ, zero, suc, List, [], ◌∷◌, bit_xor, refl, sym, ap, ap₂, ◌∙◌, arith, length, take, drop}
 use Rattle.std.proofs.Common.{get_or, length-take, length-drop, below_more, below_none}
 use Rattle.std.specs.List.{flat_map}
 use Rattle.std.specs.Simd.Lanes.{zip2}
 use Rattle.std.proofs.lemmas.List.{length-append, get_or-drop, get_or-take, take_at}
 use Rattle.std.proofs.Math.Seq.{drop-append-add}
 use Rattle.std.proofs.lemmas.Simd.{length-zip2}
-use Rattle.age_scrypt.specs.Scrypt.{add32, salsa20_8, double_rounds, part, xor_words, x_part}
-use Rattle.age_scrypt.specs.Scrypt.{block_mix}
+use Rattle.age_scrypt.specs.Scrypt.{add32, salsa20_8, double_rounds, part, xor_words, x_part, block_mix}
 use Rattle.age_scrypt.specs.inner.Workspace.{words, at_places, IsDiagonals, turned, IsTurned}
 use Rattle.age_scrypt.specs.declared.part.Part.{Part}
 use Rattle.age_scrypt.proofs.LaneLemmas.{sixteen_words, length-double_rounds}

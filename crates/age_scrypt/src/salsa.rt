@@ -4,13 +4,11 @@
 //! lane of its column. So the four quarter rounds of the columns are one on vectors. The rows of a
 //! matrix are the columns of its transpose, whose diagonals are the same words, in other lanes.
 
-ghost use Rattle.std.specs.Prelude.{◌≡◌, ℕ, ◌<◌, List, [], ◌∷◌, length, map, bit_xor};
-ghost use Rattle.std.specs.Prelude.{slice_index};
+ghost use Rattle.std.specs.Prelude.{◌≡◌, ℕ, ◌<◌, List, [], ◌∷◌, length, map, bit_xor, slice_index};
 ghost use Rattle.std.specs.Int.{w32, rotate_left};
 ghost use Rattle.std.specs.Simd.Lanes.{zip2};
 ghost use Rattle.age_scrypt.specs.Scrypt.{add32, rows, columns, salsa20_8};
-ghost use Rattle.age_scrypt.specs.inner.Workspace.{words, IsRows, IsDiagonals, transpose, quarters};
-ghost use Rattle.age_scrypt.specs.inner.Workspace.{turned};
+ghost use Rattle.age_scrypt.specs.inner.Workspace.{words, IsRows, IsDiagonals, transpose, quarters, turned};
 
 use crate::part::Part;
 use std::simd::u32x4;

@@ -1,6 +1,5 @@
 -- The bytes of a text in base64.
-use Rattle.std.proofs.Common.{◌≡◌, ℕ, ◌+◌, ◌*◌, ◌/◌, ◌≤◌, List, [], length, take, Ok, Err, refl}
-use Rattle.std.proofs.Common.{sym, ap, ◌∙◌, arith, length-take}
+use Rattle.std.proofs.Common.{◌≡◌, ℕ, ◌+◌, ◌*◌, ◌/◌, ◌≤◌, List, [], length, take, Ok, Err, refl, sym, ap, ◌∙◌, arith, length-take}
 use Rattle.std.specs.Result.{result_unwrap_or}
 use Rattle.base64.specs.declared.decode.DecodeError.{DecodeError}
 use Rattle.age_stanza.proofs.TextLemmas.{length-text}

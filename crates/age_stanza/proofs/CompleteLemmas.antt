@@ -1,11 +1,9 @@
 -- A walk over a header's text finds the header, whatever follows.
-use Rattle.std.proofs.Common.{◌≡◌, ℕ, zero, suc, ◌<◌, ◌≤◌, ◌+◌, ◌%◌, List, [], ◌∷◌, ◌++◌, length}
-use Rattle.std.proofs.Common.{take, drop, Some, Ok, refl, ap, ◌∙◌, arith, inl, inr}
+use Rattle.std.proofs.Common.{◌≡◌, ℕ, zero, suc, ◌<◌, ◌≤◌, ◌+◌, ◌%◌, List, [], ◌∷◌, ◌++◌, length, take, drop, Some, Ok, refl, ap, ◌∙◌, arith, inl, inr}
 use Rattle.std.specs.Prelude.{codes}
 use Rattle.std.specs.List.{flat_map, AllByRecursion}
 use Rattle.std.proofs.lemmas.Bool.{eq-eqb, ne_eqb, le-ltb, cases_lt}
-use Rattle.std.proofs.lemmas.List.{append-nil, append_assoc, length-take, length-drop}
-use Rattle.std.proofs.lemmas.List.{take-append-drop}
+use Rattle.std.proofs.lemmas.List.{append-nil, append_assoc, length-take, length-drop, take-append-drop}
 use Rattle.base64.specs.GeneralPurpose.{IsBytes}
 use Rattle.age_stanza.specs.declared.header.Stanza.{Stanza}
 use Rattle.age_stanza.specs.declared.header.Header.{Header}
@@ -14,13 +12,10 @@ use Rattle.age_stanza.specs.declared.place.Place.TheVariants.{Start, Between, In
 use Rattle.age_stanza.specs.declared.place.Next.TheVariants.{Go, Done}
 use Rattle.age_stanza.specs.Text.{base64_text}
 use Rattle.age_stanza.specs.inner.LineMachine.{base64_bytes, ready, walk, after, step}
-use Rattle.age_stanza.specs.Grammar.{line, version, IsArgument, argument_line, in_lines}
-use Rattle.age_stanza.specs.Grammar.{stanza_text, end_line, head_text, IsStanza, IsHeader}
+use Rattle.age_stanza.specs.Grammar.{line, version, IsArgument, argument_line, in_lines, stanza_text, end_line, head_text, IsStanza, IsHeader}
 use Rattle.age_stanza.specs.Parsing.{IsLine}
-use Rattle.age_stanza.proofs.TextLemmas.{text-append, length-text, decoded-text, IsBytes-take}
-use Rattle.age_stanza.proofs.TextLemmas.{IsBytes-drop, IsLine-append, text_line, line_from_test}
-use Rattle.age_stanza.proofs.LineLemmas.{IsVisible, in_lines-full, in_lines-short, read_argument_line}
-use Rattle.age_stanza.proofs.LineLemmas.{read_end_line}
+use Rattle.age_stanza.proofs.TextLemmas.{text-append, length-text, decoded-text, IsBytes-take, IsBytes-drop, IsLine-append, text_line, line_from_test}
+use Rattle.age_stanza.proofs.LineLemmas.{IsVisible, in_lines-full, in_lines-short, read_argument_line, read_end_line}
 use Rattle.age_stanza.proofs.PlaceLemmas.{tail_text}
 
 -- ---- lines hold no end of line

@@ -1,6 +1,5 @@
 -- A walk that meets a faulty line meets the first one, and a walk that meets none has none.
-use Rattle.std.proofs.Common.{◌≡◌, ℕ, ◌<◌, ◌+◌, Bool, true, false, cond, ltb, eqb, nat_eq, ◌||◌}
-use Rattle.std.proofs.Common.{List, [], ◌∷◌, ◌++◌, length, Option, Some, None, Result, Ok}
+use Rattle.std.proofs.Common.{◌≡◌, ℕ, ◌<◌, ◌+◌, Bool, true, false, cond, ltb, eqb, nat_eq, ◌||◌, List, [], ◌∷◌, ◌++◌, length, Option, Some, None, Result, Ok}
 use Rattle.std.proofs.Common.{Err, refl, sym, ap, subst, ◌∙◌, arith, inl, inr}
 use Rattle.std.specs.Prelude.{codes, count_by}
 use Rattle.std.specs.List.{flat_map, AllByRecursion, starts_with}
@@ -14,29 +13,21 @@ use Rattle.std.proofs.lemmas.Option.{none-some}
 use Rattle.age_stanza.specs.declared.header.Stanza.{Stanza}
 use Rattle.age_stanza.specs.declared.header.Header.{Header}
 use Rattle.age_stanza.specs.declared.fault.HeadKind.{HeadKind}
-use Rattle.age_stanza.specs.declared.fault.HeadKind.TheVariants.{NotAge, Armored, BadStanzaLine}
-use Rattle.age_stanza.specs.declared.fault.HeadKind.TheVariants.{BadBody, BadEndLine, NoStanza}
-use Rattle.age_stanza.specs.declared.fault.HeadKind.TheVariants.{Memory}
+use Rattle.age_stanza.specs.declared.fault.HeadKind.TheVariants.{NotAge, Armored, BadStanzaLine, BadBody, BadEndLine, NoStanza, Memory}
 use Rattle.age_stanza.specs.declared.fault.HeadFault.{HeadFault}
 use Rattle.age_stanza.specs.declared.place.Place.{Place}
 use Rattle.age_stanza.specs.declared.place.Place.TheVariants.{Start, Between, InBody}
 use Rattle.age_stanza.specs.declared.place.Next.{Next}
 use Rattle.age_stanza.specs.declared.place.Next.TheVariants.{Go, Done}
 use Rattle.age_stanza.specs.Text.{base64_text}
-use Rattle.age_stanza.specs.inner.LineMachine.{base64_bytes, unfinished, ready, faulty, walk, after}
-use Rattle.age_stanza.specs.inner.LineMachine.{step, end_line_result, argument_line_result}
+use Rattle.age_stanza.specs.inner.LineMachine.{base64_bytes, unfinished, ready, faulty, walk, after, step, end_line_result, argument_line_result}
 use Rattle.age_stanza.specs.inner.LineMachine.{body_line_result, arguments_of, mac_of, fault_at}
-use Rattle.age_stanza.specs.Grammar.{line, version, in_lines, stanza_text, end_line, head_text}
-use Rattle.age_stanza.specs.Grammar.{IsStanza, IsHeader}
-use Rattle.age_stanza.specs.Parsing.{armor, Begins, IsLine, AreLines, stanzas_text, IsEndLine}
-use Rattle.age_stanza.specs.Parsing.{RefusesBetween, RefusesLine, line_after, NoFault, IsLineFault}
-use Rattle.age_stanza.proofs.TextLemmas.{bytes_from_pass, IsBytes-append, IsBytes-tail, IsLine-append}
-use Rattle.age_stanza.proofs.TextLemmas.{decoded-text, text-nil, line_from_test}
-use Rattle.age_stanza.proofs.LineLemmas.{chosen, All-append, All-back, starts_from, read_end_line}
-use Rattle.age_stanza.proofs.LineLemmas.{end_line_read}
+use Rattle.age_stanza.specs.Grammar.{line, version, in_lines, stanza_text, end_line, head_text, IsStanza, IsHeader}
+use Rattle.age_stanza.specs.Parsing.{armor, Begins, IsLine, AreLines, stanzas_text, IsEndLine, RefusesBetween, RefusesLine, line_after, NoFault, IsLineFault}
+use Rattle.age_stanza.proofs.TextLemmas.{bytes_from_pass, IsBytes-append, IsBytes-tail, IsLine-append, decoded-text, text-nil, line_from_test}
+use Rattle.age_stanza.proofs.LineLemmas.{chosen, All-append, All-back, starts_from, read_end_line, end_line_read}
 use Rattle.age_stanza.proofs.PlaceLemmas.{tail_text, IsPlace, Follows, leads}
-use Rattle.age_stanza.proofs.CompleteLemmas.{walk_text, walk_go, text_walk, stanzas_reach, step_version}
-use Rattle.age_stanza.proofs.CompleteLemmas.{step_last}
+use Rattle.age_stanza.proofs.CompleteLemmas.{walk_text, walk_go, text_walk, stanzas_reach, step_version, step_last}
 
 -- ---- each place can be completed
 

@@ -1,6 +1,5 @@
 -- Finished lines, and the line that is begun after them.
-use Rattle.std.proofs.Common.{◌≡◌, ℕ, ◌+◌, ◌<◌, ◌≤◌, List, [], ◌∷◌, ◌++◌, length, take, Ok, Err}
-use Rattle.std.proofs.Common.{refl, sym, ap, subst, ◌∙◌, arith, inl, inr, eqb}
+use Rattle.std.proofs.Common.{◌≡◌, ℕ, ◌+◌, ◌<◌, ◌≤◌, List, [], ◌∷◌, ◌++◌, length, take, Ok, Err, refl, sym, ap, subst, ◌∙◌, arith, inl, inr, eqb}
 use Rattle.std.specs.Prelude.{◌⊎◌, count_by}
 use Rattle.std.proofs.lemmas.Bool.{ne_eqb}
 use Rattle.std.proofs.lemmas.List.{append-nil, append_assoc, length-append, take_at}
@@ -14,9 +13,7 @@ use Rattle.age_stanza.specs.declared.place.Place.TheVariants.{Start}
 use Rattle.age_stanza.specs.declared.place.Next.TheVariants.{Go, Done}
 use Rattle.age_stanza.specs.Grammar.{line}
 use Rattle.age_stanza.specs.Parsing.{IsLine, AreLines, line_after, memory_fault}
-use Rattle.age_stanza.specs.inner.LineMachine.{unfinished, ready, faulty, walk, after, step}
-use Rattle.age_stanza.specs.inner.LineMachine.{fault_at, bytes_before, LeadTo, IsPartial}
-use Rattle.age_stanza.specs.inner.LineMachine.{IsUnfinished}
+use Rattle.age_stanza.specs.inner.LineMachine.{unfinished, ready, faulty, walk, after, step, fault_at, bytes_before, LeadTo, IsPartial, IsUnfinished}
 use Rattle.age_stanza.proofs.TextLemmas.{IsBytes-append, IsLine-append, bytes_from_pass}
 use Rattle.age_stanza.proofs.LineLemmas.{All-front}
 use Rattle.age_stanza.proofs.CompleteLemmas.{walk_text, walk_go}

@@ -1,22 +1,17 @@
 -- The lines of a header: a body's, an argument line, an end line.
-use Rattle.std.proofs.Common.{◌≡◌, ℕ, zero, suc, ◌<◌, ◌≤◌, ◌+◌, ◌*◌, ◌/◌, Bool, true, false, cond}
-use Rattle.std.proofs.Common.{leb, eqb, nat_eq, ◌&&◌, List, [], ◌∷◌, ◌++◌, length, take, drop}
-use Rattle.std.proofs.Common.{Option, Some, None}
-use Rattle.std.proofs.Common.{refl, sym, ap, subst, ◌∙◌, arith, inl, inr}
+use Rattle.std.proofs.Common.{◌≡◌, ℕ, zero, suc, ◌<◌, ◌≤◌, ◌+◌, ◌*◌, ◌/◌, Bool, true, false, cond, leb, eqb, nat_eq, ◌&&◌, List, [], ◌∷◌, ◌++◌, length, take}
+use Rattle.std.proofs.Common.{drop, Option, Some, None, refl, sym, ap, subst, ◌∙◌, arith, inl, inr}
 use Rattle.std.specs.Prelude.{codes, ◌⊎◌}
 use Rattle.std.specs.List.{flat_map, AllByRecursion, starts_with}
-use Rattle.std.proofs.lemmas.Bool.{eqb-true, eqb-false, eq-eqb, ne_eqb, leb-true, le-leb, and_parts}
-use Rattle.std.proofs.lemmas.Bool.{and_from}
+use Rattle.std.proofs.lemmas.Bool.{eqb-true, eqb-false, eq-eqb, ne_eqb, leb-true, le-leb, and_parts, and_from}
 use Rattle.std.proofs.lemmas.Bool.Decides.{Decides-eqb}
 use Rattle.std.specs.Simd.{first_chunks}
-use Rattle.std.proofs.lemmas.List.{append-nil, append_assoc, length-append, length-take}
-use Rattle.std.proofs.lemmas.List.{length-drop, take_at, drop_at, drop-drop, take-append-drop}
+use Rattle.std.proofs.lemmas.List.{append-nil, append_assoc, length-append, length-take, length-drop, take_at, drop_at, drop-drop, take-append-drop}
 use Rattle.std.proofs.lemmas.List.Concat.{flat_map-append}
 use Rattle.std.proofs.lemmas.Slice.Eq.{starts_is}
 use Rattle.std.proofs.lemmas.Option.{cond_some}
 use Rattle.base64.specs.GeneralPurpose.{IsBytes}
-use Rattle.age_stanza.specs.inner.LineMachine.{whole_lines, base64_bytes, arguments_from}
-use Rattle.age_stanza.specs.inner.LineMachine.{arguments_of, mac_of, whole_mac}
+use Rattle.age_stanza.specs.inner.LineMachine.{whole_lines, base64_bytes, arguments_from, arguments_of, mac_of, whole_mac}
 use Rattle.age_stanza.specs.Text.{base64_text}
 use Rattle.age_stanza.specs.Grammar.{line, IsArgument, argument_line, in_lines, end_line}
 use Rattle.age_stanza.proofs.TextLemmas.{text_of_decoded, decoded-text, IsBytes-drop}

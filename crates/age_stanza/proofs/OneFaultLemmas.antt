@@ -1,12 +1,10 @@
 -- Bytes have no more than one first fault.
-use Rattle.std.proofs.Common.{◌≡◌, ℕ, ◌<◌, ◌+◌, Bool, true, false, nat_eq, List, [], ◌∷◌, ◌++◌}
-use Rattle.std.proofs.Common.{length, take, drop, Option, Some, None, refl, sym, ap, subst}
+use Rattle.std.proofs.Common.{◌≡◌, ℕ, ◌<◌, ◌+◌, Bool, true, false, nat_eq, List, [], ◌∷◌, ◌++◌, length, take, drop, Option, Some, None, refl, sym, ap, subst}
 use Rattle.std.proofs.Common.{◌∙◌, arith, inl, inr}
 use Rattle.std.specs.Prelude.{codes}
 use Rattle.std.specs.List.{flat_map, AllByRecursion, starts_with}
 use Rattle.std.proofs.lemmas.Bool.{cases_lt}
-use Rattle.std.proofs.lemmas.List.{append-nil, append_assoc, append_cancel_left, length-append}
-use Rattle.std.proofs.lemmas.List.{take_at}
+use Rattle.std.proofs.lemmas.List.{append-nil, append_assoc, append_cancel_left, length-append, take_at}
 use Rattle.base64.specs.GeneralPurpose.{IsBytes}
 use Rattle.base64.proofs.EngineFacts.{front_bytes}
 use Rattle.std.proofs.lemmas.Option.{none-some}
@@ -23,8 +21,7 @@ use Rattle.age_stanza.specs.inner.LineMachine.{Walked, unfinished, ready, faulty
 use Rattle.age_stanza.proofs.TextLemmas.{IsBytes-take, IsBytes-tail, line_from_test}
 use Rattle.age_stanza.proofs.LineLemmas.{All-front, end_line_read, read_end_line}
 use Rattle.age_stanza.proofs.CompleteLemmas.{walk_go, stanzas_reach, step_version}
-use Rattle.age_stanza.proofs.FaultLemmas.{At, at_start, Passed, passed, nothing_begun, nothing_before}
-use Rattle.age_stanza.proofs.FaultLemmas.{stanzas_before, not_first, not_between}
+use Rattle.age_stanza.proofs.FaultLemmas.{At, at_start, Passed, passed, nothing_begun, nothing_before, stanzas_before, not_first, not_between}
 use Rattle.age_stanza.proofs.AnyPiecesLemmas.{prefix_of}
 
 -- ---- the faulty line

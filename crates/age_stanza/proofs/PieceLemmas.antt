@@ -1,9 +1,7 @@
 -- A header that comes in pieces.
-use Rattle.std.proofs.Common.{◌≡◌, ℕ, zero, suc, ◌<◌, ◌≤◌, ◌+◌, ◌-◌, List, [], ◌++◌, length, take}
-use Rattle.std.proofs.Common.{drop, refl, sym, ap, ◌∙◌, arith, inl, inr}
+use Rattle.std.proofs.Common.{◌≡◌, ℕ, zero, suc, ◌<◌, ◌≤◌, ◌+◌, ◌-◌, List, [], ◌++◌, length, take, drop, refl, sym, ap, ◌∙◌, arith, inl, inr}
 use Rattle.std.specs.Prelude.{◌⊎◌}
-use Rattle.std.proofs.lemmas.List.{append-nil, append_assoc, length-append, length-take}
-use Rattle.std.proofs.lemmas.List.{take-append-drop, take-take, append_cancel_right}
+use Rattle.std.proofs.lemmas.List.{append-nil, append_assoc, length-append, length-take, take-append-drop, take-take, append_cancel_right}
 use Rattle.std.proofs.Math.Seq.{take-append-add}
 use Rattle.base64.specs.GeneralPurpose.{IsBytes}
 use Rattle.age_stanza.specs.declared.header.Header.{Header}

@@ -1,7 +1,6 @@
 -- The bytes before the place after a line are those before the line's own place, and the line.
-use Rattle.std.proofs.Common.{◌≡◌, ℕ, ◌<◌, ◌≤◌, ◌+◌, ◌*◌, ◌/◌, ◌%◌, Bool, true, false, ltb, eqb}
-use Rattle.std.proofs.Common.{nat_eq, ◌||◌, List, [], ◌∷◌, ◌++◌, length, Option, Some}
-use Rattle.std.proofs.Common.{None, Ok, Err, refl, sym, ap, subst, ◌∙◌, arith, inl, inr}
+use Rattle.std.proofs.Common.{◌≡◌, ℕ, ◌<◌, ◌≤◌, ◌+◌, ◌*◌, ◌/◌, ◌%◌, Bool, true, false, ltb, eqb, nat_eq, ◌||◌, List, [], ◌∷◌, ◌++◌, length, Option, Some, None}
+use Rattle.std.proofs.Common.{Ok, Err, refl, sym, ap, subst, ◌∙◌, arith, inl, inr}
 use Rattle.std.specs.Prelude.{codes}
 use Rattle.std.specs.List.{flat_map, starts_with}
 use Rattle.std.specs.Str.{bytes_eq}
@@ -16,14 +15,12 @@ use Rattle.age_stanza.specs.declared.place.Place.{Place}
 use Rattle.age_stanza.specs.declared.place.Place.TheVariants.{Start, Between, InBody}
 use Rattle.age_stanza.specs.declared.place.Next.TheVariants.{Go}
 use Rattle.age_stanza.specs.Text.{base64_text}
-use Rattle.age_stanza.specs.inner.LineMachine.{base64_bytes, step, end_line_result}
-use Rattle.age_stanza.specs.inner.LineMachine.{argument_line_result, body_line_result, arguments_of}
-use Rattle.age_stanza.specs.inner.LineMachine.{mac_of, whole_lines, bytes_before, HasWholeLines}
+use Rattle.age_stanza.specs.inner.LineMachine.{base64_bytes, step, end_line_result, argument_line_result, body_line_result, arguments_of, mac_of, whole_lines}
+use Rattle.age_stanza.specs.inner.LineMachine.{bytes_before, HasWholeLines}
 use Rattle.age_stanza.specs.Grammar.{line, version, argument_line, in_lines, stanza_text}
 use Rattle.age_stanza.specs.Parsing.{stanzas_text, armor}
 use Rattle.age_stanza.proofs.TextLemmas.{text-append, text-nil, length-text, text_of_decoded}
-use Rattle.age_stanza.proofs.LineLemmas.{chosen, by_lines, whole_lines-full, in_lines-full}
-use Rattle.age_stanza.proofs.LineLemmas.{in_lines-short, argument_line_read}
+use Rattle.age_stanza.proofs.LineLemmas.{chosen, by_lines, whole_lines-full, in_lines-full, in_lines-short, argument_line_read}
 use Rattle.age_stanza.proofs.PlaceLemmas.{same_go, not_ended}
 
 pub regrouped : (a b c d : List ℕ) → a ++ (b ++ (c ++ d)) ≡ (a ++ (b ++ c)) ++ d

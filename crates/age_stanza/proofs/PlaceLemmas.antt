@@ -1,6 +1,5 @@
 -- What a place in a header says of the header: sound and complete.
-use Rattle.std.proofs.Common.{◌≡◌, ℕ, ◌<◌, ◌≤◌, ◌+◌, ◌*◌, ◌/◌, ◌%◌, Bool, true, false, ltb, eqb}
-use Rattle.std.proofs.Common.{nat_eq, ◌||◌, List, [], ◌∷◌, ◌++◌, length, Option, Some, None}
+use Rattle.std.proofs.Common.{◌≡◌, ℕ, ◌<◌, ◌≤◌, ◌+◌, ◌*◌, ◌/◌, ◌%◌, Bool, true, false, ltb, eqb, nat_eq, ◌||◌, List, [], ◌∷◌, ◌++◌, length, Option, Some, None}
 use Rattle.std.proofs.Common.{Result, Ok, Err, refl, sym, ap, subst, ◌∙◌, arith, inl, inr}
 use Rattle.std.specs.Prelude.{codes}
 use Rattle.std.specs.List.{flat_map, AllByRecursion, starts_with}
@@ -19,16 +18,12 @@ use Rattle.age_stanza.specs.declared.place.Place.TheVariants.{Start, Between, In
 use Rattle.age_stanza.specs.declared.place.Next.{Next}
 use Rattle.age_stanza.specs.declared.place.Next.TheVariants.{Go, Done}
 use Rattle.age_stanza.specs.Text.{base64_text}
-use Rattle.age_stanza.specs.inner.LineMachine.{base64_bytes, ready, walk, after, step}
-use Rattle.age_stanza.specs.inner.LineMachine.{end_line_result, argument_line_result}
-use Rattle.age_stanza.specs.inner.LineMachine.{body_line_result, arguments_of, mac_of}
-use Rattle.age_stanza.specs.Grammar.{line, version, IsArgument, argument_line, in_lines}
-use Rattle.age_stanza.specs.Grammar.{stanza_text, end_line, head_text, IsStanza, IsHeader}
+use Rattle.age_stanza.specs.inner.LineMachine.{base64_bytes, ready, walk, after, step, end_line_result, argument_line_result, body_line_result, arguments_of}
+use Rattle.age_stanza.specs.inner.LineMachine.{mac_of}
+use Rattle.age_stanza.specs.Grammar.{line, version, IsArgument, argument_line, in_lines, stanza_text, end_line, head_text, IsStanza, IsHeader}
 use Rattle.age_stanza.specs.Parsing.{armor}
-use Rattle.age_stanza.proofs.TextLemmas.{text-append, length-text, text_of_decoded, IsBytes-append}
-use Rattle.age_stanza.proofs.TextLemmas.{IsBytes-tail}
-use Rattle.age_stanza.proofs.LineLemmas.{chosen, All-append, in_lines-full, in_lines-short}
-use Rattle.age_stanza.proofs.LineLemmas.{argument_line_read, end_line_read}
+use Rattle.age_stanza.proofs.TextLemmas.{text-append, length-text, text_of_decoded, IsBytes-append, IsBytes-tail}
+use Rattle.age_stanza.proofs.LineLemmas.{chosen, All-append, in_lines-full, in_lines-short, argument_line_read, end_line_read}
 
 -- the stanzas that are still to come, and the end line
 abbrev pub tail_text : List Stanza → List ℕ → List ℕ

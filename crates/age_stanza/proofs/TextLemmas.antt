@@ -1,6 +1,5 @@
 -- The text of bytes, and the bytes of a text.
-use Rattle.std.proofs.Common.{◌≡◌, ℕ, zero, suc, ◌+◌, ◌≤◌, ◌*◌, ◌/◌, ◌%◌, true, not, ltb, eqb, List}
-use Rattle.std.proofs.Common.{[], ◌∷◌, ◌++◌, length, get_or, take, drop, Option, Some}
+use Rattle.std.proofs.Common.{◌≡◌, ℕ, zero, suc, ◌+◌, ◌≤◌, ◌*◌, ◌/◌, ◌%◌, true, not, ltb, eqb, List, [], ◌∷◌, ◌++◌, length, get_or, take, drop, Option, Some}
 use Rattle.std.proofs.Common.{None, Result, Ok, Err, refl, sym, ap, subst, ◌∙◌, arith}
 use Rattle.std.specs.List.{list_all}
 use Rattle.std.specs.Prelude.{IfOk, IfErr, IfSome, IfNone}
@@ -8,13 +7,11 @@ use Rattle.std.specs.Result.{result_ok}
 use Rattle.std.proofs.lemmas.Bool.{ltb-true, lt-ltb, and_parts, and_from, eqb-false, not-true}
 use Rattle.std.proofs.lemmas.List.{append-nil, get_or-drop, take-append-drop}
 use Rattle.std.proofs.lemmas.Option.{cond_some}
-use Rattle.base64.specs.GeneralPurpose.{IsBytes, IsDecodedInto, decode_of, encode_of}
-use Rattle.base64.specs.GeneralPurpose.{engine_symbols}
+use Rattle.base64.specs.GeneralPurpose.{IsBytes, IsDecodedInto, decode_of, encode_of, engine_symbols}
 use Rattle.base64.specs.Engines.{standard_no_pad}
 use Rattle.base64.specs.Rfc4648.{encode_symbols}
 use Rattle.base64.specs.declared.decode.DecodeError.{DecodeError}
-use Rattle.base64.proofs.EngineFacts.{decode_of-encode_of, decode_of_strict, encode_of-append}
-use Rattle.base64.proofs.EngineFacts.{front_bytes}
+use Rattle.base64.proofs.EngineFacts.{decode_of-encode_of, decode_of_strict, encode_of-append, front_bytes}
 use Rattle.base64.proofs.RoundTrip.{length-encode_symbols}
 use Rattle.age_stanza.specs.Text.{base64_text}
 use Rattle.age_stanza.specs.Parsing.{IsLine}

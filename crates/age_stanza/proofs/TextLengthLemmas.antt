@@ -1,7 +1,6 @@
 -- How long the texts of a header are.
-use Rattle.std.proofs.Common.{◌≡◌, ℕ, ◌<◌, ◌≤◌, ◌+◌, ◌-◌, ◌*◌, ◌/◌, true, List, [], ◌∷◌, ◌++◌}
-use Rattle.std.proofs.Common.{length, get_or, drop, is_some, Option}
-use Rattle.std.proofs.Common.{Some, None, refl, sym, ap, ◌∙◌, arith, inl, inr}
+use Rattle.std.proofs.Common.{◌≡◌, ℕ, ◌<◌, ◌≤◌, ◌+◌, ◌-◌, ◌*◌, ◌/◌, true, List, [], ◌∷◌, ◌++◌, length, get_or, drop, is_some, Option, Some, None, refl, sym, ap}
+use Rattle.std.proofs.Common.{◌∙◌, arith, inl, inr}
 use Rattle.std.specs.List.{flat_map, AllByRecursion}
 use Rattle.std.specs.Option.{SomeIff}
 use Rattle.std.specs.Int.{div_ceil}
@@ -12,8 +11,7 @@ use Rattle.age_stanza.specs.declared.header.Stanza.{Stanza}
 use Rattle.age_stanza.specs.declared.header.Header.{Header}
 use Rattle.age_stanza.specs.Text.{base64_text}
 use Rattle.age_stanza.specs.inner.Lengths.{HasArguments, Leaves, IsHeaderLength}
-use Rattle.age_stanza.specs.Grammar.{line, version, in_lines, stanza_text, end_line, head_text}
-use Rattle.age_stanza.specs.Grammar.{IsStanza, HasText}
+use Rattle.age_stanza.specs.Grammar.{line, version, in_lines, stanza_text, end_line, head_text, IsStanza, HasText}
 use Rattle.age_stanza.proofs.LineLemmas.{length-in_lines}
 use Rattle.age_stanza.proofs.TextLemmas.{length-text}
 

@@ -1,11 +1,9 @@
 //! The argument line of a stanza.
 
-ghost use Rattle.std.specs.Prelude.{◌≡◌, ◌==◌, ◌≤◌, ◌++◌, ◌∷◌, [], length, true, false};
-ghost use Rattle.std.specs.Prelude.{IfOk, Some, None};
+ghost use Rattle.std.specs.Prelude.{◌≡◌, ◌==◌, ◌≤◌, ◌++◌, ◌∷◌, [], length, true, false, IfOk, Some, None};
 ghost use Rattle.std.specs.List.{position};
 ghost use Rattle.age_stanza.specs.Grammar.{IsArgument};
-ghost use Rattle.age_stanza.specs.inner.LineMachine.{arguments_from};
-ghost use Rattle.age_stanza.specs.inner.LineMachine.{arguments_of as spec_arguments_of};
+ghost use Rattle.age_stanza.specs.inner.LineMachine.{arguments_from, arguments_of as spec_arguments_of};
 
 use crate::argument::{Argument, Arguments};
 use crate::valid::is_argument;

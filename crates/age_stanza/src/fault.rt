@@ -5,40 +5,55 @@ ghost use Rattle.age_stanza.specs.Parsing.{head_fault_number, head_fault_place};
 
 use std::alloc::AllocError;
 use std::{error, fmt};
-use thiserror::Error;
 
 /// Why a header was refused. The value of each kind is its number in the list of all faults.
-#[derive(Clone, Copy, Debug, PartialEq, Eq, Error)]
+#[derive(Clone, Copy, Debug, PartialEq, Eq)]
 pub enum HeadKind {
     /// The first line isn't the version line.
-    #[error("not an age file")]
     NotAge = 1,
     /// The first line begins an armored file. Armor isn't read; it has to be removed first.
-    #[error("armored")]
     Armored = 2,
     /// A line after the version line or a whole stanza is neither a valid argument line nor begins
     /// with `---`.
-    #[error("bad stanza line")]
     BadStanzaLine = 3,
     /// A line of a body isn't canonical base64 of at most 64 characters.
-    #[error("bad body")]
     BadBody = 4,
     /// A line that begins with `---` isn't a valid end line.
-    #[error("bad end line")]
     BadEndLine = 5,
     /// The end line came before any stanza.
-    #[error("no stanza")]
     NoStanza = 6,
     /// The first [`HEAD_MAX`](crate::HEAD_MAX) bytes hold no whole header and no faulty line.
-    #[error("header too long")]
     HeadTooLong = 7,
     /// The input ended inside the header.
-    #[error("header cut")]
     HeadCut = 8,
     /// A growth of memory was refused.
-    #[error("out of memory")]
     Memory = 28,
 }
+
+impl HeadKind {
+    /// What is said of it.
+    fn text(&self) -> &'static str {
+        match self {
+            HeadKind::NotAge => "not an age file",
+            HeadKind::Armored => "armored",
+            HeadKind::BadStanzaLine => "bad stanza line",
+            HeadKind::BadBody => "bad body",
+            HeadKind::BadEndLine => "bad end line",
+            HeadKind::NoStanza => "no stanza",
+            HeadKind::HeadTooLong => "header too long",
+            HeadKind::HeadCut => "header cut",
+            HeadKind::Memory => "out of memory",
+        }
+    }
+}
+
+impl fmt::Display for HeadKind {
+    fn fmt<W: fmt::Write>(&self, f: &mut fmt::Formatter<W>) -> fmt::Result {
+        f.write_str(self.text())
+    }
+}
+
+impl error::Error for HeadKind {}
 
 impl HeadKind {
     /// The kind's number in the list of all faults.

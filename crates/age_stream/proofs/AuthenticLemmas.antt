@@ -1,15 +1,11 @@
 -- The payload of a writer, delivered as it is, meets the headline's premise.
-use Rattle.std.proofs.Common.{inl, ◌≡◌, ℕ, ◌<◌, ◌≤◌, ◌+◌, ◌*◌, refl, ap, sym, subst, ◌∙◌, List, []}
-use Rattle.std.proofs.Common.{◌∷◌, ◌++◌, length, take, drop, Bool, true, false, arith}
+use Rattle.std.proofs.Common.{inl, ◌≡◌, ℕ, ◌<◌, ◌≤◌, ◌+◌, ◌*◌, refl, ap, sym, subst, ◌∙◌, List, [], ◌∷◌, ◌++◌, length, take, drop, Bool, true, false, arith}
 use Rattle.std.specs.Prelude.{Option, Some, None, map}
 use Rattle.std.specs.List.{AllByRecursion}
 use Rattle.std.proofs.lemmas.List.{take_at, drop_at}
-use Rattle.age_chunk.specs.ChunkBoxes.{IsChunkBox, tag_length, clear_sealing, clear_opening}
-use Rattle.age_chunk.specs.ChunkBoxes.{clear_mark}
-use Rattle.age_chunk.specs.Payload.{nonce_bytes, chunk_limit, payload, chunk_count, last_index}
-use Rattle.age_chunk.specs.Payload.{last_chunk}
-use Rattle.age_stream.specs.Segment.{Segment, Standing, standing, standing_from, begin, fresh}
-use Rattle.age_stream.specs.Segment.{after_delivery}
+use Rattle.age_chunk.specs.ChunkBoxes.{IsChunkBox, tag_length, clear_sealing, clear_opening, clear_mark}
+use Rattle.age_chunk.specs.Payload.{nonce_bytes, chunk_limit, payload, chunk_count, last_index, last_chunk}
+use Rattle.age_stream.specs.Segment.{Segment, Standing, standing, standing_from, begin, fresh, after_delivery}
 use Rattle.age_stream.specs.Headline.{IsAuthentic, AreAuthentic, IsRest, IsUndamaged}
 use Rattle.age_chunk.specs.inner.ClearLaw.{clear_valid}
 use Rattle.age_stream.specs.Laws.{AreWhole, IsClosed, GivesBack}

@@ -1,12 +1,10 @@
 -- What one block gives, by what it opens to.
-use Rattle.std.proofs.Common.{◌≡◌, ℕ, ◌+◌, ◌<◌, ap, sym, ◌∙◌, List, [], ◌∷◌, length, take, Bool}
-use Rattle.std.proofs.Common.{true, false, arith}
+use Rattle.std.proofs.Common.{◌≡◌, ℕ, ◌+◌, ◌<◌, ap, sym, ◌∙◌, List, [], ◌∷◌, length, take, Bool, true, false, arith}
 use Rattle.std.specs.Prelude.{Option, Some, None, Ok, Err, if◌then◌else◌}
 use Rattle.std.proofs.lemmas.Bool.{lt-ltb, le-ltb}
 use Rattle.age_chunk.specs.Payload.{nonce_bytes, chunk_limit}
 use Rattle.age_stream.specs.Segment.{Outcome, unless_greatest, failed}
-use Rattle.age_stream.specs.inner.OpenerSteps.{one_block, after_front, after_last, at_block}
-use Rattle.age_stream.specs.inner.OpenerSteps.{IsTried}
+use Rattle.age_stream.specs.inner.OpenerSteps.{one_block, after_front, after_last, at_block, IsTried}
 use Rattle.age_stream.specs.declared.step.Status.TheVariants.{Open, LastSeen, Failed}
 use Rattle.age_stream.specs.declared.step.Status.{Status}
 use Rattle.age_stream.specs.declared.opener.OpenerState.{OpenerState}

@@ -1,6 +1,5 @@
 -- Facts about the chunks of a text.
-use Rattle.std.proofs.Common.{inl, inr, ◌≡◌, ℕ, zero, suc, ◌<◌, ◌≤◌, ◌+◌, ◌*◌, ◌-◌, ◌/◌, refl, ap}
-use Rattle.std.proofs.Common.{◌∙◌, List, [], ◌∷◌, ◌++◌, length, get_or, arith}
+use Rattle.std.proofs.Common.{inl, inr, ◌≡◌, ℕ, zero, suc, ◌<◌, ◌≤◌, ◌+◌, ◌*◌, ◌-◌, ◌/◌, refl, ap, ◌∙◌, List, [], ◌∷◌, ◌++◌, length, get_or, arith}
 use Rattle.std.specs.Prelude.{slice_get, Some, None}
 use Rattle.std.proofs.lemmas.List.{length-drop}
 use Rattle.std.specs.List.{enumerate_from}

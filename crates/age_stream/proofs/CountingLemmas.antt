@@ -1,6 +1,5 @@
 -- How many chunks were released, by the length of the text.
-use Rattle.std.proofs.Common.{◌≡◌, ℕ, suc, ◌<◌, ◌≤◌, ◌+◌, ◌*◌, ◌-◌, ◌/◌, refl, ap, sym, ◌∙◌, List}
-use Rattle.std.proofs.Common.{[], ◌∷◌, ◌++◌, length, take, drop, Bool, true, false, arith}
+use Rattle.std.proofs.Common.{◌≡◌, ℕ, suc, ◌<◌, ◌≤◌, ◌+◌, ◌*◌, ◌-◌, ◌/◌, refl, ap, sym, ◌∙◌, List, [], ◌∷◌, ◌++◌, length, take, drop, Bool, true, false, arith}
 use Rattle.std.specs.Prelude.{Option, Some, None, cond, nat_lt, slice_get}
 use Rattle.std.specs.Simd.{first_chunks}
 use Rattle.std.specs.List.{flat_map, AllByRecursion}
@@ -9,9 +8,7 @@ use Rattle.std.proofs.lemmas.Grind.{flat_map-append}
 use Rattle.std.proofs.Math.Nat.{le-div_iff_mul-le}
 use Rattle.age_chunk.specs.Payload.{nonce_bytes, chunk_limit}
 use Rattle.age_chunk.specs.ChunkBoxes.{IsChunkBox, tag_length}
-use Rattle.age_stream.specs.Segment.{Segment, Outcome, outcome, front_texts, text_then}
-use Rattle.age_stream.specs.Segment.{text_before_last, unless_greatest, whole_blocks, rest_bytes}
-use Rattle.age_stream.specs.Segment.{released}
+use Rattle.age_stream.specs.Segment.{Segment, Outcome, outcome, front_texts, text_then, text_before_last, unless_greatest, whole_blocks, rest_bytes, released}
 use Rattle.age_stream.specs.Laws.{IsCounted, counted_chunks}
 use Rattle.age_chunk.proofs.NonceLemmas.{nonce_bytes-length}
 use Rattle.age_stream.proofs.UndamagedLemmas.{all_full}

@@ -1,19 +1,16 @@
 -- If more room is asked for, more bytes than a tag has came.
-use Rattle.std.proofs.Common.{inl, inr, ◌≡◌, ℕ, ◌<◌, ◌≤◌, ◌+◌, ◌*◌, ◌/◌, refl, ap, sym, ◌∙◌, List}
-use Rattle.std.proofs.Common.{[], ◌∷◌, ◌++◌, length, take, drop, get_or, arith}
+use Rattle.std.proofs.Common.{inl, inr, ◌≡◌, ℕ, ◌<◌, ◌≤◌, ◌+◌, ◌*◌, ◌/◌, refl, ap, sym, ◌∙◌, List, [], ◌∷◌, ◌++◌, length, take, drop, get_or, arith}
 use Rattle.std.specs.Prelude.{Option, Result, Ok, Err, OnErr}
 use Rattle.std.specs.List.{flat_map}
 use Rattle.std.proofs.lemmas.Grind.{flat_map-append}
-use Rattle.std.proofs.lemmas.List.{length-append, length-drop, take-append-drop, append-nil}
-use Rattle.std.proofs.lemmas.List.{take_more}
+use Rattle.std.proofs.lemmas.List.{length-append, length-drop, take-append-drop, append-nil, take_more}
 use Rattle.std.proofs.lemmas.Bool.{cases_lt}
 use Rattle.std.proofs.Math.Nat.{div-mul-le_self}
 use Rattle.age_stream.specs.declared.step.Status.{Status}
 use Rattle.age_stream.specs.declared.step.Status.TheVariants.{Open, LastSeen, Done, Failed}
 use Rattle.age_stream.specs.declared.delivery.Delivery.{Delivery}
 use Rattle.age_stream.specs.declared.delivery.Delivery.TheVariants.{Piece, End, Restart}
-use Rattle.age_stream.specs.Segment.{Segment, Standing, standing, standing_from, begin}
-use Rattle.age_stream.specs.Segment.{after_delivery, with_piece, accepts}
+use Rattle.age_stream.specs.Segment.{Segment, Standing, standing, standing_from, begin, after_delivery, with_piece, accepts}
 use Rattle.age_stream.specs.Opener.{OpenerView, Stands, while_open, whole_text}
 use Rattle.age_stream.specs.Replay.{ReplayView, IsCramped, Replays, could_release, bytes_in}
 use Rattle.age_stream.proofs.SegmentLemmas.{by_test}

@@ -1,12 +1,10 @@
 -- The end of an opener's segment.
-use Rattle.std.proofs.Common.{◌≡◌, ℕ, ◌≤◌, ◌+◌, ap, sym, ◌∙◌, List, [], ◌++◌, length, take, Bool}
-use Rattle.std.proofs.Common.{true, false}
+use Rattle.std.proofs.Common.{◌≡◌, ℕ, ◌≤◌, ◌+◌, ap, sym, ◌∙◌, List, [], ◌++◌, length, take, Bool, true, false}
 use Rattle.std.specs.Prelude.{Option, Result, Ok, Err, MatchResult}
 use Rattle.std.specs.List.{flat_map}
 use Rattle.std.proofs.lemmas.List.{append-nil}
 use Rattle.std.proofs.lemmas.Grind.{flat_map-append}
-use Rattle.age_stream.specs.Segment.{Segment, Outcome, outcome, released, front_texts, whole_blocks}
-use Rattle.age_stream.specs.Segment.{rest_bytes, with_end}
+use Rattle.age_stream.specs.Segment.{Segment, Outcome, outcome, released, front_texts, whole_blocks, rest_bytes, with_end}
 use Rattle.age_stream.specs.inner.OpenerSteps.{status_ended, final_block, OpenerEndsAs, front_bytes}
 use Rattle.age_stream.specs.declared.opener.OpenerState.{OpenerState}
 use Rattle.age_chunk.specs.declared.fault.StreamFault.{StreamFault}

@@ -1,6 +1,5 @@
 -- A segment of no bytes.
-use Rattle.std.proofs.Common.{◌≡◌, ℕ, ◌<◌, ◌+◌, ◌*◌, ◌/◌, ap, ◌∙◌, List, [], length, drop, false}
-use Rattle.std.proofs.Common.{arith}
+use Rattle.std.proofs.Common.{◌≡◌, ℕ, ◌<◌, ◌+◌, ◌*◌, ◌/◌, ap, ◌∙◌, List, [], length, drop, false, arith}
 use Rattle.std.specs.Simd.{first_chunks}
 use Rattle.std.specs.Prelude.{Option}
 use Rattle.std.proofs.lemmas.Nat.{div-mul-add}

@@ -1,27 +1,21 @@
 -- How an outcome goes on when more bytes come.
-use Rattle.std.proofs.Common.{inl, inr, ◌≡◌, ℕ, zero, suc, ◌<◌, ◌≤◌, ◌+◌, ◌*◌, ◌-◌, ◌/◌, refl, ap}
-use Rattle.std.proofs.Common.{sym, subst, ◌∙◌, List, [], ◌∷◌, ◌++◌, length, take, drop}
+use Rattle.std.proofs.Common.{inl, inr, ◌≡◌, ℕ, zero, suc, ◌<◌, ◌≤◌, ◌+◌, ◌*◌, ◌-◌, ◌/◌, refl, ap, sym, subst, ◌∙◌, List, [], ◌∷◌, ◌++◌, length, take, drop}
 use Rattle.std.proofs.Common.{get_or, Bool, true, false, arith}
 use Rattle.std.specs.Prelude.{Option, Some, None, cond, nat_lt, ◌||◌, ◌&&◌, ◌==◌, slice_get, ◌⊎◌}
 use Rattle.std.specs.Simd.{first_chunks}
-use Rattle.std.proofs.lemmas.List.{length-append, length-drop, drop-append-le, drop-drop, drop_all}
-use Rattle.std.proofs.lemmas.List.{take_all, append-nil}
+use Rattle.std.proofs.lemmas.List.{length-append, length-drop, drop-append-le, drop-drop, drop_all, take_all, append-nil}
 use Rattle.std.proofs.lemmas.Bool.{cases_lt, lt-ltb, le-ltb}
 use Rattle.std.proofs.lemmas.Nat.{div-mul-add}
 use Rattle.std.proofs.Math.Nat.{div-mul-le_self, le-div_iff_mul-le}
 use Rattle.age_chunk.specs.Payload.{nonce_bytes}
-use Rattle.age_stream.specs.Segment.{Segment, Outcome, outcome, front_texts, text_then}
-use Rattle.age_stream.specs.Segment.{text_before_last, whole_blocks, rest_bytes, failed, with_piece}
+use Rattle.age_stream.specs.Segment.{Segment, Outcome, outcome, front_texts, text_then, text_before_last, whole_blocks, rest_bytes, failed, with_piece}
 use Rattle.age_stream.specs.Segment.{with_end}
-use Rattle.age_stream.specs.inner.OpenerSteps.{after_front, one_block, status_after, status_ended}
-use Rattle.age_stream.specs.inner.OpenerSteps.{at_block, final_block, after_last}
+use Rattle.age_stream.specs.inner.OpenerSteps.{after_front, one_block, status_after, status_ended, at_block, final_block, after_last}
 use Rattle.std.proofs.Math.Bool.{or-true, or-false}
 use Rattle.age_stream.specs.declared.step.Status.{Status}
 use Rattle.age_stream.specs.declared.step.Status.TheVariants.{Open}
-use Rattle.age_chunk.specs.declared.fault.StreamKind.TheVariants.{ChunkDamaged, ChunkCut, EmptyLast}
-use Rattle.age_chunk.specs.declared.fault.StreamKind.TheVariants.{Truncated, TooManyChunks}
-use Rattle.age_chunk.proofs.FirstChunkLemmas.{length-first_chunks, first_chunks_more}
-use Rattle.age_chunk.proofs.FirstChunkLemmas.{first_chunks-append}
+use Rattle.age_chunk.specs.declared.fault.StreamKind.TheVariants.{ChunkDamaged, ChunkCut, EmptyLast, Truncated, TooManyChunks}
+use Rattle.age_chunk.proofs.FirstChunkLemmas.{length-first_chunks, first_chunks_more, first_chunks-append}
 use Rattle.age_stream.proofs.ChunkLemmas.{slice_get-within, slice_get-past}
 use Rattle.age_stream.proofs.SegmentLemmas.{by_test}
 use Rattle.age_stream.proofs.TableLemmas.{outcome_of, verdict_at, by_blocks, length-front_texts}

@@ -1,20 +1,17 @@
 -- More bytes never take back what was released.
-use Rattle.std.proofs.Common.{◌≡◌, ℕ, ◌≤◌, ◌+◌, ◌*◌, refl, ap, sym, ◌∙◌, List, [], ◌∷◌, ◌++◌}
-use Rattle.std.proofs.Common.{length, Bool, true, false, arith}
+use Rattle.std.proofs.Common.{◌≡◌, ℕ, ◌≤◌, ◌+◌, ◌*◌, refl, ap, sym, ◌∙◌, List, [], ◌∷◌, ◌++◌, length, Bool, true, false, arith}
 use Rattle.std.specs.Prelude.{Option, Some, None, nat_lt, ◌==◌, ◌||◌, ◌&&◌, slice_get}
 use Rattle.std.specs.List.{flat_map}
 use Rattle.std.proofs.lemmas.Grind.{flat_map-append}
 use Rattle.std.proofs.lemmas.List.{append-nil, append_assoc, length-append}
 use Rattle.age_chunk.specs.Payload.{nonce_bytes}
-use Rattle.age_stream.specs.Segment.{Segment, Outcome, outcome, front_texts, whole_blocks}
-use Rattle.age_stream.specs.Segment.{rest_bytes, released, with_piece}
+use Rattle.age_stream.specs.Segment.{Segment, Outcome, outcome, front_texts, whole_blocks, rest_bytes, released, with_piece}
 use Rattle.age_stream.specs.inner.OpenerSteps.{after_last, at_block, final_block}
 use Rattle.age_stream.specs.Headline.{IsPrefixOf}
 use Rattle.age_stream.specs.declared.step.Status.{Status}
 use Rattle.age_stream.specs.declared.step.Status.TheVariants.{Open}
 use Rattle.age_stream.proofs.SegmentLemmas.{by_test}
-use Rattle.age_stream.proofs.GoingLemmas.{going, going_outcome, IsGoing, unended_piece, more_blocks}
-use Rattle.age_stream.proofs.GoingLemmas.{front_on, after_piece}
+use Rattle.age_stream.proofs.GoingLemmas.{going, going_outcome, IsGoing, unended_piece, more_blocks, front_on, after_piece}
 use Rattle.age_stream.proofs.TableLemmas.{verdict_at, by_blocks}
 use Rattle.age_chunk.specs.ChunkBoxes.{tag_length}
 

@@ -1,17 +1,14 @@
 -- What is held after a list of deliveries, if what opens is the writer's.
-use Rattle.std.proofs.Common.{inl, inr, ◌≡◌, ℕ, ◌<◌, ◌≤◌, ◌+◌, ◌*◌, refl, ap, sym, subst, ◌∙◌, List}
-use Rattle.std.proofs.Common.{[], ◌∷◌, ◌++◌, length, take, Bool, true, false, arith}
+use Rattle.std.proofs.Common.{inl, inr, ◌≡◌, ℕ, ◌<◌, ◌≤◌, ◌+◌, ◌*◌, refl, ap, sym, subst, ◌∙◌, List, [], ◌∷◌, ◌++◌, length, take, Bool, true, false, arith}
 use Rattle.std.specs.Prelude.{Option, cond, min, nat_lt, nat_le, map}
 use Rattle.std.specs.List.{flat_map, AllByRecursion}
 use Rattle.std.proofs.lemmas.List.{take-append-le, length-append, append-nil, append_assoc}
 use Rattle.std.proofs.lemmas.Bool.{ltb-true, leb-true, and_parts}
 use Rattle.age_chunk.specs.Payload.{chunk_limit, chunk_count}
 use Rattle.age_chunk.specs.ChunkBoxes.{IsChunkBox}
-use Rattle.age_stream.specs.Segment.{Segment, outcome, Standing, standing, standing_from}
-use Rattle.age_stream.specs.Segment.{after_delivery, begin, fresh, with_piece, with_end, text_held}
+use Rattle.age_stream.specs.Segment.{Segment, outcome, Standing, standing, standing_from, after_delivery, begin, fresh, with_piece, with_end, text_held}
 use Rattle.age_stream.specs.Segment.{accepts}
-use Rattle.age_stream.specs.Headline.{IsAuthentic, AreAuthentic, IsRight, IsPrefixOf, IsStart}
-use Rattle.age_stream.specs.Headline.{IsUndamaged}
+use Rattle.age_stream.specs.Headline.{IsAuthentic, AreAuthentic, IsRight, IsPrefixOf, IsStart, IsUndamaged}
 use Rattle.age_stream.specs.declared.step.Status.TheVariants.{Done}
 use Rattle.age_stream.proofs.PlaceLemmas.{in_place, low_within}
 use Rattle.age_stream.proofs.UndamagedLemmas.{rest_segment, rest_payload, rest_is_done}

@@ -1,6 +1,5 @@
 -- What a box does to a buffer in place.
-use Rattle.std.proofs.Common.{◌≡◌, ℕ, ◌≤◌, ap, ◌∙◌, List, ◌++◌, length, take, drop, Bool, true}
-use Rattle.std.proofs.Common.{false, arith}
+use Rattle.std.proofs.Common.{◌≡◌, ℕ, ◌≤◌, ap, ◌∙◌, List, ◌++◌, length, take, drop, Bool, true, false, arith}
 use Rattle.std.specs.Prelude.{Option, Some, None}
 use Rattle.std.specs.Bool.{OnTrue, OnFalse}
 use Rattle.std.specs.List.{refill}

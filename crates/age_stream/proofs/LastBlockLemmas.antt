@@ -1,6 +1,5 @@
 -- What is held when the input ends, tried as the last block: what comes of it, by the test that it meets first.
-use Rattle.std.proofs.Common.{◌≡◌, ℕ, ◌<◌, ◌≤◌, ap, sym, ◌∙◌, List, [], ◌∷◌, length, take, Bool}
-use Rattle.std.proofs.Common.{true, false, arith}
+use Rattle.std.proofs.Common.{◌≡◌, ℕ, ◌<◌, ◌≤◌, ap, sym, ◌∙◌, List, [], ◌∷◌, length, take, Bool, true, false, arith}
 use Rattle.std.specs.Prelude.{Option, Some, None, Ok, Err, nat_lt, ◌==◌, ◌&&◌}
 use Rattle.std.specs.List.{flat_map}
 use Rattle.std.proofs.lemmas.Bool.Decides.{nat_tests}
@@ -8,8 +7,7 @@ use Rattle.std.proofs.lemmas.List.{append-nil}
 use Rattle.age_chunk.specs.Payload.{nonce_bytes}
 use Rattle.age_chunk.specs.declared.fault.StreamFault.{StreamFault}
 use Rattle.age_chunk.specs.declared.fault.StreamKind.{StreamKind}
-use Rattle.age_chunk.specs.declared.fault.StreamKind.TheVariants.{ChunkDamaged, ChunkCut, EmptyLast}
-use Rattle.age_chunk.specs.declared.fault.StreamKind.TheVariants.{Truncated}
+use Rattle.age_chunk.specs.declared.fault.StreamKind.TheVariants.{ChunkDamaged, ChunkCut, EmptyLast, Truncated}
 use Rattle.age_stream.specs.Segment.{Outcome, failed}
 use Rattle.age_stream.specs.Opener.{held_bytes}
 use Rattle.age_stream.specs.inner.OpenerSteps.{final_block, after_last, OpenerEndsAs}

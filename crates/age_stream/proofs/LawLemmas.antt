@@ -1,21 +1,17 @@
 -- Public laws, each with its proof: what the proofs of other crates cite of this one. Each is a clause in `src/laws.rt`.
-use Rattle.std.proofs.Common.{◌≡◌, ℕ, suc, ◌+◌, ◌*◌, refl, ap, sym, ◌∙◌, List, [], ◌∷◌, ◌++◌}
-use Rattle.std.proofs.Common.{length, Bool, true, false, arith}
+use Rattle.std.proofs.Common.{◌≡◌, ℕ, suc, ◌+◌, ◌*◌, refl, ap, sym, ◌∙◌, List, [], ◌∷◌, ◌++◌, length, Bool, true, false, arith}
 use Rattle.std.specs.Prelude.{Option, nat_lt, map, slice_get}
 use Rattle.std.specs.List.{enumerate_from, AllByRecursion}
 use Rattle.std.specs.Simd.{first_chunks}
 use Rattle.std.proofs.lemmas.List.{length-append, length-drop, append-nil}
 use Rattle.std.proofs.lemmas.Grind.{flat_map-append}
 use Rattle.age_chunk.specs.ChunkBoxes.{IsChunkBox, tag_length}
-use Rattle.age_chunk.specs.Payload.{nonce_bytes, chunk_length, last_index, last_chunk, pair}
-use Rattle.age_chunk.specs.Payload.{sealed_before_last, block_bytes, payload}
-use Rattle.age_stream.specs.Segment.{Segment, Outcome, outcome, front_texts, whole_blocks}
-use Rattle.age_stream.specs.Segment.{rest_bytes, with_piece, with_end}
+use Rattle.age_chunk.specs.Payload.{nonce_bytes, chunk_length, last_index, last_chunk, pair, sealed_before_last, block_bytes, payload}
+use Rattle.age_stream.specs.Segment.{Segment, Outcome, outcome, front_texts, whole_blocks, rest_bytes, with_piece, with_end}
 use Rattle.age_stream.specs.inner.OpenerSteps.{status_after, status_ended}
 use Rattle.age_chunk.specs.declared.fault.StreamFault.{StreamFault}
 use Rattle.age_stream.specs.declared.step.Status.TheVariants.{Failed}
-use Rattle.age_stream.specs.Laws.{RestIsAuthentic, PiecesJoin, ReleasedGrows, ChunksAreCounted}
-use Rattle.age_stream.specs.Laws.{SealedGrows, FreshIsOpen, IsSettled, ClosedStays, EndCloses}
+use Rattle.age_stream.specs.Laws.{RestIsAuthentic, PiecesJoin, ReleasedGrows, ChunksAreCounted, SealedGrows, FreshIsOpen, IsSettled, ClosedStays, EndCloses}
 use Rattle.age_stream.specs.Laws.{ReleasedIsWritten, PayloadIsLonger, LengthsAreOne}
 use Rattle.age_chunk.proofs.NonceLemmas.{nonce_bytes-length}
 use Rattle.age_chunk.proofs.FirstChunkLemmas.{length-first_chunks}

@@ -1,22 +1,17 @@
 -- A step of an opener, for each segment that it was given.
-use Rattle.std.proofs.Common.{inl, inr, ◌≡◌, ℕ, ◌<◌, ◌≤◌, ◌+◌, ◌-◌, refl, ap, sym, subst, ◌∙◌, List}
-use Rattle.std.proofs.Common.{[], ◌∷◌, ◌++◌, length, take, drop, Bool, true, false}
+use Rattle.std.proofs.Common.{inl, inr, ◌≡◌, ℕ, ◌<◌, ◌≤◌, ◌+◌, ◌-◌, refl, ap, sym, subst, ◌∙◌, List, [], ◌∷◌, ◌++◌, length, take, drop, Bool, true, false}
 use Rattle.std.proofs.Common.{arith}
-use Rattle.std.specs.Prelude.{Option, Result, Ok, Err, IfOk, MatchResult, nat_lt, cond, ◌||◌}
-use Rattle.std.specs.Prelude.{if◌then◌else◌}
-use Rattle.std.proofs.lemmas.List.{append-nil, append_assoc, length-append, length-take}
-use Rattle.std.proofs.lemmas.List.{nil_from_length, take-append-drop, take_all}
+use Rattle.std.specs.Prelude.{Option, Result, Ok, Err, IfOk, MatchResult, nat_lt, cond, ◌||◌, if◌then◌else◌}
+use Rattle.std.proofs.lemmas.List.{append-nil, append_assoc, length-append, length-take, nil_from_length, take-append-drop, take_all}
 use Rattle.std.proofs.lemmas.Bool.{cases_lt}
 use Rattle.age_stream.specs.Segment.{Segment, Outcome, outcome, rest_bytes, with_piece}
-use Rattle.age_stream.specs.inner.OpenerSteps.{one_block, status_after, IsTried, TakesPart}
-use Rattle.age_stream.specs.inner.OpenerSteps.{TakesWhole, TakesNone}
+use Rattle.age_stream.specs.inner.OpenerSteps.{one_block, status_after, IsTried, TakesPart, TakesWhole, TakesNone}
 use Rattle.age_stream.specs.declared.opener.OpenerState.{OpenerState}
 use Rattle.age_chunk.specs.declared.fault.StreamFault.{StreamFault}
 use Rattle.age_stream.specs.declared.step.Status.{Status}
 use Rattle.age_stream.specs.declared.step.Status.TheVariants.{Open, LastSeen, Done, Failed}
 use Rattle.age_stream.specs.Opener.{Stands, given, handed, held_bytes, opener_view}
-use Rattle.age_stream.proofs.GoingLemmas.{going, going_part, going_whole, after_piece, unended_piece}
-use Rattle.age_stream.proofs.GoingLemmas.{IsGoing, IsWhole}
+use Rattle.age_stream.proofs.GoingLemmas.{going, going_part, going_whole, after_piece, unended_piece, IsGoing, IsWhole}
 use Rattle.age_chunk.specs.ChunkBoxes.{tag_length, text_length}
 
 never : true ≡ false → ⊥

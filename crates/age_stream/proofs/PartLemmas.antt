@@ -1,20 +1,17 @@
 -- A text has exactly one list of chunks, which is sealed chunk by chunk.
-use Rattle.std.proofs.Common.{inl, inr, ◌≡◌, ℕ, zero, suc, ◌<◌, ◌≤◌, ◌+◌, ◌*◌, ◌-◌, refl, ap, sym}
-use Rattle.std.proofs.Common.{◌∙◌, List, [], ◌∷◌, ◌++◌, length, take, drop, get_or, Bool}
+use Rattle.std.proofs.Common.{inl, inr, ◌≡◌, ℕ, zero, suc, ◌<◌, ◌≤◌, ◌+◌, ◌*◌, ◌-◌, refl, ap, sym, ◌∙◌, List, [], ◌∷◌, ◌++◌, length, take, drop, get_or, Bool}
 use Rattle.std.proofs.Common.{true, false, take-add, arith}
 use Rattle.std.specs.Prelude.{◌==◌}
 use Rattle.std.specs.List.{enumerate_from, flat_map, AllByRecursion}
 use Rattle.std.specs.Simd.{first_chunks}
 use Rattle.std.proofs.lemmas.Grind.{flat_map-append}
-use Rattle.std.proofs.lemmas.List.{length-append, length-drop, append-nil, take-append-drop}
-use Rattle.std.proofs.lemmas.List.{drop_at, get_or-map, length-map, get_or_append_left, length_push}
+use Rattle.std.proofs.lemmas.List.{length-append, length-drop, append-nil, take-append-drop, drop_at, get_or-map, length-map, get_or_append_left, length_push}
 use Rattle.std.proofs.lemmas.List.{get_or_push, nil_from_length}
 use Rattle.std.proofs.lemmas.List.FromFn.{length-enumerate_from, get_or-enumerate_from}
 use Rattle.std.proofs.lemmas.Bool.{cases_lt, eq-eqb, ne_eqb}
 use Rattle.std.proofs.lemmas.Nat.{mul-le}
 use Rattle.std.proofs.Math.Seq.{drop-nil}
-use Rattle.age_chunk.specs.Payload.{nonce_bytes, last_index, last_chunk, chunks, pair}
-use Rattle.age_chunk.specs.Payload.{sealed_before_last, sealed}
+use Rattle.age_chunk.specs.Payload.{nonce_bytes, last_index, last_chunk, chunks, pair, sealed_before_last, sealed}
 use Rattle.age_stream.specs.Laws.{AreChunks}
 use Rattle.age_chunk.proofs.FirstChunkLemmas.{length-first_chunks}
 use Rattle.age_stream.proofs.ChunkLemmas.{last_chunk_le}

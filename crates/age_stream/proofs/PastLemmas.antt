@@ -1,21 +1,17 @@
 -- A segment that starts past the end of the text.
-use Rattle.std.proofs.Common.{inl, inr, ◌≡◌, ◌≢◌, ℕ, ◌<◌, ◌≤◌, ◌+◌, ◌*◌, ◌-◌, ◌/◌, refl, sym, subst}
-use Rattle.std.proofs.Common.{List, [], ◌∷◌, length}
-use Rattle.std.proofs.Common.{get_or, Bool, true, false, arith}
+use Rattle.std.proofs.Common.{inl, inr, ◌≡◌, ◌≢◌, ℕ, ◌<◌, ◌≤◌, ◌+◌, ◌*◌, ◌-◌, ◌/◌, refl, sym, subst, List, [], ◌∷◌, length, get_or, Bool, true, false, arith}
 use Rattle.std.specs.Prelude.{Option, Some, None, ◌==◌, nat_lt, ◌&&◌, ◌||◌, slice_get}
 use Rattle.std.proofs.lemmas.Bool.{cases_lt}
 use Rattle.std.proofs.Math.Nat.{le-div_iff_mul-le}
 use Rattle.age_chunk.specs.ChunkBoxes.{IsChunkBox, tag_length}
 use Rattle.age_chunk.specs.Payload.{nonce_bytes, chunk_limit, chunk_count}
 use Rattle.age_chunk.proofs.FirstChunkLemmas.{length-first_chunks}
-use Rattle.age_stream.specs.Segment.{Segment, Outcome, outcome, text_before_last, text_then}
-use Rattle.age_stream.specs.Segment.{front_texts, whole_blocks, rest_bytes}
+use Rattle.age_stream.specs.Segment.{Segment, Outcome, outcome, text_before_last, text_then, front_texts, whole_blocks, rest_bytes}
 use Rattle.age_stream.specs.inner.OpenerSteps.{after_last, at_block, final_block}
 use Rattle.age_stream.specs.declared.step.Status.TheVariants.{Done}
 use Rattle.age_stream.specs.Headline.{IsWriters, IsAuthentic}
 use Rattle.age_stream.proofs.ChunkLemmas.{slice_get-within, slice_get-past}
-use Rattle.age_stream.proofs.SegmentLemmas.{IsChunk, writer_text, opens_before, by_test, tag_left}
-use Rattle.age_stream.proofs.SegmentLemmas.{empty_first}
+use Rattle.age_stream.proofs.SegmentLemmas.{IsChunk, writer_text, opens_before, by_test, tag_left, empty_first}
 use Rattle.age_stream.proofs.TableLemmas.{verdict_at, by_blocks}
 use Rattle.age_stream.proofs.TriedLemmas.{tried}
 

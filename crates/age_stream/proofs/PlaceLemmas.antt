@@ -1,9 +1,7 @@
 -- Each block in its place, if what opens is the writer's.
-use Rattle.std.proofs.Common.{inl, inr, ◌≡◌, ℕ, zero, suc, ◌<◌, ◌≤◌, ◌+◌, ◌*◌, ◌-◌, ◌/◌, refl, ap}
-use Rattle.std.proofs.Common.{sym, subst, ◌∙◌, List, [], ◌∷◌, ◌++◌, length, take, drop}
+use Rattle.std.proofs.Common.{inl, inr, ◌≡◌, ℕ, zero, suc, ◌<◌, ◌≤◌, ◌+◌, ◌*◌, ◌-◌, ◌/◌, refl, ap, sym, subst, ◌∙◌, List, [], ◌∷◌, ◌++◌, length, take, drop}
 use Rattle.std.proofs.Common.{get_or, Bool, true, false, arith, rules}
-use Rattle.std.specs.Prelude.{Option, Some, None, IsSome, Contains, ◌==◌, ◌&&◌, ◌||◌, nat_lt, cond}
-use Rattle.std.specs.Prelude.{map}
+use Rattle.std.specs.Prelude.{Option, Some, None, IsSome, Contains, ◌==◌, ◌&&◌, ◌||◌, nat_lt, cond, map}
 use Rattle.std.specs.Str.{bytes_eq}
 use Rattle.std.specs.List.{list_any, enumerate_from}
 use Rattle.std.specs.Simd.{first_chunks}
@@ -13,25 +11,18 @@ use Rattle.std.proofs.lemmas.List.Folds.{list_any_at, Any-from_list_any}
 use Rattle.std.proofs.lemmas.Bool.{cases_lt, lt-ltb, and_parts}
 use Rattle.std.proofs.lemmas.Bool.Decides.{nat_tests}
 use Rattle.age_chunk.specs.ChunkBoxes.{IsChunkBox, tag_length}
-use Rattle.age_chunk.specs.Payload.{nonce_bytes, chunk_limit, chunks, chunk_count, last_index}
-use Rattle.age_chunk.specs.Payload.{last_chunk, pair, sealed}
-use Rattle.age_stream.specs.Segment.{Segment, Outcome, outcome, block_at, text_before_last}
-use Rattle.age_stream.specs.Segment.{unless_greatest, text_then, front_texts, whole_blocks}
-use Rattle.age_stream.specs.Segment.{rest_bytes, failed}
+use Rattle.age_chunk.specs.Payload.{nonce_bytes, chunk_limit, chunks, chunk_count, last_index, last_chunk, pair, sealed}
+use Rattle.age_stream.specs.Segment.{Segment, Outcome, outcome, block_at, text_before_last, unless_greatest, text_then, front_texts, whole_blocks, rest_bytes}
+use Rattle.age_stream.specs.Segment.{failed}
 use Rattle.age_stream.specs.inner.OpenerSteps.{after_last, at_block, final_block}
 use Rattle.age_stream.specs.declared.step.Status.{Status}
 use Rattle.age_stream.specs.declared.step.Status.TheVariants.{Failed}
 use Rattle.age_chunk.specs.declared.fault.StreamKind.{StreamKind}
-use Rattle.age_chunk.specs.declared.fault.StreamKind.TheVariants.{ChunkDamaged, ChunkCut, EmptyLast}
-use Rattle.age_chunk.specs.declared.fault.StreamKind.TheVariants.{Truncated, Trailing}
-use Rattle.age_chunk.specs.declared.fault.StreamKind.TheVariants.{TooManyChunks}
-use Rattle.age_stream.specs.Headline.{IsWriters, IsAuthentic, sealed_as, compared, IsFirstWrong}
-use Rattle.age_stream.specs.Headline.{IsInPlace}
+use Rattle.age_chunk.specs.declared.fault.StreamKind.TheVariants.{ChunkDamaged, ChunkCut, EmptyLast, Truncated, Trailing, TooManyChunks}
+use Rattle.age_stream.specs.Headline.{IsWriters, IsAuthentic, sealed_as, compared, IsFirstWrong, IsInPlace}
 use Rattle.age_chunk.proofs.NonceLemmas.{nonce_bytes-length, nonce_bytes-flag}
 use Rattle.age_chunk.proofs.FirstChunkLemmas.{length-first_chunks, get_or-first_chunks}
-use Rattle.age_stream.proofs.SegmentLemmas.{by_test, tag_left, empty_first, writer_text}
-use Rattle.age_stream.proofs.SegmentLemmas.{next_within}
-use Rattle.age_stream.proofs.SegmentLemmas.{opens_before, front_carries, IsPair-from_Contains}
+use Rattle.age_stream.proofs.SegmentLemmas.{by_test, tag_left, empty_first, writer_text, next_within, opens_before, front_carries, IsPair-from_Contains}
 use Rattle.age_stream.proofs.GoingLemmas.{place, at_place, past_place}
 use Rattle.age_stream.proofs.TableLemmas.{rest_short}
 use Rattle.age_stream.proofs.TriedLemmas.{AreTried, tried}

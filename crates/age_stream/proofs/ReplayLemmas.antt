@@ -1,8 +1,6 @@
 -- A step of a replay.
-use Rattle.std.proofs.Common.{◌≡◌, ℕ, ◌<◌, ◌+◌, ◌*◌, refl, ap, sym, subst, ◌∙◌, List, [], ◌∷◌, ◌++◌}
-use Rattle.std.proofs.Common.{length, take, Bool, true, false, arith}
-use Rattle.std.specs.Prelude.{Result, Ok, Err, OnErr, Option, Some, None, cond, min, nat_lt, nat_le}
-use Rattle.std.specs.Prelude.{◌&&◌, ◌||◌}
+use Rattle.std.proofs.Common.{◌≡◌, ℕ, ◌<◌, ◌+◌, ◌*◌, refl, ap, sym, subst, ◌∙◌, List, [], ◌∷◌, ◌++◌, length, take, Bool, true, false, arith}
+use Rattle.std.specs.Prelude.{Result, Ok, Err, OnErr, Option, Some, None, cond, min, nat_lt, nat_le, ◌&&◌, ◌||◌}
 use Rattle.std.specs.List.{flat_map}
 use Rattle.std.specs.Borrow.{Bor}
 use Rattle.std.proofs.lemmas.Grind.{flat_map-append}
@@ -10,8 +8,7 @@ use Rattle.std.proofs.lemmas.List.{append-nil, append_assoc}
 use Rattle.std.proofs.lemmas.Bool.{lt-ltb}
 use Rattle.std.proofs.Math.Bool.{or-false}
 use Rattle.age_chunk.specs.Payload.{chunk_limit}
-use Rattle.age_stream.specs.Segment.{Segment, Outcome, outcome, released, Standing, with_piece}
-use Rattle.age_stream.specs.Segment.{with_end, text_held, accepts, after_delivery, fresh, standing}
+use Rattle.age_stream.specs.Segment.{Segment, Outcome, outcome, released, Standing, with_piece, with_end, text_held, accepts, after_delivery, fresh, standing}
 use Rattle.age_stream.specs.declared.delivery.Delivery.TheVariants.{End, Restart}
 use Rattle.age_stream.proofs.FreshLemmas.{fresh_outcome}
 use Rattle.age_stream.specs.Opener.{Stands, chunk_texts, chunk_bytes}

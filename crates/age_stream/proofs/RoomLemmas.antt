@@ -1,6 +1,5 @@
 -- How much room a text needs.
-use Rattle.std.proofs.Common.{◌≡◌, ℕ, ◌<◌, ◌≤◌, ◌+◌, ◌*◌, ◌-◌, ◌/◌, refl, ap, ◌∙◌, List, [], length}
-use Rattle.std.proofs.Common.{arith, Bool, true, false}
+use Rattle.std.proofs.Common.{◌≡◌, ℕ, ◌<◌, ◌≤◌, ◌+◌, ◌*◌, ◌-◌, ◌/◌, refl, ap, ◌∙◌, List, [], length, arith, Bool, true, false}
 use Rattle.std.specs.Prelude.{Option, Some, None, IfSome, IfNone, nat_lt, ◌&&◌}
 use Rattle.std.specs.Borrow.{Bor}
 use borrow.Author.Tests.{ltb-true}

@@ -1,16 +1,13 @@
 -- A step of a sealer, for each text that it was given.
-use Rattle.std.proofs.Common.{◌≡◌, ℕ, ◌<◌, ◌≤◌, ◌+◌, ap, sym, subst, ◌∙◌, List, [], ◌∷◌, ◌++◌}
-use Rattle.std.proofs.Common.{length, take, true, false, arith}
+use Rattle.std.proofs.Common.{◌≡◌, ℕ, ◌<◌, ◌≤◌, ◌+◌, ap, sym, subst, ◌∙◌, List, [], ◌∷◌, ◌++◌, length, take, true, false, arith}
 use Rattle.std.specs.Prelude.{Option, Some, None}
 use Rattle.std.proofs.lemmas.Bool.Decides.{nat_tests}
 use Rattle.std.proofs.lemmas.List.{append-nil, length-take}
 use Rattle.std.proofs.lemmas.Grind.{flat_map-append}
-use Rattle.age_chunk.specs.Payload.{nonce_bytes, last_index, last_chunk, sealed_before_last}
-use Rattle.age_chunk.specs.Payload.{block_bytes, pair, payload}
+use Rattle.age_chunk.specs.Payload.{nonce_bytes, last_index, last_chunk, sealed_before_last, block_bytes, pair, payload}
 use Rattle.age_stream.specs.Sealer.{SealerView, Holds, step_len}
 use Rattle.age_stream.specs.inner.SealerSteps.{block_or_none, IsStep, Grows, SealerCloses}
-use Rattle.age_stream.proofs.SealingLemmas.{grown_index, grown_chunk, grown_blocks, closed_index}
-use Rattle.age_stream.proofs.SealingLemmas.{closed_chunk, closed_blocks}
+use Rattle.age_stream.proofs.SealingLemmas.{grown_index, grown_chunk, grown_blocks, closed_index, closed_chunk, closed_blocks}
 
 -- no more is taken than came
 pub step_len_le : (m : ℕ) (held piece : List ℕ) → step_len m held piece ≤ length piece

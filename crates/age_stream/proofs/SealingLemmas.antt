@@ -1,18 +1,15 @@
 -- A step of a sealer, for each text that it was given.
-use Rattle.std.proofs.Common.{inl, inr, ◌≡◌, ℕ, suc, ◌<◌, ◌≤◌, ◌+◌, ◌*◌, ◌-◌, ◌/◌, ap, sym, ◌∙◌}
-use Rattle.std.proofs.Common.{List, [], ◌∷◌, ◌++◌, length, take, drop, false, arith}
+use Rattle.std.proofs.Common.{inl, inr, ◌≡◌, ℕ, suc, ◌<◌, ◌≤◌, ◌+◌, ◌*◌, ◌-◌, ◌/◌, ap, sym, ◌∙◌, List, [], ◌∷◌, ◌++◌, length, take, drop, false, arith}
 use Rattle.std.specs.Prelude.{map, ◌⊎◌}
 use Rattle.std.specs.List.{enumerate_from}
 use Rattle.std.specs.Simd.{first_chunks}
-use Rattle.std.proofs.lemmas.List.{length-append, length-drop, drop-append-le, take-append-le}
-use Rattle.std.proofs.lemmas.List.{append-nil, append_assoc, map-append, drop_at, take_all}
+use Rattle.std.proofs.lemmas.List.{length-append, length-drop, drop-append-le, take-append-le, append-nil, append_assoc, map-append, drop_at, take_all}
 use Rattle.std.proofs.lemmas.Grind.{flat_map-append}
 use Rattle.std.proofs.lemmas.Bool.{cases_lt}
 use Rattle.std.proofs.lemmas.Nat.{div-mul-add}
 use Rattle.std.proofs.Math.Nat.{div-mul-le_self}
 use Rattle.age_chunk.specs.Payload.{last_index, last_chunk, sealed_before_last, block_bytes, pair}
-use Rattle.age_chunk.proofs.FirstChunkLemmas.{first_chunks_more, first_chunks-append}
-use Rattle.age_chunk.proofs.FirstChunkLemmas.{length-first_chunks}
+use Rattle.age_chunk.proofs.FirstChunkLemmas.{first_chunks_more, first_chunks-append, length-first_chunks}
 use Rattle.age_stream.proofs.ChunkLemmas.{last_chunk_le, enumerate_from_more}
 
 -- the last index, by its bounds

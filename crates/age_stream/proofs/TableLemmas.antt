@@ -1,22 +1,16 @@
 -- The table of an outcome, read by the block at which the segment stands.
-use Rattle.std.proofs.Common.{inl, inr, ◌≡◌, ℕ, zero, suc, ◌<◌, ◌≤◌, ◌+◌, ◌*◌, ◌/◌, refl, ap, sym}
-use Rattle.std.proofs.Common.{◌∙◌, List, [], ◌∷◌, ◌++◌, length, drop, get_or, Bool, true}
+use Rattle.std.proofs.Common.{inl, inr, ◌≡◌, ℕ, zero, suc, ◌<◌, ◌≤◌, ◌+◌, ◌*◌, ◌/◌, refl, ap, sym, ◌∙◌, List, [], ◌∷◌, ◌++◌, length, drop, get_or, Bool, true}
 use Rattle.std.proofs.Common.{false, arith}
-use Rattle.std.specs.Prelude.{Option, Some, None, is_some, is_none, cond, nat_lt, ◌||◌, ◌&&◌, ◌==◌}
-use Rattle.std.specs.Prelude.{slice_get}
+use Rattle.std.specs.Prelude.{Option, Some, None, is_some, is_none, cond, nat_lt, ◌||◌, ◌&&◌, ◌==◌, slice_get}
 use Rattle.std.proofs.lemmas.List.{length-drop, length-take, take_all}
 use Rattle.std.proofs.lemmas.Bool.{cases_lt, le-ltb, lt-ltb, eq-eqb}
 use Rattle.std.proofs.lemmas.Bool.Decides.{nat_tests}
 use Rattle.std.proofs.Math.Nat.{le-div_iff_mul-le}
 use Rattle.age_chunk.specs.Payload.{nonce_bytes}
-use Rattle.age_stream.specs.Segment.{Segment, Outcome, outcome, verdict, block_at, failed}
-use Rattle.age_stream.specs.Segment.{front_texts, text_then, text_before_last, whole_blocks}
-use Rattle.age_stream.specs.Segment.{rest_bytes}
+use Rattle.age_stream.specs.Segment.{Segment, Outcome, outcome, verdict, block_at, failed, front_texts, text_then, text_before_last, whole_blocks, rest_bytes}
 use Rattle.age_stream.specs.inner.OpenerSteps.{after_last, at_block, final_block}
 use Rattle.age_stream.specs.declared.step.Status.TheVariants.{LastSeen, Done}
-use Rattle.age_chunk.specs.declared.fault.StreamKind.TheVariants.{ChunkDamaged, ChunkCut, EmptyLast}
-use Rattle.age_chunk.specs.declared.fault.StreamKind.TheVariants.{Truncated, Trailing}
-use Rattle.age_chunk.specs.declared.fault.StreamKind.TheVariants.{TooManyChunks}
+use Rattle.age_chunk.specs.declared.fault.StreamKind.TheVariants.{ChunkDamaged, ChunkCut, EmptyLast, Truncated, Trailing, TooManyChunks}
 use Rattle.age_chunk.proofs.FirstChunkLemmas.{length-first_chunks, get_or-first_chunks}
 use Rattle.age_stream.proofs.ChunkLemmas.{slice_get-within, slice_get-past}
 use Rattle.age_chunk.specs.ChunkBoxes.{tag_length}

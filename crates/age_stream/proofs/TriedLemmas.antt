@@ -1,6 +1,5 @@
 -- What a segment tries, by its whole blocks and what is left after them.
-use Rattle.std.proofs.Common.{inl, inr, ◌≡◌, ℕ, ◌<◌, ◌≤◌, ◌+◌, ◌*◌, ◌/◌, refl, ap, sym, subst, ◌∙◌}
-use Rattle.std.proofs.Common.{List, [], length, drop, get_or, Bool, true, false, arith}
+use Rattle.std.proofs.Common.{inl, inr, ◌≡◌, ℕ, ◌<◌, ◌≤◌, ◌+◌, ◌*◌, ◌/◌, refl, ap, sym, subst, ◌∙◌, List, [], length, drop, get_or, Bool, true, false, arith}
 use Rattle.std.specs.Prelude.{nat_lt, not, ◌||◌, ◌&&◌, ◌==◌}
 use Rattle.std.proofs.lemmas.List.{length-drop, length-take, take_all}
 use Rattle.std.proofs.lemmas.Bool.{cases_lt, le-ltb, eq-eqb, ne_eqb}

@@ -1,25 +1,19 @@
 -- The writer's own payload, from any chunk on, opens to the end.
-use Rattle.std.proofs.Common.{inl, inr, ◌≡◌, ℕ, zero, suc, ◌<◌, ◌≤◌, ◌+◌, ◌*◌, ◌/◌, refl, ap, sym}
-use Rattle.std.proofs.Common.{subst, ◌∙◌, List, [], ◌∷◌, ◌++◌, length, take, drop, get_or}
+use Rattle.std.proofs.Common.{inl, inr, ◌≡◌, ℕ, zero, suc, ◌<◌, ◌≤◌, ◌+◌, ◌*◌, ◌/◌, refl, ap, sym, subst, ◌∙◌, List, [], ◌∷◌, ◌++◌, length, take, drop, get_or}
 use Rattle.std.proofs.Common.{Bool, true, false, arith}
-use Rattle.std.specs.Prelude.{Option, Some, None, cond, nat_lt, ◌||◌, ◌&&◌, ◌==◌, slice_get, map}
-use Rattle.std.specs.Prelude.{Contains, IsSome}
+use Rattle.std.specs.Prelude.{Option, Some, None, cond, nat_lt, ◌||◌, ◌&&◌, ◌==◌, slice_get, map, Contains, IsSome}
 use Rattle.std.specs.List.{enumerate_from, AllByRecursion}
 use Rattle.std.specs.Simd.{first_chunks}
 use Rattle.std.proofs.lemmas.Grind.{flat_map-append}
-use Rattle.std.proofs.lemmas.List.{length-append, length-drop, length-take, append-nil}
-use Rattle.std.proofs.lemmas.List.{append_assoc, get_or_at, take_at, drop_at, drop-drop}
-use Rattle.std.proofs.lemmas.List.{take_all, get_or-map, length-map, get_or_append_left}
-use Rattle.std.proofs.lemmas.List.{length_push, get_or_push, get_or-drop}
+use Rattle.std.proofs.lemmas.List.{length-append, length-drop, length-take, append-nil, append_assoc, get_or_at, take_at, drop_at, drop-drop, take_all}
+use Rattle.std.proofs.lemmas.List.{get_or-map, length-map, get_or_append_left, length_push, get_or_push, get_or-drop}
 use Rattle.std.proofs.lemmas.List.FromFn.{length-enumerate_from, get_or-enumerate_from}
 use Rattle.std.proofs.lemmas.Bool.{cases_lt, lt-ltb, le-ltb, eq-eqb, eqb-true, ltb-true, and_parts}
 use Rattle.std.proofs.lemmas.Nat.{div-mul-add, mul-le}
 use Rattle.std.proofs.Math.Nat.{add-mul-div_left}
 use Rattle.age_chunk.specs.ChunkBoxes.{IsChunkBox, tag_length}
-use Rattle.age_chunk.specs.Payload.{nonce_bytes, chunk_limit, last_index, last_chunk, chunk_count}
-use Rattle.age_chunk.specs.Payload.{pair, sealed_before_last, sealed, block_bytes, payload}
-use Rattle.age_stream.specs.Segment.{Segment, Outcome, outcome, front_texts, text_then}
-use Rattle.age_stream.specs.Segment.{unless_greatest, whole_blocks, rest_bytes}
+use Rattle.age_chunk.specs.Payload.{nonce_bytes, chunk_limit, last_index, last_chunk, chunk_count, pair, sealed_before_last, sealed, block_bytes, payload}
+use Rattle.age_stream.specs.Segment.{Segment, Outcome, outcome, front_texts, text_then, unless_greatest, whole_blocks, rest_bytes}
 use Rattle.age_stream.specs.inner.OpenerSteps.{at_block, final_block, after_last}
 use Rattle.age_stream.specs.Headline.{IsAuthentic, IsWriters}
 use Rattle.age_stream.specs.declared.step.Status.TheVariants.{Done}

@@ -1,6 +1,5 @@
 -- How much of a whole text's payload its blocks before the last are.
-use Rattle.std.proofs.Common.{◌≡◌, ℕ, ◌<◌, ◌≤◌, ◌+◌, ◌*◌, ◌-◌, ap, sym, ◌∙◌, List, ◌++◌, length}
-use Rattle.std.proofs.Common.{take, drop, take-add, take-append-drop, arith}
+use Rattle.std.proofs.Common.{◌≡◌, ℕ, ◌<◌, ◌≤◌, ◌+◌, ◌*◌, ◌-◌, ap, sym, ◌∙◌, List, ◌++◌, length, take, drop, take-add, take-append-drop, arith}
 use Rattle.std.specs.Prelude.{Option}
 use Rattle.std.proofs.lemmas.List.{take_rest, length-append}
 use Rattle.age_chunk.specs.ChunkBoxes.{IsChunkBox, tag_length}

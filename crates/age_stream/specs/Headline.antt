@@ -1,15 +1,13 @@
 -- When what is held is what was written: the premises of the headline, and the headline.
-use Rattle.std.specs.Prelude.{◌≡◌, ◌≢◌, ℕ, ◌+◌, ◌-◌, ◌<◌, Bool, false, ◌&&◌, List, [], ◌∷◌}
-use Rattle.std.specs.Prelude.{Contains, Some, None, if◌then◌else◌, ◌*◌, ◌≤◌, true, ◌++◌, length}
-use Rattle.std.specs.Prelude.{take, drop, IsSome, ◌⊎◌, map}
+use Rattle.std.specs.Prelude.{◌≡◌, ◌≢◌, ℕ, ◌+◌, ◌-◌, ◌<◌, Bool, false, ◌&&◌, List, [], ◌∷◌, Contains, Some, None}
+use Rattle.std.specs.Prelude.{if◌then◌else◌, ◌*◌, ◌≤◌, true, ◌++◌, length, take, drop, IsSome, ◌⊎◌, map}
 use Rattle.std.specs.Str.{bytes_eq}
 use Rattle.std.specs.List.{AllByRecursion, flat_map}
 use Rattle.std.specs.Borrow.{Bor}
 use Rattle.age_chunk.specs.ChunkBoxes.{Seals, OpensBlock, tag_length}
 use Rattle.age_chunk.specs.Payload.{nonce_bytes, chunks, sealed, chunk_limit, payload, chunk_count}
 use Rattle.age_chunk.specs.declared.fault.StreamKind.TheVariants.{ChunkDamaged, TooManyChunks}
-use Rattle.age_stream.specs.Segment.{Segment, outcome, failed, block_at, stop, is_tried, standing}
-use Rattle.age_stream.specs.Segment.{accepts}
+use Rattle.age_stream.specs.Segment.{Segment, outcome, failed, block_at, stop, is_tried, standing, accepts}
 use Rattle.age_stream.specs.declared.delivery.Delivery.{Delivery}
 use Rattle.age_stream.specs.declared.delivery.Delivery.TheVariants.{Piece, End, Restart}
 use Rattle.age_stream.specs.declared.step.Status.{Status}

@@ -1,10 +1,9 @@
 //! Laws over the definitions, for the layers above.
-ghost use Rattle.age_stream.specs.Laws.{ChunksAreCounted, ClosedStays, EndCloses, FreshIsOpen};
-ghost use Rattle.age_stream.specs.Laws.{NoncesDiffer, PayloadIsLonger, PiecesJoin, ReleasedGrows};
-ghost use Rattle.age_stream.specs.Laws.{ReleasedIsWritten, SealedGrows, SealingsDiffer};
-ghost use Rattle.age_stream.specs.Laws.{ClearIsSealable, RestIsAuthentic, PayloadRoundTrip};
-ghost use Rattle.age_stream.specs.Laws.{UndamagedIsAuthentic, WholeIsAuthentic, LengthsAreOne};
-ghost use Rattle.age_stream.specs.Laws.{ChunksAreOne, SealsChunks};
+ghost use Rattle.age_stream.specs.Laws.{ChunksAreCounted, ClosedStays, EndCloses, FreshIsOpen, NoncesDiffer};
+ghost use Rattle.age_stream.specs.Laws.{PayloadIsLonger, PiecesJoin, ReleasedGrows, ReleasedIsWritten, SealedGrows};
+ghost use Rattle.age_stream.specs.Laws.{SealingsDiffer, ClearIsSealable, RestIsAuthentic, PayloadRoundTrip};
+ghost use Rattle.age_stream.specs.Laws.{UndamagedIsAuthentic, WholeIsAuthentic, LengthsAreOne, ChunksAreOne};
+ghost use Rattle.age_stream.specs.Laws.{SealsChunks};
 
 /// No two chunks of a payload have the same nonce.
 pub fn nonces_differ()

@@ -1,6 +1,5 @@
 //! The writer's side: text in, sealed chunks out.
-ghost use Rattle.std.specs.Prelude.{◌≡◌, ℕ, ◌+◌, ◌<◌, ◌≤◌, List, [], ◌++◌, length};
-ghost use Rattle.std.specs.Prelude.{OnOk, None, IsNone, true, false};
+ghost use Rattle.std.specs.Prelude.{◌≡◌, ℕ, ◌+◌, ◌<◌, ◌≤◌, List, [], ◌++◌, length, OnOk, None, IsNone, true, false};
 ghost use Rattle.std.specs.Borrow.{sem};
 ghost use Rattle.std.specs.Io.BufRead.{Rests};
 ghost use Rattle.age_chunk.specs.ChunkBoxes.{tag_length, text_length};

@@ -1,14 +1,12 @@
 -- Bytes that are fed in pieces.
-use Rattle.std.proofs.Common.{◌≡◌, ℕ, ◌+◌, ◌-◌, List, [], ◌∷◌, ◌++◌, length, take, Ok, Err, sym, ap}
-use Rattle.std.proofs.Common.{subst, ◌∙◌, arith, inl, inr}
+use Rattle.std.proofs.Common.{◌≡◌, ℕ, ◌+◌, ◌-◌, List, [], ◌∷◌, ◌++◌, length, take, Ok, Err, sym, ap, subst, ◌∙◌, arith, inl, inr}
 use Rattle.std.proofs.lemmas.List.{append-nil, append_assoc, length-append, take-append-le}
 use Rattle.std.proofs.Math.Seq.{take-append-add}
 use Rattle.age_stanza.specs.declared.header.Header.{Header}
 use Rattle.age_stanza.specs.declared.head_step.HeadStep.TheVariants.{More, Ready}
 use Rattle.age_stanza.specs.declared.fault.HeadFault.{HeadFault}
 use Rattle.age_stanza.specs.Grammar.{HeadText}
-use Rattle.age_stanza.specs.Parsing.{HasHeader, IsFault, Parsing, reading, complete, FeedsParser}
-use Rattle.age_stanza.specs.Parsing.{Cuts}
+use Rattle.age_stanza.specs.Parsing.{HasHeader, IsFault, Parsing, reading, complete, FeedsParser, Cuts}
 use Rattle.age_stanza.proofs.AnyPiecesLemmas.{more_fault}
 use Rattle.age_vectors.specs.Header.{IsReported}
 

@@ -1,7 +1,6 @@
 // ChaCha20, Poly1305 and their AEAD. A constant named for a section is what RFC 8439 gives there; A
 // is its appendix.
-ghost use Rattle.std.specs.Prelude.{◌≡◌, ◌+◌, ◌*◌, ◌^◌, ◌≤◌, IsTrue, length};
-ghost use Rattle.std.specs.Prelude.{replicate};
+ghost use Rattle.std.specs.Prelude.{◌≡◌, ◌+◌, ◌*◌, ◌^◌, ◌≤◌, IsTrue, length, replicate};
 ghost use Rattle.age_cipher.specs.Keystream.{ciphertext};
 ghost use Rattle.age_cipher.specs.Poly1305.{poly1305};
 ghost use Rattle.age_cipher.specs.Aead.{block_limit, sealing};

@@ -12,10 +12,10 @@ use Rattle.age_file.specs.declared.decryption.Done.{Done}
 use Rattle.age_file.specs.declared.decryption.Stopped.{Stopped}
 use Rattle.age_file.specs.declared.encryption.Written.{Written}
 use Rattle.age_fileset.specs.FileSet.{Closed, FilesView}
-use Rattle.age_ending.specs.Endings.{is_usage}
-use Rattle.age_ending.specs.declared.ending.Ending.{Ending}
-use Rattle.age_identity.specs.Orders.{Follows, replacing}
-use Rattle.age_identity.specs.Files.{SparesBut, SparesBoth}
+use Rattle.age_command.specs.Endings.{is_usage}
+use Rattle.age_command.specs.declared.ending.Ending.{Ending}
+use Rattle.age_command.specs.Orders.{Follows, replacing}
+use Rattle.age_command.specs.Files.{SparesBut, SparesBoth}
 use Rattle.age_cli.specs.Acts.{EndsOf}
 use Rattle.age_cli.specs.declared.interruption.Interruption.{Interruption}
 

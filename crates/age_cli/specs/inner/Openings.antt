@@ -10,10 +10,10 @@ use Rattle.age_fileset.specs.FileSet.{Event, FilesView}
 use Rattle.age_cli_args.specs.Requests.{option_text}
 use Rattle.age_cli_args.specs.declared.request.Decrypting.{Decrypting}
 use Rattle.age_cli_args.specs.declared.request.Encrypting.{Encrypting}
-use Rattle.age_ending.specs.Endings.{EndsEarly, RefusesAtOnce, is_usage}
-use Rattle.age_ending.specs.declared.ending.Ending.{Ending}
-use Rattle.age_identity.specs.Files.{Files, HasReason}
-use Rattle.age_identity.specs.Orders.{Follows, random_name}
+use Rattle.age_command.specs.Endings.{EndsEarly, RefusesAtOnce, is_usage}
+use Rattle.age_command.specs.declared.ending.Ending.{Ending}
+use Rattle.age_command.specs.Files.{Files, HasReason}
+use Rattle.age_command.specs.Orders.{Follows, random_name}
 use Rattle.age_cli.specs.declared.encrypt_command.Material.{Material}
 
 -- ---- The names of the files that are read.

@@ -2,8 +2,9 @@
 use Rattle.std.specs.Prelude.{◌≡◌, ◌≢◌, ◌⊎◌, ℕ, Bool, true, List, Option, Some, is_some, None}
 use Rattle.std.specs.Prelude.{Result, Err, IfOk, IfErr, IsErrAnd, IsSomeAnd, if◌then◌else◌}
 use Rattle.age_io.specs.Io.{SourceView, SinkView}
-use Rattle.age_file.specs.Decrypts.{IsFoundAgain, DecryptEnds, DecryptStops}
-use Rattle.age_file.specs.Resumes.{IsOldText, IsFoundFrom, resume_ports, ResumeEnds, ResumeStops}
+use Rattle.age_file.specs.Again.{IsTextBefore, IsFoundAgain}
+use Rattle.age_file.specs.Decrypts.{DecryptEnds, DecryptStops}
+use Rattle.age_file.specs.Resumes.{resume_ports, ResumeEnds, ResumeStops}
 use Rattle.age_file.specs.Runs.{Ports, ports, Run}
 use Rattle.age_file.specs.declared.decryption.Done.{Done}
 use Rattle.age_file.specs.declared.decryption.Stopped.{Stopped}
@@ -14,20 +15,18 @@ use Rattle.age_fileset.specs.FileSet.{FilesView}
 use Rattle.age_cli_args.specs.Requests.{option_text}
 use Rattle.age_cli_args.specs.declared.request.Decrypting.{Decrypting}
 use Rattle.age_cli_args.specs.declared.request.ProgressOption.TheVariants.{Silent, Shown}
-use Rattle.age_ending.specs.declared.ending.Ending.{Ending}
-use Rattle.age_identity.specs.Identities.{allows_by, refuses_by}
-use Rattle.age_identity.specs.declared.identity.Identity.{Identity}
+use Rattle.age_command.specs.declared.ending.Ending.{Ending}
+use Rattle.age_command.specs.Identities.{allows_by, refuses_by}
+use Rattle.age_command.specs.declared.identity.Identity.{Identity}
 use Rattle.age_cli.specs.Acts.{kept_for}
 use Rattle.age_cli.specs.inner.Endings.{Concludes, opening_end}
 
 -- that of a run over these bytes, by this key, which wrote this many bytes; of one that began from a
 -- position, whatever old text it has
 abbrev pub IsFoundIn : Option Position → Option (List ℕ) → List ℕ → ℕ → Position → Type 0
-IsFoundIn None bytes key written p = (old : SourceView) × (new : SourceView)
-    × (old.remaining ≡ bytes) × IsFoundAgain (λ _ k. k ≡ key) old new written p
-IsFoundIn (Some from) bytes key written p = (old : SourceView) × (new : SourceView)
-    × (old.remaining ≡ bytes) × ((copied : List ℕ) → IsOldText from copied
-    → IsFoundFrom (λ _ k. k ≡ key) from copied old new written p)
+IsFoundIn from bytes key written p = (old : SourceView) × (new : SourceView)
+    × (old.remaining ≡ bytes) × ((copied : List ℕ) → IsTextBefore from copied
+    → IsFoundAgain (λ _ k. k ≡ key) from copied old new written p)
 
 -- a stop, had positions been kept
 abbrev pub stopped_at : Stopped → Position → Stopped

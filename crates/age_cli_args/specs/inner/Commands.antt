@@ -8,8 +8,7 @@ use Rattle.clap.specs.declared.builder.command.Command.{Command}
 use Rattle.age_cli_args.specs.Commands.{option_rule, required_rule, number_rule, flag_rule}
 use Rattle.age_cli_args.specs.declared.commands.Argument.{Argument}
 use Rattle.age_cli_args.specs.declared.commands.Given.{Given}
-use Rattle.age_cli_args.specs.declared.commands.Given.TheVariants.{Value, File, Number, Flag}
-use Rattle.age_cli_args.specs.declared.commands.Given.TheVariants.{Operand, Word}
+use Rattle.age_cli_args.specs.declared.commands.Given.TheVariants.{Value, File, Number, Flag, Operand, Word}
 use Rattle.age_cli_args.specs.declared.commands.Subcommand.{Subcommand}
 
 -- some option of the command reaches its subcommands

@@ -15,9 +15,8 @@ use Rattle.age_keys.specs.Keys.{Opens}
 use Rattle.age_io.specs.Io.{SourceView}
 use Rattle.age_fault.specs.Faults.{HasFailed}
 use Rattle.age_fault.specs.declared.fault.FileFault.{FileFault}
-use Rattle.age_fault.specs.declared.fault.FileFault.TheVariants.{NonceCut, Read, ReadNeverEnds}
-use Rattle.age_fault.specs.declared.fault.FileFault.TheVariants.{Stream, ShortText, Write}
-use Rattle.age_fault.specs.declared.fault.FileFault.TheVariants.{OldTextDiffers}
+use Rattle.age_fault.specs.declared.fault.FileFault.TheVariants.{NonceCut, Read, ReadNeverEnds, Stream, ShortText}
+use Rattle.age_fault.specs.declared.fault.FileFault.TheVariants.{Write, OldTextDiffers}
 use Rattle.age_file.specs.Bindings.{file_id, chain}
 use Rattle.age_file.specs.inner.Readers.{ReaderView, Pulled, PullFails, reader_view, WriterView}
 use Rattle.age_file.specs.Runs.{pull_room}

@@ -1,12 +1,5 @@
 -- How a decryption ends, around its payload. Private: no public contract cites this module.
 use Rattle.std.specs.Prelude.{ℕ, List, [], Option, ◌≡◌, Some, None, IsSomeAnd, Result, Ok, Err}
-use Rattle.std.specs.Prelude.{IfSome, OnOk, true}
-use Rattle.std.specs.Io.KnownBytes.{Appends}
-use Rattle.age_io.specs.Io.{SinkView}
-use Rattle.age_stanza.specs.declared.header.Header.{Header}
-use Rattle.age_keys.specs.declared.fault.KeyFault.{KeyFault}
-use Rattle.age_file.specs.Runs.{Ports, ports}
-use Rattle.age_file.specs.Resumes.{DecryptsRest}
 use Rattle.age_cipher.specs.Aead.{sealing, opening}
 use Rattle.age_chunk.specs.Payload.{chunk_length}
 use Rattle.age_keys.specs.Keys.{payload_key, position_key}
@@ -60,26 +53,3 @@ pub record OpensPayload (unlocked : Unlocked) (start : ℕ) (old new : Stage)
       start old new run
   -- the answer is how it ended
   pub ended : EndsAs unlocked new.writer.tally run result
-
--- ---- What a second reading did from a position on.
-
--- a sink that shows no bytes
-abbrev pub unseen : SinkView → SinkView
-unseen s = record {
-  taken = None;
-  failed = s.failed;
-  failing = s.failing;
-  label = s.label;
-  settled = s.settled;
-}
-
-abbrev pub unseen_ports : Ports → Ports
-unseen_ports p = ports p.source (unseen p.sink)
-
--- a second reading decrypted the rest after this old text; its sink took that rest alone
-pub record ReadsRest (Allows : Header → List ℕ → Type 0) (Refused : Header → KeyFault → Type 0)
-    (p : Position) (copied : List ℕ) (old new : Ports) (result : Result Done Stopped) : Type 0 where
-  pub is : DecryptsRest Allows p copied Refused (unseen_ports old) (unseen_ports new) result
-  pub wrote : IfSome is.run (λ r. Appends old.sink.taken new.sink.taken r.out)
-  pub settled : OnOk result (new.sink.settled ≡ true)
-  pub named : new.sink.label ≡ old.sink.label

@@ -3,15 +3,13 @@ use Rattle.std.specs.Prelude.{◌≡◌, ℕ, List, ◌++◌, length, Result, Ma
 use Rattle.std.specs.Prelude.{◌<◌, ◌≤◌, [], IfOk, IfErr, OnOk, true, false}
 use Rattle.std.specs.Io.KnownBytes.{Appends, Consumes, IsAtEnd}
 use Rattle.age_stanza.specs.Grammar.{HeadText}
-use Rattle.age_chunk.specs.Payload.{chunk_limit, sealed_before_last, block_bytes, payload}
-use Rattle.age_chunk.specs.Payload.{chunk_count}
+use Rattle.age_chunk.specs.Payload.{chunk_limit, sealed_before_last, block_bytes, payload, chunk_count}
 use Rattle.age_stream.specs.Sealer.{SealerView, Holds, too_many}
 use Rattle.age_stream.specs.Headline.{IsPrefixOf}
 use Rattle.age_keys.specs.Scrypt.{scrypt_head}
 use Rattle.age_fault.specs.Faults.{HasFailed}
 use Rattle.age_fault.specs.declared.fault.FileFault.{FileFault}
-use Rattle.age_fault.specs.declared.fault.FileFault.TheVariants.{Write, Memory, Stream, Read}
-use Rattle.age_fault.specs.declared.fault.FileFault.TheVariants.{ReadNeverEnds}
+use Rattle.age_fault.specs.declared.fault.FileFault.TheVariants.{Write, Memory, Stream, Read, ReadNeverEnds}
 use Rattle.age_file.specs.Encrypts.{SecretView}
 use Rattle.age_file.specs.inner.Readers.{WriterView}
 use Rattle.age_file.specs.Runs.{IsByAllPulls, Ports, NoneFailed, ReadFailed, WriteFailed}

@@ -1,12 +1,10 @@
-use Rattle.std.proofs.Common.{◌≡◌, ◌+◌, ◌-◌, ◌*◌, ◌≤◌, ◌∙◌, ◌++◌, ◌⊎◌, inl, inr, ℕ, List, length}
-use Rattle.std.proofs.Common.{take, ap, sym, arith}
+use Rattle.std.proofs.Common.{◌≡◌, ◌+◌, ◌-◌, ◌*◌, ◌≤◌, ◌∙◌, ◌++◌, ◌⊎◌, inl, inr, ℕ, List, length, take, ap, sym, arith}
 use Rattle.std.specs.Int.{div_ceil}
 use Rattle.std.proofs.lemmas.Bool.{cases_lt}
 use Rattle.std.proofs.lemmas.Grind.{div_ceil_times}
 use Rattle.std.proofs.lemmas.List.{take_all}
 use Rattle.age_kdf.specs.Derivation.{pbkdf2_once}
-use Rattle.age_kdf.proofs.BlockLemmas.{joined, length-joined, length-pbkdf2_block, joined_more}
-use Rattle.age_kdf.proofs.BlockLemmas.{chunk_written}
+use Rattle.age_kdf.proofs.BlockLemmas.{joined, length-joined, length-pbkdf2_block, joined_more, chunk_written}
 use Rattle.age_kdf.proofs.pbkdf2_once.Goals as goal
 
 pub loop-i-init : goal.loop-i-init

@@ -7,14 +7,12 @@ use Rattle.age_chunk.specs.Payload.{nonce_bytes}
 use Rattle.age_chunk.specs.ChunkBoxes.{tag_length, Seals, OpensBlock, text_length}
 use Rattle.age_chunk.specs.declared.fault.StreamFault.{StreamFault}
 use Rattle.age_chunk.specs.declared.fault.StreamKind.{StreamKind}
-use Rattle.age_chunk.specs.declared.fault.StreamKind.TheVariants.{ChunkDamaged, ChunkCut, EmptyLast}
-use Rattle.age_chunk.specs.declared.fault.StreamKind.TheVariants.{Truncated, Trailing}
-use Rattle.age_chunk.specs.declared.fault.StreamKind.TheVariants.{TooManyChunks}
+use Rattle.age_chunk.specs.declared.fault.StreamKind.TheVariants.{ChunkDamaged, ChunkCut, EmptyLast, Truncated}
+use Rattle.age_chunk.specs.declared.fault.StreamKind.TheVariants.{Trailing, TooManyChunks}
 use Rattle.age_stream.specs.Segment.{Outcome, failed, first_line, text_before_last, Segment}
 use Rattle.age_stream.specs.Segment.{outcome, released, with_piece, with_end}
 use Rattle.age_stream.specs.Headline.{ReleasesWritten}
-use Rattle.age_stream.specs.Opener.{Stands, given, handed, has_failed, text_at_end, held_bytes}
-use Rattle.age_stream.specs.Opener.{opener_view}
+use Rattle.age_stream.specs.Opener.{Stands, given, handed, has_failed, text_at_end, held_bytes, opener_view}
 use Rattle.age_stream.specs.declared.opener.OpenerState.{OpenerState}
 use Rattle.age_stream.specs.declared.step.Status.{Status}
 use Rattle.age_stream.specs.declared.step.Status.TheVariants.{Open, LastSeen, Done, Failed}

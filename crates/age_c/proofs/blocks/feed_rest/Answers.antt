@@ -1,5 +1,4 @@
-use Rattle.std.proofs.Common.{sym, ap, subst, refl, ◌∙◌, arith, append-nil, List, ℕ, [], None, take}
-use Rattle.std.proofs.Common.{length, ◌≡◌}
+use Rattle.std.proofs.Common.{sym, ap, subst, refl, ◌∙◌, arith, append-nil, List, ℕ, [], None, take, length, ◌≡◌}
 use Rattle.std.proofs.lemmas.List.{take_all}
 use Rattle.age_stream.specs.Segment.{with_piece, outcome, released}
 use Rattle.age_stream.specs.Opener.{Stands}

@@ -3,17 +3,16 @@ use Rattle.age_file.specs.Runs.{ports}
 use Rattle.age_fileset.specs.FileSet.{Opened, Created}
 use Rattle.age_cli_args.specs.Requests.{option_text}
 use Rattle.age_cli_args.specs.declared.request.Request.TheVariants.{Decrypt}
-use Rattle.age_identity.specs.Orders.{identity_order, preparing, making}
-use Rattle.age_identity.specs.Files.{Files}
-use Rattle.age_identity.specs.Files.{SourceFails}
-use Rattle.age_ending.specs.declared.ending.Ending.{Ending}
-use Rattle.age_ending.specs.declared.ending.Ending.TheVariants.{Usage}
+use Rattle.age_command.specs.Orders.{identity_order, preparing, making}
+use Rattle.age_command.specs.Files.{Files, SourceFails}
+use Rattle.age_command.specs.declared.ending.Ending.{Ending}
+use Rattle.age_command.specs.declared.ending.Ending.TheVariants.{Usage}
 use Rattle.age_cli.specs.Acts.{paths_of}
 use Rattle.age_cli.proofs.CommandLemmas.{in_order, reason_at, found_by}
 use Rattle.age_cli.proofs.ReportLemmas.{unmade}
 use Rattle.age_cli.proofs.ActLemmas.{acts_early}
 use Rattle.age_cli.proofs.FinalLemmas.{Found, decrypt_acts}
-use Rattle.age_identity.proofs.EventLemmas.{longer, none_done, then_did, then_follows}
+use Rattle.age_command.proofs.EventLemmas.{longer, none_done, then_did, then_follows}
 use Rattle.age_cli.proofs.decrypt_command.decrypt_file.Goals as goal
 
 pub returns-in_err-choice-clause-acts : goal.returns-in_err-choice-clause-acts

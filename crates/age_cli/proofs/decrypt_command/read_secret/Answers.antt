@@ -1,10 +1,9 @@
 use Rattle.std.proofs.Common.{◌∙◌, refl, sym, true≢false}
-use Rattle.age_ending.specs.Endings.{EndsEarly}
-use Rattle.age_ending.specs.declared.ending.Ending.{Ending}
-use Rattle.age_ending.specs.inner.Endings.{ending_of}
-use Rattle.age_cli.proofs.CommandLemmas.{no_value, not_well, this_error, created_fault, opened_early}
-use Rattle.age_cli.proofs.CommandLemmas.{open_reason, streams_early, streams_reason}
-use Rattle.age_identity.proofs.EventLemmas.{followed, none_done}
+use Rattle.age_command.specs.Endings.{EndsEarly}
+use Rattle.age_command.specs.declared.ending.Ending.{Ending}
+use Rattle.age_command.specs.inner.Endings.{ending_of}
+use Rattle.age_cli.proofs.CommandLemmas.{no_value, not_well, this_error, created_fault, opened_early, open_reason, streams_early, streams_reason}
+use Rattle.age_command.proofs.EventLemmas.{followed, none_done}
 use Rattle.age_cli.proofs.decrypt_command.read_secret.Goals as goal
 
 pub returns-then-is_file_named_twice : goal.returns-then-is_file_named_twice

@@ -1,15 +1,14 @@
-use Rattle.std.proofs.Common.{◌∙◌, ◌∷◌, [], inr, refl, ap, sym, subst, true≢false, Some, None}
-use Rattle.std.proofs.Common.{Result, OnOk}
+use Rattle.std.proofs.Common.{◌∙◌, ◌∷◌, [], inr, refl, ap, sym, subst, true≢false, Some, None, Result, OnOk}
 use Rattle.std.specs.Io.KnownBytes.{IsAtEnd}
 use Rattle.age_file.specs.Runs.{ports}
 use Rattle.age_fileset.specs.FileSet.{Opened, Created}
 use Rattle.age_cli_args.specs.Requests.{option_text}
 use Rattle.age_cli_args.specs.declared.request.Request.TheVariants.{Encrypt}
-use Rattle.age_ending.specs.declared.ending.Ending.{Ending}
-use Rattle.age_ending.specs.declared.ending.Ending.TheVariants.{Usage}
-use Rattle.age_identity.specs.Orders.{making, random_name}
-use Rattle.age_identity.specs.Files.{Files, SourceFails}
-use Rattle.age_identity.proofs.EventLemmas.{longer, then_did, then_follows}
+use Rattle.age_command.specs.declared.ending.Ending.{Ending}
+use Rattle.age_command.specs.declared.ending.Ending.TheVariants.{Usage}
+use Rattle.age_command.specs.Orders.{making, random_name}
+use Rattle.age_command.specs.Files.{Files, SourceFails}
+use Rattle.age_command.proofs.EventLemmas.{longer, then_did, then_follows}
 use Rattle.age_cli.specs.Acts.{Paths}
 use Rattle.age_cli.proofs.CommandLemmas.{reason_at}
 use Rattle.age_cli.proofs.ReportLemmas.{unmade}

@@ -1,7 +1,7 @@
 use Rattle.std.proofs.Common.{sym, true≢false}
-use Rattle.age_ending.specs.Endings.{EndsEarly}
-use Rattle.age_ending.specs.declared.ending.Ending.{Ending}
-use Rattle.age_ending.specs.declared.ending.Ending.TheVariants.{Fault}
+use Rattle.age_command.specs.Endings.{EndsEarly}
+use Rattle.age_command.specs.declared.ending.Ending.{Ending}
+use Rattle.age_command.specs.declared.ending.Ending.TheVariants.{Fault}
 use Rattle.age_cli.proofs.CommandLemmas.{no_value, this_error, early_fault, source_reason}
 use Rattle.age_cli.proofs.encrypt_command.random_in.Goals as goal
 

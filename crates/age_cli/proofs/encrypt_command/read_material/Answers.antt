@@ -1,17 +1,16 @@
 use Rattle.std.proofs.Common.{◌∙◌, ◌++◌, ◌∷◌, [], refl, ap, sym, subst, inl, inr, true≢false}
 use Rattle.age_cli_args.specs.Requests.{option_text}
 use Rattle.age_fileset.specs.FileSet.{Opened}
-use Rattle.age_ending.specs.Endings.{EndsEarly}
-use Rattle.age_identity.specs.Files.{SourceFails}
-use Rattle.age_ending.specs.inner.Endings.{ending_of}
-use Rattle.age_ending.specs.declared.ending.Ending.{Ending}
-use Rattle.age_identity.specs.Orders.{random_name}
-use Rattle.age_identity.specs.Files.{Files}
+use Rattle.age_command.specs.Endings.{EndsEarly}
+use Rattle.age_command.specs.Files.{SourceFails}
+use Rattle.age_command.specs.inner.Endings.{ending_of}
+use Rattle.age_command.specs.declared.ending.Ending.{Ending}
+use Rattle.age_command.specs.Orders.{random_name}
+use Rattle.age_command.specs.Files.{Files}
 use Rattle.age_keys.specs.Scrypt.{IsAllowed}
 use Rattle.age_cli.specs.Commands.{IsRandomIn}
-use Rattle.age_cli.proofs.CommandLemmas.{no_value, not_well, this_error, created_fault}
-use Rattle.age_cli.proofs.CommandLemmas.{streams_early, streams_reason, reason_at}
-use Rattle.age_identity.proofs.EventLemmas.{followed, none_done, then_did}
+use Rattle.age_cli.proofs.CommandLemmas.{no_value, not_well, this_error, created_fault, streams_early, streams_reason, reason_at}
+use Rattle.age_command.proofs.EventLemmas.{followed, none_done, then_did}
 use Rattle.age_cli.proofs.encrypt_command.read_material.Goals as goal
 
 pub returns-then-names_out_twice : goal.returns-then-names_out_twice

@@ -1,8 +1,8 @@
 use Rattle.std.proofs.Common.{refl}
 use Rattle.age_keys.specs.Scrypt.{PassphraseIdentity}
-use Rattle.age_ending.specs.declared.ending.Ending.{Ending}
-use Rattle.age_ending.specs.declared.ending.Ending.TheVariants.{Usage}
-use Rattle.age_identity.specs.declared.identity.Identity.TheVariants.{ByPassphrase}
+use Rattle.age_command.specs.declared.ending.Ending.{Ending}
+use Rattle.age_command.specs.declared.ending.Ending.TheVariants.{Usage}
+use Rattle.age_command.specs.declared.identity.Identity.TheVariants.{ByPassphrase}
 use Rattle.age_cli.proofs.CommandLemmas.{this_error}
 use Rattle.age_cli.proofs.encrypt_command.read_pass.Goals as goal
 

@@ -1,11 +1,10 @@
 use Rattle.std.proofs.Common.{◌∙◌, ap, sym, true≢false}
 use Rattle.std.specs.Prelude.{is_some}
 use Rattle.std.proofs.lemmas.Result.{IfOk-weaker, IfErr-weaker}
-use Rattle.age_ending.specs.Endings.{EndsEarly}
-use Rattle.age_ending.specs.declared.ending.Ending.{Ending}
-use Rattle.age_ending.specs.inner.Endings.{ending_of}
-use Rattle.age_cli.proofs.CommandLemmas.{no_value, this_error, created_fault, last_missing}
-use Rattle.age_cli.proofs.CommandLemmas.{opened_early, open_reason, front_read}
+use Rattle.age_command.specs.Endings.{EndsEarly}
+use Rattle.age_command.specs.declared.ending.Ending.{Ending}
+use Rattle.age_command.specs.inner.Endings.{ending_of}
+use Rattle.age_cli.proofs.CommandLemmas.{no_value, this_error, created_fault, last_missing, opened_early, open_reason, front_read}
 use Rattle.age_cli.proofs.EncryptionLemmas.{too_few}
 use Rattle.age_cli.proofs.encrypt_command.read_random.Goals as goal
 

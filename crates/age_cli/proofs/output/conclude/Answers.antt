@@ -1,11 +1,11 @@
 use Rattle.std.proofs.Common.{◌∙◌, ◌∷◌, [], ap, sym, subst, Some}
 use Rattle.age_fileset.specs.FileSet.{Closed}
 use Rattle.age_cli_args.specs.Requests.{option_text}
-use Rattle.age_identity.specs.Orders.{replacing}
+use Rattle.age_command.specs.Orders.{replacing}
 use Rattle.age_cli.specs.inner.Endings.{Left}
 use Rattle.age_cli.proofs.CommandStopLemmas.{ends_from}
 use Rattle.age_cli.proofs.ReportLemmas.{announced_so}
-use Rattle.age_identity.proofs.EventLemmas.{followed, longer, then_follows}
+use Rattle.age_command.proofs.EventLemmas.{followed, longer, then_follows}
 use Rattle.age_cli.proofs.output.conclude.Goals as goal
 
 pub returns-in-Ok-clause-concludes : goal.returns-in-Ok-clause-concludes

@@ -1,11 +1,10 @@
 use Rattle.std.proofs.Common.{◌∙◌, ◌∷◌, refl, sym, []}
 use Rattle.age_fileset.specs.FileSet.{Created, Closed}
-use Rattle.age_ending.specs.Endings.{EndsEarly}
-use Rattle.age_ending.specs.inner.Endings.{ending_of}
-use Rattle.age_ending.specs.declared.ending.Ending.{Ending}
-use Rattle.age_cli.proofs.CommandLemmas.{no_value, not_well, this_error, an_error, created_early}
-use Rattle.age_cli.proofs.CommandLemmas.{created_fault, made_reason}
-use Rattle.age_identity.proofs.EventLemmas.{followed, then_did}
+use Rattle.age_command.specs.Endings.{EndsEarly}
+use Rattle.age_command.specs.inner.Endings.{ending_of}
+use Rattle.age_command.specs.declared.ending.Ending.{Ending}
+use Rattle.age_cli.proofs.CommandLemmas.{no_value, not_well, this_error, an_error, created_early, created_fault, made_reason}
+use Rattle.age_command.proofs.EventLemmas.{followed, then_did}
 use Rattle.age_cli.proofs.output.create_out.Goals as goal
 
 pub returns-in_err-out : goal.returns-in_err-out

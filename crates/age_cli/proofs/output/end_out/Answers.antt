@@ -1,6 +1,6 @@
 use Rattle.std.proofs.Common.{⊎_elim, inl, inr, refl, ap, sym, subst, false, None, Result}
 use Rattle.std.specs.Prelude.{IsOk}
-use Rattle.age_identity.specs.Files.{Files}
+use Rattle.age_command.specs.Files.{Files}
 use Rattle.age_cli.specs.declared.interruption.Interruption.{Interruption}
 use Rattle.age_cli.specs.inner.Endings.{Left}
 use Rattle.age_cli.proofs.CommandLemmas.{not_well, this_error}

@@ -1,5 +1,5 @@
 use Rattle.std.proofs.Common.{⊎_elim, inl, inr, ap}
-use Rattle.age_identity.specs.Files.{Files}
+use Rattle.age_command.specs.Files.{Files}
 use Rattle.age_cli.proofs.CommandLemmas.{either_way}
 use Rattle.age_cli.proofs.TakingLemmas.{took_none, took_some}
 use Rattle.age_cli.proofs.output.leave.Goals as goal

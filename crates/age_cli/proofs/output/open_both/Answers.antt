@@ -1,14 +1,13 @@
 use Rattle.std.proofs.Common.{◌∙◌, ◌++◌, ◌∷◌, [], refl, Some}
 use Rattle.age_fileset.specs.FileSet.{Opened, Created}
 use Rattle.age_cli_args.specs.Requests.{option_text}
-use Rattle.age_identity.specs.Orders.{preparing, making}
-use Rattle.age_ending.specs.Endings.{EndsEarly}
-use Rattle.age_identity.specs.Files.{SourceFails}
-use Rattle.age_ending.specs.declared.ending.Ending.{Ending}
-use Rattle.age_ending.specs.inner.Endings.{ending_of}
-use Rattle.age_cli.proofs.CommandLemmas.{no_value, not_well, this_error, an_error, created_fault}
-use Rattle.age_cli.proofs.CommandLemmas.{last_missing, opened_early, open_reason, reason_at}
-use Rattle.age_identity.proofs.EventLemmas.{followed, longer, then_did, then_follows}
+use Rattle.age_command.specs.Orders.{preparing, making}
+use Rattle.age_command.specs.Endings.{EndsEarly}
+use Rattle.age_command.specs.Files.{SourceFails}
+use Rattle.age_command.specs.declared.ending.Ending.{Ending}
+use Rattle.age_command.specs.inner.Endings.{ending_of}
+use Rattle.age_cli.proofs.CommandLemmas.{no_value, not_well, this_error, an_error, created_fault, last_missing, opened_early, open_reason, reason_at}
+use Rattle.age_command.proofs.EventLemmas.{followed, longer, then_did, then_follows}
 use Rattle.age_cli.proofs.output.open_both.Goals as goal
 
 pub returns-in_err-source : goal.returns-in_err-source

@@ -2,10 +2,8 @@ use Rattle.std.proofs.Common.{◌∙◌, ap, inl, inr, refl, sym, subst, Some, N
 use Rattle.std.proofs.lemmas.Result.{IfErr-weaker}
 use Rattle.clap.specs.Walk.{texts}
 use Rattle.age_cli_args.specs.Requests.{Requests}
-use Rattle.age_cli_args.specs.declared.request.Request.TheVariants.{Inspect, Encrypt, Decrypt}
-use Rattle.age_cli_args.specs.declared.request.Request.TheVariants.{Resume, Drill}
-use Rattle.age_cli.proofs.ObeyLemmas.{no_words, some_words, asked_fails, report_fault, for_help}
-use Rattle.age_cli.proofs.ObeyLemmas.{help_done, help_fails, both_done, drill_acts, inspect_acts}
+use Rattle.age_cli_args.specs.declared.request.Request.TheVariants.{Inspect, Encrypt, Decrypt, Resume, Drill}
+use Rattle.age_cli.proofs.ObeyLemmas.{no_words, some_words, asked_fails, report_fault, for_help, help_done, help_fails, both_done, drill_acts, inspect_acts}
 use Rattle.age_cli.proofs.ReportLemmas.{unmade}
 use Rattle.age_cli.proofs.program.obey.Goals as goal
 

@@ -1,7 +1,7 @@
 use Rattle.std.proofs.Common.{List, Option, ℕ, inl, inr, refl, subst}
 use Rattle.age_cli_args.specs.Requests.{option_text}
 use Rattle.age_cli.specs.inner.Rereadings.{IsFoundIn}
-use Rattle.age_identity.proofs.EventLemmas.{none_done}
+use Rattle.age_command.proofs.EventLemmas.{none_done}
 use Rattle.age_cli.proofs.RereadLemmas.{concludes_left, save_unfound, saves_is}
 use Rattle.age_cli.proofs.reread.conclude_again.Goals as goal
 

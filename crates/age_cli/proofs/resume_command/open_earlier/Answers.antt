@@ -2,10 +2,9 @@ use Rattle.std.proofs.Common.{◌∙◌, ◌∷◌, [], inl, refl, ap, sym, subs
 use Rattle.std.specs.Prelude.{is_some}
 use Rattle.age_fileset.specs.FileSet.{Opened}
 use Rattle.age_cli.specs.Commands.{old_for}
-use Rattle.age_identity.specs.Files.{Files}
-use Rattle.age_identity.specs.Files.{IsUnread, SourceFails}
+use Rattle.age_command.specs.Files.{Files, IsUnread, SourceFails}
 use Rattle.age_cli.proofs.CommandLemmas.{no_value, not_well, this_error, not_bad}
-use Rattle.age_identity.proofs.EventLemmas.{followed, then_did}
+use Rattle.age_command.proofs.EventLemmas.{followed, then_did}
 use Rattle.age_cli.proofs.resume_command.open_earlier.Goals as goal
 
 pub returns-in_err-position : goal.returns-in_err-position

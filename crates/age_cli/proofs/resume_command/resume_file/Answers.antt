@@ -1,25 +1,22 @@
-use Rattle.std.proofs.Common.{◌≡◌, ◌∙◌, ◌++◌, ◌∷◌, [], inl, inr, refl, ap, sym, subst, true≢false}
-use Rattle.std.proofs.Common.{Some}
+use Rattle.std.proofs.Common.{◌≡◌, ◌∙◌, ◌++◌, ◌∷◌, [], inl, inr, refl, ap, sym, subst, true≢false, Some}
 use Rattle.age_file.specs.Runs.{ports}
 use Rattle.age_fileset.specs.FileSet.{Opened, Created}
 use Rattle.age_cli_args.specs.Requests.{option_text}
 use Rattle.age_cli_args.specs.declared.request.Request.TheVariants.{Resume}
-use Rattle.age_identity.specs.Orders.{identity_order, preparing, making}
-use Rattle.age_identity.specs.Files.{Files}
-use Rattle.age_identity.specs.Files.{SourceFails}
-use Rattle.age_ending.specs.declared.ending.Ending.{Ending}
-use Rattle.age_ending.specs.declared.ending.Ending.TheVariants.{Usage}
-use Rattle.age_ending.specs.inner.Endings.{ending_of}
+use Rattle.age_command.specs.Orders.{identity_order, preparing, making}
+use Rattle.age_command.specs.Files.{Files, SourceFails}
+use Rattle.age_command.specs.declared.ending.Ending.{Ending}
+use Rattle.age_command.specs.declared.ending.Ending.TheVariants.{Usage}
+use Rattle.age_command.specs.inner.Endings.{ending_of}
 use Rattle.age_fault.specs.declared.fault.FileFault.TheVariants.{BadPosition}
 use Rattle.age_fileset.specs.declared.files.OpenFault.TheVariants as create
 use Rattle.age_cli.specs.Acts.{paths_of}
 use Rattle.age_cli.specs.Commands.{HoldsNoPosition}
 use Rattle.age_cli.proofs.ReportLemmas.{unmade}
 use Rattle.age_cli.proofs.ActLemmas.{acts_early}
-use Rattle.age_cli.proofs.CommandLemmas.{bad_position, in_order, position_fault, position_reason}
-use Rattle.age_cli.proofs.CommandLemmas.{reason_at, found_by}
+use Rattle.age_cli.proofs.CommandLemmas.{bad_position, in_order, position_fault, position_reason, reason_at, found_by}
 use Rattle.age_cli.proofs.FinalLemmas.{Found, WasEarlier, resume_acts}
-use Rattle.age_identity.proofs.EventLemmas.{longer, none_done, then_did, then_follows}
+use Rattle.age_command.proofs.EventLemmas.{longer, none_done, then_did, then_follows}
 use Rattle.age_cli.proofs.resume_command.resume_file.Goals as goal
 
 pub returns-in_err-choice-clause-acts : goal.returns-in_err-choice-clause-acts

@@ -1,5 +1,4 @@
-use Rattle.std.proofs.Common.{◌<◌, ◌≡◌, ◌-◌, ◌≤◌, ℕ, ◌+◌, length, take, drop, List, ◌++◌, ap, sym}
-use Rattle.std.proofs.Common.{subst, ◌∙◌, arith, take-add, min}
+use Rattle.std.proofs.Common.{◌<◌, ◌≡◌, ◌-◌, ◌≤◌, ℕ, ◌+◌, length, take, drop, List, ◌++◌, ap, sym, subst, ◌∙◌, arith, take-add, min}
 use Rattle.std.proofs.lemmas.List.{take_all, take_rest, length-take, length-drop}
 use Rattle.std.specs.Io.KnownBytes.{Appends}
 use Rattle.age_stream.specs.Sealer.{Holds, step_len}

@@ -14,7 +14,7 @@ returns-in_default-clause-decrypts g c =
     let old = ports (g.S.Source.view c.args.reader.now) (g.O.Sink.view c.args.writer.now) in
     let Allows = g.U.Unlock.allows c.args.unlock.now in
     let Refused = g.U.Unlock.refuses c.args.unlock.now in
-    rw c.early.ensures (stopped_early c.args.positions Allows Refused c.one_header.ensures old old
+    rw c.early.ensures (stopped_early c.args.positions Allows Refused old old
     Memory refl (stops_unread _))
 
 pub returns-in-Err-clause-decrypts : goal.returns-in-Err-clause-decrypts
@@ -24,7 +24,7 @@ returns-in-Err-clause-decrypts g c =
     (g.O.Sink.view c.args.writer.now) in
     let Allows = g.U.Unlock.allows c.args.unlock.now in
     let Refused = g.U.Unlock.refuses c.args.unlock.now in
-    let early = stopped_early c.args.positions Allows Refused c.one_header.ensures old new
+    let early = stopped_early c.args.positions Allows Refused old new
     c.in-Err.fault refl c.in-Err.ensures.fails in
     rw c.early-in-Err.ensures (read_last g.S.Source.view
     (λ v. DecryptsKeyed c.args.positions Allows Refused old
@@ -54,7 +54,7 @@ returns-clause-decrypts g c =
     (search rules) (search rules)
     (subst (λ (k : List ℕ). DecryptsKeyed c.args.positions Allows Refused before
     (ports new.reader.source new.writer.sink) c.open_payload-result.result (Some k)) given
-    (run_ended c.args.positions Allows Refused c.one_header.ensures first c.in-Ok-start.unlocked old
+    (run_ended c.args.positions Allows Refused first c.in-Ok-start.unlocked old
     new o.run c.open_payload-result.result
     c.in-Ok-start.ensures.found.unfailed o.decrypts.named o.decrypts.settled ran o.ended))
 

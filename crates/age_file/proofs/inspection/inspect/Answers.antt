@@ -4,8 +4,7 @@ use Rattle.std.specs.Io.KnownBytes.{Consumes, IsAtEnd}
 use Rattle.age_stanza.specs.declared.header.Header.{Header}
 use Rattle.age_stanza.specs.Grammar.{HeadText}
 use Rattle.age_file.specs.Runs.{InHeader, NoHeadFault, StopsAtHeader, HeadFails}
-use Rattle.age_file.specs.inner.Readers.{Pulled, PullFails, RestFails, ReaderView, reader_view}
-use Rattle.age_file.specs.inner.Readers.{view_of_reader}
+use Rattle.age_file.specs.inner.Readers.{Pulled, PullFails, RestFails, ReaderView, reader_view, view_of_reader}
 use Rattle.age_io.specs.Io.{SourceView}
 use Rattle.age_file.specs.inner.Unread.{Unread}
 use Rattle.age_fault.specs.declared.fault.FileFault.{FileFault}

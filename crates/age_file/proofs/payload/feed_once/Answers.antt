@@ -1,6 +1,4 @@
-use Rattle.std.proofs.Common.{length, ◌∙◌, ◌++◌, Some, None, List, ℕ, ap, ◌≡◌, take, drop, sym}
-use Rattle.std.proofs.Common.{arith, []}
-use Rattle.std.proofs.Common.{append-nil, refl, inl}
+use Rattle.std.proofs.Common.{length, ◌∙◌, ◌++◌, Some, None, List, ℕ, ap, ◌≡◌, take, drop, sym, arith, [], append-nil, refl, inl}
 use Rattle.std.proofs.lemmas.Result.{err_from_is_err_and}
 use Rattle.std.proofs.lemmas.List.{take-append-drop}
 use Rattle.std.proofs.KnownBytes.{Appends-nil}
@@ -8,8 +6,7 @@ use Rattle.age_stream.specs.Segment.{with_piece}
 use Rattle.age_file.specs.inner.Decrypts.{opens, seals}
 use Rattle.age_keys.specs.inner.PayloadBox.{box_valid}
 use Rattle.age_file.specs.inner.Readers.{writer_view, view_of_writer}
-use Rattle.age_file.proofs.ReleaseLemmas.{more_text, fed_front, goes_front, counts_whole}
-use Rattle.age_file.proofs.ReleaseLemmas.{counts_refused, counts_cut}
+use Rattle.age_file.proofs.ReleaseLemmas.{more_text, fed_front, goes_front, counts_whole, counts_refused, counts_cut}
 use Rattle.age_chunk.specs.Payload.{chunk_length}
 use Rattle.age_file.proofs.payload.feed_once.Goals as goal
 

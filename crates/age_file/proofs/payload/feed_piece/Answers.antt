@@ -1,8 +1,6 @@
-use Rattle.std.proofs.Common.{◌≡◌, ◌+◌, ◌-◌, length, take, drop, sym, ap, ◌∙◌, arith, List, ℕ, []}
-use Rattle.std.proofs.Common.{◌++◌, append-nil, refl, take-add}
+use Rattle.std.proofs.Common.{◌≡◌, ◌+◌, ◌-◌, length, take, drop, sym, ap, ◌∙◌, arith, List, ℕ, [], ◌++◌, append-nil, refl, take-add}
 use Rattle.std.proofs.lemmas.Result.{err_from_is_err_and}
-use Rattle.std.proofs.lemmas.List.{take_rest, take-append-drop, length-append, length-drop}
-use Rattle.std.proofs.lemmas.List.{append_assoc, take_at, take_all}
+use Rattle.std.proofs.lemmas.List.{take_rest, take-append-drop, length-append, length-drop, append_assoc, take_at, take_all}
 use Rattle.age_file.specs.inner.Decrypts.{opens}
 use Rattle.age_file.proofs.ReleaseLemmas.{both_then, releases_none, releases_then, fails_then}
 use Rattle.age_file.specs.inner.Readers.{view_of_writer}

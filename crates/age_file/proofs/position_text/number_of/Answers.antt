@@ -1,7 +1,6 @@
 use Rattle.std.proofs.Common.{◌≡◌, sym, ap, ◌∙◌, arith}
 use Rattle.std.proofs.lemmas.Result.{MatchResult-at_ok, MatchResult-at_err}
-use Rattle.age_file.proofs.PositionTextLemmas.{decimal_reads, read_as, never_refused, never_differs}
-use Rattle.age_file.proofs.PositionTextLemmas.{was_ok, was_err}
+use Rattle.age_file.proofs.PositionTextLemmas.{decimal_reads, read_as, never_refused, never_differs, was_ok, was_err}
 use Rattle.std.specs.Fmt.{decimal}
 use Rattle.age_file.proofs.position_text.number_of.Goals as goal
 use Rattle.age_file.proofs.position_text.number_of.Goals.{else-index-lt-CHUNK_LIMIT-via-then-index-lt-CHUNK_LIMIT+else-eq}

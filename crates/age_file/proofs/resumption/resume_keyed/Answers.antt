@@ -1,14 +1,12 @@
 use Rattle.std.proofs.Common.{None, refl, rules, Err}
 use Rattle.age_fault.specs.declared.fault.FileFault.TheVariants.{Memory}
-use Rattle.age_file.specs.inner.Readers.{reader_view, writer_view, stage, view_of_reader}
-use Rattle.age_file.specs.inner.Readers.{view_of_writer, stage_of}
+use Rattle.age_file.specs.inner.Readers.{reader_view, writer_view, stage, view_of_reader, view_of_writer, stage_of}
 use Rattle.age_file.specs.Runs.{ports}
 use Rattle.age_file.specs.Resumes.{resume_ports, ResumesKeyed}
 use Rattle.age_file.specs.declared.standing.Standing.TheVariants.{Before}
 use Rattle.age_file.proofs.ReaderLemmas.{read_last, ports_last}
 use Rattle.age_file.proofs.ByteLemmas.{stops_unread}
-use Rattle.age_file.proofs.ResumeLemmas.{place_after, stopped_early, refused, copy_stopped}
-use Rattle.age_file.proofs.ResumeLemmas.{rest_resumed}
+use Rattle.age_file.proofs.ResumeLemmas.{place_after, stopped_early, refused, copy_stopped, rest_resumed}
 use Rattle.age_file.proofs.resumption.resume_keyed.Goals as goal
 
 pub returns-in_default-clause-resumes : goal.returns-in_default-clause-resumes
@@ -18,7 +16,7 @@ returns-in_default-clause-resumes g c =
     let Allows = g.U.Unlock.allows c.args.unlock.now in
     let Refused = g.U.Unlock.refuses c.args.unlock.now in
     rw (c.nowhere.ensures, c.early.ensures) (stopped_early c.args.positions Allows Refused c.args.position.now
-    c.one_header.ensures old old Memory refl refl (stops_unread _))
+    old old Memory refl refl (stops_unread _))
 
 pub returns-in-Err-clause-resumes : goal.returns-in-Err-clause-resumes
 returns-in-Err-clause-resumes g c =
@@ -28,7 +26,7 @@ returns-in-Err-clause-resumes g c =
     (g.O.Sink.view c.args.writer.now)) (g.L.Source.view c.args.old_reader.now) in
     let Allows = g.U.Unlock.allows c.args.unlock.now in
     let Refused = g.U.Unlock.refuses c.args.unlock.now in
-    let early = refused c.args.positions Allows Refused c.args.position.now c.one_header.ensures old
+    let early = refused c.args.positions Allows Refused c.args.position.now old
     new c.start_for.new.reader.intake.now c.in-Err.fault refl refl c.in-Err.ensures.fails in
     rw (c.nowhere-in-Err.ensures, c.early-in-Err.ensures) (read_last g.S.Source.view
     (λ v. ResumesKeyed c.args.positions Allows Refused c.args.position.now old
@@ -54,7 +52,7 @@ returns-in-Err-copy_before-clause-resumes g c =
     (g.S.Source.view c.args.reader.now) c.in-Ok.unlocked
     s1 c.start_for.new.reader.intake.now f.starts (f.own, f.tagged)
     f.starts.unfailed first c.new-tally.ensures.written x z
-    b.none b.counted_on b.few c.one_header.ensures c.in-Err-copy_before.fault b.copied in
+    b.none b.counted_on b.few c.in-Err-copy_before.fault b.copied in
     rw (c.nowhere-in-Err-copy_before.ensures, c.after.ensures) (ports_last g.S.Source.view g.O.Sink.view
     (λ p. ResumesKeyed c.args.positions Allows Refused c.args.position.now old
     (resume_ports p (g.L.Source.view c.copy_before.new.source))
@@ -110,4 +108,4 @@ returns-clause-resumes g c =
     s1 c.start_for.new.reader.intake.now f.starts (f.own, f.tagged)
     f.starts.unfailed first c.new-tally.ensures.written x z
     b.none b.counted_on b.few b.copied c.args.position.now.within b.kept b.counted
-    c.one_header.ensures s2 c.resume_rest.result.0 c.resume_rest.result.1 c.resume_rest.ensures.resumes)
+    s2 c.resume_rest.result.0 c.resume_rest.result.1 c.resume_rest.ensures.resumes)

@@ -1,5 +1,4 @@
-use Rattle.std.proofs.Common.{◌≡◌, ◌<◌, ◌*◌, ◌^◌, ◌≤◌, length, ap, sym, subst, ◌∙◌, arith, List, ℕ}
-use Rattle.std.proofs.Common.{[], ◌++◌, refl, append-nil}
+use Rattle.std.proofs.Common.{◌≡◌, ◌<◌, ◌*◌, ◌^◌, ◌≤◌, length, ap, sym, subst, ◌∙◌, arith, List, ℕ, [], ◌++◌, refl, append-nil}
 use Rattle.std.proofs.lemmas.Result.{err_from_is_err_and}
 use Rattle.std.proofs.lemmas.Nat.{mul-le}
 use Rattle.std.proofs.KnownBytes.{Appends-nil, Consumes-nil}
@@ -13,8 +12,7 @@ use Rattle.age_file.specs.Runs.{ports}
 use Rattle.age_fault.specs.declared.fault.FileFault.{FileFault}
 use Rattle.age_file.proofs.ByteLemmas.{cut_pulled}
 use Rattle.age_file.proofs.SealLemmas.{front_small}
-use Rattle.age_file.proofs.SourceLemmas.{front_begins, no_front, piece_done, piece_cut, pull_fails}
-use Rattle.age_file.proofs.SourceLemmas.{seal_fails, last_written, last_begins, last_whole}
+use Rattle.age_file.proofs.SourceLemmas.{front_begins, no_front, piece_done, piece_cut, pull_fails, seal_fails, last_written, last_begins, last_whole}
 use Rattle.age_chunk.specs.Payload.{block_length, chunk_length}
 use Rattle.age_file.proofs.sealing.seal_all.Goals as goal
 

@@ -1,14 +1,11 @@
-use Rattle.std.proofs.Common.{◌≡◌, ◌+◌, ◌-◌, length, take, drop, ap, sym, subst, ◌∙◌, arith, List}
-use Rattle.std.proofs.Common.{ℕ, [], ◌++◌, refl, append-nil}
+use Rattle.std.proofs.Common.{◌≡◌, ◌+◌, ◌-◌, length, take, drop, ap, sym, subst, ◌∙◌, arith, List, ℕ, [], ◌++◌, refl, append-nil}
 use Rattle.std.proofs.lemmas.Result.{err_from_is_err_and}
 use Rattle.std.proofs.KnownBytes.{Appends-nil}
-use Rattle.std.proofs.lemmas.List.{take-append-drop, take_all, take_rest, length-append}
-use Rattle.std.proofs.lemmas.List.{length-drop}
+use Rattle.std.proofs.lemmas.List.{take-append-drop, take_all, take_rest, length-append, length-drop}
 use Rattle.age_file.specs.inner.Decrypts.{opens, seals}
 use Rattle.age_keys.specs.inner.PayloadBox.{box_valid}
 use Rattle.age_file.specs.inner.Seals.{SealsSome, GoesOn, SealFails, front_of}
-use Rattle.age_file.proofs.SealLemmas.{next_some, fed_alone, fed_is, goes_then, fails_then}
-use Rattle.age_file.proofs.SealLemmas.{room_left}
+use Rattle.age_file.proofs.SealLemmas.{next_some, fed_alone, fed_is, goes_then, fails_then, room_left}
 use Rattle.age_file.specs.inner.Readers.{view_of_writer}
 use Rattle.age_chunk.specs.Payload.{chunk_length}
 use Rattle.age_file.proofs.sealing.seal_piece.Goals as goal

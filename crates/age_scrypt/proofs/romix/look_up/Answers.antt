@@ -1,5 +1,4 @@
-use Rattle.std.proofs.Common.{◌≡◌, ◌+◌, ◌-◌, ◌*◌, ◌%◌, ◌∙◌, ℕ, List, length, take, drop, sym, subst}
-use Rattle.std.proofs.Common.{ap, arith}
+use Rattle.std.proofs.Common.{◌≡◌, ◌+◌, ◌-◌, ◌*◌, ◌%◌, ◌∙◌, ℕ, List, length, take, drop, sym, subst, ap, arith}
 use Rattle.std.proofs.lemmas.List.{length-take, length-drop}
 use Rattle.age_scrypt.specs.Scrypt.{part, xor_words, v_block, x_block, integerify}
 use Rattle.age_scrypt.specs.inner.Workspace.{IsTable, IsTurned}

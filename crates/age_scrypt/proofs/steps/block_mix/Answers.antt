@@ -1,5 +1,4 @@
-use Rattle.std.proofs.Common.{◌≡◌, ◌+◌, ◌*◌, ◌/◌, ◌%◌, ◌<◌, ◌∙◌, ℕ, List, bit_xor, sym, ap₂, arith}
-use Rattle.std.proofs.Common.{add-one, below_more}
+use Rattle.std.proofs.Common.{◌≡◌, ◌+◌, ◌*◌, ◌/◌, ◌%◌, ◌<◌, ◌∙◌, ℕ, List, bit_xor, sym, ap₂, arith, add-one, below_more}
 use Rattle.std.proofs.lemmas.Simd.{length-zip2}
 use Rattle.age_scrypt.specs.Scrypt.{part, x_part, xor_words}
 use Rattle.age_scrypt.specs.inner.Workspace.{words, turned, IsTurned}

@@ -3,8 +3,7 @@ use Rattle.std.proofs.lemmas.List.{length-take}
 use Rattle.base64.specs.GeneralPurpose.{IsBytes}
 use Rattle.age_stanza.proofs.TextLengthLemmas.{div_ceil-characters}
 use Rattle.age_stanza.specs.Text.{base64_text}
-use Rattle.age_stanza.proofs.Base64Lemmas.{text_of_decoded, characters_of, decoded_size}
-use Rattle.age_stanza.proofs.Base64Lemmas.{never_decodes}
+use Rattle.age_stanza.proofs.Base64Lemmas.{text_of_decoded, characters_of, decoded_size, never_decodes}
 use Rattle.age_stanza.proofs.text.read_base64.Goals as goal
 
 pub returns-then-characters-div_ceil-clause-refused : goal.returns-then-characters-div_ceil-clause-refused

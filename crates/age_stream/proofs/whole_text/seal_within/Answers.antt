@@ -1,5 +1,4 @@
-use Rattle.std.proofs.Common.{◌<◌, ◌≡◌, ◌-◌, ◌≤◌, ℕ, ◌+◌, length, take, drop, List, ◌++◌, ap, sym}
-use Rattle.std.proofs.Common.{subst, ◌∙◌, arith, min, rules}
+use Rattle.std.proofs.Common.{◌<◌, ◌≡◌, ◌-◌, ◌≤◌, ℕ, ◌+◌, length, take, drop, List, ◌++◌, ap, sym, subst, ◌∙◌, arith, min, rules}
 use Rattle.std.proofs.lemmas.List.{take_all, length-take, length-drop, length-append, append_assoc}
 use Rattle.age_stream.specs.Sealer.{Holds}
 use Rattle.age_stream.specs.Opener.{chunk_bytes}

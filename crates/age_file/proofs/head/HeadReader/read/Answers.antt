@@ -2,8 +2,7 @@ use Rattle.std.proofs.Common.{◌++◌, ◌∙◌, refl, take, ap, length, arith
 use Rattle.std.proofs.lemmas.List.{length-drop}
 use Rattle.std.proofs.lemmas.Result.{err_from_is_err_and}
 use Rattle.age_file.specs.Runs.{EndsInHeader}
-use Rattle.age_file.proofs.ByteLemmas.{pull_fails, piece_fails, end_fails, stops_at, cut_pulled}
-use Rattle.age_file.proofs.ByteLemmas.{head_pulled}
+use Rattle.age_file.proofs.ByteLemmas.{pull_fails, piece_fails, end_fails, stops_at, cut_pulled, head_pulled}
 use Rattle.age_file.proofs.head.HeadReader.read.Goals as goal
 
 pub returns-clause-fails : goal.returns-clause-fails

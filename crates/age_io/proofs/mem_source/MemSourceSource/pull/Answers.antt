@@ -1,5 +1,4 @@
-use Rattle.std.proofs.Common.{ℕ, ◌+◌, ◌-◌, ◌≡◌, List, length, take, drop, ◌++◌, sym, ap, ◌∙◌}
-use Rattle.std.proofs.Common.{take-append-drop, drop-drop, arith}
+use Rattle.std.proofs.Common.{ℕ, ◌+◌, ◌-◌, ◌≡◌, List, length, take, drop, ◌++◌, sym, ap, ◌∙◌, take-append-drop, drop-drop, arith}
 use Rattle.std.proofs.lemmas.List.{take_rest}
 use Rattle.std.proofs.lemmas.Grind.{common_steps}
 use Rattle.age_io.specs.Io.{Feeding}

@@ -1,13 +1,10 @@
 use Rattle.std.proofs.Common.{◌≡◌, ◌≤◌, refl, ap, ◌∙◌, length, take, true, arith}
 use Rattle.age_chunk.specs.Payload.{nonce_bytes}
-use Rattle.age_chunk.specs.declared.fault.StreamKind.TheVariants.{ChunkDamaged, ChunkCut, EmptyLast}
-use Rattle.age_chunk.specs.declared.fault.StreamKind.TheVariants.{Truncated}
+use Rattle.age_chunk.specs.declared.fault.StreamKind.TheVariants.{ChunkDamaged, ChunkCut, EmptyLast, Truncated}
 use Rattle.age_stream.specs.Segment.{failed}
 use Rattle.age_stream.specs.Opener.{held_bytes}
 use Rattle.age_stream.specs.declared.step.Status.TheVariants.{Open}
-use Rattle.age_stream.proofs.LastBlockLemmas.{is_missing, is_cut, is_empty_last, is_damaged}
-use Rattle.age_stream.proofs.LastBlockLemmas.{is_opened}
-use Rattle.age_stream.proofs.LastBlockLemmas.{ends_refused, ends_opened, moved, is_empty, is_first}
+use Rattle.age_stream.proofs.LastBlockLemmas.{is_missing, is_cut, is_empty_last, is_damaged, is_opened, ends_refused, ends_opened, moved, is_empty, is_first}
 use Rattle.age_stream.proofs.SizeLemmas.{list_fits, opener_state_fits}
 use Rattle.age_stream.proofs.opener.OpenerState.end_open.Goals as goal
 use Rattle.age_chunk.specs.ChunkBoxes.{tag_length, text_length}

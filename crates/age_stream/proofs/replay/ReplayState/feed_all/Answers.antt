@@ -1,5 +1,4 @@
-use Rattle.std.proofs.Common.{rules, ◌<◌, ◌≤◌, vec_len, vec_capacity, ◌≡◌, ◌-◌, ◌+◌, refl, ap, sym}
-use Rattle.std.proofs.Common.{subst, ◌∙◌, arith, length, take, drop, List, ℕ, ◌++◌}
+use Rattle.std.proofs.Common.{rules, ◌<◌, ◌≤◌, vec_len, vec_capacity, ◌≡◌, ◌-◌, ◌+◌, refl, ap, sym, subst, ◌∙◌, arith, length, take, drop, List, ℕ, ◌++◌}
 use Rattle.std.proofs.Common.{take-add, take-append-drop}
 use Rattle.std.proofs.lemmas.List.{take_rest, take_all, length-take, length-drop}
 use Rattle.age_stream.specs.Opener.{whole_text}

@@ -1,0 +1,42 @@
+use Rattle.std.proofs.Common.{◌∙◌, ◌∷◌, []}
+use Rattle.std.proofs.lemmas.Result.{on_ok_weaker, IfOk-from_err}
+use Rattle.age_fileset.specs.FileSet.{Opened}
+use Rattle.age_command.proofs.EventLemmas.{then_did, then_follows, followed, longer}
+use Rattle.age_command.proofs.drill.drill_sealed.Goals as goal
+
+pub returns-in-Some : goal.returns-in-Some
+returns-in-Some g c =
+    let asked = c.args.asked.now in
+    let pass = c.read_pass.ensures in
+    let drilled = c.drill.ensures in
+    let first = Opened c.args.pass_name.now ∷ [] in
+    record {
+      kept = drilled.kept ∙ pass.kept;
+      order = then_follows _ _ _ first _ pass.noted drilled.order;
+      order_done = on_ok_weaker c.drill.result
+          (λ done. then_did _ _ _ first (Opened asked.script.now ∷ Opened asked.from.now ∷ []) pass.noted done)
+          drilled.order_done;
+      sent = drilled.sent;
+    }
+
+pub returns : goal.returns
+returns g c =
+    let asked = c.args.asked.now in
+    let first = Opened c.args.pass_name.now ∷ [] in
+    record {
+      kept = c.read_pass.ensures.kept;
+      order = longer first (Opened asked.script.now ∷ Opened asked.from.now ∷ []) _ _ (followed _ _ first c.read_pass.ensures.noted);
+      order_done = tt;
+      sent = tt;
+    }
+
+pub returns-in_err-pass : goal.returns-in_err-pass
+returns-in_err-pass g c =
+    let asked = c.args.asked.now in
+    let first = Opened c.args.pass_name.now ∷ [] in
+    record {
+      kept = c.read_pass.ensures.kept;
+      order = longer first (Opened asked.script.now ∷ Opened asked.from.now ∷ []) _ _ (followed _ _ first c.read_pass.ensures.noted);
+      order_done = IfOk-from_err c.from_residual.result _ c.from_residual.ensures.0;
+      sent = IfOk-from_err c.from_residual.result _ c.from_residual.ensures.0;
+    }

@@ -1,0 +1,15 @@
+use Rattle.std.proofs.Common.{◌≡◌, ◌≤◌, ◌-◌, length}
+use Rattle.std.specs.Io.KnownBytes.{Consumes}
+use Rattle.age_command.proofs.first_bytes.fill_first.Given as goal
+
+-- what was read so far
+abbrev pub invariant-pieces : goal.invariant-pieces
+invariant-pieces g l = record {
+  read : Consumes (g.S.Source.view l.fn.source).remaining (g.S.Source.view l.source).remaining
+      l.held.items;
+  within : length l.held.items ≤ l.most;
+  room : length l.buffer ≡ 4096;
+}
+
+abbrev pub decreases-pieces : goal.decreases-pieces
+decreases-pieces g l = l.most - length l.held.items

@@ -1,0 +1,89 @@
+-- How a run ends if it isn't done, and which lines report it.
+use Rattle.std.specs.Prelude.{◌≡◌, ◌⊎◌, ℕ, Bool, true, false, List, [], ◌++◌, codes, decimal}
+use Rattle.std.specs.Prelude.{nat_le, Option, Some, None, Result, Ok, Err, IsErrAnd, if◌then◌else◌}
+use Rattle.std.specs.Io.KnownBytes.{Appends}
+use Rattle.age_io.specs.Io.{SinkView}
+use Rattle.age_fault.specs.Faults.{fault_number, name_of, fault_place, HasRisen}
+use Rattle.age_fault.specs.declared.fault.FileFault.{FileFault}
+use Rattle.age_fault.specs.declared.fault.FileFault.TheVariants.{Read, Write, Memory}
+use Rattle.age_fileset.specs.FileSet.{Event}
+use Rattle.age_command.specs.declared.ending.Announcement.{Announcement}
+use Rattle.age_command.specs.declared.ending.Announcement.TheVariants.{Unmade, Made, Failed}
+use Rattle.age_command.specs.declared.ending.Ending.{Ending}
+use Rattle.age_command.specs.declared.ending.Ending.TheVariants.{Words, Usage, Fault, Unsaved}
+
+-- ---- How a run ends.
+
+-- the command line was refused
+abbrev pub is_usage : Ending → Bool
+is_usage (Words text) = true
+is_usage (Usage usage) = true
+is_usage (Fault fault) = false
+is_usage (Unsaved fault second) = false
+
+-- how a command ends before its output is written: its arguments are refused, a file can't be read
+-- or created, or memory is refused
+abbrev pub EndsEarly : Ending → Type 0
+EndsEarly (Fault fault) = (fault ≡ Read) ⊎ ((fault ≡ Write) ⊎ (fault ≡ Memory))
+EndsEarly (Usage usage) = Unit {0}
+EndsEarly (Words text) = Unit {0}
+EndsEarly (Unsaved fault second) = ⊥
+
+-- the arguments are refused, and no file was opened or created
+abbrev pub RefusesAtOnce : {A : Type 0} → List Event → List Event → Result A Ending → Type 0
+RefusesAtOnce before after result = (after ≡ before) × IsErrAnd result (λ e. is_usage e ≡ true)
+
+-- ---- The lines in which faults are reported.
+
+-- ` line L` of a header's fault, ` chunk I` of a payload's
+abbrev pub place_text : ℕ → Option ℕ → List ℕ
+place_text number None = []
+place_text number (Some place) = if nat_le number 8 then codes " line " ++ decimal place
+    else if nat_le number 20 then codes " chunk " ++ decimal place else []
+
+-- `age_tool: N NAME` with the place, and LF
+abbrev pub fault_line : FileFault → List ℕ
+fault_line fault = codes "age_tool: " ++ (decimal (fault_number fault) ++ (codes " " ++ (name_of fault
+    ++ (place_text (fault_number fault) (fault_place fault) ++ codes "\n"))))
+
+-- a sink took these bytes, or failed
+abbrev pub TakesOrFails : Option (List ℕ) → Option (List ℕ) → ℕ → ℕ → List ℕ → Type 0
+TakesOrFails old new failed_old failed_new bytes = Appends old new bytes
+    ⊎ HasRisen failed_old failed_new
+
+-- the line of the fault that ended a run, or the two lines, unless the sink failed
+abbrev pub ReportsEnding : Ending → Option (List ℕ) → Option (List ℕ) → ℕ → ℕ → Type 0
+ReportsEnding (Fault fault) old new failed_old failed_new =
+    TakesOrFails old new failed_old failed_new (fault_line fault)
+ReportsEnding (Unsaved fault second) old new failed_old failed_new =
+    TakesOrFails old new failed_old failed_new (fault_line fault ++ fault_line second)
+ReportsEnding (Words text) old new failed_old failed_new = Unit {0}
+ReportsEnding (Usage usage) old new failed_old failed_new = Unit {0}
+
+-- a sink took the line of a fault, and counted no failure
+abbrev pub TakesLine : FileFault → (old new : SinkView) → Type 0
+TakesLine fault old new = Appends old.taken new.taken (fault_line fault) × (new.failed ≡ old.failed)
+
+-- what an announcement left: nothing, if it wasn't made, which is what `Quiet` says; the line of
+-- the fault that ended the run; or a sink that failed
+abbrev pub Announces : Announcement → Ending → (old new : SinkView) → (Quiet : Type 0) → Type 0
+Announces Unmade ending old new Quiet = Quiet
+Announces Made (Fault fault) old new Quiet = TakesLine fault old new
+Announces Made (Unsaved fault second) old new Quiet = TakesLine fault old new
+Announces Made other old new Quiet = ⊥
+Announces Failed ending old new Quiet = HasRisen old.failed new.failed
+
+-- what was reported after an announcement: the ending, if none was made; and otherwise the line of
+-- a second fault, unless the first couldn't be put
+abbrev pub ReportsRest : Announcement → Ending → (old new : SinkView) → Type 0
+ReportsRest Unmade ending old new = ReportsEnding ending old.taken new.taken old.failed new.failed
+ReportsRest Made (Unsaved fault second) old new = TakesLine second old new
+    ⊎ HasRisen old.failed new.failed
+ReportsRest Made other old new = new ≡ old
+ReportsRest Failed ending old new = new ≡ old
+
+-- what a command announced, by its result
+abbrev pub Tells : {A : Type 0} → Announcement → Result A Ending → (old new : SinkView)
+    → (Quiet : Type 0) → Type 0
+Tells announcement (Ok done) old new Quiet = Quiet
+Tells announcement (Err ending) old new Quiet = Announces announcement ending old new Quiet

@@ -1,0 +1,115 @@
+-- What opens a file, by the options and by the files that they name.
+use Rattle.std.specs.Prelude.{◌≡◌, ℕ, ◌-◌, ◌==◌, ◌&&◌, nat_lt, List, ◌++◌, length, take}
+use Rattle.std.specs.Prelude.{slice_index, Option, Some, None, if◌then◌else◌, option_map}
+use Rattle.std.specs.declared.vec.Vec.{Vec}
+use Rattle.clap.specs.Words.{Text}
+use Rattle.age_stanza.specs.declared.header.Header.{Header}
+use Rattle.age_keys.specs.Keys.{SpellsKey}
+use Rattle.age_keys.specs.Scrypt.{IsAllowed, IsPassphraseKey, PassphraseRefuses, passphrase_steps}
+use Rattle.age_keys.specs.X25519.{Shared, IsSharedKey, SharedRefuses}
+use Rattle.age_keys.specs.declared.fault.KeyFault.{KeyFault}
+use Rattle.age_cli_args.specs.Requests.{option_text}
+use Rattle.age_cli_args.specs.declared.request.IdentityOptions.{IdentityOptions}
+use Rattle.age_command.specs.Files.{Files}
+use Rattle.age_command.specs.Orders.{opening_event, identity_order}
+use Rattle.age_command.specs.declared.choice.Choice.{Choice}
+use Rattle.age_command.specs.declared.choice.Choice.TheVariants.{PassphraseFile, FileKey, SharedFile}
+use Rattle.age_command.specs.declared.identity.Identity.{Identity}
+use Rattle.age_command.specs.declared.identity.Identity.TheVariants.{ByPassphrase, ByFileKey, ByShared}
+
+-- ---- What opens a file, by all options together.
+
+-- the keys that a passphrase with its limit, a file key or a shared secret may find in a header,
+-- and the faults
+abbrev pub allows_by : Identity → Header → List ℕ → Type 0
+allows_by (ByPassphrase words) h key = IsPassphraseKey words h key
+allows_by (ByFileKey known) h key = key ≡ known
+allows_by (ByShared shared) h key = IsSharedKey shared h key
+
+abbrev pub refuses_by : Identity → Header → KeyFault → Type 0
+refuses_by (ByPassphrase words) h fault = PassphraseRefuses words h fault
+refuses_by (ByFileKey known) h fault = ⊥
+refuses_by (ByShared shared) h fault = SharedRefuses shared h fault
+
+-- the most steps of scrypt for a header
+abbrev pub steps_by : Identity → ℕ
+steps_by (ByPassphrase words) = passphrase_steps words
+steps_by (ByFileKey known) = 0
+steps_by (ByShared shared) = 0
+
+-- the bytes without one line feed at their end
+abbrev pub without_line_feed : List ℕ → List ℕ
+without_line_feed xs =
+    if nat_lt 0 (length xs) && (slice_index xs (length xs - 1) == 10) then take (length xs - 1) xs
+    else xs
+
+-- the passphrase in a file
+abbrev pub IsPassphraseIn : Option (List ℕ) → List ℕ → Type 0
+IsPassphraseIn held pass = (bytes : List ℕ) × (held ≡ Some bytes) × (pass ≡ without_line_feed bytes)
+
+-- the shared secret in a file, followed by the recipient
+pub record IsSharedIn (held : Option (List ℕ)) (shared : Shared) : Type 0 where
+  pub bytes : held ≡ Some (shared.secret ++ shared.recipient)
+  pub secret_length : length shared.secret ≡ 32
+  pub recipient_length : length shared.recipient ≡ 32
+
+-- the one option that says what opens the file, and the file that it names, make this
+abbrev pub IsIdentity : Files → Option Text → Option Text → Option Text → ℕ → Identity → Type 0
+IsIdentity old (Some pass) None None max_log (ByPassphrase words) =
+    IsPassphraseIn (old pass) words.pass
+    × (words.max_log ≡ max_log) × IsAllowed words.pass words.max_log
+IsIdentity old None (Some digits) None max_log (ByFileKey known) = SpellsKey digits known
+IsIdentity old None None (Some name) max_log (ByShared shared) = IsSharedIn (old name) shared
+IsIdentity old pass file_key shared max_log identity = ⊥
+
+-- the options, and the file that they name, make what opens the input
+abbrev pub OpensBy : Files → IdentityOptions → Identity → Type 0
+OpensBy old u identity = IsIdentity old (option_text u.pass) (option_text u.file_key) (option_text u.shared)
+    u.max_log identity
+
+-- ---- What opens a file, by the one option that is chosen.
+
+-- the file that a choice names, if it names one
+abbrev pub file_of : Choice → Option Text
+file_of (PassphraseFile name max_log) = Some name.now
+file_of (FileKey known) = None
+file_of (SharedFile name) = Some name.now
+
+-- the bytes of a file that was read, if it wasn't too long
+abbrev pub file_bytes : {Z : Type 0} → Option (Vec ℕ Z) → Option (List ℕ)
+file_bytes = option_map (λ v. v.items)
+
+-- these bytes, if there are any, are what the file of this name holds, if there is a name
+abbrev pub IsSecretIn : Files → Option Text → Option (List ℕ) → Type 0
+IsSecretIn old (Some name) (Some bytes) = old name ≡ Some bytes
+IsSecretIn old name bytes = Unit {0}
+
+-- what the file of this name holds, if a name is given
+abbrev pub held_for : Files → Option Text → Option (List ℕ)
+held_for old (Some name) = old name
+held_for old None = None
+
+-- what a choice makes of the bytes of its file
+abbrev pub Makes : Choice → Option (List ℕ) → Identity → Type 0
+Makes (PassphraseFile name max_log) held (ByPassphrase words) = IsPassphraseIn held words.pass
+    × (words.max_log ≡ max_log) × IsAllowed words.pass words.max_log
+Makes (FileKey known) held (ByFileKey key) = key ≡ known
+Makes (SharedFile name) held (ByShared shared) = IsSharedIn held shared
+Makes choice held identity = ⊥
+
+-- what was read of its file is enough: the choice makes of that all that it makes of the file
+abbrev pub IsEnough : Files → Choice → Option (List ℕ) → Type 0
+IsEnough old choice held = (identity : Identity)
+    → Makes choice (held_for old (file_of choice)) identity → Makes choice held identity
+
+-- a choice is what these options say
+pub record Chooses (options : IdentityOptions) (choice : Choice) : Type 0 where
+  -- Its file is the one that the options name.
+  pub order : opening_event (file_of choice) ≡ identity_order (option_text options.pass) (option_text options.shared)
+  -- What it makes of the bytes of its file is what the options and the files make.
+  pub opens : (old : Files) (held : Option (List ℕ)) (identity : Identity)
+      → IsSecretIn old (file_of choice) held → Makes choice held identity
+      → OpensBy old options identity
+  -- What the options and the files make is what it makes of its file.
+  pub only : (old : Files) (identity : Identity) → OpensBy old options identity
+      → Makes choice (held_for old (file_of choice)) identity

@@ -1,0 +1,5 @@
+pub mod Endings
+pub mod Files
+pub mod Identities
+pub mod Orders
+pub mod inner

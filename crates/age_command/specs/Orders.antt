@@ -1,0 +1,120 @@
+-- In which order a command opens, makes and closes files, and which names have to differ.
+use Rattle.std.specs.Prelude.{◌≡◌, List, [], ◌∷◌, ◌++◌, Option, Some, None, ◌⊎◌, codes}
+use Rattle.clap.specs.Words.{Text}
+use Rattle.age_io.specs.declared.durability.Durability.{Durability}
+use Rattle.age_fileset.specs.FileSet.{Event, Opened, Prepared, Created, Replaced, Closed}
+use Rattle.age_cli_args.specs.Requests.{option_text}
+use Rattle.age_cli_args.specs.declared.request.Request.{Request}
+use Rattle.age_cli_args.specs.declared.request.Request.TheVariants.{Inspect, Decrypt, Resume, Encrypt, Drill}
+
+-- ---- The orders in which a set of files is used.
+
+-- the events that came are a beginning of this order
+pub record Follows (order old new : List Event) : Type 0 where
+  pub done : List Event
+  pub rest : List Event
+  pub did : new ≡ old ++ done
+  pub front : order ≡ done ++ rest
+
+-- a file is opened, if one is named; one is prepared to be replaced; one is created and ended; one
+-- is replaced; and what was written reaches the disk then or later
+abbrev pub opening_event : Option Text → List Event
+opening_event (Some name) = Opened name ∷ []
+opening_event None = []
+
+abbrev pub preparing : Option Text → List Event
+preparing (Some name) = Prepared name ∷ []
+preparing None = []
+
+abbrev pub making : Option Text → Durability → List Event
+making (Some name) durability = Created name ∷ Closed durability ∷ []
+making None durability = []
+
+abbrev pub replacing : Option Text → Durability → List Event
+replacing (Some name) durability = Replaced name durability ∷ []
+replacing None durability = []
+
+-- what opens the input, if its file is named: of a passphrase or of a shared secret
+abbrev pub identity_order : Option Text → Option Text → List Event
+identity_order pass shared = opening_event pass ++ opening_event shared
+
+-- ---- The names that have to differ.
+
+-- two names are given, and they are equal
+abbrev pub IsSameName : Option Text → Option Text → Type 0
+IsSameName one other = (name : Text) × (one ≡ Some name) × (other ≡ Some name)
+
+-- a name is given, and is one of these
+abbrev pub IsOneOf : Option Text → List (Option Text) → Type 0
+IsOneOf one [] = ⊥
+IsOneOf one (other ∷ others) = IsSameName one other ⊎ IsOneOf one others
+
+-- a name that has to differ from others, if they are given
+pub record Apart : Type 0 where
+  pub name : Option Text
+  pub others : List (Option Text)
+
+abbrev pub apart_from : Option Text → List (Option Text) → Apart
+apart_from name others = record { name = name; others = others }
+
+-- one of these is a name from which it has to differ
+abbrev pub NamesTwice : List Apart → Type 0
+NamesTwice [] = ⊥
+NamesTwice (a ∷ rest) = IsOneOf a.name a.others ⊎ NamesTwice rest
+
+-- ---- The order in which a command opens and makes the files that the arguments name, and which of
+-- these names have to differ.
+
+-- which names of a command have to differ, and what it opens, creates and replaces
+pub record Order : Type 0 where
+  -- the names that have to differ
+  pub apart : List Apart
+  -- what the command opens to judge its arguments
+  pub judged : List Event
+  -- all that the command does if it ends well
+  pub done : List Event
+  -- that, and all that a stop may add
+  pub whole : List Event
+
+-- a command that writes nothing opens these files
+abbrev pub reading_order : List Event → Order
+reading_order opened = record { apart = []; judged = opened; done = opened; whole = opened }
+
+-- the file of random bytes, if none is named
+abbrev pub random_name : Option Text → Text
+random_name None = codes "/dev/urandom"
+random_name (Some name) = name
+
+-- the two files by which the arguments are judged, the position, the old text, the input, the file
+-- of the next position, the output; if it stops the next position, as far as these are named. The
+-- output is none of the files that are read, the next position replaces no file but the position,
+-- and the old text isn't the input.
+abbrev pub writing_order : Option Text → Option Text → Option Text → Option Text → Option Text
+    → Option Text → Option Text → Durability → Order
+writing_order first second position old from to save durability =
+    let judged = opening_event first ++ opening_event second in
+    let done = judged ++ ((opening_event position ++ (opening_event old ++ opening_event from))
+    ++ (preparing save ++ making to durability)) in
+    let read = from ∷ first ∷ second ∷ old ∷ [] in
+    record {
+      apart = apart_from to (position ∷ read) ∷ apart_from save (to ∷ read)
+          ∷ apart_from old (from ∷ []) ∷ [];
+      judged = judged;
+      done = done;
+      whole = done ++ replacing save durability;
+    }
+
+-- the order of what is asked
+abbrev pub order_asked : Request → Order
+order_asked (Inspect file) = reading_order (opening_event (option_text file))
+order_asked (Encrypt e) = writing_order (Some e.pass.now) (Some (random_name (option_text e.random)))
+    None None (Some e.from.now) (Some e.to.now) None e.durability
+order_asked (Decrypt d) = writing_order (option_text d.identity.pass) (option_text d.identity.shared)
+    None None (Some d.from.now) (Some d.to.now) (option_text d.save) d.durability
+order_asked (Resume r) =
+    let d = r.decrypting in
+    writing_order (option_text d.identity.pass) (option_text d.identity.shared) (Some r.position.now)
+    (Some r.old.now) (Some d.from.now) (Some d.to.now) (option_text d.save) d.durability
+order_asked (Drill d) =
+    reading_order (opening_event (option_text d.pass) ++ (opening_event (Some d.script.now)
+    ++ opening_event (Some d.from.now)))

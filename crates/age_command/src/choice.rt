@@ -1,0 +1,123 @@
+//! What opens a file, as one of the options says.
+
+ghost use Rattle.std.specs.Prelude.{◌≡◌, ◌++◌, true, IfOk, IfErr, IfSome, IfNone};
+ghost use Rattle.age_keys.specs.Scrypt.{IsAllowed, PassphraseIdentity};
+ghost use Rattle.age_keys.specs.X25519.{Shared};
+ghost use Rattle.age_fault.specs.declared.fault.FileFault.TheVariants.{Read};
+ghost use Rattle.age_fileset.specs.FileSet.{OpenFails};
+ghost use Rattle.age_command.specs.Orders.{opening_event};
+ghost use Rattle.age_command.specs.Identities.{IsPassphraseIn, IsSharedIn, OpensBy, file_of};
+ghost use Rattle.age_command.specs.Identities.{file_bytes, IsSecretIn, Makes, Chooses, IsEnough};
+ghost use Rattle.age_command.specs.Files.{SourceFails, IsUnread};
+ghost use Rattle.age_fileset.specs.declared.files.OpenFault.TheVariants.{Fault};
+ghost use Rattle.age_command.specs.Files.{Files};
+ghost use Rattle.age_command.specs.declared.identity.Identity.{Identity};
+
+use crate::first_bytes::read_file;
+use crate::identity::{Identity, PASSPHRASE_FILE_MAX, SHARED_FILE_LEN, shared_of, trimmed};
+use age_cli_args::IdentityOptions;
+use crate::Usage;
+use age_fileset::{FileSet, OpenFault};
+use age_keys::{KnownKey, Passphrase, SharedSecret};
+use std::alloc::Global;
+
+/// What opens a file, as one of the options says: a key, or the name of a file that isn't read yet.
+#[derive(Drop)]
+pub enum Choice<'a> {
+    /// The file of a passphrase, and the greatest work factor that is accepted.
+    PassphraseFile(&'a str, u32),
+    /// A file key.
+    FileKey(KnownKey),
+    /// The file of a shared secret and its recipient.
+    SharedFile(&'a str),
+}
+
+impl<'a> Choice<'a> {
+    /// The choice made by the single identity option. Refuses none, several, and a bad file key.
+    pub fn of(options: &IdentityOptions<'a>) -> Result<Choice<'a>, Usage>
+        ensures chooses { IfOk result (Chooses options.now) }
+        ensures none { IfErr result (λ _. (old : Files) (identity : Identity)
+            → OpensBy old options.now identity → ⊥) }
+    {
+        match (options.pass, options.file_key, options.shared) {
+            (Some(name), None, None) => Ok(Choice::PassphraseFile(name, options.max_log)),
+            (None, Some(digits), None) => match KnownKey::read(digits) {
+                Some(key) => Ok(Choice::FileKey(key)),
+                None => Err(Usage::BadFileKey),
+            },
+            (None, None, Some(name)) => Ok(Choice::SharedFile(name)),
+            _ => Err(Usage::GiveOneIdentity),
+        }
+    }
+
+    /// The bytes of the file, if one is named; `None` also if it is longer than a secret. At most
+    /// one byte more is pulled.
+    pub fn read<F: FileSet>(
+        &self,
+        alloc: Global,
+        files: &mut F,
+    ) -> Result<Option<Vec<u8>>, OpenFault>
+        ensures kept { (F.view files.new).entries ≡ (F.view files.old).entries }
+        ensures noted { (F.view files.new).events
+            ≡ (F.view files.old).events ++ opening_event (file_of self.now) }
+        ensures faults { IfErr result (OpenFails (F.shows_bytes) Read) }
+        ensures reason { F.shows_bytes ≡ true → IfErr result (λ f. f ≡ Fault Read
+            → IsUnread (F.view files.old).entries (F.view files.new).events
+            (SourceFails F.In.view)) }
+        ensures read { IfOk result (λ o. F.shows_bytes ≡ true
+            → IsSecretIn (F.view files.old).entries (file_of self.now) (file_bytes o)) }
+        ensures enough { IfOk result (λ o. F.shows_bytes ≡ true
+            → IsEnough (F.view files.old).entries self.now (file_bytes o)) }
+    {
+        match self {
+            Choice::PassphraseFile(name, _) => read_file(alloc, files, name, PASSPHRASE_FILE_MAX),
+            Choice::FileKey(_) => Ok(None),
+            Choice::SharedFile(name) => read_file(alloc, files, name, SHARED_FILE_LEN),
+        }
+    }
+
+    /// What opens the file, given the bytes that `read` returned. Refuses those that hold no
+    /// passphrase, or no shared secret with its recipient.
+    pub fn identity<'s>(self, secret: &'s Option<Vec<u8>>) -> Result<Identity<'s>, Usage>
+        ensures makes { IfOk result (Makes self.entry (file_bytes secret.now)) }
+        ensures none { IfErr result (λ _. (identity : Identity)
+            → Makes self.entry (file_bytes secret.now) identity → ⊥) }
+    {
+        match self {
+            Choice::PassphraseFile(_, max_log) => match passphrase_in(secret, max_log) {
+                Some(pass) => Ok(Identity::ByPassphrase(pass)),
+                None => Err(Usage::BadPassphraseFile),
+            },
+            Choice::FileKey(key) => Ok(Identity::ByFileKey(key)),
+            Choice::SharedFile(_) => match shared_in(secret) {
+                Some(shared) => Ok(Identity::ByShared(shared)),
+                None => Err(Usage::BadSharedFile),
+            },
+        }
+    }
+}
+
+/// The passphrase in the bytes of its file.
+fn passphrase_in<'s>(secret: &'s Option<Vec<u8>>, max_log: u32) -> Option<Passphrase<'s>>
+    ensures some { IfSome result (λ words. IsPassphraseIn (file_bytes secret.now) words.pass
+        × (words.max_log ≡ max_log) × IsAllowed words.pass words.max_log) }
+    ensures none { IfNone result ((words : PassphraseIdentity)
+        → IsPassphraseIn (file_bytes secret.now) words.pass → words.max_log ≡ max_log
+        → IsAllowed words.pass words.max_log → ⊥) }
+{
+    match secret {
+        Some(bytes) => Passphrase::new(trimmed(bytes.as_slice()), max_log),
+        None => None,
+    }
+}
+
+/// The shared secret and the recipient in the bytes of their file.
+fn shared_in(secret: &Option<Vec<u8>>) -> Option<SharedSecret>
+    ensures some { IfSome result (IsSharedIn (file_bytes secret.now)) }
+    ensures none { IfNone result ((shared : Shared) → IsSharedIn (file_bytes secret.now) shared → ⊥) }
+{
+    match secret {
+        Some(bytes) => shared_of(bytes.as_slice()),
+        None => None,
+    }
+}

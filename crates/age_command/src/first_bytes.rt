@@ -1,0 +1,123 @@
+//! The first bytes of a source or a file.
+
+ghost use Rattle.std.specs.Prelude.{◌≡◌, ◌^◌, ◌<◌, ◌≤◌, [], ℕ, List, length, OnOk, IfOk, IfErr};
+ghost use Rattle.std.specs.Prelude.{IfSome, IfNone, Some, true, ◌∷◌, ◌++◌};
+ghost use Rattle.age_fileset.specs.FileSet.{Opened, IsMemoryOr, OpenFails};
+ghost use Rattle.age_fault.specs.declared.fault.FileFault.TheVariants.{Read};
+ghost use Rattle.std.specs.Io.KnownBytes.{Consumes, IsAtEnd};
+ghost use Rattle.age_fileset.specs.declared.files.OpenFault.TheVariants.{Fault};
+ghost use Rattle.age_command.specs.Files.{AreFirst, SourceFails, IsUnread};
+ghost use Rattle.age_command.specs.inner.Pieces.{IsPiece};
+
+use age_fault::FileFault;
+use age_fileset::{FileSet, OpenFault};
+use age_io::Source;
+use std::alloc::Global;
+
+/// How many bytes are pulled at once, at most.
+const ROOM: usize = 4096;
+
+/// Pulls at most `most` bytes to the beginning of a buffer.
+fn pull_some<S: Source>(
+    source: &mut S,
+    buffer: &mut [u8; ROOM],
+    most: usize,
+) -> Result<usize, FileFault>
+    requires some { 0 < most }
+    requires room { most ≤ 4096 }
+    ensures piece { IfOk result (λ n.
+        IsPiece (S.view source.old).remaining (S.view source.new).remaining most n buffer.new) }
+    ensures fault { IfErr result (λ f. f ≡ Read) }
+    ensures failed { IfErr result (λ _. SourceFails S.view) }
+{
+    match source.pull(&mut buffer[..most]) {
+        Ok(n) => Ok(n),
+        Err(_) => Err(FileFault::Read),
+    }
+}
+
+/// Reads `most` bytes into an empty vector, or fewer if the source ends before. No more are pulled.
+/// If it fails, the vector holds what was read before.
+pub fn fill_first<S: Source>(
+    source: &mut S,
+    held: &mut Vec<u8>,
+    most: usize,
+) -> Result<(), FileFault>
+    requires { held.old.items ≡ [] }
+    ensures first { OnOk result
+        (AreFirst (S.view source.old).remaining (S.view source.new).remaining most held.new.items) }
+    ensures faults { IfErr result (IsMemoryOr Read) }
+    ensures failed { IfErr result (λ f. f ≡ Read → SourceFails S.view) }
+{
+    let mut buffer = [0; ROOM];
+    'pieces: while held.len() < most {
+        let n = pull_some(source, &mut buffer, (most - held.len()).min(ROOM))?;
+        if n == 0 {
+            return Ok(());
+        }
+        held.extend_from_slice(&buffer[..n])?;
+    }
+    Ok(())
+}
+
+/// The first `most` bytes of a source, or fewer if it ends before. No more are pulled.
+pub fn read_first<S: Source>(
+    alloc: Global,
+    source: &mut S,
+    most: usize,
+) -> Result<Vec<u8>, FileFault>
+    ensures first { IfOk result
+        (λ v. AreFirst (S.view source.old).remaining (S.view source.new).remaining most v.items) }
+    ensures faults { IfErr result (IsMemoryOr Read) }
+    ensures failed { IfErr result (λ f. f ≡ Read → SourceFails S.view) }
+{
+    let mut held = Vec::new(alloc);
+    fill_first(source, &mut held, most)?;
+    Ok(held)
+}
+
+/// All bytes of a source; `None` if it gives more than `most`, which has to be below 2^32. At most
+/// one byte more is pulled.
+pub fn read_up_to<S: Source>(
+    alloc: Global,
+    source: &mut S,
+    most: usize,
+) -> Result<Option<Vec<u8>>, FileFault>
+    requires { most < 2 ^ 32 }
+    ensures all { IfOk result (λ o. IfSome o
+        (λ v. Consumes (S.view source.old).remaining (S.view source.new).remaining v.items
+        × IsAtEnd (S.view source.new).remaining)) }
+    ensures long { IfOk result (λ o. IfNone o ((bytes : List ℕ)
+        → (S.view source.old).remaining ≡ Some bytes → most < length bytes)) }
+    ensures faults { IfErr result (IsMemoryOr Read) }
+    ensures failed { IfErr result (λ f. f ≡ Read → SourceFails S.view) }
+{
+    let first = read_first(alloc, source, most + 1)?;
+    if first.len() > most {
+        return Ok(None);
+    }
+    Ok(Some(first))
+}
+
+/// All bytes of a file; `None` if it has more than `most`, which has to be below 2^32. At most one
+/// byte more is pulled.
+pub fn read_file<F: FileSet>(
+    alloc: Global,
+    files: &mut F,
+    name: &str,
+    most: usize,
+) -> Result<Option<Vec<u8>>, OpenFault>
+    requires { most < 2 ^ 32 }
+    ensures kept { (F.view files.new).entries ≡ (F.view files.old).entries }
+    ensures noted { (F.view files.new).events ≡ (F.view files.old).events ++ Opened name.now ∷ [] }
+    ensures all { IfOk result (λ o. IfSome o (λ v. F.shows_bytes ≡ true
+        → (F.view files.old).entries name.now ≡ Some v.items)) }
+    ensures long { IfOk result (λ o. IfNone o (F.shows_bytes ≡ true → (bytes : List ℕ)
+        → (F.view files.old).entries name.now ≡ Some bytes → most < length bytes)) }
+    ensures faults { IfErr result (OpenFails (F.shows_bytes) Read) }
+    ensures reason { F.shows_bytes ≡ true → IfErr result (λ f. f ≡ Fault Read
+        → IsUnread (F.view files.old).entries (F.view files.new).events (SourceFails F.In.view)) }
+{
+    let mut source = files.open(alloc, name)?;
+    Ok(read_up_to(alloc, &mut source, most)?)
+}

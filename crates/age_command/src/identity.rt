@@ -1,0 +1,99 @@
+//! What opens a file, and what the files of secrets hold.
+
+ghost use Rattle.std.specs.Prelude.{◌≡◌, [], ◌∷◌, ◌++◌, true, ℕ, List, IfOk, IfErr, IfSome, IfNone, Some};
+ghost use Rattle.age_fileset.specs.FileSet.{Opened};
+ghost use Rattle.age_keys.specs.Scrypt.{IsAllowed};
+ghost use Rattle.age_keys.specs.X25519.{Shared};
+ghost use Rattle.age_command.specs.Endings.{EndsEarly, is_usage};
+ghost use Rattle.age_command.specs.Identities.{without_line_feed, IsPassphraseIn, IsSharedIn};
+
+use crate::first_bytes::read_file;
+use crate::{Ending, Usage};
+use age_fileset::FileSet;
+use age_keys::{
+    FileKey, KeyFault, KnownKey, PASSPHRASE_LIMIT, Passphrase, SharedSecret, Steps, Unlock,
+};
+use age_stanza::Header;
+use std::alloc::Global;
+
+/// What opens a file.
+#[derive(Drop)]
+pub enum Identity<'a> {
+    /// A passphrase, and the greatest work factor that is accepted.
+    ByPassphrase(Passphrase<'a>),
+    /// A file key.
+    ByFileKey(KnownKey),
+    /// A shared secret, and the recipient that it was made for.
+    ByShared(SharedSecret),
+}
+
+impl<'a> Unlock for Identity<'a> {
+    ghost use Rattle.age_command.specs.Identities.{allows_by, refuses_by, steps_by};
+
+    ghost allows = { allows_by };
+
+    ghost refuses = { refuses_by };
+
+    ghost most_steps = { steps_by };
+
+    fn unlock(
+        &self,
+        alloc: Global,
+        header: &Header,
+        steps: &mut Steps,
+    ) -> Result<FileKey, KeyFault> {
+        match self {
+            Identity::ByPassphrase(pass) => pass.unlock(alloc, header, steps),
+            Identity::ByFileKey(key) => key.unlock(alloc, header, steps),
+            Identity::ByShared(shared) => shared.unlock(alloc, header, steps),
+        }
+    }
+}
+
+/// The bytes without one line feed at their end.
+pub fn trimmed(bytes: &[u8]) -> &[u8]
+    ensures { result.now ≡ without_line_feed bytes.now }
+{
+    let n = bytes.len();
+    if n > 0 && bytes[n - 1] == b'\n' {
+        &bytes[..n - 1]
+    } else {
+        bytes
+    }
+}
+
+/// The most bytes of a passphrase's file: 65,536 and a line feed.
+pub(crate) const PASSPHRASE_FILE_MAX: usize = PASSPHRASE_LIMIT + 1;
+
+/// The length of a shared secret's file: the secret, and the recipient that it was made for.
+pub(crate) const SHARED_FILE_LEN: usize = 64;
+
+/// The bytes of a file that holds a passphrase.
+pub fn read_pass<F: FileSet>(alloc: Global, files: &mut F, name: &str) -> Result<Vec<u8>, Ending>
+    ensures kept { (F.view files.new).entries ≡ (F.view files.old).entries }
+    ensures noted { (F.view files.new).events ≡ (F.view files.old).events ++ Opened name.now ∷ [] }
+    ensures early { IfErr result EndsEarly }
+    ensures read { IfOk result
+        (λ v. F.shows_bytes ≡ true → (F.view files.old).entries name.now ≡ Some v.items) }
+    ensures refused { F.shows_bytes ≡ true → IfErr result (λ e. is_usage e ≡ true
+        → (pass : List ℕ) (log : ℕ)
+        → IsPassphraseIn ((F.view files.old).entries name.now) pass → IsAllowed pass log → ⊥) }
+{
+    let Some(bytes) = read_file(alloc, files, name, PASSPHRASE_FILE_MAX)? else {
+        return Err(Ending::Usage(Usage::BadPassphraseFile));
+    };
+    let pass = trimmed(bytes.as_slice());
+    if pass.is_empty() || pass.len() > PASSPHRASE_LIMIT {
+        return Err(Ending::Usage(Usage::BadPassphraseFile));
+    }
+    Ok(bytes)
+}
+
+/// The shared secret, and the recipient after it.
+pub(crate) fn shared_of(bytes: &[u8]) -> Option<SharedSecret>
+    ensures some { IfSome result (IsSharedIn (Some bytes.now)) }
+    ensures none { IfNone result ((shared : Shared) → IsSharedIn (Some bytes.now) shared → ⊥) }
+{
+    let (shared, recipient) = bytes.split_first_chunk::<32>()?;
+    Some(SharedSecret::new(shared, recipient.as_array::<32>()?))
+}

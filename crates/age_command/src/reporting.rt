@@ -1,0 +1,201 @@
+//! Reports why a run ended.
+
+ghost use Rattle.std.specs.Prelude.{◌≡◌, ◌++◌, [], decimal, Some, true};
+ghost use Rattle.age_fault.specs.Faults.{fault_number, fault_place};
+ghost use Rattle.age_command.specs.Endings.{place_text, fault_line, ReportsEnding, Announces, ReportsRest};
+ghost use Rattle.age_command.specs.declared.ending.Ending.TheVariants.{Fault};
+ghost use Rattle.age_command.specs.declared.ending.Announcement.TheVariants.{Made};
+ghost use Rattle.age_command.specs.inner.Endings.{PutsAll};
+
+use crate::ending::{Announcement, Ending, Usage};
+use crate::put::put_bytes;
+use age_fault::{FileFault, flush_all};
+use age_io::{Failed, Failures, Sink};
+use arrayvec::ArrayVec;
+use itoa::Buffer;
+
+/// A line on the stack, so that it goes out in one put and lines of several runs don't mix. The
+/// longest has 61 bytes.
+#[derive(Debug, Drop)]
+struct FaultLine {
+    bytes: ArrayVec<u8, 128>,
+    failures: Failures,
+}
+
+impl FaultLine {
+    fn new() -> FaultLine
+        ensures { result.bytes.items ≡ [] }
+    {
+        FaultLine {
+            bytes: ArrayVec::new(),
+            failures: Failures::none(),
+        }
+    }
+}
+
+impl Sink for FaultLine {
+    ghost view = { λ line. record {
+      taken = Some line.bytes.items;
+      failed = line.failures.count;
+      failing = line.failures.last;
+      label = [];
+      settled = true;
+    } };
+
+    fn put(&mut self, from: &[u8]) -> Result<usize, Failed> {
+        let taken = match self.bytes.try_extend_from_slice(from) {
+            Ok(()) => Ok(from.len()),
+            Err(_) => Err(Failed),
+        };
+        self.failures.note(taken)
+    }
+
+    fn flush(&mut self) -> Result<(), Failed> {
+        self.failures.note(Ok(()))
+    }
+
+    fn failures(&self) -> u64 {
+        self.failures.count
+    }
+}
+
+/// A word, and a number in decimal.
+fn put_number<E: Sink>(faults: &mut E, word: &str, number: u64) -> Result<(), FileFault>
+    ensures { PutsAll (word.now ++ decimal number) (E.view faults.old) (E.view faults.new) result }
+{
+    put_bytes(faults, word.as_bytes())?;
+    let mut digits = Buffer::new();
+    put_bytes(faults, digits.format(number).as_bytes())
+}
+
+/// The line of a header's fault, or the chunk of a payload's.
+fn put_place<E: Sink>(faults: &mut E, fault: FileFault) -> Result<(), FileFault>
+    ensures { PutsAll (place_text (fault_number fault) (fault_place fault)) (E.view faults.old)
+        (E.view faults.new) result }
+{
+    match fault.place() {
+        Some(line) if fault.number() <= 8 => put_number(faults, " line ", line),
+        Some(chunk) if fault.number() <= 20 => put_number(faults, " chunk ", chunk),
+        _ => Ok(()),
+    }
+}
+
+/// The fault's number and name, and its place. It takes no memory, so that running out of it is
+/// reported too.
+fn put_fault_line<E: Sink>(faults: &mut E, fault: FileFault) -> Result<(), FileFault>
+    ensures { PutsAll (fault_line fault) (E.view faults.old) (E.view faults.new) result }
+{
+    put_number(faults, "age_tool: ", fault.number() as u64)?;
+    put_bytes(faults, b" ")?;
+    put_bytes(faults, fault.name().as_bytes())?;
+    put_place(faults, fault)?;
+    put_bytes(faults, b"\n")
+}
+
+/// One line, in one put.
+fn put_fault<E: Sink>(faults: &mut E, fault: FileFault) -> Result<(), FileFault>
+    ensures { PutsAll (fault_line fault) (E.view faults.old) (E.view faults.new) result }
+{
+    let mut line = FaultLine::new();
+    match put_fault_line(&mut line, fault) {
+        Ok(()) => put_bytes(faults, line.bytes.as_slice()),
+        // A line that is too long goes out in parts.
+        Err(_) => put_fault_line(faults, fault),
+    }
+}
+
+/// What is reported of a bad command line; the number of a script's line follows.
+fn usage_text(usage: Usage) -> &'static str {
+    match usage {
+        Usage::GiveOneIdentity => "give one of --pass, --file-key and --shared",
+        Usage::BadFileKey => "bad file key",
+        Usage::SameFile => "same file named twice",
+        Usage::OutIsTerminal => "the output is a terminal",
+        Usage::BadPassphraseFile => "bad passphrase file",
+        Usage::BadSharedFile => "bad shared file",
+        Usage::BadRandomFile => "bad random file",
+        Usage::GiveClearOrPass => "give one of --clear and --pass",
+        Usage::ScriptTooLong => "script too long",
+        Usage::BadScriptLine(_) => "bad script line ",
+        Usage::PayloadTooLong => "payload too long",
+        Usage::Unread => "bad command line",
+    }
+}
+
+/// The text of a bad command line, which takes no memory either.
+fn put_usage_line<E: Sink>(faults: &mut E, usage: Usage) -> Result<(), FileFault> {
+    put_bytes(faults, b"age_tool: ")?;
+    match usage {
+        Usage::BadScriptLine(line) => put_number(faults, usage_text(usage), line as u64)?,
+        _ => put_bytes(faults, usage_text(usage).as_bytes())?,
+    }
+    put_bytes(faults, b"\n")
+}
+
+/// One line, in one put.
+fn put_usage<E: Sink>(faults: &mut E, usage: Usage) -> Result<(), FileFault> {
+    let mut line = FaultLine::new();
+    match put_usage_line(&mut line, usage) {
+        Ok(()) => put_bytes(faults, line.bytes.as_slice()),
+        Err(_) => put_usage_line(faults, usage),
+    }
+}
+
+fn put_ending<E: Sink>(faults: &mut E, ending: &Ending) -> Result<(), FileFault>
+    ensures { ReportsEnding ending.now (E.view faults.old).taken (E.view faults.new).taken
+        (E.view faults.old).failed (E.view faults.new).failed }
+{
+    match ending {
+        Ending::Words(text) => put_bytes(faults, text.as_bytes())?,
+        Ending::Usage(usage) => put_usage(faults, *usage)?,
+        Ending::Fault(fault) => put_fault(faults, *fault)?,
+        Ending::Unsaved(fault, second) => {
+            put_fault(faults, *fault)?;
+            put_fault(faults, *second)?;
+        }
+    }
+    flush_all(faults)
+}
+
+/// One line, sent on.
+fn send_fault<E: Sink>(faults: &mut E, fault: FileFault) -> Result<(), FileFault>
+    ensures { PutsAll (fault_line fault) (E.view faults.old) (E.view faults.new) result }
+{
+    put_fault(faults, fault)?;
+    flush_all(faults)
+}
+
+/// Puts the line of the fault that ended a run, before a position is saved, which may wait.
+pub fn announce<E: Sink>(faults: &mut E, fault: FileFault) -> Announcement
+    ensures { Announces result (Fault fault) (E.view faults.old) (E.view faults.new) ⊥ }
+{
+    match send_fault(faults, fault) {
+        Ok(()) => Announcement::Made,
+        Err(_) => Announcement::Failed,
+    }
+}
+
+/// Reports that a position couldn't be saved, if that is so.
+fn report_second<E: Sink>(faults: &mut E, ending: &Ending)
+    ensures { ReportsRest Made ending.now (E.view faults.old) (E.view faults.new) }
+{
+    match ending {
+        Ending::Words(_) | Ending::Usage(_) | Ending::Fault(_) => {}
+        Ending::Unsaved(_, second) => {
+            let _ = send_fault(faults, *second);
+        }
+    }
+}
+
+/// Reports why a run ended, if the sink takes it, apart from what is announced.
+pub fn report_ending<E: Sink>(faults: &mut E, ending: &Ending, announcement: Announcement)
+    ensures { ReportsRest announcement ending.now (E.view faults.old) (E.view faults.new) }
+{
+    match announcement {
+        Announcement::Unmade => {
+            let _ = put_ending(faults, ending);
+        }
+        Announcement::Made => report_second(faults, ending),
+        Announcement::Failed => {}
+    }
+}

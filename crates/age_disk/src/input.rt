@@ -1,0 +1,210 @@
+//! A file of the machine that is read.
+
+ghost use Rattle.std.specs.Prelude.{◌≡◌, None};
+ghost use Rattle.std.specs.Io.{ReadsAtMost};
+
+use crate::names::{FileId, Resolved, Stream, above_streams, is_on_disk, is_random, resolve};
+use crate::retry::{TRIES, is_to_retry, too_many_tries};
+use age_io::{Failed, Failures, Source};
+use std::alloc::Global;
+use std::fs::{File, Metadata};
+use std::io::{self, Read, Seek, SeekFrom};
+use std::marker::Model;
+use std::rt::{HostRuntime, Stdin};
+
+/// The name of the machine's random bytes. What is read under it is no file that somebody filled:
+/// two runs would take the same keys from it.
+const RANDOM: &str = "/dev/urandom";
+
+/// Where its bytes come from.
+#[derive(Drop)]
+enum Origin {
+    /// A file that was opened.
+    File(File),
+    /// Standard input, from where it stands.
+    Input(Stdin),
+    /// A file that isn't there.
+    Nothing,
+}
+
+impl Origin {
+    /// Reads, and tries again if the machine says to.
+    fn read(&mut self, rt: &HostRuntime, into: &mut [u8]) -> io::Result<usize>
+        ensures { ReadsAtMost result into.new }
+    {
+        for _ in 0..TRIES {
+            match self.read_once(into) {
+                Err(error) if is_to_retry(rt, &error) => {}
+                read => return read,
+            }
+        }
+        Err(too_many_tries())
+    }
+
+    fn read_once(&mut self, into: &mut [u8]) -> io::Result<usize>
+        ensures { ReadsAtMost result into.new }
+    {
+        match self {
+            Origin::File(file) => file.read(into),
+            Origin::Input(input) => input.read(into),
+            Origin::Nothing => Ok(0),
+        }
+    }
+}
+
+/// How many bytes a regular file has.
+fn length_of(metadata: &Metadata) -> Option<u64> {
+    if metadata.is_file() {
+        Some(metadata.len())
+    } else {
+        None
+    }
+}
+
+/// A file of the machine that is read, or standard input. A contract sees none of its bytes, only
+/// how many pulls have failed and whether the last one did.
+#[derive(Drop)]
+pub struct HostIn {
+    rt: HostRuntime,
+    origin: Origin,
+    // How many bytes are still to come of a regular file.
+    left: Option<u64>,
+    failures: Failures,
+    // What the machine answered to the last pull that failed.
+    error: io::Error,
+}
+
+impl Model for HostIn {
+    ghost use Rattle.std.specs.Prelude.{ℕ, Bool};
+
+    ghost Value = { ℕ × Bool };
+
+    ghost view = { λ s. (s.failures.count, s.failures.last) };
+}
+
+impl HostIn {
+    /// Opens what a name stands for, and says which regular file it is. Standard output, standard
+    /// error and folders can't be read.
+    pub fn open(
+        alloc: Global,
+        rt: &HostRuntime,
+        name: &str,
+    ) -> io::Result<(HostIn, Option<FileId>)> {
+        match resolve(alloc, rt, name)? {
+            Resolved::Stream(stream) => HostIn::open_stream(rt, stream),
+            Resolved::Path(_) => HostIn::open_path(rt, name),
+        }
+    }
+
+    /// Like `open`, but a missing file counts as empty.
+    pub fn open_or_empty(
+        alloc: Global,
+        rt: &HostRuntime,
+        name: &str,
+    ) -> io::Result<(HostIn, Option<FileId>)> {
+        match HostIn::open(alloc, rt, name) {
+            Err(error) if error.kind() == io::ErrorKind::NotFound => {
+                Ok((HostIn::new(rt, Origin::Nothing, Some(0)), None))
+            }
+            opened => opened,
+        }
+    }
+
+    fn new(rt: &HostRuntime, origin: Origin, left: Option<u64>) -> HostIn {
+        HostIn {
+            rt: *rt,
+            origin,
+            left,
+            failures: Failures::none(),
+            error: io::Error::from(io::ErrorKind::Other),
+        }
+    }
+
+    /// What the machine answered to the last pull that failed.
+    pub fn error(&self) -> io::Error {
+        self.error
+    }
+
+    /// How many bytes a regular file still has to give, by its length as it was opened.
+    pub fn length(&self) -> Option<u64> {
+        self.left
+    }
+
+    /// Whether it can be read once more from its start. Standard input can't: where it stood at
+    /// first isn't known.
+    pub fn can_reread(&self) -> bool {
+        match &self.origin {
+            Origin::File(file) => file.metadata().is_ok_and(|metadata| is_on_disk(&metadata)),
+            _ => false,
+        }
+    }
+
+    /// Sets it back to its start, by its descriptor: its name isn't looked up again.
+    pub fn reread(&mut self) -> io::Result<()> {
+        let Origin::File(file) = &mut self.origin else {
+            return Err(io::Error::from(io::ErrorKind::Unsupported));
+        };
+        file.seek(SeekFrom::Start(0))?;
+        self.left = length_of(&file.metadata()?);
+        Ok(())
+    }
+
+    fn open_stream(rt: &HostRuntime, stream: Stream) -> io::Result<(HostIn, Option<FileId>)> {
+        let Stream::Input = stream else {
+            return Err(io::Error::from(io::ErrorKind::Unsupported));
+        };
+        stream.check(rt)?;
+        let id = FileId::of_open_stream(rt, stream)?;
+        Ok((HostIn::new(rt, Origin::Input(rt.stdin()), None), id))
+    }
+
+    fn open_path(rt: &HostRuntime, name: &str) -> io::Result<(HostIn, Option<FileId>)> {
+        let file = above_streams(File::open(rt, name)?)?;
+        let metadata = file.metadata()?;
+        if metadata.is_dir() {
+            return Err(io::Error::from(io::ErrorKind::IsADirectory));
+        }
+        if name == RANDOM && !is_random(&metadata) {
+            return Err(io::Error::other("it isn't the system's random device"));
+        }
+        Ok(HostIn::of_file(rt, file, &metadata))
+    }
+
+    fn of_file(rt: &HostRuntime, file: File, metadata: &Metadata) -> (HostIn, Option<FileId>) {
+        (
+            HostIn::new(rt, Origin::File(file), length_of(metadata)),
+            FileId::of(metadata),
+        )
+    }
+
+    fn read(&mut self, into: &mut [u8]) -> io::Result<usize>
+        ensures bound { ReadsAtMost result into.new }
+        ensures counted { self.new ≡ self.old }
+    {
+        self.origin.read(&self.rt, into)
+    }
+}
+
+impl Source for HostIn {
+    ghost view = { λ s. record { remaining = None; failed = s.0; failing = s.1 } };
+
+    fn pull(&mut self, into: &mut [u8]) -> Result<usize, Failed> {
+        let pulled = match self.read(into) {
+            Ok(n) => {
+                if let Some(left) = &mut self.left {
+                    *left = left.saturating_sub(n as u64);
+                }
+                Ok(n)
+            }
+            Err(error) => {
+                self.error = error;
+                Err(Failed)
+            }
+        };
+        self.failures.note(pulled)
+    }
+
+    fn failures(&self) -> u64 {
+        self.failures.count
+    }
+}

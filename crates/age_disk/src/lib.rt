@@ -1,0 +1,19 @@
+//! Single files of the machine: what a name stands for, what is locked, read, written and synced, and
+//! what is to be replaced later.
+#![tactic(auto)]
+
+mod input;
+mod lock;
+mod names;
+mod output;
+mod paths;
+mod prepare;
+mod replace;
+mod retry;
+mod sync;
+
+pub use input::HostIn;
+pub use names::{FileId, Node, Resolved, Stream, StreamId, found_at};
+pub use output::HostOut;
+pub use prepare::Prepared;
+pub use replace::replace;

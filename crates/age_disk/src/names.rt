@@ -1,0 +1,274 @@
+//! What the machine's names stand for: an inherited stream, or a file, whatever links lead to it.
+
+use std::alloc::Global;
+use std::fs::{self, File, Metadata};
+use std::io;
+use std::os::fd::{AsFd, AsRawFd, BorrowedFd};
+use std::os::unix::fs::{FileTypeExt, MetadataExt};
+use std::path::PathBuf;
+use std::rt::HostRuntime;
+
+/// A stream that the program was started with.
+#[derive(Clone, Copy)]
+pub enum Stream {
+    /// Standard input.
+    Input,
+    /// Standard output.
+    Output,
+    /// Standard error.
+    Faults,
+}
+
+impl Stream {
+    /// The stream of this name.
+    fn named(name: &str) -> Option<Stream> {
+        match name {
+            "/dev/stdin" => Some(Stream::Input),
+            "/dev/stdout" => Some(Stream::Output),
+            "/dev/stderr" => Some(Stream::Faults),
+            _ => Stream::numbered(name),
+        }
+    }
+
+    /// The stream whose descriptor has this name.
+    fn numbered(name: &str) -> Option<Stream> {
+        match name {
+            "/dev/fd/0" | "/proc/self/fd/0" => Some(Stream::Input),
+            "/dev/fd/1" | "/proc/self/fd/1" => Some(Stream::Output),
+            "/dev/fd/2" | "/proc/self/fd/2" => Some(Stream::Faults),
+            _ => None,
+        }
+    }
+
+    /// The path at which the system shows what the stream is connected to.
+    pub fn path(self) -> &'static str {
+        match self {
+            Stream::Input => "/proc/self/fd/0",
+            Stream::Output => "/proc/self/fd/1",
+            Stream::Faults => "/proc/self/fd/2",
+        }
+    }
+
+    /// Fails if the program was started without this stream.
+    pub fn check(self, rt: &HostRuntime) -> io::Result<()> {
+        match self {
+            Stream::Input => check_open(rt.stdin().as_fd()),
+            Stream::Output => check_open(rt.stdout().as_fd()),
+            Stream::Faults => check_open(rt.stderr().as_fd()),
+        }
+    }
+}
+
+/// Fails if nothing is open at a descriptor.
+fn check_open(descriptor: BorrowedFd<'_>) -> io::Result<()> {
+    descriptor.try_clone_to_owned()?;
+    Ok(())
+}
+
+/// What a name stands for.
+#[derive(Drop)]
+pub enum Resolved {
+    /// A stream that the program was started with.
+    Stream(Stream),
+    /// A path that is no link; whether there is a file is another matter.
+    Path(PathBuf),
+}
+
+/// How many links are followed, as the system does.
+const LINKS_MAX: usize = 40;
+
+/// What a name stands for, at the end of its links.
+pub fn resolve(alloc: Global, rt: &HostRuntime, name: &str) -> io::Result<Resolved> {
+    let mut path = PathBuf::from_str(alloc, name)?;
+    for _ in 0..=LINKS_MAX {
+        if let Some(stream) = Stream::named(path.as_str()) {
+            return Ok(Resolved::Stream(stream));
+        }
+        match target_of(alloc, rt, &path)? {
+            Some(target) => path = target,
+            None => return Ok(Resolved::Path(path)),
+        }
+    }
+    Err(io::Error::from(io::ErrorKind::FilesystemLoop))
+}
+
+/// Where a link leads; `None` for what is no link.
+fn target_of(alloc: Global, rt: &HostRuntime, path: &PathBuf) -> io::Result<Option<PathBuf>> {
+    match fs::read_link(rt, path.as_str()) {
+        Ok(target) => joined(alloc, path, target),
+        Err(error) if error.kind() == io::ErrorKind::OutOfMemory => Err(error),
+        Err(_) => Ok(None),
+    }
+}
+
+/// Where a link at a path leads, from what it holds.
+fn joined(alloc: Global, path: &PathBuf, target: PathBuf) -> io::Result<Option<PathBuf>> {
+    match path.parent() {
+        Some(folder) => Ok(Some(folder.join(alloc, target.as_str())?)),
+        None => Ok(Some(target)),
+    }
+}
+
+/// Identifies a file, whatever its names.
+#[derive(Clone, Copy, PartialEq, Eq)]
+pub enum FileId {
+    /// A regular file or a pipe, by its device and inode.
+    File(u64, u64),
+    /// A block device, by its number.
+    Block(u64),
+}
+
+impl FileId {
+    /// `None` for a terminal or another character device, and for a socket: what is written to one
+    /// is never read from it again.
+    pub fn of(metadata: &Metadata) -> Option<FileId> {
+        let kind = metadata.file_type();
+        if kind.is_block_device() {
+            Some(FileId::Block(metadata.rdev()))
+        } else if kind.is_file() || kind.is_fifo() {
+            Some(FileId::File(metadata.dev(), metadata.ino()))
+        } else {
+            None
+        }
+    }
+
+    /// The id of the file to which a name leads, if there is one.
+    pub fn at(rt: &HostRuntime, name: &str) -> Option<FileId> {
+        match fs::metadata(rt, name) {
+            Ok(metadata) => FileId::of(&metadata),
+            Err(_) => None,
+        }
+    }
+
+    /// The id of the file to which a stream leads that is open. Fails if the system doesn't show
+    /// that, as when there is no /proc: what is read could be overwritten.
+    pub fn of_open_stream(rt: &HostRuntime, stream: Stream) -> io::Result<Option<FileId>> {
+        Ok(FileId::of(&fs::metadata(rt, stream.path())?))
+    }
+
+    /// The id of the file to which a stream leads, if that is known.
+    pub fn of_stream(rt: &HostRuntime, stream: Stream) -> Option<FileId> {
+        FileId::at(rt, stream.path())
+    }
+}
+
+/// Identifies what gives each of its bytes once, whatever its names.
+#[derive(Clone, Copy, PartialEq, Eq)]
+pub enum StreamId {
+    /// Standard input, if it is a file that others can open: it is read on from where it stands.
+    Input,
+    /// A terminal, or another device that is read byte by byte, by its number.
+    Device(u64),
+    /// A pipe, a socket or another file of their kind, by its device and inode.
+    Pipe(u64, u64),
+}
+
+/// The number of `/dev/tty`, which is the same terminal as another device.
+const CONTROLLING_TERMINAL: u64 = 0x500;
+
+impl StreamId {
+    /// The stream to which a name leads, before it is opened: `None` for what can be read twice.
+    /// Fails if memory is refused.
+    pub fn at(alloc: Global, rt: &HostRuntime, name: &str) -> io::Result<Option<StreamId>> {
+        match resolve(alloc, rt, name) {
+            Ok(Resolved::Path(_)) => Ok(StreamId::found(rt, name)),
+            Ok(Resolved::Stream(Stream::Input)) => Ok(Some(StreamId::of_input(rt))),
+            Err(error) if error.kind() == io::ErrorKind::OutOfMemory => Err(error),
+            _ => Ok(None),
+        }
+    }
+
+    /// The stream that standard input is.
+    fn of_input(rt: &HostRuntime) -> StreamId {
+        match StreamId::found(rt, Stream::Input.path()) {
+            Some(id) => id,
+            None => StreamId::Input,
+        }
+    }
+
+    /// The stream that is found at a path.
+    fn found(rt: &HostRuntime, path: &str) -> Option<StreamId> {
+        match fs::metadata(rt, path) {
+            Ok(metadata) => StreamId::of(&metadata),
+            Err(_) => None,
+        }
+    }
+
+    fn of(metadata: &Metadata) -> Option<StreamId> {
+        let kind = metadata.file_type();
+        if kind.is_file() || kind.is_dir() || kind.is_block_device() {
+            None
+        } else if kind.is_char_device() {
+            StreamId::of_device(metadata.rdev())
+        } else {
+            Some(StreamId::Pipe(metadata.dev(), metadata.ino()))
+        }
+    }
+
+    /// `None` for the devices without an end or a state: `/dev/null`, `zero`, `full`, `random` and
+    /// `urandom`.
+    fn of_device(number: u64) -> Option<StreamId> {
+        match number {
+            0x103 | 0x105 | 0x107 | 0x108 | 0x109 => None,
+            _ => Some(StreamId::Device(number)),
+        }
+    }
+
+    /// Whether two are one stream, as far as the system shows.
+    pub fn is_same(self, other: StreamId) -> bool {
+        match (self, other) {
+            (StreamId::Device(CONTROLLING_TERMINAL), StreamId::Device(_)) => true,
+            (StreamId::Device(_), StreamId::Device(CONTROLLING_TERMINAL)) => true,
+            _ => self == other,
+        }
+    }
+}
+
+/// Identifies a file of any kind, as long as it exists.
+#[derive(Clone, Copy, PartialEq, Eq)]
+pub struct Node {
+    device: u64,
+    inode: u64,
+}
+
+impl Node {
+    pub fn of(metadata: &Metadata) -> Node {
+        Node {
+            device: metadata.dev(),
+            inode: metadata.ino(),
+        }
+    }
+}
+
+/// Whether a file holds bytes that can reach a disk.
+pub fn is_on_disk(metadata: &Metadata) -> bool {
+    let kind = metadata.file_type();
+    kind.is_file() || kind.is_block_device()
+}
+
+/// Whether a file is the machine's generator of random bytes.
+pub fn is_random(metadata: &Metadata) -> bool {
+    metadata.file_type().is_char_device() && matches!(metadata.rdev(), 0x108 | 0x109)
+}
+
+/// The metadata of what is at a path, also of a link; `None` if nothing is there.
+pub fn found_at(rt: &HostRuntime, path: &str) -> io::Result<Option<Metadata>> {
+    match fs::symlink_metadata(rt, path) {
+        Ok(found) => Ok(Some(found)),
+        Err(error) if error.kind() == io::ErrorKind::NotFound => Ok(None),
+        Err(error) => Err(error),
+    }
+}
+
+/// The highest descriptor of a standard stream.
+const STREAM_MAX: i32 = 2;
+
+/// Moves a file to a descriptor above 2. If the program was started with a standard stream closed,
+/// the next file opened would take its place, and output meant for the stream would go there.
+pub fn above_streams(file: File) -> io::Result<File> {
+    if file.as_raw_fd() > STREAM_MAX {
+        Ok(file)
+    } else {
+        file.try_clone()
+    }
+}

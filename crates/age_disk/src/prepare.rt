@@ -1,0 +1,223 @@
+//! A file of the machine that is to be replaced later.
+
+use crate::lock::lock;
+use crate::names::{FileId, Node, Resolved, Stream, above_streams, found_at, is_on_disk, resolve};
+use crate::paths::open_at_once;
+use crate::sync::folder_of;
+use std::alloc::Global;
+use std::fs::{self, File, Metadata};
+use std::io;
+use std::path::PathBuf;
+use std::rt::HostRuntime;
+
+/// What was found where a name leads.
+#[derive(Drop)]
+enum Found {
+    /// Nothing, or a standard stream.
+    Nothing,
+    /// A file that can be written, kept open.
+    File(File),
+    /// A pipe or a character device.
+    Device(Node),
+}
+
+/// A folder that a path leads into.
+#[derive(Drop)]
+enum Folder {
+    /// Its path, without links.
+    Path(PathBuf),
+    /// What it is, if it has no such path, as when that is longer than the system takes.
+    Node(Node),
+}
+
+impl Folder {
+    /// The folder that a path leads into. Fails if that isn't known.
+    fn of(rt: &HostRuntime, path: &PathBuf) -> io::Result<Folder> {
+        match fs::canonicalize(rt, folder_of(path)) {
+            Ok(folder) => Ok(Folder::Path(folder)),
+            Err(error) if error.kind() == io::ErrorKind::OutOfMemory => Err(error),
+            Err(_) => Ok(Folder::Node(Node::of(&fs::metadata(rt, folder_of(path))?))),
+        }
+    }
+
+    fn is_same(&self, other: &Folder) -> bool {
+        match (self, other) {
+            (Folder::Path(one), Folder::Path(other)) => one.as_str() == other.as_str(),
+            (Folder::Node(one), Folder::Node(other)) => one == other,
+            _ => false,
+        }
+    }
+}
+
+/// A file that is to be replaced later: where its name led when that was judged.
+#[derive(Drop)]
+pub struct Prepared {
+    name: String,
+    resolved: Resolved,
+    // The folder that its path leads into, if a path leads to it.
+    folder: Option<Folder>,
+    found: Found,
+    // A file that it may be although that is open.
+    spared: Option<FileId>,
+}
+
+impl Prepared {
+    /// Judges where a name leads, and tries whether a file there can be written, as far as this
+    /// changes nothing: a pipe isn't opened, since that would wait for its reader, and if there is
+    /// no file, only its folder has to be there.
+    pub fn new(
+        alloc: Global,
+        rt: &HostRuntime,
+        name: &str,
+        spared: Option<FileId>,
+    ) -> io::Result<Prepared> {
+        let resolved = resolve(alloc, rt, name)?;
+        let found = match &resolved {
+            Resolved::Stream(stream) => check_stream(rt, *stream)?,
+            Resolved::Path(path) => check_path(rt, name, path)?,
+        };
+        let folder = folder_in(rt, &resolved, &found)?;
+        Ok(Prepared {
+            name: String::from_str(alloc, name)?,
+            resolved,
+            folder,
+            found,
+            spared,
+        })
+    }
+
+    /// Takes the file that was found for this run alone. Fails if another run has it.
+    pub fn claim(&self) -> io::Result<()> {
+        match &self.found {
+            Found::File(file) => lock(file),
+            _ => Ok(()),
+        }
+    }
+
+    /// Whether this is the file that was found, and so one that this run has claimed.
+    pub fn has_claimed(&self, node: Node) -> bool {
+        match &self.found {
+            Found::File(file) => matches!(file.metadata(), Ok(own) if Node::of(&own) == node),
+            _ => false,
+        }
+    }
+
+    /// Fails if its path no longer leads into the same folder. What is done there next goes by its
+    /// path again, so somebody who may rename that folder has the moment between.
+    pub fn check_folder(&self, rt: &HostRuntime) -> io::Result<()> {
+        match (&self.folder, folder_in(rt, &self.resolved, &self.found)) {
+            (Some(before), Ok(Some(now))) if before.is_same(&now) => Ok(()),
+            (None, Ok(None)) => Ok(()),
+            (_, Err(error)) if error.kind() == io::ErrorKind::OutOfMemory => Err(error),
+            _ => Err(io::Error::other("its folder has changed")),
+        }
+    }
+
+    /// The name under which it was prepared.
+    pub fn name(&self) -> &str {
+        self.name.as_str()
+    }
+
+    /// Whether it was prepared under this name.
+    pub fn is_named(&self, name: &str) -> bool {
+        self.name.as_str() == name
+    }
+
+    /// The pipe or the device to which the name led, if it was one, with that name: no path may
+    /// lead to it, as when the name is a descriptor's.
+    pub fn device(&self) -> Option<(&str, Node)> {
+        match self.found {
+            Found::Device(node) => Some((self.name.as_str(), node)),
+            _ => None,
+        }
+    }
+
+    /// Where its name led.
+    pub fn resolved(&self) -> &Resolved {
+        &self.resolved
+    }
+
+    /// Which file is there now, if that is known, unless it may be open.
+    pub fn id(&self, rt: &HostRuntime) -> Option<FileId> {
+        let found = match self.found {
+            Found::Device(_) => FileId::at(rt, self.name.as_str()),
+            _ => id_in(rt, &self.resolved),
+        };
+        if found == self.spared { None } else { found }
+    }
+}
+
+/// The folder that a path leads into; `None` for what no path need lead to.
+fn folder_in(rt: &HostRuntime, resolved: &Resolved, found: &Found) -> io::Result<Option<Folder>> {
+    match (resolved, found) {
+        (Resolved::Stream(_), _) | (_, Found::Device(_)) => Ok(None),
+        (Resolved::Path(path), _) => Ok(Some(Folder::of(rt, path)?)),
+    }
+}
+
+/// Which file is there, if that is known.
+fn id_in(rt: &HostRuntime, resolved: &Resolved) -> Option<FileId> {
+    match resolved {
+        Resolved::Stream(stream) => FileId::of_stream(rt, *stream),
+        Resolved::Path(path) => match found_at(rt, path.as_str()) {
+            Ok(Some(found)) => FileId::of(&found),
+            _ => None,
+        },
+    }
+}
+
+/// Fails if a stream can't be written.
+fn check_stream(rt: &HostRuntime, stream: Stream) -> io::Result<Found> {
+    if let Stream::Input = stream {
+        return Err(io::Error::from(io::ErrorKind::Unsupported));
+    }
+    stream.check(rt)?;
+    Ok(Found::Nothing)
+}
+
+/// Fails if a file can't be written, by the name that leads to it and by its path.
+fn check_path(rt: &HostRuntime, name: &str, path: &PathBuf) -> io::Result<Found> {
+    match fs::metadata(rt, name) {
+        Ok(found) => check_found(rt, name, path, &found),
+        Err(error) if error.kind() == io::ErrorKind::NotFound => {
+            check_folder(rt, path)?;
+            Ok(Found::Nothing)
+        }
+        Err(error) => Err(error),
+    }
+}
+
+/// Fails if the file to which a name leads can't be written, or isn't the one at the path.
+fn check_found(
+    rt: &HostRuntime,
+    name: &str,
+    path: &PathBuf,
+    found: &Metadata,
+) -> io::Result<Found> {
+    if found.is_dir() {
+        return Err(io::Error::from(io::ErrorKind::IsADirectory));
+    }
+    if !is_on_disk(found) {
+        return Ok(Found::Device(Node::of(found)));
+    }
+    match found_at(rt, path.as_str())? {
+        Some(there) if FileId::of(&there) == FileId::of(found) => {}
+        _ => return Err(io::Error::from(io::ErrorKind::NotFound)),
+    }
+    match open_at_once(rt, name)? {
+        Some(file) => Ok(Found::File(above_streams(file)?)),
+        None => Ok(Found::Nothing),
+    }
+}
+
+/// Fails if no file can be made at a path, since it has no name or its folder isn't there.
+fn check_folder(rt: &HostRuntime, path: &PathBuf) -> io::Result<()> {
+    if path.as_str().is_empty() || path.as_str().ends_with('/') {
+        return Err(io::Error::from(io::ErrorKind::IsADirectory));
+    }
+    if fs::metadata(rt, folder_of(path))?.is_dir() {
+        Ok(())
+    } else {
+        Err(io::Error::from(io::ErrorKind::NotADirectory))
+    }
+}

@@ -1,4 +1,0 @@
-pub mod Files
-pub mod Identities
-pub mod Orders
-pub mod inner

@@ -1,0 +1,254 @@
+//! What the machine answered when a run failed, for a line that says so.
+
+ghost use Rattle.std.specs.Prelude.{◌≡◌, ◌⊎◌, codes, IfSome};
+
+use crate::escaped::Escaped;
+use arrayvec::ArrayString;
+use std::cell::Cell;
+use std::fmt::{self, Formatter, Write};
+use std::io;
+
+/// What was to be done with a file.
+#[derive(Clone, Copy, PartialEq, Eq)]
+pub enum Action {
+    /// To open it, to be read.
+    Open,
+    /// To read it.
+    Read,
+    /// To read it once more.
+    Reread,
+    /// To make it.
+    Create,
+    /// To open it to be written, or to write it.
+    Write,
+    /// To end it once it has reached the disk.
+    Sync,
+    /// To put a position into it.
+    Save,
+}
+
+impl Action {
+    /// The words before the file's name, and those after it.
+    fn words(self) -> (&'static str, &'static str) {
+        match self {
+            Action::Open => ("open ", ""),
+            Action::Read => ("read ", ""),
+            Action::Reread => ("read ", " again"),
+            Action::Create => ("create ", ""),
+            Action::Write => ("write ", ""),
+            Action::Sync => ("write ", " to disk"),
+            Action::Save => ("save the position to ", ""),
+        }
+    }
+
+    /// The number of the fault that it leads to.
+    pub fn fault_number(self) -> u8 {
+        match self {
+            Action::Open | Action::Read | Action::Reread => 26,
+            _ => 27,
+        }
+    }
+}
+
+/// What could not be done with which file, and what the machine answered.
+#[derive(Clone, Copy)]
+pub struct Failure<'w> {
+    pub action: Action,
+    name: &'w str,
+    error: io::Error,
+}
+
+impl<'w> fmt::Display for Failure<'w> {
+    fn fmt<W: fmt::Write>(&self, f: &mut Formatter<W>) -> fmt::Result {
+        let (before, after) = self.action.words();
+        let name = Escaped(self.name.as_bytes());
+        write!(f, "can't {before}{name}{after}: ")?;
+        show_error(self.error, f)
+    }
+}
+
+/// If std says a kind of its own, the system's words for it.
+fn kind_text(kind: io::ErrorKind) -> Option<&'static str> {
+    match kind {
+        io::ErrorKind::NotFound => Some("No such file or directory"),
+        io::ErrorKind::AlreadyExists => Some("this run uses the file"),
+        io::ErrorKind::NotADirectory => Some("Not a directory"),
+        io::ErrorKind::IsADirectory => Some("Is a directory"),
+        io::ErrorKind::FilesystemLoop => Some("Too many levels of symbolic links"),
+        io::ErrorKind::Unsupported => Some("Operation not supported"),
+        io::ErrorKind::WriteZero => Some("no byte was taken"),
+        _ => None,
+    }
+}
+
+/// What the system says, without the number that std puts after it.
+fn show_error<W: fmt::Write>(error: io::Error, f: &mut Formatter<W>) -> fmt::Result {
+    if error.raw_os_error().is_none()
+        && let Some(text) = kind_text(error.kind())
+    {
+        return f.write_str(text);
+    }
+    let mut text = ArrayString::<320>::new();
+    write!(text, "{error}")?;
+    match text.as_str().split_once(" (os error ") {
+        Some((words, _)) => f.write_str(words),
+        None => f.write_str(text.as_str()),
+    }
+}
+
+/// Two names of one file; only one, if the other isn't known.
+#[derive(Clone, Copy)]
+pub struct Twice<'w> {
+    one: &'w str,
+    other: Option<&'w str>,
+}
+
+impl<'w> fmt::Display for Twice<'w> {
+    fn fmt<W: fmt::Write>(&self, f: &mut Formatter<W>) -> fmt::Result {
+        let one = Escaped(self.one.as_bytes());
+        match self.other {
+            Some(other) => {
+                let other = Escaped(other.as_bytes());
+                write!(f, "{one} and {other} are the same file")
+            }
+            None => write!(f, "{one} is another file of this command too"),
+        }
+    }
+}
+
+/// How many bytes were read of a file.
+#[derive(Clone, Copy)]
+pub struct Amount<'w> {
+    pub name: &'w str,
+    pub bytes: u64,
+}
+
+/// Where random bytes come from if the command line names no file.
+const RANDOM: &str = "/dev/urandom";
+
+/// What standard error is called.
+const FAULTS: &str = "standard error";
+
+/// What failed in a run, for a line that says so: what failed first, what kept a position from
+/// being saved, which names were found to be one file, and which file was read last. The files of a
+/// run share it. No memory is needed for a failure, since the words of the command line have the
+/// names.
+#[derive(Drop)]
+pub struct Failures<'w> {
+    words: &'w [&'w str],
+    first: Cell<Option<Failure<'w>>>,
+    unsaved: Cell<Option<Failure<'w>>>,
+    twice: Cell<Option<Twice<'w>>>,
+    last_read: Cell<Amount<'w>>,
+}
+
+impl<'w> Failures<'w> {
+    /// None yet, of a run with these words on its command line.
+    pub fn new(words: &'w [&'w str]) -> Failures<'w> {
+        Failures {
+            words,
+            first: Cell::new(None),
+            unsaved: Cell::new(None),
+            twice: Cell::new(None),
+            last_read: Cell::new(Amount { name: "", bytes: 0 }),
+        }
+    }
+
+    /// The name as it ends a word of the command line.
+    pub fn word(&self, name: &str) -> &'w str
+        ensures { (result.now ≡ name.now) ⊎ (result.now ≡ codes "/dev/urandom") }
+    {
+        for word in self.words {
+            if let Some(end) = end_of(word, name) {
+                return end;
+            }
+        }
+        RANDOM
+    }
+
+    /// Keeps a failure, if it is the first: what follows from it isn't why the run stopped.
+    pub fn note(&self, action: Action, name: &'w str, error: io::Error) {
+        if self.first.get().is_none() {
+            self.first.set(Some(Failure {
+                action,
+                name,
+                error,
+            }));
+        }
+    }
+
+    /// Keeps why a position wasn't saved.
+    pub fn note_unsaved(&self, name: &str, error: io::Error) {
+        self.unsaved.set(Some(Failure {
+            action: Action::Save,
+            name: self.word(name),
+            error,
+        }));
+    }
+
+    /// Keeps why the position of a stop wasn't found.
+    pub fn note_unfound(&self, name: &'w str, error: io::Error) {
+        self.unsaved.set(Some(Failure {
+            action: Action::Reread,
+            name,
+            error,
+        }));
+    }
+
+    /// Keeps two names that are one file.
+    pub fn note_twice(&self, one: &str, other: &str) {
+        let other = Some(self.word(other));
+        let one = self.word(one);
+        self.twice.set(Some(Twice { one, other }));
+    }
+
+    /// Keeps a name of a file that is also standard error's, or has some other name.
+    pub fn note_used(&self, one: &str, is_for_faults: bool) {
+        let other = if is_for_faults { Some(FAULTS) } else { None };
+        let one = self.word(one);
+        self.twice.set(Some(Twice { one, other }));
+    }
+
+    /// Begins to count what is read of a file.
+    pub fn begin_reading(&self, name: &'w str) {
+        self.last_read.set(Amount { name, bytes: 0 });
+    }
+
+    /// Counts what was read of a file, if it is the one that was opened last.
+    pub fn count(&self, name: &'w str, bytes: u64) {
+        let last = self.last_read.get();
+        if last.name == name {
+            let bytes = last.bytes.saturating_add(bytes);
+            self.last_read.set(Amount { name, bytes });
+        }
+    }
+
+    /// What failed first.
+    pub fn first(&self) -> Option<Failure<'w>> {
+        self.first.get()
+    }
+
+    /// What kept a position from being saved.
+    pub fn unsaved(&self) -> Option<Failure<'w>> {
+        self.unsaved.get()
+    }
+
+    /// Which names were found to be one file.
+    pub fn twice(&self) -> Option<Twice<'w>> {
+        self.twice.get()
+    }
+
+    /// Which file was opened last to be read, and how much of it was.
+    pub fn last_read(&self) -> Amount<'w> {
+        self.last_read.get()
+    }
+}
+
+/// The end of a word, if it is this name.
+fn end_of<'w>(word: &'w str, name: &str) -> Option<&'w str>
+    ensures { IfSome result (λ end. end.now ≡ name.now) }
+{
+    let at = word.len().checked_sub(name.len())?;
+    let end = word.get(at..)?;
+    if end == name { Some(end) } else { None }
+}

@@ -1,0 +1,23 @@
+//! What people read: the line on a terminal that shows how far a run is, and what the machine
+//! answered if something failed, which is said after the fault that it became.
+//!
+//! A `ProgressLine` is a meter that shows how many bytes were read on one line, which it writes over
+//! and over into a sink. `Failures` keeps what the machine answered when something failed, and
+//! `explain` says it after the fault that it became.
+#![tactic(auto)]
+
+mod escaped;
+mod explaining;
+mod failures;
+mod heard;
+mod hints;
+mod line;
+mod progress_line;
+mod text;
+mod unread;
+
+pub use explaining::explain;
+pub use failures::{Action, Amount, Failure, Failures, Twice};
+pub use heard::Heard;
+pub use progress_line::ProgressLine;
+pub use unread::{announce_reading, explain_words};

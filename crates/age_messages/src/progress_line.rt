@@ -1,0 +1,109 @@
+//! A meter that shows how far a run is.
+
+ghost use Rattle.std.specs.Prelude.{◌≡◌, ◌+◌, None, Some, true, false, codes};
+ghost use Rattle.age_io.specs.Io.{with_more};
+ghost use Rattle.age_messages.specs.Lines.{progress_line, mark, first_mark, is_due, Shows};
+
+use crate::line::{line_of, mark_of};
+use crate::text::show;
+use age_io::{Meter, Sink};
+
+/// A meter that shows how far a run is on one line of a sink, which each later line is written
+/// over, as it ends in a carriage return.
+///
+/// If the length is known a line is due as the percentage rises, and otherwise, or after more was
+/// read than that, with each 64 MiB. A contract sees the sink, the length, how many bytes were
+/// read, the percentage or the number of times 64 MiB at which the next line is due, and whether
+/// there is a line to end. What the sink fails to take is left out.
+#[derive(Debug, Drop)]
+pub struct ProgressLine<O: Sink> {
+    sink: O,
+    length: Option<u64>,
+    count: u64,
+    next: u64,
+    shown: bool,
+}
+
+impl<O: Sink> ProgressLine<O> {
+    /// A line in this sink, for a run whose length isn't known before it begins.
+    pub fn new(sink: O) -> ProgressLine<O>
+        ensures { result ≡ record {
+          sink = sink;
+          length = None;
+          count = 0;
+          next = 1;
+          shown = false;
+        } }
+    {
+        ProgressLine {
+            sink,
+            length: None,
+            count: 0,
+            next: 1,
+            shown: false,
+        }
+    }
+
+    /// The sink, with what was shown.
+    pub fn into_sink(self) -> O
+        ensures { result ≡ self.sink }
+    {
+        let ProgressLine { sink, .. } = self;
+        sink
+    }
+}
+
+impl<O: Sink> Meter for ProgressLine<O> {
+    ghost count = { λ p. Some p.count };
+
+    /// Writes nothing.
+    fn begin(&mut self, length: Option<u64>)
+        ensures next { self.new.next ≡ first_mark length }
+        ensures begun { self.new
+            ≡ record self.old { length = length; count = 0; next = self.new.next } }
+    {
+        self.length = length;
+        self.count = 0;
+        self.next = match length {
+            Some(_) => 0,
+            None => 1,
+        };
+    }
+
+    /// Writes a line, if one is due.
+    fn advance(&mut self, bytes: u64)
+        ensures quiet { is_due self.old.length self.old.next self.new.count ≡ false
+            → self.new ≡ record self.old { count = with_more bytes self.old.count } }
+        ensures line { is_due self.old.length self.old.next self.new.count ≡ true
+            → Shows (O.view self.old.sink) (progress_line self.old.length self.new.count)
+            (O.view self.new.sink) }
+        ensures due { is_due self.old.length self.old.next self.new.count ≡ true
+            → self.new ≡ record self.old {
+              sink = self.new.sink;
+              count = with_more bytes self.old.count;
+              next = mark self.old.length self.new.count + 1;
+              shown = true;
+            } }
+    {
+        self.count = self.count.saturating_add(bytes);
+        let mark = mark_of(self.length, self.count);
+        if mark >= self.next {
+            self.next = mark + 1;
+            self.shown = true;
+            show(&mut self.sink, line_of(self.length, self.count).as_slice());
+        }
+    }
+
+    /// Ends the line with a line feed, if one was due.
+    fn end(&mut self)
+        ensures quiet { self.old.shown ≡ false → self.new ≡ self.old }
+        ensures ended { self.new ≡ record self.old { sink = self.new.sink; shown = false } }
+        ensures line { self.old.shown ≡ true
+            → Shows (O.view self.old.sink) (codes "\n") (O.view self.new.sink) }
+    {
+        if self.shown {
+            self.shown = false;
+            show(&mut self.sink, b"\n");
+        }
+    }
+}

@@ -1,0 +1,91 @@
+"""The libraries of the workspace as `rt ci` proves and keeps them; and a static library over them.
+
+usage: python3 -m tools.libraries CRATE     makes crates/CRATE/out/libCRATE.a of a static library, unless it is there and nothing changed
+"""
+import functools
+import os
+import pathlib
+import shutil
+import sys
+import tempfile
+import time
+
+from tools.workspace import CRATES, TOP, loaded, with_used
+
+
+@functools.cache
+def kit():
+    """`rt` as a module: its crates, its calls of the prover, and what earlier checks have proved."""
+    return loaded(pathlib.Path(os.path.realpath(shutil.which("rt"))))
+
+
+class Libraries:
+    """The workspace in a copy, whose libraries are proved as `rt ci` proves them: what the gate kept is taken, and the crates above load
+    statements and not proofs."""
+
+    def __init__(self, room):
+        rt = kit()
+        rt.copy_crates(str(TOP), f"{room}/repo")
+        # (it is the top of a repository)
+        os.mkdir(f"{room}/repo/.git")
+        rt.rtlib.Crate, rt.Crate.cuts_libraries, rt.Crate.allowed = rt.Crate, True, rt.handles_of(f"{room}/repo")
+        self.crates = rt.crates_of(f"{room}/repo")
+        self.kept, self.proved = rt.Kept(self.crates), {}
+
+    def is_proved(self, crate):
+        """Whether a library is proved; proves it if it isn't yet, and shows what is said if that fails."""
+        if crate.name not in self.proved:
+            os.makedirs(f"{crate.folder}/out", exist_ok=True)
+            self.proved[crate.name] = all(map(self.is_proved, crate.below())) and self.is_given(crate)
+        return self.proved[crate.name]
+
+    def is_given(self, crate):
+        """Whether an earlier run kept the library, or it is proved now, and then kept."""
+        key = self.kept.key(crate)
+        if self.kept.give(crate, False, key):
+            self.kept.is_built(crate)
+            return True
+        with tempfile.TemporaryFile("w+", errors="replace") as crate.out:
+            if crate.ci(["--jobs", str(len(os.sched_getaffinity(0)))], False):
+                crate.out.seek(0)
+                print(crate.out.read())
+                return False
+        self.kept.is_built(crate)
+        self.kept.keep(crate, False, key)
+        return True
+
+
+def make_static(name):
+    """Proves what a static library uses, or takes what `rt ci` kept of it, and then proves and compiles it: whether that went well."""
+    start = time.monotonic()
+    # Its first call sets the handler of a signal, which only the main thread may.
+    kit().rtlib.guarded()
+    with tempfile.TemporaryDirectory(prefix="age-library-") as room:
+        libraries = Libraries(room)
+        crate = next(it for it in libraries.crates if it.name == name)
+        to = CRATES / name / "out"
+        os.makedirs(f"{crate.folder}/out", exist_ok=True)
+        to.mkdir(exist_ok=True)
+        of = len(with_used(name))
+        for count, it in enumerate(crate.below(), 1):
+            if not libraries.is_proved(it):
+                return False
+            print(f"[{count}/{of}] {it.name} proved, {int((time.monotonic() - start) / 60)} min", file=sys.stderr, flush=True)
+        made, stamp, key = to / f"lib{name}.a", to / f"lib{name}.key", libraries.kept.key(crate)
+        if not (made.is_file() and stamp.is_file() and stamp.read_text() == key):
+            jobs = os.environ.get("JOBS") or str(len(os.sched_getaffinity(0)))
+            words = ["build", *crate.words(["--jobs", jobs], keeps=False), "--toolchain", f"{kit().KIT}/toolchain", "--backend", "llvm"]
+            with tempfile.TemporaryFile("w+", errors="replace") as crate.out:
+                if crate.prove([*words, "-o", f"out/lib{name}.a"]):
+                    crate.out.seek(0)
+                    print(crate.out.read(), file=sys.stderr)
+                    return False
+            stamp.unlink(missing_ok=True)
+            shutil.copy(f"{crate.folder}/out/lib{name}.a", made)
+            stamp.write_text(key)
+        print(f"[{of}/{of}] {name} proved, {int((time.monotonic() - start) / 60)} min", file=sys.stderr, flush=True)
+    return True
+
+
+if __name__ == "__main__":
+    sys.exit(not make_static(sys.argv[1]))
