@@ -33,11 +33,10 @@
  * same holds from that chunk on: the output since then is a prefix of what follows in the plaintext
  * from the chunk's first byte, and once the end returned 0 it is all that follows, so that the
  * length of the text is known. An undamaged payload gives all of its text, and each call returns 0.
- * The first whole block that isn't the writer's is refused with 17, and `fault_chunk` is its
- * number; the text before it has been written by earlier calls. A file that was cut inside a chunk,
+ * With 17 a block isn't the writer's, and `fault_chunk` is its number; the text before it has been
+ * written by earlier calls. A file that was cut inside a chunk,
  * as nearly every cut file is, ends with 17 too: nobody can tell it from a damaged one. What a
- * writer wrote, from age_c_seal_passphrase to an age_c_seal_end or age_c_finish_text that returned
- * 0, is the age file of the text. Into which pieces a payload or a text was cut makes no
+ * writer wrote, from age_c_seal_passphrase to an age_c_finish_text that returned 0, is the age file of the text. Into which pieces a payload or a text was cut makes no
  * difference.
  *
  * OWNERSHIP. A reader or writer is 64 bytes of plain numbers, and a stream of either holds one
@@ -277,20 +276,6 @@ AGE_C_MUST_CHECK
 uint32_t age_c_seal_passphrase(const uint8_t *pass, size_t pass_len, uint32_t work,
                                const uint8_t *random, size_t random_len, uint8_t *out,
                                size_t out_len, size_t *written, age_c_writer *writer);
-
-/* Seals the next chunk, which isn't the last: text_len is AGE_C_CHUNK, and more text has to
- * follow. `out` has room for AGE_C_BLOCK bytes or more, and all of the block is written. */
-AGE_C_MUST_CHECK
-uint32_t age_c_seal_block(age_c_writer *writer, const uint8_t *text, size_t text_len, uint8_t *out,
-                          size_t out_len, size_t *written);
-
-/* Seals the last chunk: 1 to AGE_C_CHUNK bytes, or none if the whole text has none. `out` has room
- * for 16 bytes more than it. What was written since age_c_seal_passphrase is then the file. */
-AGE_C_MUST_CHECK
-uint32_t age_c_seal_end(age_c_writer *writer, const uint8_t *rest, size_t rest_len, uint8_t *out,
-                        size_t out_len, size_t *written);
-
-/* ---- writing in pieces ---- */
 
 /* A writer that takes its text in pieces of any length. Set `held` to 0, as `= {0}` does, and begin
  * the file with &stream->writer. Nothing has to be freed. Never go on from a copy. */

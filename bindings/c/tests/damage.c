@@ -12,6 +12,7 @@
  */
 #define _GNU_SOURCE
 #include "age_c.h"
+#include "sealing.h"
 
 #include <signal.h>
 #include <stdarg.h>
@@ -134,19 +135,13 @@ static const uint8_t pass[] = {'p', 'w'};
 
 static struct file sealed(size_t text_len) {
     uint8_t noise[48];
-    age_c_writer writer;
-    size_t written, at = 0, blocks = text_len / AGE_C_CHUNK + 1, room = AGE_C_SEAL_FRONT + blocks * AGE_C_BLOCK;
+    size_t blocks = text_len / AGE_C_CHUNK + 1, room = AGE_C_SEAL_FRONT + blocks * AGE_C_BLOCK;
     struct file made = {malloc(text_len + 1), malloc(room), {0}, text_len, 0, 0};
     if (made.text == NULL || made.bytes == NULL) exit(2);
     randomize(made.text, text_len);
     randomize(noise, sizeof noise);
     memcpy(made.key, noise, sizeof made.key);
-    if (age_c_seal_passphrase(pass, sizeof pass, 1, noise, sizeof noise, made.bytes, room, &made.front, &writer) != 0) exit(2);
-    made.len = made.front;
-    for (; text_len - at > AGE_C_CHUNK; at += AGE_C_CHUNK, made.len += written)
-        if (age_c_seal_block(&writer, made.text + at, AGE_C_CHUNK, made.bytes + made.len, room - made.len, &written) != 0) exit(2);
-    if (age_c_seal_end(&writer, made.text + at, text_len - at, made.bytes + made.len, room - made.len, &written) != 0) exit(2);
-    made.len += written;
+    made.len = sealed_file(noise, made.text, text_len, made.bytes, room, &made.front);
     return made;
 }
 

@@ -78,22 +78,29 @@ static int seeks(void) {
 
 static int writes(void) {
     static const size_t lens[] = {0, 1, 65535, 65536, 65537}, rooms[] = {0, 15, 16, 17, 65551, 65552, 65553};
-    size_t len = one_of(lens, 5), room = one_of(rooms, 7), written = 77;
+    static const uint32_t helds[] = {0, 1, 65535, 65536, 65537, UINT32_MAX};
+    size_t len = one_of(lens, 5), room = one_of(rooms, 7), written = 77, taken = 77;
     uint8_t *given = some(len), *out = some(room);
-    age_c_writer writer, before;
-    scramble(&writer, sizeof writer, &writer.chunk, &writer.state);
-    before = writer;
+    age_c_write_stream *stream = malloc(sizeof *stream), *before = malloc(sizeof *before);
+    if (stream == NULL || before == NULL) exit(2);
+    memset(stream, 9, sizeof *stream);
+    scramble(&stream->writer, sizeof stream->writer, &stream->writer.chunk, &stream->writer.state);
+    stream->held = helds[next() % 6];
+    *before = *stream;
     int is_end = (int)(next() % 2);
-    uint32_t answer = is_end ? age_c_seal_end(&writer, given, len, out, room, &written)
-                             : age_c_seal_block(&writer, given, len, out, room, &written);
-    int fits = before.state == 1 && before.chunk < UINT64_C(1) << 48
-        && (is_end ? len <= 65536 && room >= len + 16 && (len > 0 || before.chunk == 0) : len == 65536 && room >= 65552);
-    int is_too_many = fits && !is_end && before.chunk == (UINT64_C(1) << 48) - 1;
+    uint32_t answer = is_end ? age_c_finish_text(stream, out, room, &written) : age_c_feed_text(stream, given, len, &taken, out, room, &written);
+    int fits = before->writer.state == 1 && before->writer.chunk < UINT64_C(1) << 48 && before->held <= 65536
+        && (before->held > 0 || before->writer.chunk == 0) && room >= 65552;
+    int seals = !is_end && len > 0 && before->held == 65536;
+    int is_too_many = fits && seals && before->writer.chunk == (UINT64_C(1) << 48) - 1;
+    size_t wanted = is_end ? before->held + 16u : seals ? 65552 : 0;
     int right = answer == (is_too_many ? 22u : fits ? 0u : AGE_C_MISUSED);
-    if (answer != 0) right = right && written == 0 && is_untouched(out, room) && memcmp(&writer, &before, sizeof writer) == 0;
-    else right = right && written == len + 16 && is_untouched(out + written, room - written);
+    if (answer != 0) right = right && written == 0 && (is_end || taken == 0) && is_untouched(out, room) && memcmp(stream, before, sizeof *stream) == 0;
+    else right = right && written == wanted && is_untouched(out + written, room - written);
     free(given);
     free(out);
+    free(stream);
+    free(before);
     return right;
 }
 

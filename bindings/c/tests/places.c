@@ -4,6 +4,7 @@
  * usage: places
  */
 #include "age_c.h"
+#include "sealing.h"
 
 #include <pthread.h>
 #include <stdio.h>
@@ -26,21 +27,11 @@ static void see(int holds, const char *what) {
 
 /* the age file of the text, and a reader after its header */
 static void seal(void) {
-    static uint8_t block[AGE_C_BLOCK];
     uint8_t random[48];
-    age_c_writer writer;
-    size_t at = 0, written;
+    size_t front;
     for (size_t i = 0; i < LENGTH; i++) text[i] = (uint8_t)(i * 2654435761u >> 13);
     for (size_t i = 0; i < sizeof random; i++) random[i] = (uint8_t)(i * 37);
-    if (age_c_seal_passphrase((const uint8_t *)"pw", 2, 1, random, sizeof random, file, sizeof file, &file_len, &writer) != 0) exit(2);
-    for (; LENGTH - at > AGE_C_CHUNK; at += AGE_C_CHUNK) {
-        if (age_c_seal_block(&writer, text + at, AGE_C_CHUNK, block, sizeof block, &written) != 0) exit(2);
-        memcpy(file + file_len, block, written);
-        file_len += written;
-    }
-    if (age_c_seal_end(&writer, text + at, LENGTH - at, block, sizeof block, &written) != 0) exit(2);
-    memcpy(file + file_len, block, written);
-    file_len += written;
+    file_len = sealed_file(random, text, LENGTH, file, sizeof file, &front);
     if (age_c_open_passphrase(file, file_len, (const uint8_t *)"pw", 2, 22, &begun) != 0) exit(2);
 }
 

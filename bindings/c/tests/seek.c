@@ -4,6 +4,7 @@
  * usage: seek [COUNT]    of so many of the lengths
  */
 #include "age_c.h"
+#include "sealing.h"
 
 #include <stdio.h>
 #include <stdlib.h>
@@ -28,21 +29,10 @@ static void see(int holds, const char *what) {
 
 /* the age file of the text */
 static void seal(void) {
-    static uint8_t chunk[AGE_C_BLOCK];
     uint8_t random[48];
-    age_c_writer writer;
-    size_t at = 0, written;
+    size_t front;
     for (size_t i = 0; i < sizeof random; i++) random[i] = (uint8_t)next();
-    if (age_c_seal_passphrase((const uint8_t *)"pw", 2, 1, random, sizeof random, file, ROOM, &written, &writer) != 0) exit(2);
-    file_len = written;
-    for (; text_len - at > AGE_C_CHUNK; at += AGE_C_CHUNK) {
-        if (age_c_seal_block(&writer, text + at, AGE_C_CHUNK, chunk, sizeof chunk, &written) != 0) exit(2);
-        memcpy(file + file_len, chunk, written);
-        file_len += written;
-    }
-    if (age_c_seal_end(&writer, text + at, text_len - at, chunk, sizeof chunk, &written) != 0) exit(2);
-    memcpy(file + file_len, chunk, written);
-    file_len += written;
+    file_len = sealed_file(random, text, text_len, file, ROOM, &front);
 }
 
 /* Gives the bytes of the file from a chunk on, up to `limit` blocks, and an end where they end. The text goes into `out`. */

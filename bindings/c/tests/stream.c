@@ -1,10 +1,11 @@
 /* Reads files in pieces of any length, whole ones and ones that are cut, lengthened and damaged. What is expected is the text that
  * was put in, and what age_c_block and age_c_end say of the same file. Writes files in pieces of any length too, which have to be
- * those that age_c_seal_block and age_c_seal_end make. Counts how much work a header is that comes byte by byte.
+ * those that whole texts make. Counts how much work a header is that comes byte by byte.
  *
  * usage: stream [TURNS]
  */
 #include "age_c.h"
+#include "sealing.h"
 
 #include <stdio.h>
 #include <stdlib.h>
@@ -35,19 +36,9 @@ static size_t begin(uint8_t *to, age_c_writer *writer) {
 }
 
 static void seal(void) {
-    static uint8_t chunk[AGE_C_BLOCK];
-    age_c_writer writer;
-    size_t at = 0, written;
+    size_t front;
     for (size_t i = 0; i < sizeof random_bytes; i++) random_bytes[i] = (uint8_t)next();
-    file_len = begin(file, &writer);
-    for (; text_len - at > AGE_C_CHUNK; at += AGE_C_CHUNK) {
-        if (age_c_seal_block(&writer, text + at, AGE_C_CHUNK, chunk, sizeof chunk, &written) != 0) exit(2);
-        memcpy(file + file_len, chunk, written);
-        file_len += written;
-    }
-    if (age_c_seal_end(&writer, text + at, text_len - at, chunk, sizeof chunk, &written) != 0) exit(2);
-    memcpy(file + file_len, chunk, written);
-    file_len += written;
+    file_len = sealed_file(random_bytes, text, text_len, file, ROOM, &front);
 }
 
 /* what block for block calls say of the file up to `len` */

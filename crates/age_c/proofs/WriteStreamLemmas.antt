@@ -10,7 +10,8 @@ use Rattle.age_keys.specs.Keys.{box}
 use Rattle.age_c.specs.declared.writer.Writer.{Writer}
 use Rattle.age_c.specs.declared.write_stream.WriteStream.{WriteStream}
 use Rattle.age_c.specs.Calls.{misused}
-use Rattle.age_c.specs.Writers.{HasSealed, SameKeys, SealsChunk, SealsLast, blocks_of, key_in}
+use Rattle.age_c.specs.Writers.{HasSealed, SameKeys, blocks_of, key_in}
+use Rattle.age_c.specs.inner.Sealing.{SealsChunk, SealsLast}
 use Rattle.age_c.specs.Writers.{salt_in, FeedsText, FinishesText, HasTaken, TakesText, held_chunk}
 use Rattle.age_c.specs.Streams.{AnswersAreTextCalls, AreTextCalls, IsTextCallOn, TextCall, TextsAreFiles, WritesFile, bytes_written, stream_after, text_taken}
 use Rattle.age_c.specs.inner.Holding.{HoldsText}

@@ -13,7 +13,8 @@ use Rattle.age_stream.proofs.ChunkLemmas.{enumerate_from_more}
 use Rattle.age_stream.proofs.SealingLemmas.{last_index_is}
 use Rattle.age_c.specs.declared.writer.Writer.{Writer}
 use Rattle.age_c.specs.inner.Keys.{key_of_writer as key_of, seals}
-use Rattle.age_c.specs.Writers.{HasSealed, SealsChunk, SealsLast, SameKeys, blocks_of, WritesOrRefuses}
+use Rattle.age_c.specs.Writers.{HasSealed, SameKeys, blocks_of, WritesOrRefuses}
+use Rattle.age_c.specs.inner.Sealing.{SealsChunk, SealsLast}
 use Rattle.age_c.specs.Calls.{Answers, misused}
 use Rattle.age_keys.specs.Keys.{header_mac, IsMacOf}
 use Rattle.age_keys.specs.Scrypt.{scrypt_head}

@@ -1,11 +1,9 @@
--- A writer of blocks, or of a text in pieces: how it begins a file, what one call and a list of
--- calls do, and that the file is whole.
+-- A writer of a text in pieces: how it begins a file, and what one call does.
 use Rattle.std.specs.Prelude.{◌≡◌, ◌≢◌, ℕ, ◌+◌, ◌*◌, ◌<◌, ◌≤◌, false, List, [], ◌++◌, length, take, drop, map}
 use Rattle.std.specs.List.{enumerate_from}
 use Rattle.std.specs.Simd.{first_chunks}
 use Rattle.age_stanza.specs.Grammar.{HeadText}
 use Rattle.age_chunk.specs.Payload.{chunk_limit, chunk_length, block_length, chunk_count, pair, block_bytes, payload}
-use Rattle.age_chunk.specs.ChunkBoxes.{tag_length}
 use Rattle.age_keys.specs.Keys.{box}
 use Rattle.age_keys.specs.Scrypt.{IsAllowed, scrypt_head}
 use Rattle.age_c.specs.declared.writer.Writer.{Writer}
@@ -71,27 +69,6 @@ pub record IsStartCall (pass : List ℕ) (work : ℕ) (random out : List ℕ) : 
 
 -- ---- What one call does to a writer.
 
--- the chunk was sealed as one before the last, and one more may follow
-pub record SealsChunk (chunk : List ℕ) (old : Writer) (bytes : List ℕ) (new : Writer)
-    : Type 0 where
-  pub sealed : (text : List ℕ) → HasSealed old text → HasSealed new (text ++ chunk)
-  pub blocks : (text : List ℕ) → HasSealed old text
-      → blocks_of new (text ++ chunk) ≡ blocks_of old text ++ bytes
-  pub usable : CanSeal new
-  pub same : SameKeys old new
-
--- what is left was sealed as the last chunk: with the blocks before it the bytes are the payload of
--- the whole text
-pub record SealsLast (rest : List ℕ) (old : Writer) (bytes : List ℕ) (new : Writer)
-    : Type 0 where
-  pub payload_is : (text : List ℕ) → HasSealed old text
-      → payload (box old.file_key old.nonce) chunk_length (text ++ rest)
-      ≡ blocks_of old text ++ bytes
-  pub few : (text : List ℕ) → HasSealed old text
-      → chunk_count chunk_length (text ++ rest) ≤ chunk_limit
-  pub finished : new.state ≡ 2
-  pub same : SameKeys old new
-
 -- what a call does that isn't misused: it writes its part of the file, or refuses
 pub record WritesOrRefuses {State : Type 0} (Writes : List ℕ → State → Type 0)
     (Refuses : ℕ → Type 0) (old : State) (answer : ℕ) (bytes : List ℕ) (new : State)
@@ -102,21 +79,6 @@ pub record WritesOrRefuses {State : Type 0} (Writes : List ℕ → State → Typ
   pub refused : answer ≢ 0 → Refuses answer
   -- after a refusal the writer or stream is as it was
   pub same : answer ≢ 0 → new ≡ old
-
--- a call that isn't misused has a writer that can be used, a whole chunk, and room for its block
-pub record IsChunkCall (w : Writer) (chunk out : List ℕ) : Type 0 where
-  pub usable : CanSeal w
-  pub whole : length chunk ≡ chunk_length
-  pub room : block_length ≤ length out
-
--- a call for the last chunk that isn't misused: it has a byte, unless the whole text has none
-pub record IsLastCall (w : Writer) (rest out : List ℕ) : Type 0 where
-  pub usable : CanSeal w
-  pub short : length rest ≤ chunk_length
-  pub some : length rest ≡ 0 → w.chunk ≡ 0
-  pub room : length rest + tag_length ≤ length out
-
--- ---- A stream that writes: what its numbers and bytes stand for, and what one call does to it.
 
 -- ---- What a stream's numbers and bytes stand for.
 

@@ -2,3 +2,4 @@ pub mod Blocks
 pub mod Holding
 pub mod Counts
 pub mod Keys
+pub mod Sealing

@@ -6,7 +6,8 @@ ghost use Rattle.age_chunk.specs.Payload.{chunk_limit, nonce_bytes, chunk_length
 ghost use Rattle.age_keys.specs.Scrypt.{IsAllowed};
 ghost use Rattle.age_c.specs.Readers.{start_fault_number};
 ghost use Rattle.age_c.specs.Calls.{PutsFront};
-ghost use Rattle.age_c.specs.Writers.{IsChunkCall, IsFileFront, IsLastCall, SealsChunk, SealsLast};
+ghost use Rattle.age_c.specs.Writers.{IsFileFront};
+ghost use Rattle.age_c.specs.inner.Sealing.{IsChunkCall, IsLastCall, SealsChunk, SealsLast};
 ghost use Rattle.age_c.specs.inner.Keys.{key_of_writer};
 ghost use Rattle.age_chunk.specs.ChunkBoxes.{tag_length};
 

@@ -170,22 +170,6 @@ extern "C" {
         written: *mut usize,
         writer: *mut AgeCWriter,
     ) -> u32;
-    pub fn age_c_seal_block(
-        writer: *mut AgeCWriter,
-        text: *const u8,
-        text_len: usize,
-        out: *mut u8,
-        out_len: usize,
-        written: *mut usize,
-    ) -> u32;
-    pub fn age_c_seal_end(
-        writer: *mut AgeCWriter,
-        rest: *const u8,
-        rest_len: usize,
-        out: *mut u8,
-        out_len: usize,
-        written: *mut usize,
-    ) -> u32;
     pub fn age_c_feed_text(
         stream: *mut AgeCWriteStream,
         piece: *const u8,

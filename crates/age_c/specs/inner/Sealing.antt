@@ -1,0 +1,42 @@
+-- What the parts of a call do to a writer. Private: no public contract cites this module.
+use Rattle.std.specs.Prelude.{◌≡◌, ℕ, ◌+◌, ◌≤◌, List, ◌++◌, length}
+use Rattle.age_chunk.specs.Payload.{chunk_limit, chunk_length, block_length, chunk_count, payload}
+use Rattle.age_chunk.specs.ChunkBoxes.{tag_length}
+use Rattle.age_keys.specs.Keys.{box}
+use Rattle.age_c.specs.Writers.{CanSeal, HasSealed, SameKeys, blocks_of}
+use Rattle.age_c.specs.declared.writer.Writer.{Writer}
+
+-- the chunk was sealed as one before the last, and one more may follow
+pub record SealsChunk (chunk : List ℕ) (old : Writer) (bytes : List ℕ) (new : Writer)
+    : Type 0 where
+  pub sealed : (text : List ℕ) → HasSealed old text → HasSealed new (text ++ chunk)
+  pub blocks : (text : List ℕ) → HasSealed old text
+      → blocks_of new (text ++ chunk) ≡ blocks_of old text ++ bytes
+  pub usable : CanSeal new
+  pub same : SameKeys old new
+
+-- what is left was sealed as the last chunk: with the blocks before it the bytes are the payload of
+-- the whole text
+pub record SealsLast (rest : List ℕ) (old : Writer) (bytes : List ℕ) (new : Writer)
+    : Type 0 where
+  pub payload_is : (text : List ℕ) → HasSealed old text
+      → payload (box old.file_key old.nonce) chunk_length (text ++ rest)
+      ≡ blocks_of old text ++ bytes
+  pub few : (text : List ℕ) → HasSealed old text
+      → chunk_count chunk_length (text ++ rest) ≤ chunk_limit
+  pub finished : new.state ≡ 2
+  pub same : SameKeys old new
+
+-- the writer can be used, and there is a whole chunk, and room for its block
+pub record IsChunkCall (w : Writer) (chunk out : List ℕ) : Type 0 where
+  pub usable : CanSeal w
+  pub whole : length chunk ≡ chunk_length
+  pub room : block_length ≤ length out
+
+-- the writer can be used, and what is left has a byte, unless the whole text has none, and room for
+-- its block
+pub record IsLastCall (w : Writer) (rest out : List ℕ) : Type 0 where
+  pub usable : CanSeal w
+  pub short : length rest ≤ chunk_length
+  pub some : length rest ≡ 0 → w.chunk ≡ 0
+  pub room : length rest + tag_length ≤ length out
