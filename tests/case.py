@@ -22,6 +22,16 @@ def twice(one, other):
     return f"age_tool: same file named twice\nage_tool: {one} and {other} are the same file\n".encode()
 
 
+# How the lines begin that are advice for people: they may change, and have tests of their own (tests/test_program.py).
+ADVICE = (b"age_tool: hint: ", b"age_tool: the file is ", b"age_tool: position saved in ", b"age_tool: no position was saved")
+
+
+def without_advice(said):
+    """What was said on standard error, and then the advice in it."""
+    lines = said.splitlines(keepends=True)
+    return b"".join(it for it in lines if not it.startswith(ADVICE)), b"".join(it for it in lines if it.startswith(ADVICE))
+
+
 class Case(unittest.TestCase):
     """A test with a folder, `room`."""
 
@@ -45,9 +55,12 @@ class Case(unittest.TestCase):
             self.skipTest(why)
 
     def tool(self, *words, **more):
-        """Runs the program."""
+        """Runs the program. What it says on standard error is `stderr`, and the advice in it `advice`."""
         more = {"stdin": subprocess.DEVNULL, "stdout": subprocess.PIPE, "stderr": subprocess.PIPE, "timeout": SECONDS} | more
-        return subprocess.run([self.program, *words], cwd=self.room, **more)
+        ended = subprocess.run([self.program, *words], cwd=self.room, **more)
+        if ended.stderr is not None:
+            ended.stderr, ended.advice = without_advice(ended.stderr)
+        return ended
 
     def path(self, name):
         return self.room / name

@@ -49,6 +49,9 @@ class CompletionsTest(Case):
         self.offers("a prefix", "--position", self.in_bash("age_tool", "resume", "--po"))
         self.offers("a number", "18", self.in_bash("age_tool", "encrypt", "--log", "1"))
         self.offers("files", "age_tool.fish", self.in_bash("age_tool", "decrypt", "--pass", "p", "age"))
+        self.offers("a number after =", "18", self.in_bash("age_tool", "encrypt", "--log", "=", "1"))
+        self.offers("each number after =", "1 22", self.in_bash("age_tool", "decrypt", "--max-log", "="))
+        self.offers("files after =", "age_tool.fish", self.in_bash("age_tool", "decrypt", "--pass", "=", "age"))
 
     @needs("fish")
     def test_fish(self):
@@ -56,6 +59,8 @@ class CompletionsTest(Case):
         self.offers("options", OPTIONS, self.in_fish("age_tool decrypt --"))
         self.offers("a number", "18", self.in_fish("age_tool encrypt --log "))
         self.offers("files", "age_tool.fish", self.in_fish("age_tool decrypt --pass p age"))
+        self.offers("a number after =", "--max-log=18", self.in_fish("age_tool decrypt --max-log=1"))
+        self.see("no files after help", "age_tool.fish" not in self.in_fish("age_tool help "))
 
     @needs("zsh")
     def test_zsh(self):
@@ -63,3 +68,5 @@ class CompletionsTest(Case):
         self.offers("options", OPTIONS, self.in_zsh("age_tool decrypt --"))
         self.offers("a number", "18", self.in_zsh("age_tool encrypt --log "))
         self.offers("files", "age_tool.fish", self.in_zsh("age_tool inspect age"))
+        self.offers("a number after =", "18", self.in_zsh("age_tool decrypt --max-log=1"))
+        self.offers("files after =", "age_tool.fish", self.in_zsh("age_tool decrypt --pass=age"))

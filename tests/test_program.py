@@ -7,7 +7,7 @@ import re
 import resource
 import subprocess
 
-from tests.case import Case, twice
+from tests.case import Case, twice, without_advice
 from tools import terminal
 from tools.workspace import TOP
 
@@ -41,7 +41,9 @@ class ProgramTest(Case):
     def redirected(self, redirection, *words):
         """Runs the program with a redirection of the shell's."""
         run = ["sh", "-c", f'exec "$0" "$@" {redirection}', self.program, *words]
-        return subprocess.run(run, cwd=self.room, stdin=subprocess.DEVNULL, capture_output=True)
+        ended = subprocess.run(run, cwd=self.room, stdin=subprocess.DEVNULL, capture_output=True)
+        ended.stderr, ended.advice = without_advice(ended.stderr)
+        return ended
 
     # ---- words and names in messages
 
@@ -121,12 +123,12 @@ class ProgramTest(Case):
 
     # ---- at a terminal
 
-    def on_terminal(self, stream, *words):
+    def on_terminal(self, stream, *words, **more):
         """Runs the program with standard input or error at a terminal, and gives what it says on standard error."""
         ours, theirs = os.openpty()
         if stream == "stdin":
             os.write(ours, b"\x04")  # the end
-        ends = {"stdin": subprocess.DEVNULL, "stdout": subprocess.PIPE, "stderr": subprocess.PIPE, stream: theirs}
+        ends = {"stdin": subprocess.DEVNULL, "stdout": subprocess.PIPE, "stderr": subprocess.PIPE, stream: theirs} | more
         run = subprocess.Popen([self.program, *words], cwd=self.room, **ends)
         os.close(theirs)
         said = terminal.output(ours).replace(b"\r\n", b"\n") if stream == "stderr" else b""
@@ -141,43 +143,73 @@ class ProgramTest(Case):
         os.close(tty)
         return subprocess.CompletedProcess(words, os.waitstatus_to_exitcode(os.waitpid(child, 0)[1]), came)
 
-    def hint_of(self, faults):
-        """The hint in a message."""
-        hint = re.search(r"^age_tool: hint: (.*) \(more: man age_tool\)$", faults.decode(), re.M)
-        return hint[1] if hint else ""
+    # ---- advice
 
     def test_hints(self):
-        """At a terminal a fault gives the hint that docs/FAULTS.md has in its row."""
+        """After a fault come its file, and the hint that docs/FAULTS.md has in its row."""
         self.write("empty", b"")
         self.write("no-line", b"not an age file")
         self.write("armored", b"-----BEGIN AGE ENCRYPTED FILE-----\n")
         self.write("cut-header", self.age[:100])
         self.write("wrong", b"wrong horse\r\n")
         page = (TOP / "docs" / "FAULTS.md").read_text().replace("`", "").replace(r"\|", "|")
-        for what, fault, beginning, words in (
-            ("an armored file", "2 Armored line 1", "remove the armor", "decrypt --pass pass armored back"),
-            ("an empty file", "8 HeadCut line 1", "the file is empty", "decrypt --pass pass empty back"),
-            ("what is no age file", "8 HeadCut line 1", "this may not be an age file", "decrypt --pass pass no-line back"),
-            ("a cut header", "8 HeadCut line 3", "the file was cut off", "decrypt --pass pass cut-header back"),
-            ("a limit", "11 WorkTooHigh", "if you trust the file", "decrypt --pass pass --max-log 9 plain.age back"),
-            ("a wrong passphrase", "13 WrongKey", "check the passphrase", "decrypt --pass wrong plain.age back"),
-            ("what is no position", "23 BadPosition", "--position takes", "resume --position pass --old plain --pass pass plain.age back"),
+        self.write("short-old", self.plain[:70_000])
+        self.write("altered", bytes(200_000))
+        self.write("cut.age", self.age[:150_000])
+        self.decrypt("--save", "position", "cut.age", "part")
+        self.write("flipped", self.read("position").replace(b"v2 2 ", b"v2 1 "))
+        for what, fault, file, beginning, words in (
+            ("an armored file", "2 Armored line 1", "armored", "remove the armor", "decrypt --pass pass armored back"),
+            ("an empty file", "8 HeadCut line 1", "empty", "the file is empty", "decrypt --pass pass empty back"),
+            ("what is no age file", "8 HeadCut line 1", "no-line", "this may not be an age file", "decrypt --pass pass no-line back"),
+            ("a cut header", "8 HeadCut line 3", "cut-header", "the file was cut off", "decrypt --pass pass cut-header back"),
+            ("a limit", "11 WorkTooHigh", "plain.age", "if you trust the file", "decrypt --pass pass --max-log 9 plain.age back"),
+            ("a wrong passphrase", "13 WrongKey", "plain.age", "check the passphrase", "decrypt plain.age back --pass=wrong"),
+            ("a cut payload", "17 ChunkDamaged chunk 2", "cut.age", "the file is damaged", "decrypt --pass pass cut.age back"),
+            ("no position", "23 BadPosition", "pass", "--position takes", "resume --position pass --old plain --pass pass plain.age back"),
+            ("a short text", "25 ShortText", "short-old", "--old takes",
+             "resume --position position --old=short-old --pass pass plain.age back"),
+            ("an altered position", "30 PositionForged", "flipped", "give the position",
+             "resume --position=flipped --old plain --pass pass plain.age back"),
+            ("another text", "31 OldTextDiffers", "altered", "--old takes", "resume --position position --old altered --pass pass plain.age back"),
         ):
-            ended = self.on_terminal("stderr", *words.split())
-            hint = self.hint_of(ended.stderr)
+            ended = self.tool(*words.split())
+            self.ends(what, ended, 1, b"", f"age_tool: {fault}\n".encode())
+            said = re.fullmatch(rf"age_tool: the file is {file}\nage_tool: hint: (.*) \(more: man age_tool\)\n", ended.advice.decode())
             row = re.search(rf"^\| {fault.split()[0]} \| .*$", page, re.M)[0]
-            with self.subTest(f"the hint of {what}"):
-                said = f"age_tool: {fault}\nage_tool: hint: {hint} (more: man age_tool)\n".encode()
-                self.assertEqual((ended.returncode, ended.stdout, ended.stderr), (1, b"", said))
-                self.assertTrue(hint.startswith(beginning) and hint in row, (hint, row))
+            self.see(f"the advice of {what}", said and said[1].startswith(beginning) and said[1] in row, ended.advice, row)
 
-    def test_no_hints(self):
+    def test_hints_of_names(self):
+        """A passphrase in the place of its file's name."""
+        for option, of in (("--pass", "passphrase"), ("--shared", "shared secret")):
+            ended = self.tool("decrypt", option, "correct horse", "plain.age", "back")
+            said = b"age_tool: 26 Read\nage_tool: can't open correct horse: No such file or directory\n"
+            self.ends(f"the words of {option}", ended, 1, b"", said)
+            hint = f"age_tool: hint: {option} takes the name of a file that holds the {of} (more: man age_tool)\n"
+            self.see(f"the hint of {option}", ended.advice == hint.encode(), ended.advice)
+        ended = self.decrypt("none", "back")
+        self.see("no hint if another file is missing", ended.advice == b"", ended.advice)
+        said = b"age_tool: bad file key\nage_tool: --file-key takes 32 hexadecimal digits\n"
+        self.ends("a bad file key", self.tool(*"decrypt --file-key 00 plain.age back".split()), 2, b"", said)
+
+    def test_advice_on_positions(self):
+        self.write("cut.age", self.age[:150_000])
+        ended = self.decrypt("--save", "position", "cut.age", "part")
+        said = b"age_tool: position saved in position; to go on from there: age_tool resume --position position --old part .. IN NEW\n"
+        self.see("a position was saved", ended.advice.endswith(said), ended.advice)
+        ended = self.decrypt("--save=position", "pass", "back")
+        self.see("none was", ended.advice.endswith(b"age_tool: no position was saved\n"), ended.advice)
+        ended = self.decrypt("cut.age", "part")
+        self.see("none was asked for", b"position" not in ended.advice, ended.advice)
+
+    def test_advice_at_a_terminal(self):
         said = b"age_tool: 26 Read\nage_tool: can't open none: No such file or directory\n"
-        self.ends("a reason at a terminal", self.on_terminal("stderr", *"decrypt --pass none plain.age back".split()), 1, b"", said)
-        self.write("wrong", b"wrong horse\r\n")
-        self.ends("no hint without a terminal", self.tool(*"decrypt --pass wrong plain.age back".split()), 1, b"", b"age_tool: 13 WrongKey\n")
+        self.ends("a reason at a terminal", self.on_terminal("stderr", *"decrypt --file-key none none back".split()), 2, b"",
+                  b"age_tool: bad file key\nage_tool: --file-key takes 32 hexadecimal digits\n")
+        self.ends("a missing file", self.on_terminal("stderr", *"decrypt --pass pass none back".split()), 1, b"", said)
         said = b"age_tool: reading a header from standard input; for help, age_tool --help\nage_tool: 8 HeadCut line 1\n"
-        self.ends("no words at a terminal", self.on_terminal("stdin"), 1, b"", said)
+        ended = self.on_terminal("stdin")
+        self.ends("no words at a terminal", subprocess.CompletedProcess([], ended.returncode, ended.stdout, without_advice(ended.stderr)[0]), 1, b"", said)
 
     def test_output_at_a_terminal(self):
         self.write("short", b"a short text\n")
@@ -216,15 +248,18 @@ class ProgramTest(Case):
     def test_progress(self):
         large = os.urandom(5_000_000)
         self.write("large", large)
-        self.shows_all("progress of five megabytes", self.encrypt("10 --progress large large.age"))
-        self.shows_all("progress of decrypting them", self.decrypt("--progress", "large.age", "back"))
+        self.shows_all("progress of five megabytes", self.on_terminal("stderr", *"encrypt --pass pass --log 10 --progress large large.age".split()))
+        self.shows_all("progress of decrypting them", self.on_terminal("stderr", *"decrypt --pass pass --progress large.age back".split()))
+        *lines, last = self.decrypt("--progress", "large.age", "back").stderr.splitlines()
+        self.see("progress in a log", last == b"100 %  4.7 of 4.7 MiB" and 0 < len(lines) <= 10, lines, last)
         self.see("there and back", self.read("back") == large)
         self.ends("progress on a closed standard error", self.redirected("2>&-", *"decrypt --progress --pass pass large.age back".split()), 0)
         self.see("progress on a closed standard error: the text", self.read("back") == large)
 
     def test_progress_of_a_pipe(self):
         with subprocess.Popen(["head", "-c", "134217728", "/dev/zero"], stdout=subprocess.PIPE) as zeros:
-            ended = self.encrypt("10 --progress /dev/stdin /dev/null", stdin=zeros.stdout)
+            words = "encrypt --pass pass --log 10 --progress /dev/stdin /dev/null".split()
+            ended = self.on_terminal("stderr", *words, stdin=zeros.stdout)
         self.ends("progress of a pipe", ended, 0, b"", b"  64.0 MiB\r 128.0 MiB\r\n")
 
     # ---- memory

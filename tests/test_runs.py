@@ -28,7 +28,7 @@ BYTES + BYTES. The lines of a case, whose words are quoted as in a shell:
 
     $ WORD ..                runs `age_tool WORD ..`
     | TEXT                   a line of its output, with Python's escapes; `| *` alone is any text but none
-    ! TEXT                   a line of its standard error; `! *` alone is any text but none
+    ! TEXT                   a line of its standard error, without advice (tests/case.py); `! *` alone is any text but none
     ? NUMBER                 its status, if that isn't 0
 
     holds FILE BYTES         the file, or a slice of it, is these bytes

@@ -10,6 +10,7 @@ complete -c age_tool -n "not __fish_seen_subcommand_from $commands" -a drill -d 
 complete -c age_tool -n "not __fish_seen_subcommand_from $commands" -a help -d "Print help"
 complete -c age_tool -n "not __fish_seen_subcommand_from $commands" -s V -l version -d "Print the version"
 complete -c age_tool -s h -l help -d "Print help"
+complete -c age_tool -n "__fish_seen_subcommand_from help" -f -a "encrypt decrypt resume inspect drill"
 
 complete -c age_tool -n "__fish_seen_subcommand_from encrypt decrypt resume drill" -l pass -r -F -d "File with the passphrase"
 complete -c age_tool -n "__fish_seen_subcommand_from encrypt" -l log -x -a "(seq 1 22)" -d "Work factor"

@@ -7,7 +7,7 @@ ghost use Rattle.age_fileset.specs.declared.files.OpenFault.TheVariants.{SameFil
 ghost use Rattle.age_disk.specs.declared.names.FileId.{FileId};
 
 use age_disk::{FileId, HostIn, HostOut, Prepared, Stream, StreamId, found_at, replace};
-use age_messages::{Action, Failures};
+use age_messages::{Action, Failures, announce_rereading, announce_sync};
 use crate::watched::{WatchedIn, WatchedOut};
 use age_fault::FileFault;
 use age_fileset::{FileSet, Log, OpenFault};
@@ -424,7 +424,10 @@ impl<'r, 'w> FileSet for HostFiles<'r, 'w> {
         source: &mut WatchedIn<'r, 'w>,
     ) -> Result<(), FileFault> {
         match source.reread() {
-            Ok(()) => Ok(()),
+            Ok(()) => {
+                announce_rereading(self.rt, self.failures);
+                Ok(())
+            }
             Err(error) => Err(fault_of(error, FileFault::Read)),
         }
     }
@@ -464,6 +467,9 @@ impl<'r, 'w> FileSet for HostFiles<'r, 'w> {
 
     fn close(&mut self, out: WatchedOut<'r, 'w>, durability: Durability) -> Result<(), FileFault> {
         self.log.closed(durability);
+        if durability == Durability::Synced {
+            announce_sync(self.rt, self.failures);
+        }
         match out.close(self.rt, durability) {
             Ok(()) => Ok(()),
             Err(_) => Err(FileFault::Write),
@@ -484,7 +490,10 @@ impl<'r, 'w> FileSet for HostFiles<'r, 'w> {
     ) -> Result<(), FileFault> {
         self.log.replaced(name, durability);
         match self.replace_named(alloc, name, bytes, durability) {
-            Ok(()) => Ok(()),
+            Ok(()) => {
+                self.failures.note_saved(name);
+                Ok(())
+            }
             Err(error) => {
                 self.failures.note_unsaved(name, error);
                 Err(fault_of(error, FileFault::Write))

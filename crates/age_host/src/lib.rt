@@ -9,6 +9,8 @@ mod files;
 mod watched;
 
 pub use age_disk::HostOut;
-pub use age_messages::{Failures, Heard, ProgressLine, announce_reading, explain, explain_words};
+pub use age_messages::{
+    Failures, Heard, LineStyle, ProgressLine, announce_reading, explain, explain_words,
+};
 pub use files::HostFiles;
 pub use watched::{Watched, WatchedIn, WatchedOut};

@@ -94,9 +94,11 @@ pub struct WatchedOut<'r, 'w> {
 
 impl<'r, 'w> WatchedOut<'r, 'w> {
     pub(crate) fn new(sink: HostOut, name: &str, failures: &'r Failures<'w>) -> WatchedOut<'r, 'w> {
+        let name = failures.word(name);
+        failures.note_output(name);
         WatchedOut {
             sink,
-            name: failures.word(name),
+            name,
             failures,
         }
     }

@@ -1,8 +1,10 @@
 -- Which line shows how far a run is, and when a line is due.
-use Rattle.std.specs.Prelude.{◌≡◌, ◌⊎◌, ℕ, ◌+◌, ◌-◌, ◌*◌, ◌/◌, ◌%◌, ◌^◌, min, Bool, List, ◌++◌, length, take, codes}
+use Rattle.std.specs.Prelude.{◌≡◌, ◌⊎◌, ℕ, ◌+◌, ◌-◌, ◌*◌, ◌/◌, ◌%◌, ◌^◌, min, Bool, true, false, List, ◌++◌, length, take, codes}
 use Rattle.std.specs.Prelude.{decimal, nat_eq, nat_lt, nat_le, Option, None, Some, if◌then◌else◌}
 use Rattle.std.specs.Io.KnownBytes.{Appends}
 use Rattle.age_io.specs.Io.{one_more, SinkView}
+use Rattle.age_messages.specs.declared.line_style.LineStyle.{LineStyle}
+use Rattle.age_messages.specs.declared.line_style.LineStyle.TheVariants.{Rewritten, Separate}
 
 -- ---- The text of a line.
 
@@ -32,30 +34,49 @@ amount size bytes = if nat_eq size 1 then decimal bytes
 abbrev pub padded : ℕ → List ℕ → List ℕ
 padded width text = take (width - length text) (codes "      ") ++ text
 
+-- what ends a line: a carriage return, so that the next one is written over it, or a line feed
+abbrev pub line_end : LineStyle → List ℕ
+line_end Rewritten = codes "\r"
+line_end Separate = codes "\n"
+
+-- the same, of a line that covers a longer one over which it is written
+abbrev pub covering_end : LineStyle → List ℕ
+covering_end Rewritten = codes "                    \r"
+covering_end Separate = codes "\n"
+
 -- the line for a count of bytes, with its end
 abbrev pub count_line : List ℕ → ℕ → List ℕ
 count_line end count = padded 6 (amount (measure_of count).size count)
     ++ (codes " " ++ ((measure_of count).name ++ end))
 
--- the line for a count of bytes, of a length if that is known and no less; it ends in a carriage
--- return, so that the next one is written over it, and covers a longer line that it is written over
-abbrev pub progress_line : Option ℕ → ℕ → List ℕ
-progress_line None count = count_line (codes "\r") count
-progress_line (Some length) count = if nat_lt length count
-    then count_line (codes "                    \r") count
+-- the line for a count of bytes, of a length if that is known and no less
+abbrev pub progress_line : LineStyle → Option ℕ → ℕ → List ℕ
+progress_line style None count = count_line (line_end style) count
+progress_line style (Some length) count = if nat_lt length count
+    then count_line (covering_end style) count
     else padded 3 (decimal (percentage length count))
     ++ (codes " %  " ++ (amount (measure_of length).size count
     ++ (codes " of " ++ (amount (measure_of length).size length
-    ++ (codes " " ++ ((measure_of length).name ++ codes "\r"))))))
+    ++ (codes " " ++ ((measure_of length).name ++ line_end style))))))
 
 -- ---- When a line is due.
 
--- the percentage, or how often 64 MiB were read if no length is known, or after all percentages if
--- more than the length was read
-abbrev pub mark : Option ℕ → ℕ → ℕ
-mark None count = count / 2 ^ 26
-mark (Some length) count = if nat_lt length count then 101 + count / 2 ^ 26
-    else percentage length count
+-- after how many bytes the next line is due if no length is known
+abbrev pub line_step : LineStyle → ℕ
+line_step Rewritten = 2 ^ 26
+line_step Separate = 10 * 2 ^ 30
+
+-- how many hundredths of a length make the next line due
+abbrev pub line_share : LineStyle → ℕ
+line_share Rewritten = 1
+line_share Separate = 10
+
+-- how many such shares of the length were read; or how many such steps if no length is known, or
+-- after all shares if more than the length was read
+abbrev pub mark : LineStyle → Option ℕ → ℕ → ℕ
+mark style None count = count / line_step style
+mark style (Some length) count = if nat_lt length count then 101 + count / line_step style
+    else percentage length count / line_share style
 
 -- the mark of the first line
 abbrev pub first_mark : Option ℕ → ℕ
@@ -63,8 +84,13 @@ first_mark None = 1
 first_mark (Some length) = 0
 
 -- whether a line is due, if the next is due at that mark
-abbrev pub is_due : Option ℕ → ℕ → ℕ → Bool
-is_due length next count = nat_le next (mark length count)
+abbrev pub is_due : LineStyle → Option ℕ → ℕ → ℕ → Bool
+is_due style length next count = nat_le next (mark style length count)
+
+-- whether a line is left to be ended
+abbrev pub is_left : LineStyle → Bool
+is_left Rewritten = true
+is_left Separate = false
 
 -- ---- What a sink took of a line.
 

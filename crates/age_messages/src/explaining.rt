@@ -5,7 +5,7 @@ use crate::failures::{Amount, Failure, Failures};
 use crate::heard::Heard;
 use crate::hints::hint_of;
 use age_io::Sink;
-use std::io::{Eprint, IsTerminal};
+use std::io::Eprint;
 use std::rt::HostRuntime;
 
 /// The fault that a line reports.
@@ -27,8 +27,9 @@ fn fault_in(line: &str) -> Option<Reported> {
     }
 }
 
-/// Says on standard error what the machine answered, if that is why a run stopped; which files were
-/// one; and what is wrong with a file that was refused. At a terminal it adds what to do.
+/// Says on standard error what the machine answered, if that is why a run stopped, or which file the
+/// fault is about; whether a position was saved; which files were one; and what is wrong with a file
+/// that was refused. Then it says what to do.
 pub fn explain<O: Sink>(rt: &HostRuntime, heard: &Heard<O>, failures: &Failures<'_>) {
     let mut lines = heard.text().lines();
     let Some(line) = lines.next() else {
@@ -37,10 +38,12 @@ pub fn explain<O: Sink>(rt: &HostRuntime, heard: &Heard<O>, failures: &Failures<
     match fault_in(line) {
         Some(first) => {
             explain_fault(rt, first, failures.first());
+            name_file(rt, first, failures);
             if let Some(second) = lines.next().and_then(fault_in) {
                 explain_fault(rt, second, failures.unsaved());
             }
-            give_hint(rt, first, failures.last_read());
+            give_hint(rt, first, failures);
+            tell_position(rt, failures);
         }
         None => explain_refusal(rt, line, failures),
     }
@@ -55,21 +58,72 @@ fn explain_fault(rt: &HostRuntime, fault: Reported, failure: Option<Failure<'_>>
     }
 }
 
+/// The file that a fault is about, if no failure of the machine names it.
+fn file_of<'w>(fault: Reported, failures: &Failures<'w>) -> Option<&'w str> {
+    match fault.number {
+        1..=22 | 24 | 29 => Some(failures.last_read().name),
+        23 | 30 => failures.named_by("--position"),
+        25 | 31 => failures.named_by("--old"),
+        _ => None,
+    }
+}
+
+/// Says which file a fault is about.
+fn name_file(rt: &HostRuntime, fault: Reported, failures: &Failures<'_>) {
+    if let Some(name) = file_of(fault, failures)
+        && !name.is_empty()
+    {
+        let name = Escaped(name.as_bytes());
+        let _ = eprintln!(rt; "age_tool: the file is {name}");
+    }
+}
+
+/// Says where the position was saved and how to go on from there, or that none was saved though
+/// that was asked for.
+fn tell_position(rt: &HostRuntime, failures: &Failures<'_>) {
+    if let Some(saved) = failures.saved()
+        && let Some(output) = failures.output()
+    {
+        let saved = Escaped(saved.as_bytes());
+        let output = Escaped(output.as_bytes());
+        let _ = eprintln!(rt;
+            "age_tool: position saved in {saved}; to go on from there: \
+             age_tool resume --position {saved} --old {output} .. IN NEW"
+        );
+    } else if failures.named_by("--save").is_some() && failures.unsaved().is_none() {
+        let _ = eprintln!(rt; "age_tool: no position was saved");
+    }
+}
+
 /// Whether a fault came of a named file that holds nothing.
 fn is_of_empty(fault: Reported, last: Amount<'_>) -> bool {
     fault.number == 8 && fault.is_first_line && last.bytes == 0 && !last.name.is_empty()
 }
 
-/// Says what to do after a fault, at a terminal.
-fn give_hint(rt: &HostRuntime, fault: Reported, last: Amount<'_>) {
-    let hint = if is_of_empty(fault, last) {
+/// Whether a fault came of the name that an option gives, of which there is no file.
+fn is_of_missing(fault: Reported, option: &str, failures: &Failures<'_>) -> bool {
+    match (failures.named_by(option), failures.first()) {
+        (Some(name), Some(first)) => fault.number == 26 && first.is_of_missing(name),
+        _ => false,
+    }
+}
+
+/// What to do after a fault.
+fn hint_for(fault: Reported, failures: &Failures<'_>) -> Option<&'static str> {
+    if is_of_empty(fault, failures.last_read()) {
         Some("the file is empty")
+    } else if is_of_missing(fault, "--pass", failures) {
+        Some("--pass takes the name of a file that holds the passphrase")
+    } else if is_of_missing(fault, "--shared", failures) {
+        Some("--shared takes the name of a file that holds the shared secret")
     } else {
         hint_of(fault.number, fault.is_first_line)
-    };
-    if rt.stderr().is_terminal()
-        && let Some(hint) = hint
-    {
+    }
+}
+
+/// Says what to do after a fault.
+fn give_hint(rt: &HostRuntime, fault: Reported, failures: &Failures<'_>) {
+    if let Some(hint) = hint_for(fault, failures) {
         let _ = eprintln!(rt; "age_tool: hint: {hint} (more: man age_tool)");
     }
 }
@@ -82,6 +136,9 @@ fn explain_refusal(rt: &HostRuntime, line: &str, failures: &Failures<'_>) {
             if let Some(twice) = failures.twice() {
                 let _ = eprintln!(rt; "age_tool: {twice}");
             }
+        }
+        "age_tool: bad file key" => {
+            let _ = eprintln!(rt; "age_tool: --file-key takes 32 hexadecimal digits");
         }
         "age_tool: bad passphrase file" => explain_passphrase(rt, last),
         "age_tool: bad shared file" => explain_length(rt, last, 64),

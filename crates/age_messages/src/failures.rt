@@ -58,6 +58,15 @@ pub struct Failure<'w> {
     error: io::Error,
 }
 
+impl<'w> Failure<'w> {
+    /// Whether there is no file of this name, which was to be read.
+    pub(crate) fn is_of_missing(&self, name: &str) -> bool {
+        self.action == Action::Open
+            && self.name == name
+            && self.error.kind() == io::ErrorKind::NotFound
+    }
+}
+
 impl<'w> fmt::Display for Failure<'w> {
     fn fmt<W: fmt::Write>(&self, f: &mut Formatter<W>) -> fmt::Result {
         let (before, after) = self.action.words();
@@ -130,16 +139,18 @@ const RANDOM: &str = "/dev/urandom";
 const FAULTS: &str = "standard error";
 
 /// What failed in a run, for a line that says so: what failed first, what kept a position from
-/// being saved, which names were found to be one file, and which file was read last. The files of a
-/// run share it. No memory is needed for a failure, since the words of the command line have the
-/// names.
+/// being saved, or where it was saved, which names were found to be one file, which file was read
+/// last, and which one is written. The files of a run share it. No memory is needed for a failure,
+/// since the words of the command line have the names.
 #[derive(Drop)]
 pub struct Failures<'w> {
     words: &'w [&'w str],
     first: Cell<Option<Failure<'w>>>,
     unsaved: Cell<Option<Failure<'w>>>,
+    saved: Cell<Option<&'w str>>,
     twice: Cell<Option<Twice<'w>>>,
     last_read: Cell<Amount<'w>>,
+    output: Cell<Option<&'w str>>,
 }
 
 impl<'w> Failures<'w> {
@@ -149,8 +160,10 @@ impl<'w> Failures<'w> {
             words,
             first: Cell::new(None),
             unsaved: Cell::new(None),
+            saved: Cell::new(None),
             twice: Cell::new(None),
             last_read: Cell::new(Amount { name: "", bytes: 0 }),
+            output: Cell::new(None),
         }
     }
 
@@ -195,6 +208,16 @@ impl<'w> Failures<'w> {
         }));
     }
 
+    /// Keeps where a position was saved.
+    pub fn note_saved(&self, name: &str) {
+        self.saved.set(Some(self.word(name)));
+    }
+
+    /// Keeps which file is written.
+    pub fn note_output(&self, name: &'w str) {
+        self.output.set(Some(name));
+    }
+
     /// Keeps two names that are one file.
     pub fn note_twice(&self, one: &str, other: &str) {
         let other = Some(self.word(other));
@@ -231,6 +254,33 @@ impl<'w> Failures<'w> {
     /// What kept a position from being saved.
     pub fn unsaved(&self) -> Option<Failure<'w>> {
         self.unsaved.get()
+    }
+
+    /// Where a position was saved.
+    pub(crate) fn saved(&self) -> Option<&'w str> {
+        self.saved.get()
+    }
+
+    /// Which file is written.
+    pub(crate) fn output(&self) -> Option<&'w str> {
+        self.output.get()
+    }
+
+    /// The file that an option names on the command line.
+    pub(crate) fn named_by(&self, option: &str) -> Option<&'w str> {
+        let mut is_next = false;
+        for word in self.words {
+            if is_next {
+                return Some(*word);
+            }
+            if let Some(rest) = word.strip_prefix(option) {
+                if let Some(name) = rest.strip_prefix('=') {
+                    return Some(name);
+                }
+                is_next = rest.is_empty();
+            }
+        }
+        None
     }
 
     /// Which names were found to be one file.

@@ -56,12 +56,9 @@ fn hint_of_payload(number: u8) -> Option<&'static str> {
         16 => Some("the file ends after its header: fetch all of it"),
         17 => Some(
             "the file is damaged or cut off here, or something was appended to it: \
-             fetch it again; age_tool resume continues from a position that --save saved",
+             fetch it again",
         ),
-        18 | 20 => Some(
-            "the file is cut off here: fetch the rest; \
-             age_tool resume continues from a position that --save saved",
-        ),
+        18 | 20 => Some("the file is cut off here: fetch the rest"),
         19 => Some(
             "no age program writes such a payload: the file was altered or forged, don't trust it",
         ),

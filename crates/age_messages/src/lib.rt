@@ -1,8 +1,8 @@
 //! What people read: the line on a terminal that shows how far a run is, and what the machine
 //! answered if something failed, which is said after the fault that it became.
 //!
-//! A `ProgressLine` is a meter that shows how many bytes were read on one line, which it writes over
-//! and over into a sink. `Failures` keeps what the machine answered when something failed, and
+//! A `ProgressLine` is a meter that shows how many bytes were read, on one line that it writes over
+//! and over into a sink, or in the lines of a log. `Failures` keeps what the machine answered when something failed, and
 //! `explain` says it after the fault that it became.
 #![tactic(auto)]
 
@@ -12,12 +12,16 @@ mod failures;
 mod heard;
 mod hints;
 mod line;
+mod line_style;
 mod progress_line;
 mod text;
 mod unread;
+mod waiting;
 
 pub use explaining::explain;
 pub use failures::{Action, Amount, Failure, Failures, Twice};
 pub use heard::Heard;
+pub use line_style::LineStyle;
 pub use progress_line::ProgressLine;
 pub use unread::{announce_reading, explain_words};
+pub use waiting::{announce_rereading, announce_sync};

@@ -2,7 +2,9 @@
 
 ghost use Rattle.std.specs.Prelude.{◌≡◌, ◌+◌, ◌^◌, ◌≤◌, ◌<◌, ◌++◌, length, decimal};
 ghost use Rattle.age_messages.specs.Lines.{percentage, measure_of, amount, padded, count_line, progress_line, mark};
+ghost use Rattle.age_messages.specs.Lines.{line_end, covering_end, line_step, line_share};
 
+use crate::line_style::LineStyle;
 use arrayvec::ArrayVec;
 use itoa::Buffer;
 
@@ -107,10 +109,41 @@ fn percentage(length: u64, count: u64) -> u64
     (count as u128 * 100 / length as u128).min(100) as u64
 }
 
+/// A number of bytes, with its unit.
+pub(crate) fn size_line(bytes: u64) -> Line {
+    let measure = measure_of(bytes);
+    let mut line = amount_in(measure.size, bytes);
+    push(&mut line, b" ");
+    push(&mut line, measure.name.as_bytes());
+    line
+}
+
+/// What ends a line.
+fn line_end(style: LineStyle) -> &'static [u8]
+    ensures text { result.now ≡ line_end style }
+    ensures short { length result.now ≤ 1 }
+{
+    match style {
+        LineStyle::Rewritten => b"\r",
+        LineStyle::Separate => b"\n",
+    }
+}
+
+/// What ends a line that may be shorter than the one before it.
+fn covering_end(style: LineStyle) -> &'static [u8]
+    ensures text { result.now ≡ covering_end style }
+    ensures short { length result.now ≤ 30 }
+{
+    match style {
+        LineStyle::Rewritten => b"                    \r",
+        LineStyle::Separate => b"\n",
+    }
+}
+
 /// The line for a count of bytes out of this many.
-fn share_line(length: u64, count: u64) -> Line
+fn share_line(style: LineStyle, length: u64, count: u64) -> Line
     requires { count ≤ length }
-    ensures { result.items ≡ progress_line (Some length) count }
+    ensures { result.items ≡ progress_line style (Some length) count }
 {
     let measure = measure_of(length);
     let mut percent = Buffer::new();
@@ -126,31 +159,53 @@ fn share_line(length: u64, count: u64) -> Line
     push(&mut line, amount_in(measure.size, length).as_slice());
     push(&mut line, b" ");
     push(&mut line, measure.name.as_bytes());
-    push(&mut line, b"\r");
+    push(&mut line, line_end(style));
     line
 }
 
 /// The line for a count of bytes, of a length if that is known.
-pub(crate) fn line_of(length: Option<u64>, count: u64) -> Line
-    ensures { result.items ≡ progress_line length count }
+pub(crate) fn line_of(style: LineStyle, length: Option<u64>, count: u64) -> Line
+    ensures { result.items ≡ progress_line style length count }
 {
     match length {
-        Some(length) if count <= length => share_line(length, count),
-        Some(_) => count_line(b"                    \r", count),
-        None => count_line(b"\r", count),
+        Some(length) if count <= length => share_line(style, length, count),
+        Some(_) => count_line(covering_end(style), count),
+        None => count_line(line_end(style), count),
     }
 }
 
-/// The percentage, or how often 64 MiB were read if no length is known, or after all percentages if
-/// more than the length was read.
-pub(crate) fn mark_of(length: Option<u64>, count: u64) -> u64
-    ensures mark { result ≡ mark length count }
+/// After how many bytes the next line is due if no length is known: 64 MiB, or 10 GiB in a log.
+fn line_step(style: LineStyle) -> u64
+    ensures step { result ≡ line_step style }
+    ensures some { 2 ^ 26 ≤ result }
+{
+    match style {
+        LineStyle::Rewritten => 64 << 20,
+        LineStyle::Separate => 10 << 30,
+    }
+}
+
+/// How many hundredths of a length make the next line due.
+fn line_share(style: LineStyle) -> u64
+    ensures share { result ≡ line_share style }
+    ensures some { 1 ≤ result }
+{
+    match style {
+        LineStyle::Rewritten => 1,
+        LineStyle::Separate => 10,
+    }
+}
+
+/// How many shares of the length were read; or how many steps if no length is known, or after all
+/// shares if more than the length was read.
+pub(crate) fn mark_of(style: LineStyle, length: Option<u64>, count: u64) -> u64
+    ensures mark { result ≡ mark style length count }
     ensures small { result ≤ 2 ^ 39 }
 {
-    let rounds = count / (64 << 20);
+    let steps = count / line_step(style);
     match length {
-        Some(length) if count <= length => percentage(length, count),
-        Some(_) => 101 + rounds,
-        None => rounds,
+        Some(length) if count <= length => percentage(length, count) / line_share(style),
+        Some(_) => 101 + steps,
+        None => steps,
     }
 }

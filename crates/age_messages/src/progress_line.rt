@@ -2,22 +2,24 @@
 
 ghost use Rattle.std.specs.Prelude.{◌≡◌, ◌+◌, None, Some, true, false, codes};
 ghost use Rattle.age_io.specs.Io.{with_more};
-ghost use Rattle.age_messages.specs.Lines.{progress_line, mark, first_mark, is_due, Shows};
+ghost use Rattle.age_messages.specs.Lines.{progress_line, mark, first_mark, is_due, is_left, Shows};
 
 use crate::line::{line_of, mark_of};
+use crate::line_style::LineStyle;
 use crate::text::show;
 use age_io::{Meter, Sink};
 
-/// A meter that shows how far a run is on one line of a sink, which each later line is written
-/// over, as it ends in a carriage return.
+/// A meter that shows how far a run is: on one line of a sink, which each later line is written
+/// over, as it ends in a carriage return; or in a few lines that stand by themselves, as in a log.
 ///
 /// If the length is known a line is due as the percentage rises, and otherwise, or after more was
-/// read than that, with each 64 MiB. A contract sees the sink, the length, how many bytes were
-/// read, the percentage or the number of times 64 MiB at which the next line is due, and whether
+/// read than that, with each 64 MiB; in a log with each tenth, or each 10 GiB. A contract sees the
+/// sink, the length, how many bytes were read, the mark at which the next line is due, and whether
 /// there is a line to end. What the sink fails to take is left out.
 #[derive(Debug, Drop)]
 pub struct ProgressLine<O: Sink> {
     sink: O,
+    style: LineStyle,
     length: Option<u64>,
     count: u64,
     next: u64,
@@ -25,10 +27,11 @@ pub struct ProgressLine<O: Sink> {
 }
 
 impl<O: Sink> ProgressLine<O> {
-    /// A line in this sink, for a run whose length isn't known before it begins.
-    pub fn new(sink: O) -> ProgressLine<O>
+    /// Lines in this sink, for a run whose length isn't known before it begins.
+    pub fn new(sink: O, style: LineStyle) -> ProgressLine<O>
         ensures { result ≡ record {
           sink = sink;
+          style = style;
           length = None;
           count = 0;
           next = 1;
@@ -37,6 +40,7 @@ impl<O: Sink> ProgressLine<O> {
     {
         ProgressLine {
             sink,
+            style,
             length: None,
             count: 0,
             next: 1,
@@ -50,6 +54,16 @@ impl<O: Sink> ProgressLine<O> {
     {
         let ProgressLine { sink, .. } = self;
         sink
+    }
+}
+
+/// Whether a line is left to be ended.
+fn is_left(style: LineStyle) -> bool
+    ensures { result ≡ is_left style }
+{
+    match style {
+        LineStyle::Rewritten => true,
+        LineStyle::Separate => false,
     }
 }
 
@@ -72,25 +86,26 @@ impl<O: Sink> Meter for ProgressLine<O> {
 
     /// Writes a line, if one is due.
     fn advance(&mut self, bytes: u64)
-        ensures quiet { is_due self.old.length self.old.next self.new.count ≡ false
+        ensures quiet { is_due self.old.style self.old.length self.old.next self.new.count ≡ false
             → self.new ≡ record self.old { count = with_more bytes self.old.count } }
-        ensures line { is_due self.old.length self.old.next self.new.count ≡ true
-            → Shows (O.view self.old.sink) (progress_line self.old.length self.new.count)
-            (O.view self.new.sink) }
-        ensures due { is_due self.old.length self.old.next self.new.count ≡ true
+        ensures line { is_due self.old.style self.old.length self.old.next self.new.count ≡ true
+            → Shows (O.view self.old.sink)
+            (progress_line self.old.style self.old.length self.new.count) (O.view self.new.sink) }
+        ensures due { is_due self.old.style self.old.length self.old.next self.new.count ≡ true
             → self.new ≡ record self.old {
               sink = self.new.sink;
               count = with_more bytes self.old.count;
-              next = mark self.old.length self.new.count + 1;
-              shown = true;
+              next = mark self.old.style self.old.length self.new.count + 1;
+              shown = is_left self.old.style;
             } }
     {
         self.count = self.count.saturating_add(bytes);
-        let mark = mark_of(self.length, self.count);
+        let mark = mark_of(self.style, self.length, self.count);
         if mark >= self.next {
             self.next = mark + 1;
-            self.shown = true;
-            show(&mut self.sink, line_of(self.length, self.count).as_slice());
+            self.shown = is_left(self.style);
+            let line = line_of(self.style, self.length, self.count);
+            show(&mut self.sink, line.as_slice());
         }
     }
 

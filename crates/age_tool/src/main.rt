@@ -6,11 +6,11 @@
 use age_cli::run;
 use age_file::{Reading, Writing};
 use age_host::{
-    Failures, Heard, HostFiles, HostOut, ProgressLine, Watched, announce_reading, explain,
-    explain_words,
+    Failures, Heard, HostFiles, HostOut, LineStyle, ProgressLine, Watched, announce_reading,
+    explain, explain_words,
 };
 use std::alloc::Global;
-use std::io;
+use std::io::{self, IsTerminal};
 use std::process::ExitCode;
 
 /// The words of the command line. Fails if memory is refused, or if some word is no text.
@@ -38,6 +38,11 @@ fn unread(rt: &HostRuntime, error: &io::Error) -> ExitCode {
     ExitCode::from(2)
 }
 
+/// Progress is shown on one line of a terminal, and in few lines of a log.
+fn progress_style(rt: &HostRuntime) -> LineStyle {
+    if rt.stderr().is_terminal() { LineStyle::Rewritten } else { LineStyle::Separate }
+}
+
 /// Runs the program on the words after its name, over the machine's files and its own standard
 /// streams.
 fn run_words<'a>(rt: &'a HostRuntime, words: &'a [&'a str]) -> ExitCode {
@@ -46,7 +51,7 @@ fn run_words<'a>(rt: &'a HostRuntime, words: &'a [&'a str]) -> ExitCode {
     let mut input = Reading::new(Watched::new(rt.reader(), &failures));
     let mut output = Writing::new(Watched::new(io::writer(rt), &failures));
     let mut faults = Heard::new(HostOut::faults(rt));
-    let mut progress = ProgressLine::new(Writing::new(rt.stderr()));
+    let mut progress = ProgressLine::new(Writing::new(rt.stderr()), progress_style(rt));
     if words.is_empty() {
         announce_reading(rt);
     }

@@ -1,6 +1,6 @@
 //! The progress line over memory: which lines come, and in which unit.
 
-use age_host::ProgressLine;
+use age_host::{LineStyle, ProgressLine};
 use age_io::{MemSink, MemSource, Meter, Metered, Source};
 use std::alloc::Global;
 use std::process::Abort;
@@ -49,9 +49,28 @@ const ROWS: &[(Runs<'static>, &str)] = &[
     ),
 ];
 
+/// The runs, and what they show in a log.
+const LOG_ROWS: &[(Runs<'static>, &str)] = &[
+    // Each tenth comes once at most.
+    (
+        &[(Some(512), &[0, 5, 1, 250, 256, 0])],
+        "  0 %  0 of 512 B\n 50 %  256 of 512 B\n100 %  512 of 512 B\n",
+    ),
+    // A pipe.
+    (
+        &[(None, &[9 * GIB, GIB, 5 * GIB, 25 * GIB])],
+        "  10.0 GiB\n  40.0 GiB\n",
+    ),
+    // A file grew.
+    (
+        &[(Some(2048), &[1024, 4096])],
+        " 50 %  1.0 of 2.0 KiB\n   5.0 KiB\n",
+    ),
+];
+
 /// Shows the runs in a sink, and compares what it then holds.
-fn see(rt: &impl Abort, sink: MemSink, runs: Runs<'_>, wanted: &str) {
-    let mut progress = ProgressLine::new(sink);
+fn see(rt: &impl Abort, sink: MemSink, style: LineStyle, runs: Runs<'_>, wanted: &str) {
+    let mut progress = ProgressLine::new(sink, style);
     for (length, counts) in runs {
         progress.begin(*length);
         for bytes in *counts {
@@ -69,11 +88,15 @@ fn see(rt: &impl Abort, sink: MemSink, runs: Runs<'_>, wanted: &str) {
 fn shows_runs(rt: HostRuntime) -> Result<(), Fail> {
     for (runs, wanted) in ROWS {
         let sink = MemSink::new(rt.alloc(), 10_000, usize::MAX, None)?;
-        see(&rt, sink, *runs, *wanted);
+        see(&rt, sink, LineStyle::Rewritten, *runs, *wanted);
+    }
+    for (runs, wanted) in LOG_ROWS {
+        let sink = MemSink::new(rt.alloc(), 10_000, usize::MAX, None)?;
+        see(&rt, sink, LineStyle::Separate, *runs, *wanted);
     }
     // A sink that takes little gets whole lines.
     let narrow = MemSink::new(rt.alloc(), 10_000, 3, None)?;
-    see(&rt, narrow, &[(Some(10), &[10])], "100 %  10 of 10 B\r\n");
+    see(&rt, narrow, LineStyle::Rewritten, &[(Some(10), &[10])], "100 %  10 of 10 B\r\n");
     Ok(())
 }
 
@@ -89,14 +112,14 @@ fn continues_after_a_failed_line(rt: HostRuntime) -> Result<(), Fail> {
         (2, " 20 %  2 of 10 B\r 80 %  8 of 10 B\r\n"),
     ] {
         let sink = MemSink::new(rt.alloc(), 10_000, usize::MAX, Some(call))?;
-        see(&rt, sink, &[(Some(10), &[2, 3, 3])], wanted);
+        see(&rt, sink, LineStyle::Rewritten, &[(Some(10), &[2, 3, 3])], wanted);
     }
     Ok(())
 }
 
 #[test]
 fn shows_at_most_101_lines(rt: HostRuntime) -> Result<(), Fail> {
-    let mut progress = ProgressLine::new(MemSink::new(rt.alloc(), 10_000, usize::MAX, None)?);
+    let mut progress = ProgressLine::new(MemSink::new(rt.alloc(), 10_000, usize::MAX, None)?, LineStyle::Rewritten);
     progress.begin(Some(80 * GIB));
     for _ in 0..1280 {
         progress.advance(64 * MIB);
@@ -129,7 +152,7 @@ fn pull_in_turn<M: Meter + Drop>(rt: &impl Abort, alloc: Global, mut meter: M) -
 #[test]
 fn counts_what_a_source_gives(rt: HostRuntime) -> Result<(), Fail> {
     let alloc = rt.alloc();
-    let mut progress = ProgressLine::new(MemSink::new(alloc, 10_000, usize::MAX, None)?);
+    let mut progress = ProgressLine::new(MemSink::new(alloc, 10_000, usize::MAX, None)?, LineStyle::Rewritten);
     progress.begin(Some(10));
     pull_in_turn(&rt, alloc, &mut progress)?;
     progress.end();
