@@ -2,8 +2,8 @@
 //! answered if something failed, which is said after the fault that it became.
 //!
 //! A `ProgressLine` is a meter that shows how many bytes were read, on one line that it writes over
-//! and over into a sink, or in the lines of a log. `Failures` keeps what the machine answered when something failed, and
-//! `explain` says it after the fault that it became.
+//! and over into a sink, or in the lines of a log. `Failures` keeps what the machine answered when
+//! something failed, and `explain` says it after the fault that it became.
 #![tactic(auto)]
 
 mod escaped;
