@@ -2,18 +2,20 @@
 //! what is to be replaced later.
 #![tactic(auto)]
 
+mod beside;
+mod calls;
 mod input;
 mod lock;
 mod names;
 mod output;
 mod paths;
 mod prepare;
-mod replace;
 mod retry;
+mod saving;
 mod sync;
 
 pub use input::HostIn;
 pub use names::{FileId, Node, Resolved, Stream, StreamId, found_at};
 pub use output::HostOut;
 pub use prepare::Prepared;
-pub use replace::replace;
+pub use saving::replace;

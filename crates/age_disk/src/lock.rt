@@ -40,7 +40,7 @@ pub(crate) fn remove_at(rt: &HostRuntime, file: &File, path: &str) -> bool {
 }
 
 /// Whether a file is the one at a path, without following a link.
-fn is_at(rt: &HostRuntime, file: &File, path: &str) -> bool {
+pub(crate) fn is_at(rt: &HostRuntime, file: &File, path: &str) -> bool {
     match (file.metadata(), found_at(rt, path)) {
         (Ok(own), Ok(Some(there))) => FileId::of(&own) == FileId::of(&there),
         _ => false,

@@ -3,7 +3,7 @@
 use std::alloc::Global;
 use std::fs::{self, File, Metadata};
 use std::io;
-use std::os::fd::{AsFd, AsRawFd, BorrowedFd};
+use std::os::fd::{AsFd, AsRawFd, OwnedFd};
 use std::os::unix::fs::{FileTypeExt, MetadataExt};
 use std::path::PathBuf;
 use std::rt::HostRuntime;
@@ -49,20 +49,37 @@ impl Stream {
         }
     }
 
-    /// Fails if the program was started without this stream.
-    pub fn check(self, rt: &HostRuntime) -> io::Result<()> {
+    /// The number of its descriptor.
+    pub(crate) fn descriptor(self) -> i32 {
         match self {
-            Stream::Input => check_open(rt.stdin().as_fd()),
-            Stream::Output => check_open(rt.stdout().as_fd()),
-            Stream::Faults => check_open(rt.stderr().as_fd()),
+            Stream::Input => libc::STDIN_FILENO,
+            Stream::Output => libc::STDOUT_FILENO,
+            Stream::Faults => libc::STDERR_FILENO,
         }
     }
-}
 
-/// Fails if nothing is open at a descriptor.
-fn check_open(descriptor: BorrowedFd<'_>) -> io::Result<()> {
-    descriptor.try_clone_to_owned()?;
-    Ok(())
+    /// A second descriptor of it. Fails if the program was started without this stream.
+    pub(crate) fn copy(self, rt: &HostRuntime) -> io::Result<OwnedFd> {
+        match self {
+            Stream::Input => rt.stdin().as_fd().try_clone_to_owned(),
+            Stream::Output => rt.stdout().as_fd().try_clone_to_owned(),
+            Stream::Faults => rt.stderr().as_fd().try_clone_to_owned(),
+        }
+    }
+
+    /// Fails if the program was started without this stream.
+    pub fn check(self, rt: &HostRuntime) -> io::Result<()> {
+        self.copy(rt)?;
+        Ok(())
+    }
+
+    /// Whether it leads to a file that holds bytes on a disk, as far as the system shows it.
+    pub(crate) fn may_be_on_disk(self, rt: &HostRuntime) -> bool {
+        match fs::metadata(rt, self.path()) {
+            Ok(metadata) => is_on_disk(&metadata),
+            Err(_) => true,
+        }
+    }
 }
 
 /// What a name stands for.
@@ -143,7 +160,13 @@ impl FileId {
     /// The id of the file to which a stream leads that is open. Fails if the system doesn't show
     /// that, as when there is no /proc: what is read could be overwritten.
     pub fn of_open_stream(rt: &HostRuntime, stream: Stream) -> io::Result<Option<FileId>> {
-        Ok(FileId::of(&fs::metadata(rt, stream.path())?))
+        match fs::metadata(rt, stream.path()) {
+            Ok(metadata) => Ok(FileId::of(&metadata)),
+            Err(error) if error.kind() == io::ErrorKind::NotFound => {
+                Err(io::Error::other("/proc doesn't show where it leads"))
+            }
+            Err(error) => Err(error),
+        }
     }
 
     /// The id of the file to which a stream leads, if that is known.

@@ -3,11 +3,12 @@
 ghost use Rattle.std.specs.Prelude.{◌≡◌, [], None, true, false};
 ghost use Rattle.std.specs.Io.{WritesAtMost};
 
+use crate::calls::{close, cut};
 use crate::lock::{lock, remove_own};
 use crate::names::{FileId, Resolved, Stream, above_streams, resolve};
-use crate::paths::{OUTPUT_MODE, make_file, open_to_write};
+use crate::paths::{OUTPUT_MODE, make_output, open_to_write};
 use crate::retry::{TRIES, is_to_retry, too_many_tries};
-use crate::sync::{sync_file, sync_folder, sync_stream};
+use crate::sync::{close_stream, sync_file, sync_folder, sync_folder_if_readable, sync_stream};
 use age_io::{Durability, Failed, Failures, Sink};
 use std::alloc::Global;
 use std::fs::File;
@@ -21,13 +22,17 @@ use std::rt::{HostRuntime, Stderr, Stdout};
 #[derive(Drop)]
 struct OutFile {
     file: File,
-    // The path at which opening made it, if that was so.
-    made: Option<PathBuf>,
+    // The path that led to it, if one did.
+    path: Option<PathBuf>,
+    // Opening made it: then each write goes to its end, so nobody can leave a hole in it.
+    is_made: bool,
     // It had a name when it was opened.
     is_named: bool,
     // What it held is still there, beyond the bytes that were written.
     is_stale: bool,
     written: u64,
+    // How much was written when it was last seen to be as it should.
+    seen: u64,
     // Its length is how much was written, as long as nobody else changes it. Files that the system
     // makes up, as in /proc, have another.
     has_length: bool,
@@ -67,6 +72,24 @@ impl Target {
             Target::Faults(faults) => faults.write(from),
         }
     }
+
+    /// Waits until what was written has reached the disk.
+    fn sync(&self, rt: &HostRuntime) -> io::Result<()> {
+        match self {
+            Target::File(out) => sync_file(&out.file),
+            Target::Output(_) => sync_stream(rt, Stream::Output),
+            Target::Faults(_) => sync_stream(rt, Stream::Faults),
+        }
+    }
+
+    /// Closes it.
+    fn close(self, rt: &HostRuntime, durability: Durability) -> io::Result<()> {
+        match self {
+            Target::File(out) => out.close(rt, durability),
+            Target::Output(_) => close_stream(rt, Stream::Output),
+            Target::Faults(_) => close_stream(rt, Stream::Faults),
+        }
+    }
 }
 
 /// A file of the machine that is written, or standard output or error. A regular file keeps its
@@ -81,6 +104,13 @@ pub struct HostOut {
     failures: Failures,
     // What the machine answered to the last put that failed.
     error: io::Error,
+    // How many bytes it took, and how many of them were there when the disk was last waited for.
+    taken: u64,
+    settled: u64,
+    // Whether the disk is waited for as it is written.
+    durability: Durability,
+    // How a wait for the disk failed. The system says so once: a later wait proves nothing.
+    lost: Option<io::Error>,
 }
 
 impl Model for HostOut {
@@ -96,37 +126,56 @@ fn is_regular(file: &File) -> io::Result<bool> {
     Ok(file.metadata()?.is_file())
 }
 
+/// What another program has done to a file that is being written.
+#[derive(Clone, Copy)]
+enum Harm {
+    /// It has removed its last name.
+    Removed,
+    /// It has changed its length.
+    Length,
+}
+
+/// How many bytes may be written before a file is looked at again: one that opening made can't get
+/// a hole, and is looked at less often.
+const SIGHT_OF_FOUND: u64 = 1 << 24;
+
+const SIGHT_OF_MADE: u64 = 1 << 30;
+
 impl OutFile {
     /// Opens a file without emptying it, or makes it if there is none.
     fn open(rt: &HostRuntime, name: &str, path: PathBuf) -> io::Result<OutFile> {
-        match open_to_write(rt, name)? {
-            Some(file) => OutFile::of_found(above_streams(file)?),
+        match open_to_write(rt, name, OUTPUT_MODE)? {
+            Some(file) => OutFile::of_found(above_streams(file)?, Some(path)),
             None => OutFile::make(rt, path),
         }
     }
 
     /// A file that was there; what is written replaces what it holds.
-    fn of_found(file: File) -> io::Result<OutFile> {
+    fn of_found(file: File, path: Option<PathBuf>) -> io::Result<OutFile> {
         let is_named = file.metadata()?.nlink() > 0;
         Ok(OutFile {
             file,
-            made: None,
+            path,
+            is_made: false,
             is_named,
             is_stale: true,
             written: 0,
+            seen: 0,
             has_length: true,
         })
     }
 
     /// Makes a file at a path that holds neither a file nor a link.
     fn make(rt: &HostRuntime, path: PathBuf) -> io::Result<OutFile> {
-        let file = make_file(rt, path.as_str(), OUTPUT_MODE)?;
+        let file = make_output(rt, path.as_str())?;
         Ok(OutFile {
             file,
-            made: Some(path),
+            path: Some(path),
+            is_made: true,
             is_named: true,
             is_stale: false,
             written: 0,
+            seen: 0,
             has_length: true,
         })
     }
@@ -148,7 +197,6 @@ impl OutFile {
     {
         if self.written > 0 {
             self.cut()?;
-            self.check_kept()?;
         }
         let is_first = self.written == 0;
         let n = self.file.write(from)?;
@@ -171,13 +219,40 @@ impl OutFile {
         }
     }
 
-    /// Fails if it is shorter than what was written: the next bytes would leave a hole before them.
-    fn check_kept(&self) -> io::Result<()> {
+    /// Whether it is to be looked at before more is written.
+    fn is_out_of_sight(&self) -> bool {
+        let most = if self.is_made {
+            SIGHT_OF_MADE
+        } else {
+            SIGHT_OF_FOUND
+        };
+        self.written.saturating_sub(self.seen) >= most
+    }
+
+    /// What another program has done to it meanwhile. While more is to be written it may be longer:
+    /// somebody else may append to it, which is seen at its end.
+    fn harm(&self, is_over: bool) -> io::Result<Option<Harm>> {
         let own = self.file.metadata()?;
-        if own.is_file() && self.has_length && own.len() < self.written {
-            return Err(changed_length());
+        let is_right = own.len() == self.written || (!is_over && own.len() > self.written);
+        if !own.is_file() {
+            Ok(None)
+        } else if self.is_named && own.nlink() == 0 {
+            Ok(Some(Harm::Removed))
+        } else if self.has_length && !is_right {
+            Ok(Some(Harm::Length))
+        } else {
+            Ok(None)
         }
-        Ok(())
+    }
+
+    /// How many of the bytes that were written it can hold, by its length.
+    fn room(&self) -> u64 {
+        match self.file.metadata() {
+            Ok(own) if !own.is_file() || !self.has_length => u64::MAX,
+            Ok(own) if self.is_named && own.nlink() == 0 => 0,
+            Ok(own) => own.len(),
+            Err(_) => 0,
+        }
     }
 
     /// Whether it still holds what it held, or nothing if it was made.
@@ -198,36 +273,22 @@ impl OutFile {
         Ok(())
     }
 
-    /// Ends it with what was written.
-    fn finish(&mut self, rt: &HostRuntime, durability: Durability) -> io::Result<()> {
-        self.cut()?;
-        if durability == Durability::Synced {
-            self.reach_disk(rt)?;
-        }
-        self.check_whole()
-    }
-
-    /// Fails if another program has removed its last name meanwhile, or changed its length.
-    fn check_whole(&self) -> io::Result<()> {
-        let own = self.file.metadata()?;
-        if !own.is_file() {
-            return Ok(());
-        }
-        if self.is_named && own.nlink() == 0 {
-            return Err(io::Error::new(io::ErrorKind::NotFound, "it was removed meanwhile"));
-        }
-        if self.has_length && own.len() != self.written {
-            return Err(changed_length());
-        }
-        Ok(())
-    }
-
-    /// Waits until it, and its name if opening made it, have reached the disk.
-    fn reach_disk(&self, rt: &HostRuntime) -> io::Result<()> {
-        sync_file(&self.file)?;
-        match &self.made {
-            Some(path) => sync_folder(rt, path),
-            None => Ok(()),
+    /// Closes it, and waits until its name has reached the disk. Where another program made the
+    /// name, that is done if its folder can be read.
+    fn close(self, rt: &HostRuntime, durability: Durability) -> io::Result<()> {
+        let is_named = self.is_named && is_regular(&self.file)?;
+        let OutFile {
+            file,
+            path,
+            is_made,
+            ..
+        } = self;
+        close(file)?;
+        match path {
+            Some(path) if is_named && durability == Durability::Synced => {
+                sync_name(rt, &path, is_made)
+            }
+            _ => Ok(()),
         }
     }
 
@@ -241,7 +302,8 @@ impl OutFile {
 
     /// Removes it, if opening made it, this run alone has it, and it is still empty.
     fn remove_made(&self, rt: &HostRuntime, durability: Durability) {
-        if let Some(path) = &self.made
+        if let Some(path) = &self.path
+            && self.is_made
             && self.is_empty()
             && remove_own(rt, &self.file, path.as_str())
             && durability == Durability::Synced
@@ -251,17 +313,32 @@ impl OutFile {
     }
 }
 
-/// What is reported of a file that was cut off, or made longer, meanwhile.
-fn changed_length() -> io::Error {
-    io::Error::other("another program changed its length")
+/// Waits until the name of an output has reached the disk.
+fn sync_name(rt: &HostRuntime, path: &PathBuf, is_made: bool) -> io::Result<()> {
+    if is_made {
+        sync_folder(rt, path)
+    } else {
+        sync_folder_if_readable(rt, path)
+    }
 }
 
 /// Cuts off what a regular file holds after this many bytes.
 fn cut_file(file: &File, len: u64) -> io::Result<()> {
     if is_regular(file)? {
-        file.set_len(len)?;
+        cut(file, len)?;
     }
     Ok(())
+}
+
+/// How many bytes are written at least, and at most, between two waits for the disk. In between,
+/// they grow with what was written: so a stop seldom loses more than half of it.
+const WAIT_FIRST: u64 = 1 << 24;
+
+const WAIT_MOST: u64 = 1 << 30;
+
+/// Whether the disk is to be waited for before more is written.
+fn is_wait_due(taken: u64, settled: u64) -> bool {
+    taken.saturating_sub(settled) >= settled.min(WAIT_MOST).max(WAIT_FIRST)
 }
 
 impl HostOut {
@@ -274,6 +351,10 @@ impl HostOut {
             id,
             failures: Failures::none(),
             error: io::Error::from(io::ErrorKind::Other),
+            taken: 0,
+            settled: 0,
+            durability: Durability::Buffered,
+            lost: None,
         }
     }
 
@@ -290,12 +371,20 @@ impl HostOut {
     }
 
     /// Opens what a name stands for without emptying it, or makes a file if there is none. Nothing
-    /// can be written to standard input.
-    pub fn open(alloc: Global, rt: &HostRuntime, name: &str) -> io::Result<HostOut> {
-        match resolve(alloc, rt, name)? {
-            Resolved::Path(path) => HostOut::of_file(rt, OutFile::open(rt, name, path)?),
-            Resolved::Stream(stream) => HostOut::of_stream(rt, stream),
-        }
+    /// can be written to standard input. If it is to be on the disk at the end, the disk is waited
+    /// for each 16 MiB to 1 GiB: so a failure is seen early, and `settle` can tell what is there.
+    pub fn open(
+        alloc: Global,
+        rt: &HostRuntime,
+        name: &str,
+        durability: Durability,
+    ) -> io::Result<HostOut> {
+        let mut out = match resolve(alloc, rt, name)? {
+            Resolved::Path(path) => HostOut::of_file(rt, OutFile::open(rt, name, path)?)?,
+            Resolved::Stream(stream) => HostOut::of_stream(rt, stream)?,
+        };
+        out.durability = durability;
+        Ok(out)
     }
 
     fn of_file(rt: &HostRuntime, out: OutFile) -> io::Result<HostOut> {
@@ -305,7 +394,7 @@ impl HostOut {
 
     /// A file that is open to be written; what is written replaces what it holds.
     pub fn over(rt: &HostRuntime, file: File) -> io::Result<HostOut> {
-        HostOut::of_file(rt, OutFile::of_found(file)?)
+        HostOut::of_file(rt, OutFile::of_found(file, None)?)
     }
 
     /// A stream that can be written, from where it stands.
@@ -354,7 +443,80 @@ impl HostOut {
         ensures bound { WritesAtMost result from.now }
         ensures counted { self.new ≡ self.old }
     {
-        self.target.write(&self.rt, from)
+        self.look()?;
+        self.wait()?;
+        let n = self.target.write(&self.rt, from)?;
+        self.taken = self.taken.saturating_add(n as u64);
+        Ok(n)
+    }
+
+    /// Fails if another program has harmed it, if it is time to look.
+    fn look(&mut self) -> io::Result<()>
+        ensures { self.new ≡ self.old }
+    {
+        if let Target::File(out) = &mut self.target
+            && out.is_out_of_sight()
+        {
+            out.seen = out.written;
+            let harm = out.harm(false)?;
+            return self.unless_harmed(harm);
+        }
+        Ok(())
+    }
+
+    /// Waits for the disk, if it is time to.
+    fn wait(&mut self) -> io::Result<()>
+        ensures { self.new ≡ self.old }
+    {
+        if self.durability == Durability::Synced && is_wait_due(self.taken, self.settled) {
+            self.reach_disk()?;
+        }
+        Ok(())
+    }
+
+    /// Waits until what was written has reached the disk. Fails for good once that has failed.
+    fn reach_disk(&mut self) -> io::Result<()>
+        ensures { self.new ≡ self.old }
+    {
+        if let Some(error) = self.lost {
+            return Err(error);
+        }
+        let reached = self.target.sync(&self.rt);
+        match reached {
+            Ok(()) => self.settled = self.taken,
+            Err(error) => self.lost = Some(error),
+        }
+        reached
+    }
+
+    /// The failure that harm is. A file system that takes bytes before there is room for them, as
+    /// NFS does, says only at a wait why the file is too short.
+    fn unless_harmed(&mut self, harm: Option<Harm>) -> io::Result<()>
+        ensures { self.new ≡ self.old }
+    {
+        match harm {
+            None => Ok(()),
+            Some(Harm::Removed) => Err(io::Error::other("it was removed meanwhile")),
+            Some(Harm::Length) => {
+                self.reach_disk()?;
+                Err(io::Error::other("another program changed its length"))
+            }
+        }
+    }
+
+    /// How many of the bytes that it took are there for certain: on the disk, if they are to be and
+    /// the machine can wait for that. A file that was cut off or removed has fewer.
+    pub fn settle(&mut self, _rt: &HostRuntime, durability: Durability) -> u64
+        ensures { self.new ≡ self.old }
+    {
+        let held = match durability {
+            Durability::Synced if self.reach_disk().is_err() => self.settled,
+            _ => self.taken,
+        };
+        match &self.target {
+            Target::File(out) => held.min(out.room()),
+            _ => held,
+        }
     }
 
     /// Whether puts were tried, and none took a byte.
@@ -365,17 +527,33 @@ impl HostOut {
         }
     }
 
-    /// Ends it with what was written. If each put failed, it is as it was before it was opened.
-    pub fn close(self, rt: &HostRuntime, durability: Durability) -> io::Result<()> {
+    /// Ends what was written: cuts off what is beyond it, waits for the disk, and fails if another
+    /// program has harmed the file.
+    fn finish(&mut self, durability: Durability) -> io::Result<()> {
+        if let Target::File(out) = &mut self.target {
+            out.cut()?;
+        }
+        if durability == Durability::Synced {
+            self.reach_disk()?;
+        }
+        if let Target::File(out) = &self.target {
+            let harm = out.harm(true)?;
+            return self.unless_harmed(harm);
+        }
+        Ok(())
+    }
+
+    /// Ends it with what was written, and closes it, in either case. If each put failed, it is as
+    /// it was before it was opened.
+    pub fn close(mut self, rt: &HostRuntime, durability: Durability) -> io::Result<()> {
         if self.has_only_failed() {
             self.discard(rt, durability);
             return Ok(());
         }
-        match self.target {
-            Target::File(mut out) => out.finish(rt, durability),
-            Target::Output(_) => finish_stream(rt, Stream::Output, durability),
-            Target::Faults(_) => finish_stream(rt, Stream::Faults, durability),
-        }
+        let finished = self.finish(durability);
+        let closed = self.target.close(rt, durability);
+        finished?;
+        closed
     }
 
     /// Ends it if nothing was written, as it was before it was opened.
@@ -391,14 +569,6 @@ fn error_of(put: io::Result<usize>) -> io::Error {
     match put {
         Ok(_) => io::Error::from(io::ErrorKind::WriteZero),
         Err(error) => error,
-    }
-}
-
-/// Ends what went to a stream.
-fn finish_stream(rt: &HostRuntime, stream: Stream, durability: Durability) -> io::Result<()> {
-    match durability {
-        Durability::Synced => sync_stream(rt, stream),
-        Durability::Buffered => Ok(()),
     }
 }
 

@@ -1,9 +1,9 @@
 //! Opens, makes and removes files of the machine.
 
-use crate::names::above_streams;
+use crate::calls;
+use crate::names::{above_streams, is_on_disk};
 use std::fs::{self, File};
 use std::io;
-use std::os::unix::fs::OpenOptionsExt;
 use std::rt::HostRuntime;
 
 /// Who may do what with a new output, if the umask allows it.
@@ -15,43 +15,45 @@ pub(crate) const POSITION_MODE: u32 = 0o600;
 
 /// Opens a file to be written without emptying it; `None` if there is none. It is opened as if it
 /// might have to be made (`O_CREAT`), since only then the system refuses somebody else's file or
-/// pipe in a sticky folder, if it protects these.
-pub(crate) fn open_to_write(rt: &HostRuntime, name: &str) -> io::Result<Option<File>> {
-    open_there(rt, name, false)
-}
-
-/// Opens a file to be written and read, or only to be written if reading isn't allowed. If a pipe
-/// has come to its place, opening it to be read too doesn't wait for a reader.
-pub(crate) fn open_at_once(rt: &HostRuntime, name: &str) -> io::Result<Option<File>> {
-    match open_there(rt, name, true) {
-        Err(error) if error.kind() == io::ErrorKind::PermissionDenied => open_to_write(rt, name),
-        opened => opened,
-    }
-}
-
-fn open_there(rt: &HostRuntime, name: &str, is_read: bool) -> io::Result<Option<File>> {
+/// pipe in a sticky folder, if it protects these. One that is removed just before that is made with
+/// this mode.
+pub(crate) fn open_to_write(rt: &HostRuntime, name: &str, mode: u32) -> io::Result<Option<File>> {
     match fs::metadata(rt, name) {
-        Ok(_) => Ok(Some(
-            File::options()
-                .read(is_read)
-                .write(true)
-                .create(true)
-                .mode(POSITION_MODE)
-                .open(rt, name)?,
-        )),
+        Ok(_) => Ok(Some(calls::open_or_make(rt, name, false, mode)?)),
         Err(error) if error.kind() == io::ErrorKind::NotFound => Ok(None),
         Err(error) => Err(error),
     }
 }
 
-/// Makes a file if there is none, at a path that is no link.
-pub(crate) fn make_file(rt: &HostRuntime, path: &str, mode: u32) -> io::Result<File> {
-    let mut options = File::options();
-    let made = options
-        .write(true)
-        .create_new(true)
-        .mode(mode)
-        .open(rt, path)?;
+/// Opens a file of a position to be written and read, or only to be written if reading isn't
+/// allowed. If a pipe has come to its place, opening it to be read too doesn't wait for a reader;
+/// one that may only be written is refused, since opening it would wait.
+pub(crate) fn open_at_once(rt: &HostRuntime, name: &str) -> io::Result<Option<File>> {
+    let found = match fs::metadata(rt, name) {
+        Ok(found) => found,
+        Err(error) if error.kind() == io::ErrorKind::NotFound => return Ok(None),
+        Err(error) => return Err(error),
+    };
+    match calls::open_or_make(rt, name, true, POSITION_MODE) {
+        Err(error) if error.kind() == io::ErrorKind::PermissionDenied && is_on_disk(&found) => {
+            open_to_write(rt, name, POSITION_MODE)
+        }
+        opened => Ok(Some(opened?)),
+    }
+}
+
+/// Makes a file for a position, at a path where there is neither a file nor a link.
+pub(crate) fn make_file(rt: &HostRuntime, path: &str) -> io::Result<File> {
+    kept_above(rt, calls::make(rt, path, POSITION_MODE)?, path)
+}
+
+/// Makes an output, at a path where there is neither a file nor a link.
+pub(crate) fn make_output(rt: &HostRuntime, path: &str) -> io::Result<File> {
+    kept_above(rt, calls::make_to_append(rt, path, OUTPUT_MODE)?, path)
+}
+
+/// A file that was made at a path, above the standard streams; it is removed if that fails.
+fn kept_above(rt: &HostRuntime, made: File, path: &str) -> io::Result<File> {
     let file = above_streams(made);
     if file.is_err() {
         remove(rt, path);
@@ -61,5 +63,5 @@ pub(crate) fn make_file(rt: &HostRuntime, path: &str, mode: u32) -> io::Result<F
 
 /// Removes a file that was made, if that is allowed.
 pub(crate) fn remove(rt: &HostRuntime, path: &str) {
-    let _ = fs::remove_file(rt, path);
+    let _ = calls::remove(rt, path);
 }

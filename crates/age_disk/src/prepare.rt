@@ -1,9 +1,11 @@
 //! A file of the machine that is to be replaced later.
 
-use crate::lock::lock;
+use crate::beside::{Beside, make_beside};
+use crate::lock::{lock, remove_at};
 use crate::names::{FileId, Node, Resolved, Stream, above_streams, found_at, is_on_disk, resolve};
-use crate::paths::open_at_once;
+use crate::paths::{make_file, open_at_once};
 use crate::sync::folder_of;
+use age_io::Durability;
 use std::alloc::Global;
 use std::fs::{self, File, Metadata};
 use std::io;
@@ -57,19 +59,23 @@ pub struct Prepared {
     // The folder that its path leads into, if a path leads to it.
     folder: Option<Folder>,
     found: Found,
+    // The file that is to take its place, if one could be made there.
+    beside: Option<Beside>,
     // A file that it may be although that is open.
     spared: Option<FileId>,
 }
 
 impl Prepared {
-    /// Judges where a name leads, and tries whether a file there can be written, as far as this
-    /// changes nothing: a pipe isn't opened, since that would wait for its reader, and if there is
-    /// no file, only its folder has to be there.
+    /// Judges where a name leads, and prepares what is to replace the file there: a file beside it
+    /// with room for a position, which is on the disk by then if it is to be. Fails if there is
+    /// neither room for that nor a file that can be written itself. A pipe isn't opened, since that
+    /// would wait for its reader.
     pub fn new(
         alloc: Global,
         rt: &HostRuntime,
         name: &str,
         spared: Option<FileId>,
+        durability: Durability,
     ) -> io::Result<Prepared> {
         let resolved = resolve(alloc, rt, name)?;
         let found = match &resolved {
@@ -77,13 +83,17 @@ impl Prepared {
             Resolved::Path(path) => check_path(rt, name, path)?,
         };
         let folder = folder_in(rt, &resolved, &found)?;
-        Ok(Prepared {
+        let beside = beside_in(alloc, rt, &resolved, &found, durability)?;
+        let prepared = Prepared {
             name: String::from_str(alloc, name)?,
             resolved,
             folder,
             found,
+            beside,
             spared,
-        })
+        };
+        prepared.check_folder(rt)?;
+        Ok(prepared)
     }
 
     /// Takes the file that was found for this run alone. Fails if another run has it.
@@ -94,12 +104,24 @@ impl Prepared {
         }
     }
 
-    /// Whether this is the file that was found, and so one that this run has claimed.
-    pub fn has_claimed(&self, node: Node) -> bool {
+    /// The file that was found, which this run has claimed, if it is this one.
+    pub(crate) fn claimed(&self, node: Node) -> Option<&File> {
         match &self.found {
-            Found::File(file) => matches!(file.metadata(), Ok(own) if Node::of(&own) == node),
-            _ => false,
+            Found::File(file) if matches!(file.metadata(), Ok(own) if Node::of(&own) == node) => {
+                Some(file)
+            }
+            _ => None,
         }
+    }
+
+    /// Whether nothing was at its path.
+    pub(crate) fn was_nothing(&self) -> bool {
+        matches!(self.found, Found::Nothing)
+    }
+
+    /// The file that was made to take its place.
+    pub(crate) fn beside(&self) -> Option<&Beside> {
+        self.beside.as_ref()
     }
 
     /// Fails if its path no longer leads into the same folder. What is done there next goes by its
@@ -145,6 +167,66 @@ impl Prepared {
         };
         if found == self.spared { None } else { found }
     }
+
+    /// Whether this is the file that is there now, or the one that is to take its place.
+    pub fn is_of(&self, rt: &HostRuntime, id: Option<FileId>) -> bool {
+        let beside = match &self.beside {
+            Some(beside) => beside.id(),
+            None => None,
+        };
+        id.is_some() && (self.id(rt) == id || beside == id)
+    }
+}
+
+/// The file that is to take the place of what was found, with room for a position.
+fn beside_in(
+    alloc: Global,
+    rt: &HostRuntime,
+    resolved: &Resolved,
+    found: &Found,
+    durability: Durability,
+) -> io::Result<Option<Beside>> {
+    let Resolved::Path(path) = resolved else {
+        return Ok(None);
+    };
+    match found {
+        Found::Nothing => {
+            let beside = room_beside(alloc, rt, path, durability)?;
+            if beside.is_none() {
+                try_to_make(rt, path)?;
+            }
+            Ok(beside)
+        }
+        Found::File(file) if file.metadata()?.is_file() => {
+            room_beside(alloc, rt, path, durability)
+        }
+        _ => Ok(None),
+    }
+}
+
+/// A file beside a path with room for a position; `None` if none can be made there. Fails if it
+/// can't be filled.
+fn room_beside(
+    alloc: Global,
+    rt: &HostRuntime,
+    path: &PathBuf,
+    durability: Durability,
+) -> io::Result<Option<Beside>> {
+    match make_beside(alloc, rt, path) {
+        Ok(beside) => {
+            beside.keep_room(durability)?;
+            Ok(Some(beside))
+        }
+        Err(error) if error.kind() == io::ErrorKind::OutOfMemory => Err(error),
+        Err(_) => Ok(None),
+    }
+}
+
+/// Fails if no file can be made at a path. One that can is removed at once.
+fn try_to_make(rt: &HostRuntime, path: &PathBuf) -> io::Result<()> {
+    let file = make_file(rt, path.as_str())?;
+    remove_at(rt, &file, path.as_str());
+    Ok(())
 }
 
 /// The folder that a path leads into; `None` for what no path need lead to.

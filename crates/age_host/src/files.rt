@@ -31,6 +31,9 @@ pub struct HostFiles<'r, 'w> {
     prepared: Vec<Prepared>,
     log: Log,
     failures: &'r Failures<'w>,
+    // Whether the disk is waited for while the run goes on. This goes by the words alone: what is
+    // waited for at the end is said by each call.
+    durability: Durability,
 }
 
 impl<'r, 'w> HostFiles<'r, 'w> {
@@ -43,6 +46,7 @@ impl<'r, 'w> HostFiles<'r, 'w> {
             prepared: Vec::new(rt.alloc()),
             log: Log::new(),
             failures,
+            durability: durability_of(failures),
         }
     }
 
@@ -132,7 +136,7 @@ impl<'r, 'w> HostFiles<'r, 'w> {
         match self.prepared.iter().find(|p| p.is_named(name)) {
             Some(prepared) => self.replace_prepared(alloc, prepared, bytes, durability),
             None => {
-                let prepared = Prepared::new(alloc, self.rt, name, None)?;
+                let prepared = Prepared::new(alloc, self.rt, name, None, durability)?;
                 prepared.claim()?;
                 self.replace_prepared(alloc, &prepared, bytes, durability)
             }
@@ -175,6 +179,15 @@ impl<'r, 'w> HostFiles<'r, 'w> {
             Ok(()) => Ok(()),
             Err(_) => Err(OpenFault::Fault(FileFault::Memory)),
         }
+    }
+}
+
+/// Whether a run is to wait for the disk, by the words of its command line.
+fn durability_of(failures: &Failures<'_>) -> Durability {
+    if failures.has_word("--no-sync") {
+        Durability::Buffered
+    } else {
+        Durability::Synced
     }
 }
 
@@ -258,7 +271,7 @@ fn find_prepared<'p>(
     prepared: &'p [Prepared],
     id: Option<FileId>,
 ) -> Option<&'p Prepared> {
-    prepared.iter().find(|p| id.is_some() && p.id(rt) == id)
+    prepared.iter().find(|p| p.is_of(rt, id))
 }
 
 /// Whether this is a file that was opened.
@@ -443,7 +456,7 @@ impl<'r, 'w> FileSet for HostFiles<'r, 'w> {
             Some(spared) => FileId::at(self.rt, spared),
             None => None,
         };
-        match Prepared::new(alloc, self.rt, name, spared) {
+        match Prepared::new(alloc, self.rt, name, spared, self.durability) {
             Ok(prepared) => self.admit_prepared(prepared),
             Err(error) => Err(self.refusal(name, error)),
         }
@@ -451,7 +464,7 @@ impl<'r, 'w> FileSet for HostFiles<'r, 'w> {
 
     fn create(&mut self, alloc: Global, name: &str) -> Result<WatchedOut<'r, 'w>, OpenFault> {
         self.log.created(name);
-        match HostOut::open(alloc, self.rt, name) {
+        match HostOut::open(alloc, self.rt, name, self.durability) {
             Ok(out) => self.admit_created(name, out),
             Err(error) => Err(self.refusal(name, error)),
         }

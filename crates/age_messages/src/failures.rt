@@ -179,6 +179,11 @@ impl<'w> Failures<'w> {
         RANDOM
     }
 
+    /// Whether this is a word of the command line.
+    pub fn has_word(&self, word: &str) -> bool {
+        self.words.iter().any(|it| *it == word)
+    }
+
     /// Keeps a failure, if it is the first: what follows from it isn't why the run stopped.
     pub fn note(&self, action: Action, name: &'w str, error: io::Error) {
         if self.first.get().is_none() {
