@@ -106,11 +106,11 @@ class Source:
             yield Type(self.crate, module, {found[1]: lines}, {found[1]: set()})
 
     def contracts(self, exported):
-        """The name and text of each contract that a user of the crate sees, where these names are exported."""
+        """The name and text of each contract that a user of the crate sees, where these names are exported; ghost fields of types too."""
         lines, owner, is_trait = self.text.split("#[cfg(test)]")[0].splitlines(), None, False
         for i, line in enumerate(lines):
             trait = re.match(r"^pub trait (\w+)", line)
-            block = re.match(r"^impl\b(?:<.*?>)? (?:[\w:]+(?:<.*>)? for )?(\w+)", line)
+            block = re.match(r"^pub (?:struct|enum) (\w+).*\{$", line) or re.match(r"^impl\b(?:<.*?>)? (?:[\w:]+(?:<.*>)? for )?(\w+)", line)
             if trait or block or line == "}":
                 owner = (trait or block).group(1) if trait or block else None
                 is_trait = bool(trait) or bool(block and " for " in line)
@@ -138,13 +138,29 @@ def definition(module, name):
     return (declared[1], declared[2]) if declared else (module, name)
 
 
-def exported_names(crate):
-    """What the crate's root makes public."""
-    text = "\n".join(it.text for it in sources("src", crate) if it.name in ("lib", "main"))
+def exported_names(crate, name=None):
+    """What the crate's root makes public, or one of its modules, with what it takes from others."""
+    files = [it for it in sources("src", crate) if it.name == name or name is None and it.name in ("lib", "main")]
+    text = "\n".join(it.text for it in files)
     names = set(re.findall(r"pub (?:const )?(?:fn|struct|enum|trait|type) (\w+)", text))
-    for path, several in re.findall(r"pub use ([\w:]+?)(?:::\{([^}]*)\})?;", text):
-        names |= {n.strip() for n in several.split(",")} if several else {path.split("::")[-1]}
+    within = f"{name}." if name else ""
+    for module in re.findall(r"\bpub mod (\w+);", text):
+        names |= exported_names(crate, within + module)
+    for path, several in re.findall(r"pub use ([\w:]+?)(?:::(\{[^}]*\}|\*))?;", text):
+        if several == "*":
+            names |= exported_names(crate, within + path.replace("crate::", "").replace("::", "."))
+        else:
+            names |= {it.strip() for it in several[1:-1].split(",")} if several else {path.split("::")[-1]}
     return names
+
+
+def loose_files(crate):
+    """The files of src that no module names, and that no check reads."""
+    named = {"lib", "main"}
+    for file in sources("src", crate):
+        within = "" if file.name in named & {"lib", "main"} else f"{file.name}."
+        named |= {within + it for it in re.findall(r"\bmod (\w+);", file.text)}
+    return [it for it in sources("src", crate) if it.name not in named]
 
 
 def until_body(lines, start):
