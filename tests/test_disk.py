@@ -187,8 +187,10 @@ class DiskTest(FilesCase):
         setting = pathlib.Path("/proc/sys/fs", setting)
         if not os.access(setting, os.W_OK):
             self.skipTest(f"{setting} can't be set")
-        self.addCleanup(setting.write_text, setting.read_text())
-        setting.write_text("1\n")
+        # It is only ever raised: a run that is killed leaves the system no weaker.
+        if setting.read_text() == "0\n":
+            self.addCleanup(setting.write_text, "0\n")
+            setting.write_text("1\n")
         self.path("sticky").mkdir()
         self.path("sticky").chmod(0o1777)
         return self.path("sticky")

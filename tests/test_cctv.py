@@ -1,0 +1,88 @@
+"""Runs C2SP's test vectors for age files (https://github.com/C2SP/CCTV, the folder age/testdata) through the program and the Python module,
+which calls the C library. The variable CCTV names the folder with the vectors; without it the test is left out.
+
+A vector has lines `NAME: VALUE`, an empty line, and an age file. What an identity of this profile can open is opened by it. What needs
+another one (a post-quantum key) is opened by its file key, if it is to be opened. Armor is outside of the profile, so it is refused."""
+import hashlib
+import os
+import pathlib
+import unittest
+import zlib
+
+from tests import bindings
+from tests.case import Case
+
+# The faults that each outcome may have.
+FAULTS = {
+    "header failure": {*range(1, 17), 254}, "no match": {12, 13}, "HMAC failure": {14}, "payload failure": {*range(17, 23)},
+    "armor failure": {1, 2, 3, 8},
+}
+
+
+class Vector:
+    """A vector: what is said of its file, and the file."""
+
+    def __init__(self, path):
+        head, _, body = path.read_bytes().partition(b"\n\n")
+        self.said = {name: value for name, _, value in (line.decode().partition(": ") for line in head.splitlines())}
+        self.name, self.expected = path.name, self.said["expect"]
+        self.file = zlib.decompress(body) if "compressed" in self.said else body
+        self.key = bytes.fromhex(self.said["file key"])
+        self.is_armored = self.said.get("armored") == "yes"
+        self.passphrase = self.said.get("passphrase")
+        self.identity = self.said.get("identity", "")
+
+    def text_is(self, text):
+        """Whether this is the text, or its beginning that comes out before a fault."""
+        return "payload" not in self.said or hashlib.sha256(text).hexdigest() == self.said["payload"]
+
+
+@unittest.skipUnless(os.environ.get("CCTV"), "needs the folder of C2SP's vectors in CCTV")
+class VectorsTest(Case):
+    """A check for each vector and each way to open it."""
+
+    def setUp(self):
+        super().setUp()
+        self.vectors = [Vector(it) for it in sorted(pathlib.Path(os.environ["CCTV"]).iterdir()) if it.is_file()]
+
+    def judge(self, vector, fault, text):
+        """Whether the fault (0 if it was opened) and the text that came out are those of the vector."""
+        if vector.is_armored:
+            return fault in FAULTS["armor failure"] and not text
+        if vector.expected == "success":
+            return fault == 0 and vector.text_is(text)
+        return fault in FAULTS[vector.expected] and (vector.expected != "payload failure" or vector.text_is(text))
+
+    def by_program(self, vector, *words):
+        self.write("in", vector.file)
+        self.remove("out")
+        ended = self.tool("decrypt", *words, "in", "out")
+        fault = int(ended.stderr.split()[1]) if ended.returncode == 1 else ended.returncode
+        return fault, self.read("out") if self.is_there("out") else b""
+
+    def test_program(self):
+        for vector in self.vectors:
+            if vector.passphrase is not None:
+                self.write("pass", vector.passphrase.encode())
+                self.see(f"{vector.name} by its passphrase", self.judge(vector, *self.by_program(vector, "--pass", "pass")))
+            elif vector.expected in ("success", "payload failure", "HMAC failure") or vector.is_armored:
+                found = self.by_program(vector, "--file-key", vector.key.hex())
+                self.see(f"{vector.name} by its file key", self.judge(vector, *found), found[0], len(found[1]))
+
+    def test_module(self):
+        agefile = bindings.module()
+        for vector in self.vectors:
+            how = {"passphrase": vector.passphrase} if vector.passphrase is not None else {"identity": vector.identity}
+            if "AGE-SECRET-KEY-PQ" in vector.identity:
+                how = {"file_key": vector.key}
+                if vector.expected not in ("success", "payload failure"):
+                    continue
+            self.write("in", vector.file)
+            fault, text = 0, b""
+            try:
+                with agefile.open(self.path("in"), **how) as file:
+                    while piece := file.read1():
+                        text += piece
+            except agefile.AgeError as error:
+                fault = error.fault
+            self.see(f"{vector.name} in Python", self.judge(vector, fault, text), fault, len(text))
