@@ -13,10 +13,10 @@ ghost use Rattle.age_fileset.specs.declared.files.OpenFault.TheVariants.{Fault};
 ghost use Rattle.age_command.specs.Files.{Files};
 ghost use Rattle.age_command.specs.declared.identity.Identity.{Identity};
 
+use crate::Usage;
 use crate::first_bytes::read_file;
 use crate::identity::{Identity, PASSPHRASE_FILE_MAX, SHARED_FILE_LEN, shared_of, trimmed};
 use age_cli_args::IdentityOptions;
-use crate::Usage;
 use age_fileset::{FileSet, OpenFault};
 use age_keys::{KnownKey, Passphrase, SharedSecret};
 use std::alloc::Global;

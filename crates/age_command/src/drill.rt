@@ -11,11 +11,10 @@ ghost use Rattle.age_stanza.specs.Parsing.{reading};
 
 use crate::replaying::Replaying;
 use crate::script::{SCRIPT_MAX, ScriptLine, has_too_many_lines, read_lines};
+use crate::{Ending, Usage, fill_first, put_bytes, read_file, read_pass, read_up_to, trimmed};
 use age_cli_args::Drilling;
-use crate::{Ending, Usage, put_bytes};
 use age_fault::{FileFault, flush_all};
 use age_fileset::{FileSet, OpenFault};
-use crate::{fill_first, read_file, read_pass, read_up_to, trimmed};
 use age_io::{Sink, Source};
 use age_keys::{
     FileKey, KeyFault, PAYLOAD_NONCE_LEN, Passphrase, PayloadKey, Steps, WORK_FACTOR_LIMIT,

@@ -6,12 +6,12 @@ ghost use Rattle.age_fileset.specs.FileSet.{IsMemoryOr, OpenFails};
 ghost use Rattle.age_fileset.specs.declared.files.OpenFault.TheVariants.{SameFile};
 ghost use Rattle.age_disk.specs.declared.names.FileId.{FileId};
 
-use age_disk::{FileId, HostIn, HostOut, Prepared, Stream, StreamId, found_at, replace};
-use age_messages::{Action, Failures, announce_rereading, announce_sync};
 use crate::watched::{WatchedIn, WatchedOut};
+use age_disk::{FileId, HostIn, HostOut, Prepared, Stream, StreamId, found_at, replace};
 use age_fault::FileFault;
 use age_fileset::{FileSet, Log, OpenFault};
 use age_io::Durability;
+use age_messages::{Action, Failures, announce_rereading, announce_sync};
 use std::alloc::{AllocError, Global};
 use std::io;
 use std::rt::HostRuntime;

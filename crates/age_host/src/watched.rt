@@ -3,8 +3,8 @@
 ghost use Rattle.std.specs.Prelude.{[], None, true};
 
 use age_disk::{FileId, HostIn, HostOut, Prepared};
-use age_messages::{Action, Failures};
 use age_io::{Durability, Failed, Sink, Source};
+use age_messages::{Action, Failures};
 use std::io::{self, Read, Write};
 use std::rt::HostRuntime;
 

@@ -40,7 +40,11 @@ fn unread(rt: &HostRuntime, error: &io::Error) -> ExitCode {
 
 /// Progress is shown on one line of a terminal, and in few lines of a log.
 fn progress_style(rt: &HostRuntime) -> LineStyle {
-    if rt.stderr().is_terminal() { LineStyle::Rewritten } else { LineStyle::Separate }
+    if rt.stderr().is_terminal() {
+        LineStyle::Rewritten
+    } else {
+        LineStyle::Separate
+    }
 }
 
 /// Runs the program on the words after its name, over the machine's files and its own standard

@@ -96,7 +96,13 @@ fn shows_runs(rt: HostRuntime) -> Result<(), Fail> {
     }
     // A sink that takes little gets whole lines.
     let narrow = MemSink::new(rt.alloc(), 10_000, 3, None)?;
-    see(&rt, narrow, LineStyle::Rewritten, &[(Some(10), &[10])], "100 %  10 of 10 B\r\n");
+    see(
+        &rt,
+        narrow,
+        LineStyle::Rewritten,
+        &[(Some(10), &[10])],
+        "100 %  10 of 10 B\r\n",
+    );
     Ok(())
 }
 
@@ -112,14 +118,23 @@ fn continues_after_a_failed_line(rt: HostRuntime) -> Result<(), Fail> {
         (2, " 20 %  2 of 10 B\r 80 %  8 of 10 B\r\n"),
     ] {
         let sink = MemSink::new(rt.alloc(), 10_000, usize::MAX, Some(call))?;
-        see(&rt, sink, LineStyle::Rewritten, &[(Some(10), &[2, 3, 3])], wanted);
+        see(
+            &rt,
+            sink,
+            LineStyle::Rewritten,
+            &[(Some(10), &[2, 3, 3])],
+            wanted,
+        );
     }
     Ok(())
 }
 
 #[test]
 fn shows_at_most_101_lines(rt: HostRuntime) -> Result<(), Fail> {
-    let mut progress = ProgressLine::new(MemSink::new(rt.alloc(), 10_000, usize::MAX, None)?, LineStyle::Rewritten);
+    let mut progress = ProgressLine::new(
+        MemSink::new(rt.alloc(), 10_000, usize::MAX, None)?,
+        LineStyle::Rewritten,
+    );
     progress.begin(Some(80 * GIB));
     for _ in 0..1280 {
         progress.advance(64 * MIB);
@@ -152,7 +167,10 @@ fn pull_in_turn<M: Meter + Drop>(rt: &impl Abort, alloc: Global, mut meter: M) -
 #[test]
 fn counts_what_a_source_gives(rt: HostRuntime) -> Result<(), Fail> {
     let alloc = rt.alloc();
-    let mut progress = ProgressLine::new(MemSink::new(alloc, 10_000, usize::MAX, None)?, LineStyle::Rewritten);
+    let mut progress = ProgressLine::new(
+        MemSink::new(alloc, 10_000, usize::MAX, None)?,
+        LineStyle::Rewritten,
+    );
     progress.begin(Some(10));
     pull_in_turn(&rt, alloc, &mut progress)?;
     progress.end();
