@@ -175,7 +175,7 @@ class ProgramTest(Case):
         ):
             ended = self.tool(*words.split())
             self.ends(what, ended, 1, b"", f"age_tool: {fault}\n".encode())
-            said = re.fullmatch(rf"age_tool: the file is {file}\nage_tool: hint: (.*) \(more: man age_tool\)\n", ended.advice.decode())
+            said = re.fullmatch(rf"age_tool: the file is {file}\nage_tool: hint: (.*) \(more: man age_tool-faults\)\n", ended.advice.decode())
             row = re.search(rf"^\| {fault.split()[0]} \| .*$", page, re.M)[0]
             self.see(f"the advice of {what}", said and said[1].startswith(beginning) and said[1] in row, ended.advice, row)
 
@@ -185,7 +185,7 @@ class ProgramTest(Case):
             ended = self.tool("decrypt", option, "correct horse", "plain.age", "back")
             said = b"age_tool: 26 Read\nage_tool: can't open correct horse: No such file or directory\n"
             self.ends(f"the words of {option}", ended, 1, b"", said)
-            hint = f"age_tool: hint: {option} takes the name of a file that holds the {of} (more: man age_tool)\n"
+            hint = f"age_tool: hint: {option} takes the name of a file that holds the {of} (more: man age_tool-faults)\n"
             self.see(f"the hint of {option}", ended.advice == hint.encode(), ended.advice)
         ended = self.decrypt("none", "back")
         self.see("no hint if another file is missing", ended.advice == b"", ended.advice)

@@ -110,7 +110,7 @@ class RecipesTest(Case):
         """The command of the unit of systemd, with its paths in a folder of our own."""
         text = self.make_archive("unused.age")
         [unit] = [script for _, script in blocks("ini")]
-        words = re.search(r"(?m)^ExecStart=/usr/local/bin/(.*)$", unit)[1]
+        words = re.search(r"(?m)^ExecStart=/usr/local/bin/(.*)$", unit.replace("\\\n", ""))[1]
         self.path("work/photos.tar").write_bytes(text)
         for name, path in (("${CREDENTIALS_DIRECTORY}/passphrase", "passphrase.txt"), ("${STATE_DIRECTORY}", "."), ("/srv/", "")):
             self.assertIn(name, words)

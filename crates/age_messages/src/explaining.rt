@@ -124,7 +124,7 @@ fn hint_for(fault: Reported, failures: &Failures<'_>) -> Option<&'static str> {
 /// Says what to do after a fault.
 fn give_hint(rt: &HostRuntime, fault: Reported, failures: &Failures<'_>) {
     if let Some(hint) = hint_for(fault, failures) {
-        let _ = eprintln!(rt; "age_tool: hint: {hint} (more: man age_tool)");
+        let _ = eprintln!(rt; "age_tool: hint: {hint} (more: man age_tool-faults)");
     }
 }
 

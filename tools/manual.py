@@ -1,0 +1,62 @@
+"""Makes docs/age_tool-faults.7, the manual page of the faults, from the tables of docs/FAULTS.md, so that each is described once."""
+import re
+
+from tools.workspace import TOP
+
+SOURCE, PAGE = TOP / "docs" / "FAULTS.md", TOP / "docs" / "age_tool-faults.7"
+HEAD = """.\\" Made from docs/FAULTS.md by checks/documents --write.
+.TH AGE_TOOL-FAULTS 7 "" "age_tool" "Faults"
+.SH NAME
+age_tool\\-faults \\- what the faults of age_tool mean, what they leave, and what to do
+.SH DESCRIPTION
+A fault ends a run with status 1 and a line such as
+.BR "age_tool: 17 ChunkDamaged chunk 3" .
+OUT is the output of
+.BR encrypt ,
+.B decrypt
+or
+.BR resume .
+"As it was" means: as before the run.
+The first line of a header is line 1, and the first chunk (65,536 bytes of plaintext) is chunk 0.
+"""
+
+
+def cells(line):
+    return [it.strip() for it in re.split(r"(?<!\\)\|", line)[1:-1]]
+
+
+def tables(text):
+    """The rows of each table, with the names of their columns."""
+    heads = None
+    for line in text.splitlines():
+        if not line.startswith("|"):
+            heads = None
+        elif heads is None:
+            heads = cells(line)
+        elif not re.match(r"^\|[-|]+$", line):
+            yield dict(zip(heads, cells(line)))
+
+
+def roff(text):
+    """Markdown as a line of roff: code in bold, links as their words."""
+    text = re.sub(r"\[([^]]*)\]\([^)]*\)", r"\1", text).replace(r"\|", "|").replace("\\", r"\e").replace("-", r"\-")
+    text = re.sub(r"`([^`]*)`", r"\\fB\1\\fR", text)
+    return rf"\&{text}" if text.startswith((".", "'")) else text
+
+
+def sentence(text):
+    text = text[:1].upper() + text[1:]
+    return text if text.endswith(".") else f"{text}."
+
+
+def text_of_faults():
+    """The page as it has to be."""
+    parts, faults = [HEAD], list(tables(SOURCE.read_text()))
+    for row in (it for it in faults if "No." in it):
+        parts.append(f".SS {row['No.']} {row['Name']}\n{roff(sentence(row['What it means']))}\n")
+        parts.append(f".br\nOUT: {roff(row['What is left in OUT'])}.\n.br\nWhat to do: {roff(row['What to do'])}.\n")
+    parts.append(".SH STATUS 2\nA command line that can't be obeyed ends with status 2, and a message from the parser or one of these.\n")
+    for row in (it for it in faults if "Message" in it):
+        parts.append(f".TP\n{roff(row['Message'])}\n{roff(sentence(row['What it means']))}\n")
+    parts.append(".SH SEE ALSO\n.BR age_tool (1)\n")
+    return "".join(parts)
