@@ -118,8 +118,45 @@ class ProgramTest(Case):
             self.ends("a stream twice", ended, 2, b"", twice("/dev/stdin", "/dev/fd/0"))
             self.see("nothing of it is read", stream.read() == b"not eaten")
         os.mkfifo(self.path("fifo"))
-        self.ends("a FIFO twice", self.tool(*"encrypt --log 2 --pass fifo ./fifo fresh".split()), 2, b"", twice("fifo", "./fifo"))
+        self.write("script", b"end\n")
+        for words in (
+            "encrypt --log 2 --pass fifo ./fifo fresh", "decrypt --pass fifo ./fifo fresh", "decrypt --shared fifo ./fifo fresh",
+            "resume --position fifo --old plain --pass ./fifo plain.age fresh", "resume --position pass --old fifo --pass ./fifo plain.age fresh",
+            "drill --pass fifo script ./fifo", "drill --clear fifo ./fifo",
+        ):
+            self.ends(f"a FIFO twice: {words}", self.tool(*words.split()), 2, b"", twice("fifo", "./fifo"))
         self.ends("devices without an end", self.encrypt("2 --random /dev/zero /dev/null fresh"), 0)
+
+    # ---- what a line and a key cost
+
+    def test_one_write(self):
+        """The line of a fault is one write, so that two runs don't mix their lines in one log."""
+        reader, writer = os.pipe2(os.O_DIRECT | os.O_CLOEXEC)
+        ended = self.decrypt("pass", "back", stderr=writer)
+        os.close(writer)
+        # A pipe in packet mode gives one write to each read.
+        first = os.read(reader, 4096)
+        os.close(reader)
+        self.see("a fault's line is one write", ended.returncode == 1 and first == b"age_tool: 8 HeadCut line 1\n", first)
+
+    def test_scrypt_once(self):
+        """The limit of the work factor, which leaves room to derive the key more than once, costs nothing."""
+        self.encrypt("15 plain fifteen.age")
+
+        def cost(limit):
+            before = resource.getrusage(resource.RUSAGE_CHILDREN)
+            self.decrypt("--max-log", limit, "fifteen.age", "back")
+            after = resource.getrusage(resource.RUSAGE_CHILDREN)
+            return after.ru_utime - before.ru_utime
+
+        least = {limit: min(cost(limit) for _ in range(5)) for limit in ("15", "22")}
+        self.see("scrypt is run once", least["22"] < 1.6 * least["15"], least)
+
+    def test_drill_of_a_costly_file(self):
+        """A drill opens what `encrypt` writes by default."""
+        self.tool(*"encrypt --pass pass plain eighteen.age".split())
+        self.write("script", b"piece 0 65552\n")
+        self.ends("a drill at work factor 18", self.tool(*"drill --pass pass script eighteen.age".split()), 0, b"1 open 65536\n")
 
     # ---- at a terminal
 
