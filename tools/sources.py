@@ -6,7 +6,10 @@ import and a public contract are is said here alone, so that the three agree on 
 import collections
 import functools
 import itertools
+import os
+import pathlib
 import re
+import shutil
 
 from tools.workspace import CRATES
 
@@ -33,9 +36,9 @@ HIDDEN = {"coded", "inverse", "also_owns", "valid", "from_gives"}
 class Source:
     """A file of a crate: its definitions with the lines of each, those lines that belong to none, and its imports."""
 
-    def __init__(self, path):
+    def __init__(self, path, root=CRATES):
         self.path, self.is_code, self.raw = path, path.suffix == ".rt", path.read_text()
-        self.crate, self.folder, *parts = path.relative_to(CRATES).with_suffix("").parts
+        self.crate, self.folder, *parts = path.relative_to(root).with_suffix("").parts
         self.name = ".".join(parts)
         self.module = f"Rattle.{self.crate}.{self.folder}.{self.name}"
         text = COMMENT[path.suffix].sub("", self.raw)
@@ -130,6 +133,12 @@ def sources(folder, crate="*"):
     """The files of a folder (src, specs or proofs) of one crate or of all, in the order of their paths."""
     ending = "rt" if folder == "src" else "antt"
     return [source(it) for it in sorted(CRATES.glob(f"{crate}/{folder}/**/*.{ending}"))]
+
+
+def kit_specs():
+    """The definitions of the kit's crates."""
+    folder = pathlib.Path(os.path.realpath(shutil.which("rt"))).parent.parent / "rattle"
+    return [Source(it, folder) for it in sorted(folder.glob("*/specs/**/*.antt"))]
 
 
 def definition(module, name):
