@@ -101,11 +101,11 @@ class FilesCase(Case):
 class Feeding:
     """A decryption that waits for more of its input, with a chunk written and its position to be saved in `saved`."""
 
-    def __init__(self, case, words="decrypt --pass pass --save saved in out"):
+    def __init__(self, case, words="decrypt --pass pass --save saved in out", env=None):
         self.case = case
         case.remove("in", "out")
         os.mkfifo(case.path("in"))
-        self.run = case.started(words)
+        self.run = case.started(words, env=env)
         self.input = self.opened()
         self.input.write(case.age[:140000])
         self.input.flush()

@@ -1,6 +1,8 @@
 """Runs the built program where a careless one loses files: on block devices, pipes and streams, on links, in folders that can't be written
 or read, next to other runs, and on a disk that fails, by a library that is loaded before the C library's (tools/shim.c)."""
+import contextlib
 import errno
+import fcntl
 import os
 import pathlib
 import shutil
@@ -14,6 +16,8 @@ from tests.files import NOBODY, OTHER_RUN, PLAIN, WRITE, Feeding, FilesCase
 from tests.files import as_nobody, chunk_fault, reason, unsaved, unwritten, waits_for
 
 LENGTH = "another program changed its length"
+REMOVED = "it was removed meanwhile"
+FUSED = pathlib.Path(__file__).parent.parent / "tools" / "fused.c"
 
 
 def unsynced(name, error):
@@ -126,7 +130,7 @@ class DiskTest(FilesCase):
         feeding = Feeding(self, "decrypt --pass pass in out")
         self.remove("out")
         feeding.input.write(self.age[140000:])
-        feeding.stops("OUT was removed", unsynced("out", errno.ENOENT))
+        feeding.stops("OUT was removed", unsynced("out", REMOVED))
 
     def test_other_lengths(self):
         """An OUT whose length another program changes isn't what was written."""
@@ -138,9 +142,36 @@ class DiskTest(FilesCase):
         feeding = Feeding(self, "decrypt --pass pass in out")
         os.truncate(self.path("out"), 10)
         feeding.input.write(self.age[140000:])
-        feeding.stops("OUT was cut off", unwritten("out", LENGTH))
-        self.see("OUT was cut off: no hole", self.read("out") == PLAIN[:10])
+        feeding.stops("OUT was cut off", unsynced("out", LENGTH))
+        self.see("OUT was cut off: no hole", self.read("out") == PLAIN[:10] + PLAIN[131072:])
         self.remove("out", "in")
+
+    def large(self):
+        """Makes the age file the one of 40 MiB of zeros."""
+        self.write("plain", bytes(40 << 20))
+        self.expect(0, b"", "encrypt --pass pass --log 4 plain age")
+        self.age = self.read("age")
+
+    def test_harm_seen_early(self):
+        """What another program does to an OUT that was there is seen before all of it is written."""
+        self.large()
+        for name, harm, said in (
+            ("an old OUT was cut off", lambda: os.truncate(self.path("out"), 10), LENGTH),
+            ("an old OUT was removed", lambda: self.remove("out"), REMOVED),
+        ):
+            self.remove("out", "in")
+            os.mkfifo(self.path("in"))
+            self.write("out", b"O" * 300000)
+            run = self.started("decrypt --pass pass in out")
+            with open(self.path("in"), "wb", buffering=0) as pipe:
+                pipe.write(self.age[:140000])
+                waits_for(lambda: self.path("out").stat().st_size == 131072)
+                harm()
+                try:
+                    pipe.write(self.age[140000:])
+                except BrokenPipeError:
+                    pass
+            self.ends(name, run, 1, unwritten("out", said))
 
     def test_made_up(self):
         """A file that the system makes up has no length of its own, and takes what is written to it."""
@@ -219,15 +250,31 @@ class DiskTest(FilesCase):
 
     @needs(root=True)
     def test_full(self):
-        """A position that no room is left for is reported, and costs no old one."""
+        """A position has its room before OUT fills the disk."""
         self.path("small").mkdir()
-        self.mount("-t", "tmpfs", "-o", "size=64k", "none", self.path("small"))
-        said = WRITE + unwritten("small/out", errno.ENOSPC) + reason("save the position to small/saved", errno.ENOSPC)
-        self.expect(1, said, "decrypt --pass pass --save small/saved age small/out", "a full file system")
-        self.see("a full file system: no half position", not self.is_there("small/saved") and not self.is_there("small/saved.new-0"))
+        self.mount("-t", "tmpfs", "-o", "size=144k", "none", self.path("small"))
         said = unwritten("small/out", errno.ENOSPC)
+        for name in ("a full file system", "a full file system, and an old position"):
+            self.remove("small/out")
+            self.expect(1, said, "decrypt --pass pass --save small/saved age small/out", name)
+            self.see(f"{name}: a position", self.is_position("small/saved", 1) and not self.is_there("small/saved.new-0"))
+        words = "resume --position small/saved --old small/out --pass pass age whole"
+        self.expect(0, b"", words, "resumed after a full file system")
+        self.see("resumed after a full file system: the text", self.read("whole") == PLAIN)
+        self.remove("small/saved")
+        self.write_what_fits("small/filler")
+        refused = WRITE + reason("create small/saved", errno.ENOSPC)
+        self.expect(1, refused, "decrypt --pass pass --save small/saved age new", "a file system that is full at the beginning")
+        self.see("a file system that is full at the beginning: nothing was begun", not self.is_there("new") and not self.is_there("small/saved"))
+        self.remove("small/filler", "small/out")
         self.expect(1, said, "decrypt --pass pass --save saved age small/out", "a full file system, and a position elsewhere")
-        self.see("a full file system, and a position elsewhere: it", self.is_position("saved", 1) or self.is_position("saved", 0))
+        self.see("a full file system, and a position elsewhere: it", self.is_position("saved", 2) or self.is_position("saved", 1))
+
+    def write_what_fits(self, name):
+        """Fills a file system."""
+        with open(self.path(name), "wb", buffering=0) as filler, contextlib.suppress(OSError):
+            while filler.write(bytes(4096)):
+                pass
 
     def mount_ext4(self, name, mib, *words, options="loop"):
         """Mounts a new ext4 of this many MiB, and returns its folder."""
@@ -240,7 +287,7 @@ class DiskTest(FilesCase):
 
     @needs("mkfs.ext4", root=True)
     def test_no_inodes(self):
-        """Where no file can be made any more, an old position is written over, and a new one is reported."""
+        """Where no file can be made any more, an old position is written over, and a new one is refused before OUT is touched."""
         few = self.mount_ext4("few", 4, "-N", "16")
         (few / "saved").write_bytes(b"an old position")
         while os.statvfs(few).f_ffree:
@@ -248,8 +295,8 @@ class DiskTest(FilesCase):
         self.expect(1, WRITE + reason("create few/out", errno.ENOSPC), "decrypt --pass pass age few/out", "no inode for OUT")
         self.see("no inode for OUT: it isn't there", not self.is_there("few/out"))
         words = "decrypt --pass pass --save few/new cut out"
-        self.expect(1, chunk_fault(2) + unsaved("few/new", errno.ENOSPC), words, "no inode for a position")
-        self.see("no inode for a position: OUT", self.read("out") == PLAIN[:131072] and not self.is_there("few/new"))
+        self.expect(1, WRITE + reason("create few/new", errno.ENOSPC), words, "no inode for a position")
+        self.see("no inode for a position: nothing was begun", not self.is_there("out") and not self.is_there("few/new"))
         self.expect(1, chunk_fault(2), "decrypt --pass pass --save few/saved cut out", "no inode, and an old position")
         self.see("no inode, and an old position: a new one", self.is_position("few/saved", 2))
 
@@ -261,7 +308,8 @@ class DiskTest(FilesCase):
         log.unlink(missing_ok=True)
         log.touch()
         log.chmod(0o666)
-        self.expect(more.pop("status", 0), more.pop("faults", b""), words, name, {"SYNCED": log}, **more)
+        failing = {"SYNCED": log} | more.pop("failing", {})
+        self.expect(more.pop("status", 0), more.pop("faults", b""), words, name, failing, **more)
         return [pathlib.Path(line).name for line in log.read_text().splitlines()]
 
     @needs("cc")
@@ -269,10 +317,13 @@ class DiskTest(FilesCase):
         """Status 0 says that OUT has reached the disk, wherever that can be waited for."""
         here = self.room.name
         self.see("a new OUT and its folder are synced", self.synced("decrypt --pass pass age new", "a new OUT") == ["new", here])
-        self.see("an old OUT is synced", self.synced("decrypt --pass pass age new", "an old OUT") == ["new"])
+        self.see("an old OUT and its folder are synced", self.synced("decrypt --pass pass age new", "an old OUT") == ["new", here])
+        self.write("out", b"O" * 10)
+        paths = self.synced("decrypt --pass pass age out", "an OUT that goes at the last moment", failing={"GONE": 1})
+        self.see("an OUT that goes at the last moment: the one that was made is synced", paths == ["out", here] and self.mode("out") == 0o644)
         self.see("nothing is synced", self.synced("decrypt --no-sync --pass pass age new", "no waiting") == [])
         self.see("a position is synced", self.synced("decrypt --pass pass --save saved cut out", "a position", status=1, faults=chunk_fault(2))
-            == ["out", here, "saved.new-0", here])
+            == ["saved.new-0", "out", here, "saved.new-0", here])
         with open(self.path("new"), "wb") as new:
             self.see("a stream is synced", self.synced("decrypt --pass pass age /dev/stdout", "a stream to a file", stdout=new) == ["new"])
         words = "decrypt --pass pass short /dev/stdout"
@@ -292,9 +343,85 @@ class DiskTest(FilesCase):
             self.remove("new", "saved")
             failing = {"FSYNC": error, "ONLY": only}
             self.expect(1, unsynced("new", error), "decrypt --pass pass age new", f"a sync that fails, {only}", failing)
-            said = chunk_fault(2) + unsaved("saved", error)
+            said = WRITE + reason("create saved", error) if only == "f" else chunk_fault(2) + unsaved("saved", error)
             self.expect(1, said, "decrypt --pass pass --save saved cut new", f"a position's sync that fails, {only}", failing)
             self.see(f"a position's sync that fails, {only}: nothing beside it", not self.is_there("saved.new-0"))
+
+    @needs("cc")
+    def test_syncs_meanwhile(self):
+        """The disk is waited for while a large OUT is written, so that one that fails is seen soon."""
+        self.large()
+        here = self.room.name
+        paths = self.synced("decrypt --pass pass age new", "a large OUT")
+        self.see("a large OUT is synced meanwhile", paths == ["new", "new", "new", here], paths)
+        paths = self.synced("decrypt --no-sync --pass pass age new", "a large OUT, no waiting")
+        self.see("a large OUT, no waiting: nothing is synced", paths == [])
+        failing = {"FSYNC": errno.ENOSPC, "ONLY": "f"}
+        self.expect(1, unwritten("new", errno.ENOSPC), "decrypt --pass pass age new", "a disk that is full meanwhile", failing)
+        self.see("a disk that is full meanwhile: soon", self.path("new").stat().st_size == 16 << 20)
+        with open(self.path("new"), "wb") as new:
+            said = unwritten("/dev/stdout", errno.ENOSPC)
+            self.expect(1, said, "decrypt --pass pass age /dev/stdout", "standard output, full meanwhile", failing, stdout=new)
+
+    @needs("cc")
+    def test_errors_of_a_descriptor(self):
+        """The system reports a disk's failure to the descriptor through which was written: that one is synced."""
+        with open(self.path("new"), "wb") as new:
+            failing = {"FSYNC": errno.EIO, "ONLY": "1"}
+            said = unsynced("/dev/stdout", errno.EIO)
+            self.expect(1, said, "decrypt --pass pass age /dev/stdout", "a failure that standard output alone is told of", failing, stdout=new)
+
+    def fused(self, name, **variables):
+        """A folder that is a file system of our own, whose calls fail or take time (tools/fused.c), until the test ends."""
+        made = self.path("fused-program")
+        flags = subprocess.run(["pkg-config", "--cflags", "--libs", "fuse3"], capture_output=True, text=True)
+        if flags.returncode:
+            self.skipTest("no libfuse can be had")
+        subprocess.run(["cc", "-O2", "-Wall", "-Wextra", "-Werror", "-o", made, FUSED, *flags.stdout.split()], check=True)
+        self.path(f"{name}-held").mkdir()
+        self.path(name).mkdir()
+        env = {**os.environ, **{it: str(value) for it, value in variables.items()}}
+        if subprocess.run([made, self.path(f"{name}-held"), self.path(name)], env=env, capture_output=True).returncode:
+            self.skipTest("nothing can be mounted by FUSE")
+        self.addCleanup(subprocess.run, ["fusermount3", "-u", self.path(name)], check=True)
+
+    @needs("cc", "pkg-config", "fusermount3", root=True)
+    def test_errors_of_closing(self):
+        """A file system that stores a file as it is closed says only then that it couldn't."""
+        for error in (errno.EIO, errno.ENOSPC, errno.EDQUOT):
+            at = f"at-{error}"
+            self.fused(at, FLUSH=error)
+            for words in ("encrypt --pass pass --log 4 plain", "decrypt --pass pass age"):
+                self.expect(1, unsynced(f"{at}/out", error), f"{words} {at}/out", f"{words}, closing fails with {error}")
+                self.expect(1, unsynced(f"{at}/out", error), f"{words} {at}/out", f"{words}, closing an old OUT fails with {error}")
+                self.expect(1, unwritten(f"{at}/out", error), f"{words} --no-sync {at}/out", f"{words} --no-sync, closing fails with {error}")
+                with open(self.path(f"{at}-held/stream"), "wb"):
+                    pass
+                stream = os.open(self.path(f"{at}/stream"), os.O_WRONLY)
+                said = unsynced("/dev/stdout", error)
+                self.expect(1, said, f"{words} /dev/stdout", f"{words} to standard output, closing fails with {error}", stdout=stream)
+                with contextlib.suppress(OSError):
+                    os.close(stream)
+            for held in (None, b"an old position"):
+                if held:
+                    self.write(f"{at}-held/saved", held)
+                said = chunk_fault(2) + unsaved(f"{at}/saved", error)
+                self.expect(1, said, f"decrypt --pass pass --save {at}/saved cut out", f"closing a position fails with {error}, {held}")
+                left = self.read(f"{at}-held/saved") if held else None
+                self.see(f"closing a position fails with {error}, {held}: kept", left == held and not self.is_there(f"{at}-held/saved.new-0"))
+
+    @needs("cc", "pkg-config", "fusermount3", root=True)
+    def test_few_questions(self):
+        """A file system far away isn't asked about OUT at each write."""
+        self.write("calls", b"")
+        self.fused("far", CALLS=self.path("calls"))
+        self.write("plain", bytes(12 << 20))
+        self.expect(0, b"", "encrypt --pass pass --log 4 plain age")
+        for name in ("a new OUT", "an old OUT"):
+            self.write("calls", b"")
+            self.expect(0, b"", "decrypt --pass pass age far/out", f"{name} far away")
+            calls = self.read("calls")
+            self.see(f"{name} far away: few questions", calls.count(b"g") < 20 < calls.count(b"w"), calls.count(b"g"), calls.count(b"w"))
 
     @needs("cc")
     def test_write_only(self):
@@ -348,11 +475,15 @@ class DiskTest(FilesCase):
     def test_errors_of_writes(self):
         """A write that fails leaves the chunks before it, and no half position."""
         for error in (errno.EIO, errno.ENOSPC, errno.EDQUOT, errno.EFBIG):
+            said = WRITE + reason("create saved", error)
+            name = f"no room for a position: {errno.errorcode[error]}"
+            self.expect(1, said, "decrypt --pass pass --save saved age new", name, {"WRITE": error, "AT": 1})
+            self.see(f"{name}: nothing was begun", not any(map(self.is_there, ("new", "saved", "saved.new-0"))))
             for at in (1, 2, 3):
                 self.remove("saved", "out")
                 name = f"write {at} fails with {errno.errorcode[error]}"
                 said = WRITE + unwritten("out", error) + reason("save the position to saved", error)
-                self.expect(1, said, "decrypt --pass pass --save saved age out", name, {"WRITE": error, "AT": at})
+                self.expect(1, said, "decrypt --pass pass --save saved age out", name, {"WRITE": error, "AT": at + 1})
                 held = self.read("out") if self.is_there("out") else None
                 self.see(f"{name}: OUT", held == (PLAIN[:65536 * (at - 1)] if at > 1 else None))
                 self.see(f"{name}: nothing is left of a position", not self.is_there("saved") and not self.is_there("saved.new-0"))
@@ -464,7 +595,8 @@ class DiskTest(FilesCase):
         self.see("standard input without /proc", ended.returncode == 1 and (root / "plain").read_bytes() == PLAIN, ended)
         with open(root / "out", "wb") as out:
             ended = self.in_chroot("decrypt --pass pass age /dev/stdout", stdout=out)
-        self.see("standard output without /proc", ended.returncode == 1 and WRITE in ended.stderr and (root / "out").read_bytes() == b"", ended)
+        said = unwritten("/dev/stdout", "/proc doesn't show where it leads")
+        self.see("standard output without /proc", (ended.returncode, ended.stderr, (root / "out").read_bytes()) == (1, said, b""), ended)
         ended = self.in_chroot("decrypt --pass pass age new")
         self.see("files without /proc", ended.returncode == 0 and (root / "new").read_bytes() == PLAIN, ended)
         for made in ("fake", b"\0" * 64), ("device", None):
@@ -482,12 +614,11 @@ class DiskTest(FilesCase):
 
     @needs(root=True)
     def test_other_users(self):
-        """Standard output that the user of the program may not open by its path can't be synced."""
+        """Standard output that the user of the program may not open by its path is synced too."""
         self.write("out", b"", 0o600)
         with open(self.path("out"), "r+b") as out:
-            said = unsynced("/dev/stdout", errno.EACCES)
-            self.expect(1, said, "decrypt --pass pass age /dev/stdout", "standard output of another user's", stdout=out, **as_nobody())
-        self.see("standard output of another user's: whole all the same", self.read("out") == PLAIN)
+            self.expect(0, b"", "decrypt --pass pass age /dev/stdout", "standard output of another user's", stdout=out, **as_nobody())
+        self.see("standard output of another user's: the bytes", self.read("out") == PLAIN)
         self.write("out", b"", 0o600)
         with open(self.path("out"), "r+b") as out:
             words = "decrypt --no-sync --pass pass age /dev/stdout"
@@ -495,6 +626,18 @@ class DiskTest(FilesCase):
         self.see("standard output of another user's, without waiting: the bytes", self.read("out") == PLAIN)
 
     # ---- what is read
+
+    def test_cut_off(self):
+        """An input that becomes shorter while it is encrypted is named."""
+        reader, writer = os.pipe()
+        fcntl.fcntl(writer, fcntl.F_SETPIPE_SZ, 4096)
+        run = self.started("encrypt --pass pass --log 4 plain /dev/stdout", stdout=writer)
+        os.close(writer)
+        with os.fdopen(reader, "rb") as pipe:
+            pipe.read(1000)
+            os.truncate(self.path("plain"), 10)
+            pipe.read()
+        self.ends("an input that was cut off", run, 0, b"age_tool: plain became shorter while it was read\n")
 
     def test_refused(self):
         """What the system refuses is named."""

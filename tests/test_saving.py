@@ -7,13 +7,15 @@ import signal
 import threading
 import time
 
-from tests.case import needs
-from tests.files import NOBODY, OTHER_RUN, PLAIN, Feeding, FilesCase
+from tests.case import needs, twice
+from tests.files import NOBODY, OTHER_RUN, PLAIN, WRITE, Feeding, FilesCase
 from tests.files import as_nobody, chunk_fault, reason, unsaved, unwritten
+from tools import shim
 
 USED = "this run uses the file"
 MOVED = "its folder has changed"
 NO_FILE = "it is no file any more"
+MADE = "another program made it meanwhile"
 
 
 class SavingTest(FilesCase):
@@ -75,8 +77,11 @@ class SavingTest(FilesCase):
     def test_links_at_the_last_moment(self):
         """The same, between two calls of the program."""
         self.write("saved", b"an old position")
-        said = chunk_fault(2) + unsaved("saved", errno.ENOENT)
-        self.expect(1, said, "decrypt --pass pass --save saved cut out", "saved becomes a pipe at the last moment", {"PIPED": 2})
+        feeding = Feeding(self, env=shim.loaded(PIPED=2))
+        self.remove("saved")
+        self.write("saved", b"another file")
+        feeding.stops("another saved becomes a pipe at the last moment", chunk_fault(2) + unsaved("saved", errno.ENOENT))
+        self.remove("saved")
         self.path("folder").mkdir()
         self.path("other").mkdir()
         self.write("other/place", b"somebody's file")
@@ -84,7 +89,7 @@ class SavingTest(FilesCase):
             if held:
                 self.write("folder/place", held)
             name = f"the folder becomes a link at the last moment, {held}"
-            self.expect(1, chunk_fault(2) + unsaved("folder/place", MOVED), "decrypt --pass pass --save folder/place cut out", name, {"SWAP": 1})
+            self.expect(1, chunk_fault(2) + unsaved("folder/place", MOVED), "decrypt --pass pass --save folder/place cut out", name, {"SWAP": 2})
             self.see(f"{name}: kept", self.read("other/place") == b"somebody's file" and os.listdir(self.path("other")) == ["place"])
             self.path("folder").unlink()
             os.rename(self.path("moved"), self.path("folder"))
@@ -98,6 +103,57 @@ class SavingTest(FilesCase):
         feeding.stops("the first run with the file of --save", chunk_fault(2))
         self.see("the first run with the file of --save: its position", self.is_position("saved", 2))
         self.expect(1, chunk_fault(2), "decrypt --pass pass --save saved cut new", "a later run with the file of --save")
+
+    @needs("cc")
+    def test_two_new_saves(self):
+        """Of two runs that save into one file that wasn't there, the second to stop is refused, and the first one's position stays."""
+        for name, failing in (("two new positions", {}), ("two new positions without links", {"LINK": errno.EPERM})):
+            self.remove("saved", "new")
+            feeding = Feeding(self, env=shim.loaded(**failing))
+            self.write("shorter", self.age[:100000])
+            self.expect(1, chunk_fault(1), "decrypt --pass pass --save saved shorter new", f"{name}: the first to stop", failing)
+            feeding.stops(f"{name}: the second to stop", chunk_fault(2) + unsaved("saved", MADE))
+            self.see(f"{name}: the first one's", self.is_position("saved", 1))
+            self.see(f"{name}: nothing is left beside it", not list(self.room.glob("saved.new-*")))
+
+    # ---- room for a position
+
+    def test_room(self):
+        """A place where no position can be saved is refused before OUT is touched, and the room for one goes with the run."""
+        folder = self.path("folder")
+        folder.mkdir()
+        folder.chmod(0o555)
+        said = WRITE + reason("create folder/saved", errno.EACCES)
+        words = ["decrypt", "--pass", "pass", "--save", "folder/saved", "cut", "new"]
+        self.expect(1, said, words, "a folder without permission", **as_nobody())
+        self.see("a folder without permission: nothing was begun", not self.is_there("new"))
+        folder.chmod(0o755)
+        feeding = Feeding(self)
+        room = self.path("saved.new-0")
+        self.see("there is room while a run goes on", room.stat().st_size == 256 and self.mode("saved.new-0") == 0o600)
+        feeding.input.write(self.age[140000:])
+        feeding.input.close()
+        self.ends("a run that ends well", feeding.run, 0, b"")
+        self.see("a run that ends well: no room is left", os.listdir(folder) == [] and not self.is_there("saved.new-0") and not self.is_there("saved"))
+        self.write("wrong", b"another passphrase\n")
+        self.expect(1, b"age_tool: 13 WrongKey\n", "decrypt --pass wrong --save saved age new", "a wrong passphrase")
+        self.see("a wrong passphrase: no room is left", not self.is_there("saved.new-0"))
+        said = twice("saved", "saved.new-0")
+        self.expect(2, said, "decrypt --pass pass --save saved age saved.new-0", "OUT is the room for the position")
+        self.see("OUT is the room for the position: it is gone", not self.is_there("saved.new-0"))
+        feeding = Feeding(self)
+        self.remove("saved.new-0")
+        feeding.stops("the room was removed meanwhile", chunk_fault(2))
+        self.see("the room was removed meanwhile: a position", self.is_position("saved", 2))
+
+    @needs(root=True)
+    def test_read_only(self):
+        """A file system that can't be written is refused before OUT is touched."""
+        self.path("still").mkdir()
+        self.mount("-t", "tmpfs", "-o", "ro", "none", self.path("still"))
+        said = WRITE + reason("create still/saved", errno.EROFS)
+        self.expect(1, said, "decrypt --pass pass --save still/saved cut new", "a read-only file system")
+        self.see("a read-only file system: nothing was begun", not self.is_there("new"))
 
     # ---- where a position goes
 
@@ -174,9 +230,20 @@ class SavingTest(FilesCase):
             self.remove("saved")
             if before:
                 self.write("saved", before, 0o640)
-            self.expect(1, chunk_fault(2), "decrypt --pass pass --save saved cut out", f"a rename that fails, {before}", {"RENAME": errno.EBUSY})
+            failing = {"RENAME": errno.EBUSY, "LINK": errno.EPERM}
+            self.expect(1, chunk_fault(2), "decrypt --pass pass --save saved cut out", f"a rename that fails, {before}", failing)
             self.see(f"a rename that fails, {before}: a position", self.is_position("saved", 2) and not self.is_there("saved.new-0"))
             self.see(f"a rename that fails, {before}: its mode", self.mode("saved") == (0o640 if before else 0o600))
+
+    @needs("cc")
+    def test_sick_disk(self):
+        """An old position isn't written over where the disk is what fails."""
+        for error in (errno.EIO, errno.EROFS, errno.ESTALE, errno.ENOSPC, errno.EDQUOT):
+            self.write("saved", b"an old position")
+            name = f"a rename fails with {errno.errorcode[error]}"
+            said = chunk_fault(2) + unsaved("saved", error)
+            self.expect(1, said, "decrypt --pass pass --save saved cut out", name, {"RENAME": error})
+            self.see(f"{name}: the old position", self.read("saved") == b"an old position" and not self.is_there("saved.new-0"))
 
     def test_modes(self):
         """A position is its owner's, whoever could read the one that it replaces."""

@@ -2,11 +2,12 @@
  *
  * REFUSED: that allocation fails, counted from 1; with ON all after it too. COUNT names a file that is made then.
  *
- * FSYNC, FTRUNCATE, FLOCK, RENAME, SEEK (to a place in a file), REREAD (a read after that) and WRITE (from write number AT on): these
- * fail with that error. ONLY says of which kind of file FSYNC fails: d, f or b. Each call number EVERY of read and write is interrupted.
+ * FSYNC, FTRUNCATE, FLOCK, RENAME, LINK, SEEK (to a place in a file), REREAD (a read after that) and WRITE (from write number AT on):
+ * these fail with that error. ONLY says of which kind of file FSYNC fails: d, f or b; or 1, standard output alone. Each call number
+ * EVERY of read and write is interrupted.
  *
- * SWAP: `folder` leads to `other` before a file .new-0 is opened. PIPED: before that open of `saved` to be written a pipe takes its
- * place. TRIGGER names a file that gets a 1 before the first sync. SYNCED names one that gets a line for each file that is synced.
+ * SWAP: `folder` leads to `other` before that write to a place in a file. PIPED: before that open of `saved` to be written a pipe takes
+ * its place. GONE: `out` is removed before it is opened to be written. TRIGGER names a file that gets a 1 before the first sync. SYNCED names one that gets a line for each file that is synced.
  *
  * RECORD names a file that gets each call that succeeded and changes what a regular file holds or which names a folder has, or waits
  * for the disk. A line has the name of the call and its arguments, with tabs between them: an inode where a file is meant, and a path
@@ -68,6 +69,7 @@ static int is_interrupted(long *count) {
 static int is_meant(int fd) {
     const char *only = getenv("ONLY");
     struct stat it;
+    if (only && *only == '1') return fd == 1;
     if (!only || fstat(fd, &it)) return 1;
     return (S_ISDIR(it.st_mode) && *only == 'd') || (S_ISREG(it.st_mode) && *only == 'f') || (S_ISBLK(it.st_mode) && *only == 'b');
 }
@@ -75,8 +77,9 @@ static int ends_in(const char *path, const char *end) {
     size_t n = strlen(path), m = strlen(end);
     return n >= m && !strcmp(path + n - m, end);
 }
-static void swap(const char *path) {
-    if (getenv("SWAP") && ends_in(path, ".new-0") && (rename("folder", "moved") || symlink("other", "folder"))) abort();
+static void swap(void) {
+    static long count;
+    if (number("SWAP") && ++count == number("SWAP") && (rename("folder", "moved") || symlink("other", "folder"))) abort();
 }
 static void pipe_up(const char *path) {
     static long count;
@@ -136,8 +139,8 @@ static struct path path(int folder, const char *name) {
 
 static int opened(int folder, const char *name, int flags, mode_t mode) {
     struct stat it;
-    swap(name);
     if (flags & O_ACCMODE) pipe_up(name);
+    if ((flags & O_ACCMODE) && !(flags & O_EXCL) && getenv("GONE") && ends_in(name, "out")) NEXT(unlink)(name);
     int is_new = getenv("RECORD") && (flags & O_CREAT) && fstatat(folder, name, &it, 0) != 0;
     int fd = NEXT(openat)(folder, name, flags, mode);
     ino_t file = fd >= 0 ? regular(fd) : 0;
@@ -175,14 +178,21 @@ static ssize_t wrote(int fd, const void *bytes, ssize_t n, off_t at) {
     }
     return n;
 }
+static int is_refused_write(int fd) {
+    static long all;
+    return number("AT") && fd > 2 && ++all >= number("AT") && fails("WRITE");
+}
 ssize_t write(int fd, const void *bytes, size_t size) {
-    static long count, all;
+    static long count;
     if (is_interrupted(&count)) return -1;
-    if (number("AT") && fd > 2 && ++all >= number("AT") && fails("WRITE")) return -1;
+    if (is_refused_write(fd)) return -1;
     ssize_t n = NEXT(write)(fd, bytes, size);
     return n > 0 ? wrote(fd, bytes, n, place(fd) - n) : n;
 }
-ssize_t pwrite(int fd, const void *bytes, size_t size, off_t at) { return wrote(fd, bytes, NEXT(pwrite)(fd, bytes, size, at), at); }
+ssize_t pwrite(int fd, const void *bytes, size_t size, off_t at) {
+    swap();
+    return is_refused_write(fd) ? -1 : wrote(fd, bytes, NEXT(pwrite)(fd, bytes, size, at), at);
+}
 ssize_t pwrite64(int fd, const void *bytes, size_t size, off_t at) { return pwrite(fd, bytes, size, at); }
 ssize_t writev(int fd, const struct iovec *parts, int count) {
     ssize_t n = NEXT(writev)(fd, parts, count), left = n;
@@ -225,7 +235,7 @@ int renameat(int folder, const char *name, int other, const char *to) { return r
 int rename(const char *name, const char *to) { return renameat2(AT_FDCWD, name, AT_FDCWD, to, 0); }
 int linkat(int folder, const char *name, int other, const char *to, int flags) {
     struct stat it;
-    int ended = NEXT(linkat)(folder, name, other, to, flags);
+    int ended = fails("LINK") ? -1 : NEXT(linkat)(folder, name, other, to, flags);
     if (ended == 0 && fstatat(other, to, &it, AT_SYMLINK_NOFOLLOW) == 0) note("link\t%lu\t%s\n", it.st_ino, path(other, to).text);
     return ended;
 }

@@ -92,7 +92,10 @@ impl Beside {
     /// is whole before it takes the other one's place.
     pub(crate) fn fill(&self, bytes: &[u8], durability: Durability) -> io::Result<()> {
         calls::write_at_start(&self.file, bytes)?;
-        calls::cut(&self.file, bytes.len() as u64)?;
+        let length = bytes.len() as u64;
+        if self.file.metadata()?.len() > length {
+            calls::cut(&self.file, length)?;
+        }
         if durability == Durability::Synced {
             sync(&self.file)?;
         }

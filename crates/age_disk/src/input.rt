@@ -52,6 +52,14 @@ impl Origin {
     }
 }
 
+/// Whether a file stands at its end, by its length.
+fn is_at_end(file: &mut File) -> bool {
+    match (file.stream_position(), file.metadata()) {
+        (Ok(at), Ok(now)) => at >= now.len(),
+        _ => false,
+    }
+}
+
 /// How many bytes a regular file has.
 fn length_of(metadata: &Metadata) -> Option<u64> {
     if metadata.is_file() {
@@ -69,6 +77,8 @@ pub struct HostIn {
     origin: Origin,
     // How many bytes are still to come of a regular file.
     left: Option<u64>,
+    // It ended before that, and is shorter now than it was.
+    is_cut_off: bool,
     failures: Failures,
     // What the machine answered to the last pull that failed.
     error: io::Error,
@@ -115,6 +125,7 @@ impl HostIn {
             rt: *rt,
             origin,
             left,
+            is_cut_off: false,
             failures: Failures::none(),
             error: io::Error::from(io::ErrorKind::Other),
         }
@@ -128,6 +139,24 @@ impl HostIn {
     /// How many bytes a regular file still has to give, by its length as it was opened.
     pub fn length(&self) -> Option<u64> {
         self.left
+    }
+
+    /// Whether it is a regular file that became shorter while it was read, and ended there.
+    pub fn is_cut_off(&self) -> bool {
+        self.is_cut_off
+    }
+
+    /// Notes that it gave no more bytes. Files that the system makes up may end before the length
+    /// that they have.
+    fn note_end(&mut self)
+        ensures { self.new ≡ self.old }
+    {
+        if let (Origin::File(file), Some(left)) = (&mut self.origin, self.left)
+            && left > 0
+            && is_at_end(file)
+        {
+            self.is_cut_off = true;
+        }
     }
 
     /// Whether it can be read once more from its start. Standard input can't: where it stood at
@@ -193,6 +222,9 @@ impl Source for HostIn {
             Ok(n) => {
                 if let Some(left) = &mut self.left {
                     *left = left.saturating_sub(n as u64);
+                }
+                if n == 0 && !into.is_empty() {
+                    self.note_end();
                 }
                 Ok(n)
             }

@@ -57,6 +57,14 @@ impl<'r, 'w> WatchedIn<'r, 'w> {
         }
     }
 
+    /// Counts what a pull gave, and keeps that the file was cut off, if it was.
+    fn note_pulled(&self, n: u64) {
+        self.failures.count(self.name, n);
+        if n == 0 && self.source.is_cut_off() {
+            self.failures.note_cut_off(self.name);
+        }
+    }
+
     /// How many bytes a regular file still has to give.
     pub(crate) fn length(&self) -> Option<u64> {
         self.source.length()
@@ -73,7 +81,7 @@ impl<'r, 'w> Source for WatchedIn<'r, 'w> {
     fn pull(&mut self, into: &mut [u8]) -> Result<usize, Failed> {
         let pulled = self.source.pull(into);
         match pulled {
-            Ok(n) => self.failures.count(self.name, n as u64),
+            Ok(n) => self.note_pulled(n as u64),
             Err(_) => self.note(self.source.error()),
         }
         pulled

@@ -150,7 +150,11 @@ pub struct Failures<'w> {
     saved: Cell<Option<&'w str>>,
     twice: Cell<Option<Twice<'w>>>,
     last_read: Cell<Amount<'w>>,
+<<<<<<< HEAD
     output: Cell<Option<&'w str>>,
+=======
+    cut_off: Cell<Option<&'w str>>,
+>>>>>>> 35e351c4 (Rows for closing, waits, room for a position and disks that fail; a file that became shorter is named)
 }
 
 impl<'w> Failures<'w> {
@@ -163,7 +167,11 @@ impl<'w> Failures<'w> {
             saved: Cell::new(None),
             twice: Cell::new(None),
             last_read: Cell::new(Amount { name: "", bytes: 0 }),
+<<<<<<< HEAD
             output: Cell::new(None),
+=======
+            cut_off: Cell::new(None),
+>>>>>>> 35e351c4 (Rows for closing, waits, room for a position and disks that fail; a file that became shorter is named)
         }
     }
 
@@ -249,6 +257,16 @@ impl<'w> Failures<'w> {
             let bytes = last.bytes.saturating_add(bytes);
             self.last_read.set(Amount { name, bytes });
         }
+    }
+
+    /// Keeps the name of a file that became shorter while it was read.
+    pub fn note_cut_off(&self, name: &'w str) {
+        self.cut_off.set(Some(name));
+    }
+
+    /// Which file became shorter while it was read.
+    pub fn cut_off(&self) -> Option<&'w str> {
+        self.cut_off.get()
     }
 
     /// What failed first.
