@@ -80,7 +80,9 @@ class SavingTest(FilesCase):
         feeding = Feeding(self, env=shim.loaded(PIPED=2))
         self.remove("saved")
         self.write("saved", b"another file")
-        feeding.stops("another saved becomes a pipe at the last moment", chunk_fault(2) + unsaved("saved", errno.ENOENT))
+        with open(self.path("saved"), "rb"):
+            # (open, so that the pipe isn't the same inode)
+            feeding.stops("another saved becomes a pipe at the last moment", chunk_fault(2) + unsaved("saved", errno.ENOENT))
         self.remove("saved")
         self.path("folder").mkdir()
         self.path("other").mkdir()
