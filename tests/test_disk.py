@@ -614,11 +614,12 @@ class DiskTest(FilesCase):
 
     @needs(root=True)
     def test_other_users(self):
-        """Standard output that the user of the program may not open by its path is synced too."""
+        """Standard output that the user of the program may not open by its path can't be synced."""
         self.write("out", b"", 0o600)
         with open(self.path("out"), "r+b") as out:
-            self.expect(0, b"", "decrypt --pass pass age /dev/stdout", "standard output of another user's", stdout=out, **as_nobody())
-        self.see("standard output of another user's: the bytes", self.read("out") == PLAIN)
+            said = unsynced("/dev/stdout", errno.EACCES)
+            self.expect(1, said, "decrypt --pass pass age /dev/stdout", "standard output of another user's", stdout=out, **as_nobody())
+        self.see("standard output of another user's: whole all the same", self.read("out") == PLAIN)
         self.write("out", b"", 0o600)
         with open(self.path("out"), "r+b") as out:
             words = "decrypt --no-sync --pass pass age /dev/stdout"

@@ -99,6 +99,6 @@ impl Beside {
         if durability == Durability::Synced {
             sync(&self.file)?;
         }
-        calls::close(self.file.try_clone()?)
+        calls::close(&self.rt, self.file.try_clone()?)
     }
 }

@@ -1,42 +1,39 @@
-//! The calls of the system that `std` doesn't offer, and those that change what a folder or a disk
-//! holds: each function makes one, and says what the system answered.
+//! The calls that change what a folder or a disk holds: each function makes one, and says what the
+//! system answered.
 
 use std::fs::{self, File};
 use std::io;
-use std::os::fd::{IntoRawFd, OwnedFd};
 use std::os::unix::fs::{FileExt, OpenOptionsExt};
 use std::rt::HostRuntime;
+use std_io::io::last_error;
 
-/// The answer to a call: 0, or a failure whose reason the system keeps.
-fn answer_of(status: i32) -> io::Result<()> {
-    if status == 0 {
+/// A name that no folder can hold, since it has more than 255 letters: a look at it fails.
+const TOO_LONG: &str =
+    "/too-long-a-name-too-long-a-name-too-long-a-name-too-long-a-name-too-long-a-name\
+    -too-long-a-name-too-long-a-name-too-long-a-name-too-long-a-name-too-long-a-name\
+    -too-long-a-name-too-long-a-name-too-long-a-name-too-long-a-name-too-long-a-name\
+    -too-long-a-name-too-long-a-name-too-long-a-name-too-long-a-name-too-long-a-name";
+
+/// Closes a descriptor, which may be one of several of an open file, and says what the system
+/// answered: a file system that stores a file only as it is closed reports a failure here, and
+/// nowhere else. `std` closes what is dropped and loses the answer, but the system keeps the reason
+/// of its last failure. So something else fails first, and if the reason is another one then, it is
+/// that of the close. Only a close for which a name is too long would go unnoticed.
+pub(crate) fn close<D: Drop>(rt: &HostRuntime, descriptor: D) -> io::Result<()> {
+    let _ = fs::metadata(rt, TOO_LONG);
+    let before = last_error().raw_os_error();
+    drop(descriptor);
+    let after = last_error();
+    if after.raw_os_error() == before {
         Ok(())
     } else {
-        Err(io::Error::from_raw_os_error(os::errno()))
+        Err(after)
     }
-}
-
-/// Closes a file. A file system that stores a file only as it is closed reports a failure here, and
-/// nowhere else.
-pub(crate) fn close(file: File) -> io::Result<()> {
-    answer_of(libc::close(file.into_raw_fd()))
-}
-
-/// Closes a second descriptor of a file that stays open: its file system answers as to the last
-/// one.
-pub(crate) fn close_copy(copy: OwnedFd) -> io::Result<()> {
-    answer_of(libc::close(copy.into_raw_fd()))
 }
 
 /// Waits until what was written to a file has reached the disk.
 pub(crate) fn sync_whole(file: &File) -> io::Result<()> {
     file.sync_all()
-}
-
-/// Waits until what was written through a descriptor has reached the disk. A failure of the disk
-/// before now is reported to this descriptor, but not to one that is opened later.
-pub(crate) fn sync_descriptor(descriptor: i32) -> io::Result<()> {
-    answer_of(libc::fsync(descriptor))
 }
 
 /// Cuts a file off, or makes it longer.

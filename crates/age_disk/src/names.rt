@@ -49,15 +49,6 @@ impl Stream {
         }
     }
 
-    /// The number of its descriptor.
-    pub(crate) fn descriptor(self) -> i32 {
-        match self {
-            Stream::Input => libc::STDIN_FILENO,
-            Stream::Output => libc::STDOUT_FILENO,
-            Stream::Faults => libc::STDERR_FILENO,
-        }
-    }
-
     /// A second descriptor of it. Fails if the program was started without this stream.
     pub(crate) fn copy(self, rt: &HostRuntime) -> io::Result<OwnedFd> {
         match self {

@@ -8,7 +8,7 @@ use crate::lock::{lock, remove_own};
 use crate::names::{FileId, Resolved, Stream, above_streams, resolve};
 use crate::paths::{OUTPUT_MODE, make_output, open_to_write};
 use crate::retry::{TRIES, is_to_retry, too_many_tries};
-use crate::sync::{close_stream, sync_file, sync_folder, sync_folder_if_readable, sync_stream};
+use crate::sync::{Witness, close_stream, sync_file, sync_folder, sync_folder_if_readable};
 use age_io::{Durability, Failed, Failures, Sink};
 use std::alloc::Global;
 use std::fs::File;
@@ -73,15 +73,6 @@ impl Target {
         }
     }
 
-    /// Waits until what was written has reached the disk.
-    fn sync(&self, rt: &HostRuntime) -> io::Result<()> {
-        match self {
-            Target::File(out) => sync_file(&out.file),
-            Target::Output(_) => sync_stream(rt, Stream::Output),
-            Target::Faults(_) => sync_stream(rt, Stream::Faults),
-        }
-    }
-
     /// Closes it.
     fn close(self, rt: &HostRuntime, durability: Durability) -> io::Result<()> {
         match self {
@@ -99,6 +90,8 @@ impl Target {
 pub struct HostOut {
     rt: HostRuntime,
     target: Target,
+    // Of a stream: what its disk is waited for by.
+    witness: Witness,
     // Which file it is, if that is known.
     id: Option<FileId>,
     failures: Failures,
@@ -283,7 +276,7 @@ impl OutFile {
             is_made,
             ..
         } = self;
-        close(file)?;
+        close(rt, file)?;
         match path {
             Some(path) if is_named && durability == Durability::Synced => {
                 sync_name(rt, &path, is_made)
@@ -348,6 +341,7 @@ impl HostOut {
         HostOut {
             rt: *rt,
             target,
+            witness: Witness::none(),
             id,
             failures: Failures::none(),
             error: io::Error::from(io::ErrorKind::Other),
@@ -406,7 +400,9 @@ impl HostOut {
             Stream::Faults => Target::Faults(rt.stderr()),
         };
         let id = FileId::of_open_stream(rt, stream)?;
-        Ok(HostOut::new(rt, target, id))
+        let mut out = HostOut::new(rt, target, id);
+        out.witness = Witness::of(rt, stream);
+        Ok(out)
     }
 
     /// Takes a file for this run alone, so that no two runs write to one.
@@ -481,7 +477,10 @@ impl HostOut {
         if let Some(error) = self.lost {
             return Err(error);
         }
-        let reached = self.target.sync(&self.rt);
+        let reached = match &self.target {
+            Target::File(out) => sync_file(&out.file),
+            _ => self.witness.sync(),
+        };
         match reached {
             Ok(()) => self.settled = self.taken,
             Err(error) => self.lost = Some(error),
@@ -558,7 +557,8 @@ impl HostOut {
 
     /// Ends it if nothing was written, as it was before it was opened.
     pub fn discard(self, rt: &HostRuntime, durability: Durability) {
-        if let Target::File(out) = self.target {
+        let HostOut { target, .. } = self;
+        if let Target::File(out) = target {
             out.remove_made(rt, durability);
         }
     }

@@ -1,7 +1,7 @@
 //! Waits until files of the machine have reached the disk, and closes them.
 
-use crate::calls::{close_copy, sync_descriptor, sync_whole};
-use crate::names::{Stream, is_on_disk};
+use crate::calls::{close, sync_whole};
+use crate::names::{Stream, above_streams, is_on_disk};
 use std::fs::File;
 use std::io;
 use std::path::PathBuf;
@@ -16,17 +16,12 @@ fn is_unsupported(error: &io::Error) -> bool {
     )
 }
 
-/// What a wait came to: if the machine can't wait, nothing is waited for.
-fn waited(answer: io::Result<()>) -> io::Result<()> {
-    match answer {
+/// Waits until a file has reached the disk. If the machine can't wait, nothing is waited for.
+pub(crate) fn sync(file: &File) -> io::Result<()> {
+    match sync_whole(file) {
         Err(error) if !is_unsupported(&error) => Err(error),
         _ => Ok(()),
     }
-}
-
-/// Waits until a file has reached the disk. If the machine can't wait, nothing is waited for.
-pub(crate) fn sync(file: &File) -> io::Result<()> {
-    waited(sync_whole(file))
 }
 
 /// Waits until a file has reached the disk, if it is of a kind that can.
@@ -68,14 +63,43 @@ pub(crate) fn folder_of(path: &PathBuf) -> &str {
     }
 }
 
-/// Waits until what went to a stream has reached the disk, if it leads to a file that can. This
-/// goes by the descriptor that was inherited: one that is opened now isn't told of a write that
-/// failed before, and another user's file couldn't be opened.
-pub(crate) fn sync_stream(rt: &HostRuntime, stream: Stream) -> io::Result<()> {
-    if stream.may_be_on_disk(rt) {
-        waited(sync_descriptor(stream.descriptor()))
-    } else {
-        Ok(())
+/// A second descriptor of the file to which a stream leads, by which the disk is waited for: the kit
+/// can't wait by the one that was inherited. It is opened before anything is written, since the
+/// system reports a failed write to each descriptor that was open then, and to no later one.
+#[derive(Drop)]
+pub(crate) struct Witness(Option<io::Result<File>>);
+
+impl Witness {
+    /// None, of what is no stream.
+    pub(crate) fn none() -> Witness {
+        Witness(None)
+    }
+
+    /// The one of a stream, if that leads to a file that can be on a disk.
+    pub(crate) fn of(rt: &HostRuntime, stream: Stream) -> Witness {
+        if stream.may_be_on_disk(rt) {
+            Witness(Some(open_either_way(rt, stream.path())))
+        } else {
+            Witness(None)
+        }
+    }
+
+    /// Waits until what went to the stream has reached the disk. Fails if the file couldn't be
+    /// opened, as one of another user's.
+    pub(crate) fn sync(&self) -> io::Result<()> {
+        match &self.0 {
+            Some(Ok(file)) => sync(file),
+            Some(Err(error)) => Err(*error),
+            None => Ok(()),
+        }
+    }
+}
+
+/// Opens a file to be read, or else to be written.
+fn open_either_way(rt: &HostRuntime, path: &str) -> io::Result<File> {
+    match File::open(rt, path) {
+        Ok(file) => above_streams(file),
+        Err(_) => above_streams(File::options().write(true).open(rt, path)?),
     }
 }
 
@@ -83,7 +107,7 @@ pub(crate) fn sync_stream(rt: &HostRuntime, stream: Stream) -> io::Result<()> {
 /// one stays open, since the next file to be opened would take its place.
 pub(crate) fn close_stream(rt: &HostRuntime, stream: Stream) -> io::Result<()> {
     if stream.may_be_on_disk(rt) {
-        close_copy(stream.copy(rt)?)
+        close(rt, stream.copy(rt)?)
     } else {
         Ok(())
     }
