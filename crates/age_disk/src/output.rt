@@ -381,6 +381,12 @@ impl HostOut {
         Ok(out)
     }
 
+    /// Makes a file, if nothing has the name, not even a link.
+    pub fn make(alloc: Global, rt: &HostRuntime, name: &str) -> io::Result<HostOut> {
+        let path = PathBuf::from_str(alloc, name)?;
+        HostOut::of_file(rt, OutFile::make(rt, path)?)
+    }
+
     fn of_file(rt: &HostRuntime, out: OutFile) -> io::Result<HostOut> {
         let id = FileId::of(&out.file.metadata()?);
         Ok(HostOut::new(rt, Target::File(out), id))

@@ -1,7 +1,7 @@
 //! Files by their names.
 
 ghost use Rattle.std.specs.Prelude.{◌≡◌, ◌≢◌, ◌⊎◌, ℕ, Bool, true, false, List, [], ◌∷◌, ◌++◌, None, Some, IfOk, IfErr};
-ghost use Rattle.std.specs.Prelude.{IsOkUnless, OnOk, OnErr, is_some, option_map, length};
+ghost use Rattle.std.specs.Prelude.{IsOkUnless, OnOk, OnErr, IfSome, ◌≤◌, is_some, option_map, length};
 ghost use Rattle.age_fileset.specs.FileSet.{FilesView, IsMemoryOr, OpenFails, or_empty, Opened};
 ghost use Rattle.age_fileset.specs.FileSet.{Prepared, Created, Replaced, Closed};
 ghost use Rattle.age_fileset.specs.declared.files.OpenFault.TheVariants.{Fault};
@@ -143,6 +143,16 @@ pub trait FileSet {
         ensures noted { (view self.new).events ≡ (view self.old).events ++ Created name.now ∷ [] }
         ensures faults { IfErr result (OpenFails shows_bytes FileFault.Write) };
 
+    /// Makes a file to be written, as `create` does, and refuses one that is there too, with `Write`
+    /// (27): it is as it was then, and no link is followed.
+    fn create_new(&mut self, alloc: Global, name: &str) -> Result<Self::Out, OpenFault>
+        ensures kept { (view self.new).entries ≡ (view self.old).entries }
+        ensures made { IfOk result (λ o. shows_bytes ≡ true
+            → ((Self.Out.view o).taken ≡ Some []) × ((Self.Out.view o).label ≡ name.now)) }
+        ensures absent { OnOk result (shows_bytes ≡ true → (view self.old).entries name.now ≡ None) }
+        ensures noted { (view self.new).events ≡ (view self.old).events ++ Created name.now ∷ [] }
+        ensures faults { IfErr result (OpenFails shows_bytes FileFault.Write) };
+
     /// Whether a file that was created is standard error's, which the lines of progress and of
     /// faults go to. In a set that shows its entries none is.
     fn is_for_faults(&self, _out: &Self::Out) -> bool
@@ -157,6 +167,16 @@ pub trait FileSet {
     {
         false
     }
+
+    /// How many bytes of those that a sink took its file holds for certain: on the disk, if that is
+    /// asked for and the machine can wait. Never more than the sink took; a set that shows its
+    /// entries holds them all. Nothing changes in the set.
+    fn settle(&mut self, out: &mut Self::Out, durability: Durability) -> u64
+        ensures kept { view self.new ≡ view self.old }
+        ensures same { Self.Out.view out.new ≡ Self.Out.view out.old }
+        ensures most { IfSome (Self.Out.view out.old).taken (λ taken. result ≤ length taken) }
+        ensures shown { shows_bytes ≡ true
+            → IfSome (Self.Out.view out.old).taken (λ taken. result ≡ length taken) };
 
     /// Ends a file that was created, with exactly the bytes that its sink took, in place of what it
     /// held, and waits until they have reached the disk if that is asked for and the machine can

@@ -292,6 +292,33 @@ impl FileSet for MemFiles {
         Ok(new_out(alloc, name, self.room)?)
     }
 
+    /// As `create`, but refuses with `Write` (27) exactly if the name is one that can't be written, or
+    /// if a file has it.
+    fn create_new(&mut self, alloc: Global, name: &str) -> Result<MemOut, OpenFault>
+        ensures made { IfOk result (λ o. o ≡ (name.now, empty_with self.old.room)) }
+        ensures refused { IsErrOf result (Fault FileFault.Write)
+            ↔ (Contains self.old.refused name.now
+            ⊎ (is_some (entry_of self.old.entries name.now) ≡ true)) }
+        ensures kept { self.new
+            ≡ record self.old { events = self.old.events ++ Created name.now ∷ [] } }
+        ensures faults { IfErr result (OpenFails true FileFault.Write) }
+    {
+        if self.get(name).is_some() {
+            self.log.created(name);
+            return Err(OpenFault::Fault(FileFault::Write));
+        }
+        self.create(alloc, name)
+    }
+
+    /// All that the sink took.
+    fn settle(&mut self, out: &mut MemOut, _durability: Durability) -> u64
+        ensures kept { self.new ≡ self.old }
+        ensures same { out.new ≡ out.old }
+        ensures all { result ≡ length out.old.1.held }
+    {
+        out.sink.bytes().len() as u64
+    }
+
     /// Puts what the sink took under its name. That takes no memory if a file of the name is there.
     fn close(&mut self, out: MemOut, durability: Durability) -> Result<(), FileFault>
         ensures puts { PutsEntry out.0 out.1.held result self.old.entries self.new.entries }

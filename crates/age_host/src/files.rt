@@ -470,12 +470,24 @@ impl<'r, 'w> FileSet for HostFiles<'r, 'w> {
         }
     }
 
+    fn create_new(&mut self, alloc: Global, name: &str) -> Result<WatchedOut<'r, 'w>, OpenFault> {
+        self.log.created(name);
+        match HostOut::make(alloc, self.rt, name) {
+            Ok(out) => self.admit_created(name, out),
+            Err(error) => Err(self.refusal(name, error)),
+        }
+    }
+
     fn is_for_faults(&self, out: &WatchedOut<'r, 'w>) -> bool {
         out.is_for_faults(self.rt)
     }
 
     fn is_terminal(&self, out: &WatchedOut<'r, 'w>) -> bool {
         out.is_terminal()
+    }
+
+    fn settle(&mut self, out: &mut WatchedOut<'r, 'w>, durability: Durability) -> u64 {
+        out.settle(self.rt, durability)
     }
 
     fn close(&mut self, out: WatchedOut<'r, 'w>, durability: Durability) -> Result<(), FileFault> {

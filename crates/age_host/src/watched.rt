@@ -147,6 +147,13 @@ impl<'r, 'w> WatchedOut<'r, 'w> {
         self.sink.is_terminal()
     }
 
+    /// How many of the bytes that were written it holds for certain.
+    pub(crate) fn settle(&mut self, rt: &HostRuntime, durability: Durability) -> u64
+        ensures { self.new.sink ≡ self.old.sink }
+    {
+        self.sink.settle(rt, durability)
+    }
+
     /// Ends it with what was written.
     pub(crate) fn close(self, rt: &HostRuntime, durability: Durability) -> io::Result<()> {
         let WatchedOut {
