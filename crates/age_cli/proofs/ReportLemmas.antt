@@ -1,21 +1,26 @@
 -- What the status says of an ending.
-use Rattle.std.proofs.Common.{◌≡◌, ◌∙◌, ◌⊎◌, inl, inr, arith, sym, subst, ℕ, Result, Ok, Err}
-use Rattle.std.specs.Prelude.{OnErr}
+use Rattle.std.proofs.Common.{◌≡◌, ◌∙◌, ◌⊎◌, ◌++◌, inl, inr, ap, arith, sym, subst, refl, ℕ, List, Bool, true, true≢false, Option, Some, None, Result, Ok, Err}
+use Rattle.std.specs.Prelude.{OnErr, IfErr, IfOk, IfSome, is_some, length, option_map}
 use Rattle.age_io.specs.Io.{SinkView, SourceView}
 use Rattle.age_fault.proofs.ByteLemmas.{Appends-then, risen}
 use Rattle.age_fault.specs.Faults.{HasRisen}
 use Rattle.age_fault.specs.declared.fault.FileFault.{FileFault}
 use Rattle.age_fault.specs.declared.fault.FileFault.TheVariants.{Head, Key, NonceCut, Stream, BadPosition, OtherFile, ShortText, Read, Write, Memory}
 use Rattle.age_fault.specs.declared.fault.FileFault.TheVariants.{ReadNeverEnds, PositionForged, OldTextDiffers}
-use Rattle.age_file.proofs.ByteLemmas.{fault_of_all}
-use Rattle.age_file.specs.Runs.{HeadFails, NoHeadFault}
+use Rattle.age_file.proofs.ByteLemmas.{fault_of_all, sound_too}
+use Rattle.age_file.specs.Reports.{Inspects, IsReport}
+use Rattle.age_file.specs.Runs.{HeadFails, InHeader, NoHeadFault}
+use Rattle.age_file.specs.declared.report.Report.{Report}
 use Rattle.age_command.specs.Endings.{Announces, ReportsEnding, ReportsRest, TakesLine, Tells, fault_line}
 use Rattle.age_command.specs.declared.ending.Announcement.{Announcement}
 use Rattle.age_command.specs.declared.ending.Announcement.TheVariants.{Unmade, Made, Failed}
 use Rattle.age_command.specs.declared.ending.Ending.{Ending}
 use Rattle.age_command.specs.declared.ending.Ending.TheVariants.{Words, Usage, Fault, Unsaved}
 use Rattle.age_cli.specs.Acts.{status_by, ending_status}
-use Rattle.age_cli.specs.Commands.{FailsReport}
+use Rattle.age_cli.specs.Commands.{FailsReport, IsReportOf}
+use Rattle.age_cli.specs.inner.Reported.{IsInspected}
+use Rattle.std.specs.Io.KnownBytes.{Consumes, IsAtEnd}
+use Rattle.std.proofs.lemmas.List.{append-nil}
 
 -- an ending has another status than success
 pub failed_status : (e : Ending) → ending_status e ≡ 0 → ⊥
@@ -82,3 +87,49 @@ report_fails old new OtherFile h = absurd h
 report_fails old new ShortText h = absurd h
 report_fails old new PositionForged h = absurd h
 report_fails old new OldTextDiffers h = absurd h
+
+-- what was read to its end is all that was there
+all_read : (bytes : List ℕ) (new : Option (List ℕ)) (read : List ℕ) → Consumes (Some bytes) new read → IsAtEnd new → bytes ≡ read
+all_read bytes None read consumed at_end = absurd consumed
+all_read bytes (Some left) read consumed at_end = consumed ∙ (ap (λ (rest : List ℕ). read ++ rest) at_end ∙ append-nil read)
+
+pub to_end_so : (old new : Option (List ℕ)) (r : Report) → Inspects old new r → IsInspected None old new r
+to_end_so old new r is = record {
+  to_end = is;
+  whole = λ bytes there size. subst (λ (b : List ℕ). IsReport b r)
+      (sym (all_read bytes new is.0 (subst (λ (o : Option (List ℕ)). Consumes o new is.0) there is.1) is.2)) is.3;
+}
+
+-- a header's fault before a rest that isn't read
+pub head_alone : (old new : SourceView) (f : FileFault) → HeadFails InHeader old new f → HeadFails NoHeadFault old new f
+head_alone old new f fails = sound_too InHeader NoHeadFault old new f (λ h. (h.0, h.1, inl h.2)) fails
+
+-- a length that is known is that of the bytes
+size_is : (size : Option ℕ) (bytes : List ℕ) (remaining : Option (List ℕ)) → remaining ≡ Some bytes
+    → IfSome size (λ n. option_map length remaining ≡ Some n) → IfSome size (λ n. n ≡ length bytes)
+size_is None bytes remaining there known = tt
+size_is (Some n) bytes remaining there known =
+    let e : Some (length bytes) ≡ Some n = sym (ap (λ (o : Option (List ℕ)). option_map length o) there) ∙ known in cc
+
+-- the report is the file's
+pub file_report : (shows : Bool) (held remaining new : Option (List ℕ)) (size : Option ℕ) (r : Report)
+    → (shows ≡ true → (is_some held ≡ true) × (remaining ≡ held)) → (shows ≡ true → IfSome size (λ n. option_map length remaining ≡ Some n))
+    → IsInspected size remaining new r → shows ≡ true → IsReportOf held r
+file_report shows None remaining new size r found sized is shown = absurd (true≢false (sym (found shown).0))
+file_report shows (Some bytes) remaining new size r found sized is shown =
+    let same = (found shown).1 in
+    (bytes, refl, is.whole bytes same (size_is size bytes remaining same (sized shown)))
+
+pub to_end_all : (size : Option ℕ) (old new : Option (List ℕ)) (x : Result Report FileFault) → size ≡ None → IfOk x (Inspects old new)
+    → IfOk x (IsInspected size old new)
+to_end_all size old new (Ok r) none is = subst (λ (o : Option ℕ). IsInspected o old new r) (sym none) (to_end_so old new r is)
+to_end_all size old new (Err f) none is = tt
+
+pub sized_all : (size : Option ℕ) (n : ℕ) (old new : Option (List ℕ)) (x : Result Report FileFault) → size ≡ Some n
+    → ((bytes : List ℕ) → old ≡ Some bytes → n ≡ length bytes → IfOk x (IsReport bytes)) → IfOk x (IsInspected size old new)
+sized_all size n old new (Ok r) is whole = subst (λ (o : Option ℕ). IsInspected o old new r) (sym is) (record { to_end = tt; whole = whole })
+sized_all size n old new (Err f) is whole = tt
+
+pub any_head_alone : (old new : SourceView) (x : Result Report FileFault) → IfErr x (HeadFails InHeader old new) → IfErr x (HeadFails NoHeadFault old new)
+any_head_alone old new (Ok r) fails = tt
+any_head_alone old new (Err f) fails = head_alone old new f fails

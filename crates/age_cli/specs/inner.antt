@@ -1,3 +1,4 @@
 pub mod Endings
 pub mod Rereadings
 pub mod Openings
+pub mod Reported

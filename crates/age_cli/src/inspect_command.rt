@@ -1,9 +1,13 @@
 //! The command that reports what a file holds.
 
-ghost use Rattle.std.specs.Prelude.{◌≡◌, ◌⊎◌, [], ◌∷◌, ◌++◌, true, OnOk, IfErr};
+ghost use Rattle.std.specs.Prelude.{◌≡◌, ◌⊎◌, [], ◌∷◌, ◌++◌, true, IfOk, OnOk, IfErr, IfSome, Some, option_map, length};
+ghost use Rattle.std.specs.Io.KnownBytes.{Appends};
+ghost use Rattle.age_file.specs.Runs.{HeadFails, NoHeadFault};
+ghost use Rattle.age_file.specs.declared.report.Report.{Report};
 ghost use Rattle.age_command.specs.declared.ending.Ending.TheVariants.{Fault};
 ghost use Rattle.age_fileset.specs.FileSet.{Opened};
-ghost use Rattle.age_cli.specs.Commands.{Reports, ReportsFile, FailsReport, seen};
+ghost use Rattle.age_cli.specs.Commands.{Reports, ReportsFile, FailsReport, report_text, seen};
+ghost use Rattle.age_cli.specs.inner.Reported.{IsInspected};
 ghost use Rattle.age_cli.specs.Runs.{FailsWriting};
 ghost use Rattle.age_command.specs.Files.{IsUnread, SourceFails};
 ghost use Rattle.age_fault.specs.Faults.{HasRisen};
@@ -11,19 +15,36 @@ ghost use Rattle.age_fault.specs.declared.fault.FileFault.TheVariants.{Read};
 
 use crate::print::text_of;
 use age_command::{Ending, put_bytes};
-use age_file::{FileFault, Sink, Source, flush_all, inspect};
+use age_file::{FileFault, Report, Sink, Source, flush_all, inspect, inspect_sized};
 use age_fileset::{FileSet, OpenFault};
 use std::alloc::Global;
 
-/// Writes the report of what it reads, to the end.
+/// Reports what an input of this length holds. If its length isn't known, it is read to its end.
+fn inspect_as<I: Source>(
+    alloc: Global,
+    length: Option<u64>,
+    input: &mut I,
+) -> Result<Report, FileFault>
+    ensures ok { IfOk result (IsInspected length (I.view input.old).remaining
+        (I.view input.new).remaining) }
+    ensures fails { IfErr result (HeadFails NoHeadFault (I.view input.old) (I.view input.new)) }
+{
+    match length {
+        Some(len) => inspect_sized(alloc, len, input),
+        None => inspect(alloc, input),
+    }
+}
+
+/// Writes the report of an input of this length.
 fn write_report<I: Source, O: Sink>(
     alloc: Global,
+    length: Option<u64>,
     input: &mut I,
     output: &mut O,
 ) -> Result<(), FileFault>
-    ensures done { OnOk result
-        (Reports (I.view input.old).remaining (I.view input.new).remaining (O.view output.old).taken
-        (O.view output.new).taken) }
+    ensures done { OnOk result ((r : Report)
+        × IsInspected length (I.view input.old).remaining (I.view input.new).remaining r
+        × Appends (O.view output.old).taken (O.view output.new).taken (report_text r)) }
     ensures fails { IfErr result (λ f. FailsReport (I.view input.old).remaining (Fault f)) }
     ensures sent { OnOk result ((O.view output.new).settled ≡ true) }
     ensures unprinted { IfErr result (λ f.
@@ -32,13 +53,33 @@ fn write_report<I: Source, O: Sink>(
     ensures read { IfErr result (λ f. f ≡ Read
         → HasRisen (I.view input.old).failed (I.view input.new).failed) }
 {
-    let found = inspect(alloc, input)?;
+    let found = inspect_as(alloc, length, input)?;
     let text = text_of(alloc, &found)?;
     put_bytes(output, text.as_slice())?;
     flush_all(output)
 }
 
-/// Writes the report of the input; a fault is the command's ending.
+/// Writes the report of an input of this length; a fault is the command's ending.
+fn report_as<I: Source, O: Sink>(
+    alloc: Global,
+    length: Option<u64>,
+    input: &mut I,
+    output: &mut O,
+) -> Result<(), Ending>
+    ensures done { OnOk result ((r : Report)
+        × IsInspected length (I.view input.old).remaining (I.view input.new).remaining r
+        × Appends (O.view output.old).taken (O.view output.new).taken (report_text r)) }
+    ensures fails { IfErr result (FailsReport (I.view input.old).remaining) }
+    ensures sent { OnOk result ((O.view output.new).settled ≡ true) }
+    ensures unprinted { IfErr result (λ e. FailsWriting (O.view output.old) (O.view output.new) e
+        ⊎ (output.new ≡ output.old)) }
+    ensures read { IfErr result (λ e. e ≡ Fault Read
+        → HasRisen (I.view input.old).failed (I.view input.new).failed) }
+{
+    Ok(write_report(alloc, length, input, output)?)
+}
+
+/// Writes the report of the input, which is read to its end.
 pub(crate) fn report<I: Source, O: Sink>(
     alloc: Global,
     input: &mut I,
@@ -54,10 +95,22 @@ pub(crate) fn report<I: Source, O: Sink>(
     ensures read { IfErr result (λ e. e ≡ Fault Read
         → HasRisen (I.view input.old).failed (I.view input.new).failed) }
 {
-    Ok(write_report(alloc, input, output)?)
+    report_as(alloc, None, input, output)
 }
 
-/// Writes the report on the file of this name.
+/// How long an input is, if that can be believed: a file of no length may give bytes, as in /proc.
+fn known_length<F: FileSet>(files: &F, source: &F::In) -> Option<u64>
+    ensures { F.shows_bytes ≡ true
+        → IfSome result (λ n. option_map length (F.In.view source.now).remaining ≡ Some n) }
+{
+    match files.length(source) {
+        Some(len) if len > 0 => Some(len),
+        _ => None,
+    }
+}
+
+/// Writes the report on the file of this name. If its length is known, no more is read than its
+/// header.
 pub(crate) fn report_file<F: FileSet, O: Sink>(
     alloc: Global,
     files: &mut F,
@@ -82,5 +135,6 @@ pub(crate) fn report_file<F: FileSet, O: Sink>(
         // It was opened before this command, which names one file.
         Err(OpenFault::SameFile) => return Err(Ending::Fault(FileFault::Read)),
     };
-    report(alloc, &mut source, output)
+    let length = known_length(files, &source);
+    report_as(alloc, length, &mut source, output)
 }

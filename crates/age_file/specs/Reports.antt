@@ -5,6 +5,7 @@ use Rattle.age_stanza.specs.Grammar.{HeadText}
 use Rattle.age_stanza.specs.declared.header.Header.{Header}
 use Rattle.age_stanza.specs.declared.header.Stanza.{Stanza}
 use Rattle.age_stream.specs.Laws.{IsTextLength}
+use Rattle.age_file.specs.Runs.{pull_room}
 use Rattle.age_file.specs.declared.report.Report.{Report}
 use Rattle.age_file.specs.declared.report.StanzaReport.{StanzaReport}
 
@@ -39,3 +40,17 @@ pub record IsReport (bytes : List ℕ) (r : Report) : Type 0 where
 -- what was read, to the end, has this report
 abbrev pub Inspects : Option (List ℕ) → Option (List ℕ) → Report → Type 0
 Inspects old new r = (bytes : List ℕ) × Consumes old new bytes × IsAtEnd new × IsReport bytes r
+
+-- The report of a source of this length, of which no more was read than its header and what one
+-- pull gives after that: the rest is what the length leaves.
+pub record InspectsFront (size : ℕ) (old new : Option (List ℕ)) (r : Report) : Type 0 where
+  pub h : Header
+  pub front : List ℕ
+  pub more : List ℕ
+  pub text : HeadText h front
+  pub read : Consumes old new (front ++ more)
+  pub few : length more ≤ pull_room
+  pub header_is : r.header ≡ length front
+  pub stanzas_are : r.stanzas ≡ map stanza_report h.stanzas
+  pub rest_is : r.rest ≡ size - length front
+  pub plain_is : IsPlainOf r.rest r.plain

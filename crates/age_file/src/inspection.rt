@@ -1,9 +1,9 @@
-//! Reads a file to its end, and reports what it holds.
+//! Reads a file to its end, or its header alone, and reports what it holds.
 
-ghost use Rattle.std.specs.Prelude.{◌≡◌, ◌^◌, ◌<◌, ◌≤◌, IfOk, IfErr, OnOk, map};
-ghost use Rattle.age_file.specs.Runs.{HeadFails, NoHeadFault};
+ghost use Rattle.std.specs.Prelude.{◌≡◌, ◌^◌, ◌<◌, ◌≤◌, ℕ, List, length, Some, IfOk, IfErr, OnOk, map};
+ghost use Rattle.age_file.specs.Runs.{HeadFails, InHeader, NoHeadFault};
 ghost use Rattle.age_file.specs.inner.Readers.{view_of_reader, SameReader, CountsRest, RestFails};
-ghost use Rattle.age_file.specs.Reports.{stanza_report, IsPlainOf, Inspects};
+ghost use Rattle.age_file.specs.Reports.{stanza_report, IsPlainOf, IsReport, Inspects, InspectsFront};
 
 use crate::head::read_head;
 use crate::intake::Intake;
@@ -106,5 +106,39 @@ pub fn inspect<S: Source>(alloc: Global, source: &mut S) -> Result<Report, FileF
         stanzas,
         rest,
         plain: plain_of(rest),
+    })
+}
+
+/// Reports on a source of `len` bytes as `inspect` does, but reads no more of it than its header and
+/// what one pull gives after that. How many bytes follow the header is what `len` leaves, whatever
+/// the source would give. So a fault in reading those isn't found.
+///
+/// Refuses with the header's fault (1 to 8), `Read` (26), `Memory` (28) and `ReadNeverEnds` (29).
+pub fn inspect_sized<S: Source>(
+    alloc: Global,
+    len: u64,
+    source: &mut S,
+) -> Result<Report, FileFault>
+    ensures ok { IfOk result (InspectsFront len (S.view source.old).remaining
+        (S.view source.new).remaining) }
+    ensures whole { (bytes : List ℕ) → (S.view source.old).remaining ≡ Some bytes
+        → len ≡ length bytes → IfOk result (IsReport bytes) }
+    ensures unfailed { OnOk result ((S.view source.new).failed ≡ (S.view source.old).failed) }
+    // When each fault comes.
+    ensures fails { IfErr result (HeadFails InHeader (S.view source.old) (S.view source.new)) }
+{
+    let mut intake = Intake::new(alloc)?;
+    let mut reader = Reader {
+        source,
+        intake: &mut intake,
+    };
+    let head = read_head(alloc, &mut reader)?;
+    let stanzas = reports_of(alloc, head.header.stanzas)?;
+    let left = u128::from(len.saturating_sub(head.len));
+    Ok(Report {
+        header: head.len,
+        stanzas,
+        rest: left,
+        plain: plain_of(left),
     })
 }

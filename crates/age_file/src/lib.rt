@@ -38,7 +38,7 @@ pub use age_fault::{FileFault, flush_all, write_all};
 pub use age_io::{Failed, MemSink, MemSource, Memory, Reading, Sink, Source, Writing};
 pub use decryption::{Done, Stopped, decrypt, decrypt_keyed, decrypt_with};
 pub use encryption::{Written, encrypt};
-pub use inspection::inspect;
+pub use inspection::{inspect, inspect_sized};
 pub use laws::{
     age_file_is_whole, authentic_runs, bound_positions, calls_in_a_row, head_faults_stay,
     read_again, round_trip, runs_in_a_row, undamaged_is_written,

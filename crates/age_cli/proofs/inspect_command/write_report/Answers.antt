@@ -12,4 +12,4 @@ returns-clause-done g c =
 
 pub returns-in_err-found-clause-fails : goal.returns-in_err-found-clause-fails
 returns-in_err-found-clause-fails g c =
-    this_error c.from_residual.result c.in_err-found.field-0.0 c.from_residual.ensures _ (report_fails (g.I.Source.view c.args.input.now) (g.I.Source.view c.inspect.new.source) c.in_err-found.field-0.0 c.in_err-found.ensures.fails)
+    this_error c.from_residual.result c.in_err-found.field-0.0 c.from_residual.ensures _ (report_fails (g.I.Source.view c.args.input.now) (g.I.Source.view c.inspect_as.new.input) c.in_err-found.field-0.0 c.in_err-found.ensures.fails)

@@ -1,0 +1,63 @@
+use Rattle.std.proofs.Common.{◌≡◌, ◌++◌, ◌∙◌, ℕ, List, rules}
+use Rattle.std.proofs.lemmas.Result.{err_from_is_err_and}
+use Rattle.std.specs.Io.KnownBytes.{Consumes}
+use Rattle.age_file.specs.Runs.{InHeader, StopsAtHeader, HeadFails}
+use Rattle.age_file.proofs.ByteLemmas.{stops_unread}
+use Rattle.age_file.proofs.ReaderLemmas.{read_last}
+use Rattle.age_file.proofs.InspectLemmas.{whole_of}
+use Rattle.age_file.proofs.inspection.inspect_sized.Goals as goal
+
+pub returns-in_err-intake-clause-fails : goal.returns-in_err-intake-clause-fails
+returns-in_err-intake-clause-fails g c =
+    let p = err_from_is_err_and c.from_residual.result c.from_residual.ensures.1 in
+    rw (p.1, p.2) (stops_unread (g.S.Source.view c.args.source.now).remaining)
+
+pub returns-in_err-head-clause-fails : goal.returns-in_err-head-clause-fails
+returns-in_err-head-clause-fails g c =
+    let p = err_from_is_err_and c.from_residual-in_err-head.result
+    c.from_residual-in_err-head.ensures.1 in
+    let first = g.S.Source.view c.args.source.now in
+    rw (p.1, p.2) (read_last g.S.Source.view
+    (λ v. HeadFails InHeader first v c.in_err-head.field-0.0) _
+    c.read_head.new.reader.source.now
+    (search rules) c.in_err-head.ensures.fails)
+
+pub returns-in_err-stanzas-clause-fails : goal.returns-in_err-stanzas-clause-fails
+returns-in_err-stanzas-clause-fails g c =
+    let p = err_from_is_err_and c.from_residual-in_err-stanzas.result
+    c.from_residual-in_err-stanzas.ensures.1 in
+    let first = g.S.Source.view c.args.source.now in
+    rw (p.1, p.2) (read_last g.S.Source.view (λ v. StopsAtHeader first.remaining v.remaining) _
+    c.read_head.new.reader.source.now (search rules)
+    c.in_ok-head.ensures.found.last)
+
+pub returns-clause-unfailed : goal.returns-clause-unfailed
+returns-clause-unfailed g c =
+    read_last g.S.Source.view (λ v. v.failed ≡ (g.S.Source.view c.args.source.now).failed) _
+    c.read_head.new.reader.source.now (search rules)
+    c.in_ok-head.ensures.found.unfailed
+
+pub returns-clause-ok : goal.returns-clause-ok
+returns-clause-ok g c =
+    let head = c.in_ok-head.ensures.found in
+    let first = g.S.Source.view c.args.source.now in
+    let reports = rw c.in_ok-stanzas.was at c.reports_of.ensures in
+    record {
+      h = c.in_ok-head.head.header;
+      front = head.front;
+      more = c.read_head.new.reader.intake.now.bytes;
+      text = head.text;
+      read = read_last g.S.Source.view (λ v. Consumes first.remaining v.remaining
+          (head.front ++ c.read_head.new.reader.intake.now.bytes)) _ c.read_head.new.reader.source.now
+          (search rules) head.pulled.consumed;
+      few = head.few;
+      header_is = head.len_is;
+      stanzas_are = reports;
+      rest_is = search rules;
+      plain_is = c.plain_of.ensures;
+    }
+
+pub returns-clause-whole : goal.returns-clause-whole
+returns-clause-whole g c bytes is size =
+    let ok = returns-clause-ok g c in
+    whole_of _ _ bytes _ _ is size ok
