@@ -647,6 +647,43 @@ class DiskTest(FilesCase):
         self.expect(1, said, "decrypt --pass secret age new", "a passphrase that can't be read", **as_nobody())
         self.expect(1, said, "decrypt --pass pass secret new", "an input that can't be read", **as_nobody())
 
+    def test_inspected(self):
+        """Of a regular file the system says how long it is, and no more is read than its header. A pipe is read to its end."""
+        header = len(self.age) - 16 - len(PLAIN) - 16 * (len(PLAIN) // 65536 + 1)
+        self.write("large", self.age)
+        try:
+            os.truncate(self.path("large"), 3 << 40)
+        except OSError as error:
+            self.leave_out("3 TiB", f"no file of 3 TiB can be made: {error}")
+            return
+        rest = (3 << 40) - header
+        began = time.monotonic()
+        told = self.tool("inspect", "large")
+        took = time.monotonic() - began
+        self.see("3 TiB: status", told.returncode == 0, told.stderr)
+        self.see("3 TiB: the rest", b"\nrest %d\n" % rest in told.stdout, told.stdout)
+        self.see("3 TiB: in a second", took < 1, took)
+        with subprocess.Popen(["cat", self.path("age")], stdout=subprocess.PIPE) as pipe:
+            told = self.tool("inspect", "/dev/stdin", stdin=pipe.stdout)
+        self.see("a pipe", told.stdout == self.tool("inspect", "age").stdout and b"\nrest %d\n" % (len(self.age) - header) in told.stdout, told)
+
+    def test_no_clobber(self):
+        """With --no-clobber an output that is there isn't even opened, and one that was made is removed if nothing came into it."""
+        os.mkfifo(self.path("fifo"))
+        for words in ("encrypt --no-clobber --pass pass --log 4 plain", "decrypt --no-clobber --pass pass --save saved age"):
+            self.expect(1, unwritten("fifo", errno.EEXIST), f"{words} fifo")
+            self.expect(1, unwritten("cut", errno.EEXIST), f"{words} cut")
+        self.see("it is kept", self.read("cut") == self.age[:150000])
+        self.see("nothing is saved", not self.is_there("saved"))
+        self.write("wrong", b"another\n")
+        self.expect(1, b"age_tool: 13 WrongKey\n", "decrypt --no-clobber --pass wrong age new")
+        self.see("a new output is gone after a wrong passphrase", not self.is_there("new"))
+        self.expect(1, chunk_fault(2), "decrypt --no-clobber --pass pass --save saved cut part")
+        resume = "resume --no-clobber --position saved --old part --pass pass age"
+        self.expect(1, unwritten("plain", errno.EEXIST), f"{resume} plain")
+        self.expect(0, b"", f"{resume} whole")
+        self.see("a new output is whole", self.read("whole") == PLAIN)
+
     def test_shared(self):
         """No more than 65 bytes of a shared secret are read: a pipe that stays open isn't waited for."""
         os.mkfifo(self.path("secret"))

@@ -18,9 +18,9 @@ _age_tool() {
         --file-key) return ;;
     esac
     case $command in
-        encrypt) options="--pass --log --random --no-sync --progress --help" ;;
-        decrypt) options="--pass --file-key --shared --max-log --save --no-sync --progress --help" ;;
-        resume) options="--position --old --pass --file-key --shared --max-log --save --no-sync --progress --help" ;;
+        encrypt) options="--pass --log --random --no-sync --no-clobber --progress --help" ;;
+        decrypt) options="--pass --file-key --shared --max-log --save --no-sync --no-clobber --progress --help" ;;
+        resume) options="--position --old --pass --file-key --shared --max-log --save --no-sync --no-clobber --progress --help" ;;
         inspect) options="--help" ;;
         drill) options="--clear --pass --help" ;;
         help) mapfile -t COMPREPLY < <(compgen -W "encrypt decrypt resume inspect drill" -- "$word"); return ;;

@@ -22,5 +22,6 @@ complete -c age_tool -n "__fish_seen_subcommand_from decrypt resume" -l shared -
 complete -c age_tool -n "__fish_seen_subcommand_from decrypt resume" -l max-log -x -a "(seq 1 22)" -d "Refuse work factors above this"
 complete -c age_tool -n "__fish_seen_subcommand_from decrypt resume" -l save -r -F -d "File for the position, if decryption stops"
 complete -c age_tool -n "__fish_seen_subcommand_from encrypt decrypt resume" -l no-sync -d "Don't wait for the disk"
+complete -c age_tool -n "__fish_seen_subcommand_from encrypt decrypt resume" -l no-clobber -d "Refuse an output that is there"
 complete -c age_tool -n "__fish_seen_subcommand_from encrypt decrypt resume" -l progress -d "Show how much of the input was read"
 complete -c age_tool -n "__fish_seen_subcommand_from drill" -l clear -d "The payload is in the clear"

@@ -1,7 +1,7 @@
 -- What a command did, from what its steps did.
-use Rattle.std.proofs.Common.{◌≡◌, ◌∙◌, ◌⊎◌, ◌++◌, Option, Some, None, ap, sym, inl, inr, Bool, true, false, true≢false, List, ℕ, refl, Result, Ok, Err, OnOk}
+use Rattle.std.proofs.Common.{◌≡◌, ◌∙◌, ◌⊎◌, ◌++◌, Option, None, ap, sym, inl, inr, Bool, true, false, true≢false, List, ℕ, refl, Result, Ok, Err, OnOk}
 use Rattle.std.proofs.Common.{IfErr}
-use Rattle.std.specs.Prelude.{IsErr, IsErrAnd}
+use Rattle.std.specs.Prelude.{IsErr, IsErrAnd, is_some}
 use Rattle.age_file.specs.Runs.{Ports}
 use Rattle.age_fileset.specs.FileSet.{Event, FilesView}
 use Rattle.age_cli_args.specs.Requests.{option_text}
@@ -14,7 +14,8 @@ use Rattle.age_command.specs.Files.{Files}
 use Rattle.age_command.specs.Endings.{is_usage}
 use Rattle.age_command.specs.Files.{HasReason}
 use Rattle.age_command.specs.declared.ending.Ending.{Ending}
-use Rattle.age_cli.specs.Acts.{Acts, EndsBefore, GivesNone, HasEngineEnded, OfEngine, Spares, progress_of, input_of, IsUsage, LeavesOut, WritesOut}
+use Rattle.age_cli.specs.inner.Openings.{IsFresh}
+use Rattle.age_cli.specs.Acts.{Acts, clobber_of, out_of, EndsBefore, GivesNone, HasEngineEnded, OfEngine, Spares, progress_of, input_of, IsUsage, LeavesOut, WritesOut}
 use Rattle.age_cli.proofs.CommandLemmas.{not_well, this_error, just_error}
 use Rattle.age_command.proofs.EventLemmas.{longer}
 use Rattle.std.proofs.lemmas.Result.{IfErr-weaker}
@@ -59,6 +60,7 @@ module _ (IsPorts : Ports → Type 0) (shows : Bool) (asked : Request) (before a
   acts_early e is kept early reason follows judged apart blamed silent = record {
     done = not_well r e is _;
     stops = λ shown. this_error r e is _ (inl (kept, early shown, reason shown));
+    keeps = λ shown refused there. (is.0, kept);
     usage = this_error r e is _ (λ usage. kept);
     blamed = λ shown. this_error r e is _ (blamed shown);
     spares = λ shown. spares_kept asked before.entries after.entries kept;
@@ -78,13 +80,15 @@ module _ (IsPorts : Ports → Type 0) (shows : Bool) (asked : Request) (before a
       → (shows ≡ true → IfErr r (λ e. OfEngine IsPorts shows asked before.entries (λ engine paths. LeavesOut IsPorts engine paths before.entries after.entries e)))
       → IfErr r (λ e. is_usage e ≡ false) → (shows ≡ true → Spares asked before.entries after.entries)
       → Follows (order_asked asked).whole before.events after.events → OnOk r (after.events ≡ before.events ++ (order_asked asked).done)
-      → (NamesTwice (order_asked asked).apart → ⊥) → (progress_of asked ≡ Silent → Unshown) × (progress_of asked ≡ Shown → Progress (input_of asked before.entries) r) → Acted
-  acts_concluded done stops fault spares order finished apart shown =
+      → (NamesTwice (order_asked asked).apart → ⊥) → (shows ≡ true → IsFresh (clobber_of asked) (out_of asked before.entries))
+      → (progress_of asked ≡ Silent → Unshown) × (progress_of asked ≡ Shown → Progress (input_of asked before.entries) r) → Acted
+  acts_concluded done stops fault spares order finished apart fresh shown =
       let impossible : (P : Type 0) → IfErr r (λ e. IsUsage e → P) =
       λ P. IfErr-weaker r _ _ (λ e no usage. absurd (true≢false (sym usage ∙ no))) fault in
       record {
         done = done;
         stops = λ shown. IfErr-weaker r _ _ (λ e s. inr s) (stops shown);
+        keeps = λ shown refused there. absurd (true≢false (sym there ∙ ap is_some (fresh shown refused)));
         usage = impossible _;
         blamed = λ shown. impossible _;
         spares = spares;

@@ -1,5 +1,5 @@
 -- What a command did whose engine ran.
-use Rattle.std.proofs.Common.{◌≡◌, ◌⊎◌, ◌∙◌, ◌++◌, ◌∷◌, ap, sym, subst, refl, inl, inr, true, List, [], Bool, Option, ℕ, Some, None, append-nil, Result, Ok}
+use Rattle.std.proofs.Common.{◌≡◌, ◌∙◌, ◌++◌, ◌∷◌, ap, sym, subst, refl, inl, inr, true, List, [], Bool, Option, ℕ, Some, None, Result, Ok}
 use Rattle.std.proofs.Common.{Err, OnOk, IfOk, IfErr}
 use Rattle.std.specs.Prelude.{is_some}
 use Rattle.std.proofs.lemmas.Result.{on_ok_weaker, IfErr-weaker}
@@ -24,7 +24,8 @@ use Rattle.age_command.specs.Orders.{Follows, identity_order, preparing, making,
 use Rattle.age_command.specs.Files.{Files, SparesBoth}
 use Rattle.age_command.specs.declared.ending.Ending.{Ending}
 use Rattle.age_command.specs.declared.identity.Identity.{Identity}
-use Rattle.age_cli.specs.Acts.{Acts, HasEngineEnded, OfEngine, OpensOf, Spares, paths_of, progress_of, input_of, Engine, encrypt_engine, decrypt_engine}
+use Rattle.age_cli.specs.inner.Openings.{IsFresh}
+use Rattle.age_cli.specs.Acts.{Acts, clobber_of, out_of, HasEngineEnded, OfEngine, OpensOf, Spares, paths_of, progress_of, input_of, Engine, encrypt_engine, decrypt_engine}
 use Rattle.age_cli.specs.Acts.{resume_engine, Paths, LeavesOut, WritesOut, kept_for}
 use Rattle.age_cli.specs.Commands.{MakesSecret, IsPositionIn, old_for}
 use Rattle.age_cli.specs.declared.interruption.Interruption.{Interruption}
@@ -63,8 +64,9 @@ module _ (IsPorts : Ports → Type 0) (shows : Bool) (asked : Request) (old open
       → opened.entries ≡ old.entries → (shows ≡ true → Found p old.entries before) → after.sink.label ≡ before.sink.label
       → (shows ≡ true → Kept engine before after end) → Concludes shows p.save durability after.sink end opened new r
       → opened.events ≡ old.events ++ (xs ++ (ys ++ Created p.to ∷ [])) → (NamesTwice (order_asked asked).apart → ⊥) → (p.save ≡ Some p.to → ⊥)
+      → (shows ≡ true → IsFresh (clobber_of asked) (out_of asked old.entries))
       → (progress_of asked ≡ Silent → Unshown) × (progress_of asked ≡ Shown → Progress (input_of asked old.entries) r) → Acts IsPorts shows asked old new Failed Unshown Progress r
-  acts_of_engine before_is after_is done_is whole_is of ran spares kept found named promise concludes noted apart unsaved silent =
+  acts_of_engine before_is after_is done_is whole_is of ran spares kept found named promise concludes noted apart unsaved fresh silent =
       acts_concluded IsPorts shows asked old new Failed Unshown Progress r
       (on_ok_weaker r (λ both. of (λ e q. HasEngineEnded IsPorts e × (shows ≡ true → WritesOut IsPorts e q old.entries new.entries)) both)
       (both_done _ _ r (on_ok_weaker r (λ done. ends_so end ran done.0) concludes.done)
@@ -78,7 +80,7 @@ module _ (IsPorts : Ports → Type 0) (shows : Bool) (asked : Request) (old open
       (then_concluded xs ys p.to durability (replacing p.save durability) old.events opened.events new.events noted concludes.order))
       (on_ok_weaker r (λ closed. then_closed xs ys p.to durability old.events opened.events new.events noted closed ∙ ap (λ order. old.events ++ order) (sym done_is))
       concludes.order_done)
-      apart silent
+      apart fresh silent
 
 module _ (IsPorts : Ports → Type 0) (shows : Bool) (old opened new : FilesView) (Failed Unshown : Type 0) (Progress : Option (List ℕ) → Result (Unit {0}) Ending → Type 0) (before after : Ports) (before_is : IsPorts before)
     (after_is : IsPorts after) (end : Result (Unit {0}) Interruption) (r : Result (Unit {0}) Ending) (kept : opened.entries ≡ old.entries) where
@@ -88,9 +90,9 @@ module _ (IsPorts : Ports → Type 0) (shows : Bool) (old opened new : FilesView
       → Concludes shows None e.durability after.sink end opened new r
       → opened.events ≡ old.events
       ++ ((Opened e.pass.now ∷ Opened (random_name (option_text e.random)) ∷ []) ++ (Opened e.from.now ∷ Created e.to.now ∷ []))
-      → (NamesTwice (order_asked (Encrypt e)).apart → ⊥) → (e.progress ≡ Silent → Unshown) × (e.progress ≡ Shown → Progress (old.entries e.from.now) r)
+      → (NamesTwice (order_asked (Encrypt e)).apart → ⊥) → (shows ≡ true → IsFresh e.clobber (old.entries e.to.now)) → (e.progress ≡ Silent → Unshown) × (e.progress ≡ Shown → Progress (old.entries e.from.now) r)
       → Acts IsPorts shows (Encrypt e) old new Failed Unshown Progress r
-  encrypt_acts e secret sealed made found is ends fails named concludes noted apart silent =
+  encrypt_acts e secret sealed made found is ends fails named concludes noted apart fresh silent =
       acts_of_engine IsPorts shows (Encrypt e) old opened new Failed Unshown Progress (encrypt_engine secret) (record { from = e.from.now; to = e.to.now; save = None }) e.durability
       before after end r (Opened e.pass.now ∷ Opened (random_name (option_text e.random)) ∷ []) (Opened e.from.now ∷ []) before_is after_is refl
       refl
@@ -98,7 +100,7 @@ module _ (IsPorts : Ports → Type 0) (shows : Bool) (old opened new : FilesView
       (subst (λ (n : Result (Unit {0}) Interruption). OnOk n (HasEngineEnded IsPorts (encrypt_engine secret))) (sym is)
       (sealing_ran sealed (λ written sealed_so. (before, after, before_is, after_is, (written, sealed_so))) ends)) (λ spared. spared) kept found named
       (λ shown. subst (λ (n : Result (Unit {0}) Interruption). Kept (encrypt_engine secret) before after n) (sym is) (kept_sealing secret before after sealed ends fails))
-      concludes noted apart (λ same. cc) silent
+      concludes noted apart (λ same. cc) fresh silent
 
 module _ (IsPorts : Ports → Type 0) (shows : Bool) (old opened new : FilesView) (Failed Unshown : Type 0) (Progress : Option (List ℕ) → Result (Unit {0}) Ending → Type 0) (before : Ports) (before_is : IsPorts before)
     (r : Result (Unit {0}) Ending) (kept : opened.entries ≡ old.entries) where
@@ -106,21 +108,22 @@ module _ (IsPorts : Ports → Type 0) (shows : Bool) (old opened new : FilesView
       → DecryptsOpened IsPorts shows d identity before opened new Unshown Progress r
       → opened.events ≡ old.events ++ (identity_order (option_text d.identity.pass) (option_text d.identity.shared)
       ++ ((Opened d.from.now ∷ preparing (option_text d.save)) ++ Created d.to.now ∷ []))
-      → (NamesTwice (order_asked (Decrypt d)).apart → ⊥) → Acts IsPorts shows (Decrypt d) old new Failed Unshown Progress r
-  decrypt_acts d identity opens found did noted apart =
+      → (NamesTwice (order_asked (Decrypt d)).apart → ⊥) → (shows ≡ true → IsFresh d.clobber (old.entries d.to.now)) → Acts IsPorts shows (Decrypt d) old new Failed Unshown Progress r
+  decrypt_acts d identity opens found did noted apart fresh =
       let k = kept_for (option_text d.save) in
       let holds : shows ≡ true → HoldsInput d before opened =
       λ shown. let f = found shown in record {
         there = subst (λ (files : Files). is_some (files d.from.now) ≡ true) (sym kept) f.0;
         gives = f.1 ∙ ap (λ (files : Files). files d.from.now) (sym kept);
         other = λ e. apart (inl (inr (inl (d.to.now, refl, ap Some (e ∙ f.3)))));
+        empty = f.2;
       } in
       acts_of_engine IsPorts shows (Decrypt d) old opened new Failed Unshown Progress (decrypt_engine k identity) (paths_of d) d.durability before did.after
       (opening_end did.decrypted) r (identity_order (option_text d.identity.pass) (option_text d.identity.shared)) (Opened d.from.now ∷ preparing (option_text d.save))
       before_is did.after_is refl refl (λ P holds. (identity, opens, holds))
       (opening_ran did.decrypted (λ done so. let of = the_run did.run so in (before, did.after, before_is, did.after_is, (done, of.0, of.1))) did.done) (λ spared. spared) kept found did.named
       (λ shown. kept_opening k identity before did.after did.run did.decrypted did.done (did.stopped shown (holds shown))) did.concludes noted apart
-      (λ same. apart (inr (inl (inl (d.to.now, same, refl))))) (did.silent, λ asked. did.shown asked (old.entries d.from.now) (λ shown. (found shown).1))
+      (λ same. apart (inr (inl (inl (d.to.now, same, refl))))) fresh (did.silent, λ asked. did.shown asked (old.entries d.from.now) (λ shown. (found shown).1))
 
   pub resume_acts : (a : Resuming) (identity : Identity) (from : Position) (first : SourceView) → OpensOf shows a.decrypting old.entries identity
       → (shows ≡ true → WasEarlier a from old.entries first) → IsPorts (ports first before.sink)
@@ -128,8 +131,8 @@ module _ (IsPorts : Ports → Type 0) (shows : Bool) (old opened new : FilesView
       → ResumesOpened IsPorts shows a.decrypting identity from first before opened new Unshown Progress r
       → opened.events ≡ old.events ++ (identity_order (option_text a.decrypting.identity.pass) (option_text a.decrypting.identity.shared)
       ++ ((Opened a.position.now ∷ Opened a.old.now ∷ Opened a.decrypting.from.now ∷ preparing (option_text a.decrypting.save)) ++ Created a.decrypting.to.now ∷ []))
-      → (NamesTwice (order_asked (Resume a)).apart → ⊥) → Acts IsPorts shows (Resume a) old new Failed Unshown Progress r
-  resume_acts a identity from first opens earlier first_is found did noted apart =
+      → (NamesTwice (order_asked (Resume a)).apart → ⊥) → (shows ≡ true → IsFresh a.decrypting.clobber (old.entries a.decrypting.to.now)) → Acts IsPorts shows (Resume a) old new Failed Unshown Progress r
+  resume_acts a identity from first opens earlier first_is found did noted apart fresh =
       let d = a.decrypting in
       let k = kept_for (option_text d.save) in
       let engine = resume_engine IsPorts k identity from first.remaining in
@@ -138,6 +141,7 @@ module _ (IsPorts : Ports → Type 0) (shows : Bool) (old opened new : FilesView
         there = subst (λ (files : Files). is_some (files d.from.now) ≡ true) (sym kept) f.0;
         gives = f.1 ∙ ap (λ (files : Files). files d.from.now) (sym kept);
         other = λ e. apart (inl (inr (inl (d.to.now, refl, ap Some (e ∙ f.3)))));
+        empty = f.2;
       } in
       acts_of_engine IsPorts shows (Resume a) old opened new Failed Unshown Progress engine (paths_of d) d.durability before did.after (opening_end did.resumed) r
       (identity_order (option_text d.identity.pass) (option_text d.identity.shared))
@@ -155,4 +159,4 @@ module _ (IsPorts : Ports → Type 0) (shows : Bool) (old opened new : FilesView
       (before, did.after, before_is, did.after_is, (first, did.last, first_is, did.last_is, refl, (done, of.0, of.1)))) did.done) (λ spared. spared) kept found did.named
       (λ shown. kept_resuming IsPorts k identity from first.remaining before did.after first did.last did.run did.resumed first_is
       did.last_is refl did.done (did.stopped shown (holds shown))) did.concludes noted apart
-      (λ same. apart (inr (inl (inl (d.to.now, same, refl))))) (did.silent, λ asked. did.shown asked (old.entries d.from.now) (λ shown. (found shown).1))
+      (λ same. apart (inr (inl (inl (d.to.now, same, refl))))) fresh (did.silent, λ asked. did.shown asked (old.entries d.from.now) (λ shown. (found shown).1))

@@ -5,6 +5,7 @@ pub mod EventLemmas
 pub mod ReportLemmas
 pub mod EngineLemmas
 pub mod ActLemmas
+pub mod SettledLemmas
 pub mod RereadLemmas
 pub mod RestLemmas
 pub mod TakingLemmas

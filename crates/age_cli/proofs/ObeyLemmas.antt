@@ -114,6 +114,7 @@ module _ (IsPorts : Ports → Type 0) (shows : Bool) (before after : FilesView) 
   drill_acts d whole finished = record {
     done = always r _ tt;
     stops = λ shown. every_fault r _ (λ e. inr tt);
+    keeps = λ shown refused there. absurd (true≢false (sym there));
     usage = every_fault r _ (λ e usage. kept);
     blamed = λ shown. every_fault r _ (λ e usage. inr tt);
     spares = λ shown. spares_kept (Drill d) before.entries after.entries kept;
@@ -136,6 +137,7 @@ module _ (IsPorts : Ports → Type 0) (shows : Bool) (before after : FilesView) 
       record {
         done = always r _ tt;
         stops = λ shown. every_fault r _ (λ e. inr tt);
+        keeps = λ shown refused there. absurd (true≢false (sym there));
         usage = impossible _;
         blamed = λ shown. impossible _;
         spares = λ shown. spares_kept (Inspect file) before.entries after.entries kept;

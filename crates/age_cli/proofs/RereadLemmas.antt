@@ -1,7 +1,7 @@
 -- What a decryption did whose position was found by reading the input once more.
-use Rattle.std.proofs.Common.{◌≡◌, ◌≢◌, ◌∙◌, ◌⊎◌, ◌∷◌, ◌++◌, [], ℕ, List, Option, Some, None, Bool, true, false, Result, Ok, Err, OnOk, IfOk, IfErr, ap, sym}
-use Rattle.std.proofs.Common.{subst, refl, inl, inr, ⊎_elim, true≢false}
-use Rattle.std.specs.Prelude.{is_some, IfSome}
+use Rattle.std.proofs.Common.{◌≡◌, ◌∙◌, ◌⊎◌, ◌∷◌, ◌++◌, [], ℕ, List, Option, Some, None, Bool, true, false, Result, Ok, Err, OnOk, IfOk, IfErr, ap, sym}
+use Rattle.std.proofs.Common.{subst, refl, inl, inr, true≢false}
+use Rattle.std.specs.Prelude.{is_some, IfSome, IsSomeAnd, length, min}
 use Rattle.std.proofs.lemmas.Option.{none-some}
 use Rattle.clap.specs.Words.{Text}
 use Rattle.age_fault.specs.declared.fault.FileFault.{FileFault}
@@ -33,6 +33,7 @@ use Rattle.age_cli.specs.inner.Openings.{Saves}
 use Rattle.age_cli.specs.declared.interruption.Interruption.{Interruption}
 use Rattle.std.specs.Io.KnownBytes.{IsAtEnd}
 use Rattle.age_cli.proofs.CommandStopLemmas.{ends_from}
+use Rattle.age_cli.proofs.SettledLemmas.{all_written}
 use Rattle.age_cli.proofs.ProgressLemmas.{at_end_of, opening_at_end}
 use Rattle.age_cli.specs.inner.Endings.{Concludes, IsPut, Left, opening_end}
 use Rattle.age_cli.specs.inner.Rereadings.{again_of, ConcludesAgain, ConcludesDecryption, DecryptsOpened, HoldsInput, IsFoundIn, stopped_at}
@@ -89,14 +90,17 @@ module _ (IsPorts : Ports → Type 0) (shows : Bool) (d : Decrypting) (i : Ident
     abbrev At : PositionPolicy → Option Run → Position → Type 0
     At keep run p = DecryptStops keep (allows_by i) (refuses_by i) before after run (stopped_at s p)
 
-    found_so : (run : Option Run) (p : Position) → FindsKey run (Some key) → DecryptStops Dropped (allows_by i) (refuses_by i) before after run s
-        → HoldsInput d before old → IsFoundIn None (old.entries d.from.now) key s.written p → At Kept run p
-    found_so None p finds stops holds found = absurd (none-some key (sym finds))
-    found_so (Some r) p finds stops holds (first, last, is, again) =
+    found_so : (run : Option Run) (p : Position) (settled : ℕ) → FindsKey run (Some key) → DecryptStops Dropped (allows_by i) (refuses_by i) before after run s
+        → HoldsInput d before old → IsSomeAnd after.sink.taken (λ bytes. settled ≡ length bytes)
+        → IsFoundIn None (old.entries d.from.now) key (min s.written settled) p → At Kept run p
+    found_so None p settled finds stops holds all found = absurd (none-some key (sym finds))
+    found_so (Some r) p settled finds stops holds all found =
+        let again = subst (λ (n : ℕ). IsFoundIn None (old.entries d.from.now) key n p)
+        (all_written _ _ _ _ _ holds.empty stops.1.is.wrote stops.1.is.count all) found in
         let bytes = some_of (old.entries d.from.now) holds.there in
         let same : key ≡ r.file.key = cc in
-        law i before after r s first last bytes.0 p stops (holds.gives ∙ bytes.1) (is ∙ bytes.1)
-        (subst (λ (k : List ℕ). IsFoundAgain (λ _ x. x ≡ k) None [] first last s.written p) same (again [] refl))
+        law i before after r s again.0 again.1 bytes.0 p stops (holds.gives ∙ bytes.1) (again.2 ∙ bytes.1)
+        (subst (λ (k : List ℕ). IsFoundAgain (λ _ x. x ≡ k) None [] again.0 again.1 s.written p) same (again.3 [] refl))
 
     due_so : (run : Option Run) → FindsKey run (Some key) → IfSome run (λ r. (p : Position) × IsPositionOf r p)
         → DecryptStops Dropped (allows_by i) (refuses_by i) before after run s → (p : Position) × At Kept run p
@@ -120,9 +124,9 @@ module _ (IsPorts : Ports → Type 0) (shows : Bool) (d : Decrypting) (i : Ident
     }
 
     opened_again : ConcludesAgain shows d after.sink None s key old new ending → DecryptsOpened IsPorts shows d i before old new Unshown Progress (Err ending)
-    opened_again (inl (p, found, concludes)) =
-        opened_at p (λ shown holds. found_so did.is.run p did.found did.is.stopped holds (found shown (λ e. holds.other (e ∙ did.is.named)))) concludes
-    opened_again (inr all) =
+    opened_again (settled, is, inl (p, found, concludes)) =
+        opened_at p (λ shown holds. found_so did.is.run p settled did.found did.is.stopped holds (is shown) (found shown (λ e. holds.other (e ∙ did.is.named)))) concludes
+    opened_again (settled, is, inr all) =
         let due = due_so did.is.run did.found did.due did.is.stopped in
         opened_at due.0 (λ shown holds. due.1) (all due.0)
 

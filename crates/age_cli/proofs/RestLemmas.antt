@@ -1,7 +1,8 @@
 -- What a resumed decryption did whose position was found by reading the rest of the input once more.
-use Rattle.std.proofs.Common.{◌≡◌, ◌≢◌, ◌∙◌, ◌⊎◌, ◌++◌, ℕ, List, Option, Some, None, Bool, true, false}
-use Rattle.std.proofs.Common.{Result, Ok, Err, OnOk, IfOk, IfErr, ap, sym, subst, refl, inl, inr, ⊎_elim, true≢false}
-use Rattle.std.specs.Prelude.{is_some, IfSome, IsSomeAnd}
+use Rattle.std.proofs.Common.{◌≡◌, ◌∙◌, ℕ, List, Option, Some, None, Bool, true, false}
+use Rattle.std.proofs.Common.{Result, Ok, Err, OnOk, IfOk, IfErr, subst, refl, inl, inr, ⊎_elim, arith}
+use Rattle.std.specs.Prelude.{is_some, IfSome, IsSomeAnd, length, min}
+use Rattle.std.proofs.lemmas.List.{length-append}
 use Rattle.age_io.specs.Io.{SourceView}
 use Rattle.age_file.proofs.AgainLawLemmas.{rest_kept}
 use Rattle.age_file.specs.Resumes.{ResumePorts, resume_ports, ResumesKeyed, ResumeStops, StandsAt, StopsInSkipped, ResumeEnds}
@@ -23,10 +24,11 @@ use Rattle.age_command.specs.declared.ending.Ending.{Ending}
 use Rattle.age_command.specs.declared.identity.Identity.{Identity}
 use Rattle.age_cli.specs.Acts.{kept_for}
 use Rattle.age_cli.specs.inner.Endings.{Concludes, opening_end}
-use Rattle.age_cli.specs.inner.Rereadings.{again_of, key_of, placed, ConcludesAgain, ConcludesDecryption, HoldsInput, IsFoundIn, ResumesOpened, stopped_at}
+use Rattle.age_cli.specs.inner.Rereadings.{again_of, key_of, placed, ConcludesAgain, ConcludesDecryption, HoldsInput, IsFoundIn, ResumesOpened, start_of, stopped_at}
 use Rattle.std.specs.Io.KnownBytes.{IsAtEnd}
 use Rattle.age_cli.proofs.ProgressLemmas.{at_end_of, resuming_at_end}
 use Rattle.age_cli.proofs.RereadLemmas.{kept_some, some_of}
+use Rattle.age_cli.proofs.SettledLemmas.{all_written, at_least, starts_there}
 
 -- a stop in the skipped blocks, had positions been kept
 skipping_kept : (i : Identity) (from : Position) (before after : ResumePorts) (s : Stopped) → StopsInSkipped (allows_by i) from before after Dropped s
@@ -104,13 +106,20 @@ module _ (IsPorts : Ports → Type 0) (shows : Bool) (d : Decrypting) (i : Ident
     abbrev Here : Option Run → Type 0
     Here run = StandsAt (allows_by i) from (resume_ports before first) (resume_ports after last) Dropped (refuses_by i) run (Err s) (InPayload key)
 
-    found_so : (run : Option Run) (p : Position) → Here run → Dropping run → HoldsInput d before old
-        → IsFoundIn (Some from) (old.entries d.from.now) key s.written p → At Kept run p
-    found_so None p stands stops holds found = absurd stands
-    found_so (Some r) p stands stops holds (x, y, is, again) =
+    found_so : (run : Option Run) (p : Position) (settled : ℕ) → Here run → Dropping run → HoldsInput d before old
+        → IsSomeAnd after.sink.taken (λ bytes. settled ≡ length bytes)
+        → IsFoundIn (start_of settled (Some from)) (old.entries d.from.now) key (min s.written settled) p → At Kept run p
+    found_so None p settled stands stops holds all found = absurd stands
+    found_so (Some r) p settled stands stops holds all found =
+        let wrote = stops.2.is.wrote in
+        let most = at_least _ _ _ _ holds.empty wrote all in
+        let there = starts_there from settled (omega (arith, most, length-append r.copied r.out, stops.0.old_text.size)) in
+        let again = subst (λ (n : ℕ). IsFoundIn (Some from) (old.entries d.from.now) key n p)
+        (all_written _ _ _ _ _ holds.empty wrote stops.2.is.count all)
+        (subst (λ (o : Option Position). IsFoundIn o (old.entries d.from.now) key (min s.written settled) p) there found) in
         let bytes = some_of (old.entries d.from.now) holds.there in
-        law i from (resume_ports before first) (resume_ports after last) r s x y bytes.0 p stops (holds.gives ∙ bytes.1) (is ∙ bytes.1)
-        (subst (λ (k : List ℕ). IsFoundAgain (λ _ z. z ≡ k) (Some from) r.copied x y s.written p) stands (again r.copied stops.0.old_text))
+        law i from (resume_ports before first) (resume_ports after last) r s again.0 again.1 bytes.0 p stops (holds.gives ∙ bytes.1) (again.2 ∙ bytes.1)
+        (subst (λ (k : List ℕ). IsFoundAgain (λ _ z. z ≡ k) (Some from) r.copied again.0 again.1 s.written p) stands (again.3 r.copied stops.0.old_text))
 
     due_so : (run : Option Run) → Here run → IfSome run (λ r. (p : Position) × IsPositionOf r p) → Dropping run → (p : Position) × At Kept run p
     due_so None stands due stops = absurd stands
@@ -137,9 +146,9 @@ module _ (IsPorts : Ports → Type 0) (shows : Bool) (d : Decrypting) (i : Ident
 
     resumed_again : ConcludesAgain shows d after.sink (Some from) s key old new ending
         → ResumesOpened IsPorts shows d i from first before old new Unshown Progress (Err ending)
-    resumed_again (inl (p, found, concludes)) =
-        opened_at p (λ shown holds. found_so did.is.run p did.stands did.is.stopped holds (found shown (λ e. holds.other (e ∙ did.is.named)))) concludes
-    resumed_again (inr all) =
+    resumed_again (settled, is, inl (p, found, concludes)) =
+        opened_at p (λ shown holds. found_so did.is.run p settled did.stands did.is.stopped holds (is shown) (found shown (λ e. holds.other (e ∙ did.is.named)))) concludes
+    resumed_again (settled, is, inr all) =
         let due = due_so did.is.run did.stands did.due did.is.stopped in
         opened_at due.0 (λ shown holds. due.1) (all due.0)
 

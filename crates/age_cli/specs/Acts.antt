@@ -1,6 +1,6 @@
 -- What a command does with files, done or stopped.
 use Rattle.std.specs.Prelude.{◌≡◌, ℕ, true, Result, Ok, Err, if◌then◌else◌, List, [], Option, Some, ◌⊎◌, is_some, None}
-use Rattle.std.specs.Prelude.{Bool, ◌++◌, OnOk, IfErr, IsErrAnd, ◌≢◌, option_map, length}
+use Rattle.std.specs.Prelude.{Bool, ◌++◌, OnOk, IfErr, IsErr, IsErrAnd, ◌≢◌, option_map, length}
 use Rattle.std.specs.Io.KnownBytes.{IsAtEnd}
 use Rattle.clap.specs.Words.{Text}
 use Rattle.age_io.specs.Io.{SourceView, SinkView, Shown as ShownOne, ShowsReading}
@@ -17,6 +17,8 @@ use Rattle.age_file.specs.declared.position.PositionPolicy.{PositionPolicy}
 use Rattle.age_file.specs.declared.position.PositionPolicy.TheVariants.{Kept, Dropped}
 use Rattle.age_fileset.specs.FileSet.{IsMemoryOr, FilesView}
 use Rattle.age_cli_args.specs.Requests.{option_text}
+use Rattle.age_cli_args.specs.declared.request.ClobberOption.{ClobberOption}
+use Rattle.age_cli_args.specs.declared.request.ClobberOption.TheVariants.{Allowed, Refused}
 use Rattle.age_cli_args.specs.declared.request.Decrypting.{Decrypting}
 use Rattle.age_cli_args.specs.declared.request.ProgressOption.{ProgressOption}
 use Rattle.age_cli_args.specs.declared.request.ProgressOption.TheVariants.{Silent, Shown}
@@ -195,6 +197,20 @@ progress_of (Decrypt d) = d.progress
 progress_of (Resume r) = r.decrypting.progress
 progress_of other = Silent
 
+-- what becomes of an OUT that is there
+abbrev pub clobber_of : Request → ClobberOption
+clobber_of (Encrypt e) = e.clobber
+clobber_of (Decrypt d) = d.clobber
+clobber_of (Resume r) = r.decrypting.clobber
+clobber_of other = Allowed
+
+-- what stands under the name of OUT
+abbrev pub out_of : Request → Files → Option (List ℕ)
+out_of (Encrypt e) old = old e.to.now
+out_of (Decrypt d) old = old d.to.now
+out_of (Resume r) old = old r.decrypting.to.now
+out_of other old = None
+
 -- how a command ends before its output is written
 abbrev pub EndsBefore : Request → Files → Ending → Type 0
 EndsBefore (Resume r) old ending = EndsEarly ending
@@ -278,6 +294,10 @@ module _ (IsPorts : Ports → Type 0) where
         × EndsBefore asked before.entries ending
         × HasReason before.entries after.events Failed ending) ⊎ OfEngine shows asked before.entries
         (λ engine paths. LeavesOut IsPorts engine paths before.entries after.entries ending))
+    -- With `--no-clobber` an OUT that was there is refused, and nothing differs.
+    pub keeps : shows ≡ true → clobber_of asked ≡ Refused
+        → is_some (out_of asked before.entries) ≡ true
+        → IsErr ended × (after.entries ≡ before.entries)
     -- A command line that is refused changes no file.
     pub usage : IfErr ended (λ e. IsUsage e → after.entries ≡ before.entries)
     -- If contracts see the files, it is refused for this alone.

@@ -211,6 +211,7 @@ pub fn decrypt_file<F: FileSet, E: Sink, P: Meter>(
         save: asked.save,
         position: None,
         durability: asked.durability,
+        clobber: asked.clobber,
         content: Content::Plaintext,
     };
     let (source, out) = open_both(alloc, files, asked.from, &output)?;

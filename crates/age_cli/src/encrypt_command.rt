@@ -254,6 +254,7 @@ pub fn encrypt_file<F: FileSet, E: Sink, P: Meter>(
         save: None,
         position: None,
         durability: asked.durability,
+        clobber: asked.clobber,
         content: Content::AgeFile,
     };
     let (source, mut out) = open_both(alloc, files, asked.from, &output)?;

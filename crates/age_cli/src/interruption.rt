@@ -1,12 +1,12 @@
 //! How a command that writes a text stops, and where its position goes.
 
-ghost use Rattle.std.specs.Prelude.{◌≡◌, true, false, None, OnOk, IfErr};
+ghost use Rattle.std.specs.Prelude.{◌≡◌, true, false, None, OnOk, IfErr, IfSome, IsErr, is_some};
 ghost use Rattle.age_cli_args.specs.Requests.{option_text};
 ghost use Rattle.age_command.specs.Endings.{is_usage, Announces};
 ghost use Rattle.age_cli.specs.Acts.{SaveFails, EndsOf};
 ghost use Rattle.age_command.specs.Orders.{Follows, replacing};
 ghost use Rattle.age_command.specs.Files.{SparesBoth};
-ghost use Rattle.age_cli.specs.inner.Endings.{sealing_end, opening_end};
+ghost use Rattle.age_cli.specs.inner.Endings.{sealing_end, opening_end, IsBeyond, IsUnsaved};
 ghost use Rattle.age_cli.specs.inner.Openings.{Saves};
 
 use age_command::{Announcement, Ending, announce};
@@ -61,18 +61,23 @@ pub(crate) fn opening_end(opened: Result<Done, Stopped>) -> Result<(), Interrupt
     }
 }
 
-/// Saves a position, if there is one and a file for it.
+/// Saves a position, if there is one and a file for it. It isn't saved (27) if it stands beyond what
+/// OUT holds for certain: `settled` bytes.
 pub(crate) fn save<F: FileSet>(
     alloc: Global,
     files: &mut F,
     name: Option<&str>,
     position: Option<Position>,
+    settled: u64,
     durability: Durability,
 ) -> Result<(), FileFault>
     ensures saved { OnOk result (F.shows_bytes ≡ true → Saves (option_text name.entry) position
         (F.view files.old).entries (F.view files.new).entries) }
     ensures unsaved { IfErr result (λ second. SaveFails (option_text name.entry) position
         (F.view files.old).entries (F.view files.new).entries second) }
+    ensures beyond { IfSome position (λ p. IsBeyond settled p
+        → is_some (option_text name.entry) ≡ true
+        → IsErr result × ((F.view files.new).events ≡ (F.view files.old).events)) }
     ensures noted { Follows (replacing (option_text name.entry) durability)
         (F.view files.old).events (F.view files.new).events }
     ensures others { F.shows_bytes ≡ true → SparesBoth None (option_text name.entry)
@@ -81,6 +86,9 @@ pub(crate) fn save<F: FileSet>(
     let (Some(name), Some(position)) = (name, position) else {
         return Ok(());
     };
+    if position.old_len() > u128::from(settled) {
+        return Err(FileFault::Write);
+    }
     let text = position.text(alloc)?;
     files.replace(alloc, name, text.as_slice(), durability)
 }
@@ -92,6 +100,7 @@ pub(crate) fn end_of<F: FileSet, E: Sink>(
     files: &mut F,
     name: Option<&str>,
     stop: Interruption,
+    settled: u64,
     durability: Durability,
     faults: &mut E,
     announced: &mut Announcement,
@@ -100,13 +109,16 @@ pub(crate) fn end_of<F: FileSet, E: Sink>(
     ensures fault { is_usage result ≡ false }
     ensures ends { F.shows_bytes ≡ true → EndsOf stop.fault (option_text name.entry) stop.position
         (F.view files.old).entries (F.view files.new).entries result }
+    ensures beyond { IfSome stop.position (λ p. IsBeyond settled p
+        → is_some (option_text name.entry) ≡ true
+        → IsUnsaved result × ((F.view files.new).events ≡ (F.view files.old).events)) }
     ensures noted { Follows (replacing (option_text name.entry) durability)
         (F.view files.old).events (F.view files.new).events }
     ensures others { F.shows_bytes ≡ true → SparesBoth None (option_text name.entry)
         (F.view files.old).entries (F.view files.new).entries }
 {
     *announced = announce(faults, stop.fault);
-    match save(alloc, files, name, stop.position, durability) {
+    match save(alloc, files, name, stop.position, settled, durability) {
         Ok(()) => Ending::Fault(stop.fault),
         Err(second) => Ending::Unsaved(stop.fault, second),
     }

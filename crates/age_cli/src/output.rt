@@ -1,20 +1,22 @@
 //! How the input and the output of a command are opened, and how the output is ended.
 
 ghost use Rattle.std.specs.Prelude.{◌≡◌, [], ◌∷◌, ◌++◌, Some, None, true, false, is_some, IfErr, ℕ};
-ghost use Rattle.std.specs.Prelude.{Option, option_map, length};
+ghost use Rattle.std.specs.Prelude.{Option, option_map, length, OnErr, IfOk, IfSome, IsErrAnd};
 ghost use Rattle.age_io.specs.Io.{Adds, Begins, Ends};
-ghost use Rattle.age_fileset.specs.FileSet.{Opened, Created, Closed};
+ghost use Rattle.age_fault.specs.declared.fault.FileFault.TheVariants.{Write};
+ghost use Rattle.age_fileset.specs.FileSet.{Opened, Created, Closed, OpenFails};
 ghost use Rattle.age_cli_args.specs.Requests.{option_text};
 ghost use Rattle.age_command.specs.Endings.{EndsEarly, is_usage, Tells};
 ghost use Rattle.age_command.specs.Files.{SourceFails, HasReason, SparesBut};
 ghost use Rattle.age_command.specs.Orders.{preparing, making};
-ghost use Rattle.age_cli.specs.inner.Endings.{Concludes, EndsOut, IsPut};
-ghost use Rattle.age_cli.specs.inner.Openings.{OpensFiles};
+ghost use Rattle.age_cli.specs.inner.Endings.{Concludes, EndsOut, IsBeyond, IsPut, IsCertain, IsUnsaved};
+ghost use Rattle.age_cli.specs.inner.Openings.{IsFresh, OpensFiles};
 
 use crate::interruption::{Interruption, end_of};
 use crate::taking::Taking;
+use age_cli_args::ClobberOption;
 use age_command::{Announcement, Ending, Usage};
-use age_fileset::FileSet;
+use age_fileset::{FileSet, OpenFault};
 use age_io::{Durability, Meter, Metered, Sink};
 use std::alloc::Global;
 
@@ -38,6 +40,8 @@ pub(crate) struct Output<'a> {
     pub(crate) position: Option<&'a str>,
     /// When what was written reaches the disk.
     pub(crate) durability: Durability,
+    /// What becomes of it if it is there.
+    pub(crate) clobber: ClobberOption,
     /// What the output is to hold.
     pub(crate) content: Content,
 }
@@ -54,6 +58,26 @@ fn refusal_of<F: FileSet>(files: &F, out: &F::Out, content: Content) -> Option<U
     }
 }
 
+/// Opens the output, or makes it if one that is there is refused.
+fn make_out<F: FileSet>(
+    alloc: Global,
+    files: &mut F,
+    asked: &Output<'_>,
+) -> Result<F::Out, OpenFault>
+    ensures kept { (F.view files.new).entries ≡ (F.view files.old).entries }
+    ensures made { IfOk result (λ o. F.shows_bytes ≡ true
+        → ((F.Out.view o).taken ≡ Some []) × ((F.Out.view o).label ≡ asked.now.to.now)
+        × IsFresh asked.now.clobber ((F.view files.old).entries asked.now.to.now)) }
+    ensures noted { (F.view files.new).events
+        ≡ (F.view files.old).events ++ Created asked.now.to.now ∷ [] }
+    ensures faults { IfErr result (OpenFails (F.shows_bytes) Write) }
+{
+    match asked.clobber {
+        ClobberOption::Allowed => files.create(alloc, asked.to),
+        ClobberOption::Refused => files.create_new(alloc, asked.to),
+    }
+}
+
 /// Opens the output, unless it turns out to be a file that is read or the file of `save`, or can't
 /// be the output for another reason.
 fn create_out<F: FileSet>(
@@ -64,9 +88,11 @@ fn create_out<F: FileSet>(
     ensures { OpensFiles (F.shows_bytes) (Created asked.now.to.now ∷ [])
         (making (Some asked.now.to.now) asked.now.durability) (F.view files.old)
         (F.view files.new) (λ o. ((F.Out.view o.out).taken ≡ Some [])
-        × ((F.Out.view o.out).label ≡ asked.now.to.now)) (SourceFails F.In.view) result }
+        × ((F.Out.view o.out).label ≡ asked.now.to.now)
+        × IsFresh asked.now.clobber ((F.view files.old).entries asked.now.to.now))
+        (SourceFails F.In.view) result }
 {
-    let out = files.create(alloc, asked.to)?;
+    let out = make_out(alloc, files, asked)?;
     match refusal_of(files, &out, asked.content) {
         Some(usage) => {
             files.discard(out, asked.durability);
@@ -106,10 +132,12 @@ pub(crate) fn open_both<F: FileSet>(
         (Opened from.now ∷ (preparing (option_text asked.now.save)
         ++ making (Some asked.now.to.now) asked.now.durability))
         (F.view files.old) (F.view files.new)
-        (λ both. (is_some ((F.view files.old).entries from.now) ≡ true)
+        (λ both. ((is_some ((F.view files.old).entries from.now) ≡ true)
         × ((F.In.view both.0).remaining ≡ (F.view files.old).entries from.now)
         × ((F.Out.view both.1.out).taken ≡ Some [])
-        × ((F.Out.view both.1.out).label ≡ asked.now.to.now)) (SourceFails F.In.view) result }
+        × ((F.Out.view both.1.out).label ≡ asked.now.to.now))
+        × IsFresh asked.now.clobber ((F.view files.old).entries asked.now.to.now))
+        (SourceFails F.In.view) result }
 {
     let source = files.open(alloc, from)?;
     prepare_save(alloc, files, asked)?;
@@ -171,11 +199,60 @@ fn end_out<F: FileSet>(
     }
 }
 
+/// How many bytes an output holds for certain, if the position of a stop is to be saved.
+fn settle_stop<F: FileSet>(
+    files: &mut F,
+    out: &mut Taking<F>,
+    save: Option<&str>,
+    durability: Durability,
+    engine: &Result<(), Interruption>,
+) -> u64
+    ensures kept { F.view files.new ≡ F.view files.old }
+    ensures same { F.Out.view out.new.out ≡ F.Out.view out.old.out }
+    ensures all { is_some (option_text save.entry) ≡ true → OnErr engine.now
+        (IsCertain (F.shows_bytes) (F.Out.view out.old.out).taken result) }
+{
+    if save.is_some() && engine.is_err() {
+        out.settle(files, durability)
+    } else {
+        0
+    }
+}
+
 /// Ends the output once the engine returned, announces the fault of a stop, and saves its position.
-pub(crate) fn conclude<F: FileSet, E: Sink>(
+/// One that is beyond what the output holds for certain isn't saved.
+fn conclude_settled<F: FileSet, E: Sink>(
     alloc: Global,
     files: &mut F,
     out: Taking<F>,
+    save: Option<&str>,
+    settled: u64,
+    durability: Durability,
+    faults: &mut E,
+    announced: &mut Announcement,
+    engine: Result<(), Interruption>,
+) -> Result<(), Ending>
+    ensures announced { Tells announced.new result (E.view faults.old) (E.view faults.new)
+        (faults.new ≡ faults.old) }
+    ensures concludes { Concludes (F.shows_bytes) (option_text save.entry) durability
+        (F.Out.view out.out) engine (F.view files.old) (F.view files.new) result }
+    ensures beyond { IfErr engine (λ stop. IfSome stop.position (λ p. IsBeyond settled p
+        → is_some (option_text save.entry) ≡ true → IsErrAnd result IsUnsaved
+        × ((F.view files.new).events ≡ (F.view files.old).events ++ Closed durability ∷ []))) }
+{
+    match end_out(files, out, durability, engine) {
+        Ok(()) => Ok(()),
+        Err(stop) => Err(end_of(
+            alloc, files, save, stop, settled, durability, faults, announced,
+        )),
+    }
+}
+
+/// Asks the output of a stop how much of it is certain, and ends it.
+pub(crate) fn conclude<F: FileSet, E: Sink>(
+    alloc: Global,
+    files: &mut F,
+    mut out: Taking<F>,
     save: Option<&str>,
     durability: Durability,
     faults: &mut E,
@@ -187,8 +264,8 @@ pub(crate) fn conclude<F: FileSet, E: Sink>(
     ensures concludes { Concludes (F.shows_bytes) (option_text save.entry) durability
         (F.Out.view out.out) engine (F.view files.old) (F.view files.new) result }
 {
-    match end_out(files, out, durability, engine) {
-        Ok(()) => Ok(()),
-        Err(stop) => Err(end_of(alloc, files, save, stop, durability, faults, announced)),
-    }
+    let settled = settle_stop(files, &mut out, save, durability, &engine);
+    conclude_settled(
+        alloc, files, out, save, settled, durability, faults, announced, engine,
+    )
 }

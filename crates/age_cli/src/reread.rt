@@ -1,6 +1,6 @@
 //! How the position of a stop is found by reading the input once more.
 
-ghost use Rattle.std.specs.Prelude.{◌≡◌, ◌⊎◌, ℕ, List, Option, true, false, is_some, IfOk, IfErr, OnOk};
+ghost use Rattle.std.specs.Prelude.{◌≡◌, ◌⊎◌, ℕ, List, Option, true, false, is_some, IfOk, IfErr, OnOk, min};
 ghost use Rattle.age_io.specs.Io.{Origin};
 ghost use Rattle.age_fault.specs.declared.fault.FileFault.TheVariants.{Read};
 ghost use Rattle.age_file.specs.declared.position.PositionPolicy.TheVariants.{Dropped};
@@ -9,7 +9,8 @@ ghost use Rattle.age_cli_args.specs.Requests.{option_text};
 ghost use Rattle.age_cli_args.specs.declared.request.ProgressOption.TheVariants.{Silent};
 ghost use Rattle.age_command.specs.Endings.{Announces, Tells};
 ghost use Rattle.age_cli.specs.Acts.{ShowsRun, kept_for};
-ghost use Rattle.age_cli.specs.inner.Rereadings.{IsFoundIn, ConcludesAgain, ConcludesDecryption, again_of};
+ghost use Rattle.age_cli.specs.inner.Rereadings.{IsFoundIn, ConcludesAgain, ConcludesDecryption, ConcludesFound};
+ghost use Rattle.age_cli.specs.inner.Rereadings.{again_of, start_of};
 
 use crate::interruption::{opening_end, save};
 use crate::output::{begin_meter, conclude, end_meter, leave};
@@ -104,16 +105,34 @@ fn position_in<S: Source>(
     position_after(alloc, key, from, written, source)
 }
 
-/// The position of a stop, by reading the input once more.
+/// The position from which the input is read again: the one that the run began from, unless that is
+/// beyond what OUT holds for certain; then none, and it is read from its first chunk on.
+fn start_of(from: Option<Position>, settled: u64) -> Option<Position>
+    ensures { result ≡ start_of settled from }
+{
+    let Some(position) = from else {
+        return None;
+    };
+    if u128::from(settled) < position.old_len() {
+        None
+    } else {
+        Some(position)
+    }
+}
+
+/// The position of a stop, or of an earlier one at what OUT holds for certain, by reading the input
+/// once more.
 fn find_again<F: FileSet, P: Meter>(
     alloc: Global,
     files: &F,
     asked: &Decrypting<'_>,
     again: Again<F::In>,
+    settled: u64,
     progress: &mut P,
 ) -> Result<Position, FileFault>
-    ensures found { F.shows_bytes ≡ true → IfOk result (IsFoundIn again.from
-        ((F.view files.now).entries asked.now.from.now) again.key again.stopped.written) }
+    ensures found { F.shows_bytes ≡ true → IfOk result (IsFoundIn (start_of settled again.from)
+        ((F.view files.now).entries asked.now.from.now) again.key
+        (min again.stopped.written settled)) }
     ensures faults { IfErr result (IsMemoryOr Read) }
     ensures silent { asked.now.progress ≡ Silent → progress.new ≡ progress.old }
     ensures shown { (P.shown progress.new ≡ P.shown progress.old)
@@ -126,7 +145,8 @@ fn find_again<F: FileSet, P: Meter>(
         stopped,
         from,
     } = again;
-    let written = stopped.written;
+    let written = stopped.written.min(u128::from(settled));
+    let from = start_of(from, settled);
     files.reread(alloc, asked.from, &mut source)?;
     match asked.progress {
         ProgressOption::Silent => position_in(alloc, &from, &key, written, &mut source),
@@ -148,11 +168,53 @@ fn find_again<F: FileSet, P: Meter>(
 }
 
 /// Ends the output of a decryption that stopped and dropped its position, puts the line of its
-/// fault, and then finds the position and saves it: a second reading may take long.
-fn conclude_again<F: FileSet, E: Sink, P: Meter>(
+/// fault, and then finds the position of what OUT holds for certain and saves it: a second reading
+/// may take long.
+fn conclude_found<F: FileSet, E: Sink, P: Meter>(
     alloc: Global,
     files: &mut F,
     out: Taking<F>,
+    asked: &Decrypting<'_>,
+    again: Again<F::In>,
+    settled: u64,
+    faults: &mut E,
+    announced: &mut Announcement,
+    progress: &mut P,
+) -> Ending
+    requires { is_some (option_text asked.now.save) ≡ true }
+    ensures announced { Announces announced.new result (E.view faults.old) (E.view faults.new) ⊥ }
+    ensures again { ConcludesFound (F.shows_bytes) asked.now (F.Out.view out.out) again.from
+        again.stopped again.key (F.view files.old) (F.view files.new) result settled }
+    ensures silent { asked.now.progress ≡ Silent → progress.new ≡ progress.old }
+    ensures shown { (P.shown progress.new ≡ P.shown progress.old)
+        ⊎ ((input left : Option (List ℕ)) × ShowsRun (F.shows_bytes) input left
+        (P.shown progress.old) (P.shown progress.new)) }
+{
+    let fault = again.stopped.fault;
+    leave(files, out, asked.durability);
+    *announced = announce(faults, fault);
+    match find_again(alloc, files, asked, again, settled, progress) {
+        Ok(found) => match save(
+            alloc,
+            files,
+            asked.save,
+            Some(found),
+            settled,
+            asked.durability,
+        ) {
+            Ok(()) => Ending::Fault(fault),
+            Err(second) => Ending::Unsaved(fault, second),
+        },
+        Err(second) => Ending::Unsaved(fault, second),
+    }
+}
+
+/// Asks the output of a decryption that stopped and dropped its position how much of it is certain,
+/// and ends it with the position of that.
+fn conclude_again<F: FileSet, E: Sink, P: Meter>(
+    alloc: Global,
+    files: &mut F,
+    mut out: Taking<F>,
     asked: &Decrypting<'_>,
     again: Again<F::In>,
     faults: &mut E,
@@ -168,16 +230,10 @@ fn conclude_again<F: FileSet, E: Sink, P: Meter>(
         ⊎ ((input left : Option (List ℕ)) × ShowsRun (F.shows_bytes) input left
         (P.shown progress.old) (P.shown progress.new)) }
 {
-    let fault = again.stopped.fault;
-    leave(files, out, asked.durability);
-    *announced = announce(faults, fault);
-    match find_again(alloc, files, asked, again, progress) {
-        Ok(position) => match save(alloc, files, asked.save, Some(position), asked.durability) {
-            Ok(()) => Ending::Fault(fault),
-            Err(second) => Ending::Unsaved(fault, second),
-        },
-        Err(second) => Ending::Unsaved(fault, second),
-    }
+    let settled = out.settle(files, asked.durability);
+    conclude_found(
+        alloc, files, out, asked, again, settled, faults, announced, progress,
+    )
 }
 
 /// Ends the output of a decryption, and saves the position of a stop, which is found by reading the

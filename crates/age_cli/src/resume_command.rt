@@ -325,6 +325,7 @@ pub fn resume_file<F: FileSet, E: Sink, P: Meter>(
         save: wanted.save,
         position: Some(asked.position),
         durability: wanted.durability,
+        clobber: wanted.clobber,
         content: Content::Plaintext,
     };
     let (source, out) = open_both(alloc, files, wanted.from, &output)?;

@@ -2,9 +2,10 @@
 
 ghost use Rattle.std.specs.Prelude.{◌≡◌, ◌==◌, true, length, Some, IsSomeAnd, []};
 ghost use Rattle.std.proofs.Props.{props};
+ghost use Rattle.age_cli.specs.inner.Endings.{IsCertain};
 
 use age_fileset::FileSet;
-use age_io::{Failed, Sink};
+use age_io::{Durability, Failed, Sink};
 
 /// A file that was created, and whether it took no byte so far: it is left as it was then.
 pub(crate) struct Taking<F: FileSet> {
@@ -24,6 +25,15 @@ impl<F: FileSet> Taking<F> {
             out,
             is_empty: true,
         }
+    }
+
+    /// How many of the bytes that it took it holds for certain.
+    pub(crate) fn settle(&mut self, files: &mut F, durability: Durability) -> u64
+        ensures kept { F.view files.new ≡ F.view files.old }
+        ensures same { F.Out.view self.new.out ≡ F.Out.view self.old.out }
+        ensures all { IsCertain (F.shows_bytes) (F.Out.view self.old.out).taken result }
+    {
+        files.settle(&mut self.out, durability)
     }
 
     /// The file.

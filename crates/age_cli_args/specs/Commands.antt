@@ -24,10 +24,10 @@ flag_rule id = record (new_rule id) { long = Some id; action = Some SetTrue }
 
 -- ---- Arguments that several commands take, or that belong together.
 
--- `[--no-sync] [--progress]`
+-- `[--no-sync] [--no-clobber] [--progress]`
 abbrev pub with_writing : App → App
-with_writing a = with_rule (with_rule a (flag_rule (codes "no-sync")))
-    (flag_rule (codes "progress"))
+with_writing a = with_rule (with_rule (with_rule a (flag_rule (codes "no-sync")))
+    (flag_rule (codes "no-clobber"))) (flag_rule (codes "progress"))
 
 -- `[--pass FILE] [--file-key HEX] [--shared FILE] [--max-log N] [--save FILE]`, how it writes
 abbrev pub with_opening : App → App

@@ -10,6 +10,8 @@ use Rattle.clap.specs.declared.error.kind.ErrorKind.TheVariants.{DisplayHelp, Di
 use Rattle.age_io.specs.declared.durability.Durability.{Durability}
 use Rattle.age_io.specs.declared.durability.Durability.TheVariants.{Synced, Buffered}
 use Rattle.age_cli_args.specs.Commands.{age_tool}
+use Rattle.age_cli_args.specs.declared.request.ClobberOption.{ClobberOption}
+use Rattle.age_cli_args.specs.declared.request.ClobberOption.TheVariants.{Allowed, Refused}
 use Rattle.age_cli_args.specs.declared.request.Decrypting.{Decrypting}
 use Rattle.age_cli_args.specs.declared.request.Drilling.{Drilling}
 use Rattle.age_cli_args.specs.declared.request.Encrypting.{Encrypting}
@@ -59,6 +61,10 @@ option_text = option_map (λ s. s.now)
 abbrev pub IsDurability : List Row → Durability → Type 0
 IsDurability rows d = d ≡ (if is_given (codes "no-sync") rows then Buffered else Synced)
 
+-- `--no-clobber` says that an OUT that is there is refused
+abbrev pub IsClobber : List Row → ClobberOption → Type 0
+IsClobber rows c = c ≡ (if is_given (codes "no-clobber") rows then Refused else Allowed)
+
 -- `--progress` says that progress is shown
 abbrev pub IsProgress : List Row → ProgressOption → Type 0
 IsProgress rows p = p ≡ (if is_given (codes "progress") rows then Shown else Silent)
@@ -68,6 +74,7 @@ pub record IsEncrypting (rows : List Row) (e : Encrypting) : Type 0 where
   pub log : IsNumber 18 (one_of (codes "log") rows) e.log
   pub random : option_text e.random ≡ first_of (codes "random") rows
   pub durability : IsDurability rows e.durability
+  pub clobber : IsClobber rows e.clobber
   pub progress : IsProgress rows e.progress
   pub from : Some e.from.now ≡ first_of (codes "IN") rows
   pub to : Some e.to.now ≡ first_of (codes "OUT") rows
@@ -82,6 +89,7 @@ pub record IsDecrypting (rows : List Row) (d : Decrypting) : Type 0 where
   pub identity : IsIdentityOptions rows d.identity
   pub save : option_text d.save ≡ first_of (codes "save") rows
   pub durability : IsDurability rows d.durability
+  pub clobber : IsClobber rows d.clobber
   pub progress : IsProgress rows d.progress
   pub from : Some d.from.now ≡ first_of (codes "IN") rows
   pub to : Some d.to.now ≡ first_of (codes "OUT") rows

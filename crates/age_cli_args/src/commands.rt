@@ -77,6 +77,12 @@ const NO_SYNC: Argument = Argument {
     help: help::NO_SYNC,
 };
 
+const NO_CLOBBER: Argument = Argument {
+    id: "no-clobber",
+    given: Given::Flag,
+    help: help::NO_CLOBBER,
+};
+
 const PROGRESS: Argument = Argument {
     id: "progress",
     given: Given::Flag,
@@ -89,6 +95,7 @@ const ENCRYPT: &[Argument] = &[
     Argument { id: "log", given: Given::Number, help: help::LOG },
     Argument { id: "random", given: Given::Value("FILE"), help: help::RANDOM },
     NO_SYNC,
+    NO_CLOBBER,
     PROGRESS,
     Argument { id: "IN", given: Given::Operand, help: help::PLAIN_IN },
     Argument { id: "OUT", given: Given::Operand, help: help::FILE_OUT },
@@ -102,6 +109,7 @@ const DECRYPT: &[Argument] = &[
     MAX_LOG,
     SAVE,
     NO_SYNC,
+    NO_CLOBBER,
     PROGRESS,
     Argument { id: "IN", given: Given::Operand, help: help::FILE_IN },
     Argument { id: "OUT", given: Given::Operand, help: help::PLAIN_OUT },
@@ -117,6 +125,7 @@ const RESUME: &[Argument] = &[
     MAX_LOG,
     SAVE,
     NO_SYNC,
+    NO_CLOBBER,
     PROGRESS,
     Argument { id: "IN", given: Given::Operand, help: help::FILE_IN },
     Argument { id: "OUT", given: Given::Operand, help: help::WHOLE_OUT },

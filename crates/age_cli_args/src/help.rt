@@ -117,6 +117,8 @@ pub(crate) const NO_SYNC: &str = "Don't wait until OUT, a regular file or a bloc
 has reached the disk. Errors that come only then (NFS,
 quotas) go unnoticed";
 
+pub(crate) const NO_CLOBBER: &str = "Refuse an OUT that is there (27); it stays as it was";
+
 pub(crate) const PROGRESS: &str = "Show on standard error how much of IN has been read";
 
 pub(crate) const POSITION: &str = "File with the position that the stopped run saved";

@@ -9,5 +9,6 @@ mod request;
 
 pub use reading::read_request;
 pub use request::{
-    Decrypting, Drilling, Encrypting, IdentityOptions, ProgressOption, Request, Resuming,
+    ClobberOption, Decrypting, Drilling, Encrypting, IdentityOptions, ProgressOption, Request,
+    Resuming,
 };

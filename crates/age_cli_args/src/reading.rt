@@ -3,7 +3,7 @@
 ghost use Rattle.std.specs.Prelude.{◌≡◌, ◌≤◌, ℕ, None, Some, IfNone, IfOk, IfSome};
 ghost use Rattle.clap.specs.Words.{subcommand_rows_of, rows_of, found_of, one_of, first_of, FailsBy};
 ghost use Rattle.clap.specs.Walk.{texts};
-ghost use Rattle.age_cli_args.specs.Requests.{refusals, is_given, IsNumber, option_text, IsDurability, IsProgress};
+ghost use Rattle.age_cli_args.specs.Requests.{refusals, is_given, IsNumber, option_text, IsClobber, IsDurability, IsProgress};
 ghost use Rattle.age_cli_args.specs.Requests.{IsEncrypting, IsIdentityOptions, IsDecrypting, IsResuming, IsDrilling};
 ghost use Rattle.age_cli_args.specs.Requests.{IsRequest, Requests};
 ghost use Rattle.age_cli_args.specs.declared.request.Encrypting.{Encrypting};
@@ -15,7 +15,8 @@ ghost use Rattle.age_cli_args.specs.declared.request.Request.{Request};
 
 use crate::commands::matches_of;
 use crate::request::{
-    Decrypting, Drilling, Encrypting, IdentityOptions, MOST_WORK, ProgressOption, Request, Resuming,
+    ClobberOption, Decrypting, Drilling, Encrypting, IdentityOptions, MOST_WORK, ProgressOption,
+    Request, Resuming,
 };
 use age_io::Durability;
 use clap::{ArgMatches, Error};
@@ -73,6 +74,17 @@ fn durability(matches: &ArgMatches<'_>) -> Durability
     }
 }
 
+/// What becomes of an OUT that is there.
+fn clobber(matches: &ArgMatches<'_>) -> ClobberOption
+    ensures { IsClobber (rows_of (found_of matches.now)) result }
+{
+    if flag(matches, "no-clobber") {
+        ClobberOption::Refused
+    } else {
+        ClobberOption::Allowed
+    }
+}
+
 /// Whether progress is shown.
 fn progress(matches: &ArgMatches<'_>) -> ProgressOption
     ensures { IsProgress (rows_of (found_of matches.now)) result }
@@ -102,6 +114,7 @@ fn encrypting<'a>(matches: &ArgMatches<'a>) -> Option<Encrypting<'a>>
         log: number(matches, "log", 18)?,
         random: text(matches, "random"),
         durability: durability(matches),
+        clobber: clobber(matches),
         progress: progress(matches),
         from: text(matches, "IN")?,
         to: text(matches, "OUT")?,
@@ -129,6 +142,7 @@ fn decrypting<'a>(matches: &ArgMatches<'a>) -> Option<Decrypting<'a>>
         identity: identity_options(matches)?,
         save: text(matches, "save"),
         durability: durability(matches),
+        clobber: clobber(matches),
         progress: progress(matches),
         from: text(matches, "IN")?,
         to: text(matches, "OUT")?,

@@ -14,6 +14,15 @@ pub enum ProgressOption {
     Silent,
 }
 
+/// What becomes of an OUT that is there.
+#[derive(Clone, Copy, Debug, PartialEq, Eq)]
+pub enum ClobberOption {
+    /// It is overwritten.
+    Allowed,
+    /// It is refused, and stays as it was.
+    Refused,
+}
+
 /// The arguments of `encrypt`.
 #[derive(Clone, Copy)]
 pub struct Encrypting<'a> {
@@ -26,6 +35,8 @@ pub struct Encrypting<'a> {
     pub random: Option<&'a str>,
     /// When OUT reaches the disk: later, if `--no-sync` is given.
     pub durability: Durability,
+    /// What becomes of an OUT that is there: it is refused, if `--no-clobber` is given.
+    pub clobber: ClobberOption,
     /// Whether progress is shown: if `--progress` is given.
     pub progress: ProgressOption,
     /// The path of the plaintext (IN).
@@ -57,6 +68,8 @@ pub struct Decrypting<'a> {
     pub save: Option<&'a str>,
     /// When OUT and the saved position reach the disk: later, if `--no-sync` is given.
     pub durability: Durability,
+    /// What becomes of an OUT that is there: it is refused, if `--no-clobber` is given.
+    pub clobber: ClobberOption,
     /// Whether progress is shown: if `--progress` is given.
     pub progress: ProgressOption,
     /// The path of the age file (IN).

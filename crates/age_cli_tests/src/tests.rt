@@ -1,3 +1,4 @@
 mod commands;
 mod output;
 mod progress_line;
+mod settling;

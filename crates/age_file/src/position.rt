@@ -101,8 +101,8 @@ pub(crate) fn file_id(mut digest: Sha256, nonce: &[u8; 16]) -> [u8; 32]
 }
 
 impl Position {
-    /// How many bytes of text come before it.
-    pub(crate) fn old_len(&self) -> u128
+    /// How many bytes of the text come before it.
+    pub fn old_len(&self) -> u128
         ensures { result ≡ self.now.index * chunk_length }
     {
         u128::from(self.index) * CHUNK_LEN as u128

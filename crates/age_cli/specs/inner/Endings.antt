@@ -1,9 +1,10 @@
 -- How a part of the program ended. What only private code cites.
 use Rattle.std.specs.Prelude.{◌≡◌, ◌≢◌, ◌⊎◌, ℕ, ◌++◌, ◌∷◌, [], true, false, Bool, List, Option}
-use Rattle.std.specs.Prelude.{Some, None, Result, Ok, Err, IsOk, OnOk, IfErr}
+use Rattle.std.specs.Prelude.{Some, None, Result, Ok, Err, IsOk, OnOk, IfErr, IsErrAnd, IsSomeAnd, length, ◌<◌, ◌*◌}
 use Rattle.clap.specs.Words.{Text}
 use Rattle.clap.specs.declared.error.kind.ErrorKind.{ErrorKind}
 use Rattle.clap.specs.declared.error.kind.ErrorKind.TheVariants.{DisplayHelp, DisplayVersion}
+use Rattle.age_chunk.specs.Payload.{chunk_length}
 use Rattle.age_io.specs.Io.{SinkView}
 use Rattle.age_io.specs.declared.durability.Durability.{Durability}
 use Rattle.age_fault.specs.declared.fault.FileFault.{FileFault}
@@ -11,9 +12,11 @@ use Rattle.age_fault.specs.declared.fault.FileFault.TheVariants.{Write}
 use Rattle.age_file.specs.declared.decryption.Done.{Done}
 use Rattle.age_file.specs.declared.decryption.Stopped.{Stopped}
 use Rattle.age_file.specs.declared.encryption.Written.{Written}
+use Rattle.age_file.specs.declared.position.Position.{Position}
 use Rattle.age_fileset.specs.FileSet.{Closed, FilesView}
 use Rattle.age_command.specs.Endings.{is_usage}
 use Rattle.age_command.specs.declared.ending.Ending.{Ending}
+use Rattle.age_command.specs.declared.ending.Ending.TheVariants.{Unsaved}
 use Rattle.age_command.specs.Orders.{Follows, replacing}
 use Rattle.age_command.specs.Files.{SparesBut, SparesBoth}
 use Rattle.age_cli.specs.Acts.{EndsOf}
@@ -31,6 +34,19 @@ sealing_end (Err fault) = Err (record { fault = fault; position = None })
 abbrev pub opening_end : Result Done Stopped → Result (Unit {0}) Interruption
 opening_end (Ok done) = Ok tt
 opening_end (Err s) = Err (record { fault = s.fault; position = s.position })
+
+-- a sink that took this holds so much of it for certain: all, if contracts see the files
+abbrev pub IsCertain : Bool → Option (List ℕ) → ℕ → Type 0
+IsCertain shows taken settled = shows ≡ true → IsSomeAnd taken (λ bytes. settled ≡ length bytes)
+
+-- it ended with a second fault, that of the save
+abbrev pub IsUnsaved : Ending → Type 0
+IsUnsaved (Unsaved fault second) = Unit {0}
+IsUnsaved other = ⊥
+
+-- a position stands beyond what OUT holds for certain
+abbrev pub IsBeyond : ℕ → Position → Type 0
+IsBeyond settled p = settled < p.index * chunk_length
 
 -- how a stop leaves OUT: it is as it was, or holds what the sink took, if it took anything
 abbrev pub IsPut : (taken old new : Option (List ℕ)) → Type 0
@@ -52,6 +68,8 @@ pub record EndsOut (shows : Bool) (durability : Durability) (sink : SinkView)
   -- Otherwise it is left.
   pub stops : IfErr result (λ stop. shows ≡ true
       → Left engine sink.taken (old.entries sink.label) (new.entries sink.label) stop)
+  -- The engine's stop is its end, if it stopped.
+  pub same : IfErr engine (λ cause. IsErrAnd result (λ stop. stop ≡ cause))
   -- No other file differs.
   pub others : SparesBut sink.label old.entries new.entries
   -- It is closed once.

@@ -8,6 +8,8 @@ use Rattle.age_file.specs.Resumes.{position_text}
 use Rattle.age_file.specs.declared.position.Position.{Position}
 use Rattle.age_fileset.specs.FileSet.{Event, FilesView}
 use Rattle.age_cli_args.specs.Requests.{option_text}
+use Rattle.age_cli_args.specs.declared.request.ClobberOption.{ClobberOption}
+use Rattle.age_cli_args.specs.declared.request.ClobberOption.TheVariants.{Refused}
 use Rattle.age_cli_args.specs.declared.request.Decrypting.{Decrypting}
 use Rattle.age_cli_args.specs.declared.request.Encrypting.{Encrypting}
 use Rattle.age_command.specs.Endings.{EndsEarly, RefusesAtOnce, is_usage}
@@ -32,6 +34,10 @@ Saves None position old new = new ≡ old
 Saves (Some name) None old new = new ≡ old
 
 -- ---- How files are opened and made before anything is written.
+
+-- nothing stands under the name of OUT, if what does is refused
+abbrev pub IsFresh : ClobberOption → Option (List ℕ) → Type 0
+IsFresh clobber held = clobber ≡ Refused → held ≡ None
 
 -- the files of `order` were opened or made, and this holds of them; or it ended early, in `whole`
 pub record OpensFiles {A : Type 0} (shows : Bool) (order whole : List Event) (old new : FilesView)

@@ -1,6 +1,8 @@
 -- How a position is found by reading the input once more. What only private code cites.
-use Rattle.std.specs.Prelude.{◌≡◌, ◌≢◌, ◌⊎◌, ℕ, Bool, true, List, Option, Some, is_some, None}
+use Rattle.std.specs.Prelude.{◌≡◌, ◌≢◌, ◌⊎◌, ℕ, Bool, true, List, [], Option, Some, is_some, None}
+use Rattle.std.specs.Prelude.{min, nat_lt, ◌*◌}
 use Rattle.std.specs.Prelude.{Result, Err, IfOk, IfErr, IsErrAnd, IsSomeAnd, if◌then◌else◌}
+use Rattle.age_chunk.specs.Payload.{chunk_length}
 use Rattle.age_io.specs.Io.{SourceView, SinkView}
 use Rattle.age_file.specs.Again.{IsTextBefore, IsFoundAgain}
 use Rattle.age_file.specs.Decrypts.{DecryptEnds, DecryptStops}
@@ -19,7 +21,7 @@ use Rattle.age_command.specs.declared.ending.Ending.{Ending}
 use Rattle.age_command.specs.Identities.{allows_by, refuses_by}
 use Rattle.age_command.specs.declared.identity.Identity.{Identity}
 use Rattle.age_cli.specs.Acts.{kept_for}
-use Rattle.age_cli.specs.inner.Endings.{Concludes, opening_end}
+use Rattle.age_cli.specs.inner.Endings.{Concludes, IsCertain, opening_end}
 
 -- that of a run over these bytes, by this key, which wrote this many bytes; of one that began from a
 -- position, whatever old text it has
@@ -38,19 +40,29 @@ abbrev pub again_of : Bool → Result Done Stopped → Option (List ℕ) → Opt
 again_of reread (Err s) (Some key) = if reread then Some (s, key) else None
 again_of reread end key = None
 
+-- where the second reading begins: at the position that the run began from, unless that is beyond
+-- what OUT holds for certain
+abbrev pub start_of : ℕ → Option Position → Option Position
+start_of settled None = None
+start_of settled (Some p) = if nat_lt settled (p.index * chunk_length) then None else Some p
+
 -- OUT was ended after a stop that dropped its position, by a sink that is this, and then the input
--- was read once more: its position was found in what that holds now, and saved if it can be; or it
--- wasn't found, and whatever it is, it isn't saved
+-- was read once more: the position of what OUT holds for certain was found in what that holds now,
+-- and saved if it can be; or it wasn't found, and whatever it is, it isn't saved
 module _ (shows : Bool) (d : Decrypting) (sink : SinkView) (from : Option Position)
     (stopped : Stopped) (key : List ℕ) (old new : FilesView) (ending : Ending) where
   abbrev pub ConcludesAt : Position → Type 0
   ConcludesAt p = Concludes shows (option_text d.save) d.durability sink
       (opening_end (Err (stopped_at stopped p))) old new (Err ending)
 
-  abbrev pub ConcludesAgain : Type 0
-  ConcludesAgain = ((p : Position) × (shows ≡ true → d.from.now ≢ sink.label
-      → IsFoundIn from (old.entries d.from.now) key stopped.written p) × ConcludesAt p)
+  abbrev pub ConcludesFound : ℕ → Type 0
+  ConcludesFound settled = ((p : Position) × (shows ≡ true → d.from.now ≢ sink.label
+      → IsFoundIn (start_of settled from) (old.entries d.from.now) key
+      (min stopped.written settled) p) × ConcludesAt p)
       ⊎ ((p : Position) → ConcludesAt p)
+
+  abbrev pub ConcludesAgain : Type 0
+  ConcludesAgain = (settled : ℕ) × IsCertain shows sink.taken settled × ConcludesFound settled
 
 -- OUT was ended after a decryption that ended so, and the position of a stop was saved: the one that
 -- it has, or, of a stop and a key by which the input is read once more, one that is found so
@@ -72,11 +84,12 @@ abbrev pub key_of : Standing → Option (List ℕ)
 key_of (InPayload key) = Some key
 key_of other = None
 
--- IN is there, and is what the source gives; OUT is another file
+-- IN is there, and is what the source gives; OUT is another file, and its sink took nothing
 pub record HoldsInput (d : Decrypting) (before : Ports) (old : FilesView) : Type 0 where
   pub there : is_some (old.entries d.from.now) ≡ true
   pub gives : before.source.remaining ≡ old.entries d.from.now
   pub other : d.from.now ≢ before.sink.label
+  pub empty : before.sink.taken ≡ Some []
 
 -- What was opened was decrypted, and OUT was ended. `decrypted` is how it ended; of a stop, it has
 -- the position that is saved, if contracts see the files and IN and OUT are two of them.

@@ -1,6 +1,6 @@
 //! Each command, over files in memory.
 
-use age_cli::{MemFiles, run};
+use age_cli::{FileSet, MemFiles, run};
 use age_host::ProgressLine;
 use age_io::{MemSink, MemSource};
 use std::alloc::Global;
@@ -22,7 +22,7 @@ const FACTOR_23: &[u8] = b"age-encryption.org/v1\n-> scrypt AAAAAAAAAAAAAAAAAAAA
 
 /// How a run ends.
 #[derive(Clone, Copy)]
-struct Ended<'a> {
+pub(crate) struct Ended<'a> {
     status: u8,
     printed: &'a [u8],
     reported: &'a [u8],
@@ -36,7 +36,7 @@ const DONE: Ended<'static> = Ended {
 };
 
 /// Nothing was printed but this fault.
-fn fault(reported: &[u8]) -> Ended<'_> {
+pub(crate) fn fault(reported: &[u8]) -> Ended<'_> {
     Ended {
         status: 1,
         printed: b"",
@@ -54,7 +54,12 @@ fn usage(reported: &[u8]) -> Ended<'_> {
 }
 
 /// Whether a run of these words ends so.
-fn ends(alloc: Global, files: &mut MemFiles, words: &[&str], ended: Ended<'_>) -> bool {
+pub(crate) fn ends<F: FileSet>(
+    alloc: Global,
+    files: &mut F,
+    words: &[&str],
+    ended: Ended<'_>,
+) -> bool {
     let Ok(mut output) = MemSink::new(alloc, 1000, 1000, None) else {
         return false;
     };
@@ -179,7 +184,7 @@ fn copy(alloc: Global, from: &MemFiles, to: &mut MemFiles, name: &str) -> bool {
 }
 
 /// The age file of 200,000 bytes, and its passphrase, if a file that is written has this room.
-fn sealed_files(alloc: Global, room: usize) -> Option<MemFiles> {
+pub(crate) fn sealed_files(alloc: Global, room: usize) -> Option<MemFiles> {
     let mut made = files_of(alloc, 200_000)?;
     let mut files = MemFiles::new(alloc, room);
     if encrypts(alloc, &mut made, DONE)
@@ -193,7 +198,7 @@ fn sealed_files(alloc: Global, room: usize) -> Option<MemFiles> {
     }
 }
 
-const SAVING: [&str; 7] = [
+pub(crate) const SAVING: [&str; 7] = [
     "decrypt", "--pass", "PASS", "--save", "POSITION", "OUT", "BACK",
 ];
 
@@ -223,7 +228,7 @@ fn is_after_two_chunks(files: &MemFiles) -> bool {
 }
 
 /// Whether what stopped is resumed to the whole text, in files of more room.
-fn goes_on(alloc: Global, stopped: &MemFiles) -> bool {
+pub(crate) fn goes_on(alloc: Global, stopped: &MemFiles) -> bool {
     let mut files = MemFiles::new(alloc, ROOM);
     copy(alloc, stopped, &mut files, "OUT")
         && copy(alloc, stopped, &mut files, "PASS")

@@ -7,6 +7,7 @@ use Rattle.age_command.specs.Orders.{identity_order, preparing, making}
 use Rattle.age_command.specs.Files.{Files, SourceFails}
 use Rattle.age_command.specs.declared.ending.Ending.{Ending}
 use Rattle.age_command.specs.declared.ending.Ending.TheVariants.{Usage}
+use Rattle.age_cli.specs.inner.Openings.{IsFresh}
 use Rattle.age_cli.specs.Acts.{paths_of}
 use Rattle.age_cli.proofs.CommandLemmas.{in_order, reason_at, found_by}
 use Rattle.age_cli.proofs.ReportLemmas.{unmade}
@@ -81,10 +82,11 @@ returns-clause-acts g c =
     (record { source = c.in_ok-source.source; sink = c.in_ok-source.out.out; is = refl }) c.decrypt_opened.result (both.kept ∙ judged.kept) d
     c.in_ok-identity.identity
     (found_by _ d _ _ _ c.in_ok-choice.ensures.chooses c.in_ok-identity.ensures.makes (view c.args.files.now).entries (λ shown. (judged.read shown).0))
-    (λ shown. subst (λ (f : Files). Found (paths_of d) f before) judged.kept (both.opened shown)) c.decrypt_opened.ensures.opened
+    (λ shown. subst (λ (f : Files). Found (paths_of d) f before) judged.kept (both.opened shown).0) c.decrypt_opened.ensures.opened
     (then_did _ _ _ (identity_order (option_text d.identity.pass) (option_text d.identity.shared))
     (Opened d.from.now ∷ (preparing (option_text d.save) ++ Created d.to.now ∷ [])) judged.noted both.noted)
     (λ twice. absurd (judged.apart (c.names_a_file_twice-is_file_named_twice.ensures.twice twice)).1)
+    (λ shown. subst (λ (f : Files). IsFresh d.clobber (f d.to.now)) judged.kept (both.opened shown).1)
 
 pub returns-clause-announced : goal.returns-clause-announced
 returns-clause-announced g c = c.decrypt_opened.ensures.announced

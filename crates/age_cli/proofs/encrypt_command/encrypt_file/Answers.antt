@@ -9,6 +9,7 @@ use Rattle.age_command.specs.declared.ending.Ending.TheVariants.{Usage}
 use Rattle.age_command.specs.Orders.{making, random_name}
 use Rattle.age_command.specs.Files.{Files, SourceFails}
 use Rattle.age_command.proofs.EventLemmas.{longer, then_did, then_follows}
+use Rattle.age_cli.specs.inner.Openings.{IsFresh}
 use Rattle.age_cli.specs.Acts.{Paths}
 use Rattle.age_cli.proofs.CommandLemmas.{reason_at}
 use Rattle.age_cli.proofs.ReportLemmas.{unmade}
@@ -75,14 +76,14 @@ returns-clause-acts g c =
     (record { source = c.in_ok-source.source; sink = c.in_ok-source.out.out; is = refl }) (record { source = run.result.source; sink = run.new.out.out; is = refl })
     c.sealing_end.result c.conclude.result (both.kept ∙ judged.kept) a c.in_ok-secret.secret run.result.end
     (λ shown. c.in_ok-secret.ensures.makes (view c.args.files.now).entries (judged.read shown))
-    (λ shown. subst (λ (f : Files). Found paths f before) judged.kept (both.opened shown))
+    (λ shown. subst (λ (f : Files). Found paths f before) judged.kept (both.opened shown).0)
     c.sealing_end.ensures run.ensures.done run.ensures.fails run.ensures.named c.conclude.ensures.concludes
     (then_did _ _ _ (Opened a.pass.now ∷ Opened (random_name (option_text a.random)) ∷ []) (Opened a.from.now ∷ Created a.to.now ∷ []) judged.noted both.noted)
-    (λ twice. absurd (judged.apart twice).1) (
+    (λ twice. absurd (judged.apart twice).1) (λ shown. subst (λ (f : Files). IsFresh a.clobber (f a.to.now)) judged.kept (both.opened shown).1) (
       run.ensures.silent,
       λ asked.
           shown_once _ _ _ _ _ c.conclude.result
-          (run_of _ _ _ _ _ _ (λ shown. (both.opened shown).1 ∙ ap (λ (f : Files). f a.from.now) judged.kept) (run.ensures.shown asked))
+          (run_of _ _ _ _ _ _ (λ shown. (both.opened shown).0.1 ∙ ap (λ (f : Files). f a.from.now) judged.kept) (run.ensures.shown asked))
           (at_end_of _ c.sealing_end.result c.conclude.result _
           (subst (λ (e : Result (Unit {0}) Interruption). OnOk e (IsAtEnd (In run.result.source).remaining)) (sym c.sealing_end.ensures)
           (sealing_at_end c.in_ok-secret.secret before after run.result.end run.ensures.done))

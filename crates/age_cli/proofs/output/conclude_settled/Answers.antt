@@ -6,7 +6,8 @@ use Rattle.age_cli.specs.inner.Endings.{Left}
 use Rattle.age_cli.proofs.CommandStopLemmas.{ends_from}
 use Rattle.age_cli.proofs.ReportLemmas.{announced_so}
 use Rattle.age_command.proofs.EventLemmas.{followed, longer, then_follows}
-use Rattle.age_cli.proofs.output.conclude.Goals as goal
+use Rattle.age_cli.proofs.SettledLemmas.{beyond_closed, of_stop}
+use Rattle.age_cli.proofs.output.conclude_settled.Goals as goal
 
 pub returns-in-Ok-clause-concludes : goal.returns-in-Ok-clause-concludes
 returns-in-Ok-clause-concludes g c =
@@ -46,3 +47,11 @@ returns-in-Err-clause-concludes g c =
 
 pub returns-in-Err-clause-announced : goal.returns-in-Err-clause-announced
 returns-in-Err-clause-announced g c = announced_so _ _ _ _ _ c.end_of.ensures.announced
+
+pub returns-in-Err-clause-beyond : goal.returns-in-Err-clause-beyond
+returns-in-Err-clause-beyond g c =
+    let out = c.in-Err.ensures in
+    let stop = c.in-Err.stop in
+    let view = g.F.FileSet.view in
+    of_stop _ c.args.engine stop out.same (beyond_closed stop.position c.args.settled _ _ (view c.args.files.now).events (view c.end_out.new.files).events
+    (view c.end_of.new.files).events (Closed c.args.durability ∷ []) c.end_of.ensures.beyond out.noted)

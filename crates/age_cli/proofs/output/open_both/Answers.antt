@@ -1,9 +1,10 @@
-use Rattle.std.proofs.Common.{◌∙◌, ◌++◌, ◌∷◌, [], refl, Some}
+use Rattle.std.proofs.Common.{◌∙◌, ◌++◌, ◌∷◌, [], subst, Some}
 use Rattle.age_fileset.specs.FileSet.{Opened, Created}
 use Rattle.age_cli_args.specs.Requests.{option_text}
 use Rattle.age_command.specs.Orders.{preparing, making}
 use Rattle.age_command.specs.Endings.{EndsEarly}
-use Rattle.age_command.specs.Files.{SourceFails}
+use Rattle.age_command.specs.Files.{Files, SourceFails}
+use Rattle.age_cli.specs.inner.Openings.{IsFresh}
 use Rattle.age_command.specs.declared.ending.Ending.{Ending}
 use Rattle.age_command.specs.inner.Endings.{ending_of}
 use Rattle.age_cli.proofs.CommandLemmas.{no_value, not_well, this_error, an_error, created_fault, last_missing, opened_early, open_reason, reason_at}
@@ -74,8 +75,10 @@ returns g c =
       kept = out.kept ∙ (prepared.kept ∙ c.in_ok-source.ensures.kept);
       opened = λ shown.
           let found = c.in_ok-source.ensures.found shown in
-          let made = out.opened shown in
-          (found.0, found.1, made.0, made.1);
+          let made = out.opened shown in (
+            (found.0, found.1, made.0, made.1),
+            subst (λ (f : Files). IsFresh a.clobber (f a.to.now)) (prepared.kept ∙ c.in_ok-source.ensures.kept) made.2,
+          );
       noted = then_did _ _ _ (Opened c.args.from.now ∷ []) (preparing (option_text a.save) ++ Created a.to.now ∷ []) c.in_ok-source.ensures.noted
           (then_did _ _ _ (preparing (option_text a.save)) (Created a.to.now ∷ []) prepared.noted out.noted);
       followed = tt;

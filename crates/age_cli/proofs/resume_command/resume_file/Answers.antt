@@ -1,4 +1,4 @@
-use Rattle.std.proofs.Common.{◌≡◌, ◌∙◌, ◌++◌, ◌∷◌, [], inl, inr, refl, ap, sym, subst, true≢false, Some}
+use Rattle.std.proofs.Common.{◌≡◌, ◌∙◌, ◌++◌, ◌∷◌, [], inl, inr, refl, sym, subst, true≢false, Some}
 use Rattle.age_file.specs.Runs.{ports}
 use Rattle.age_fileset.specs.FileSet.{Opened, Created}
 use Rattle.age_cli_args.specs.Requests.{option_text}
@@ -10,6 +10,7 @@ use Rattle.age_command.specs.declared.ending.Ending.TheVariants.{Usage}
 use Rattle.age_command.specs.inner.Endings.{ending_of}
 use Rattle.age_fault.specs.declared.fault.FileFault.TheVariants.{BadPosition}
 use Rattle.age_fileset.specs.declared.files.OpenFault.TheVariants as create
+use Rattle.age_cli.specs.inner.Openings.{IsFresh}
 use Rattle.age_cli.specs.Acts.{paths_of}
 use Rattle.age_cli.specs.Commands.{HoldsNoPosition}
 use Rattle.age_cli.proofs.ReportLemmas.{unmade}
@@ -122,12 +123,13 @@ returns-clause-acts g c =
     (found_by _ d _ _ _ c.in_ok-choice.ensures.chooses c.in_ok-identity.ensures.makes (view c.args.files.now).entries (λ shown. (judged.read shown).0))
     (λ shown. subst (λ (f : Files). WasEarlier r c.in_ok-position.position f (In first)) judged.kept (earlier.found shown))
     (record { source = first; sink = c.in_ok-source.out.out; is = refl })
-    (λ shown. subst (λ (f : Files). Found (paths_of d) f before) (earlier.kept ∙ judged.kept) (both.opened shown)) c.resume_opened.ensures.opened
+    (λ shown. subst (λ (f : Files). Found (paths_of d) f before) (earlier.kept ∙ judged.kept) (both.opened shown).0) c.resume_opened.ensures.opened
     (then_did _ _ _ (identity_order (option_text d.identity.pass) (option_text d.identity.shared))
     (Opened r.position.now ∷ Opened r.old.now ∷ Opened d.from.now ∷ (preparing (option_text d.save) ++ Created d.to.now ∷ [])) judged.noted
     (then_did _ _ _ (Opened r.position.now ∷ Opened r.old.now ∷ []) (Opened d.from.now ∷ (preparing (option_text d.save) ++ Created d.to.now ∷ [])) earlier.noted
     both.noted))
     (λ twice. absurd (judged.apart (c.names_one_twice-is_file_named_twice.ensures.twice twice)).1)
+    (λ shown. subst (λ (f : Files). IsFresh d.clobber (f d.to.now)) (earlier.kept ∙ judged.kept) (both.opened shown).1)
 
 pub returns-clause-announced : goal.returns-clause-announced
 returns-clause-announced g c = c.resume_opened.ensures.announced

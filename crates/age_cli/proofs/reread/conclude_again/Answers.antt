@@ -1,0 +1,22 @@
+use Rattle.std.proofs.Common.{subst}
+use Rattle.age_io.specs.Io.{SinkView}
+use Rattle.age_fileset.specs.FileSet.{FilesView}
+use Rattle.age_cli.specs.inner.Rereadings.{ConcludesFound}
+use Rattle.age_cli.proofs.reread.conclude_again.Goals as goal
+
+pub returns-clause-again : goal.returns-clause-again
+returns-clause-again g c =
+    let view = g.F.FileSet.view in
+    let Out = g.F.Out.Sink.view in
+    let shows = g.F.FileSet.shows_bytes in
+    let d = c.args.asked.now in
+    let again = c.args.again in
+    let told = c.settle-settled in
+    let ended = c.conclude_found in (
+      told.result,
+      told.ensures.all,
+      subst (λ (f : FilesView). ConcludesFound shows d (Out c.args.out.out) again.from again.stopped again.key f (view ended.new.files) ended.result told.result)
+          told.ensures.kept
+          (subst (λ (s : SinkView). ConcludesFound shows d s again.from again.stopped again.key (view told.new.files) (view ended.new.files) ended.result
+          told.result) told.ensures.same ended.ensures.again),
+    )
