@@ -381,10 +381,17 @@ impl HostOut {
         Ok(out)
     }
 
-    /// Makes a file, if nothing has the name, not even a link.
-    pub fn make(alloc: Global, rt: &HostRuntime, name: &str) -> io::Result<HostOut> {
+    /// Makes a file, if nothing has the name, not even a link. The disk is waited for as by `open`.
+    pub fn make(
+        alloc: Global,
+        rt: &HostRuntime,
+        name: &str,
+        durability: Durability,
+    ) -> io::Result<HostOut> {
         let path = PathBuf::from_str(alloc, name)?;
-        HostOut::of_file(rt, OutFile::make(rt, path)?)
+        let mut out = HostOut::of_file(rt, OutFile::make(rt, path)?)?;
+        out.durability = durability;
+        Ok(out)
     }
 
     fn of_file(rt: &HostRuntime, out: OutFile) -> io::Result<HostOut> {

@@ -472,7 +472,7 @@ impl<'r, 'w> FileSet for HostFiles<'r, 'w> {
 
     fn create_new(&mut self, alloc: Global, name: &str) -> Result<WatchedOut<'r, 'w>, OpenFault> {
         self.log.created(name);
-        match HostOut::make(alloc, self.rt, name) {
+        match HostOut::make(alloc, self.rt, name, self.durability) {
             Ok(out) => self.admit_created(name, out),
             Err(error) => Err(self.refusal(name, error)),
         }
