@@ -15,7 +15,6 @@ use Rattle.age_file.specs.declared.decryption.Stopped.{Stopped}
 use Rattle.age_file.specs.declared.position.Position.{Position}
 use Rattle.age_file.specs.declared.position.PositionPolicy.{PositionPolicy}
 use Rattle.age_fault.specs.declared.fault.FileFault.{FileFault}
-use Rattle.age_fault.specs.declared.fault.FileFault.TheVariants as fault
 use Rattle.age_fileset.specs.FileSet.{FilesView}
 use Rattle.age_command.specs.Files.{Files, SparesBoth}
 use Rattle.age_command.specs.declared.ending.Ending.{Ending}

@@ -3,7 +3,8 @@
 ghost use Rattle.std.specs.Prelude.{◌≡◌, ◌≤◌, ℕ, None, Some, IfNone, IfOk, IfSome};
 ghost use Rattle.clap.specs.Words.{subcommand_rows_of, rows_of, found_of, one_of, first_of, FailsBy};
 ghost use Rattle.clap.specs.Walk.{texts};
-ghost use Rattle.age_cli_args.specs.Requests.{refusals, is_given, IsNumber, option_text, IsClobber, IsDurability, IsProgress};
+ghost use Rattle.age_cli_args.specs.Requests.{refusals, is_given, IsNumber, option_text};
+ghost use Rattle.age_cli_args.specs.Requests.{IsClobber, IsDurability, IsProgress};
 ghost use Rattle.age_cli_args.specs.Requests.{IsEncrypting, IsIdentityOptions, IsDecrypting, IsResuming, IsDrilling};
 ghost use Rattle.age_cli_args.specs.Requests.{IsRequest, Requests};
 ghost use Rattle.age_cli_args.specs.declared.request.Encrypting.{Encrypting};
