@@ -1,27 +1,8 @@
--- Bytes that are shown, one call after another; results in other words.
-use Rattle.std.proofs.Common.{◌≡◌, ℕ, ◌+◌, ◌-◌, ◌^◌, min, List, ◌++◌, Option, Some, None, Result, Ok, Err, sym, ap, ◌∙◌, append_assoc, inl, inr, arith}
+-- Results in other words.
+use Rattle.std.proofs.Common.{◌≡◌, ℕ, ◌+◌, ◌-◌, ◌^◌, min, Result, Ok, Err, inl, inr, arith}
 use Rattle.std.proofs.lemmas.Bool.{cases_lt}
 use Rattle.std.specs.Prelude.{MatchResult, IfErr}
-use Rattle.std.specs.Io.KnownBytes.{Consumes, Appends, Keeps}
 use Rattle.age_fault.specs.Faults.{HasRisen}
-
-pub Consumes-then : (a b c : Option (List ℕ)) (x y : List ℕ) → Consumes a b x → Consumes b c y → Consumes a c (x ++ y)
-Consumes-then None b c x y p q = tt
-Consumes-then (Some a) None c x y p q = absurd p
-Consumes-then (Some a) (Some b) None x y p q = absurd q
-Consumes-then (Some a) (Some b) (Some c) x y p q = p ∙ ap (λ (t : List ℕ). x ++ t) q ∙ sym (append_assoc x y c)
-
-pub Appends-then : (a b c : Option (List ℕ)) (x y : List ℕ) → Appends a b x → Appends b c y → Appends a c (x ++ y)
-Appends-then None b c x y p q = tt
-Appends-then (Some a) None c x y p q = absurd p
-Appends-then (Some a) (Some b) None x y p q = absurd q
-Appends-then (Some a) (Some b) (Some c) x y p q = q ∙ ap (λ (t : List ℕ). t ++ y) p ∙ append_assoc a x y
-
-pub Appends-Keeps : (a b c : Option (List ℕ)) (x : List ℕ) → Appends a b x → Keeps b c → Appends a c x
-Appends-Keeps None b c x p q = tt
-Appends-Keeps (Some a) None c x p q = absurd p
-Appends-Keeps (Some a) (Some b) None x p q = absurd q
-Appends-Keeps (Some a) (Some b) (Some c) x p q = q ∙ p
 
 -- a count of failures that was raised by one
 pub risen : (old new : ℕ) → new ≡ min (old + 1) (2 ^ 64 - 1) → HasRisen old new

@@ -1,7 +1,7 @@
 //! Writes all of some bytes, and counts them; flushes.
 
 ghost use Rattle.std.specs.Prelude.{◌≡◌, ◌+◌, ◌^◌, ◌<◌, length, IfErr, OnOk, MatchResult, true};
-ghost use Rattle.std.specs.Io.KnownBytes.{Keeps};
+ghost use Rattle.age_io.specs.Taken.{Keeps};
 ghost use Rattle.age_fault.specs.Faults.{HasFailed, Writes};
 ghost use Rattle.age_fault.specs.declared.fault.FileFault.TheVariants.{Write};
 

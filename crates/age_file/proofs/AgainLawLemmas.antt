@@ -2,6 +2,7 @@
 use Rattle.std.proofs.Common.{◌≡◌, ℕ, ◌/◌, ◌<◌, ◌≤◌, min, List, [], ◌++◌, length, Option, Some, None}
 use Rattle.std.proofs.Common.{refl, sym, ap, subst, ◌∙◌, arith, append_assoc, true, false, ◌*◌}
 use Rattle.std.proofs.lemmas.List.{length-append}
+use Rattle.age_io.specs.Supply.{Supply}
 use Rattle.age_chunk.specs.Payload.{block_length, chunk_limit, chunk_length}
 use Rattle.age_stanza.specs.declared.header.Header.{Header}
 use Rattle.age_stanza.specs.Laws.{OneHeader}
@@ -29,11 +30,11 @@ pub record IsSameFront (r q : Run) (left rest : List ℕ) : Type 0 where
   pub behind : (r.skipped ++ r.bytes) ++ left ≡ (q.skipped ++ q.bytes) ++ rest
 
 pub fronts : OneHeader → (A B : Header → List ℕ → Type 0)
-    (was now before after : Option (List ℕ)) (bytes : List ℕ) (r q : Run)
-    → was ≡ Some bytes → before ≡ Some bytes
+    (was now before after : Supply) (bytes : List ℕ) (r q : Run)
+    → was.left ≡ Some bytes → before.left ≡ Some bytes
     → Reads A was now r.file (r.skipped ++ r.bytes)
     → Reads B before after q.file (q.skipped ++ q.bytes)
-    → (left : List ℕ) × (rest : List ℕ) × (now ≡ Some left) × (after ≡ Some rest)
+    → (left : List ℕ) × (rest : List ℕ) × (now.left ≡ Some left) × (after.left ≡ Some rest)
     × IsSameFront r q left rest
 fronts one A B was now before after bytes r q shown again a b =
     let s = left_of was now bytes _ shown a.read in
@@ -161,7 +162,7 @@ found_position : OneHeader → (Allows : Header → List ℕ → Type 0) (from :
     (before after : Ports) (written : ℕ) (r : Run) (old new : SourceView) (bytes : List ℕ)
     (next : Position)
     → first_of from < chunk_limit → r.first ≡ first_of from → IsRun Allows before after written r
-    → before.source.remaining ≡ Some bytes → old.remaining ≡ Some bytes
+    → before.source.remaining.left ≡ Some bytes → old.remaining.left ≡ Some bytes
     → IsFoundAgain (λ _ key. key ≡ r.file.key) from r.copied old new written next
     → IsPositionOf r next
 found_position one Allows from before after written r old new bytes next limit first is shown again

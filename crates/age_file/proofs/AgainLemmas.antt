@@ -21,7 +21,7 @@ use Rattle.age_file.specs.inner.Bindings.{chain_if}
 use Rattle.age_file.specs.inner.Copies.{Passes, StartsAt}
 use Rattle.age_file.specs.inner.Decrypts.{opens, EndsAs, PositionAt}
 use Rattle.age_file.specs.inner.Payloads.{DecryptsPayload, HasCounted, HasPlace}
-use Rattle.age_file.specs.inner.Readers.{Pulled, ReaderView, Stage, stage, writer_view}
+use Rattle.age_file.specs.inner.Readers.{start_at, Pulled, ReaderView, Stage, stage, writer_view}
 use Rattle.age_file.proofs.RunLemmas.{position_given}
 
 -- how long the text before the chunk is
@@ -30,14 +30,20 @@ pub size_before : (from : Option Position) (copied : List ℕ) → IsTextBefore 
 size_before None copied is = omega (arith, ap length is)
 size_before (Some p) copied is = is.size
 
--- a sink that shows no bytes
-abbrev unseen : SinkView
-unseen = record { taken = None; failed = 0; failing = false; label = []; settled = true }
+-- a sink that took these bytes
+abbrev that_took : List ℕ → SinkView
+that_took bytes = record {
+  taken = record { bytes = bytes; contents = None };
+  failed = 0;
+  failing = false;
+  label = [];
+  settled = true;
+}
 
 found_by : (Allows : Header → List ℕ → Type 0) (from : Option Position) (copied : List ℕ)
     (old new : SourceView) (r : Run) (written : ℕ) (fault : FileFault) (position : Option Position)
     → r.first ≡ first_of from → r.copied ≡ copied
-    → IsRun Allows (ports old unseen) (ports new unseen) written r
+    → IsRun Allows (ports old (that_took [])) (ports new (that_took (held r))) written r
     → GivesPosition Kept (IsPositionOf r) position
     → IfSome position (IsFoundAgain Allows from copied old new written)
 found_by Allows from copied old new r written fault None first_is copied_is is here = absurd here
@@ -46,8 +52,8 @@ found_by Allows from copied old new r written fault (Some p) first_is copied_is 
       run = r;
       first_is = first_is;
       copied_is = copied_is;
-      before = unseen;
-      after = unseen;
+      before = that_took [];
+      after = that_took (held r);
       is = is;
       here = here;
     }
@@ -61,9 +67,9 @@ module _ (Allows : Header → List ℕ → Type 0) (from : Option Position) (a :
   abbrev head : List ℕ
   head = s.front ++ unlocked.nonce
 
-  after_blocks : Pulled a.remaining m.source.remaining m.unread.pulls
+  after_blocks : Pulled (start_at a.remaining) m.source.remaining m.unread.pulls
       (head ++ (passed ++ m.unread.bytes))
-  after_blocks = passes.uses a.remaining head s.pulled
+  after_blocks = passes.uses (start_at a.remaining) head s.pulled
 
   -- there is room for what is after them
   pub place_after : HasPlace (stage m (writer_view sink t))
@@ -115,23 +121,23 @@ module _ (Allows : Header → List ℕ → Type 0) (from : Option Position) (a :
           ended = q.ended;
           out = q.out;
         } in
-        let all : Pulled a.remaining s2.reader.source.remaining s2.reader.unread.pulls
+        let all : Pulled (start_at a.remaining) s2.reader.source.remaining s2.reader.unread.pulls
         ((head ++ (passed ++ m.unread.bytes)) ++ q.fresh) =
-        q.pulled a.remaining (head ++ (passed ++ m.unread.bytes)) after_blocks in
+        q.pulled (start_at a.remaining) (head ++ (passed ++ m.unread.bytes)) after_blocks in
         let parts : (head ++ (passed ++ m.unread.bytes)) ++ q.fresh ≡ head ++ (passed ++ q.bytes) =
         append_assoc head (passed ++ m.unread.bytes) q.fresh
         ∙ ap (λ (x : List ℕ). head ++ x)
         (append_assoc passed m.unread.bytes q.fresh
         ∙ ap (λ (x : List ℕ). passed ++ x) q.parts) in
-        let pulls : Pulled a.remaining s2.reader.source.remaining s2.reader.unread.pulls
+        let pulls : Pulled (start_at a.remaining) s2.reader.source.remaining s2.reader.unread.pulls
         (head ++ (passed ++ q.bytes)) =
-        subst (λ (x : List ℕ). Pulled a.remaining s2.reader.source.remaining
+        subst (λ (x : List ℕ). Pulled (start_at a.remaining) s2.reader.source.remaining
         s2.reader.unread.pulls x) parts all in
         let long = size_before from copied before in
         let counts : HasCounted Kept (unbox unlocked.key unlocked.nonce) chunk_length (held r)
         (segment_of r) s2.writer.tally =
         q.counts Kept copied long index chained in
-        let run_is : IsRun Allows (ports a unseen) (ports s2.reader.source unseen)
+        let run_is : IsRun Allows (ports a (that_took [])) (ports s2.reader.source (that_took (held r)))
         s2.writer.tally.written r = record {
           reads = record {
             text = s.text;
@@ -142,7 +148,7 @@ module _ (Allows : Header → List ℕ → Type 0) (from : Option Position) (a :
           copied_size = long;
           skipped_size = size;
           at_end = q.at_end;
-          wrote = tt;
+          wrote = record { bytes = refl; contents = tt };
           count = omega (arith, q.count, written, long, length-append copied q.out);
           prefix = q.prefix;
         } in

@@ -1,26 +1,26 @@
 -- Bytes that are shown, one call after another.
-use Rattle.std.proofs.Common.{◌≡◌, ℕ, ◌≤◌, List, [], ◌++◌, length, take, drop, Option, Some, None, refl, sym, ap, subst, ◌∙◌, append_assoc, append-nil, inl}
-use Rattle.std.proofs.Common.{inr, arith}
+use Rattle.std.proofs.Common.{◌≡◌, ℕ, ◌≤◌, List, [], ◌++◌, length, take, drop, Option, Some, None, sym, ap, subst, ◌∙◌, append_assoc, append-nil, inl, inr}
+use Rattle.std.proofs.Common.{arith}
 use Rattle.std.specs.Prelude.{◌⊎◌, IfSome}
-use Rattle.std.specs.Io.KnownBytes.{Consumes, IsAtEnd}
-use Rattle.std.proofs.lemmas.List.{append_cancel_left, length-append, take-append-drop}
+use Rattle.std.specs.Io.KnownBytes as known
+use Rattle.age_io.specs.Supply.{Supply, Consumes, IsAtEnd}
+use Rattle.std.proofs.lemmas.List.{take-append-drop}
 use Rattle.age_io.specs.Io.{SourceView}
 use Rattle.age_stanza.specs.declared.fault.HeadFault.{HeadFault}
 use Rattle.age_stanza.specs.declared.fault.HeadKind.{HeadKind}
 use Rattle.age_stanza.specs.declared.fault.HeadKind.TheVariants.{NotAge, Armored, BadStanzaLine, BadBody, BadEndLine, NoStanza, HeadTooLong, HeadCut, Memory}
 use Rattle.age_stanza.specs.Parsing.{HasHeader, IsFault, memory_fault}
-use Rattle.std.proofs.KnownBytes.{Consumes-nil}
+use Rattle.age_io.proofs.SupplyLemmas.{Consumes-nil}
 use Rattle.age_stanza.proofs.AnyPiecesLemmas.{more_fault}
 use Rattle.age_stanza.proofs.FinishedLineLemmas.{nothing_under_way}
 use Rattle.age_stanza.proofs.PieceLemmas.{none_held}
 use Rattle.age_stanza.proofs.FaultLemmas.{no_fault}
 use Rattle.age_stream.specs.Headline.{IsPrefixOf}
-use Rattle.age_fault.proofs.ByteLemmas.{Consumes-then}
 use Rattle.age_file.specs.Runs.{pull_room, EndsInHeader, InHeader, IsCut, IsHeadFault, ReportsFault, StopsAtHeader, HeadFails}
 use Rattle.age_fault.specs.inner.Faults.{fault_of, fault_by_kind}
 use Rattle.age_fault.specs.declared.fault.FileFault.{FileFault}
 use Rattle.age_fault.specs.declared.fault.FileFault.TheVariants.{Head, Read, ReadNeverEnds, Memory as FileMemory}
-use Rattle.age_file.specs.inner.Readers.{Pulled, PullFails, ReaderView, reader_view}
+use Rattle.age_file.specs.inner.Readers.{Start, start_at, start_after, Pulled, PullFails, ReaderView, reader_view}
 use Rattle.age_fault.specs.Faults.{HasFailed}
 use Rattle.age_file.specs.inner.Unread.{Unread}
 
@@ -34,7 +34,7 @@ prefix_trans x y z p q = (
 
 -- ---- headers
 
-pub stops_at : (old new : Option (List ℕ)) (held piece : List ℕ) → length piece ≤ pull_room
+pub stops_at : (old new : Supply) (held piece : List ℕ) → length piece ≤ pull_room
     → EndsInHeader held → Consumes old new (held ++ piece)
     → StopsAtHeader old new
 stops_at old new held piece most inside consumed = record {
@@ -46,14 +46,14 @@ stops_at old new held piece most inside consumed = record {
 }
 
 -- the last pull gave nothing
-pub stops_at_held : (old new : Option (List ℕ)) (held : List ℕ) → Consumes old new held
+pub stops_at_held : (old new : Supply) (held : List ℕ) → Consumes old new held
     → EndsInHeader held → StopsAtHeader old new
 stops_at_held old new held consumed inside =
     stops_at old new held [] (omega arith) inside
     (subst (λ (t : List ℕ). Consumes old new t) (sym (append-nil held)) consumed)
 
 -- nothing was pulled
-pub stops_unread : (a : Option (List ℕ)) → StopsAtHeader a a
+pub stops_unread : (a : Supply) → StopsAtHeader a a
 stops_unread a =
     let started = nothing_under_way in
     stops_at_held a a [] (Consumes-nil a) (record {
@@ -82,7 +82,7 @@ abbrev OfAll : Option (List ℕ) → HeadFault → Type 0
 OfAll old fault = IfSome old (λ (all : List ℕ). IsHeadFault all fault)
 
 whole_fault : (old new : Option (List ℕ)) (bytes : List ℕ) (fault : HeadFault)
-    → Consumes old new bytes → (HasHeader bytes → ⊥) → IsFault bytes fault
+    → known.Consumes old new bytes → (HasHeader bytes → ⊥) → IsFault bytes fault
     → OfAll old fault
 whole_fault None new bytes fault consumed none is = tt
 whole_fault (Some all) None bytes fault consumed none is = absurd consumed
@@ -91,7 +91,7 @@ whole_fault (Some all) (Some rest) bytes fault consumed none is =
     subst (λ (t : List ℕ). IsHeadFault t fault) (sym consumed) (more.0, inl more.1)
 
 whole_cut : (old new : Option (List ℕ)) (bytes : List ℕ) (fault : HeadFault)
-    → Consumes old new bytes → IsAtEnd new → IsCut bytes fault → OfAll old fault
+    → known.Consumes old new bytes → known.IsAtEnd new → IsCut bytes fault → OfAll old fault
 whole_cut None new bytes fault consumed ended cut = tt
 whole_cut (Some all) None bytes fault consumed ended cut = absurd consumed
 whole_cut (Some all) (Some rest) bytes fault consumed ended cut =
@@ -99,11 +99,11 @@ whole_cut (Some all) (Some rest) bytes fault consumed ended cut =
     subst (λ (t : List ℕ). IsHeadFault t fault) (sym same) (cut.0.no_header, inr cut)
 
 -- a fault that was reported is that of all that the source had
-pub fault_of_all : (old new : Option (List ℕ)) (fault : HeadFault) → ReportsFault old new fault
-    → OfAll old fault
+pub fault_of_all : (old new : Supply) (fault : HeadFault) → ReportsFault old new fault
+    → OfAll old.left fault
 fault_of_all old new fault r = elim r.reports [
-  | inl is ↦ whole_fault old new r.bytes fault r.consumed r.no_header is
-  | inr cut ↦ whole_cut old new r.bytes fault r.consumed cut.0 cut.1
+  | inl is ↦ whole_fault old.left new.left r.bytes fault r.consumed.left r.no_header is
+  | inr cut ↦ whole_cut old.left new.left r.bytes fault r.consumed.left cut.0.1 cut.1
 ]
 
 -- the input ended inside the header
@@ -136,7 +136,7 @@ piece_fails old new held piece fault stops consumed (inr is) =
     })
 
 -- the bytes are sound in another sense too
-pub sound_too : (P Q : Option (List ℕ) → Option (List ℕ) → Type 0) (old new : SourceView)
+pub sound_too : (P Q : Supply → Supply → Type 0) (old new : SourceView)
     (fault : FileFault)
     → (P old.remaining new.remaining → Q old.remaining new.remaining) → HeadFails P old new fault
     → HeadFails Q old new fault
@@ -147,7 +147,7 @@ sound_too P Q old new ReadNeverEnds sound f = (sound f.0, f.1)
 sound_too P Q old new other sound f = absurd f
 
 -- a refill that gave nothing
-pub cut_pulled : (start now : Option (List ℕ)) (pulls : ℕ) (held bytes : List ℕ) → bytes ≡ []
+pub cut_pulled : (start : Start) (now : Supply) (pulls : ℕ) (held bytes : List ℕ) → bytes ≡ []
     → Pulled start now pulls (held ++ bytes)
     → Pulled start now pulls held
 cut_pulled start now pulls held bytes none h =
@@ -157,7 +157,7 @@ cut_pulled start now pulls held bytes none h =
 -- a header was not read, since a pull gave nothing
 pub pull_fails : (old mid new : SourceView) (was now : Unread) (held : List ℕ) (fault : FileFault)
     → mid.failed ≡ old.failed
-    → EndsInHeader held → Pulled old.remaining new.remaining now.pulls held
+    → EndsInHeader held → Pulled (start_at old.remaining) new.remaining now.pulls held
     → PullFails (reader_view mid was) (reader_view new now) fault → HeadFails InHeader old new fault
 pull_fails old mid new was now held Read same inside all f =
     ((held, all.consumed, inside), subst (λ (m : ℕ). HasFailed m new.failed new.failing) same f)
@@ -178,50 +178,29 @@ pull_fails_since old mid new other same f = absurd f
 
 -- ---- the pulls of a call, over its two sources
 
--- a source that gives these bytes first
-abbrev pub preceded : List ℕ → Option (List ℕ) → Option (List ℕ)
-preceded front None = None
-preceded front (Some rest) = Some (front ++ rest)
-
-first_consumed : (front : List ℕ) (a : Option (List ℕ)) → Consumes (preceded front a) a front
-first_consumed front None = tt
-first_consumed front (Some rest) = refl
-
-pub preceded_consumed : (front y : List ℕ) (a b : Option (List ℕ))
-    → Consumes (preceded front a) b (front ++ y) → Consumes a b y
-preceded_consumed front y None b h = tt
-preceded_consumed front y (Some rest) None h = absurd h
-preceded_consumed front y (Some rest) (Some left) h =
-    append_cancel_left front rest (y ++ left) (h ∙ append_assoc front y left)
-
-preceded_then : (front y : List ℕ) (a b : Option (List ℕ)) → Consumes a b y
-    → Consumes (preceded front a) b (front ++ y)
-preceded_then front y a b h = Consumes-then (preceded front a) a b front y (first_consumed front a)
-    h
-
 -- the pulls of one source are counted on at another
-pub counted_on : (a b c : Option (List ℕ)) (pulls : ℕ) (front : List ℕ) → Pulled a b pulls front
-    → Pulled (preceded front c) c pulls (front ++ [])
+pub counted_on : (a b c : Supply) (pulls : ℕ) (front : List ℕ) → Pulled (start_at a) b pulls front
+    → Pulled (start_after front c) c pulls []
 counted_on a b c pulls front h = record {
-  consumed = preceded_then front [] c c (Consumes-nil c);
-  each_gave = omega (arith, h.each_gave, ap length (append-nil front));
-  small = omega (arith, h.small, ap length (append-nil front));
+  consumed = Consumes-nil c;
+  each_gave = omega (arith, h.each_gave);
+  small = omega (arith, h.small);
   most = h.most;
 }
 
 -- and back
-pub counted_back : (a b c d : Option (List ℕ)) (pulls total : ℕ) (x y : List ℕ) → Pulled a b pulls x
-    → Pulled (preceded x c) d total (x ++ y)
-    → Pulled (preceded y a) b total (y ++ x)
+pub counted_back : (a b c d : Supply) (pulls total : ℕ) (x y : List ℕ)
+    → Pulled (start_at a) b pulls x → Pulled (start_after x c) d total y
+    → Pulled (start_after y a) b total x
 counted_back a b c d pulls total x y h k = record {
-  consumed = preceded_then y x a b h.consumed;
-  each_gave = omega (arith, k.each_gave, length-append x y, length-append y x);
-  small = omega (arith, k.small, length-append x y, length-append y x);
+  consumed = h.consumed;
+  each_gave = omega (arith, k.each_gave);
+  small = omega (arith, k.small);
   most = k.most;
 }
 
 -- the part of a piece that a header ends in, and the part that is left in the intake
-pub head_pulled : (start now : Option (List ℕ)) (old new : Unread) (held piece : List ℕ) (taken : ℕ)
+pub head_pulled : (start : Start) (now : Supply) (old new : Unread) (held piece : List ℕ) (taken : ℕ)
     → new.pulls ≡ old.pulls → piece ≡ old.bytes
     → new.bytes ≡ drop taken old.bytes
     → Pulled start now old.pulls (held ++ old.bytes)
@@ -236,7 +215,7 @@ head_pulled start now old new held piece taken pulls is rest h =
     (subst (λ (t : List ℕ). Pulled start now old.pulls t) e h)
 
 -- a refill that gave bytes, all of which are counted now
-pub rest_pulled : (start now : Option (List ℕ)) (pulls new_pulls : ℕ) (used passed fresh : List ℕ)
+pub rest_pulled : (start : Start) (now : Supply) (pulls new_pulls : ℕ) (used passed fresh : List ℕ)
     → new_pulls ≡ pulls
     → Pulled start now pulls ((used ++ passed) ++ fresh)
     → Pulled start now new_pulls (used ++ (passed ++ fresh))

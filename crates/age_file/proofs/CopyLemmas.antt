@@ -3,7 +3,7 @@ use Rattle.std.proofs.Common.{append_assoc, ◌≡◌, ℕ, suc, ◌+◌, ◌*�
 use Rattle.std.proofs.lemmas.List.{length-append, take_all, take-append-drop}
 use Rattle.std.proofs.Math.Seq.{drop-append_seam}
 use Rattle.std.specs.Simd.{first_chunks}
-use Rattle.std.specs.Io.KnownBytes.{Appends}
+use Rattle.age_io.specs.Taken.{Appends}
 use Rattle.age_chunk.proofs.FirstChunkLemmas.{first_chunks-append, first_chunks_more}
 use Rattle.age_stream.specs.Headline.{IsPrefixOf}
 use Rattle.age_fault.specs.Faults.{HasFailed}
@@ -12,7 +12,7 @@ use Rattle.age_file.specs.inner.Readers.{ReaderView, WriterView}
 use Rattle.age_file.specs.inner.Copies.{Passes, Dries, FailsInCopy, CopiesChunk, CopiesAll, TextFails}
 use Rattle.age_fault.specs.declared.fault.FileFault.{FileFault}
 use Rattle.age_fault.specs.declared.fault.FileFault.TheVariants.{ShortText, Read, Write, ReadNeverEnds, OldTextDiffers}
-use Rattle.age_fault.proofs.ByteLemmas.{Appends-then}
+use Rattle.age_io.proofs.TakenLemmas.{Appends-trans}
 use Rattle.age_file.proofs.CountLemmas.{chain_on}
 use Rattle.age_file.proofs.SkipLemmas.{passes_then, dries_then, within}
 
@@ -59,7 +59,7 @@ pub chunk_failed : (n chunks i : ℕ) (x y z : ReaderView) (a b c : WriterView) 
     → CopiesAll n chunks x z a c (Err fault)
 chunk_failed n chunks i x y z a b c p fault size lt f wrote named same count g = record {
   out = p ++ g.out;
-  wrote = Appends-then a.sink.taken b.sink.taken c.sink.taken p g.out wrote g.wrote;
+  wrote = Appends-trans a.sink.taken b.sink.taken c.sink.taken p g.out wrote g.wrote;
   named = g.named ∙ named;
   count = omega (arith, count, g.count, length-append p g.out);
   answered = (

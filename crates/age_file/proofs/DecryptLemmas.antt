@@ -9,13 +9,13 @@ use Rattle.age_file.specs.inner.Decrypts.{opens, PositionAt, EndsAs}
 use Rattle.age_keys.specs.Keys.{payload_key, unbox}
 use Rattle.age_fault.specs.Faults.{HasFailed}
 use Rattle.age_io.specs.Io.{SourceView, SinkView}
-use Rattle.age_file.specs.inner.Readers.{Pulled, Stage}
+use Rattle.age_file.specs.inner.Readers.{start_at, Pulled, Stage}
 use Rattle.age_file.specs.inner.Payloads.{DecryptsPayload, SegmentFails, SegmentDone, HasCounted}
 use Rattle.age_file.specs.Decrypts.{StartFails, DecryptsKeyed, DecryptStops}
 use Rattle.age_file.specs.inner.Copies.{StartsAt}
 use Rattle.age_file.specs.Runs.{Run, IsFromStart, segment_of, held, IsRun, PayloadFails, IsDone, IsPositionOf, NeverEnds, Ports, NoneFailed}
 use Rattle.age_file.proofs.RunLemmas.{position_given, position_due}
-use Rattle.age_file.specs.Bindings.{file_id, position_tag, chain}
+use Rattle.age_file.specs.Bindings.{file_id, position_tag}
 use Rattle.age_file.specs.inner.Bindings.{chain_if}
 use Rattle.age_file.specs.declared.position.PositionPolicy.{PositionPolicy}
 use Rattle.age_file.specs.declared.position.Position.{Position}
@@ -47,7 +47,7 @@ module _ (keep : PositionPolicy) (Allows : Header → List ℕ → Type 0) (Refu
 
   fails : (a : SourceView) (old new : Stage) (r : Run) (pulled : List ℕ) (fault : FileFault)
       → old.reader.source.failed ≡ a.failed
-      → Pulled a.remaining new.reader.source.remaining new.reader.unread.pulls pulled
+      → Pulled (start_at a.remaining) new.reader.source.remaining new.reader.unread.pulls pulled
       → SegmentFails (unbox r.file.key r.file.nonce) chunk_length old new (segment_of r) r.out fault
       → PayloadFails (NeverEnds a.remaining new.reader.source.remaining) (before a old) (after new)
       r fault
@@ -82,7 +82,7 @@ module _ (keep : PositionPolicy) (Allows : Header → List ℕ → Type 0) (Refu
     pub nonce_is : run.file.nonce ≡ unlocked.nonce
     pub id : unlocked.id ≡ file_id run.file.header_bytes run.file.nonce
     pub is : IsRun Allows (before a old) (after new) new.writer.tally.written run
-    pub pulled : Pulled a.remaining new.reader.source.remaining new.reader.unread.pulls
+    pub pulled : Pulled (start_at a.remaining) new.reader.source.remaining new.reader.unread.pulls
         ((run.file.header_bytes ++ run.file.nonce) ++ run.bytes)
     pub counts : HasCounted keep (unbox run.file.key run.file.nonce) chunk_length (held run)
         (segment_of run) new.writer.tally
@@ -102,14 +102,14 @@ module _ (keep : PositionPolicy) (Allows : Header → List ℕ → Type 0) (Refu
       → IsDecrypted a unlocked old new result
   decrypted a unlocked old new result none index chain_none s p =
       let head = s.front ++ unlocked.nonce in
-      let all : Pulled a.remaining new.reader.source.remaining new.reader.unread.pulls
+      let all : Pulled (start_at a.remaining) new.reader.source.remaining new.reader.unread.pulls
       ((head ++ old.reader.unread.bytes) ++ p.fresh) =
-      p.pulled a.remaining (head ++ old.reader.unread.bytes) s.pulled in
+      p.pulled (start_at a.remaining) (head ++ old.reader.unread.bytes) s.pulled in
       let parts : (head ++ old.reader.unread.bytes) ++ p.fresh ≡ head ++ p.bytes =
       append_assoc head old.reader.unread.bytes p.fresh ∙ ap (λ (t : List ℕ). head ++ t) p.parts in
-      let pulls : Pulled a.remaining new.reader.source.remaining new.reader.unread.pulls
+      let pulls : Pulled (start_at a.remaining) new.reader.source.remaining new.reader.unread.pulls
       (head ++ p.bytes) =
-      subst (λ (t : List ℕ). Pulled a.remaining new.reader.source.remaining new.reader.unread.pulls
+      subst (λ (t : List ℕ). Pulled (start_at a.remaining) new.reader.source.remaining new.reader.unread.pulls
       t) parts all in
       let zero_len : length {A = ℕ} [] ≡ 0 * chunk_length = omega arith in
       let zero_size : length {A = ℕ} [] ≡ 0 * block_length = omega arith in

@@ -1,8 +1,9 @@
 -- A file's front, and what of the file was written.
 use Rattle.std.proofs.Common.{◌≡◌, ℕ, refl, sym, ap, subst, ◌∙◌, List, [], ◌++◌, length, append_assoc, append-nil, arith, Result, Ok, Err, IfOk, IfErr}
 use Rattle.std.proofs.lemmas.List.{length-append}
-use Rattle.std.specs.Io.KnownBytes.{Consumes, Appends}
-use Rattle.std.proofs.KnownBytes.{Consumes-nil}
+use Rattle.age_io.specs.Taken.{Appends}
+use Rattle.age_io.specs.Supply.{Consumes}
+use Rattle.age_io.proofs.SupplyLemmas.{Consumes-nil}
 use Rattle.age_chunk.specs.Payload.{payload, chunk_length}
 use Rattle.age_keys.specs.Keys.{header_mac, IsMacOf, box}
 use Rattle.age_keys.specs.Scrypt.{scrypt_head}
@@ -16,7 +17,7 @@ use Rattle.age_file.specs.Runs.{Ports, ports, NoneFailed, WriteFailed}
 use Rattle.age_fault.specs.declared.fault.FileFault.{FileFault}
 use Rattle.age_fault.specs.declared.fault.FileFault.TheVariants.{Head, Key, NonceCut, Stream, BadPosition, OtherFile, ShortText, Read, Write, Memory}
 use Rattle.age_fault.specs.declared.fault.FileFault.TheVariants.{ReadNeverEnds, PositionForged, OldTextDiffers}
-use Rattle.age_fault.proofs.ByteLemmas.{Appends-then}
+use Rattle.age_io.proofs.TakenLemmas.{Appends-trans}
 
 mac_holds : (pass : List ℕ) (log : ℕ) (salt key : List ℕ)
     → IsMacOf (scrypt_head pass log salt key) key
@@ -77,7 +78,7 @@ module _ (s : SecretView) (front : List ℕ) (begins : BeginsFile s front) where
           is = file_of a.text;
           read = subst (λ t. Consumes t new.source.remaining a.text) coming a.moved.read;
           at_end = a.at_end;
-          wrote = Appends-then old.sink.taken mid.sink.taken new.sink.taken front
+          wrote = Appends-trans old.sink.taken mid.sink.taken new.sink.taken front
               (payload (box s.key s.nonce) chunk_length a.text) wrote a.moved.wrote;
           plain_is = a.plain_is;
           file_is = omega (
@@ -144,7 +145,7 @@ module _ (s : SecretView) (front : List ℕ) (begins : BeginsFile s front) where
           out = front ++ a.out;
           is = file_of a.text;
           read = subst (λ t. Consumes t new.source.remaining a.text) coming a.moved.read;
-          wrote = Appends-then old.sink.taken mid.sink.taken new.sink.taken front a.out wrote
+          wrote = Appends-trans old.sink.taken mid.sink.taken new.sink.taken front a.out wrote
               a.moved.wrote;
           prefix = (
             a.prefix.0,

@@ -3,7 +3,7 @@
 use Rattle.std.proofs.Common.{◌≡◌, ℕ, ◌+◌, ◌*◌, ◌^◌, ◌<◌, ◌≤◌, List, [], ◌++◌, length, Option, refl, sym, ap, subst, ◌∙◌, arith, append-nil, append_assoc, Bool}
 use Rattle.std.proofs.Common.{true, false}
 use Rattle.std.specs.Prelude.{Result, Ok, Err, ◌⊎◌}
-use Rattle.std.specs.Io.KnownBytes.{IsAtEnd}
+use Rattle.age_io.specs.Supply.{IsAtEnd}
 use Rattle.std.proofs.lemmas.List.{length-append}
 use Rattle.age_io.specs.Io.{SourceView}
 use Rattle.age_stream.specs.declared.step.Status.TheVariants.{Failed, Done}
@@ -12,7 +12,7 @@ use Rattle.age_stream.specs.Opener.{OpenerView, has_failed}
 use Rattle.age_fault.specs.Faults.{HasFailed}
 use Rattle.age_file.specs.Runs.{NoneFailed, ReadFailed, WriteFailed, pull_room}
 use Rattle.age_file.specs.inner.Unread.{Unread}
-use Rattle.age_file.specs.inner.Readers.{ReaderView, reader_view, WriterView, Stage, stage, ports_at, Pulled, Refills, PullFails}
+use Rattle.age_file.specs.inner.Readers.{ReaderView, reader_view, WriterView, Stage, stage, Start, ports_at, Pulled, Refills, PullFails}
 use Rattle.age_file.specs.inner.Payloads.{Releases, FeedsPiece, FeedFails}
 use Rattle.age_fault.specs.declared.fault.FileFault.{FileFault}
 use Rattle.age_fault.specs.declared.fault.FileFault.TheVariants.{Stream, Read, Write, ReadNeverEnds}
@@ -42,7 +42,7 @@ module _ {B : Type 0} (opening : B → List ℕ → List ℕ → Option (List �
     pub fresh : List ℕ
     pub parts : old.reader.unread.bytes ++ fresh ≡ fed ++ left
     pub releases : Releases opening n (λ s. with_piece s fed) a b old.writer new.writer unwritten
-    pub pulled : (start : Option (List ℕ)) (bytes : List ℕ)
+    pub pulled : (start : Start) (bytes : List ℕ)
         → Pulled start old.reader.source.remaining old.reader.unread.pulls bytes
         → Pulled start new.reader.source.remaining new.reader.unread.pulls (bytes ++ fresh)
 

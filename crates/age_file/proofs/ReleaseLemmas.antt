@@ -5,7 +5,7 @@ use Rattle.std.specs.List.{flat_map}
 use Rattle.std.specs.Borrow.{Bor}
 use Rattle.std.proofs.lemmas.Grind.{flat_map-append}
 use Rattle.std.proofs.lemmas.List.{length-append, length-take}
-use Rattle.std.specs.Io.KnownBytes.{Appends}
+use Rattle.age_io.specs.Taken.{Appends}
 use Rattle.age_stream.specs.Segment.{Segment, outcome, released, with_piece}
 use Rattle.age_stream.specs.Opener.{has_failed, OpenerView, Stands, chunk_texts, chunk_bytes}
 use Rattle.age_stream.proofs.LawLemmas.{pieces_join}
@@ -19,8 +19,8 @@ use Rattle.age_file.specs.inner.Bindings.{link_if}
 use Rattle.age_file.specs.declared.position.PositionPolicy.{PositionPolicy}
 use Rattle.age_file.specs.declared.tally.Tally.{Tally}
 use Rattle.age_file.proofs.CountLemmas.{no_piece, piece_start, mark_step, mark_none, mark_cut}
-use Rattle.age_fault.proofs.ByteLemmas.{Appends-then}
-use Rattle.std.proofs.KnownBytes.{Appends-nil}
+use Rattle.age_io.proofs.TakenLemmas.{Appends-trans}
+use Rattle.age_io.proofs.TakenLemmas.{Appends-nil}
 
 -- what was lent, joined
 lent_flat : (chunk : Option (Bor (List ℕ))) → flat_map (λ (t : List ℕ). t) (chunk_texts chunk)
@@ -73,7 +73,7 @@ module _ {B : Type 0} (opening : B → List ℕ → List ℕ → Option (List �
       record {
         out = p.out ++ q.out;
         key = q.key ∙ p.key;
-        wrote = Appends-then was.sink.taken between.sink.taken now.sink.taken p.out q.out p.wrote
+        wrote = Appends-trans was.sink.taken between.sink.taken now.sink.taken p.out q.out p.wrote
             q.wrote;
         named = q.named ∙ p.named;
         count = omega (arith, p.count, q.count, length-append p.out q.out);

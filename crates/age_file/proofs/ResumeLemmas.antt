@@ -9,7 +9,9 @@ use Rattle.age_file.specs.Resumes.{IsOldText, NeverEndTogether, BeforeOldFails, 
 use Rattle.age_file.specs.declared.decryption.Done.{Done}
 use Rattle.age_file.specs.declared.decryption.Stopped.{Stopped}
 use Rattle.std.specs.Simd.{first_chunks}
-use Rattle.std.specs.Io.KnownBytes.{Consumes, Appends}
+use Rattle.age_io.specs.Taken.{Appends}
+use Rattle.std.specs.Io.KnownBytes as known
+use Rattle.age_io.specs.Supply.{Supply, Consumes}
 use Rattle.std.proofs.lemmas.List.{length-append, length-take, take_at, take-append-drop, take-append-le}
 use Rattle.std.proofs.Math.Nat.{mul-le-mul_right}
 use Rattle.age_stanza.specs.declared.header.Header.{Header}
@@ -22,7 +24,7 @@ use Rattle.age_file.specs.inner.Bindings.{chain_if}
 use Rattle.age_file.specs.declared.position.PositionPolicy.TheVariants.{Kept, Dropped}
 use Rattle.age_file.specs.inner.Copies.{CopiesText, Passes, SkipFails, Uses, StartsAt}
 use Rattle.age_fault.specs.Faults.{HasFailed}
-use Rattle.age_file.specs.inner.Readers.{ReaderView, reader_view, WriterView, Stage, stage, Pulled}
+use Rattle.age_file.specs.inner.Readers.{ReaderView, reader_view, WriterView, Stage, stage, Pulled, start_after}
 use Rattle.age_file.specs.inner.Payloads.{HasCounted, HasPlace, DecryptsPayload, SegmentFails, SegmentDone}
 use Rattle.age_file.specs.Runs.{Run, segment_of, held, Reads, IsRun, GivesPosition, PayloadFails, IsDone, OpenedFile, IsPositionOf, pull_room}
 use Rattle.age_file.proofs.RunLemmas.{position_given, position_due}
@@ -36,8 +38,8 @@ use Rattle.age_fault.specs.declared.fault.FileFault.TheVariants.{Stream, OtherFi
 use Rattle.age_file.specs.declared.position.Position.{Position}
 use Rattle.age_file.specs.declared.position.PositionPolicy.{PositionPolicy}
 use Rattle.age_file.specs.declared.start.Unlocked.{Unlocked}
-use Rattle.age_file.proofs.ByteLemmas.{prefix_trans, preceded, preceded_consumed, counted_on, counted_back}
-use Rattle.age_fault.proofs.ByteLemmas.{Appends-then}
+use Rattle.age_file.proofs.ByteLemmas.{prefix_trans, counted_on, counted_back}
+use Rattle.age_io.proofs.TakenLemmas.{Appends-trans}
 use Rattle.age_file.proofs.DecryptLemmas.{own_tag}
 use Rattle.age_chunk.specs.Payload.{block_length, chunk_length, chunk_limit}
 
@@ -57,7 +59,7 @@ cut_prefix x y z p q le =
     )
 
 shown_prefix : (all : List ℕ) (now : Option (List ℕ)) (pulled : List ℕ)
-    → Consumes (Some all) now pulled → IsPrefixOf pulled all
+    → known.Consumes (Some all) now pulled → IsPrefixOf pulled all
 shown_prefix all None pulled h = absurd h
 shown_prefix all (Some rest) pulled h = (rest, sym h)
 
@@ -65,13 +67,13 @@ take_prefix : (n : ℕ) (text : List ℕ) → IsPrefixOf (take n text) text
 take_prefix n text = (drop n text, take-append-drop n text)
 
 -- what was written of an old text is the beginning of the text that it is of
-old_of : (p : Position) (coming now : Option (List ℕ)) (pulled copied : List ℕ)
+old_of : (p : Position) (coming now : Supply) (pulled copied : List ℕ)
     → Consumes coming now pulled → IsPrefixOf copied pulled → length copied
     ≤ p.index * chunk_length
     → (text : List ℕ) → BeginsWith p coming text → IsPrefixOf copied text
 old_of p coming now pulled copied read front le text b =
-    let part = shown_prefix b.all now pulled
-    (subst (λ (c : Option (List ℕ)). Consumes c now pulled) b.shown read) in
+    let part = shown_prefix b.all now.left pulled
+    (subst (λ (c : Option (List ℕ)). known.Consumes c now.left pulled) b.shown read.left) in
     let size : length (take (p.index * chunk_length) text) ≡ p.index * chunk_length =
     omega (arith, length-take (p.index * chunk_length) text, b.within) in
     let begins = cut_prefix copied (take (p.index * chunk_length) text) b.all
@@ -112,7 +114,7 @@ module _ (keep : PositionPolicy) (Allows : Header → List ℕ → Type 0) (Refu
   }
 
   reads_of : (a : SourceView) (b : ReaderView) (unlocked : Unlocked)
-      (s : StartsAt Allows a b unlocked) (c : Option (List ℕ)) (rest : List ℕ)
+      (s : StartsAt Allows a b unlocked) (c : Supply) (rest : List ℕ)
       → Consumes a.remaining c ((s.front ++ unlocked.nonce) ++ rest)
       → Reads Allows a.remaining c (opened a b unlocked s) rest
   reads_of a b unlocked s c rest read =
@@ -228,29 +230,27 @@ module _ (keep : PositionPolicy) (Allows : Header → List ℕ → Type 0) (Refu
 
     -- what was used of the old text, from its start
     old_pulled : (used : List ℕ) → Uses x z used
-        → Pulled (preceded started x.source.remaining) z.source.remaining z.unread.pulls
-        (started ++ (used ++ z.unread.bytes))
+        → Pulled (start_after started x.source.remaining) z.source.remaining z.unread.pulls
+        (used ++ z.unread.bytes)
     old_pulled used uses =
         let none_used = counted_on a.remaining s1.reader.source.remaining x.source.remaining u.pulls
         started s.pulled in
-        let fresh = subst (λ (k : ℕ). Pulled (preceded started x.source.remaining)
-        x.source.remaining k (started ++ [])) (sym pulls) none_used in
-        uses (preceded started x.source.remaining) started
-        (subst (λ (t : List ℕ). Pulled (preceded started x.source.remaining) x.source.remaining
-        x.unread.pulls (started ++ t)) (sym none) fresh)
+        let fresh = subst (λ (k : ℕ). Pulled (start_after started x.source.remaining)
+        x.source.remaining k []) (sym pulls) none_used in
+        uses (start_after started x.source.remaining) []
+        (subst (λ (t : List ℕ). Pulled (start_after started x.source.remaining) x.source.remaining
+        x.unread.pulls t) (sym none) fresh)
 
     old_dried : (used : List ℕ) → z.unread.bytes ≡ [] → Uses x z used
-        → Pulled (preceded started x.source.remaining) z.source.remaining z.unread.pulls
-        (started ++ used)
+        → Pulled (start_after started x.source.remaining) z.source.remaining z.unread.pulls used
     old_dried used empty uses =
-        subst (λ (t : List ℕ). Pulled (preceded started x.source.remaining) z.source.remaining
-        z.unread.pulls (started ++ t))
+        subst (λ (t : List ℕ). Pulled (start_after started x.source.remaining) z.source.remaining
+        z.unread.pulls t)
         (ap (λ (t : List ℕ). used ++ t) empty ∙ append-nil used) (old_pulled used uses)
 
-    old_read : (y : List ℕ) → Pulled (preceded started x.source.remaining) z.source.remaining
-        z.unread.pulls (started ++ y)
-        → Consumes x.source.remaining z.source.remaining y
-    old_read y h = preceded_consumed started y x.source.remaining z.source.remaining h.consumed
+    old_read : (y : List ℕ) → Pulled (start_after started x.source.remaining)
+        z.source.remaining z.unread.pulls y → Consumes x.source.remaining z.source.remaining y
+    old_read y h = h.consumed
 
     -- the copy of the old text stopped
     stops_in_old : (fault : FileFault) (out pulled : List ℕ)
@@ -364,35 +364,32 @@ module _ (keep : PositionPolicy) (Allows : Header → List ℕ → Type 0) (Refu
       abbrev old_bytes : List ℕ
       old_bytes = c.out ++ z.unread.bytes
 
-      old_used : Pulled (preceded started x.source.remaining) z.source.remaining z.unread.pulls
-          (started ++ old_bytes)
+      old_used : Pulled (start_after started x.source.remaining) z.source.remaining z.unread.pulls
+          old_bytes
       old_used = old_pulled c.out c.answered.1.uses
 
       old_is_read : Consumes x.source.remaining z.source.remaining old_bytes
       old_is_read = old_read old_bytes old_used
 
-      pub again : Pulled (preceded old_bytes a.remaining) s1.reader.source.remaining
-          s1.reader.unread.pulls ((old_bytes ++ head) ++ s1.reader.unread.bytes)
+      pub again : Pulled (start_after old_bytes a.remaining) s1.reader.source.remaining
+          s1.reader.unread.pulls (head ++ s1.reader.unread.bytes)
       again =
           let back = counted_back a.remaining s1.reader.source.remaining x.source.remaining
           z.source.remaining u.pulls z.unread.pulls started old_bytes s.pulled
           old_used in
-          let bytes = ap (λ (t : List ℕ). old_bytes ++ (head ++ t)) (sym kept)
-          ∙ sym (append_assoc old_bytes head s1.reader.unread.bytes) in
-          subst (λ (k : ℕ). Pulled (preceded old_bytes a.remaining) s1.reader.source.remaining k
-          ((old_bytes ++ head) ++ s1.reader.unread.bytes)) (sym on)
-          (subst (λ (t : List ℕ). Pulled (preceded old_bytes a.remaining) s1.reader.source.remaining
-          z.unread.pulls t) bytes back)
+          subst (λ (k : ℕ). Pulled (start_after old_bytes a.remaining) s1.reader.source.remaining k
+          (head ++ s1.reader.unread.bytes)) (sym on)
+          (subst (λ (t : List ℕ). Pulled (start_after old_bytes a.remaining)
+          s1.reader.source.remaining z.unread.pulls (head ++ t)) (sym kept) back)
 
       read_on : (now : ReaderView) (y : List ℕ)
-          → Pulled (preceded old_bytes a.remaining) now.source.remaining now.unread.pulls
-          (old_bytes ++ y)
+          → Pulled (start_after old_bytes a.remaining) now.source.remaining now.unread.pulls y
           → Consumes a.remaining now.source.remaining y
-      read_on now y h = preceded_consumed old_bytes y a.remaining now.source.remaining h.consumed
+      read_on now y h = h.consumed
 
       never_end : (s2 : Stage) (y : List ℕ)
-          → Pulled (preceded old_bytes a.remaining) s2.reader.source.remaining
-          s2.reader.unread.pulls (old_bytes ++ y)
+          → Pulled (start_after old_bytes a.remaining) s2.reader.source.remaining
+          s2.reader.unread.pulls y
           → s2.reader.unread.pulls ≡ 2 ^ 63 → NeverEndTogether (before a first x) (after s2 z)
       never_end s2 y h all =
           let both = length-append old_bytes y in (
@@ -449,15 +446,13 @@ module _ (keep : PositionPolicy) (Allows : Header → List ℕ → Type 0) (Refu
       }
 
       dried : (m : ReaderView) (skipped : List ℕ) → m.unread.bytes ≡ [] → Uses s1.reader m skipped
-          → Pulled (preceded old_bytes a.remaining) m.source.remaining m.unread.pulls
-          (old_bytes ++ (head ++ skipped))
+          → Pulled (start_after old_bytes a.remaining) m.source.remaining m.unread.pulls
+          (head ++ skipped)
       dried m skipped empty uses =
-          let bytes = ap (λ (t : List ℕ). (old_bytes ++ head) ++ t)
+          subst (λ (t : List ℕ). Pulled (start_after old_bytes a.remaining) m.source.remaining
+          m.unread.pulls (head ++ t))
           (ap (λ (t : List ℕ). skipped ++ t) empty ∙ append-nil skipped)
-          ∙ append_assoc old_bytes head skipped in
-          subst (λ (t : List ℕ). Pulled (preceded old_bytes a.remaining) m.source.remaining
-          m.unread.pulls t) bytes
-          (uses (preceded old_bytes a.remaining) (old_bytes ++ head) again)
+          (uses (start_after old_bytes a.remaining) head again)
 
       skipped_fails : (m : ReaderView) (position : Option Position) (fault : FileFault)
           → GivesPosition keep (IsSame p) position
@@ -532,15 +527,15 @@ module _ (keep : PositionPolicy) (Allows : Header → List ℕ → Type 0) (Refu
       -- they were
       module _ (m : ReaderView) (passed : List ℕ) (size : length passed ≡ p.index * block_length)
           (passes : Passes s1.reader m passed) where
-        after_blocks : Pulled (preceded old_bytes a.remaining) m.source.remaining m.unread.pulls
-            ((old_bytes ++ head) ++ (passed ++ m.unread.bytes))
-        after_blocks = passes.uses (preceded old_bytes a.remaining) (old_bytes ++ head) again
+        after_blocks : Pulled (start_after old_bytes a.remaining) m.source.remaining m.unread.pulls
+            (head ++ (passed ++ m.unread.bytes))
+        after_blocks = passes.uses (start_after old_bytes a.remaining) head again
 
         -- there is room for what is after them
         pub place_after : HasPlace (stage m s1.writer)
         place_after =
             let all = after_blocks in
-            let both = length-append (old_bytes ++ head) (passed ++ m.unread.bytes) in (
+            let both = length-append head (passed ++ m.unread.bytes) in (
               omega (
                 arith,
                 all.small,
@@ -560,9 +555,8 @@ module _ (keep : PositionPolicy) (Allows : Header → List ℕ → Type 0) (Refu
           file_is : run.file ≡ file
           from : IsFrom p x.source z.source run
           is : IsRun Allows (before a first x).main (after s2 z).main s2.writer.tally.written run
-          pulled : Pulled (preceded old_bytes a.remaining) s2.reader.source.remaining
-              s2.reader.unread.pulls
-              (old_bytes ++ (head ++ (run.skipped ++ run.bytes)))
+          pulled : Pulled (start_after old_bytes a.remaining) s2.reader.source.remaining
+              s2.reader.unread.pulls (head ++ (run.skipped ++ run.bytes))
           counts : HasCounted keep (unbox run.file.key run.file.nonce) chunk_length (held run)
               (segment_of run) s2.writer.tally
           answered : MatchResult result (λ _. SegmentDone (unbox run.file.key run.file.nonce)
@@ -575,20 +569,18 @@ module _ (keep : PositionPolicy) (Allows : Header → List ℕ → Type 0) (Refu
             → DecryptsPayload (opens (payload_key unlocked.key unlocked.nonce)) chunk_length p.index
             (stage m s1.writer) s2 result → IsDecrypted s2 result
         decrypted s2 result q =
-            let front = old_bytes ++ head in
-            let start = preceded old_bytes a.remaining in
+            let start = start_after old_bytes a.remaining in
             let all : Pulled start s2.reader.source.remaining s2.reader.unread.pulls
-            ((front ++ (passed ++ m.unread.bytes)) ++ q.fresh) =
-            q.pulled start (front ++ (passed ++ m.unread.bytes)) after_blocks in
-            let parts : (front ++ (passed ++ m.unread.bytes)) ++ q.fresh ≡ old_bytes
-            ++ (head ++ (passed ++ q.bytes)) =
-            append_assoc front (passed ++ m.unread.bytes) q.fresh
-            ∙ (ap (λ (t : List ℕ). front ++ t)
+            ((head ++ (passed ++ m.unread.bytes)) ++ q.fresh) =
+            q.pulled start (head ++ (passed ++ m.unread.bytes)) after_blocks in
+            let parts : (head ++ (passed ++ m.unread.bytes)) ++ q.fresh
+            ≡ head ++ (passed ++ q.bytes) =
+            append_assoc head (passed ++ m.unread.bytes) q.fresh
+            ∙ ap (λ (t : List ℕ). head ++ t)
             (append_assoc passed m.unread.bytes q.fresh
-            ∙ ap (λ (t : List ℕ). passed ++ t) q.parts)
-            ∙ append_assoc old_bytes head (passed ++ q.bytes)) in
+            ∙ ap (λ (t : List ℕ). passed ++ t) q.parts) in
             let pulls : Pulled start s2.reader.source.remaining s2.reader.unread.pulls
-            (old_bytes ++ (head ++ (passed ++ q.bytes))) =
+            (head ++ (passed ++ q.bytes)) =
             subst (λ (t : List ℕ). Pulled start s2.reader.source.remaining s2.reader.unread.pulls t)
             parts all in
             let read = read_on s2.reader (head ++ (passed ++ q.bytes)) pulls in
@@ -618,7 +610,7 @@ module _ (keep : PositionPolicy) (Allows : Header → List ℕ → Type 0) (Refu
                 copied_size = c.answered.0;
                 skipped_size = size;
                 at_end = q.at_end;
-                wrote = Appends-then first.sink.taken s1.writer.sink.taken s2.writer.sink.taken
+                wrote = Appends-trans first.sink.taken s1.writer.sink.taken s2.writer.sink.taken
                     c.out q.out c.wrote q.wrote;
                 count = omega (arith, q.count, c.count, zero, length-append c.out q.out);
                 prefix = q.prefix;

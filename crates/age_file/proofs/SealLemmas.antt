@@ -19,7 +19,7 @@ use Rattle.age_file.specs.inner.Seals.{front_of, IsTooLong, SealsSome, GoesOn, S
 use Rattle.age_fault.specs.declared.fault.FileFault.{FileFault}
 use Rattle.age_fault.specs.declared.fault.FileFault.TheVariants.{Head, Key, NonceCut, Stream, BadPosition, OtherFile, ShortText, Read, Write, Memory}
 use Rattle.age_fault.specs.declared.fault.FileFault.TheVariants.{ReadNeverEnds, PositionForged, OldTextDiffers}
-use Rattle.age_fault.proofs.ByteLemmas.{Appends-then}
+use Rattle.age_io.proofs.TakenLemmas.{Appends-trans}
 
 pub step_len_le : (m : ℕ) (held piece : List ℕ) → step_len m held piece ≤ length piece
 step_len_le m held piece = grind (arith, nat_tests)
@@ -102,7 +102,7 @@ module _ {B : Type 0} (sealing : B → List ℕ → List ℕ → List ℕ) (n : 
         out = p.out ++ q.out;
         parts = ap (λ (t : List ℕ). front ++ t) q.parts ∙ sym (append_assoc front fed left);
         wrote = record {
-          bytes = Appends-then was.sink.taken mid.sink.taken now.sink.taken p.out q.out
+          bytes = Appends-trans was.sink.taken mid.sink.taken now.sink.taken p.out q.out
               p.wrote.bytes q.wrote.bytes;
           count = omega (arith, p.wrote.count, q.wrote.count, length-append p.out q.out);
           named = q.wrote.named ∙ p.wrote.named;

@@ -18,7 +18,7 @@ use Rattle.age_fault.specs.declared.fault.FileFault.{FileFault}
 use Rattle.age_fault.specs.declared.fault.FileFault.TheVariants.{Head, Key, NonceCut, Stream, BadPosition, OtherFile, ShortText, Read, Write, Memory}
 use Rattle.age_fault.specs.declared.fault.FileFault.TheVariants.{ReadNeverEnds, PositionForged, OldTextDiffers}
 use Rattle.age_file.proofs.ByteLemmas.{prefix_trans}
-use Rattle.age_fault.proofs.ByteLemmas.{Appends-then}
+use Rattle.age_io.proofs.TakenLemmas.{Appends-trans}
 use Rattle.age_file.proofs.SealLemmas.{goes_then}
 
 -- the blocks before the last begin the payload
@@ -55,7 +55,7 @@ module _ {B : Type 0} (sealing : B → List ℕ → List ℕ → List ℕ) (n : 
   both : Wrote was now (front_of (sealing a.key) n text ++ some.out)
   both =
       record {
-        bytes = Appends-then was.sink.taken mid.sink.taken now.sink.taken
+        bytes = Appends-trans was.sink.taken mid.sink.taken now.sink.taken
             (front_of (sealing a.key) n text) some.out wrote.bytes some.wrote.bytes;
         count = omega (
           arith,
@@ -186,7 +186,7 @@ module _ {B : Type 0} (sealing : B → List ℕ → List ℕ → List ℕ) (n : 
   pub last_written : Wrote was now (front_of (sealing a.key) n text ++ out)
   last_written =
       record {
-        bytes = Appends-then was.sink.taken mid.sink.taken now.sink.taken
+        bytes = Appends-trans was.sink.taken mid.sink.taken now.sink.taken
             (front_of (sealing a.key) n text) out wrote.bytes last.bytes;
         count = omega (
           arith,

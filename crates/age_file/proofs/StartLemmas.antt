@@ -1,9 +1,9 @@
 -- What was read up to a payload, one step after another.
-use Rattle.std.proofs.Common.{◌≡◌, ◌≤◌, inl, inr, ℕ, ◌<◌, List, [], ◌++◌, length, take, drop, Option, sym, ap, subst, ◌∙◌, arith, append-nil, append_assoc}
+use Rattle.std.proofs.Common.{◌≡◌, ◌≤◌, inl, inr, ℕ, ◌<◌, List, [], ◌++◌, length, take, drop, sym, ap, subst, ◌∙◌, arith, append-nil, append_assoc}
 use Rattle.std.specs.Prelude.{Result, Ok, Err, IfOk, IfErr}
 use Rattle.sha2.specs.Hashers.{Holds256}
 use Rattle.sha2.specs.declared.Sha256.{Sha256}
-use Rattle.std.specs.Io.KnownBytes.{Consumes}
+use Rattle.age_io.specs.Supply.{Consumes}
 use Rattle.age_io.specs.Io.{SourceView}
 use Rattle.age_stanza.specs.declared.header.Header.{Header}
 use Rattle.age_stanza.specs.Grammar.{HeadText}
@@ -12,7 +12,7 @@ use Rattle.age_keys.specs.declared.fault.KeyFault.TheVariants.{ScryptNotAlone, B
 use Rattle.age_keys.specs.declared.fault.KeyFault.TheVariants.{Memory as KeyMemory}
 use Rattle.age_keys.specs.Keys.{Opens, Refuses}
 use Rattle.age_file.specs.inner.Unread.{Unread}
-use Rattle.age_file.specs.inner.Readers.{ReaderView, reader_view, Pulled, PullFails}
+use Rattle.age_file.specs.inner.Readers.{Start, start_at, ReaderView, reader_view, Pulled, PullFails}
 use Rattle.age_file.specs.Runs.{pull_room, InHeader, HeadFails, StopsAtHeader}
 use Rattle.age_fault.specs.Faults.{HasFailed}
 use Rattle.age_fault.specs.inner.Faults.{fault_of_key}
@@ -85,7 +85,7 @@ module _ (Allows : Header → List ℕ → Type 0) (Refused : Header → KeyFaul
       (h, front, rest, text, consumed, λ e. cc, refuses, few)
 
   -- what was pulled if a nonce fell short
-  short_pulled : (a : Option (List ℕ)) (y z : ReaderView) (front : List ℕ) (u : UsesShort y z)
+  short_pulled : (a : Start) (y z : ReaderView) (front : List ℕ) (u : UsesShort y z)
       → Pulled a y.source.remaining y.unread.pulls (front ++ y.unread.bytes)
       → Pulled a z.source.remaining z.unread.pulls (front ++ u.0)
   short_pulled a y z front u p =
@@ -96,7 +96,7 @@ module _ (Allows : Header → List ℕ → Type 0) (Refused : Header → KeyFaul
   nonce_to_start : (a : SourceView) (y z : ReaderView) (h : Header) (front key : List ℕ)
       (fault : FileFault) → y.source.failed ≡ a.failed
       → HeadText h front → Opens Allows h key
-      → Pulled a.remaining y.source.remaining y.unread.pulls (front ++ y.unread.bytes)
+      → Pulled (start_at a.remaining) y.source.remaining y.unread.pulls (front ++ y.unread.bytes)
       → NonceFails y z fault → StartFails Allows Refused a z.source fault
   nonce_to_start a y z h front key NonceCut e text opens p f = (
     (
@@ -107,7 +107,7 @@ module _ (Allows : Header → List ℕ → Type 0) (Refused : Header → KeyFaul
       text,
       opens,
       f.0.1,
-      (short_pulled a.remaining y z front f.0 p).consumed,
+      (short_pulled (start_at a.remaining) y z front f.0 p).consumed,
     ),
     f.1,
   )
@@ -120,12 +120,12 @@ module _ (Allows : Header → List ℕ → Type 0) (Refused : Header → KeyFaul
       text,
       opens,
       f.0.1,
-      (short_pulled a.remaining y z front f.0 p).consumed,
+      (short_pulled (start_at a.remaining) y z front f.0 p).consumed,
     ),
     subst (λ (m : ℕ). HasFailed m z.source.failed z.source.failing) e f.1,
   )
   nonce_to_start a y z h front key ReadNeverEnds e text opens p f =
-      let all = short_pulled a.remaining y z front f.0 p in (
+      let all = short_pulled (start_at a.remaining) y z front f.0 p in (
         inr (h, front, key, f.0.0, text, opens, f.0.1, all.consumed),
         (
           front ++ f.0.0,
@@ -140,7 +140,7 @@ module _ (Allows : Header → List ℕ → Type 0) (Refused : Header → KeyFaul
       (same : y.source.failed
       ≡ a.failed) (text : HeadText h front) (opens : Opens Allows h key)
       (hashed : Holds256 digest front)
-      (pulled : Pulled a.remaining y.source.remaining y.unread.pulls
+      (pulled : Pulled (start_at a.remaining) y.source.remaining y.unread.pulls
       (front ++ y.unread.bytes)) where
     pub nonce_found : (result : Result Unlocked FileFault) → IfOk result (ReadsNonce key digest y z)
         → IfOk result (StartsAt Allows a z)
@@ -152,9 +152,9 @@ module _ (Allows : Header → List ℕ → Type 0) (Refused : Header → KeyFaul
       size = r.size;
       id = r.id front hashed;
       few = r.takes.few;
-      pulled = subst (λ (t : List ℕ). Pulled a.remaining z.source.remaining z.unread.pulls t)
+      pulled = subst (λ (t : List ℕ). Pulled (start_at a.remaining) z.source.remaining z.unread.pulls t)
           (sym (append_assoc front u.nonce z.unread.bytes))
-          (r.takes.uses a.remaining front pulled);
+          (r.takes.uses (start_at a.remaining) front pulled);
       unfailed = r.takes.unfailed ∙ same;
     }
     nonce_found (Err fault) r = tt

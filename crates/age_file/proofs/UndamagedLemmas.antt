@@ -2,7 +2,9 @@
 use Rattle.std.proofs.Common.{inl, inr, ◌≡◌, ℕ, ◌+◌, ◌*◌, ◌<◌, ◌≤◌, List, [], ◌++◌, length, take, drop, Option, Some, None, refl, sym, ap, subst, ◌∙◌, arith}
 use Rattle.std.proofs.Common.{append-nil, append_assoc, Bool, true, false}
 use Rattle.std.proofs.lemmas.List.{length-append, drop_at, take_at, drop_all}
-use Rattle.std.specs.Io.KnownBytes.{Appends, Consumes, IsAtEnd}
+use Rattle.age_io.specs.Taken.{Appends}
+use Rattle.std.specs.Io.KnownBytes as known
+use Rattle.age_io.specs.Supply.{Supply, Consumes, IsAtEnd}
 use Rattle.std.specs.Prelude.{IfSome}
 use Rattle.age_stanza.specs.declared.header.Header.{Header}
 use Rattle.age_stanza.specs.declared.fault.HeadFault.{HeadFault}
@@ -32,19 +34,20 @@ use Rattle.age_file.proofs.ByteLemmas.{fault_of_all}
 use Rattle.age_file.proofs.RunLemmas.{none_before, writes_all}
 
 -- a source that showed its bytes shows those that are left
-pub left_of : (before after : Option (List ℕ)) (bytes used : List ℕ) → before ≡ Some bytes
-    → Consumes before after used → (rest : List ℕ) × (bytes ≡ used ++ rest)
-    × (after ≡ Some rest)
+pub left_of : (before after : Supply) (bytes used : List ℕ)
+    → before.left ≡ Some bytes → Consumes before after used
+    → (rest : List ℕ) × (bytes ≡ used ++ rest) × (after.left ≡ Some rest)
 left_of before after bytes used is consumed =
-    left after (subst (λ (b : Option (List ℕ)). Consumes b after used) is consumed) where
-      left : (after : Option (List ℕ)) → Consumes (Some bytes) after used
+    left after.left (subst (λ (b : Option (List ℕ)). known.Consumes b after.left used) is
+    consumed.left) where
+      left : (after : Option (List ℕ)) → known.Consumes (Some bytes) after used
           → (rest : List ℕ) × (bytes ≡ used ++ rest) × (after ≡ Some rest)
       left None h = absurd h
       left (Some rest) h = (rest, h, refl)
 
-pub none_left : (after : Option (List ℕ)) (rest : List ℕ) → after ≡ Some rest → IsAtEnd after
+pub none_left : (after : Supply) (rest : List ℕ) → after.left ≡ Some rest → IsAtEnd after
     → rest ≡ []
-none_left after rest is ended = subst IsAtEnd is ended
+none_left after rest is ended = subst known.IsAtEnd is ended.1
 
 -- two texts that begin with as many bytes
 pub same_front : (a b x y : List ℕ) → length a ≡ length b → a ++ x ≡ b ++ y → (a ≡ b) × (x ≡ y)
@@ -88,7 +91,7 @@ failed_stays op n k bytes more false fault e none =
     (closed_stays op n fed (λ _. refl) still).1.fault fault later
 
 module _ (one : OneHeader) (Allows : Header → List ℕ → Type 0) (Refused : Header → KeyFault
-    → Type 0) (coming : Option (List ℕ)) (text : List ℕ)
+    → Type 0) (coming : Supply) (text : List ℕ)
     (u : IsWhole Allows Refused coming text) where
   -- what was read of the header is the file's
   pub record IsFront (h : Header) (front behind : List ℕ) : Type 0 where
@@ -114,11 +117,11 @@ module _ (one : OneHeader) (Allows : Header → List ℕ → Type 0) (Refused : 
             e).1;
       }
 
-  no_head_fault : (fault : HeadFault) → IfSome coming (λ (all : List ℕ). IsHeadFault all fault) → ⊥
+  no_head_fault : (fault : HeadFault) → IfSome coming.left (λ (all : List ℕ). IsHeadFault all fault) → ⊥
   no_head_fault fault f =
       let here : IsHeadFault u.bytes fault =
-      subst (λ (c : Option (List ℕ)). IfSome c (λ (all : List ℕ). IsHeadFault all fault)) u.all
-      f in
+      subst (λ (c : Option (List ℕ)). IfSome c (λ (all : List ℕ). IsHeadFault all fault))
+      u.all f in
       let file = u.file in
       here.0 (
         u.header,
@@ -129,7 +132,7 @@ module _ (one : OneHeader) (Allows : Header → List ℕ → Type 0) (Refused : 
             ∙ append_assoc file.front u.nonce (payload (box u.key u.nonce) chunk_length text),
       )
 
-  no_key_fault : (after : Option (List ℕ)) (h : Header) (front rest : List ℕ) (fault : KeyFault)
+  no_key_fault : (after : Supply) (h : Header) (front rest : List ℕ) (fault : KeyFault)
       → HeadText h front → Consumes coming after (front ++ rest)
       → (fault ≡ KeyMemory → ⊥) → Refuses Allows Refused h fault → ⊥
   no_key_fault after h front rest fault text_is consumed not refuses =
@@ -142,7 +145,7 @@ module _ (one : OneHeader) (Allows : Header → List ℕ → Type 0) (Refused : 
             (subst (IsMacOf u.header) (sym (u.only found.0 found.1)) u.file.mac) found.2)
       ]
 
-  no_nonce_cut : (after : Option (List ℕ)) (h : Header) (front short : List ℕ) → HeadText h front
+  no_nonce_cut : (after : Supply) (h : Header) (front short : List ℕ) → HeadText h front
       → length short < 16 → Consumes coming after (front ++ short)
       → IsAtEnd after → ⊥
   no_nonce_cut after h front short text_is lt consumed ended =
@@ -160,15 +163,15 @@ module _ (one : OneHeader) (Allows : Header → List ℕ → Type 0) (Refused : 
       )
 
   -- what was read after the nonce is the payload's beginning
-  pub record IsOpenedAs (key nonce behind : List ℕ) (after : Option (List ℕ)) : Type 0 where
+  pub record IsOpenedAs (key nonce behind : List ℕ) (after : Supply) : Type 0 where
     pub key_is : key ≡ u.key
     pub nonce_is : nonce ≡ u.nonce
     pub left : List ℕ
-    pub left_is : after ≡ Some left
+    pub left_is : after.left ≡ Some left
     pub payload_is : behind ++ left ≡ payload (box u.key u.nonce) chunk_length text
 
   -- the file's front is that which was read
-  pub front_is : (after : Option (List ℕ)) (h : Header) (front nonce behind : List ℕ)
+  pub front_is : (after : Supply) (h : Header) (front nonce behind : List ℕ)
       → HeadText h front → Consumes coming after ((front ++ nonce) ++ behind)
       → front ≡ u.file.front
   front_is after h front nonce behind text_is consumed =
@@ -178,7 +181,7 @@ module _ (one : OneHeader) (Allows : Header → List ℕ → Type 0) (Refused : 
       ∙ append_assoc front nonce (behind ++ t.0)) in
       (fronts h front (nonce ++ (behind ++ t.0)) text_is parts).front_is
 
-  pub opened_as : (after : Option (List ℕ)) (h : Header) (front key nonce behind : List ℕ)
+  pub opened_as : (after : Supply) (h : Header) (front key nonce behind : List ℕ)
       → HeadText h front → Allows h key → length nonce ≡ 16
       → Consumes coming after ((front ++ nonce) ++ behind) → IsOpenedAs key nonce behind after
   opened_as after h front key nonce behind text_is allows size consumed =
@@ -216,7 +219,7 @@ module _ (one : OneHeader) (Allows : Header → List ℕ → Type 0) (Refused : 
         ((released_is_written (box u.key u.nonce) (unbox u.key u.nonce) valid chunk_length positive
         s text u.few (omega (arith, below, u.few)) authentic).whole rest).1
 
-    pub no_stream_fault : (after : Option (List ℕ)) (key nonce passed bytes : List ℕ) (ended : Bool)
+    pub no_stream_fault : (after : Supply) (key nonce passed bytes : List ℕ) (ended : Bool)
         (fault : StreamFault)
         → IsOpenedAs key nonce (passed ++ bytes) after → length passed ≡ k * block_length
         → (ended ≡ true → IsAtEnd after)
@@ -243,7 +246,7 @@ module _ (one : OneHeader) (Allows : Header → List ℕ → Type 0) (Refused : 
         cc
 
     -- the blocks before that chunk are all there
-    pub no_early_end : (after : Option (List ℕ)) (key nonce passed : List ℕ)
+    pub no_early_end : (after : Supply) (key nonce passed : List ℕ)
         → IsOpenedAs key nonce passed after → length passed < k * block_length → IsAtEnd after → ⊥
     no_early_end after key nonce passed o short ended =
         let all = payload (box u.key u.nonce) chunk_length text in

@@ -1,7 +1,8 @@
 -- What a decryption promises, done or stopped, and what reading its file again finds.
 use Rattle.std.specs.Prelude.{Option, ◌≢◌, ◌⊎◌, ℕ, ◌<◌, ◌≤◌, List, ◌++◌, length, ◌≡◌, Some, None}
 use Rattle.std.specs.Prelude.{true, Result, IfOk, IfErr, IfSome, OnOk, IsSomeAnd}
-use Rattle.std.specs.Io.KnownBytes.{Consumes, IsAtEnd, Appends}
+use Rattle.age_io.specs.Taken.{Taken, Appends}
+use Rattle.age_io.specs.Supply.{Supply, Consumes, IsAtEnd}
 use Rattle.age_stanza.specs.Grammar.{HeadText}
 use Rattle.age_stanza.specs.declared.header.Header.{Header}
 use Rattle.age_chunk.specs.Payload.{chunk_count, chunk_length, chunk_limit}
@@ -22,13 +23,13 @@ use Rattle.age_file.specs.declared.position.PositionPolicy.{PositionPolicy}
 -- ---- What was read up to a payload.
 
 -- what came is a header that was opened, and fewer than 16 bytes after it
-abbrev pub InNonce : (Header → List ℕ → Type 0) → Option (List ℕ) → Option (List ℕ) → Type 0
+abbrev pub InNonce : (Header → List ℕ → Type 0) → Supply → Supply → Type 0
 InNonce Allows old new =
     (h : Header) × (front : List ℕ) × (key : List ℕ) × (short : List ℕ) × HeadText h front
     × Opens Allows h key × (length short < 16) × Consumes old new (front ++ short)
 
 -- what came has no fault so far
-abbrev pub IsEarly : (Header → List ℕ → Type 0) → Option (List ℕ) → Option (List ℕ) → Type 0
+abbrev pub IsEarly : (Header → List ℕ → Type 0) → Supply → Supply → Type 0
 IsEarly Allows old new = InHeader old new ⊎ InNonce Allows old new
 
 -- why there is no payload; after a header that wasn't opened, no more was read than one pull gives
@@ -63,7 +64,7 @@ DecryptStops keep Allows Refused old new (Some r) stopped = IsFromStart r
 
 -- the source is an age file of this text, and the unlocker opens it
 pub record IsWhole (Allows : Header → List ℕ → Type 0) (Refused : Header → KeyFault → Type 0)
-    (coming : Option (List ℕ)) (text : List ℕ) : Type 0 where
+    (coming : Supply) (text : List ℕ) : Type 0 where
   pub header : Header
   pub key : List ℕ
   pub nonce : List ℕ
@@ -71,7 +72,7 @@ pub record IsWhole (Allows : Header → List ℕ → Type 0) (Refused : Header �
   -- the bytes are the age file of the text, with this header, key and nonce
   pub file : FileOf header key nonce text bytes
   -- the source has these bytes and no more
-  pub all : coming ≡ Some bytes
+  pub all : coming.left ≡ Some bytes
   -- the text isn't too long for a payload
   pub few : chunk_count chunk_length text ≤ chunk_limit
   -- no scrypt stanza stands beside another stanza
@@ -84,7 +85,7 @@ pub record IsWhole (Allows : Header → List ℕ → Type 0) (Refused : Header �
 -- the source is a whole file, and its last block, if that is full, doesn't open as one before the
 -- last
 pub record IsUndamagedFile (Allows : Header → List ℕ → Type 0) (Refused : Header → KeyFault → Type 0)
-    (coming : Option (List ℕ)) (text : List ℕ) : Type 0 where
+    (coming : Supply) (text : List ℕ) : Type 0 where
   pub whole : IsWhole Allows Refused coming text
   pub closed : IsClosed (box whole.key whole.nonce) (unbox whole.key whole.nonce) chunk_length text
 
@@ -99,7 +100,7 @@ StopsOutside other = ⊥
 -- ---- What a decryption promises.
 
 -- exactly this text was written, and its bytes are this many
-abbrev pub WritesText : Option (List ℕ) → Option (List ℕ) → ℕ → List ℕ → Type 0
+abbrev pub WritesText : Taken → Taken → ℕ → List ℕ → Type 0
 WritesText old new written text = Appends old new text × (written ≡ length text)
 
 -- what a decryption promises, whether positions are kept or dropped

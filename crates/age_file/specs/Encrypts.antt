@@ -1,6 +1,7 @@
 -- What an encryption promises: which file it writes of a text, or how much of it.
 use Rattle.std.specs.Prelude.{ℕ, List, ◌≡◌, ◌-◌, ◌^◌, ◌<◌, ◌≤◌, ◌++◌, length}
-use Rattle.std.specs.Io.KnownBytes.{Consumes, Appends, IsAtEnd}
+use Rattle.age_io.specs.Taken.{Appends}
+use Rattle.age_io.specs.Supply.{Consumes, IsAtEnd}
 use Rattle.age_chunk.specs.Payload.{chunk_limit, chunk_count, chunk_length, sealed_before_last, block_bytes}
 use Rattle.age_stream.specs.Headline.{IsPrefixOf}
 use Rattle.age_stream.specs.Sealer.{too_many}

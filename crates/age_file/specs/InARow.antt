@@ -1,6 +1,8 @@
 -- What several calls together promise: a decryption and its resumptions, or both directions.
+use Rattle.age_io.specs.Supply.{Supply, Consumes, IsAtEnd}
+use Rattle.age_io.specs.Taken.{Appends}
 use Rattle.std.specs.Prelude.{◌≡◌, ◌⊎◌, ℕ, List, [], ◌∷◌, ◌≤◌, Option, Some, IfSome, IsSomeAnd, ◌<◌}
-use Rattle.std.specs.Prelude.{Result, MatchResult, ◌*◌, take, length}
+use Rattle.std.specs.Prelude.{Result, MatchResult, ◌*◌, take, length, ◌++◌, IfOk}
 use Rattle.base64.specs.GeneralPurpose.{IsBytes}
 use Rattle.age_stanza.specs.declared.header.Header.{Header}
 use Rattle.age_stanza.specs.declared.fault.HeadFault.{HeadFault}
@@ -9,7 +11,7 @@ use Rattle.age_stream.specs.Headline.{IsPrefixOf}
 use Rattle.age_stream.specs.Laws.{IsClosed}
 use Rattle.age_stream.specs.declared.step.Status.TheVariants.{Done as AllDone}
 use Rattle.age_keys.specs.Scrypt.{PassphraseIdentity, IsAllowed, IsPassphraseKey, PassphraseRefuses}
-use Rattle.age_keys.specs.Keys.{box, unbox}
+use Rattle.age_keys.specs.Keys.{box, unbox, Opens, FileOf}
 use Rattle.age_keys.specs.declared.fault.KeyFault.{KeyFault}
 use Rattle.age_file.specs.Runs.{Run, IsFromStart, run_outcome, run_text, held, IsTexts, IsAuthenticRun, IsPositionOf}
 use Rattle.age_file.specs.Runs.{CarriesText, Ports, IsRun, IsDone, IsHeadFault, ReportsFault}
@@ -81,19 +83,13 @@ RunsInARow = (text : List ℕ) (first : Run) (runs : List ResumedRun) → AllFol
     → WritesRight text first runs
 
 -- ---- Calls in a row: a decryption, and then resumed ones, each with what the sink of the call
--- before took as its old text. What each call did is what its contract promises.
-
--- a sink took the beginning of a text
-pub record TookBeginning (text : List ℕ) (taken : Option (List ℕ)) : Type 0 where
-  pub out : List ℕ
-  pub shown : taken ≡ Some out
-  pub begins : IsPrefixOf out text
+-- before took, or its beginning, as its old text. What each call did is what its contract promises.
 
 -- the sink took all of the text if the call is done, and else its beginning; and a position that is
 -- handed out is right
-abbrev pub AnswersRight : List ℕ → Option (List ℕ) → Result Done Stopped → Type 0
-AnswersRight text taken result = MatchResult result (λ done. taken ≡ Some text)
-    (λ stopped. TookBeginning text taken × IfSome stopped.position (CarriesText text))
+abbrev pub AnswersRight : List ℕ → List ℕ → Result Done Stopped → Type 0
+AnswersRight text took result = MatchResult result (λ done. took ≡ text)
+    (λ stopped. IsPrefixOf took text × IfSome stopped.position (CarriesText text))
 
 -- who unlocks, and what they allow and refuse
 module _ (Who : Type 0) (Allows : Who → Header → List ℕ → Type 0)
@@ -112,7 +108,7 @@ module _ (Who : Type 0) (Allows : Who → Header → List ℕ → Type 0)
       (λ done. IsSomeAnd run (ResumeEnds (Allows who) p old new done))
       (ResumeStops (Allows who) p old new keep (Refused who) run)
 
-  -- a call of `decrypt_with`, into a sink that had taken nothing
+  -- a call of `decrypt_with`, and what its sink took
   pub record FirstCall : Type 0 where
     pub keep : PositionPolicy
     pub who : Who
@@ -120,10 +116,11 @@ module _ (Who : Type 0) (Allows : Who → Header → List ℕ → Type 0)
     pub new : Ports
     pub result : Result Done Stopped
     pub run : Option Run
-    pub empty : old.sink.taken ≡ Some []
+    pub took : List ℕ
+    pub wrote : Appends old.sink.taken new.sink.taken took
     pub answers : DecryptAnswers keep who old new result run
 
-  -- a call of `resume_with`, into a sink that had taken nothing
+  -- a call of `resume_with`, and what its sink took
   pub record NextCall : Type 0 where
     pub keep : PositionPolicy
     pub who : Who
@@ -132,19 +129,22 @@ module _ (Who : Type 0) (Allows : Who → Header → List ℕ → Type 0)
     pub new : ResumePorts
     pub result : Result Done Stopped
     pub run : Option Run
-    pub empty : old.main.sink.taken ≡ Some []
+    pub took : List ℕ
+    pub wrote : Appends old.main.sink.taken new.main.sink.taken took
     pub answers : ResumeAnswers keep who from old new result run
 
   -- the last call comes first in the list
-  abbrev pub taken : FirstCall → List NextCall → Option (List ℕ)
-  taken first [] = first.new.sink.taken
-  taken first (c ∷ earlier) = c.new.main.sink.taken
+  abbrev pub last_took : FirstCall → List NextCall → List ℕ
+  last_took first [] = first.took
+  last_took first (c ∷ earlier) = c.took
 
-  -- what a call's sink took is the old text of the next call, from whatever position that begins
+  -- what the source of the old text gave begins what the sink of the call before took, from whatever
+  -- position the call begins
   abbrev pub AreInARow : FirstCall → List NextCall → Type 0
   AreInARow first [] = Unit {0}
-  AreInARow first (c ∷ earlier) = (c.old.old.remaining ≡ taken first earlier)
-      × AreInARow first earlier
+  AreInARow first (c ∷ earlier) = ((given : List ℕ)
+      → Consumes c.old.old.remaining c.new.old.remaining given
+      → IsPrefixOf given (last_took first earlier)) × AreInARow first earlier
 
   -- the run of each call, if it came to its payload, is authentic for one text
   abbrev pub AreTexts : List ℕ → FirstCall → List NextCall → Type 0
@@ -153,8 +153,8 @@ module _ (Who : Type 0) (Allows : Who → Header → List ℕ → Type 0)
 
   -- each of the calls answers right
   abbrev pub AllAnswerRight : List ℕ → FirstCall → List NextCall → Type 0
-  AllAnswerRight text first [] = AnswersRight text first.new.sink.taken first.result
-  AllAnswerRight text first (c ∷ earlier) = AnswersRight text c.new.main.sink.taken c.result
+  AllAnswerRight text first [] = AnswersRight text first.took first.result
+  AllAnswerRight text first (c ∷ earlier) = AnswersRight text c.took c.result
       × AllAnswerRight text first earlier
 
   abbrev pub CallsInARow : Type 0
@@ -204,8 +204,8 @@ AuthenticRuns Who Allows = (who : Who) (old new : Ports) (written : ℕ) (r : Ru
 
 -- a header's fault that was found in what was read is the fault of all that the source had
 abbrev pub HeadFaultsStay : Type 0
-HeadFaultsStay = (old new : Option (List ℕ)) (fault : HeadFault) → ReportsFault old new fault
-    → IfSome old (λ all. IsHeadFault all fault)
+HeadFaultsStay = (old new : Supply) (fault : HeadFault) → ReportsFault old new fault
+    → IfSome old.left (λ all. IsHeadFault all fault)
 
 -- the text of an age file that is undamaged is written, unless reading, writing or memory fails
 module _ (Who : Type 0) (Allows : Who → Header → List ℕ → Type 0)
@@ -226,6 +226,41 @@ module _ (Who : Type 0) (Allows : Who → Header → List ℕ → Type 0)
       (λ done. WritesText old.main.sink.taken new.main.sink.taken done.written text)
       (λ stopped. StopsOutside stopped.fault)
 
+-- ---- What a source gave, whatever it is over.
+
+-- what a source gave is the age file of this text, which the unlocker opens, and the source is at
+-- its end
+pub record GaveFile (Allows : Header → List ℕ → Type 0) (old new : Supply) (text : List ℕ)
+    : Type 0 where
+  pub header : Header
+  pub key : List ℕ
+  pub nonce : List ℕ
+  pub bytes : List ℕ
+  pub read : Consumes old new bytes
+  pub file : FileOf header key nonce text bytes
+  pub opens : Opens Allows header key
+  pub at_end : IsAtEnd new
+
+module _ (Who : Type 0) (Allows : Who → Header → List ℕ → Type 0)
+    (Refused : Who → Header → KeyFault → Type 0) where
+  -- if a decryption is done, what its source gave is the age file of a text, and what its sink took
+  -- is exactly that text
+  abbrev pub DoneGaveFile : Type 0
+  DoneGaveFile = (keep : PositionPolicy) (who : Who) (old new : Ports)
+      (result : Result Done Stopped) → Decrypts keep (Allows who) (Refused who) old new result
+      → IfOk result (λ done. (text : List ℕ)
+      × GaveFile (Allows who) old.source.remaining new.source.remaining text
+      × WritesText old.sink.taken new.sink.taken done.written text)
+
+  -- and so is all that was to come of a source that shows it; a sink that shows what it holds then
+  -- holds the text after what it held
+  abbrev pub DoneIsFile : Type 0
+  DoneIsFile = (keep : PositionPolicy) (who : Who) (old new : Ports) (result : Result Done Stopped)
+      (coming held : List ℕ) → Decrypts keep (Allows who) (Refused who) old new result
+      → old.source.remaining.left ≡ Some coming → old.sink.taken.contents ≡ Some held
+      → IfOk result (λ done. (text : List ℕ) × (header : Header) × (key : List ℕ) × (nonce : List ℕ)
+      × FileOf header key nonce text coming × (new.sink.taken.contents ≡ Some (held ++ text)))
+
 -- ---- What was encrypted under a passphrase, decrypted with it.
 
 -- a secret whose parts have their sizes
@@ -242,29 +277,22 @@ passphrase_identity s max_log = record { pass = s.pass; max_log = max_log }
 -- the age file of a secret and a text is a whole one for the secret's passphrase, if the limit
 -- allows its work factor
 abbrev pub AgeFileIsWhole : Type 0
-AgeFileIsWhole = (s : SecretView) (max_log : ℕ) (text bytes : List ℕ) → IsSecret s → s.log ≤ max_log
+AgeFileIsWhole = (s : SecretView) (max_log : ℕ) (text bytes : List ℕ) (coming : Supply)
+    → coming.left ≡ Some bytes → IsSecret s → s.log ≤ max_log
     → chunk_count chunk_length text ≤ chunk_limit → AgeFile s text bytes
     → IsWhole (IsPassphraseKey (passphrase_identity s max_log)) (PassphraseRefuses (passphrase_identity s max_log))
-    (Some bytes) text
+    coming text
 
--- an encryption of a text came to its end, into a sink that had taken nothing
-pub record WasEncrypted (s : SecretView) (text : List ℕ) (old new : Ports) (written : Written)
-    : Type 0 where
-  pub source : old.source.remaining ≡ Some text
-  pub sink : old.sink.taken ≡ Some []
-  pub done : Encrypts s old new written
-
--- after an encryption, a decryption of what its sink took, with the same passphrase, gives the text
--- back, or stops as reading, writing or running out of memory may stop it
+-- after an encryption, a decryption of what its sink took, with the same passphrase, gives back the
+-- text that its source gave, or stops as reading, writing or running out of memory may stop it
 abbrev pub RoundTrip : Type 0
-RoundTrip = (keep : PositionPolicy) (s : SecretView) (max_log : ℕ) (text : List ℕ)
-    (was file now last : Ports) (written : Written) (result : Result Done Stopped)
+RoundTrip = (keep : PositionPolicy) (s : SecretView) (max_log : ℕ) (was became now last : Ports)
+    (written : Written) (e : Encrypts s was became written) (result : Result Done Stopped)
     (run : Option Run) → IsSecret s
     → s.log ≤ max_log
-    → IsClosed (box s.key s.nonce) (unbox s.key s.nonce) chunk_length text
-    → WasEncrypted s text was file written → now.source.remaining ≡ file.sink.taken
-    → now.sink.taken ≡ Some []
+    → IsClosed (box s.key s.nonce) (unbox s.key s.nonce) chunk_length e.text
+    → now.source.remaining.left ≡ Some e.file
     → DecryptAnswers PassphraseIdentity IsPassphraseKey PassphraseRefuses keep (passphrase_identity s max_log)
     now last result run
-    → MatchResult result (λ done. last.sink.taken ≡ Some text)
+    → MatchResult result (λ done. Appends now.sink.taken last.sink.taken e.text)
     (λ stopped. StopsOutside stopped.fault)

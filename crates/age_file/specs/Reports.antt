@@ -1,6 +1,6 @@
 -- What a report says of a file's bytes (C2SP age.md, "Payload", for the length of the plaintext).
 use Rattle.std.specs.Prelude.{◌≡◌, ℕ, ◌-◌, ◌≤◌, List, [], ◌++◌, length, map, Option, slice_index_or, MatchOption}
-use Rattle.std.specs.Io.KnownBytes.{Consumes, IsAtEnd}
+use Rattle.age_io.specs.Supply.{Supply, Consumes, IsAtEnd}
 use Rattle.age_stanza.specs.Grammar.{HeadText}
 use Rattle.age_stanza.specs.declared.header.Header.{Header}
 use Rattle.age_stanza.specs.declared.header.Stanza.{Stanza}
@@ -38,7 +38,7 @@ pub record IsReport (bytes : List ℕ) (r : Report) : Type 0 where
   pub plain_is : IsPlainOf (length rest) r.plain
 
 -- what was read, to the end, has this report
-abbrev pub Inspects : Option (List ℕ) → Option (List ℕ) → Report → Type 0
+abbrev pub Inspects : Supply → Supply → Report → Type 0
 Inspects old new r = (bytes : List ℕ) × Consumes old new bytes × IsAtEnd new × IsReport bytes r
 
 -- The report of a source of this length, of which no more was read than its header and what one

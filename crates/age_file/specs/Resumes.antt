@@ -1,7 +1,8 @@
 -- What resuming at a position promises: from the text of the position to the end of the payload.
 use Rattle.std.specs.Prelude.{◌≡◌, ◌≢◌, ℕ, List, ◌++◌, length, codes, ◌*◌, ◌≤◌, take, Option, Some, ◌⊎◌, ◌/◌, ◌+◌, ◌<◌}
 use Rattle.std.specs.Prelude.{None, true, Result, IfOk, IfErr, OnOk, IsSomeAnd, IfSome, Err}
-use Rattle.std.specs.Io.KnownBytes.{Consumes, Appends, IsAtEnd}
+use Rattle.age_io.specs.Taken.{Appends}
+use Rattle.age_io.specs.Supply.{Supply, Consumes, IsAtEnd}
 use Rattle.base64.specs.GeneralPurpose.{IsBytes}
 use Rattle.age_stanza.specs.Text.{base64_text}
 use Rattle.age_stanza.specs.declared.header.Header.{Header}
@@ -47,9 +48,9 @@ NoPosition words = (p : Position) → IsDigest p.file_id → IsDigest p.chain �
 -- ---- The old text that a position was made for.
 
 -- the old text begins with the chunks of this text before the position's
-pub record BeginsWith (p : Position) (old_coming : Option (List ℕ)) (text : List ℕ) : Type 0 where
+pub record BeginsWith (p : Position) (old_coming : Supply) (text : List ℕ) : Type 0 where
   pub all : List ℕ
-  pub shown : old_coming ≡ Some all
+  pub shown : old_coming.left ≡ Some all
   pub within : p.index * chunk_length ≤ length text
   pub begins : IsPrefixOf (take (p.index * chunk_length) text) all
 
@@ -229,7 +230,7 @@ module _ (Allows : Header → List ℕ → Type 0) (p : Position) (old new : Res
 
 -- an age file of this text is undamaged from this position on
 pub record IsUndamagedRest (Allows : Header → List ℕ → Type 0)
-    (Refused : Header → KeyFault → Type 0) (p : Position) (coming old_coming : Option (List ℕ))
+    (Refused : Header → KeyFault → Type 0) (p : Position) (coming old_coming : Supply)
     (text : List ℕ) : Type 0 where
   -- the source is an age file of the text, and the unlocker opens it
   pub whole : IsWhole Allows Refused coming text

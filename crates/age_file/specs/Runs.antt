@@ -1,7 +1,8 @@
 -- What a run read and wrote, where a reader may continue after it, and how it ended.
 use Rattle.std.specs.Prelude.{◌≡◌, ℕ, List, ◌⊎◌, ◌^◌, ◌*◌, ◌<◌, ◌≤◌, ◌++◌, length, Option, ◌/◌, min}
 use Rattle.std.specs.Prelude.{[], take, None, IsSomeAnd, Bool, true, false}
-use Rattle.std.specs.Io.KnownBytes.{Consumes, IsAtEnd, Appends}
+use Rattle.age_io.specs.Taken.{Appends}
+use Rattle.age_io.specs.Supply.{Supply, Consumes, IsAtEnd}
 use Rattle.age_stanza.specs.Grammar.{header_limit, HeadText}
 use Rattle.age_stanza.specs.Parsing.{HasHeader, NoFault, IsFault, line_after}
 use Rattle.age_stanza.specs.declared.fault.HeadFault.{HeadFault}
@@ -69,7 +70,7 @@ abbrev pub IsHeadFault : List ℕ → HeadFault → Type 0
 IsHeadFault bytes fault = (HasHeader bytes → ⊥) × (IsFault bytes fault ⊎ IsCut bytes fault)
 
 -- the bytes that were read have this fault
-pub record ReportsFault (old new : Option (List ℕ)) (fault : HeadFault) : Type 0 where
+pub record ReportsFault (old new : Supply) (fault : HeadFault) : Type 0 where
   pub bytes : List ℕ
   pub consumed : Consumes old new bytes
   pub no_header : HasHeader bytes → ⊥
@@ -80,20 +81,20 @@ abbrev pub IsByAllPulls : ℕ → Type 0
 IsByAllPulls count = (2 ^ 63 ≤ count) × (count ≤ pull_room * 2 ^ 63)
 
 -- a source gave bytes by 2^63 pulls, and so is taken for one that never ends
-abbrev pub NeverEnds : Option (List ℕ) → Option (List ℕ) → Type 0
+abbrev pub NeverEnds : Supply → Supply → Type 0
 NeverEnds old new = (bytes : List ℕ) × Consumes old new bytes × IsByAllPulls (length bytes)
 
 -- the bytes that came end within a header, and hold no fault so far
-abbrev pub InHeader : Option (List ℕ) → Option (List ℕ) → Type 0
+abbrev pub InHeader : Supply → Supply → Type 0
 InHeader old new = (bytes : List ℕ) × Consumes old new bytes × EndsInHeader bytes
 
 -- the bytes that came end within a header and hold no fault so far, or they begin with a header
-abbrev pub NoHeadFault : Option (List ℕ) → Option (List ℕ) → Type 0
+abbrev pub NoHeadFault : Supply → Supply → Type 0
 NoHeadFault old new = (bytes : List ℕ) × Consumes old new bytes
     × (EndsInHeader bytes ⊎ HasHeader bytes)
 
 -- no more than one pull gives came after bytes that end within a header and hold no fault
-pub record StopsAtHeader (old new : Option (List ℕ)) : Type 0 where
+pub record StopsAtHeader (old new : Supply) : Type 0 where
   pub before : List ℕ
   pub last : List ℕ
   pub read : Consumes old new (before ++ last)
@@ -101,7 +102,7 @@ pub record StopsAtHeader (old new : Option (List ℕ)) : Type 0 where
   pub in_header : EndsInHeader before
 
 -- when each fault comes. No more bytes came only if those that did are sound: they hold no fault
-abbrev pub HeadFails : (Sound : Option (List ℕ) → Option (List ℕ) → Type 0) → SourceView
+abbrev pub HeadFails : (Sound : Supply → Supply → Type 0) → SourceView
     → SourceView → FileFault → Type 0
 HeadFails Sound old new (Head fault) = ReportsFault old.remaining new.remaining fault
 HeadFails Sound old new Read = Sound old.remaining new.remaining
@@ -154,7 +155,7 @@ abbrev pub held : Run → List ℕ
 held r = r.copied ++ r.out
 
 -- these bytes were read of the file, and the rest after its nonce
-pub record Reads (Allows : Header → List ℕ → Type 0) (old new : Option (List ℕ)) (f : OpenedFile)
+pub record Reads (Allows : Header → List ℕ → Type 0) (old new : Supply) (f : OpenedFile)
     (rest : List ℕ) : Type 0 where
   pub text : HeadText f.header f.header_bytes
   pub opens : Opens Allows f.header f.key

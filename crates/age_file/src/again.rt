@@ -13,7 +13,7 @@ use crate::skip::skip_blocks;
 use crate::start::start;
 use crate::tally::Tally;
 use age_fault::FileFault;
-use age_io::{Failed, Failures, Sink, Source};
+use age_io::{Failed, Failures, Sink, Source, Tape};
 use age_keys::Unlock;
 use std::alloc::Global;
 
@@ -23,11 +23,12 @@ use std::alloc::Global;
 struct Limit {
     left: u128,
     failures: Failures,
+    took: Tape,
 }
 
 impl Sink for Limit {
     ghost view = { λ l. record {
-      taken = None;
+      taken = record { bytes = l.took; contents = None };
       failed = l.failures.count;
       failing = l.failures.last;
       label = [];
@@ -40,6 +41,7 @@ impl Sink for Limit {
             return self.failures.note(Err(Failed));
         }
         self.left -= n as u128;
+        self.took.note(&from[..n]);
         self.failures.note(Ok(n))
     }
 
@@ -129,6 +131,7 @@ pub fn position_after<U: Unlock, S: Source>(
     let mut limit = Limit {
         left,
         failures: Failures::none(),
+        took: Tape::new(),
     };
     let Err(stopped) = decrypt_again(alloc, unlock, from, reader, &mut limit) else {
         return Err(FileFault::Read);

@@ -4,7 +4,8 @@ ghost use Rattle.age_file.specs.declared.decryption.Done.{Done};
 ghost use Rattle.age_file.specs.declared.decryption.Stopped.{Stopped};
 ghost use Rattle.age_file.specs.declared.position.PositionPolicy.{PositionPolicy};
 ghost use Rattle.age_file.specs.InARow.{RunsInARow, CallsInARow, RunsAreBound, DoneIsBound, AgeFileIsWhole, RoundTrip};
-ghost use Rattle.age_file.specs.InARow.{AuthenticRuns, HeadFaultsStay, UndamagedIsDecrypted, UndamagedIsResumed};
+ghost use Rattle.age_file.specs.InARow.{AuthenticRuns, HeadFaultsStay, UndamagedIsDecrypted};
+ghost use Rattle.age_file.specs.InARow.{UndamagedIsResumed, DoneGaveFile, DoneIsFile};
 ghost use Rattle.age_file.specs.Again.{ReadAgain, RestReadAgain};
 
 use age_keys::{Unlock, passphrase_opens};
@@ -23,8 +24,7 @@ pub fn runs_in_a_row()
 /// kind, each resumed one with what the sink of the call before took as its old text: while no
 /// block opens except as the writer of a text sealed it, what each call's sink took begins the
 /// text, is all of it if the call is done, and each position that is handed out carries the chain
-/// over the text's first chunks. Of each call no more is assumed than what its contract promises,
-/// and that its sink had taken nothing before.
+/// over the text's first chunks. Of each call no more is assumed than what its contract promises.
 pub fn calls_in_a_row<U: Unlock>()
     ensures { CallsInARow U U.allows U.refuses }
 {}
@@ -94,3 +94,15 @@ pub fn undamaged_is_written<U: Unlock>()
 {
     one_header();
 }
+
+/// What a source gave and a sink took, whatever they are over: if [`decrypt`](crate::decrypt)
+/// returns `Ok`, the bytes that its source gave during the call are the age file of a text, its
+/// header is one that the unlocker opens, the source is at its end, and the bytes that its sink took
+/// during the call are exactly that text. The source need not show the bytes that are to come, nor
+/// the sink those that it holds. If they do, as over memory, the age file is all that was to come,
+/// and the sink holds the text after what it held. Of the call no more is assumed than what its
+/// contract promises.
+pub fn done_gave_file<U: Unlock>()
+    ensures gave { DoneGaveFile U U.allows U.refuses }
+    ensures shown { DoneIsFile U U.allows U.refuses }
+{}

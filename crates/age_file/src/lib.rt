@@ -35,13 +35,13 @@ mod tally;
 
 pub use again::position_after;
 pub use age_fault::{FileFault, flush_all, write_all};
-pub use age_io::{Failed, MemSink, MemSource, Memory, Reading, Sink, Source, Writing};
+pub use age_io::{Failed, MemSink, MemSource, Memory, Reading, Sink, Source, Tape, Writing};
 pub use decryption::{Done, Stopped, decrypt, decrypt_keyed, decrypt_with};
 pub use encryption::{Written, encrypt};
 pub use inspection::{inspect, inspect_sized};
 pub use laws::{
-    age_file_is_whole, authentic_runs, bound_positions, calls_in_a_row, head_faults_stay,
-    read_again, round_trip, runs_in_a_row, undamaged_is_written,
+    age_file_is_whole, authentic_runs, bound_positions, calls_in_a_row, done_gave_file,
+    head_faults_stay, read_again, round_trip, runs_in_a_row, undamaged_is_written,
 };
 pub use position::{Position, PositionPolicy};
 pub use report::{Report, StanzaReport, StanzaReports};

@@ -1,1 +1,3 @@
 pub mod MeterLemmas
+pub mod SupplyLemmas
+pub mod TakenLemmas

@@ -3,9 +3,9 @@ use base.Fml.{GName}
 use Rattle.std.proofs.Common.{ℕ, ◌+◌, ◌≤◌, ◌≡◌, List, [], ◌∷◌, length, take, ◌++◌, map, sym, ap, ap₂, ◌∙◌, refl, subst, arith, Option, Some, None}
 use Rattle.std.proofs.lemmas.List.{map-append, append_assoc, append-nil, length-append, length-take-le}
 use Rattle.std.proofs.lemmas.List.Sums.{sum_by-append}
-use Rattle.std.proofs.KnownBytes.{Consumes-trans, Consumes-nil}
+use Rattle.age_io.proofs.SupplyLemmas.{Consumes-trans, Consumes-nil}
 use Rattle.std.specs.List.{sum}
-use Rattle.std.specs.Io.KnownBytes.{Consumes}
+use Rattle.age_io.specs.Supply.{Supply, Consumes}
 use Rattle.age_io.specs.Io.{Adds, Shown, Advances, Begins, Ends, Origin, CountsSince, ShowsReading}
 
 -- it is shown one count more
@@ -21,10 +21,10 @@ grown : (now : Option (List Shown)) (shown : List Shown) (more : Shown) → Adds
 grown None shown more a = absurd a
 grown (Some now) shown more a = ap Some a
 
-abbrev from : GName → Option (List ℕ) → Option (List Shown) → Origin
+abbrev from : GName → Supply → Option (List Shown) → Origin
 from meter coming shown = record { meter = meter; coming = coming; shown = shown }
 
-since_more : (meter : GName) (coming : Option (List ℕ)) (before : Option (List Shown)) (left after : Option (List ℕ)) (shown now : Option (List Shown))
+since_more : (meter : GName) (coming : Supply) (before : Option (List Shown)) (left after : Supply) (shown now : Option (List Shown))
     → (n : ℕ) (into : List ℕ) → n ≤ length into → Consumes left after (take n into) → Adds shown now (Advances n)
     → CountsSince (from meter coming before) left shown → CountsSince (from meter coming before) after now
 since_more meter coming None left after shown now n into most read adds since = tt
@@ -39,18 +39,18 @@ since_more meter coming (Some before) left after shown now n into most read adds
     )
 
 -- what a pull gave is counted
-pub pulls_since : (from : Origin) (left after : Option (List ℕ)) (shown now : Option (List Shown)) (n : ℕ) (into : List ℕ)
+pub pulls_since : (from : Origin) (left after : Supply) (shown now : Option (List Shown)) (n : ℕ) (into : List ℕ)
     → n ≤ length into → Consumes left after (take n into) → Adds shown now (Advances n)
     → CountsSince from left shown → CountsSince from after now
 pulls_since from = since_more from.meter from.coming from.shown
 
 -- a meter that has begun was shown no count yet
-pub begins_since : (meter : GName) (left : Option (List ℕ)) (now : Option (List Shown)) → CountsSince (from meter left now) left now
+pub begins_since : (meter : GName) (left : Supply) (now : Option (List Shown)) → CountsSince (from meter left now) left now
 begins_since meter left None = tt
 begins_since meter left (Some now) = ([], [], Consumes-nil left, refl, ap Some (sym (append-nil now)))
 
 -- a meter that was begun, counted and ended was shown a reading
-pub reading_of : (meter : GName) (size : Option ℕ) (coming left : Option (List ℕ)) (before began counted ended : Option (List Shown))
+pub reading_of : (meter : GName) (size : Option ℕ) (coming left : Supply) (before began counted ended : Option (List Shown))
     → Adds before began (Begins size) → CountsSince (from meter coming began) left counted → Adds counted ended Ends
     → ShowsReading size coming left before ended
 reading_of meter size coming left None began counted ended b c e = tt

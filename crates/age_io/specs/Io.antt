@@ -1,26 +1,26 @@
 -- What contracts see of sources, sinks and meters, and what those over memory do.
 use base.Fml.{GName}
 use Rattle.std.specs.Prelude.{ℕ, List, Option, Bool, ◌+◌, ◌-◌, ◌^◌, min, option_map, Result, Ok, Err, ◌≡◌, [], ◌∷◌}
-use Rattle.std.specs.Prelude.{◌++◌, Some, None, ◌≢◌, ◌⊎◌, length, take, drop, true, false, map, IfSome}
+use Rattle.std.specs.Prelude.{◌++◌, Some, None, ◌≢◌, ◌⊎◌, length, take, drop, true, false, map, IfSome, nat_eq}
 use Rattle.std.specs.List.{sum}
-use Rattle.std.specs.Io.KnownBytes.{Consumes}
+use Rattle.age_io.specs.Supply.{Supply, Consumes}
+use Rattle.age_io.specs.Taken.{Taken}
 use Rattle.age_io.specs.declared.failed.Failed.{Failed}
 
--- ---- What a contract sees of a source, and of a sink. If it shows no bytes, `Consumes` and
--- `Appends` hold whatever the bytes are.
+-- ---- What a contract sees of a source, and of a sink.
 
--- the bytes that are still to come, if they are shown, how many pulls have failed, and whether the
--- last one did; the count stays at the greatest value of its type
+-- the bytes that came and that are still to come, how many pulls have failed, and whether the last
+-- one did; the count stays at the greatest value of its type
 pub record SourceView : Type 0 where
-  pub remaining : Option (List ℕ)
+  pub remaining : Supply
   pub failed : ℕ
   pub failing : Bool
 
--- the bytes that were taken, if they are shown, how many puts and flushes have failed, whether the
--- last of them did, the name that the sink goes by, and whether what was taken was sent on, which
--- is true if the sink doesn't say
+-- the bytes that were taken, how many puts and flushes have failed, whether the last of them did,
+-- the name that the sink goes by, and whether what was taken was sent on, which is true if the sink
+-- doesn't say
 pub record SinkView : Type 0 where
-  pub taken : Option (List ℕ)
+  pub taken : Taken
   pub failed : ℕ
   pub failing : Bool
   pub label : List ℕ
@@ -70,18 +70,18 @@ AddsPull old new (Err failed) = new ≡ old
 -- were to come, if they are shown, and what the meter was shown by then
 pub record Origin : Type 0 where
   pub meter : GName
-  pub coming : Option (List ℕ)
+  pub coming : Supply
   pub shown : Option (List Shown)
 
 -- since this origin a source gave some bytes, and its meter was shown as many and nothing else
-abbrev pub CountsSince : Origin → Option (List ℕ) → Option (List Shown) → Type 0
+abbrev pub CountsSince : Origin → Supply → Option (List Shown) → Type 0
 CountsSince from left shown = IfSome from.shown (λ before.
     (bytes : List ℕ) × (counts : List ℕ) × Consumes from.coming left bytes
     × (length bytes ≡ sum counts) × (shown ≡ Some (before ++ map Advances counts)))
 
 -- a meter was shown a whole reading: that it begins, with its length if that is known; how many
 -- bytes the source gave; and that it is over
-abbrev pub ShowsReading : Option ℕ → (coming left : Option (List ℕ)) → (old new : Option (List Shown))
+abbrev pub ShowsReading : Option ℕ → (coming left : Supply) → (old new : Option (List Shown))
     → Type 0
 ShowsReading size coming left old new = IfSome old (λ before.
     (bytes : List ℕ) × (counts : List ℕ) × Consumes coming left bytes
@@ -94,9 +94,19 @@ ShowsReading size coming left old new = IfSome old (λ before.
 abbrev pub one_more : ℕ → ℕ
 one_more n = min (n + 1) (2 ^ 64 - 1)
 
--- a source over memory: what is still to come, how much a pull gives at most, the number of the
--- pull that fails, how many pulls were made and have failed, and whether the last one did
+-- the bytes of a source over memory
+abbrev pub supply : List ℕ → List ℕ → Supply
+supply given left = record { given = given; left = Some left; is_at_end = nat_eq (length left) 0 }
+
+-- the bytes of a sink over memory
+abbrev pub holds : List ℕ → Taken
+holds held = record { bytes = held; contents = Some held }
+
+-- a source over memory: what it gave and what is still to come, how much a pull gives at most, the
+-- number of the pull that fails, how many pulls were made and have failed, and whether the last one
+-- did
 pub record Feeding : Type 0 where
+  pub given : List ℕ
   pub left : List ℕ
   pub step : ℕ
   pub fail_call : Option ℕ
@@ -109,6 +119,7 @@ abbrev pub Pulls : Feeding → ℕ → Result ℕ Failed → Feeding → Type 0
 Pulls old room (Ok n) new = (old.fail_call ≢ Some old.calls)
     × (n ≡ min (min old.step room) (length old.left))
     × (new ≡ record old {
+      given = new.given;
       left = drop n old.left;
       calls = one_more old.calls;
       failing = false;

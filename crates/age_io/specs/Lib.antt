@@ -1,1 +1,3 @@
 pub mod Io
+pub mod Supply
+pub mod Taken

@@ -15,6 +15,7 @@ mod meter;
 mod metered;
 mod sink;
 mod source;
+mod tape;
 
 pub use durability::Durability;
 pub use failed::{Failed, Memory};
@@ -25,3 +26,4 @@ pub use meter::Meter;
 pub use metered::Metered;
 pub use sink::{Sink, Writing};
 pub use source::{Reading, Source};
+pub use tape::Tape;

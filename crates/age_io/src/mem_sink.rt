@@ -1,8 +1,8 @@
 //! A sink over memory, with a limit and a plan of failures.
 
-ghost use Rattle.std.specs.Prelude.{◌≡◌, ◌<◌, ◌≤◌, [], Some, true, false, length, IfOk, OnOk, vec_capacity};
-ghost use Rattle.std.specs.Io.KnownBytes.{WriteAppends, Keeps};
-ghost use Rattle.age_io.specs.Io.{Holding, Puts, Flushes};
+ghost use Rattle.std.specs.Prelude.{◌≡◌, ◌<◌, ◌≤◌, [], true, false, length, IfOk, OnOk, vec_capacity};
+ghost use Rattle.age_io.specs.Taken.{WriteAppends, Keeps};
+ghost use Rattle.age_io.specs.Io.{Holding, Puts, Flushes, holds};
 
 use crate::failed::{Failed, Memory};
 use crate::failures::Failures;
@@ -94,7 +94,7 @@ impl MemSink {
 
 impl Sink for MemSink {
     ghost view = { λ s. record {
-      taken = Some s.held;
+      taken = holds s.held;
       failed = s.failures;
       failing = s.failing;
       label = [];
@@ -103,7 +103,7 @@ impl Sink for MemSink {
 
     fn put(&mut self, from: &[u8]) -> Result<usize, Failed>
         ensures bound { IfOk result (λ n. (n ≤ length from.now) × (0 < length from.now → 0 < n)) }
-        ensures bytes { WriteAppends (Some self.old.held) (Some self.new.held) result from.now }
+        ensures bytes { WriteAppends (holds self.old.held) (holds self.new.held) result from.now }
         ensures plan { Puts self.old from.now result self.new }
     {
         let call = self.calls;
@@ -120,7 +120,7 @@ impl Sink for MemSink {
 
     fn flush(&mut self) -> Result<(), Failed>
         ensures settled { OnOk result (self.new.settled ≡ true) }
-        ensures bytes { Keeps (Some self.old.held) (Some self.new.held) }
+        ensures bytes { Keeps (holds self.old.held) (holds self.new.held) }
         ensures plan { Flushes self.old result self.new }
     {
         let call = self.calls;

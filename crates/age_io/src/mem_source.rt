@@ -1,16 +1,17 @@
 //! A source over memory, with a plan of failures.
 
-ghost use Rattle.std.specs.Prelude.{◌≡◌, ◌<◌, ◌≤◌, Some, length, take, IfOk, MatchResult, drop, false};
-ghost use Rattle.std.specs.Io.KnownBytes.{ReadConsumes};
-ghost use Rattle.age_io.specs.Io.{Feeding, Pulls};
+ghost use Rattle.std.specs.Prelude.{◌≡◌, ◌<◌, ◌≤◌, [], length, take, IfOk, MatchResult, drop, false};
+ghost use Rattle.age_io.specs.Supply.{ReadConsumes};
+ghost use Rattle.age_io.specs.Io.{Feeding, Pulls, supply};
 
 use crate::failed::Failed;
 use crate::failures::Failures;
 use crate::source::Source;
 use std::marker::Model;
 
-/// A source over memory. A contract sees what is still to come, how much a pull gives at most,
-/// which pull fails, how many pulls were made and have failed, and whether the last one did.
+/// A source over memory. A contract sees what it gave and what is still to come, how much a pull
+/// gives at most, which pull fails, how many pulls were made and have failed, and whether the last
+/// one did.
 #[derive(Debug, Drop)]
 pub struct MemSource {
     bytes: Vec<u8>,
@@ -25,6 +26,7 @@ impl Model for MemSource {
     ghost Value = { Feeding };
 
     ghost view = { λ s. record {
+      given = take s.at s.bytes.items;
       left = drop s.at s.bytes.items;
       step = s.step;
       fail_call = s.fail_call;
@@ -42,6 +44,7 @@ impl MemSource {
     pub fn new(bytes: Vec<u8>, step: usize, fail_call: Option<u64>) -> MemSource
         requires { 0 < step }
         ensures { result ≡ record {
+          given = [];
           left = bytes.items;
           step = step;
           fail_call = fail_call;
@@ -79,7 +82,7 @@ fn copy_front(from: &[u8], into: &mut [u8], n: usize)
 
 impl Source for MemSource {
     ghost view = { λ s. record {
-      remaining = Some s.left;
+      remaining = supply s.given s.left;
       failed = s.failures;
       failing = s.failing;
     } };
@@ -87,7 +90,8 @@ impl Source for MemSource {
     /// Leaves the slice as it was past the bytes that it gives, and all of it if it fails.
     fn pull(&mut self, into: &mut [u8]) -> Result<usize, Failed>
         ensures bound { IfOk result (λ n. n ≤ length into.new) }
-        ensures bytes { ReadConsumes (Some self.old.left) (Some self.new.left) result into.new }
+        ensures bytes { ReadConsumes (supply self.old.given self.old.left)
+            (supply self.new.given self.new.left) result into.new }
         ensures rest { MatchResult result (λ n. drop n into.new ≡ drop n into.old)
             (λ _. into.new ≡ into.old) }
         ensures plan { Pulls self.old (length into.new) result self.new }

@@ -1,7 +1,7 @@
 //! A source that reports to a meter how many bytes it gives.
 
 ghost use Rattle.std.specs.Prelude.{◌≡◌, ◌≤◌, length, IfOk, MatchResult, is_err};
-ghost use Rattle.std.specs.Io.KnownBytes.{ReadConsumes};
+ghost use Rattle.age_io.specs.Supply.{ReadConsumes};
 ghost use Rattle.age_io.specs.Io.{one_more, pulled, AddsPull, CountsSince, Origin};
 
 use crate::failed::Failed;

@@ -1,21 +1,24 @@
 //! Where bytes go.
 
-ghost use Rattle.std.specs.Prelude.{◌≡◌, ◌<◌, ◌≤◌, ℕ, [], length, true, IfOk, OnOk, MatchResult, Bool, false, is_err};
-ghost use Rattle.std.specs.Io.KnownBytes.{WriteAppends, Keeps};
+ghost use Rattle.std.specs.Prelude.{◌≡◌, ◌<◌, ◌≤◌, ℕ, [], length, true, IfOk, OnOk};
+ghost use Rattle.std.specs.Prelude.{MatchResult, Bool, List, false, is_err};
+ghost use Rattle.age_io.specs.Taken.{WriteAppends, Keeps};
 ghost use Rattle.age_io.specs.Io.{one_more, SinkView};
-ghost use Rattle.std.specs.Coded.{coded_ℕ, coded×, coded_bool};
+ghost use Rattle.std.specs.Coded.{coded_ℕ, coded×, coded_bool, coded_list};
 
 use crate::failed::Failed;
 use crate::failures::Failures;
+use crate::tape::Tape;
 use std::io::Write;
 use std::marker::Model;
 
 /// A sink for bytes, such as a file, a pipe or a vector. Whoever writes puts bytes into it, and it
 /// counts the calls that fail. docs/LIBRARY.md has an example, `Measure`.
 pub trait Sink {
-    // The bytes that were taken, if they are shown; how many puts and flushes have failed, and
-    // whether the last of them did; the name that the sink goes by, so that a set of files can say
-    // where its bytes end up; and whether what was taken was sent on, which the next put may undo.
+    // The bytes that were taken, and those that it holds, if they are shown; how many puts and
+    // flushes have failed, and whether the last of them did; the name that the sink goes by, so that
+    // a set of files can say where its bytes end up; and whether what was taken was sent on, which
+    // the next put may undo.
     ghost view: { Self → SinkView };
 
     /// Takes bytes from the beginning of a slice, and returns how many: at least one, unless the
@@ -44,41 +47,43 @@ pub trait Sink {
         ensures { result ≡ (view self.now).failed };
 }
 
-/// A sink over one of the machine's writers. It shows contracts the bytes that the writer shows,
-/// which for a file, a pipe or a terminal are none. A writer that takes none of the bytes that it
-/// is given counts as failed. A contract sees the writer, how many puts and flushes have failed,
-/// and whether the last of them did.
+/// A sink over one of the machine's writers. It shows contracts the bytes that it took, and what the
+/// writer shows that it holds, which for a file, a pipe or a terminal is nothing. A writer that
+/// takes none of the bytes that it is given counts as failed. A contract also sees the writer, how
+/// many puts and flushes have failed, and whether the last of them did.
 #[derive(Debug, Drop)]
 pub struct Writing<W: Write> {
     inner: W,
     failures: Failures,
+    tape: Tape,
 }
 
 impl<W: Write> Model for Writing<W> {
-    ghost Value = { W × (ℕ × Bool) };
+    ghost Value = { W × ((ℕ × Bool) × List ℕ) };
 
-    ghost coded = { coded× W.code (coded× coded_ℕ coded_bool) };
+    ghost coded = { coded× W.code (coded× (coded× coded_ℕ coded_bool) (coded_list coded_ℕ)) };
 
-    ghost view = { λ s. (s.inner, (s.failures.count, s.failures.last)) };
+    ghost view = { λ s. (s.inner, ((s.failures.count, s.failures.last), s.tape)) };
 }
 
 impl<W: Write> Writing<W> {
     /// A sink that hands on to this writer.
     pub fn new(inner: W) -> Writing<W>
-        ensures { result ≡ (inner, (0, false)) }
+        ensures { result ≡ (inner, ((0, false), [])) }
     {
         Writing {
             inner,
             failures: Failures::none(),
+            tape: Tape::new(),
         }
     }
 }
 
 impl<W: Write> Sink for Writing<W> {
     ghost view = { λ s. record {
-      taken = W.contents s.0;
-      failed = s.1.0;
-      failing = s.1.1;
+      taken = record { bytes = s.1.1; contents = W.contents s.0 };
+      failed = s.1.0.0;
+      failing = s.1.0.1;
       label = [];
       settled = true;
     } };
@@ -88,6 +93,9 @@ impl<W: Write> Sink for Writing<W> {
             Ok(n) if n > 0 || from.is_empty() => Ok(n),
             _ => Err(Failed),
         };
+        if let Ok(n) = &taken {
+            self.tape.note(&from[..*n]);
+        }
         self.failures.note(taken)
     }
 

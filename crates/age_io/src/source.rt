@@ -1,20 +1,21 @@
 //! Where bytes come from.
 
-ghost use Rattle.std.specs.Prelude.{◌≡◌, ◌≤◌, ℕ, Bool, false, length, IfOk, MatchResult, is_err};
-ghost use Rattle.std.specs.Io.KnownBytes.{ReadConsumes};
+ghost use Rattle.std.specs.Prelude.{◌≡◌, ◌≤◌, ℕ, Bool, false, [], length, IfOk, MatchResult, is_err, List};
+ghost use Rattle.age_io.specs.Supply.{ReadConsumes};
 ghost use Rattle.age_io.specs.Io.{one_more, Origin, SourceView};
-ghost use Rattle.std.specs.Coded.{coded_ℕ, coded×, coded_bool};
+ghost use Rattle.std.specs.Coded.{coded_ℕ, coded×, coded_bool, coded_list};
 
 use crate::failed::Failed;
 use crate::failures::Failures;
+use crate::tape::Tape;
 use std::io::Read;
 use std::marker::Model;
 
 /// A source of bytes, such as a file, a pipe or a vector. Whoever reads pulls from it, and it
 /// counts the pulls that fail. docs/LIBRARY.md has an example, `Counted`.
 pub trait Source {
-    // The bytes that are still to come, if they are shown, how many pulls have failed, and whether
-    // the last one did.
+    // The bytes that were given, and those that are still to come, if they are shown; how many pulls
+    // have failed, and whether the last one did.
     ghost view: { Self → SourceView };
 
     // If it has a meter, the meter was shown what the source gave since it began as the `Origin`
@@ -38,44 +39,60 @@ pub trait Source {
         ensures { result ≡ (view self.now).failed };
 }
 
-/// A source over one of the machine's readers. It shows contracts the bytes that the reader shows,
-/// which for a file, a pipe or a terminal are none. A contract sees the reader, how many pulls have
-/// failed, and whether the last one did.
+/// A source over one of the machine's readers. It shows contracts the bytes that it gave, and those
+/// to come that the reader shows, which for a file, a pipe or a terminal are none. A contract also
+/// sees the reader, how many pulls have failed, whether the last one did, and whether one found the
+/// end.
 #[derive(Debug, Drop)]
 pub struct Reading<R: Read> {
     inner: R,
     failures: Failures,
+    tape: Tape,
+    is_at_end: bool,
 }
 
 impl<R: Read> Model for Reading<R> {
-    ghost Value = { R × (ℕ × Bool) };
+    ghost Value = { R × ((ℕ × Bool) × (List ℕ × Bool)) };
 
-    ghost coded = { coded× R.code (coded× coded_ℕ coded_bool) };
+    ghost coded = { coded× R.code (coded× (coded× coded_ℕ coded_bool)
+        (coded× (coded_list coded_ℕ) coded_bool)) };
 
-    ghost view = { λ s. (s.inner, (s.failures.count, s.failures.last)) };
+    ghost view = { λ s. (s.inner, ((s.failures.count, s.failures.last), (s.tape, s.is_at_end))) };
 }
 
 impl<R: Read> Reading<R> {
     /// A source of what this reader still has to give.
     pub fn new(inner: R) -> Reading<R>
-        ensures { result ≡ (inner, (0, false)) }
+        ensures { result ≡ (inner, ((0, false), ([], false))) }
     {
         Reading {
             inner,
             failures: Failures::none(),
+            tape: Tape::new(),
+            is_at_end: false,
         }
     }
 }
 
 impl<R: Read> Source for Reading<R> {
     ghost view = { λ s. record {
-      remaining = R.remaining s.0;
-      failed = s.1.0;
-      failing = s.1.1;
+      remaining = record {
+        given = s.1.1.0;
+        left = R.remaining s.0;
+        is_at_end = s.1.1.1;
+      };
+      failed = s.1.0.0;
+      failing = s.1.0.1;
     } };
 
     fn pull(&mut self, into: &mut [u8]) -> Result<usize, Failed> {
         let read = self.inner.read(into);
+        if let Ok(n) = &read {
+            self.tape.note(&into[..*n]);
+            if *n == 0 && !into.is_empty() {
+                self.is_at_end = true;
+            }
+        }
         self.failures.note(read.map_err(|_| Failed))
     }
 

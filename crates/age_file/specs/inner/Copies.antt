@@ -1,8 +1,9 @@
 -- What reading the nonce, skipping blocks and copying the old text do. Private: no public contract
 -- cites this module.
-use Rattle.std.specs.Prelude.{◌≡◌, ℕ, ◌^◌, ◌<◌, ◌≤◌, List, [], ◌++◌, length, Option, Result, Bool}
+use Rattle.std.specs.Prelude.{◌≡◌, ℕ, ◌^◌, ◌<◌, ◌≤◌, List, [], ◌++◌, length, Result, Bool}
 use Rattle.std.specs.Prelude.{Ok, Err, true, false, ◌+◌, ◌*◌, ◌≢◌, Some, IsSome, MatchResult}
-use Rattle.std.specs.Io.KnownBytes.{IsAtEnd, Appends}
+use Rattle.age_io.specs.Taken.{Appends}
+use Rattle.age_io.specs.Supply.{IsAtEnd}
 use Rattle.std.specs.Simd.{first_chunks}
 use Rattle.sha2.specs.Hashers.{Holds256}
 use Rattle.sha2.specs.declared.Sha256.{Sha256}
@@ -18,7 +19,7 @@ use Rattle.age_fault.specs.declared.fault.FileFault.{FileFault}
 use Rattle.age_fault.specs.declared.fault.FileFault.TheVariants.{NonceCut, Read, ReadNeverEnds, Stream, ShortText}
 use Rattle.age_fault.specs.declared.fault.FileFault.TheVariants.{Write, OldTextDiffers}
 use Rattle.age_file.specs.Bindings.{file_id, chain}
-use Rattle.age_file.specs.inner.Readers.{ReaderView, Pulled, PullFails, reader_view, WriterView}
+use Rattle.age_file.specs.inner.Readers.{Start, start_at, ReaderView, Pulled, PullFails, reader_view, WriterView}
 use Rattle.age_file.specs.Runs.{pull_room}
 use Rattle.age_file.specs.inner.Bindings.{link_if, chain_if}
 use Rattle.age_file.specs.inner.Unread.{Unread}
@@ -32,7 +33,7 @@ use Rattle.age_file.specs.declared.tally.Tally.{Tally}
 
 -- bytes of the intake were used, after those that were used before
 abbrev pub Uses : ReaderView → ReaderView → List ℕ → Type 0
-Uses old new bytes = (start : Option (List ℕ)) (used : List ℕ)
+Uses old new bytes = (start : Start) (used : List ℕ)
     → Pulled start old.source.remaining old.unread.pulls (used ++ old.unread.bytes)
     → Pulled start new.source.remaining new.unread.pulls (used ++ (bytes ++ new.unread.bytes))
 
@@ -80,7 +81,7 @@ pub record StartsAt (Allows : Header → List ℕ → Type 0) (old : SourceView)
   pub size : length unlocked.nonce ≡ 16
   pub id : unlocked.id ≡ file_id front unlocked.nonce
   pub few : length new.unread.bytes ≤ pull_room
-  pub pulled : Pulled old.remaining new.source.remaining new.unread.pulls
+  pub pulled : Pulled (start_at old.remaining) new.source.remaining new.unread.pulls
       ((front ++ unlocked.nonce) ++ new.unread.bytes)
   pub unfailed : new.source.failed ≡ old.failed
 

@@ -2,7 +2,8 @@
 use Rattle.std.specs.Prelude.{◌≡◌, ℕ, ◌-◌, ◌/◌, ◌<◌, ◌≤◌, min, List, ◌++◌, length, Option, ◌+◌, ◌*◌}
 use Rattle.std.specs.Prelude.{◌^◌, Result, MatchResult, OnOk, Bool, true, false, ◌⊎◌, []}
 use Rattle.std.specs.Simd.{first_chunks}
-use Rattle.std.specs.Io.KnownBytes.{Appends, IsAtEnd}
+use Rattle.age_io.specs.Taken.{Appends}
+use Rattle.age_io.specs.Supply.{IsAtEnd}
 use Rattle.age_stream.specs.Segment.{Segment, outcome, released, with_piece, with_end}
 use Rattle.age_stream.specs.Headline.{IsPrefixOf}
 use Rattle.age_stream.specs.Opener.{has_failed, OpenerView, Stands}
@@ -12,7 +13,7 @@ use Rattle.age_fault.specs.declared.fault.FileFault.{FileFault}
 use Rattle.age_fault.specs.declared.fault.FileFault.TheVariants.{Stream, Read, Write, ReadNeverEnds}
 use Rattle.age_file.specs.inner.Bindings.{chain_if}
 use Rattle.age_file.specs.Runs.{NoneFailed, ReadFailed, WriteFailed, pull_room}
-use Rattle.age_file.specs.inner.Readers.{Stage, ports_at, Pulled, WriterView}
+use Rattle.age_file.specs.inner.Readers.{Start, Stage, ports_at, Pulled, WriterView}
 use Rattle.age_file.specs.declared.position.PositionPolicy.{PositionPolicy}
 use Rattle.age_file.specs.declared.tally.Tally.{Tally}
 
@@ -81,7 +82,7 @@ module _ (opening : List ℕ → List ℕ → Option (List ℕ)) (n : ℕ) where
     pub out : List ℕ
     pub fresh : List ℕ
     pub parts : old.reader.unread.bytes ++ fresh ≡ bytes
-    pub pulled : (from : Option (List ℕ)) (all : List ℕ)
+    pub pulled : (from : Start) (all : List ℕ)
         → Pulled from old.reader.source.remaining old.reader.unread.pulls all
         → Pulled from new.reader.source.remaining new.reader.unread.pulls (all ++ fresh)
     pub at_end : ended ≡ true → IsAtEnd new.reader.source.remaining

@@ -2,7 +2,7 @@
 -- public contract cites this module.
 use Rattle.std.specs.Prelude.{◌≡◌, ℕ, ◌+◌, ◌*◌, ◌^◌, ◌<◌, ◌≤◌, List, [], ◌++◌, length, Option}
 use Rattle.std.specs.Prelude.{Result, Ok, Err, Bool, true, false, ◌⊎◌, take, drop, Some, None}
-use Rattle.std.specs.Io.KnownBytes.{Consumes, IsAtEnd}
+use Rattle.age_io.specs.Supply.{Supply, Consumes, IsAtEnd}
 use Rattle.sha2.specs.Hashers.{Holds256}
 use Rattle.age_stanza.specs.Grammar.{HeadText}
 use Rattle.age_stanza.specs.Parsing.{HasHeader, IsFault, memory_fault, reading}
@@ -78,11 +78,23 @@ KeepsMeter metered old new = (from : Origin) → metered old.source.now from
 
 -- ---- What pulls into the intake did.
 
+-- where pulls began at a source, and how many bytes of another came by those that are counted on
+pub record Start : Type 0 where
+  pub source : Supply
+  pub before : ℕ
+
+abbrev pub start_at : Supply → Start
+start_at source = record { source = source; before = 0 }
+
+-- the pulls that gave these bytes of another source are counted too
+abbrev pub start_after : List ℕ → Supply → Start
+start_after front source = record { source = source; before = length front }
+
 -- from its start a source gave these bytes by this many pulls that each gave some
-pub record Pulled (start now : Option (List ℕ)) (pulls : ℕ) (bytes : List ℕ) : Type 0 where
-  pub consumed : Consumes start now bytes
-  pub each_gave : pulls ≤ length bytes
-  pub small : length bytes ≤ pull_room * pulls
+pub record Pulled (start : Start) (now : Supply) (pulls : ℕ) (bytes : List ℕ) : Type 0 where
+  pub consumed : Consumes start.source now bytes
+  pub each_gave : pulls ≤ start.before + length bytes
+  pub small : start.before + length bytes ≤ pull_room * pulls
   pub most : pulls ≤ 2 ^ 63
 
 -- why a source gave nothing: the pull failed, or none was made, since 2^63 gave some
@@ -104,7 +116,7 @@ Refilled old new (Err fault) = (new.unread.bytes ≡ []) × (new.unread.pulls �
 -- one pull, if no byte was left: what was pulled from any start is now that and the fresh bytes
 pub record Refills (old new : ReaderView) (result : Result Bool FileFault) : Type 0 where
   pub answered : Refilled old new result
-  pub pulled : (start : Option (List ℕ)) (bytes : List ℕ)
+  pub pulled : (start : Start) (bytes : List ℕ)
       → Pulled start old.source.remaining old.unread.pulls bytes
       → Pulled start new.source.remaining new.unread.pulls (bytes ++ new.unread.bytes)
 
@@ -115,24 +127,24 @@ pub record ReadsHead (old : SourceView) (new : ReaderView) (head : Head) : Type 
   pub len_is : head.len ≡ length front
   pub hashed : Holds256 head.digest front
   pub few : length new.unread.bytes ≤ pull_room
-  pub pulled : Pulled old.remaining new.source.remaining new.unread.pulls
+  pub pulled : Pulled (start_at old.remaining) new.source.remaining new.unread.pulls
       (front ++ new.unread.bytes)
   pub last : StopsAtHeader old.remaining new.source.remaining
   pub unfailed : new.source.failed ≡ old.failed
 
 -- the rest of a source was read to its end: this many bytes, those in the intake among them
 pub record CountsRest (old new : ReaderView) (count : ℕ) : Type 0 where
-  pub counts : (start : Option (List ℕ)) (used : List ℕ)
+  pub counts : (start : Start) (used : List ℕ)
       → Pulled start old.source.remaining old.unread.pulls (used ++ old.unread.bytes)
       → (rest : List ℕ) × (count ≡ length rest)
-      × Consumes start new.source.remaining (used ++ rest)
+      × Consumes start.source new.source.remaining (used ++ rest)
   pub at_end : IsAtEnd new.source.remaining
   pub small : count ≤ pull_room * (2 ^ 63 + 1)
   pub unfailed : new.source.failed ≡ old.source.failed
 
 -- the rest could not be read: some bytes came after those that were there, and then no more
 pub record RestFails (old new : ReaderView) (fault : FileFault) : Type 0 where
-  pub more : (start : Option (List ℕ)) (used : List ℕ)
+  pub more : (start : Start) (used : List ℕ)
       → Pulled start old.source.remaining old.unread.pulls (used ++ old.unread.bytes)
       → (rest : List ℕ) × Pulled start new.source.remaining new.unread.pulls (used ++ rest)
   pub why : PullFails old new fault

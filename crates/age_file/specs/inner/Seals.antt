@@ -1,7 +1,8 @@
 -- What encrypting does, call by call. Private: no public contract cites this module.
 use Rattle.std.specs.Prelude.{◌≡◌, ℕ, List, ◌++◌, length, Result, MatchResult, ◌+◌, ◌-◌, ◌*◌, ◌^◌}
 use Rattle.std.specs.Prelude.{◌<◌, ◌≤◌, [], IfOk, IfErr, OnOk, true, false}
-use Rattle.std.specs.Io.KnownBytes.{Appends, Consumes, IsAtEnd}
+use Rattle.age_io.specs.Taken.{Appends}
+use Rattle.age_io.specs.Supply.{Consumes, IsAtEnd}
 use Rattle.age_stanza.specs.Grammar.{HeadText}
 use Rattle.age_chunk.specs.Payload.{chunk_limit, sealed_before_last, block_bytes, payload, chunk_count}
 use Rattle.age_stream.specs.Sealer.{SealerView, Holds, too_many}

@@ -1,7 +1,7 @@
 use Rattle.std.proofs.Common.{min, ◌^◌, ◌≡◌, ◌+◌, ◌-◌, length, take, drop, refl, sym, ap, subst, ◌∙◌, arith, take-add, ◌++◌, List, ℕ}
 use Rattle.std.proofs.lemmas.List.{take_rest, length-take, length-drop, take-append-drop}
-use Rattle.std.specs.Io.KnownBytes.{Appends}
-use Rattle.age_fault.proofs.ByteLemmas.{Appends-then, Appends-Keeps}
+use Rattle.age_io.specs.Taken.{Appends}
+use Rattle.age_io.proofs.TakenLemmas.{Appends-trans, Appends-kept}
 use Rattle.age_fault.proofs.put.write_all.Goals as goal
 
 pub returns-in-Err-clause-writes : goal.returns-in-Err-clause-writes
@@ -13,7 +13,7 @@ returns-in-Err-clause-writes g c =
       out = take at c.args.bytes.now;
       unwritten = drop at c.args.bytes.now;
       parts = sym (take-append-drop at c.args.bytes.now);
-      wrote = Appends-Keeps _ _ _ _ kept.wrote put.bytes;
+      wrote = Appends-kept _ _ _ _ kept.wrote put.bytes;
       count = omega (arith, kept.count, kept.within, length-take c.loop-at.at c.args.bytes.now);
       stopped = omega (arith, c.loop-at-test.true, length-drop at c.args.bytes.now);
       answered = (put.counted ∙ ap (λ k. min (k + 1) (2 ^ 64 - 1)) kept.failed, put.last);
@@ -34,7 +34,7 @@ loop-at-preserved g c =
     record {
       within = omega (arith, kept.within, put.bound);
       wrote = subst (λ (t : List ℕ). Appends (g.O.Sink.view c.args.sink.now).taken (g.O.Sink.view c.put.new.self).taken t) on
-          (Appends-then _ _ _ (take at bytes) (take n (take (length bytes - at) (drop at bytes))) kept.wrote put.bytes);
+          (Appends-trans _ _ _ (take at bytes) (take n (take (length bytes - at) (drop at bytes))) kept.wrote put.bytes);
       count = omega (arith, kept.count);
       failed = put.counted ∙ kept.failed;
       named = put.named ∙ kept.named;

@@ -1,14 +1,14 @@
 use Rattle.std.proofs.Common.{◌≡◌, ◌++◌, ◌+◌, ◌<◌, ◌∙◌, ℕ, List, Option, Some, [], refl, sym, ap, subst, take, length, arith, append-nil, append_assoc}
 use Rattle.std.proofs.lemmas.Result.{err_from_is_err_and}
 use Rattle.std.proofs.lemmas.List.{length-append, length-take}
-use Rattle.std.proofs.KnownBytes.{Appends-nil}
-use Rattle.std.specs.Io.KnownBytes.{Appends}
+use Rattle.age_io.proofs.TakenLemmas.{Appends-nil}
+use Rattle.age_io.specs.Taken.{Appends}
 use Rattle.sha2.specs.Hashers.{Holds256}
 use Rattle.age_stream.specs.Headline.{IsPrefixOf}
 use Rattle.age_fault.specs.Faults.{HasFailed}
 use Rattle.age_file.specs.inner.Bindings.{link_if}
 use Rattle.age_file.specs.inner.Readers.{reader_view, view_of_reader, view_of_writer}
-use Rattle.age_fault.proofs.ByteLemmas.{Appends-then}
+use Rattle.age_io.proofs.TakenLemmas.{Appends-trans}
 use Rattle.age_file.proofs.StartLemmas.{uses_front}
 use Rattle.age_file.proofs.SkipLemmas.{passes_then, passes_same, dries_same}
 use Rattle.age_file.proofs.CopyLemmas.{copy_dry, all_out, front_written}
@@ -98,7 +98,7 @@ returns-in_err-write_all-clause-copied g c =
     let bytes = c.bytes-in-parts.result.now in
     record {
       out = kept.copied ++ put.out;
-      wrote = Appends-then (g.O.Sink.view c.args.writer.now.sink.now).taken
+      wrote = Appends-trans (g.O.Sink.view c.args.writer.now.sink.now).taken
           (g.O.Sink.view c.parts.writer.sink.now).taken
           (g.O.Sink.view c.write_all.new.sink).taken kept.copied put.out kept.wrote put.wrote;
       named = c.in_err-write_all.ensures.named ∙ kept.named;
@@ -167,7 +167,7 @@ parts-preserved g c =
           (passes_same old mid there kept.copied kept.passes
           (record { uses = c.has_bytes.ensures.uses; unfailed = r.1 }))
           (record { uses = front; unfailed = refl });
-      wrote = Appends-then (g.O.Sink.view c.args.writer.now.sink.now).taken
+      wrote = Appends-trans (g.O.Sink.view c.args.writer.now.sink.now).taken
           (g.O.Sink.view c.parts.writer.sink.now).taken
           (g.O.Sink.view c.write_all.new.sink).taken kept.copied (take n bytes) kept.wrote wrote;
       failures = put.answered.1 ∙ kept.failures;

@@ -1,5 +1,5 @@
 use Rattle.std.proofs.Common.{◌≡◌, ◌+◌, ◌++◌, ℕ, List, Some, length}
-use Rattle.std.specs.Io.KnownBytes.{Appends}
+use Rattle.age_io.specs.Taken.{Appends}
 use Rattle.sha2.specs.Hashers.{Holds256}
 use Rattle.age_file.specs.inner.Copies.{Passes}
 use Rattle.age_file.specs.inner.Readers.{view_of_reader, SameReader, SameWriter}

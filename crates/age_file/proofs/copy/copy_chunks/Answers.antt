@@ -4,10 +4,10 @@ use Rattle.std.proofs.lemmas.List.{length-append}
 use Rattle.std.specs.Simd.{first_chunks}
 use Rattle.age_file.specs.inner.Bindings.{chain_if, link_if}
 use Rattle.age_file.specs.declared.position.PositionPolicy.TheVariants.{Kept}
-use Rattle.age_fault.proofs.ByteLemmas.{Appends-then}
+use Rattle.age_io.proofs.TakenLemmas.{Appends-trans}
 use Rattle.age_file.proofs.SkipLemmas.{passes_then}
 use Rattle.age_file.proofs.CopyLemmas.{chain_more, chunk_failed}
-use Rattle.std.proofs.KnownBytes.{Appends-nil}
+use Rattle.age_io.proofs.TakenLemmas.{Appends-nil}
 use Rattle.age_file.specs.inner.Readers.{view_of_reader, view_of_writer}
 use Rattle.age_chunk.specs.Payload.{chunk_length}
 use Rattle.age_file.proofs.copy.copy_chunks.Goals as goal
@@ -75,7 +75,7 @@ loop-copied-preserved g c =
       out = kept.out ++ step.out;
       size = omega (arith, kept.size, goes.0, length-append kept.out step.out);
       passes = passes_then old mid new kept.out step.out kept.passes goes.1;
-      wrote = Appends-then (g.O.Sink.view c.args.writer.now.sink.now).taken
+      wrote = Appends-trans (g.O.Sink.view c.args.writer.now.sink.now).taken
           (g.O.Sink.view c.loop-copied.writer.sink.now).taken
           (g.O.Sink.view c.copy_chunk.new.writer.sink.now).taken kept.out step.out kept.wrote
           step.wrote;

@@ -1,5 +1,5 @@
-use Rattle.std.proofs.Common.{◌≡◌, ◌+◌, ◌-◌, ◌*◌, ◌^◌, ◌≤◌, ◌++◌, [], ℕ, List, length, Option}
-use Rattle.age_file.specs.inner.Readers.{Pulled, SameReader}
+use Rattle.std.proofs.Common.{◌≡◌, ◌+◌, ◌-◌, ◌*◌, ◌^◌, ◌≤◌, ◌++◌, [], ℕ, List, length}
+use Rattle.age_file.specs.inner.Readers.{Start, Pulled, SameReader}
 use Rattle.age_file.specs.Runs.{pull_room}
 use Rattle.age_file.proofs.inspection.count_rest.Given as goal
 
@@ -11,7 +11,7 @@ invariant-pulls g l = record {
   count_is : l.count ≡ length passed;
   small : l.count ≤ pull_room * (l.reader.intake.now.pulls + 1);
   most : l.reader.intake.now.pulls ≤ 2 ^ 63;
-  pulled : (start : Option (List ℕ)) (used : List ℕ)
+  pulled : (start : Start) (used : List ℕ)
       → Pulled start (g.S.Source.view l.fn.reader.source.now).remaining l.fn.reader.intake.now.pulls
       (used ++ l.fn.reader.intake.now.bytes)
       → Pulled start (g.S.Source.view l.reader.source.now).remaining l.reader.intake.now.pulls

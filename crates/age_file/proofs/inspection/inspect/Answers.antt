@@ -1,10 +1,10 @@
 use Rattle.std.proofs.Common.{◌≡◌, ◌++◌, ◌∙◌, ℕ, List, refl, inl, inr, arith, rules}
 use Rattle.std.proofs.lemmas.Result.{err_from_is_err_and}
-use Rattle.std.specs.Io.KnownBytes.{Consumes, IsAtEnd}
+use Rattle.age_io.specs.Supply.{Consumes, IsAtEnd}
 use Rattle.age_stanza.specs.declared.header.Header.{Header}
 use Rattle.age_stanza.specs.Grammar.{HeadText}
 use Rattle.age_file.specs.Runs.{InHeader, NoHeadFault, StopsAtHeader, HeadFails}
-use Rattle.age_file.specs.inner.Readers.{Pulled, PullFails, RestFails, ReaderView, reader_view, view_of_reader}
+use Rattle.age_file.specs.inner.Readers.{start_at, Pulled, PullFails, RestFails, ReaderView, reader_view, view_of_reader}
 use Rattle.age_io.specs.Io.{SourceView}
 use Rattle.age_file.specs.inner.Unread.{Unread}
 use Rattle.age_fault.specs.declared.fault.FileFault.{FileFault}
@@ -16,7 +16,7 @@ use Rattle.age_file.proofs.inspection.inspect.Goals as goal
 -- no more came of a source, whose bytes so far are sound
 no_more : (first : SourceView) (was : Unread) (now : ReaderView) (fault : FileFault)
     (bytes : List ℕ) → NoHeadFault first.remaining now.source.remaining
-    → Pulled first.remaining now.source.remaining now.unread.pulls bytes
+    → Pulled (start_at first.remaining) now.source.remaining now.unread.pulls bytes
     → PullFails (reader_view first was) now fault
     → HeadFails NoHeadFault first now.source fault
 no_more first was now Read bytes sound all why = (sound, why)
@@ -37,10 +37,10 @@ no_more first was now other bytes sound all why = absurd why
 rest_to_head : (first : SourceView) (mid now : ReaderView) (header : Header) (front : List ℕ)
     (fault : FileFault) → HeadText header front
     → mid.source.failed ≡ first.failed
-    → Pulled first.remaining mid.source.remaining mid.unread.pulls (front ++ mid.unread.bytes)
+    → Pulled (start_at first.remaining) mid.source.remaining mid.unread.pulls (front ++ mid.unread.bytes)
     → RestFails mid now fault → HeadFails NoHeadFault first now.source fault
 rest_to_head first mid now header front fault text same h f =
-    let more = f.more first.remaining front h in
+    let more = f.more (start_at first.remaining) front h in
     let sound : NoHeadFault first.remaining now.source.remaining =
     (front ++ more.0, more.1.consumed, inr (header, front, more.0, text, refl)) in
     no_more first mid.unread now fault (front ++ more.0) sound more.1
@@ -99,7 +99,7 @@ pub returns-clause-ok : goal.returns-clause-ok
 returns-clause-ok g c =
     let head = c.in_ok-head.ensures.found in
     let first = g.S.Source.view c.args.source.now in
-    let counted = c.in_ok-rest.ensures.counts.counts first.remaining head.front head.pulled in
+    let counted = c.in_ok-rest.ensures.counts.counts (start_at first.remaining) head.front head.pulled in
     let reports = rw c.in_ok-stanzas.was at c.reports_of.ensures in (
       head.front ++ counted.0,
       read_last g.S.Source.view (λ v. Consumes first.remaining v.remaining

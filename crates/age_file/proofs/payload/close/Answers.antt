@@ -1,6 +1,6 @@
 use Rattle.std.proofs.Common.{ap, ◌∙◌, arith, List, ℕ, [], ◌++◌, refl, inr}
 use Rattle.std.proofs.lemmas.Result.{err_from_is_err_and}
-use Rattle.std.proofs.KnownBytes.{Appends-nil}
+use Rattle.age_io.proofs.TakenLemmas.{Appends-nil}
 use Rattle.age_stream.specs.Segment.{released}
 use Rattle.age_file.specs.inner.Decrypts.{opens, seals}
 use Rattle.age_keys.specs.inner.PayloadBox.{box_valid}

@@ -1,7 +1,7 @@
 use Rattle.std.proofs.Common.{length, ◌∙◌, ◌++◌, Some, None, List, ℕ, ap, ◌≡◌, take, drop, sym, arith, [], append-nil, refl, inl}
 use Rattle.std.proofs.lemmas.Result.{err_from_is_err_and}
 use Rattle.std.proofs.lemmas.List.{take-append-drop}
-use Rattle.std.proofs.KnownBytes.{Appends-nil}
+use Rattle.age_io.proofs.TakenLemmas.{Appends-nil}
 use Rattle.age_stream.specs.Segment.{with_piece}
 use Rattle.age_file.specs.inner.Decrypts.{opens, seals}
 use Rattle.age_keys.specs.inner.PayloadBox.{box_valid}

@@ -1,5 +1,6 @@
 use Rattle.std.proofs.Common.{ap, ◌∙◌, ◌+◌, ◌-◌, ◌^◌, min, ℕ}
-use Rattle.age_fault.proofs.ByteLemmas.{Appends-Keeps, answer_as}
+use Rattle.age_io.proofs.TakenLemmas.{Appends-kept}
+use Rattle.age_fault.proofs.ByteLemmas.{answer_as}
 use Rattle.age_file.proofs.sealing.finish.Goals as goal
 
 pub returns-clause-sealed : goal.returns-clause-sealed
@@ -11,7 +12,7 @@ returns-clause-sealed g c =
       unwritten = last.unwritten;
       limit = last.limit;
       wrote = record {
-        bytes = Appends-Keeps _ _ _ _ last.wrote.bytes flushed.bytes;
+        bytes = Appends-kept _ _ _ _ last.wrote.bytes flushed.bytes;
         count = last.wrote.count;
         named = flushed.named ∙ last.wrote.named;
       };

@@ -1,11 +1,12 @@
 use Rattle.std.proofs.Common.{◌≡◌, ◌<◌, ◌*◌, ◌^◌, ◌≤◌, length, ap, sym, subst, ◌∙◌, arith, List, ℕ, [], ◌++◌, refl, append-nil}
 use Rattle.std.proofs.lemmas.Result.{err_from_is_err_and}
 use Rattle.std.proofs.lemmas.Nat.{mul-le}
-use Rattle.std.proofs.KnownBytes.{Appends-nil, Consumes-nil}
+use Rattle.age_io.proofs.TakenLemmas.{Appends-nil}
+use Rattle.age_io.proofs.SupplyLemmas.{Consumes-nil}
 use Rattle.std.proofs.lemmas.List.{length-append}
 use Rattle.age_file.specs.inner.Decrypts.{opens, seals}
 use Rattle.age_keys.specs.inner.PayloadBox.{box_valid}
-use Rattle.age_file.specs.inner.Readers.{reader_view, view_of_writer, Pulled}
+use Rattle.age_file.specs.inner.Readers.{start_at, reader_view, view_of_writer, Pulled}
 use Rattle.age_fault.specs.Faults.{HasFailed}
 use Rattle.age_file.specs.inner.Seals.{Wrote, front_of, SealingFails, SealsAll, SealsFront}
 use Rattle.age_file.specs.Runs.{ports}
@@ -73,8 +74,8 @@ returns-in_err-refill-clause-sealed g c =
       fails = pull_fails (seals c.new-sealer.result.key) n old new kept.text
           (reader_view (g.S.Source.view c.pulls.reader.source.now) c.pulls.reader.intake.now)
           (reader_view (g.S.Source.view c.refill.new.source) c.refill.new.self)
-          c.in_err-refill.field-0.0 kept.read_failed refl kept.write_failed all.each_gave all.small
-          r.answered.2;
+          c.in_err-refill.field-0.0 kept.read_failed refl kept.write_failed
+          (omega (arith, all.each_gave)) (omega (arith, all.small)) r.answered.2;
     }) in
     rw (p.1, p.2) (record {
       done = tt;
@@ -121,7 +122,7 @@ returns-in_err-seal_piece-clause-sealed g c =
     let new = ports (g.S.Source.view c.refill.new.source)
     (g.O.Sink.view c.seal_piece.new.writer.sink.now) in
     let all = rw (← c.bytes.ensures.bytes)
-    at (r.pulled old.source.remaining kept.text kept.pulled) in
+    at (r.pulled (start_at old.source.remaining) kept.text kept.pulled) in
     let unwritten = piece_cut seals n c.new-sealer.result c.pulls.sealer c.seal_piece.new.sealer was
     mid now kept.text piece s.fed s.left s.unwritten
     kept.goes kept.fresh kept.wrote s.some positive in
@@ -162,7 +163,7 @@ pulls-preserved g c =
     let mid = view_of_writer g.O.Sink.view c.pulls.writer in
     let now = view_of_writer g.O.Sink.view c.seal_piece.new.writer in
     let all = rw (← c.bytes.ensures.bytes)
-    at (r.pulled (g.S.Source.view c.args.reader.now.source.now).remaining kept.text
+    at (r.pulled (start_at (g.S.Source.view c.args.reader.now.source.now).remaining) kept.text
     kept.pulled) in
     let done = piece_done seals n c.new-sealer.result c.pulls.sealer c.seal_piece.new.sealer was mid
     now kept.text piece s.fed s.left s.unwritten kept.goes
@@ -174,7 +175,7 @@ pulls-preserved g c =
       metered = λ from began. c.in_ok-refill.ensures.metered from (kept.metered from began);
       same_writer = c.in_ok-seal_piece.ensures.same_writer ∙ kept.same_writer;
       text = kept.text ++ piece;
-      pulled = subst (λ (k : ℕ). Pulled (g.S.Source.view c.args.reader.now.source.now).remaining
+      pulled = subst (λ (k : ℕ). Pulled (start_at (g.S.Source.view c.args.reader.now.source.now).remaining)
           (g.S.Source.view c.refill.new.source).remaining k
           (kept.text ++ piece)) (sym c.use_all.ensures.pulls) all;
       unread = c.use_all.ensures.bytes;

@@ -1,7 +1,7 @@
 use Rattle.std.proofs.Common.{◌-◌, ◌^◌, ◌≡◌, ℕ, [], List, length}
 use Rattle.age_stream.specs.Sealer.{Holds}
 use Rattle.age_file.specs.inner.Decrypts.{seals}
-use Rattle.age_file.specs.inner.Readers.{Pulled, view_of_writer, SameReader, KeepsMeter, SameWriter}
+use Rattle.age_file.specs.inner.Readers.{start_at, Pulled, view_of_writer, SameReader, KeepsMeter, SameWriter}
 use Rattle.age_file.specs.inner.Seals.{IsFeeding, Wrote, GoesOn, front_of}
 use Rattle.age_chunk.specs.Payload.{chunk_length}
 use Rattle.age_file.proofs.sealing.seal_all.Given as goal
@@ -15,7 +15,7 @@ invariant-pulls g l = record {
   metered : KeepsMeter g.S.Source.metered l.fn.reader l.reader;
   same_writer : SameWriter l.fn.writer l.writer;
   text : List ℕ;
-  pulled : Pulled (g.S.Source.view l.fn.reader.source.now).remaining
+  pulled : Pulled (start_at (g.S.Source.view l.fn.reader.source.now).remaining)
       (g.S.Source.view l.reader.source.now).remaining l.reader.intake.now.pulls text;
   unread : l.reader.intake.now.bytes ≡ [];
   plain_is : l.plain ≡ length text;

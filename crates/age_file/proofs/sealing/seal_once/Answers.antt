@@ -1,7 +1,7 @@
 use Rattle.std.proofs.Common.{ℕ, ◌≡◌, take, drop, sym, ap, ◌∙◌, arith, [], ◌++◌, append-nil, refl}
 use Rattle.std.proofs.lemmas.Result.{err_from_is_err_and}
 use Rattle.std.proofs.lemmas.List.{length-take}
-use Rattle.std.proofs.KnownBytes.{Appends-nil}
+use Rattle.age_io.proofs.TakenLemmas.{Appends-nil}
 use Rattle.age_stream.specs.Sealer.{too_many}
 use Rattle.age_stream.specs.Opener.{chunk_bytes}
 use Rattle.age_file.specs.inner.Decrypts.{seals}

@@ -1,5 +1,5 @@
 use Rattle.std.proofs.Common.{◌-◌, ◌^◌, ◌≡◌, ℕ, [], List}
-use Rattle.age_file.specs.inner.Readers.{IsFront, Pulled, SameReader, KeepsMeter}
+use Rattle.age_file.specs.inner.Readers.{start_at, IsFront, Pulled, SameReader, KeepsMeter}
 use Rattle.age_file.proofs.head.HeadReader.read.Given as goal
 
 abbrev pub invariant-pieces : goal.invariant-pieces
@@ -8,7 +8,7 @@ invariant-pieces g l = record {
   metered : KeepsMeter g.S.Source.metered l.fn.reader l.reader;
   held : List ℕ;
   front : IsFront l.self held;
-  pulled : Pulled (g.S.Source.view l.fn.reader.source.now).remaining
+  pulled : Pulled (start_at (g.S.Source.view l.fn.reader.source.now).remaining)
       (g.S.Source.view l.reader.source.now).remaining l.reader.intake.now.pulls held;
   unread : l.reader.intake.now.bytes ≡ [];
   unfailed : (g.S.Source.view l.reader.source.now).failed

@@ -1,18 +1,18 @@
-use Rattle.std.proofs.Common.{◌≡◌, ℕ, ◌+◌, ◌*◌, ◌^◌, ◌≤◌, List, [], ◌++◌, length, Option, refl, ap, rules, arith}
+use Rattle.std.proofs.Common.{◌≡◌, ℕ, ◌+◌, ◌*◌, ◌^◌, ◌≤◌, List, [], ◌++◌, length, refl, ap, rules, arith}
 use Rattle.std.proofs.lemmas.List.{length-append}
-use Rattle.std.proofs.KnownBytes.{Consumes-nil, Consumes-kept, Consumes-trans}
-use Rattle.std.specs.Io.KnownBytes.{Consumes}
-use Rattle.age_file.specs.inner.Readers.{Pulled}
+use Rattle.age_io.proofs.SupplyLemmas.{Consumes-nil, Consumes-kept, Consumes-trans}
+use Rattle.age_io.specs.Supply.{Supply, Consumes}
+use Rattle.age_file.specs.inner.Readers.{Start, Pulled}
 use Rattle.age_file.specs.Runs.{pull_room}
 use Rattle.age_file.proofs.intake.Intake.refill.Goals as goal
 
 -- the pulls go on with a piece, or stay if it is empty
-goes_on : (start old new : Option (List ℕ)) (pulls now : ℕ) (bytes piece : List ℕ)
+goes_on : (start : Start) (old new : Supply) (pulls now : ℕ) (bytes piece : List ℕ)
     → Consumes old new piece → now ≤ pulls + length piece
     → length piece + pull_room * pulls ≤ pull_room * now → now ≤ 2 ^ 63
     → Pulled start old pulls bytes → Pulled start new now (bytes ++ piece)
 goes_on start old new pulls now bytes piece read gave small most p = record {
-  consumed = Consumes-trans start old new bytes piece p.consumed read;
+  consumed = Consumes-trans start.source old new bytes piece p.consumed read;
   each_gave = omega (arith, p.each_gave, length-append bytes piece);
   small = omega (arith, p.small, length-append bytes piece);
   most = most;
