@@ -82,7 +82,7 @@ pub trait FileSet {
         ensures noted { (view self.new).events ≡ (view self.old).events ++ Opened name.now ∷ [] }
         ensures found { IfOk result (λ s. shows_bytes ≡ true
             → (is_some ((view self.old).entries name.now) ≡ true)
-            × ((Self.In.view s).remaining ≡ (view self.old).entries name.now)) }
+            × ((Self.In.view s).remaining.left ≡ (view self.old).entries name.now)) }
         ensures missing { shows_bytes ≡ true → IfErr result (λ f. f ≡ Fault FileFault.Read
             → (view self.old).entries name.now ≡ None) }
         ensures faults { IfErr result (OpenFails shows_bytes FileFault.Read) };
@@ -94,7 +94,7 @@ pub trait FileSet {
         ensures kept { (view self.new).entries ≡ (view self.old).entries }
         ensures noted { (view self.new).events ≡ (view self.old).events ++ Opened name.now ∷ [] }
         ensures found { IfOk result (λ s. shows_bytes ≡ true
-            → (Self.In.view s).remaining ≡ or_empty ((view self.old).entries name.now)) }
+            → (Self.In.view s).remaining.left ≡ or_empty ((view self.old).entries name.now)) }
         ensures shown { shows_bytes ≡ true → IfErr result (λ f. f ≡ Fault FileFault.Memory) }
         ensures faults { IfErr result (OpenFails shows_bytes FileFault.Read) };
 
@@ -102,7 +102,7 @@ pub trait FileSet {
     /// can't of a pipe or a terminal.
     fn length(&self, source: &Self::In) -> Option<u64>
         ensures shown { shows_bytes ≡ true
-            → result ≡ option_map length (Self.In.view source.now).remaining };
+            → result ≡ option_map length (Self.In.view source.now).remaining.left };
 
     /// Whether a file that was opened can be read once more from its start.
     fn can_reread(&self, _source: &Self::In) -> bool {
@@ -115,7 +115,7 @@ pub trait FileSet {
     /// only if there is no such file.
     fn reread(&self, alloc: Global, name: &str, source: &mut Self::In) -> Result<(), FileFault>
         ensures again { OnOk result (shows_bytes ≡ true
-            → (Self.In.view source.new).remaining ≡ (view self.now).entries name.now) }
+            → (Self.In.view source.new).remaining.left ≡ (view self.now).entries name.now) }
         ensures missing { shows_bytes ≡ true → IfErr result (λ f. f ≡ FileFault.Read
             → (view self.now).entries name.now ≡ None) }
         ensures faults { IfErr result (IsMemoryOr FileFault.Read) };
@@ -139,7 +139,7 @@ pub trait FileSet {
     fn create(&mut self, alloc: Global, name: &str) -> Result<Self::Out, OpenFault>
         ensures kept { (view self.new).entries ≡ (view self.old).entries }
         ensures made { IfOk result (λ o. shows_bytes ≡ true
-            → ((Self.Out.view o).taken ≡ Some []) × ((Self.Out.view o).label ≡ name.now)) }
+            → ((Self.Out.view o).taken.contents ≡ Some []) × ((Self.Out.view o).label ≡ name.now)) }
         ensures noted { (view self.new).events ≡ (view self.old).events ++ Created name.now ∷ [] }
         ensures faults { IfErr result (OpenFails shows_bytes FileFault.Write) };
 
@@ -184,19 +184,19 @@ pub trait FileSet {
     /// took.
     fn close(&mut self, out: Self::Out, durability: Durability) -> Result<(), FileFault>
         ensures put { OnOk result (shows_bytes ≡ true
-            → (view self.new).entries (Self.Out.view out).label ≡ (Self.Out.view out).taken) }
+            → (view self.new).entries (Self.Out.view out).label ≡ (Self.Out.view out).taken.contents) }
         ensures others { (q : List ℕ) → q ≢ (Self.Out.view out).label
             → (view self.new).entries q ≡ (view self.old).entries q }
         ensures err { OnErr result (((view self.new).entries ≡ (view self.old).entries)
             ⊎ (shows_bytes ≡ true
-            → (view self.new).entries (Self.Out.view out).label ≡ (Self.Out.view out).taken)) }
+            → (view self.new).entries (Self.Out.view out).label ≡ (Self.Out.view out).taken.contents)) }
         ensures noted { (view self.new).events ≡ (view self.old).events ++ Closed durability ∷ [] }
         ensures faults { IsOkUnless result FileFault.Write };
 
     /// Ends a file that was created and into which nothing was put: it is as it was before
     /// `create`, and if there was none, there is none, also on the disk if that is asked for.
     fn discard(&mut self, out: Self::Out, durability: Durability)
-        ensures kept { (shows_bytes ≡ true → (Self.Out.view out).taken ≡ Some [])
+        ensures kept { (shows_bytes ≡ true → (Self.Out.view out).taken.contents ≡ Some [])
             → (view self.new).entries ≡ (view self.old).entries }
         ensures others { (q : List ℕ) → q ≢ (Self.Out.view out).label
             → (view self.new).entries q ≡ (view self.old).entries q }

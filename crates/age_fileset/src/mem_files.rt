@@ -2,8 +2,8 @@
 
 ghost use Rattle.std.specs.Prelude.{◌≡◌, ◌↔◌, ◌⊎◌, ◌++◌, ◌∷◌, ◌<◌, ◌≤◌, IsTrue, [], true, Some, None, OnOk, OnErr};
 ghost use Rattle.std.specs.Prelude.{IfOk, IsErrOf, IsOk, IfErr, IsOkUnless, Contains, is_some, option_map, length};
-ghost use Rattle.std.specs.Io.KnownBytes.{WriteAppends, Keeps};
-ghost use Rattle.age_io.specs.Io.{Puts, Flushes};
+ghost use Rattle.age_io.specs.Taken.{WriteAppends, Keeps};
+ghost use Rattle.age_io.specs.Io.{Puts, Flushes, holds};
 ghost use Rattle.age_fileset.specs.FileSet.{entry_of, empty_with, PutsEntry, IsMemoryOr, OpenFails};
 ghost use Rattle.age_fileset.specs.FileSet.{or_empty, Opened, Prepared, Created, Replaced, Closed};
 ghost use Rattle.age_fileset.specs.declared.files.OpenFault.TheVariants.{Fault};
@@ -58,7 +58,7 @@ impl Model for MemOut {
 
 impl Sink for MemOut {
     ghost view = { λ o. record {
-      taken = Some o.1.held;
+      taken = holds o.1.held;
       failed = o.1.failures;
       failing = o.1.failing;
       label = o.0;
@@ -67,7 +67,7 @@ impl Sink for MemOut {
 
     fn put(&mut self, from: &[u8]) -> Result<usize, Failed>
         ensures bound { IfOk result (λ n. (n ≤ length from.now) × (0 < length from.now → 0 < n)) }
-        ensures bytes { WriteAppends (Some self.old.1.held) (Some self.new.1.held) result from.now }
+        ensures bytes { WriteAppends (holds self.old.1.held) (holds self.new.1.held) result from.now }
         ensures named { self.new.0 ≡ self.old.0 }
         ensures plan { Puts self.old.1 from.now result self.new.1 }
     {
@@ -76,7 +76,7 @@ impl Sink for MemOut {
 
     fn flush(&mut self) -> Result<(), Failed>
         ensures settled { OnOk result (self.new.1.settled ≡ true) }
-        ensures bytes { Keeps (Some self.old.1.held) (Some self.new.1.held) }
+        ensures bytes { Keeps (holds self.old.1.held) (holds self.new.1.held) }
         ensures named { self.new.0 ≡ self.old.0 }
         ensures plan { Flushes self.old.1 result self.new.1 }
     {

@@ -1,7 +1,7 @@
 //! A text into a sink.
 
 ghost use Rattle.std.specs.Prelude.{◌≡◌, ℕ, take, OnOk, OnErr};
-ghost use Rattle.std.specs.Io.KnownBytes.{Appends};
+ghost use Rattle.age_io.specs.Taken.{Appends};
 ghost use Rattle.age_io.specs.Io.{one_more};
 ghost use Rattle.age_messages.specs.Lines.{Shows};
 

@@ -1,7 +1,7 @@
 use Rattle.std.proofs.Common.{◌≡◌, ◌+◌, ◌-◌, length, take, drop, sym, ap, subst, ◌∙◌, arith, take-add, ◌++◌, List, ℕ}
 use Rattle.std.proofs.lemmas.List.{take_rest}
-use Rattle.std.specs.Io.KnownBytes.{Appends}
-use Rattle.age_fault.proofs.ByteLemmas.{Appends-then}
+use Rattle.age_io.specs.Taken.{Appends}
+use Rattle.age_io.proofs.TakenLemmas.{Appends-trans}
 use Rattle.age_messages.proofs.text.put_all.Goals as goal
 
 pub loop-at-preserved : goal.loop-at-preserved
@@ -15,6 +15,6 @@ loop-at-preserved g c =
     record {
       within = omega (arith, kept.within, c.in_ok-at.ensures.bound);
       wrote = subst (λ (t : List ℕ). Appends (g.O.Sink.view c.args.sink.now).taken (g.O.Sink.view c.put.new.self).taken t) on
-          (Appends-then _ _ _ (take at text) (take n (take (length text - at) (drop at text))) kept.wrote c.in_ok-at.ensures.bytes);
+          (Appends-trans _ _ _ (take at text) (take n (take (length text - at) (drop at text))) kept.wrote c.in_ok-at.ensures.bytes);
       failed = c.in_ok-at.ensures.counted ∙ kept.failed;
     }

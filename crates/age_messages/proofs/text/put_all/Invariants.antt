@@ -1,5 +1,5 @@
 use Rattle.std.proofs.Common.{length, ◌-◌, ◌≡◌, ◌≤◌, take}
-use Rattle.std.specs.Io.KnownBytes.{Appends}
+use Rattle.age_io.specs.Taken.{Appends}
 use Rattle.age_messages.proofs.text.put_all.Given as goal
 
 abbrev pub invariant-loop-at : goal.invariant-loop-at
