@@ -1,7 +1,7 @@
 -- How a run ends if it isn't done, and which lines report it.
 use Rattle.std.specs.Prelude.{◌≡◌, ◌⊎◌, ℕ, Bool, true, false, List, [], ◌++◌, codes, decimal}
 use Rattle.std.specs.Prelude.{nat_le, Option, Some, None, Result, Ok, Err, IsErrAnd, if◌then◌else◌}
-use Rattle.std.specs.Io.KnownBytes.{Appends}
+use Rattle.age_io.specs.Taken.{Taken, Appends}
 use Rattle.age_io.specs.Io.{SinkView}
 use Rattle.age_fault.specs.Faults.{fault_number, name_of, fault_place, HasRisen}
 use Rattle.age_fault.specs.declared.fault.FileFault.{FileFault}
@@ -47,12 +47,12 @@ fault_line fault = codes "age_tool: " ++ (decimal (fault_number fault) ++ (codes
     ++ (place_text (fault_number fault) (fault_place fault) ++ codes "\n"))))
 
 -- a sink took these bytes, or failed
-abbrev pub TakesOrFails : Option (List ℕ) → Option (List ℕ) → ℕ → ℕ → List ℕ → Type 0
+abbrev pub TakesOrFails : Taken → Taken → ℕ → ℕ → List ℕ → Type 0
 TakesOrFails old new failed_old failed_new bytes = Appends old new bytes
     ⊎ HasRisen failed_old failed_new
 
 -- the line of the fault that ended a run, or the two lines, unless the sink failed
-abbrev pub ReportsEnding : Ending → Option (List ℕ) → Option (List ℕ) → ℕ → ℕ → Type 0
+abbrev pub ReportsEnding : Ending → Taken → Taken → ℕ → ℕ → Type 0
 ReportsEnding (Fault fault) old new failed_old failed_new =
     TakesOrFails old new failed_old failed_new (fault_line fault)
 ReportsEnding (Unsaved fault second) old new failed_old failed_new =

@@ -1,6 +1,6 @@
 -- What a command changes under which names, and why it may end before its output is written.
 use Rattle.std.specs.Prelude.{◌≡◌, ◌⊎◌, ℕ, ◌<◌, ◌≤◌, List, [], ◌∷◌, ◌++◌, length, Option, Some, None}
-use Rattle.std.specs.Io.KnownBytes.{Consumes, IsAtEnd}
+use Rattle.age_io.specs.Supply.{Supply, Consumes, IsAtEnd}
 use Rattle.clap.specs.Words.{Text}
 use Rattle.age_io.specs.Io.{SourceView}
 use Rattle.age_fault.specs.Faults.{HasRisen}
@@ -26,7 +26,7 @@ SparesBoth to save old new = (q : Text) → (to ≡ Some q → ⊥) → (save �
 -- ---- The first bytes of a source.
 
 -- this many bytes, or all that came before the end
-pub record AreFirst (old new : Option (List ℕ)) (most : ℕ) (bytes : List ℕ) : Type 0 where
+pub record AreFirst (old new : Supply) (most : ℕ) (bytes : List ℕ) : Type 0 where
   pub read : Consumes old new bytes
   pub within : length bytes ≤ most
   pub at_end : length bytes < most → IsAtEnd new

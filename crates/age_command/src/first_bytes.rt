@@ -4,7 +4,7 @@ ghost use Rattle.std.specs.Prelude.{◌≡◌, ◌^◌, ◌<◌, ◌≤◌, [], 
 ghost use Rattle.std.specs.Prelude.{IfSome, IfNone, Some, true, ◌∷◌, ◌++◌};
 ghost use Rattle.age_fileset.specs.FileSet.{Opened, IsMemoryOr, OpenFails};
 ghost use Rattle.age_fault.specs.declared.fault.FileFault.TheVariants.{Read};
-ghost use Rattle.std.specs.Io.KnownBytes.{Consumes, IsAtEnd};
+ghost use Rattle.age_io.specs.Supply.{Consumes, IsAtEnd};
 ghost use Rattle.age_fileset.specs.declared.files.OpenFault.TheVariants.{Fault};
 ghost use Rattle.age_command.specs.Files.{AreFirst, SourceFails, IsUnread};
 ghost use Rattle.age_command.specs.inner.Pieces.{IsPiece};
@@ -88,7 +88,7 @@ pub fn read_up_to<S: Source>(
         (λ v. Consumes (S.view source.old).remaining (S.view source.new).remaining v.items
         × IsAtEnd (S.view source.new).remaining)) }
     ensures long { IfOk result (λ o. IfNone o ((bytes : List ℕ)
-        → (S.view source.old).remaining ≡ Some bytes → most < length bytes)) }
+        → (S.view source.old).remaining.left ≡ Some bytes → most < length bytes)) }
     ensures faults { IfErr result (IsMemoryOr Read) }
     ensures failed { IfErr result (λ f. f ≡ Read → SourceFails S.view) }
 {

@@ -1,6 +1,7 @@
 //! Reports why a run ended.
 
 ghost use Rattle.std.specs.Prelude.{◌≡◌, ◌++◌, [], decimal, Some, true};
+ghost use Rattle.age_io.specs.Io.{holds};
 ghost use Rattle.age_fault.specs.Faults.{fault_number, fault_place};
 ghost use Rattle.age_command.specs.Endings.{place_text, fault_line, ReportsEnding, Announces, ReportsRest};
 ghost use Rattle.age_command.specs.declared.ending.Ending.TheVariants.{Fault};
@@ -35,7 +36,7 @@ impl FaultLine {
 
 impl Sink for FaultLine {
     ghost view = { λ line. record {
-      taken = Some line.bytes.items;
+      taken = holds line.bytes.items;
       failed = line.failures.count;
       failing = line.failures.last;
       label = [];

@@ -1,7 +1,7 @@
 -- How runs end, and what a call leaves that puts bytes into a sink. Private: no public contract
 -- cites this module.
 use Rattle.std.specs.Prelude.{◌≡◌, ℕ, List, Result, OnOk, OnErr}
-use Rattle.std.specs.Io.KnownBytes.{Appends}
+use Rattle.age_io.specs.Taken.{Appends}
 use Rattle.age_io.specs.Io.{SinkView}
 use Rattle.age_fault.specs.Faults.{HasRisen}
 use Rattle.age_fault.specs.declared.fault.FileFault.{FileFault}

@@ -1,6 +1,6 @@
 use Rattle.std.proofs.Common.{take, arith, ap, length}
 use Rattle.std.proofs.lemmas.List.{length-append, length-take}
-use Rattle.age_fault.proofs.ByteLemmas.{Consumes-then}
+use Rattle.age_io.proofs.SupplyLemmas.{Consumes-trans}
 use Rattle.age_command.proofs.first_bytes.fill_first.Goals as goal
 
 pub pieces-preserved : goal.pieces-preserved
@@ -10,7 +10,7 @@ pieces-preserved g c =
     let buffer = c.pull_some.new.buffer in
     let items = c.in_ok-extend_from_slice.ensures.items in
     record {
-      read = rw items (Consumes-then _ _ _ c.pieces.held.items (take n buffer) kept.read
+      read = rw items (Consumes-trans _ _ _ c.pieces.held.items (take n buffer) kept.read
           c.in_ok-n.ensures.piece.read);
       within = omega (
         arith,

@@ -1,5 +1,5 @@
 use Rattle.std.proofs.Common.{◌≡◌, ◌≤◌, ◌-◌, length}
-use Rattle.std.specs.Io.KnownBytes.{Consumes}
+use Rattle.age_io.specs.Supply.{Consumes}
 use Rattle.age_command.proofs.first_bytes.fill_first.Given as goal
 
 -- what was read so far
