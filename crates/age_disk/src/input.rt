@@ -5,7 +5,7 @@ ghost use Rattle.std.specs.Io.{ReadsAtMost};
 
 use crate::names::{FileId, Resolved, Stream, above_streams, is_on_disk, is_random, resolve};
 use crate::retry::{TRIES, is_to_retry, too_many_tries};
-use age_io::{Failed, Failures, Source};
+use age_io::{Failed, Failures, Source, Tape};
 use std::alloc::Global;
 use std::fs::{File, Metadata};
 use std::io::{self, Read, Seek, SeekFrom};
@@ -69,8 +69,9 @@ fn length_of(metadata: &Metadata) -> Option<u64> {
     }
 }
 
-/// A file of the machine that is read, or standard input. A contract sees none of its bytes, only
-/// how many pulls have failed and whether the last one did.
+/// A file of the machine that is read, or standard input. A contract sees the bytes that it gave,
+/// and whether a pull found the end; none that are to come; how many pulls have failed, and whether
+/// the last one did.
 #[derive(Drop)]
 pub struct HostIn {
     rt: HostRuntime,
@@ -82,14 +83,16 @@ pub struct HostIn {
     failures: Failures,
     // What the machine answered to the last pull that failed.
     error: io::Error,
+    given: Tape,
+    is_at_end: bool,
 }
 
 impl Model for HostIn {
-    ghost use Rattle.std.specs.Prelude.{ℕ, Bool};
+    ghost use Rattle.std.specs.Prelude.{ℕ, Bool, List};
 
-    ghost Value = { ℕ × Bool };
+    ghost Value = { (ℕ × Bool) × (List ℕ × Bool) };
 
-    ghost view = { λ s. (s.failures.count, s.failures.last) };
+    ghost view = { λ s. ((s.failures.count, s.failures.last), (s.given, s.is_at_end)) };
 }
 
 impl HostIn {
@@ -128,6 +131,8 @@ impl HostIn {
             is_cut_off: false,
             failures: Failures::none(),
             error: io::Error::from(io::ErrorKind::Other),
+            given: Tape::new(),
+            is_at_end: false,
         }
     }
 
@@ -215,11 +220,23 @@ impl HostIn {
 }
 
 impl Source for HostIn {
-    ghost view = { λ s. record { remaining = None; failed = s.0; failing = s.1 } };
+    ghost view = { λ s. record {
+      remaining = record {
+        given = s.1.0;
+        left = None;
+        is_at_end = s.1.1;
+      };
+      failed = s.0.0;
+      failing = s.0.1;
+    } };
 
     fn pull(&mut self, into: &mut [u8]) -> Result<usize, Failed> {
         let pulled = match self.read(into) {
             Ok(n) => {
+                self.given.note(&into[..n]);
+                if n == 0 && !into.is_empty() {
+                    self.is_at_end = true;
+                }
                 if let Some(left) = &mut self.left {
                     *left = left.saturating_sub(n as u64);
                 }

@@ -9,7 +9,7 @@ use crate::names::{FileId, Resolved, Stream, above_streams, resolve};
 use crate::paths::{OUTPUT_MODE, make_output, open_to_write};
 use crate::retry::{TRIES, is_to_retry, too_many_tries};
 use crate::sync::{Witness, close_stream, sync_file, sync_folder, sync_folder_if_readable};
-use age_io::{Durability, Failed, Failures, Sink};
+use age_io::{Durability, Failed, Failures, Sink, Tape};
 use std::alloc::Global;
 use std::fs::File;
 use std::io::{self, IsTerminal, Write};
@@ -84,8 +84,8 @@ impl Target {
 }
 
 /// A file of the machine that is written, or standard output or error. A regular file keeps its
-/// bytes until a put takes some. A contract sees none of them, only how many puts have failed and
-/// whether the last call did.
+/// bytes until a put takes some. A contract sees the bytes that it took, none that it holds, how many
+/// puts have failed, and whether the last call did.
 #[derive(Drop)]
 pub struct HostOut {
     rt: HostRuntime,
@@ -104,14 +104,15 @@ pub struct HostOut {
     durability: Durability,
     // How a wait for the disk failed. The system says so once: a later wait proves nothing.
     lost: Option<io::Error>,
+    took: Tape,
 }
 
 impl Model for HostOut {
-    ghost use Rattle.std.specs.Prelude.{ℕ, Bool};
+    ghost use Rattle.std.specs.Prelude.{ℕ, Bool, List};
 
-    ghost Value = { ℕ × Bool };
+    ghost Value = { (ℕ × Bool) × List ℕ };
 
-    ghost view = { λ s. (s.failures.count, s.failures.last) };
+    ghost view = { λ s. ((s.failures.count, s.failures.last), s.took) };
 }
 
 /// Whether a file is a regular one.
@@ -336,7 +337,7 @@ fn is_wait_due(taken: u64, settled: u64) -> bool {
 
 impl HostOut {
     fn new(rt: &HostRuntime, target: Target, id: Option<FileId>) -> HostOut
-        ensures { result ≡ (0, false) }
+        ensures { result ≡ ((0, false), []) }
     {
         HostOut {
             rt: *rt,
@@ -349,6 +350,7 @@ impl HostOut {
             settled: 0,
             durability: Durability::Buffered,
             lost: None,
+            took: Tape::new(),
         }
     }
 
@@ -359,7 +361,7 @@ impl HostOut {
 
     /// Standard error, for the lines of faults. Puts fail if the program was started without it.
     pub fn faults(rt: &HostRuntime) -> HostOut
-        ensures { result ≡ (0, false) }
+        ensures { result ≡ ((0, false), []) }
     {
         HostOut::new(rt, Target::Faults(rt.stderr()), None)
     }
@@ -587,16 +589,19 @@ fn error_of(put: io::Result<usize>) -> io::Error {
 
 impl Sink for HostOut {
     ghost view = { λ s. record {
-      taken = None;
-      failed = s.0;
-      failing = s.1;
+      taken = record { bytes = s.1; contents = None };
+      failed = s.0.0;
+      failing = s.0.1;
       label = [];
       settled = true;
     } };
 
     fn put(&mut self, from: &[u8]) -> Result<usize, Failed> {
         let taken = match self.write(from) {
-            Ok(n) if n > 0 || from.is_empty() => Ok(n),
+            Ok(n) if n > 0 || from.is_empty() => {
+                self.took.note(&from[..n]);
+                Ok(n)
+            }
             other => {
                 self.error = error_of(other);
                 Err(Failed)

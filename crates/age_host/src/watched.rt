@@ -73,9 +73,13 @@ impl<'r, 'w> WatchedIn<'r, 'w> {
 
 impl<'r, 'w> Source for WatchedIn<'r, 'w> {
     ghost view = { λ s. record {
-      remaining = None;
-      failed = s.source.0;
-      failing = s.source.1;
+      remaining = record {
+        given = s.source.1.0;
+        left = None;
+        is_at_end = s.source.1.1;
+      };
+      failed = s.source.0.0;
+      failing = s.source.0.1;
     } };
 
     fn pull(&mut self, into: &mut [u8]) -> Result<usize, Failed> {
@@ -184,9 +188,9 @@ fn closing(durability: Durability) -> Action {
 
 impl<'r, 'w> Sink for WatchedOut<'r, 'w> {
     ghost view = { λ s. record {
-      taken = None;
-      failed = s.sink.0;
-      failing = s.sink.1;
+      taken = record { bytes = s.sink.1; contents = None };
+      failed = s.sink.0.0;
+      failing = s.sink.0.1;
       label = [];
       settled = true;
     } };
