@@ -2,7 +2,8 @@
 use Rattle.std.proofs.Common.{◌≡◌, ◌∙◌, ◌⊎◌, ◌++◌, ◌∷◌, [], inl, inr, ap, sym, subst, refl, Bool, true, false, true≢false, append-nil, List, ℕ, Option, Some}
 use Rattle.std.proofs.Common.{None, Result, Ok, Err, IfOk, IfErr, OnOk}
 use Rattle.std.specs.Prelude.{IsErr, IsErrAnd, is_some, OnErr}
-use Rattle.std.specs.Io.KnownBytes.{Consumes}
+use Rattle.std.specs.Io.KnownBytes as known
+use Rattle.age_io.specs.Supply.{Supply, Consumes}
 use Rattle.age_fault.specs.declared.fault.FileFault.{FileFault}
 use Rattle.age_fault.specs.declared.fault.FileFault.TheVariants.{Read, Write, Memory, BadPosition}
 use Rattle.age_fileset.specs.FileSet.{IsMemoryOr, OpenFails, Event, Opened, FilesView}
@@ -110,11 +111,13 @@ created_fault shows other SameFile fails shown = absurd (true≢false (sym shown
 created_fault shows other (create.Fault f) fails shown = refl
 
 -- what was read from a file that is there is at its front
-pub front_read : (old new : Option (List ℕ)) (bytes : List ℕ) → is_some old ≡ true → Consumes old new bytes
-    → (rest : List ℕ) × (old ≡ Some (bytes ++ rest))
-front_read None new bytes there read = absurd (true≢false (sym there))
-front_read (Some xs) None bytes there read = absurd read
-front_read (Some xs) (Some ys) bytes there read = (ys, ap Some read)
+pub front_read : (old new : Supply) (bytes : List ℕ) → is_some old.left ≡ true → Consumes old new bytes
+    → (rest : List ℕ) × (old.left ≡ Some (bytes ++ rest))
+front_read old new bytes there read = front old.left new.left there read.left where
+  front : (a b : Option (List ℕ)) → is_some a ≡ true → known.Consumes a b bytes → (rest : List ℕ) × (a ≡ Some (bytes ++ rest))
+  front None b there read = absurd (true≢false (sym there))
+  front (Some xs) None there read = absurd read
+  front (Some xs) (Some ys) there read = (ys, ap Some read)
 
 -- a fault of the position or of the old text ends `resume` before its output is made
 pub bad_position : (shows : Bool) (f : OpenFault) (held : Option (List ℕ)) → OpenFails shows Read f ⊎ (f ≡ create.Fault BadPosition)

@@ -1,8 +1,8 @@
 -- What holds after a command stopped, step by step.
 use Rattle.std.proofs.Common.{◌≡◌, ◌∙◌, ℕ, inl, inr, refl, sym, subst, List, [], length, Option, Some, None, arith}
 use Rattle.std.specs.Prelude.{IsSomeAnd}
-use Rattle.std.specs.Io.KnownBytes.{Appends}
-use Rattle.std.proofs.KnownBytes.{Appends-nil}
+use Rattle.age_io.specs.Taken.{Taken, Appends}
+use Rattle.age_io.proofs.TakenLemmas.{Appends-nil}
 use Rattle.clap.specs.Words.{Text}
 use Rattle.age_stanza.specs.declared.header.Header.{Header}
 use Rattle.age_io.specs.Io.{SinkView}
@@ -22,7 +22,7 @@ use Rattle.age_command.specs.Files.{Files}
 use Rattle.age_cli.specs.Acts.{EndsOf}
 
 -- this many bytes were written
-abbrev pub Written : Option (List ℕ) → Option (List ℕ) → ℕ → List ℕ → Type 0
+abbrev pub Written : Taken → Taken → ℕ → List ℕ → Type 0
 Written old new written out = Appends old new out × (written ≡ length out)
 
 -- a stop before anything was written

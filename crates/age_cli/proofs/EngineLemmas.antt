@@ -38,7 +38,7 @@ ends_so (Err stop) ends ok = absurd (true≢false (sym ok))
 module _ (IsPorts : Ports → Type 0) (engine : Engine) (shows : Bool) (p : Paths) (durability : Durability) (old opened new : FilesView) (before after : Ports)
     (before_is : IsPorts before) (after_is : IsPorts after) (end : Result (Unit {0}) Interruption) (r : Result (Unit {0}) Ending)
     (kept : opened.entries ≡ old.entries)
-    (found : shows ≡ true → (is_some (old.entries p.from) ≡ true) × (before.source.remaining ≡ old.entries p.from) × (before.sink.taken ≡ Some [])
+    (found : shows ≡ true → (is_some (old.entries p.from) ≡ true) × (before.source.remaining.left ≡ old.entries p.from) × (before.sink.taken.contents ≡ Some [])
     × (before.sink.label ≡ p.to))
     (named : after.sink.label ≡ before.sink.label) (promise : shows ≡ true → Kept engine before after end)
     (concludes : Concludes shows p.save durability after.sink end opened new r) where
@@ -46,7 +46,7 @@ module _ (IsPorts : Ports → Type 0) (engine : Engine) (shows : Bool) (p : Path
     label : after.sink.label ≡ p.to
     label = named ∙ (found shown).3
 
-    ran : (Promise : Ports → Ports → Type 0) → Promise before after → (taken : Option (List ℕ)) → taken ≡ after.sink.taken
+    ran : (Promise : Ports → Ports → Type 0) → Promise before after → (taken : Option (List ℕ)) → taken ≡ after.sink.taken.contents
         → Ran IsPorts Promise (old.entries p.from) taken
     ran Promise promised taken took = record {
       before = before;
@@ -61,20 +61,20 @@ module _ (IsPorts : Ports → Type 0) (engine : Engine) (shows : Bool) (p : Path
 
     -- how OUT is left, by how the engine ended
     left_out : (e : Result (Unit {0}) Interruption) → Kept engine before after e → (out_old out_new : Option (List ℕ)) (s : Interruption)
-        → Left e after.sink.taken out_old out_new s
+        → Left e after.sink.taken.contents out_old out_new s
         → IsLeft IsPorts engine s.position s.fault (old.entries p.from) out_old out_new
         ⊎ IsUnclosed IsPorts engine s.position s.fault (old.entries p.from) out_old out_new
     left_out (Err cause) k out_old out_new s (is, left) =
         subst (λ (t : Interruption). IsLeft IsPorts engine t.position t.fault (old.entries p.from) out_old out_new
         ⊎ IsUnclosed IsPorts engine t.position t.fault (old.entries p.from) out_old out_new) (sym is)
         (inl (
-          after.sink.taken,
-          ran (engine.stops cause.position cause.fault) k.stops after.sink.taken refl,
+          after.sink.taken.contents,
+          ran (engine.stops cause.position cause.fault) k.stops after.sink.taken.contents refl,
           left,
         ))
     left_out (Ok done) k out_old out_new s (is, left) = inr (
-      after.sink.taken,
-      ran engine.ends k.ends after.sink.taken refl,
+      after.sink.taken.contents,
+      ran engine.ends k.ends after.sink.taken.contents refl,
       left,
       ap (λ (t : Interruption). t.position) is,
       ap (λ (t : Interruption). t.fault) is,
@@ -86,7 +86,7 @@ module _ (IsPorts : Ports → Type 0) (engine : Engine) (shows : Bool) (p : Path
       record {
         there = (found shown).0;
         output = ran shown engine.ends (ends_so end (promise shown).ends done.0) (new.entries p.to)
-            (subst (λ l. new.entries l ≡ after.sink.taken) (label shown) put.0);
+            (subst (λ l. new.entries l ≡ after.sink.taken.contents) (label shown) put.0);
         others = λ q other. put.1 q (λ e. other (e ∙ label shown)) ∙ ap (λ (f : Files). f q) kept;
       }) concludes.done
 
@@ -94,8 +94,8 @@ module _ (IsPorts : Ports → Type 0) (engine : Engine) (shows : Bool) (p : Path
   stopped_out apart shown = IfErr-weaker r _ _ (λ e stops.
       let k = promise shown in
       let s = stops shown (λ same. apart (same ∙ ap Some (label shown))) in
-      let left = subst (λ (f : Files). Left end after.sink.taken (f p.to) (new.entries p.to) s.0) kept
-      (subst (λ l. Left end after.sink.taken (opened.entries l) (new.entries l) s.0) (label shown) s.1) in
+      let left = subst (λ (f : Files). Left end after.sink.taken.contents (f p.to) (new.entries p.to) s.0) kept
+      (subst (λ l. Left end after.sink.taken.contents (opened.entries l) (new.entries l) s.0) (label shown) s.1) in
       record {
         there = (found shown).0;
         position = s.0.position;
@@ -120,7 +120,7 @@ kept_opening keep i before after run (Err s) ends stops =
 
 pub kept_resuming : (IsPorts : Ports → Type 0) (keep : PositionPolicy) (i : Identity) (from : Position) (old_text : Option (List ℕ)) (before after : Ports)
     (first last : SourceView) (run : Option Run) (r : Result Done Stopped) → IsPorts (ports first before.sink) → IsPorts (ports last after.sink)
-    → old_text ≡ first.remaining
+    → old_text ≡ first.remaining.left
     → IfOk r (λ done. IsSomeAnd run (ResumeEnds (allows_by i) from (resume_ports before first) (resume_ports after last) done))
     → IfErr r (ResumeStops (allows_by i) from (resume_ports before first) (resume_ports after last) keep (refuses_by i) run)
     → Kept (resume_engine IsPorts keep i from old_text) before after (opening_end r)

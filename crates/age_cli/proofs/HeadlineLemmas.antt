@@ -5,6 +5,7 @@ use Rattle.std.proofs.lemmas.List.{length-take, take_at}
 use Rattle.std.specs.Prelude.{is_some, ◌==◌, if◌then◌else◌, bytes_eq, OnErr, OnOk, IfErr}
 use Rattle.std.specs.Option.{option_map_or}
 use Rattle.std.specs.Io.KnownBytes.{Consumes, Appends, IsAtEnd}
+use Rattle.age_io.specs.Supply.{Supply}
 use Rattle.clap.specs.Words.{Row, Text}
 use Rattle.clap.specs.Kinds.{Kinds, IsAmong}
 use Rattle.clap.specs.declared.error.kind.ErrorKind.TheVariants.{DisplayHelp, DisplayVersion}
@@ -50,12 +51,12 @@ read_from None b bs t c = absurd (true≢false (sym t))
 read_from (Some x) None bs t c = absurd c
 read_from (Some x) (Some y) bs t c = (y, ap Some c, λ e. e)
 
-is_read : (identity : Identity) (input : Option (List ℕ)) (before after : Ports) (written : ℕ) (r : Run) → input ≡ before.source.remaining → is_some input
+is_read : (identity : Identity) (input : Option (List ℕ)) (before after : Ports) (written : ℕ) (r : Run) → input ≡ before.source.remaining.left → is_some input
     ≡ true
     → IsRun (allows_by identity) before after written r → IsRead identity input r
 is_read identity input before after written r coming there is =
     let read = (r.file.header_bytes ++ r.file.nonce) ++ (r.skipped ++ r.bytes) in
-    let found = read_from before.source.remaining after.source.remaining read (ap is_some (sym coming) ∙ there) is.reads.read in
+    let found = read_from before.source.remaining.left after.source.remaining.left read (ap is_some (sym coming) ∙ there) is.reads.read.left in
     record {
       text = is.reads.text;
       opens = is.reads.opens;
@@ -63,7 +64,7 @@ is_read identity input before after written r coming there is =
       skipped_size = is.skipped_size;
       rest = found.0;
       bytes = coming ∙ found.1;
-      whole = λ ended. found.2 (is.at_end ended);
+      whole = λ ended. found.2 (is.at_end ended).1;
     }
 
 -- a file is as it was, or holds a beginning of the text
@@ -80,7 +81,7 @@ whole_out IsPorts keep identity input new text there auth o =
     let is = ends.1.is in
     let read = is_read identity input o.before o.after done.written r o.coming there is in
     let all : held r ≡ text = writes_all r (omega (arith, ends.0.zero)) ends.1.whole ends.1.done text (auth r ends.0 read) in
-    o.took ∙ (appended o.before.sink.taken o.after.sink.taken (held r) o.empty is.wrote ∙ ap Some all)
+    o.took ∙ (appended o.before.sink.taken.contents o.after.sink.taken.contents (held r) o.empty is.wrote.contents ∙ ap Some all)
 
 -- OUT, if the run stopped
 held_stop : (IsPorts : Ports → Type 0) (keep : PositionPolicy) (identity : Identity) (input old new : Option (List ℕ)) (position : Option Position)
@@ -93,7 +94,7 @@ held_stop IsPorts keep identity input old new position fault text there auth (in
     let stopped : Stopped = record { fault = fault; written = written; position = position } in
     let w = stop_wrote keep (allows_by identity) (refuses_by identity) s.before s.after stopped s.promise.1 s.promise.2 in
     let begins : IsPrefixOf w.0 text = w.2 text (λ r from is. auth r from (is_read identity input s.before s.after written r s.coming there is)) in
-    ⊎_elim (λ same. inl same) (λ put. inr (w.0, put.0 ∙ (s.took ∙ appended s.before.sink.taken s.after.sink.taken w.0 s.empty w.1.0), begins)) left
+    ⊎_elim (λ same. inl same) (λ put. inr (w.0, put.0 ∙ (s.took ∙ appended s.before.sink.taken.contents s.after.sink.taken.contents w.0 s.empty w.1.0.contents), begins)) left
 held_stop IsPorts keep identity input old new position fault text there auth (inr (taken, ran, left, none, write)) =
     ⊎_elim (λ same. inl same) (λ put. inr (text, put ∙ whole_out IsPorts keep identity input taken text there auth ran, ([], append-nil text))) left
 
@@ -133,17 +134,17 @@ module _ (identity : Identity) (p : Position) (input old_text : Option (List ℕ
     (few : chunk_count chunk_length text ≤ chunk_limit) (begins : (all : List ℕ) → old_text ≡ Some all → (p.index * chunk_length ≤ length text)
     × IsPrefixOf (take (p.index * chunk_length) text) all)
     (auth : (r : Run) → BeginsAt p r → IsRead identity input r → IsTexts text r) where
-  begins_with : (coming : Option (List ℕ)) → old_text ≡ coming → BeginsWith p coming text
+  begins_with : (coming : Supply) → old_text ≡ coming.left → BeginsWith p coming text
   begins_with coming same =
       let all = some_of old_text old_there in
       let h = begins all.0 all.1 in
       record { all = all.0; shown = sym same ∙ all.1; within = h.0; begins = h.1 }
 
-  authentic_run : (before after : ResumePorts) (written : ℕ) (r : Run) → input ≡ before.main.source.remaining → old_text ≡ before.old.remaining
+  authentic_run : (before after : ResumePorts) (written : ℕ) (r : Run) → input ≡ before.main.source.remaining.left → old_text ≡ before.old.remaining.left
       → IsFrom p before.old after.old r → IsRun (allows_by identity) before.main after.main written r → IsAuthenticRun r text
   authentic_run before after written r coming old_coming from is =
       let b = begins_with before.old.remaining old_coming in
-      let found = read_from before.old.remaining after.old.remaining (r.copied ++ from.more) (ap is_some (sym old_coming) ∙ old_there) from.old_read in
+      let found = read_from before.old.remaining.left after.old.remaining.left (r.copied ++ from.more) (ap is_some (sym old_coming) ∙ old_there) from.old_read.left in
       let whole : (r.copied ++ from.more) ++ found.0 ≡ b.all = ap (λ (o : Option (List ℕ)). option_map_or (λ t. t) o []) (sym found.1 ∙ b.shown) in
       let size : length (take (p.index * chunk_length) text) ≡ p.index * chunk_length = omega (arith, length-take (p.index * chunk_length) text, b.within) in
       let front = same_front (p.index * chunk_length) r.copied (take (p.index * chunk_length) text) (from.more ++ found.0) b.begins.0 from.old_text.size size
@@ -167,7 +168,7 @@ module _ (identity : Identity) (p : Position) (input old_text : Option (List ℕ
       let is = ends.2.is in
       let all : held r ≡ text = writes_all r (omega (arith, ends.0.index, p.within)) ends.2.whole ends.2.done text
       (authentic_run (resume_ports o.before first) (resume_ports o.after last) done.written r o.coming o.promise.4 ends.0 is) in
-      o.took ∙ (appended o.before.sink.taken o.after.sink.taken (held r) o.empty is.wrote ∙ ap Some all)
+      o.took ∙ (appended o.before.sink.taken.contents o.after.sink.taken.contents (held r) o.empty is.wrote.contents ∙ ap Some all)
 
   -- OUT, if the run stopped
   resumed_stop : (IsPorts : Ports → Type 0) (keep : PositionPolicy) (old new : Option (List ℕ)) (position : Option Position) (fault : FileFault)
@@ -182,7 +183,7 @@ module _ (identity : Identity) (p : Position) (input old_text : Option (List ℕ
       let w = resume_wrote keep (allows_by identity) p (refuses_by identity) before after stopped s.promise.5.1 s.promise.5.2 in
       let front : IsPrefixOf w.0 text = w.2 text (begins_with before.old.remaining s.promise.4) (λ r from is. authentic_run before after written
       r s.coming s.promise.4 from is) in
-      ⊎_elim (λ same. inl same) (λ put. inr (w.0, put.0 ∙ (s.took ∙ appended s.before.sink.taken s.after.sink.taken w.0 s.empty w.1.0), front)) left
+      ⊎_elim (λ same. inl same) (λ put. inr (w.0, put.0 ∙ (s.took ∙ appended s.before.sink.taken.contents s.after.sink.taken.contents w.0 s.empty w.1.0.contents), front)) left
   resumed_stop IsPorts keep old new position fault (inr (taken, ran, left, none, write)) =
       ⊎_elim (λ same. inl same) (λ put. inr (text, put ∙ whole_resumed IsPorts keep taken ran, ([], append-nil text))) left
 

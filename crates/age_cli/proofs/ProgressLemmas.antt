@@ -3,7 +3,7 @@ use base.Fml.{GName}
 use Rattle.std.proofs.Common.{◌≡◌, ◌∙◌, ◌⊎◌, ℕ, List, Option, Some, None, Bool, true, true≢false, sym, ap, refl, inl, inr, length, Result, Ok, Err, OnOk, IfOk, subst}
 use Rattle.std.specs.Prelude.{option_map, IsOk, IsSomeAnd}
 use Rattle.std.proofs.lemmas.Result.{on_ok_weaker}
-use Rattle.std.specs.Io.KnownBytes.{IsAtEnd}
+use Rattle.age_io.specs.Supply.{Supply, IsAtEnd}
 use Rattle.age_io.specs.Io.{Shown, Adds, Begins, Ends, Origin, CountsSince}
 use Rattle.age_io.proofs.MeterLemmas.{begins_since, reading_of}
 use Rattle.age_file.specs.Runs.{Ports, Run}
@@ -23,11 +23,11 @@ use Rattle.age_cli.specs.declared.interruption.Interruption.{Interruption}
 use Rattle.age_cli.specs.inner.Endings.{sealing_end, opening_end}
 
 -- a reading was begun, counted and ended
-pub shows_run : {P : Type 0} (shown_by : P → Option (List Shown)) (shows : Bool) (name : GName) (coming left : Option (List ℕ)) (before ended : Option (List Shown))
+pub shows_run : {P : Type 0} (shown_by : P → Option (List Shown)) (shows : Bool) (name : GName) (coming left : Supply) (before ended : Option (List Shown))
     (began counted given : P) (lent : GName)
-    → (size : Option ℕ) × (shows ≡ true → size ≡ option_map length coming) × Adds before (shown_by began) (Begins size)
+    → (size : Option ℕ) × (shows ≡ true → size ≡ option_map length coming.left) × Adds before (shown_by began) (Begins size)
     → ((from : Origin) → (name ≡ from.meter) × CountsSince from coming (shown_by began) → (lent ≡ from.meter) × CountsSince from left (shown_by counted))
-    → (name ≡ lent → given ≡ counted) → Adds (shown_by given) ended Ends → ShowsRun shows coming left before ended
+    → (name ≡ lent → given ≡ counted) → Adds (shown_by given) ended Ends → ShowsRun shows coming.left left before ended
 shows_run shown_by shows name coming left before ended began counted given lent begun counts back ends =
     let from : Origin = record { meter = name; coming = coming; shown = shown_by began } in
     let kept = counts from (refl, begins_since name coming (shown_by began)) in
@@ -39,7 +39,7 @@ shows_run shown_by shows name coming left before ended began counted given lent 
     )
 
 -- of an input that is the same if contracts see it
-pub run_of : (shows : Bool) (coming input left : Option (List ℕ)) (old new : Option (List Shown)) → (shows ≡ true → coming ≡ input)
+pub run_of : (shows : Bool) (coming input : Option (List ℕ)) (left : Supply) (old new : Option (List Shown)) → (shows ≡ true → coming ≡ input)
     → ShowsRun shows coming left old new → ShowsRun shows input left old new
 run_of shows coming input left old new same run = (
   run.0,
@@ -49,7 +49,7 @@ run_of shows coming input left old new same run = (
 )
 
 -- one reading, to its end if all was done
-pub shown_once : (shows : Bool) (input left : Option (List ℕ)) (old new : Option (List Shown)) (r : Result (Unit {0}) Ending) → ShowsRun shows input left old new
+pub shown_once : (shows : Bool) (input : Option (List ℕ)) (left : Supply) (old new : Option (List Shown)) (r : Result (Unit {0}) Ending) → ShowsRun shows input left old new
     → OnOk r (IsAtEnd left) → ShowsProgress shows old new input r
 shown_once shows input left old new r run whole = record {
   left = left;
@@ -60,8 +60,8 @@ shown_once shows input left old new r run whole = record {
 }
 
 -- one, and then perhaps another, of what stopped
-pub shown_twice : (shows : Bool) (input left : Option (List ℕ)) (old middle new : Option (List Shown)) (r : Result (Unit {0}) Ending) → ShowsRun shows input left old middle
-    → OnOk r (new ≡ middle) → (new ≡ middle) ⊎ ((again rest : Option (List ℕ)) × ShowsRun shows again rest middle new) → OnOk r (IsAtEnd left)
+pub shown_twice : (shows : Bool) (input : Option (List ℕ)) (left : Supply) (old middle new : Option (List Shown)) (r : Result (Unit {0}) Ending) → ShowsRun shows input left old middle
+    → OnOk r (new ≡ middle) → (new ≡ middle) ⊎ ((again : Option (List ℕ)) × (rest : Supply) × ShowsRun shows again rest middle new) → OnOk r (IsAtEnd left)
     → ShowsProgress shows old new input r
 shown_twice shows input left old middle new (Ok x) run same again ended =
     record { left = left; middle = middle; first = run; whole = (ended, same); again = again }

@@ -2,7 +2,8 @@
 use Rattle.std.proofs.Common.{◌≡◌, ◌∙◌, ◌⊎◌, ◌++◌, inl, inr, ap, arith, sym, subst, refl, ℕ, List, Bool, true, true≢false, Option, Some, None, Result, Ok, Err}
 use Rattle.std.specs.Prelude.{OnErr, IfErr, IfOk, IfSome, is_some, length, option_map}
 use Rattle.age_io.specs.Io.{SinkView, SourceView}
-use Rattle.age_fault.proofs.ByteLemmas.{Appends-then, risen}
+use Rattle.age_io.proofs.TakenLemmas.{Appends-trans}
+use Rattle.age_fault.proofs.ByteLemmas.{risen}
 use Rattle.age_fault.specs.Faults.{HasRisen}
 use Rattle.age_fault.specs.declared.fault.FileFault.{FileFault}
 use Rattle.age_fault.specs.declared.fault.FileFault.TheVariants.{Head, Key, NonceCut, Stream, BadPosition, OtherFile, ShortText, Read, Write, Memory}
@@ -59,7 +60,7 @@ failed_whole (Usage usage) old new risen = tt
 
 second_whole : (fault second : FileFault) (old mid new : SinkView) → TakesLine fault old mid → TakesLine second mid new ⊎ HasRisen mid.failed new.failed
     → Leaves (Unsaved fault second) old new
-second_whole fault second old mid new first (inl took) = inl (Appends-then old.taken mid.taken new.taken (fault_line fault) (fault_line second) first.0 took.0)
+second_whole fault second old mid new first (inl took) = inl (Appends-trans old.taken mid.taken new.taken (fault_line fault) (fault_line second) first.0 took.0)
 second_whole fault second old mid new first (inr risen) = inr (subst (λ (n : ℕ). HasRisen n new.failed) first.1 risen)
 
 -- what was announced and the rest are the whole report
@@ -73,7 +74,7 @@ reported_whole Made (Usage usage) old mid new Quiet same first rest = tt
 reported_whole Failed e old mid new Quiet same risen rest = subst (λ (s : SinkView). Leaves e old s) (sym rest) (failed_whole e old mid risen)
 
 -- a report that fails has the fault of what was read
-pub report_fails : (old new : SourceView) (f : FileFault) → HeadFails NoHeadFault old new f → FailsReport old.remaining (Fault f)
+pub report_fails : (old new : SourceView) (f : FileFault) → HeadFails NoHeadFault old new f → FailsReport old.remaining.left (Fault f)
 report_fails old new (Head fault) h = fault_of_all old.remaining new.remaining fault h
 report_fails old new Read h = tt
 report_fails old new Memory h = tt

@@ -31,7 +31,7 @@ use Rattle.age_command.proofs.EventLemmas.{then_follows}
 use Rattle.age_cli.specs.Acts.{EndsOf, IsSaved, SaveFails, kept_for}
 use Rattle.age_cli.specs.inner.Openings.{Saves}
 use Rattle.age_cli.specs.declared.interruption.Interruption.{Interruption}
-use Rattle.std.specs.Io.KnownBytes.{IsAtEnd}
+use Rattle.age_io.specs.Supply.{IsAtEnd}
 use Rattle.age_cli.proofs.CommandStopLemmas.{ends_from}
 use Rattle.age_cli.proofs.SettledLemmas.{all_written}
 use Rattle.age_cli.proofs.ProgressLemmas.{at_end_of, opening_at_end}
@@ -62,7 +62,7 @@ unread keep other i before after (Some r) s none stops = absurd (none-some r.fil
 module _ (IsPorts : Ports → Type 0) (shows : Bool) (d : Decrypting) (i : Identity) (before after : Ports) (after_is : IsPorts after) (old new : FilesView)
     (Unshown : Type 0) (Progress : Option (List ℕ) → Result (Unit {0}) Ending → Type 0) (silent : d.progress ≡ Silent → Unshown) where
   abbrev Shows : Result (Unit {0}) Ending → Type 0
-  Shows r = d.progress ≡ Shown → (input : Option (List ℕ)) → (shows ≡ true → before.source.remaining ≡ input)
+  Shows r = d.progress ≡ Shown → (input : Option (List ℕ)) → (shows ≡ true → before.source.remaining.left ≡ input)
       → OnOk r (IsAtEnd after.source.remaining) → Progress input r
 
   -- one that isn't read again ended as if positions had been kept when one is to be saved
@@ -147,7 +147,7 @@ module _ (IsPorts : Ports → Type 0) (shows : Bool) (d : Decrypting) (i : Ident
       (subst (λ (x : PositionPolicy). DecryptsKeyed x (allows_by i) (refuses_by i) before after (Err s) (Some key)) (dropped refl) did) shown concludes
 
 -- a position that was found by this key, over these bytes
-pub finds_so : (from : Option Position) (bytes : Option (List ℕ)) (key : List ℕ) (old new : SourceView) (written : ℕ) (r : Result Position FileFault) → old.remaining ≡ bytes
+pub finds_so : (from : Option Position) (bytes : Option (List ℕ)) (key : List ℕ) (old new : SourceView) (written : ℕ) (r : Result Position FileFault) → old.remaining.left ≡ bytes
     → ((copied : List ℕ) → IsTextBefore from copied → IfOk r (IsFoundAgain (λ _ k. k ≡ key) from copied old new written)) → IfOk r (IsFoundIn from bytes key written)
 finds_so from bytes key old new written (Ok p) is found = (old, new, is, found)
 finds_so from bytes key old new written (Err f) is found = tt
@@ -168,7 +168,7 @@ saves_is (Some name) p old new saves = saves
 
 -- OUT was left as the stop leaves it, and then what is due was done for the position
 pub concludes_left : (shows : Bool) (save : Option Text) (durability : Durability) (sink : SinkView) (cause : Interruption) (old mid new : FilesView) (ending : Ending)
-    → (shows ≡ true → IsPut sink.taken (old.entries sink.label) (mid.entries sink.label))
+    → (shows ≡ true → IsPut sink.taken.contents (old.entries sink.label) (mid.entries sink.label))
     → SparesBut sink.label old.entries mid.entries → mid.events ≡ old.events ++ Closed durability ∷ [] → is_usage ending ≡ false
     → (shows ≡ true → EndsOf cause.fault save cause.position mid.entries new.entries ending)
     → Follows (replacing save durability) mid.events new.events → (shows ≡ true → SparesBoth None save mid.entries new.entries)
@@ -177,7 +177,7 @@ concludes_left shows save durability sink cause old mid new ending left others c
   done = tt;
   stops = λ shown apart. (
     cause,
-    subst (λ (x : Option (List ℕ)). Left (Err cause) sink.taken (old.entries sink.label) x cause) (sym (spares shown sink.label (λ e. cc) apart)) (
+    subst (λ (x : Option (List ℕ)). Left (Err cause) sink.taken.contents (old.entries sink.label) x cause) (sym (spares shown sink.label (λ e. cc) apart)) (
       refl,
       left shown,
     ),

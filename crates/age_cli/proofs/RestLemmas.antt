@@ -25,7 +25,7 @@ use Rattle.age_command.specs.declared.identity.Identity.{Identity}
 use Rattle.age_cli.specs.Acts.{kept_for}
 use Rattle.age_cli.specs.inner.Endings.{Concludes, opening_end}
 use Rattle.age_cli.specs.inner.Rereadings.{again_of, key_of, placed, ConcludesAgain, ConcludesDecryption, HoldsInput, IsFoundIn, ResumesOpened, start_of, stopped_at}
-use Rattle.std.specs.Io.KnownBytes.{IsAtEnd}
+use Rattle.age_io.specs.Supply.{IsAtEnd}
 use Rattle.age_cli.proofs.ProgressLemmas.{at_end_of, resuming_at_end}
 use Rattle.age_cli.proofs.RereadLemmas.{kept_some, some_of}
 use Rattle.age_cli.proofs.SettledLemmas.{all_written, at_least, starts_there}
@@ -70,7 +70,7 @@ module _ (IsPorts : Ports → Type 0) (shows : Bool) (d : Decrypting) (i : Ident
   Did keep end standing = ResumesKeyed keep (allows_by i) (refuses_by i) from (resume_ports before first) (resume_ports after last) end standing
 
   abbrev Shows : Result (Unit {0}) Ending → Type 0
-  Shows r = d.progress ≡ Shown → (input : Option (List ℕ)) → (shows ≡ true → before.source.remaining ≡ input)
+  Shows r = d.progress ≡ Shown → (input : Option (List ℕ)) → (shows ≡ true → before.source.remaining.left ≡ input)
       → OnOk r (IsAtEnd after.source.remaining) → Progress input r
 
   -- one that isn't read again ended as if positions had been kept, if one is to be saved

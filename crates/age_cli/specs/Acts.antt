@@ -1,9 +1,9 @@
 -- What a command does with files, done or stopped.
 use Rattle.std.specs.Prelude.{◌≡◌, ℕ, true, Result, Ok, Err, if◌then◌else◌, List, [], Option, Some, ◌⊎◌, is_some, None}
 use Rattle.std.specs.Prelude.{Bool, ◌++◌, OnOk, IfErr, IsErr, IsErrAnd, ◌≢◌, option_map, length}
-use Rattle.std.specs.Io.KnownBytes.{IsAtEnd}
 use Rattle.clap.specs.Words.{Text}
 use Rattle.age_io.specs.Io.{SourceView, SinkView, Shown as ShownOne, ShowsReading}
+use Rattle.age_io.specs.Supply.{Supply, IsAtEnd}
 use Rattle.age_fault.specs.declared.fault.FileFault.{FileFault}
 use Rattle.age_fault.specs.declared.fault.FileFault.TheVariants.{Read, Write, BadPosition}
 use Rattle.age_file.specs.Runs.{Ports, ports, Run}
@@ -85,7 +85,7 @@ module _ (IsPorts : Ports → Type 0) where
       → Type 0
   Beside old_text Promise before after =
       (first : SourceView) × (last : SourceView) × IsPorts (ports first before.sink)
-      × IsPorts (ports last after.sink) × (old_text ≡ first.remaining)
+      × IsPorts (ports last after.sink) × (old_text ≡ first.remaining.left)
       × Promise (resume_ports before first) (resume_ports after last)
 
   -- the engine of `resume`, from a position and the old text
@@ -104,9 +104,9 @@ module _ (IsPorts : Ports → Type 0) where
     pub after : Ports
     pub before_is : IsPorts before
     pub after_is : IsPorts after
-    pub coming : input ≡ before.source.remaining
-    pub empty : before.sink.taken ≡ Some []
-    pub took : taken ≡ after.sink.taken
+    pub coming : input ≡ before.source.remaining.left
+    pub empty : before.sink.taken.contents ≡ Some []
+    pub took : taken ≡ after.sink.taken.contents
     pub promise : Promise before after
 
 -- ---- What becomes of OUT and of the file of `--save`, by the engine that a command runs.
@@ -237,22 +237,22 @@ input_of other old = None
 
 -- a reading: it begins with the length of the input, if contracts see that, then counts what is
 -- read of it, and ends
-abbrev pub ShowsRun : Bool → (input left : Option (List ℕ)) → (old new : Option (List ShownOne))
-    → Type 0
-ShowsRun shows input left old new = (coming : Option (List ℕ)) × (size : Option ℕ)
-    × (shows ≡ true → (coming ≡ input) × (size ≡ option_map length input))
+abbrev pub ShowsRun : Bool → (input : Option (List ℕ)) → (left : Supply)
+    → (old new : Option (List ShownOne)) → Type 0
+ShowsRun shows input left old new = (coming : Supply) × (size : Option ℕ)
+    × (shows ≡ true → (coming.left ≡ input) × (size ≡ option_map length input))
     × ShowsReading size coming left old new
 
 -- one reading of the input, to its end if all was done; if it stopped, perhaps a second one, by
 -- which its position was looked for
 pub record ShowsProgress (shows : Bool) (old new : Option (List ShownOne)) (input : Option (List ℕ))
     (ended : Result (Unit {0}) Ending) : Type 0 where
-  pub left : Option (List ℕ)
+  pub left : Supply
   pub middle : Option (List ShownOne)
   pub first : ShowsRun shows input left old middle
   pub whole : OnOk ended (IsAtEnd left × (new ≡ middle))
   pub again : (new ≡ middle)
-      ⊎ ((input left : Option (List ℕ)) × ShowsRun shows input left middle new)
+      ⊎ ((input : Option (List ℕ)) × (left : Supply) × ShowsRun shows input left middle new)
 
 module _ (IsPorts : Ports → Type 0) where
   -- what is asked and what the files hold make an engine, and this holds of it and of the names;

@@ -3,7 +3,8 @@ use Rattle.std.specs.Prelude.{◌≡◌, ℕ, List, ◌++◌, length, Option, So
 use Rattle.std.specs.Prelude.{if◌then◌else◌, codes, None, Bool, true, false}
 use Rattle.std.specs.List.{flat_map}
 use Rattle.std.specs.Fmt.{decimal}
-use Rattle.std.specs.Io.KnownBytes.{Appends}
+use Rattle.age_io.specs.Supply.{Supply}
+use Rattle.age_io.specs.Taken.{Taken, Appends}
 use Rattle.age_keys.specs.Scrypt.{IsAllowed}
 use Rattle.age_fault.specs.declared.fault.FileFault.TheVariants.{Head}
 use Rattle.age_file.specs.Encrypts.{SecretView}
@@ -78,8 +79,7 @@ report_text r = codes "version age-encryption.org/v1\nheader " ++ decimal r.head
 -- ---- What `inspect` did.
 
 -- the input was read to its end, and its report was written
-abbrev pub Reports : Option (List ℕ) → Option (List ℕ) → Option (List ℕ) → Option (List ℕ)
-    → Type 0
+abbrev pub Reports : Supply → Supply → Taken → Taken → Type 0
 Reports input_old input_new output_old output_new =
     (r : Report) × file.Inspects input_old input_new r
     × Appends output_old output_new (report_text r)
@@ -89,7 +89,7 @@ abbrev pub IsReportOf : Option (List ℕ) → Report → Type 0
 IsReportOf held r = (bytes : List ℕ) × (held ≡ Some bytes) × IsReport bytes r
 
 -- a report was written, which is the file's if contracts see the files
-abbrev pub ReportsFile : Bool → Option (List ℕ) → Option (List ℕ) → Option (List ℕ) → Type 0
+abbrev pub ReportsFile : Bool → Option (List ℕ) → Taken → Taken → Type 0
 ReportsFile shows held output_old output_new =
     (r : Report) × (shows ≡ true → IsReportOf held r)
     × Appends output_old output_new (report_text r)

@@ -1,7 +1,8 @@
 -- What a run does with its words, its files and its streams, and what its status says.
 use Rattle.std.specs.Prelude.{◌≡◌, ◌⊎◌, ℕ, Bool, true, List, [], Option, Some, None, is_some}
 use Rattle.std.specs.Prelude.{Result, OnOk, IfErr, IsErrAnd}
-use Rattle.std.specs.Io.KnownBytes.{Appends}
+use Rattle.age_io.specs.Supply.{Supply}
+use Rattle.age_io.specs.Taken.{Appends}
 use Rattle.clap.specs.Words.{Text}
 use Rattle.age_io.specs.Io.{SinkView}
 use Rattle.age_fault.specs.Faults.{HasRisen}
@@ -20,13 +21,13 @@ use Rattle.age_cli.specs.Commands.{Reports, ReportsFile, FailsReport, seen}
 
 -- ---- What a run does of what its words ask for.
 
--- what a run works with: the set of files, what the input still has to give, and the output
+-- what a run works with: the set of files, what the input gave and has to give, and the output
 pub record World : Type 0 where
   pub files : FilesView
-  pub input : Option (List ℕ)
+  pub input : Supply
   pub output : SinkView
 
-abbrev pub world : FilesView → Option (List ℕ) → SinkView → World
+abbrev pub world : FilesView → Supply → SinkView → World
 world files input output = record { files = files; input = input; output = output }
 
 -- words are refused; or memory was, while they were read
@@ -63,7 +64,7 @@ module _ (words : List Text) (shows : Bool) (IsPorts : Ports → Type 0) (before
     -- It was read to its end, and its report was written.
     pub report : Reported ended
         (Reports before.input after.input before.output.taken after.output.taken) Unprinted
-        before.input before.output after.output
+        before.input.left before.output after.output
     -- No file was opened, made or changed.
     pub untouched : after.files ≡ before.files
     -- No progress was shown.
@@ -75,7 +76,7 @@ module _ (words : List Text) (shows : Bool) (IsPorts : Ports → Type 0) (before
   abbrev pub DoesOther : Request → Type 0
   DoesOther (Inspect None) =
       Reported ended (Reports before.input after.input before.output.taken after.output.taken)
-      Unprinted before.input before.output after.output
+      Unprinted before.input.left before.output after.output
   DoesOther (Inspect (Some name)) = Unread × Reported ended (ReportsFile shows
       (before.files.entries name.now) before.output.taken after.output.taken) Unprinted
       (seen shows (before.files.entries name.now)) before.output after.output

@@ -113,7 +113,7 @@ fn open_text<F: FileSet, P: Meter>(
         (ports (F.In.view result.source) (F.Out.view out.new.out)) result.end result.key }
     ensures silent { asked.now.progress ≡ Silent → progress.new ≡ progress.old }
     ensures shown { asked.now.progress ≡ Shown → ShowsRun (F.shows_bytes)
-        (F.In.view source).remaining (F.In.view result.source).remaining (P.shown progress.old)
+        (F.In.view source).remaining.left (F.In.view result.source).remaining (P.shown progress.old)
         (P.shown progress.new) }
 {
     match asked.progress {

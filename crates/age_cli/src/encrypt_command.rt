@@ -2,7 +2,7 @@
 
 ghost use Rattle.std.specs.Prelude.{◌≡◌, ◌⊎◌, ◌<◌, ◌++◌, [], ◌∷◌, ℕ, List, length};
 ghost use Rattle.std.specs.Prelude.{Some, true, IfOk, IfErr, IfSome, IfNone};
-ghost use Rattle.std.specs.Io.KnownBytes.{Consumes};
+ghost use Rattle.age_io.specs.Supply.{Consumes};
 ghost use Rattle.age_fileset.specs.FileSet.{Event, Opened};
 ghost use Rattle.age_cli_args.specs.Requests.{option_text};
 ghost use Rattle.age_cli_args.specs.declared.request.Request.TheVariants.{Encrypt};
@@ -47,7 +47,7 @@ fn random_in<S: Source>(alloc: Global, source: &mut S) -> Result<FileRandom, End
     ensures read { IfOk result (λ r. (bytes : List ℕ) × Consumes (S.view source.old).remaining
         (S.view source.new).remaining bytes × IsRandom bytes r) }
     ensures short { IfErr result (λ e. is_usage e ≡ true → (bytes : List ℕ)
-        → (S.view source.old).remaining ≡ Some bytes → length bytes < 48) }
+        → (S.view source.old).remaining.left ≡ Some bytes → length bytes < 48) }
     ensures early { IfErr result EndsEarly }
     ensures reason { IfErr result (λ e. (old : Files) (events : List Event)
         → HasReason old events (SourceFails S.view) e) }
@@ -204,7 +204,7 @@ fn seal_text<F: FileSet, P: Meter>(
     ensures named { (F.Out.view out.new.out).label ≡ (F.Out.view out.old.out).label }
     ensures silent { asked.now.progress ≡ Silent → progress.new ≡ progress.old }
     ensures shown { asked.now.progress ≡ Shown → ShowsRun (F.shows_bytes)
-        (F.In.view source).remaining (F.In.view result.source).remaining (P.shown progress.old)
+        (F.In.view source).remaining.left (F.In.view result.source).remaining (P.shown progress.old)
         (P.shown progress.new) }
 {
     match asked.progress {

@@ -45,7 +45,7 @@ fn write_report<I: Source, O: Sink>(
     ensures done { OnOk result ((r : Report)
         × IsInspected length (I.view input.old).remaining (I.view input.new).remaining r
         × Appends (O.view output.old).taken (O.view output.new).taken (report_text r)) }
-    ensures fails { IfErr result (λ f. FailsReport (I.view input.old).remaining (Fault f)) }
+    ensures fails { IfErr result (λ f. FailsReport (I.view input.old).remaining.left (Fault f)) }
     ensures sent { OnOk result ((O.view output.new).settled ≡ true) }
     ensures unprinted { IfErr result (λ f.
         FailsWriting (O.view output.old) (O.view output.new) (Fault f)
@@ -88,7 +88,7 @@ pub(crate) fn report<I: Source, O: Sink>(
     ensures done { OnOk result
         (Reports (I.view input.old).remaining (I.view input.new).remaining (O.view output.old).taken
         (O.view output.new).taken) }
-    ensures fails { IfErr result (FailsReport (I.view input.old).remaining) }
+    ensures fails { IfErr result (FailsReport (I.view input.old).remaining.left) }
     ensures sent { OnOk result ((O.view output.new).settled ≡ true) }
     ensures unprinted { IfErr result (λ e. FailsWriting (O.view output.old) (O.view output.new) e
         ⊎ (output.new ≡ output.old)) }

@@ -87,7 +87,7 @@ fn create_out<F: FileSet>(
 ) -> Result<Taking<F>, Ending>
     ensures { OpensFiles (F.shows_bytes) (Created asked.now.to.now ∷ [])
         (making (Some asked.now.to.now) asked.now.durability) (F.view files.old)
-        (F.view files.new) (λ o. ((F.Out.view o.out).taken ≡ Some [])
+        (F.view files.new) (λ o. ((F.Out.view o.out).taken.contents ≡ Some [])
         × ((F.Out.view o.out).label ≡ asked.now.to.now)
         × IsFresh asked.now.clobber ((F.view files.old).entries asked.now.to.now))
         (SourceFails F.In.view) result }
@@ -133,8 +133,8 @@ pub(crate) fn open_both<F: FileSet>(
         ++ making (Some asked.now.to.now) asked.now.durability))
         (F.view files.old) (F.view files.new)
         (λ both. ((is_some ((F.view files.old).entries from.now) ≡ true)
-        × ((F.In.view both.0).remaining ≡ (F.view files.old).entries from.now)
-        × ((F.Out.view both.1.out).taken ≡ Some [])
+        × ((F.In.view both.0).remaining.left ≡ (F.view files.old).entries from.now)
+        × ((F.Out.view both.1.out).taken.contents ≡ Some [])
         × ((F.Out.view both.1.out).label ≡ asked.now.to.now))
         × IsFresh asked.now.clobber ((F.view files.old).entries asked.now.to.now))
         (SourceFails F.In.view) result }
@@ -148,7 +148,7 @@ pub(crate) fn open_both<F: FileSet>(
 /// Shows a meter that a reading of an input begins, with its length if the set of files can say it.
 pub(crate) fn begin_meter<F: FileSet, M: Meter>(files: &F, source: &F::In, meter: &mut M)
     ensures { (size : Option ℕ) × (F.shows_bytes ≡ true
-        → size ≡ option_map length (F.In.view source.now).remaining)
+        → size ≡ option_map length (F.In.view source.now).remaining.left)
         × Adds (M.shown meter.old) (M.shown meter.new) (Begins size) }
 {
     meter.begin(files.length(source));
@@ -163,7 +163,7 @@ pub(crate) fn end_meter<M: Meter>(meter: &mut M)
 
 /// Ends the output of an engine that stopped: with what was written, or as it was, if nothing was.
 pub(crate) fn leave<F: FileSet>(files: &mut F, out: Taking<F>, durability: Durability)
-    ensures left { F.shows_bytes ≡ true → IsPut (F.Out.view out.out).taken
+    ensures left { F.shows_bytes ≡ true → IsPut (F.Out.view out.out).taken.contents
         ((F.view files.old).entries (F.Out.view out.out).label)
         ((F.view files.new).entries (F.Out.view out.out).label) }
     ensures others { SparesBut (F.Out.view out.out).label (F.view files.old).entries

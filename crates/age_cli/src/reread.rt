@@ -2,6 +2,7 @@
 
 ghost use Rattle.std.specs.Prelude.{◌≡◌, ◌⊎◌, ℕ, List, Option, true, false, is_some, IfOk, IfErr, OnOk, min};
 ghost use Rattle.age_io.specs.Io.{Origin};
+ghost use Rattle.age_io.specs.Supply.{Supply};
 ghost use Rattle.age_fault.specs.declared.fault.FileFault.TheVariants.{Read};
 ghost use Rattle.age_file.specs.declared.position.PositionPolicy.TheVariants.{Dropped};
 ghost use Rattle.age_fileset.specs.FileSet.{IsMemoryOr};
@@ -98,7 +99,7 @@ fn position_in<S: Source>(
     written: u128,
     source: &mut S,
 ) -> Result<Position, FileFault>
-    ensures found { IfOk result (IsFoundIn from.now (S.view source.old).remaining key.now written) }
+    ensures found { IfOk result (IsFoundIn from.now (S.view source.old).remaining.left key.now written) }
     ensures faults { IfErr result (IsMemoryOr Read) }
     ensures metered { (began : Origin) → S.metered source.old began → S.metered source.new began }
 {
@@ -136,7 +137,7 @@ fn find_again<F: FileSet, P: Meter>(
     ensures faults { IfErr result (IsMemoryOr Read) }
     ensures silent { asked.now.progress ≡ Silent → progress.new ≡ progress.old }
     ensures shown { (P.shown progress.new ≡ P.shown progress.old)
-        ⊎ ((input left : Option (List ℕ)) × ShowsRun (F.shows_bytes) input left
+        ⊎ ((input : Option (List ℕ)) × (left : Supply) × ShowsRun (F.shows_bytes) input left
         (P.shown progress.old) (P.shown progress.new)) }
 {
     let Again {
@@ -227,7 +228,7 @@ fn conclude_again<F: FileSet, E: Sink, P: Meter>(
         again.stopped again.key (F.view files.old) (F.view files.new) result }
     ensures silent { asked.now.progress ≡ Silent → progress.new ≡ progress.old }
     ensures shown { (P.shown progress.new ≡ P.shown progress.old)
-        ⊎ ((input left : Option (List ℕ)) × ShowsRun (F.shows_bytes) input left
+        ⊎ ((input : Option (List ℕ)) × (left : Supply) × ShowsRun (F.shows_bytes) input left
         (P.shown progress.old) (P.shown progress.new)) }
 {
     let settled = out.settle(files, asked.durability);
@@ -258,7 +259,7 @@ pub(crate) fn conclude_decryption<F: FileSet, E: Sink, P: Meter>(
     ensures silent { asked.now.progress ≡ Silent → progress.new ≡ progress.old }
     ensures whole { OnOk result (P.shown progress.new ≡ P.shown progress.old) }
     ensures shown { (P.shown progress.new ≡ P.shown progress.old)
-        ⊎ ((input left : Option (List ℕ)) × ShowsRun (F.shows_bytes) input left
+        ⊎ ((input : Option (List ℕ)) × (left : Supply) × ShowsRun (F.shows_bytes) input left
         (P.shown progress.old) (P.shown progress.new)) }
 {
     let Decrypted {

@@ -12,13 +12,14 @@ pub(crate) struct Taking<F: FileSet> {
     pub(crate) out: F::Out,
     pub(crate) is_empty: bool,
     ghost knows: { F.shows_bytes ≡ true
-        → IsSomeAnd (F.Out.view out).taken (λ bytes. is_empty ≡ (length bytes == 0)) } by { Prim.hlevel props },
+        → IsSomeAnd (F.Out.view out).taken.contents
+        (λ bytes. is_empty ≡ (length bytes == 0)) } by { Prim.hlevel props },
 }
 
 impl<F: FileSet> Taking<F> {
     /// A file that was just created.
     pub(crate) fn new(out: F::Out) -> Taking<F>
-        requires { F.shows_bytes ≡ true → (F.Out.view out).taken ≡ Some [] }
+        requires { F.shows_bytes ≡ true → (F.Out.view out).taken.contents ≡ Some [] }
         ensures { result.out ≡ out }
     {
         Taking {

@@ -1,18 +1,32 @@
 //! A sink of one's own.
 
-ghost use Rattle.std.specs.Prelude.{[], None, true, false};
+ghost use Rattle.std.specs.Prelude.{◌≡◌, [], None, true, false};
 
-use age_file::{Failed, Sink};
+use age_file::{Failed, Sink, Tape};
 
 /// A sink that counts what it takes and keeps none of it, to learn how long something will be.
 #[derive(Debug, Drop)]
 pub struct Measure {
     pub count: u64,
+    took: Tape,
+}
+
+impl Measure {
+    /// Nothing was counted yet.
+    pub fn new() -> Measure
+        ensures count { result.count ≡ 0 }
+        ensures took { result.took ≡ [] }
+    {
+        Measure {
+            count: 0,
+            took: Tape::new(),
+        }
+    }
 }
 
 impl Sink for Measure {
-    ghost view = { λ _. record {
-      taken = None;
+    ghost view = { λ m. record {
+      taken = record { bytes = m.took; contents = None };
       failed = 0;
       failing = false;
       label = [];
@@ -21,6 +35,7 @@ impl Sink for Measure {
 
     fn put(&mut self, from: &[u8]) -> Result<usize, Failed> {
         self.count = self.count.saturating_add(from.len() as u64);
+        self.took.note(from);
         Ok(from.len())
     }
 

@@ -1,7 +1,7 @@
 //! A sealer over a sink.
 
 ghost use Rattle.std.specs.Prelude.{◌≡◌, OnOk};
-ghost use Rattle.std.specs.Io.KnownBytes.{Appends};
+ghost use Rattle.age_io.specs.Taken.{Appends};
 ghost use Rattle.age_stream.specs.Opener.{chunk_bytes};
 ghost use Rattle.age_chunk.specs.Payload.{payload, chunk_length};
 

@@ -64,10 +64,10 @@ pub record EndsOut (shows : Bool) (durability : Durability) (sink : SinkView)
     (engine : Result (Unit {0}) Interruption) (old new : FilesView) (result : Result (Unit {0}) Interruption)
     : Type 0 where
   -- It holds what the sink took, if the engine and the end succeeded.
-  pub done : OnOk result (IsOk engine × (shows ≡ true → new.entries sink.label ≡ sink.taken))
+  pub done : OnOk result (IsOk engine × (shows ≡ true → new.entries sink.label ≡ sink.taken.contents))
   -- Otherwise it is left.
   pub stops : IfErr result (λ stop. shows ≡ true
-      → Left engine sink.taken (old.entries sink.label) (new.entries sink.label) stop)
+      → Left engine sink.taken.contents (old.entries sink.label) (new.entries sink.label) stop)
   -- The engine's stop is its end, if it stopped.
   pub same : IfErr engine (λ cause. IsErrAnd result (λ stop. stop ≡ cause))
   -- No other file differs.
@@ -81,11 +81,11 @@ pub record Concludes (shows : Bool) (save : Option Text) (durability : Durabilit
     (result : Result (Unit {0}) Ending) : Type 0 where
   -- OUT holds what the sink took, and no other file differs.
   pub done : OnOk result (IsOk engine × (shows ≡ true
-      → (new.entries sink.label ≡ sink.taken) × SparesBut sink.label old.entries new.entries))
+      → (new.entries sink.label ≡ sink.taken.contents) × SparesBut sink.label old.entries new.entries))
   -- OUT is left, and the position saved, if it goes to another file.
   pub stops : IfErr result (λ ending. shows ≡ true → (save ≡ Some sink.label → ⊥)
       → (stop : Interruption)
-      × Left engine sink.taken (old.entries sink.label) (new.entries sink.label) stop
+      × Left engine sink.taken.contents (old.entries sink.label) (new.entries sink.label) stop
       × EndsOf stop.fault save stop.position old.entries new.entries ending)
   -- The command line is not to blame.
   pub fault : IfErr result (λ ending. is_usage ending ≡ false)

@@ -101,7 +101,7 @@ fn is_payload_kept(alloc: Global, key: &PayloadKey) -> bool {
 fn a_payload_that_is_kept_or_measured(rt: HostRuntime) {
     let key = payload_key(&FileKey::new(KEY), &NONCE);
     assert!(rt; is_payload_kept(rt.alloc(), &key));
-    let mut measured = Measure { count: 0 };
+    let mut measured = Measure::new();
     assert!(rt; seal_to(&key, b"hello", &mut measured).is_ok());
     assert!(rt; measured.count == 21);
 }

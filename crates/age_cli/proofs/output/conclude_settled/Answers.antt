@@ -35,7 +35,7 @@ returns-in-Err-clause-concludes g c =
       done = tt;
       stops = λ shown apart. (
         stop,
-        subst (λ x. Left c.args.engine sink.taken (old sink.label) x stop) (sym (ended.others shown sink.label (λ e. cc) apart)) (out.stops shown),
+        subst (λ x. Left c.args.engine sink.taken.contents (old sink.label) x stop) (sym (ended.others shown sink.label (λ e. cc) apart)) (out.stops shown),
         ends_from stop.fault (option_text c.args.save) stop.position old mid new c.end_of.result (λ q name. out.others q (λ e. apart (name ∙ ap Some e)))
             (ended.ends shown),
       );

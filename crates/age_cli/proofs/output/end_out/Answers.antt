@@ -30,7 +30,7 @@ returns-in_err-close-in-Ok g c =
       done = not_well r e is _;
       same = no_stop c.args.engine _ _ c.in-Ok.is;
       stops = this_error r e is _ (λ shown.
-          subst (λ (x : Result (Unit {0}) Interruption). Left x sink.taken ((view c.args.files.now).entries sink.label) ((view c.close.new.self).entries sink.label) e)
+          subst (λ (x : Result (Unit {0}) Interruption). Left x sink.taken.contents ((view c.args.files.now).entries sink.label) ((view c.close.new.self).entries sink.label) e)
           (sym c.in-Ok.is) (
             ap (λ f. record { fault = f; position = None }) closed.faults,
             ⊎_elim (λ same. inl (ap (λ (f : Files). f sink.label) same)) (λ put. inr (put shown)) (rw c.into_out.ensures at closed.err),
@@ -51,7 +51,7 @@ returns-in-Err g c =
       done = tt;
       same = same_stop c.args.engine stop c.in-Err.is;
       stops = λ shown.
-          subst (λ (x : Result (Unit {0}) Interruption). Left x sink.taken (old sink.label) (new sink.label) stop) (sym c.in-Err.is) (
+          subst (λ (x : Result (Unit {0}) Interruption). Left x sink.taken.contents (old sink.label) (new sink.label) stop) (sym c.in-Err.is) (
             refl,
             left.left shown,
           );

@@ -10,7 +10,7 @@ returns-then-is_empty g c =
     let sink = g.F.Out.Sink.view c.args.out.out in
     record {
       left = λ shown. inl (ap (λ (f : Files). f sink.label)
-          (discarded.kept (λ same. took_none sink.taken c.args.out.is_empty (c.args.out.knows shown) c.if-is_empty.true)));
+          (discarded.kept (λ same. took_none sink.taken.contents c.args.out.is_empty (c.args.out.knows shown) c.if-is_empty.true)));
       others = discarded.others;
       noted = discarded.noted;
     }
@@ -21,7 +21,7 @@ returns-else-is_empty g c =
     let sink = g.F.Out.Sink.view c.args.out.out in
     record {
       left = λ shown.
-          let some = took_some sink.taken c.args.out.is_empty (c.args.out.knows shown) c.if-is_empty.false in
+          let some = took_some sink.taken.contents c.args.out.is_empty (c.args.out.knows shown) c.if-is_empty.false in
           either_way c.close.result _ _ _ closed.put closed.err (λ put. inr (put shown, some))
           (λ left. ⊎_elim (λ kept. inl (ap (λ (f : Files). f sink.label) kept)) (λ put. inr (put shown, some)) left);
       others = closed.others;

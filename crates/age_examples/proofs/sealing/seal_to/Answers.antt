@@ -1,11 +1,11 @@
 use Rattle.std.proofs.Common.{◌<◌, ◌≡◌, ◌-◌, ◌≤◌, ℕ, ◌+◌, length, take, drop, List, ◌++◌, ap, sym, subst, ◌∙◌, arith, take-add, min}
 use Rattle.std.proofs.lemmas.List.{take_all, take_rest, length-take, length-drop}
-use Rattle.std.specs.Io.KnownBytes.{Appends}
+use Rattle.age_io.specs.Taken.{Appends}
 use Rattle.age_stream.specs.Sealer.{Holds, step_len}
 use Rattle.age_stream.specs.Opener.{chunk_bytes}
 use Rattle.age_chunk.specs.Payload.{sealed_before_last, block_bytes, payload, chunk_length}
 use Rattle.std.proofs.lemmas.Bool.Decides.{nat_tests}
-use Rattle.age_fault.proofs.ByteLemmas.{Appends-then}
+use Rattle.age_io.proofs.TakenLemmas.{Appends-trans}
 use Rattle.age_examples.proofs.sealing.seal_to.Goals as goal
 
 step_len_le : (m : ℕ) (held piece : List ℕ) → step_len m held piece ≤ length piece
@@ -41,7 +41,7 @@ loop-at-preserved g c =
       key = after.key ∙ ekey;
       holds = subst (λ (t : List ℕ). Holds chunk_length c.feed.follows.lender-at-none t) on (after.holds (take at text) inv.holds);
       wrote = subst (λ (t : List ℕ). Appends (g.O.Sink.view c.args.sink.now).taken (g.O.Sink.view c.put.new.sink).taken t) grown
-          (Appends-then _ _ _ _ _ inv.wrote put);
+          (Appends-trans _ _ _ _ _ inv.wrote put);
     }
 
 pub returns : goal.returns
@@ -55,5 +55,5 @@ returns g c =
     let last = rw inv.key at last0 in
     record {
       sealed = subst (λ (t : List ℕ). Appends (g.O.Sink.view c.args.sink.now).taken (g.O.Sink.view c.put-2.new.sink).taken t) (sym last
-          ∙ ap whole all) (Appends-then _ _ _ _ _ inv.wrote c.in_ok-put-2.ensures);
+          ∙ ap whole all) (Appends-trans _ _ _ _ _ inv.wrote c.in_ok-put-2.ensures);
     }

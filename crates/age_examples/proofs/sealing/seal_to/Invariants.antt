@@ -1,5 +1,5 @@
 use Rattle.std.proofs.Common.{length, ◌-◌, ◌≡◌, ◌≤◌, take, false}
-use Rattle.std.specs.Io.KnownBytes.{Appends}
+use Rattle.age_io.specs.Taken.{Appends}
 use Rattle.age_stream.specs.Sealer.{Holds}
 use Rattle.age_chunk.specs.Payload.{sealed_before_last, block_bytes, chunk_length}
 use Rattle.age_examples.proofs.sealing.seal_to.Given as goal
