@@ -75,7 +75,7 @@ module _ (IsPorts : Ports → Type 0) (shows : Bool) (asked : Request) (before a
   }
 
   -- a command ended once its engine had run
-  pub acts_concluded : OnOk r (OfEngine IsPorts shows asked before.entries (λ engine paths. HasEngineEnded IsPorts engine
+  pub acts_concluded : OnOk r (OfEngine IsPorts shows asked before.entries (λ engine paths. HasEngineEnded IsPorts engine after.closed
       × (shows ≡ true → WritesOut IsPorts engine paths before.entries after.entries)))
       → (shows ≡ true → IfErr r (λ e. OfEngine IsPorts shows asked before.entries (λ engine paths. LeavesOut IsPorts engine paths before.entries after.entries e)))
       → IfErr r (λ e. is_usage e ≡ false) → (shows ≡ true → Spares asked before.entries after.entries)

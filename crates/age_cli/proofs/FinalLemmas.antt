@@ -26,7 +26,7 @@ use Rattle.age_command.specs.declared.ending.Ending.{Ending}
 use Rattle.age_command.specs.declared.identity.Identity.{Identity}
 use Rattle.age_cli.specs.inner.Openings.{IsFresh}
 use Rattle.age_cli.specs.Acts.{Acts, clobber_of, out_of, HasEngineEnded, OfEngine, OpensOf, Spares, paths_of, progress_of, input_of, Engine, encrypt_engine, decrypt_engine}
-use Rattle.age_cli.specs.Acts.{resume_engine, Paths, LeavesOut, WritesOut, kept_for}
+use Rattle.age_cli.specs.Acts.{AreNew, resume_engine, Paths, LeavesOut, WritesOut, kept_for}
 use Rattle.age_cli.specs.Commands.{MakesSecret, IsPositionIn, old_for}
 use Rattle.age_cli.specs.declared.interruption.Interruption.{Interruption}
 use Rattle.age_cli.specs.inner.Endings.{Concludes, sealing_end, opening_end}
@@ -59,17 +59,19 @@ module _ (IsPorts : Ports → Type 0) (shows : Bool) (asked : Request) (old open
     (durability : Durability) (before after : Ports) (end : Result (Unit {0}) Interruption) (r : Result (Unit {0}) Ending) (xs ys : List Event) where
   acts_of_engine : IsPorts before → IsPorts after → (order_asked asked).done ≡ xs ++ (ys ++ making (Some p.to) durability)
       → (order_asked asked).whole ≡ (xs ++ (ys ++ making (Some p.to) durability)) ++ replacing p.save durability
-      → ((P : Engine → Paths → Type 0) → P engine p → OfEngine IsPorts shows asked old.entries P) → OnOk end (HasEngineEnded IsPorts engine)
+      → ((P : Engine → Paths → Type 0) → P engine p → OfEngine IsPorts shows asked old.entries P) → AreNew before → OnOk end (engine.ends before after)
       → (SparesBoth (Some p.to) p.save old.entries new.entries → Spares asked old.entries new.entries)
       → opened.entries ≡ old.entries → (shows ≡ true → Found p old.entries before) → after.sink.label ≡ before.sink.label
       → (shows ≡ true → Kept engine before after end) → Concludes shows p.save durability after.sink end opened new r
       → opened.events ≡ old.events ++ (xs ++ (ys ++ Created p.to ∷ [])) → (NamesTwice (order_asked asked).apart → ⊥) → (p.save ≡ Some p.to → ⊥)
       → (shows ≡ true → IsFresh (clobber_of asked) (out_of asked old.entries))
       → (progress_of asked ≡ Silent → Unshown) × (progress_of asked ≡ Shown → Progress (input_of asked old.entries) r) → Acts IsPorts shows asked old new Failed Unshown Progress r
-  acts_of_engine before_is after_is done_is whole_is of ran spares kept found named promise concludes noted apart unsaved fresh silent =
+  acts_of_engine before_is after_is done_is whole_is of begun ran spares kept found named promise concludes noted apart unsaved fresh silent =
       acts_concluded IsPorts shows asked old new Failed Unshown Progress r
-      (on_ok_weaker r (λ both. of (λ e q. HasEngineEnded IsPorts e × (shows ≡ true → WritesOut IsPorts e q old.entries new.entries)) both)
-      (both_done _ _ r (on_ok_weaker r (λ done. ends_so end ran done.0) concludes.done)
+      (on_ok_weaker r (λ both. of (λ e q. HasEngineEnded IsPorts e new.closed × (shows ≡ true → WritesOut IsPorts e q old.entries new.entries)) both)
+      (both_done _ _ r
+      (on_ok_weaker r (λ both. (before, after, before_is, after_is, begun, both.1, both.0))
+      (both_done _ _ r (on_ok_weaker r (λ done. ends_so end ran done.0) concludes.done) concludes.closed))
       (wrote_out IsPorts engine shows p durability old opened new before after before_is after_is end r kept found named promise concludes)))
       (λ shown. IfErr-weaker r _ _ (λ e stops. of (λ n q. LeavesOut IsPorts n q old.entries new.entries e) stops)
       (stopped_out IsPorts engine shows p durability old opened new before after before_is after_is end r kept found named promise concludes unsaved shown))
@@ -84,7 +86,7 @@ module _ (IsPorts : Ports → Type 0) (shows : Bool) (asked : Request) (old open
 
 module _ (IsPorts : Ports → Type 0) (shows : Bool) (old opened new : FilesView) (Failed Unshown : Type 0) (Progress : Option (List ℕ) → Result (Unit {0}) Ending → Type 0) (before after : Ports) (before_is : IsPorts before)
     (after_is : IsPorts after) (end : Result (Unit {0}) Interruption) (r : Result (Unit {0}) Ending) (kept : opened.entries ≡ old.entries) where
-  pub encrypt_acts : (e : Encrypting) (secret : SecretView) (sealed : Result Written FileFault) → (shows ≡ true → MakesSecret e old.entries secret)
+  pub encrypt_acts : (e : Encrypting) (secret : SecretView) (sealed : Result Written FileFault) → AreNew before → (shows ≡ true → MakesSecret e old.entries secret)
       → (shows ≡ true → Found (record { from = e.from.now; to = e.to.now; save = None }) old.entries before) → end ≡ sealing_end sealed
       → IfOk sealed (Encrypts secret before after) → IfErr sealed (EncryptFails secret before after) → after.sink.label ≡ before.sink.label
       → Concludes shows None e.durability after.sink end opened new r
@@ -92,24 +94,24 @@ module _ (IsPorts : Ports → Type 0) (shows : Bool) (old opened new : FilesView
       ++ ((Opened e.pass.now ∷ Opened (random_name (option_text e.random)) ∷ []) ++ (Opened e.from.now ∷ Created e.to.now ∷ []))
       → (NamesTwice (order_asked (Encrypt e)).apart → ⊥) → (shows ≡ true → IsFresh e.clobber (old.entries e.to.now)) → (e.progress ≡ Silent → Unshown) × (e.progress ≡ Shown → Progress (old.entries e.from.now) r)
       → Acts IsPorts shows (Encrypt e) old new Failed Unshown Progress r
-  encrypt_acts e secret sealed made found is ends fails named concludes noted apart fresh silent =
+  encrypt_acts e secret sealed begun made found is ends fails named concludes noted apart fresh silent =
       acts_of_engine IsPorts shows (Encrypt e) old opened new Failed Unshown Progress (encrypt_engine secret) (record { from = e.from.now; to = e.to.now; save = None }) e.durability
       before after end r (Opened e.pass.now ∷ Opened (random_name (option_text e.random)) ∷ []) (Opened e.from.now ∷ []) before_is after_is refl
       refl
-      (λ P holds. (secret, made, holds))
-      (subst (λ (n : Result (Unit {0}) Interruption). OnOk n (HasEngineEnded IsPorts (encrypt_engine secret))) (sym is)
-      (sealing_ran sealed (λ written sealed_so. (before, after, before_is, after_is, (written, sealed_so))) ends)) (λ spared. spared) kept found named
+      (λ P holds. (secret, made, holds)) begun
+      (subst (λ (n : Result (Unit {0}) Interruption). OnOk n ((encrypt_engine secret).ends before after)) (sym is)
+      (sealing_ran sealed (λ written sealed_so. (written, sealed_so)) ends)) (λ spared. spared) kept found named
       (λ shown. subst (λ (n : Result (Unit {0}) Interruption). Kept (encrypt_engine secret) before after n) (sym is) (kept_sealing secret before after sealed ends fails))
       concludes noted apart (λ same. cc) fresh silent
 
 module _ (IsPorts : Ports → Type 0) (shows : Bool) (old opened new : FilesView) (Failed Unshown : Type 0) (Progress : Option (List ℕ) → Result (Unit {0}) Ending → Type 0) (before : Ports) (before_is : IsPorts before)
     (r : Result (Unit {0}) Ending) (kept : opened.entries ≡ old.entries) where
-  pub decrypt_acts : (d : Decrypting) (identity : Identity) → OpensOf shows d old.entries identity → (shows ≡ true → Found (paths_of d) old.entries before)
+  pub decrypt_acts : (d : Decrypting) (identity : Identity) → AreNew before → OpensOf shows d old.entries identity → (shows ≡ true → Found (paths_of d) old.entries before)
       → DecryptsOpened IsPorts shows d identity before opened new Unshown Progress r
       → opened.events ≡ old.events ++ (identity_order (option_text d.identity.pass) (option_text d.identity.shared)
       ++ ((Opened d.from.now ∷ preparing (option_text d.save)) ++ Created d.to.now ∷ []))
       → (NamesTwice (order_asked (Decrypt d)).apart → ⊥) → (shows ≡ true → IsFresh d.clobber (old.entries d.to.now)) → Acts IsPorts shows (Decrypt d) old new Failed Unshown Progress r
-  decrypt_acts d identity opens found did noted apart fresh =
+  decrypt_acts d identity begun opens found did noted apart fresh =
       let k = kept_for (option_text d.save) in
       let holds : shows ≡ true → HoldsInput d before opened =
       λ shown. let f = found shown in record {
@@ -120,19 +122,19 @@ module _ (IsPorts : Ports → Type 0) (shows : Bool) (old opened new : FilesView
       } in
       acts_of_engine IsPorts shows (Decrypt d) old opened new Failed Unshown Progress (decrypt_engine k identity) (paths_of d) d.durability before did.after
       (opening_end did.decrypted) r (identity_order (option_text d.identity.pass) (option_text d.identity.shared)) (Opened d.from.now ∷ preparing (option_text d.save))
-      before_is did.after_is refl refl (λ P holds. (identity, opens, holds))
-      (opening_ran did.decrypted (λ done so. let of = the_run did.run so in (before, did.after, before_is, did.after_is, (done, of.0, of.1))) did.done) (λ spared. spared) kept found did.named
+      before_is did.after_is refl refl (λ P holds. (identity, opens, holds)) begun
+      (opening_ran did.decrypted (λ done so. let of = the_run did.run so in (done, of.0, of.1)) did.done) (λ spared. spared) kept found did.named
       (λ shown. kept_opening k identity before did.after did.run did.decrypted did.done (did.stopped shown (holds shown))) did.concludes noted apart
       (λ same. apart (inr (inl (inl (d.to.now, same, refl))))) fresh (did.silent, λ asked. did.shown asked (old.entries d.from.now) (λ shown. (found shown).1))
 
-  pub resume_acts : (a : Resuming) (identity : Identity) (from : Position) (first : SourceView) → OpensOf shows a.decrypting old.entries identity
+  pub resume_acts : (a : Resuming) (identity : Identity) (from : Position) (first : SourceView) → AreNew before → OpensOf shows a.decrypting old.entries identity
       → (shows ≡ true → WasEarlier a from old.entries first) → IsPorts (ports first before.sink)
       → (shows ≡ true → Found (paths_of a.decrypting) old.entries before)
       → ResumesOpened IsPorts shows a.decrypting identity from first before opened new Unshown Progress r
       → opened.events ≡ old.events ++ (identity_order (option_text a.decrypting.identity.pass) (option_text a.decrypting.identity.shared)
       ++ ((Opened a.position.now ∷ Opened a.old.now ∷ Opened a.decrypting.from.now ∷ preparing (option_text a.decrypting.save)) ++ Created a.decrypting.to.now ∷ []))
       → (NamesTwice (order_asked (Resume a)).apart → ⊥) → (shows ≡ true → IsFresh a.decrypting.clobber (old.entries a.decrypting.to.now)) → Acts IsPorts shows (Resume a) old new Failed Unshown Progress r
-  resume_acts a identity from first opens earlier first_is found did noted apart fresh =
+  resume_acts a identity from first begun opens earlier first_is found did noted apart fresh =
       let d = a.decrypting in
       let k = kept_for (option_text d.save) in
       let engine = resume_engine IsPorts k identity from first.remaining.left in
@@ -154,9 +156,9 @@ module _ (IsPorts : Ports → Type 0) (shows : Bool) (old opened new : FilesView
         (λ shown. let was = earlier shown in
             (was.0, was.2, ap is_some was.2 ∙ was.1)),
         holds,
-      ))
+      )) begun
       (opening_ran did.resumed (λ done so. let of = the_run did.run so in
-      (before, did.after, before_is, did.after_is, (first, did.last, first_is, did.last_is, refl, (done, of.0, of.1)))) did.done) (λ spared. spared) kept found did.named
+      (first, did.last, first_is, did.last_is, refl, (done, of.0, of.1))) did.done) (λ spared. spared) kept found did.named
       (λ shown. kept_resuming IsPorts k identity from first.remaining.left before did.after first did.last did.run did.resumed first_is
       did.last_is refl did.done (did.stopped shown (holds shown))) did.concludes noted apart
       (λ same. apart (inr (inl (inl (d.to.now, same, refl))))) fresh (did.silent, λ asked. did.shown asked (old.entries d.from.now) (λ shown. (found shown).1))

@@ -303,7 +303,7 @@ module _ (words : List Text) (shows : Bool) (IsPorts : Ports → Type 0) (before
 
   module _ (e : Decrypting) (auth : IsWritersInput e old text) where
     decrypted : (r : Result (Unit {0}) Ending) → OnErr r (status ≡ 0 → ⊥)
-        → OnOk r (OfEngine IsPorts shows (Decrypt e) old (λ engine paths. HasEngineEnded IsPorts engine × (shows ≡ true → WritesOut IsPorts engine paths old new)))
+        → OnOk r (OfEngine IsPorts shows (Decrypt e) old (λ engine paths. HasEngineEnded IsPorts engine after.files.closed × (shows ≡ true → WritesOut IsPorts engine paths old new)))
         → IfErr r (λ ending. ((new ≡ old) × EndsBefore (Decrypt e) old ending × HasReason old after.files.events Failed ending)
         ⊎ OfEngine IsPorts shows (Decrypt e) old (λ engine paths. LeavesOut IsPorts engine paths old new ending))
         → KeepsOut (old e.to.now) (new e.to.now) status text
@@ -340,7 +340,7 @@ module _ (words : List Text) (shows : Bool) (IsPorts : Ports → Type 0) (before
     fronts p old_text at is all same = old_front p (old s.old.now) text (λ all held. auth.old_text p at all held) all (sym is ∙ same)
 
     resumed : (r : Result (Unit {0}) Ending) → OnErr r (status ≡ 0 → ⊥)
-        → OnOk r (OfEngine IsPorts shows (Resume s) old (λ engine paths. HasEngineEnded IsPorts engine × (shows ≡ true → WritesOut IsPorts engine paths old new)))
+        → OnOk r (OfEngine IsPorts shows (Resume s) old (λ engine paths. HasEngineEnded IsPorts engine after.files.closed × (shows ≡ true → WritesOut IsPorts engine paths old new)))
         → IfErr r (λ ending. ((new ≡ old) × EndsBefore (Resume s) old ending × HasReason old after.files.events Failed ending)
         ⊎ OfEngine IsPorts shows (Resume s) old (λ engine paths. LeavesOut IsPorts engine paths old new ending))
         → KeepsOut (old s.decrypting.to.now) (new s.decrypting.to.now) status text

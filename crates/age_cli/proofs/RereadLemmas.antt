@@ -187,4 +187,5 @@ concludes_left shows save durability sink cause old mid new ending left others c
   spares = λ shown q to save_is. spares shown q (λ e. cc) save_is ∙ others q (λ e. to (ap Some (sym e)));
   order = then_follows _ _ _ (Closed durability ∷ []) (replacing save durability) closed noted;
   order_done = tt;
+  closed = tt;
 }

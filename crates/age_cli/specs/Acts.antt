@@ -79,6 +79,10 @@ pub record PortsOf {In Out : Type 0} (read : In → SourceView) (wrote : Out →
   pub sink : Out
   pub is : p ≡ ports (read source) (wrote sink)
 
+-- a source that gave nothing so far, and a sink that took nothing
+abbrev pub AreNew : Ports → Type 0
+AreNew p = (p.source.remaining.given ≡ []) × (p.sink.taken.bytes ≡ [])
+
 module _ (IsPorts : Ports → Type 0) where
   -- a second source of the set gives the old text
   abbrev pub Beside : Option (List ℕ) → (ResumePorts → ResumePorts → Type 0) → Ports → Ports
@@ -274,10 +278,11 @@ module _ (IsPorts : Ports → Type 0) where
       (paths_of d)
   OfEngine shows other old P = Unit {0}
 
-  -- the engine ended, over a source and a sink of the files
-  abbrev pub HasEngineEnded : Engine → Type 0
-  HasEngineEnded engine = (before : Ports) × (after : Ports) × IsPorts before × IsPorts after
-      × engine.ends before after
+  -- the engine ended, over a source and a sink of the files which were new, and the sink of the file
+  -- that was closed last had taken what the engine's took
+  abbrev pub HasEngineEnded : Engine → (closed : Option (List ℕ)) → Type 0
+  HasEngineEnded engine closed = (before : Ports) × (after : Ports) × IsPorts before × IsPorts after
+      × AreNew before × (closed ≡ Some after.sink.taken.bytes) × engine.ends before after
 
   -- What stands before and after a command; `shows` says whether contracts see the files, `Failed`
   -- that a source of these failed, `Unshown` that the progress is as it was, and `Progress` what was
@@ -285,9 +290,10 @@ module _ (IsPorts : Ports → Type 0) where
   pub record Acts (shows : Bool) (asked : Request) (before after : FilesView)
       (Failed Unshown : Type 0) (Progress : Option (List ℕ) → Result (Unit {0}) Ending → Type 0)
       (ended : Result (Unit {0}) Ending) : Type 0 where
-    -- The engine ended, and OUT holds what it promises for what the names stood for at the call.
-    pub done : OnOk ended (OfEngine shows asked before.entries (λ engine paths. HasEngineEnded engine
-        × (shows ≡ true → WritesOut IsPorts engine paths before.entries after.entries)))
+    -- The engine ended, and OUT was closed with what it wrote; it holds what the engine promises for
+    -- what the names stood for at the call.
+    pub done : OnOk ended (OfEngine shows asked before.entries (λ engine paths.
+        HasEngineEnded engine after.closed × (shows ≡ true → WritesOut IsPorts engine paths before.entries after.entries)))
     -- Nothing differs, and 26 and 27 have a reason; or OUT holds what the engine promises for a
     -- stop, and the file of `--save` its position.
     pub stops : shows ≡ true → IfErr ended (λ ending. ((after.entries ≡ before.entries)

@@ -9,6 +9,8 @@ ghost use Rattle.age_cli_args.specs.Requests.{option_text};
 ghost use Rattle.age_command.specs.Endings.{EndsEarly, is_usage, Tells};
 ghost use Rattle.age_command.specs.Files.{SourceFails, HasReason, SparesBut};
 ghost use Rattle.age_command.specs.Orders.{preparing, making};
+ghost use Rattle.age_file.specs.Runs.{ports};
+ghost use Rattle.age_cli.specs.Acts.{AreNew};
 ghost use Rattle.age_cli.specs.inner.Endings.{Concludes, EndsOut, IsBeyond, IsPut, IsCertain, IsUnsaved};
 ghost use Rattle.age_cli.specs.inner.Openings.{IsFresh, OpensFiles};
 
@@ -90,7 +92,7 @@ fn create_out<F: FileSet>(
         (F.view files.new) (λ o. ((F.Out.view o.out).taken.contents ≡ Some [])
         × ((F.Out.view o.out).label ≡ asked.now.to.now)
         × IsFresh asked.now.clobber ((F.view files.old).entries asked.now.to.now))
-        (SourceFails F.In.view) result }
+        (λ o. (F.Out.view o.out).taken.bytes ≡ []) (SourceFails F.In.view) result }
 {
     let out = make_out(alloc, files, asked)?;
     match refusal_of(files, &out, asked.content) {
@@ -137,6 +139,7 @@ pub(crate) fn open_both<F: FileSet>(
         × ((F.Out.view both.1.out).taken.contents ≡ Some [])
         × ((F.Out.view both.1.out).label ≡ asked.now.to.now))
         × IsFresh asked.now.clobber ((F.view files.old).entries asked.now.to.now))
+        (λ both. AreNew (ports (F.In.view both.0) (F.Out.view both.1.out)))
         (SourceFails F.In.view) result }
 {
     let source = files.open(alloc, from)?;

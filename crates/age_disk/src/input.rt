@@ -1,6 +1,6 @@
 //! A file of the machine that is read.
 
-ghost use Rattle.std.specs.Prelude.{◌≡◌, None};
+ghost use Rattle.std.specs.Prelude.{◌≡◌, [], None, false, IfOk};
 ghost use Rattle.std.specs.Io.{ReadsAtMost};
 
 use crate::names::{FileId, Resolved, Stream, above_streams, is_on_disk, is_random, resolve};
@@ -98,11 +98,9 @@ impl Model for HostIn {
 impl HostIn {
     /// Opens what a name stands for, and says which regular file it is. Standard output, standard
     /// error and folders can't be read.
-    pub fn open(
-        alloc: Global,
-        rt: &HostRuntime,
-        name: &str,
-    ) -> io::Result<(HostIn, Option<FileId>)> {
+    pub fn open(alloc: Global, rt: &HostRuntime, name: &str) -> io::Result<(HostIn, Option<FileId>)>
+        ensures { IfOk result (λ opened. opened.0 ≡ ((0, false), ([], false))) }
+    {
         match resolve(alloc, rt, name)? {
             Resolved::Stream(stream) => HostIn::open_stream(rt, stream),
             Resolved::Path(_) => HostIn::open_path(rt, name),
@@ -114,7 +112,9 @@ impl HostIn {
         alloc: Global,
         rt: &HostRuntime,
         name: &str,
-    ) -> io::Result<(HostIn, Option<FileId>)> {
+    ) -> io::Result<(HostIn, Option<FileId>)>
+        ensures { IfOk result (λ opened. opened.0 ≡ ((0, false), ([], false))) }
+    {
         match HostIn::open(alloc, rt, name) {
             Err(error) if error.kind() == io::ErrorKind::NotFound => {
                 Ok((HostIn::new(rt, Origin::Nothing, Some(0)), None))
@@ -123,7 +123,9 @@ impl HostIn {
         }
     }
 
-    fn new(rt: &HostRuntime, origin: Origin, left: Option<u64>) -> HostIn {
+    fn new(rt: &HostRuntime, origin: Origin, left: Option<u64>) -> HostIn
+        ensures { result ≡ ((0, false), ([], false)) }
+    {
         HostIn {
             rt: *rt,
             origin,
@@ -183,7 +185,9 @@ impl HostIn {
         Ok(())
     }
 
-    fn open_stream(rt: &HostRuntime, stream: Stream) -> io::Result<(HostIn, Option<FileId>)> {
+    fn open_stream(rt: &HostRuntime, stream: Stream) -> io::Result<(HostIn, Option<FileId>)>
+        ensures { IfOk result (λ opened. opened.0 ≡ ((0, false), ([], false))) }
+    {
         let Stream::Input = stream else {
             return Err(io::Error::from(io::ErrorKind::Unsupported));
         };
@@ -192,7 +196,9 @@ impl HostIn {
         Ok((HostIn::new(rt, Origin::Input(rt.stdin()), None), id))
     }
 
-    fn open_path(rt: &HostRuntime, name: &str) -> io::Result<(HostIn, Option<FileId>)> {
+    fn open_path(rt: &HostRuntime, name: &str) -> io::Result<(HostIn, Option<FileId>)>
+        ensures { IfOk result (λ opened. opened.0 ≡ ((0, false), ([], false))) }
+    {
         let file = above_streams(File::open(rt, name)?)?;
         let metadata = file.metadata()?;
         if metadata.is_dir() {
@@ -204,7 +210,9 @@ impl HostIn {
         Ok(HostIn::of_file(rt, file, &metadata))
     }
 
-    fn of_file(rt: &HostRuntime, file: File, metadata: &Metadata) -> (HostIn, Option<FileId>) {
+    fn of_file(rt: &HostRuntime, file: File, metadata: &Metadata) -> (HostIn, Option<FileId>)
+        ensures { result.0 ≡ ((0, false), ([], false)) }
+    {
         (
             HostIn::new(rt, Origin::File(file), length_of(metadata)),
             FileId::of(metadata),

@@ -1,6 +1,6 @@
 //! A file of the machine that is written.
 
-ghost use Rattle.std.specs.Prelude.{◌≡◌, [], None, true, false};
+ghost use Rattle.std.specs.Prelude.{◌≡◌, [], None, true, false, IfOk};
 ghost use Rattle.std.specs.Io.{WritesAtMost};
 
 use crate::calls::{close, cut};
@@ -14,6 +14,7 @@ use std::alloc::Global;
 use std::fs::File;
 use std::io::{self, IsTerminal, Write};
 use std::marker::Model;
+use std::mem;
 use std::os::unix::fs::MetadataExt;
 use std::path::PathBuf;
 use std::rt::{HostRuntime, Stderr, Stdout};
@@ -359,6 +360,13 @@ impl HostOut {
         self.error
     }
 
+    /// Hands over the tape of the bytes that it took, for contracts alone; it has a new one then.
+    pub fn hand_over(&mut self) -> Tape
+        ensures { result ≡ self.old.1 }
+    {
+        mem::replace(&mut self.took, Tape::new())
+    }
+
     /// Standard error, for the lines of faults. Puts fail if the program was started without it.
     pub fn faults(rt: &HostRuntime) -> HostOut
         ensures { result ≡ ((0, false), []) }
@@ -374,7 +382,9 @@ impl HostOut {
         rt: &HostRuntime,
         name: &str,
         durability: Durability,
-    ) -> io::Result<HostOut> {
+    ) -> io::Result<HostOut>
+        ensures { IfOk result (λ out. out ≡ ((0, false), [])) }
+    {
         let mut out = match resolve(alloc, rt, name)? {
             Resolved::Path(path) => HostOut::of_file(rt, OutFile::open(rt, name, path)?)?,
             Resolved::Stream(stream) => HostOut::of_stream(rt, stream)?,
@@ -389,14 +399,18 @@ impl HostOut {
         rt: &HostRuntime,
         name: &str,
         durability: Durability,
-    ) -> io::Result<HostOut> {
+    ) -> io::Result<HostOut>
+        ensures { IfOk result (λ out. out ≡ ((0, false), [])) }
+    {
         let path = PathBuf::from_str(alloc, name)?;
         let mut out = HostOut::of_file(rt, OutFile::make(rt, path)?)?;
         out.durability = durability;
         Ok(out)
     }
 
-    fn of_file(rt: &HostRuntime, out: OutFile) -> io::Result<HostOut> {
+    fn of_file(rt: &HostRuntime, out: OutFile) -> io::Result<HostOut>
+        ensures { IfOk result (λ out. out ≡ ((0, false), [])) }
+    {
         let id = FileId::of(&out.file.metadata()?);
         Ok(HostOut::new(rt, Target::File(out), id))
     }
@@ -407,7 +421,9 @@ impl HostOut {
     }
 
     /// A stream that can be written, from where it stands.
-    pub fn of_stream(rt: &HostRuntime, stream: Stream) -> io::Result<HostOut> {
+    pub fn of_stream(rt: &HostRuntime, stream: Stream) -> io::Result<HostOut>
+        ensures { IfOk result (λ out. out ≡ ((0, false), [])) }
+    {
         stream.check(rt)?;
         let target = match stream {
             Stream::Input => return Err(io::Error::from(io::ErrorKind::Unsupported)),

@@ -32,6 +32,8 @@ pub record FilesView : Type 0 where
   -- what was opened, prepared, created, replaced and closed, in order, whether it succeeded or not;
   -- also of a set that doesn't show its entries
   pub events : List Event
+  -- what the sink had taken of the file that was ended last, if it was closed and not discarded
+  pub closed : Option (List ℕ)
 
 -- this fault, or memory ran out
 abbrev pub IsMemoryOr : FileFault → FileFault → Type 0
@@ -77,6 +79,8 @@ pub record Shelf : Type 0 where
   pub room : ℕ
   -- what was done
   pub events : List Event
+  -- what the sink had taken of the file that was ended last, if it was closed
+  pub closed : Option (List ℕ)
 
 -- the sink of a new file that holds at most this many bytes
 abbrev pub empty_with : ℕ → Holding

@@ -80,6 +80,7 @@ pub trait FileSet {
     fn open(&mut self, alloc: Global, name: &str) -> Result<Self::In, OpenFault>
         ensures kept { (view self.new).entries ≡ (view self.old).entries }
         ensures noted { (view self.new).events ≡ (view self.old).events ++ Opened name.now ∷ [] }
+        ensures begun { IfOk result (λ s. (Self.In.view s).remaining.given ≡ []) }
         ensures found { IfOk result (λ s. shows_bytes ≡ true
             → (is_some ((view self.old).entries name.now) ≡ true)
             × ((Self.In.view s).remaining.left ≡ (view self.old).entries name.now)) }
@@ -93,6 +94,7 @@ pub trait FileSet {
     fn open_or_empty(&mut self, alloc: Global, name: &str) -> Result<Self::In, OpenFault>
         ensures kept { (view self.new).entries ≡ (view self.old).entries }
         ensures noted { (view self.new).events ≡ (view self.old).events ++ Opened name.now ∷ [] }
+        ensures begun { IfOk result (λ s. (Self.In.view s).remaining.given ≡ []) }
         ensures found { IfOk result (λ s. shows_bytes ≡ true
             → (Self.In.view s).remaining.left ≡ or_empty ((view self.old).entries name.now)) }
         ensures shown { shows_bytes ≡ true → IfErr result (λ f. f ≡ Fault FileFault.Memory) }
@@ -140,6 +142,7 @@ pub trait FileSet {
         ensures kept { (view self.new).entries ≡ (view self.old).entries }
         ensures made { IfOk result (λ o. shows_bytes ≡ true
             → ((Self.Out.view o).taken.contents ≡ Some []) × ((Self.Out.view o).label ≡ name.now)) }
+        ensures begun { IfOk result (λ o. (Self.Out.view o).taken.bytes ≡ []) }
         ensures noted { (view self.new).events ≡ (view self.old).events ++ Created name.now ∷ [] }
         ensures faults { IfErr result (OpenFails shows_bytes FileFault.Write) };
 
@@ -191,6 +194,7 @@ pub trait FileSet {
             ⊎ (shows_bytes ≡ true
             → (view self.new).entries (Self.Out.view out).label ≡ (Self.Out.view out).taken.contents)) }
         ensures noted { (view self.new).events ≡ (view self.old).events ++ Closed durability ∷ [] }
+        ensures closed { (view self.new).closed ≡ Some (Self.Out.view out).taken.bytes }
         ensures faults { IsOkUnless result FileFault.Write };
 
     /// Ends a file that was created and into which nothing was put: it is as it was before
@@ -200,7 +204,8 @@ pub trait FileSet {
             → (view self.new).entries ≡ (view self.old).entries }
         ensures others { (q : List ℕ) → q ≢ (Self.Out.view out).label
             → (view self.new).entries q ≡ (view self.old).entries q }
-        ensures noted { (view self.new).events ≡ (view self.old).events ++ Closed durability ∷ [] };
+        ensures noted { (view self.new).events ≡ (view self.old).events ++ Closed durability ∷ [] }
+        ensures dropped { (view self.new).closed ≡ None };
 
     /// Makes a file of these bytes, and waits for the disk as `close` does. One of the name is
     /// replaced atomically if its folder lets a new one be made beside it; else it is written

@@ -12,7 +12,7 @@ use crate::files::{FileSet, OpenFault};
 use crate::log::Log;
 use crate::mem_entry::{MemEntry, Name, bytes_of, put_entry};
 use age_fault::FileFault;
-use age_io::{Durability, Failed, MemSink, MemSource, Memory, Sink};
+use age_io::{Durability, Failed, MemSink, MemSource, Memory, Sink, Tape};
 use age_stanza::Bytes;
 use std::alloc::Global;
 use std::marker::Model;
@@ -25,6 +25,7 @@ pub struct MemFiles {
     refused: Vec<Name>,
     room: usize,
     log: Log,
+    closed: Option<Tape>,
 }
 
 impl Model for MemFiles {
@@ -37,6 +38,7 @@ impl Model for MemFiles {
       refused = f.refused.items;
       room = f.room;
       events = f.log;
+      closed = f.closed;
     } };
 }
 
@@ -91,13 +93,20 @@ impl Sink for MemOut {
 impl MemFiles {
     /// No files. A file that is written can hold `room` bytes.
     pub fn new(alloc: Global, room: usize) -> MemFiles
-        ensures { result ≡ record { entries = []; refused = []; room = room; events = [] } }
+        ensures { result ≡ record {
+          entries = [];
+          refused = [];
+          room = room;
+          events = [];
+          closed = None;
+        } }
     {
         MemFiles {
             entries: Vec::new(alloc),
             refused: Vec::new(alloc),
             room,
             log: Log::new(),
+            closed: None,
         }
     }
 
@@ -139,6 +148,15 @@ impl MemFiles {
     }
 }
 
+/// A tape of these bytes.
+fn tape_of(bytes: &[u8]) -> Tape
+    ensures { result ≡ bytes.now }
+{
+    let mut tape = Tape::new();
+    tape.note(bytes);
+    tape
+}
+
 fn is_refused(refused: &[Name], name: &str) -> bool
     ensures { IsTrue result ↔ Contains refused.now name.now }
 {
@@ -148,6 +166,7 @@ fn is_refused(refused: &[Name], name: &str) -> bool
 /// A copy of a file's bytes, to be read.
 fn source_of(alloc: Global, bytes: &[u8]) -> Result<MemSource, FileFault>
     ensures bytes { IfOk result (λ s. s.left ≡ bytes.now) }
+    ensures begun { IfOk result (λ s. s.given ≡ []) }
     ensures memory { OnErr result (result ≡ Err FileFault.Memory) }
 {
     Ok(MemSource::new(bytes.to_vec(alloc)?, usize::MAX, None))
@@ -196,13 +215,18 @@ impl FileSet for MemFiles {
 
     ghost shows_bytes = { true };
 
-    ghost view = { λ f. record { entries = entry_of f.entries; events = f.events } };
+    ghost view = { λ f. record {
+      entries = entry_of f.entries;
+      events = f.events;
+      closed = f.closed;
+    } };
 
     /// Opens a copy of a file's bytes. Refuses with `Read` (26) exactly if no file has the name.
     fn open(&mut self, alloc: Global, name: &str) -> Result<MemSource, OpenFault>
         ensures kept { self.new
             ≡ record self.old { events = self.old.events ++ Opened name.now ∷ [] } }
         ensures found { IfOk result (λ s. entry_of self.old.entries name.now ≡ Some s.left) }
+        ensures begun { IfOk result (λ s. s.given ≡ []) }
         ensures missing { IsErrOf result (Fault FileFault.Read)
             ↔ (entry_of self.old.entries name.now ≡ None) }
         ensures faults { IfErr result (OpenFails true FileFault.Read) }
@@ -220,6 +244,7 @@ impl FileSet for MemFiles {
             ≡ record self.old { events = self.old.events ++ Opened name.now ∷ [] } }
         ensures found { IfOk result
             (λ s. Some s.left ≡ or_empty (entry_of self.old.entries name.now)) }
+        ensures begun { IfOk result (λ s. s.given ≡ []) }
         ensures faults { OnErr result (result ≡ Err (Fault FileFault.Memory)) }
     {
         self.log.opened(name);
@@ -327,10 +352,12 @@ impl FileSet for MemFiles {
         ensures kept { self.new ≡ record self.old {
           entries = self.new.entries;
           events = self.old.events ++ Closed durability ∷ [];
+          closed = Some out.1.held;
         } }
     {
         self.log.closed(durability);
         let MemOut { name, sink } = out;
+        self.closed = Some(tape_of(sink.bytes()));
         match put_entry(&mut self.entries, name, Bytes::from_vec(sink.into_bytes())) {
             Ok(()) => Ok(()),
             Err(_) => Err(FileFault::Write),
@@ -339,10 +366,13 @@ impl FileSet for MemFiles {
 
     /// Drops what the sink took, whatever that is.
     fn discard(&mut self, out: MemOut, durability: Durability)
-        ensures kept { self.new
-            ≡ record self.old { events = self.old.events ++ Closed durability ∷ [] } }
+        ensures kept { self.new ≡ record self.old {
+          events = self.old.events ++ Closed durability ∷ [];
+          closed = None;
+        } }
     {
         self.log.closed(durability);
+        self.closed = None;
         let _dropped = out;
     }
 

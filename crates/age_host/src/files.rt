@@ -1,6 +1,6 @@
 //! The machine's files.
 
-ghost use Rattle.std.specs.Prelude.{◌≡◌, true, false, None, Some, Err, IfErr, IsErr, Contains};
+ghost use Rattle.std.specs.Prelude.{◌≡◌, [], true, false, None, Some, Err, IfOk, IfErr, IsErr, Contains};
 ghost use Rattle.age_fault.specs.declared.fault.FileFault.TheVariants.{Read, Write, Memory};
 ghost use Rattle.age_fileset.specs.FileSet.{IsMemoryOr, OpenFails};
 ghost use Rattle.age_fileset.specs.declared.files.OpenFault.TheVariants.{SameFile};
@@ -10,7 +10,7 @@ use crate::watched::{WatchedIn, WatchedOut};
 use age_disk::{FileId, HostIn, HostOut, Prepared, Stream, StreamId, found_at, replace};
 use age_fault::FileFault;
 use age_fileset::{FileSet, Log, OpenFault};
-use age_io::Durability;
+use age_io::{Durability, Tape};
 use age_messages::{Action, Failures, announce_rereading, announce_sync};
 use std::alloc::{AllocError, Global};
 use std::io;
@@ -30,6 +30,8 @@ pub struct HostFiles<'r, 'w> {
     streams: Vec<StreamId>,
     prepared: Vec<Prepared>,
     log: Log,
+    // What the sink had taken of the file that was ended last, if it was closed.
+    closed: Option<Tape>,
     failures: &'r Failures<'w>,
     // Whether the disk is waited for while the run goes on. This goes by the words alone: what is
     // waited for at the end is said by each call.
@@ -45,6 +47,7 @@ impl<'r, 'w> HostFiles<'r, 'w> {
             streams: Vec::new(rt.alloc()),
             prepared: Vec::new(rt.alloc()),
             log: Log::new(),
+            closed: None,
             failures,
             durability: durability_of(failures),
         }
@@ -71,6 +74,8 @@ impl<'r, 'w> HostFiles<'r, 'w> {
         name: &str,
         opened: io::Result<(HostIn, Option<FileId>)>,
     ) -> Result<WatchedIn<'r, 'w>, OpenFault>
+        requires { IfOk opened (λ o. o.0.1.0 ≡ []) }
+        ensures begun { IfOk result (λ s. s.source.1.0 ≡ []) }
         ensures kept { self.new.log ≡ self.old.log }
         ensures faults { IfErr result (OpenFails false Read) }
     {
@@ -89,6 +94,7 @@ impl<'r, 'w> HostFiles<'r, 'w> {
 
     /// Keeps a file that was opened to be written, under its name, and takes it for this run alone.
     fn admit_created(&mut self, name: &str, out: HostOut) -> Result<WatchedOut<'r, 'w>, OpenFault>
+        ensures same { IfOk result (λ o. o.sink ≡ out) }
         ensures kept { self.new.log ≡ self.old.log }
         ensures faults { IfErr result (OpenFails false Write) }
     {
@@ -315,7 +321,8 @@ fn admit_out<'r, 'w>(
     prepared: &[Prepared],
     out: WatchedOut<'r, 'w>,
 ) -> Result<WatchedOut<'r, 'w>, OpenFault>
-    ensures { IfErr result (OpenFails false Write) }
+    ensures same { IfOk result (λ o. o.sink ≡ out.sink) }
+    ensures faults { IfErr result (OpenFails false Write) }
 {
     let other = find_prepared(rt, prepared, out.id());
     let admitted = if other.is_some() {
@@ -339,7 +346,8 @@ fn claimed<'r, 'w>(
     out: WatchedOut<'r, 'w>,
     name: &str,
 ) -> Result<WatchedOut<'r, 'w>, OpenFault>
-    ensures { IfErr result (OpenFails false Write) }
+    ensures same { IfOk result (λ o. o.sink ≡ out.sink) }
+    ensures faults { IfErr result (OpenFails false Write) }
 {
     match out.claim(rt, name) {
         Ok(()) => Ok(out),
@@ -384,7 +392,11 @@ impl<'r, 'w> FileSet for HostFiles<'r, 'w> {
 
     ghost shows_bytes = { false };
 
-    ghost view = { λ f. record { entries = λ _. None; events = f.log } };
+    ghost view = { λ f. record {
+      entries = λ _. None;
+      events = f.log;
+      closed = f.closed;
+    } };
 
     /// Two paths of one file are the same too, so that no link destroys what is read.
     fn is_same(&self, one: &str, other: &str) -> bool {
@@ -490,8 +502,13 @@ impl<'r, 'w> FileSet for HostFiles<'r, 'w> {
         out.settle(self.rt, durability)
     }
 
-    fn close(&mut self, out: WatchedOut<'r, 'w>, durability: Durability) -> Result<(), FileFault> {
+    fn close(
+        &mut self,
+        mut out: WatchedOut<'r, 'w>,
+        durability: Durability,
+    ) -> Result<(), FileFault> {
         self.log.closed(durability);
+        self.closed = Some(out.hand_over());
         if durability == Durability::Synced {
             announce_sync(self.rt, self.failures);
         }
@@ -503,6 +520,7 @@ impl<'r, 'w> FileSet for HostFiles<'r, 'w> {
 
     fn discard(&mut self, out: WatchedOut<'r, 'w>, durability: Durability) {
         self.log.closed(durability);
+        self.closed = None;
         out.discard(self.rt, durability);
     }
 

@@ -1,9 +1,9 @@
 //! Files and streams whose failures are kept.
 
-ghost use Rattle.std.specs.Prelude.{[], None, true};
+ghost use Rattle.std.specs.Prelude.{◌≡◌, [], None, true};
 
 use age_disk::{FileId, HostIn, HostOut, Prepared};
-use age_io::{Durability, Failed, Sink, Source};
+use age_io::{Durability, Failed, Sink, Source, Tape};
 use age_messages::{Action, Failures};
 use std::io::{self, Read, Write};
 use std::rt::HostRuntime;
@@ -19,7 +19,9 @@ pub struct WatchedIn<'r, 'w> {
 }
 
 impl<'r, 'w> WatchedIn<'r, 'w> {
-    pub(crate) fn new(source: HostIn, name: &str, failures: &'r Failures<'w>) -> WatchedIn<'r, 'w> {
+    pub(crate) fn new(source: HostIn, name: &str, failures: &'r Failures<'w>) -> WatchedIn<'r, 'w>
+        ensures { result.source ≡ source }
+    {
         let name = failures.word(name);
         failures.begin_reading(name);
         WatchedIn {
@@ -105,7 +107,9 @@ pub struct WatchedOut<'r, 'w> {
 }
 
 impl<'r, 'w> WatchedOut<'r, 'w> {
-    pub(crate) fn new(sink: HostOut, name: &str, failures: &'r Failures<'w>) -> WatchedOut<'r, 'w> {
+    pub(crate) fn new(sink: HostOut, name: &str, failures: &'r Failures<'w>) -> WatchedOut<'r, 'w>
+        ensures { result.sink ≡ sink }
+    {
         let name = failures.word(name);
         failures.note_output(name);
         WatchedOut {
@@ -118,6 +122,13 @@ impl<'r, 'w> WatchedOut<'r, 'w> {
     /// Which file it is, if that is known.
     pub(crate) fn id(&self) -> Option<FileId> {
         self.sink.id()
+    }
+
+    /// Hands over the tape of the bytes that it took, for contracts alone.
+    pub(crate) fn hand_over(&mut self) -> Tape
+        ensures { result ≡ self.old.sink.1 }
+    {
+        self.sink.hand_over()
     }
 
     /// Keeps its name, and the name of the file that was prepared, if this is the same file.

@@ -72,8 +72,10 @@ pub record EndsOut (shows : Bool) (durability : Durability) (sink : SinkView)
   pub same : IfErr engine (λ cause. IsErrAnd result (λ stop. stop ≡ cause))
   -- No other file differs.
   pub others : SparesBut sink.label old.entries new.entries
-  -- It is closed once.
+  -- It is ended once.
   pub noted : new.events ≡ old.events ++ Closed durability ∷ []
+  -- It was closed, and not discarded, if the engine and the end succeeded.
+  pub closed : OnOk result (new.closed ≡ Some sink.taken.bytes)
 
 -- and then the position of a stop was saved
 pub record Concludes (shows : Bool) (save : Option Text) (durability : Durability)
@@ -95,3 +97,4 @@ pub record Concludes (shows : Bool) (save : Option Text) (durability : Durabilit
   pub order : Follows (Closed durability ∷ replacing save durability) old.events new.events
   -- If all is done, OUT is closed and nothing more.
   pub order_done : OnOk result (new.events ≡ old.events ++ Closed durability ∷ [])
+  pub closed : OnOk result (new.closed ≡ Some sink.taken.bytes)

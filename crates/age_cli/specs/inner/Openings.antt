@@ -41,11 +41,13 @@ IsFresh clobber held = clobber ≡ Refused → held ≡ None
 
 -- the files of `order` were opened or made, and this holds of them; or it ended early, in `whole`
 pub record OpensFiles {A : Type 0} (shows : Bool) (order whole : List Event) (old new : FilesView)
-    (IsOpened : A → Type 0) (Failed : Type 0) (result : Result A Ending) : Type 0 where
+    (IsOpened IsNew : A → Type 0) (Failed : Type 0) (result : Result A Ending) : Type 0 where
   -- No entry differs.
   pub kept : new.entries ≡ old.entries
   -- What was opened is as it should be.
   pub opened : IfOk result (λ a. shows ≡ true → IsOpened a)
+  -- Nothing was given or taken so far.
+  pub begun : IfOk result IsNew
   -- All of the order was followed.
   pub noted : OnOk result (new.events ≡ old.events ++ order)
   -- Or a beginning of what a refusal may add.

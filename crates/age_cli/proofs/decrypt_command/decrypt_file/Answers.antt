@@ -80,7 +80,7 @@ returns-clause-acts g c =
     let before = ports (g.F.In.Source.view c.in_ok-source.source) (g.F.Out.Sink.view c.in_ok-source.out.out) in
     decrypt_acts _ _ (view c.args.files.now) (view c.open_both.new.files) (view c.decrypt_opened.new.files) _ _ _ before
     (record { source = c.in_ok-source.source; sink = c.in_ok-source.out.out; is = refl }) c.decrypt_opened.result (both.kept ∙ judged.kept) d
-    c.in_ok-identity.identity
+    c.in_ok-identity.identity both.begun
     (found_by _ d _ _ _ c.in_ok-choice.ensures.chooses c.in_ok-identity.ensures.makes (view c.args.files.now).entries (λ shown. (judged.read shown).0))
     (λ shown. subst (λ (f : Files). Found (paths_of d) f before) judged.kept (both.opened shown).0) c.decrypt_opened.ensures.opened
     (then_did _ _ _ (identity_order (option_text d.identity.pass) (option_text d.identity.shared))

@@ -74,7 +74,7 @@ returns-clause-acts g c =
     let after = ports (In run.result.source) (Out run.new.out.out) in
     encrypt_acts _ _ (view c.args.files.now) (view c.open_both.new.files) (view c.conclude.new.files) _ _ _ before after
     (record { source = c.in_ok-source.source; sink = c.in_ok-source.out.out; is = refl }) (record { source = run.result.source; sink = run.new.out.out; is = refl })
-    c.sealing_end.result c.conclude.result (both.kept ∙ judged.kept) a c.in_ok-secret.secret run.result.end
+    c.sealing_end.result c.conclude.result (both.kept ∙ judged.kept) a c.in_ok-secret.secret run.result.end both.begun
     (λ shown. c.in_ok-secret.ensures.makes (view c.args.files.now).entries (judged.read shown))
     (λ shown. subst (λ (f : Files). Found paths f before) judged.kept (both.opened shown).0)
     c.sealing_end.ensures run.ensures.done run.ensures.fails run.ensures.named c.conclude.ensures.concludes

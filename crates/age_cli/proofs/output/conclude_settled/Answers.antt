@@ -19,6 +19,7 @@ returns-in-Ok-clause-concludes g c =
       spares = λ shown q to save. out.others q (λ e. to (ap Some (sym e)));
       order = longer (Closed c.args.durability ∷ []) (replacing (option_text c.args.save) c.args.durability) _ _ (followed _ _ _ out.noted);
       order_done = out.noted;
+      closed = out.closed;
     }
 
 pub returns-in-Err-clause-concludes : goal.returns-in-Err-clause-concludes
@@ -43,6 +44,7 @@ returns-in-Err-clause-concludes g c =
       spares = λ shown q to save. ended.others shown q (λ e. cc) save ∙ out.others q (λ e. to (ap Some (sym e)));
       order = then_follows _ _ _ (Closed c.args.durability ∷ []) (replacing (option_text c.args.save) c.args.durability) out.noted ended.noted;
       order_done = tt;
+      closed = tt;
     }
 
 pub returns-in-Err-clause-announced : goal.returns-in-Err-clause-announced

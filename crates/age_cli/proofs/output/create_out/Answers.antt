@@ -17,6 +17,7 @@ returns-in_err-out g c =
     record {
       kept = c.in_err-out.ensures.kept;
       opened = no_value r e is _;
+      begun = no_value r e is _;
       noted = not_well r e is _;
       followed = an_error r _ (record {
         done = Created a.to.now ∷ [];
@@ -36,6 +37,7 @@ returns-in-Some g c =
     record {
       kept = c.discard.ensures.kept (λ shown. (created.made shown).0) ∙ created.kept;
       opened = tt;
+      begun = tt;
       noted = tt;
       followed = followed _ _ _ (then_did _ _ _ (Created a.to.now ∷ []) (Closed a.durability ∷ []) created.noted c.discard.ensures.noted);
       early = tt;
@@ -47,6 +49,7 @@ pub returns-in-None : goal.returns-in-None
 returns-in-None g c = record {
   kept = c.in_ok-out.ensures.kept;
   opened = rw c.new.ensures c.in_ok-out.ensures.made;
+  begun = rw c.new.ensures c.in_ok-out.ensures.begun;
   noted = c.in_ok-out.ensures.noted;
   followed = tt;
   early = tt;

@@ -16,6 +16,7 @@ returns-in_ok-close-in-Ok g c =
       stops = tt;
       others = rw c.into_out.ensures at closed.others;
       noted = closed.noted;
+      closed = rw c.into_out.ensures at closed.closed;
     }
 
 pub returns-in_err-close-in-Ok : goal.returns-in_err-close-in-Ok
@@ -37,6 +38,7 @@ returns-in_err-close-in-Ok g c =
           ));
       others = rw c.into_out.ensures at closed.others;
       noted = closed.noted;
+      closed = not_well r e is _;
     }
 
 pub returns-in-Err : goal.returns-in-Err
@@ -57,4 +59,5 @@ returns-in-Err g c =
           );
       others = left.others;
       noted = left.noted;
+      closed = tt;
     }

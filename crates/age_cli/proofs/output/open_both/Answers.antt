@@ -20,6 +20,7 @@ returns-in_err-source g c =
     record {
       kept = c.in_err-source.ensures.kept;
       opened = no_value r e is _;
+      begun = no_value r e is _;
       noted = not_well r e is _;
       followed = an_error r _ (longer (Opened c.args.from.now ∷ []) (preparing (option_text a.save) ++ making (Some a.to.now) a.durability) _ _
           (followed _ _ _ c.in_err-source.ensures.noted));
@@ -39,6 +40,7 @@ returns-in_err-prepare_save g c =
     record {
       kept = prepared.kept ∙ c.in_ok-source.ensures.kept;
       opened = no_value r e is _;
+      begun = no_value r e is _;
       noted = not_well r e is _;
       followed = an_error r _ (then_follows _ _ _ (Opened c.args.from.now ∷ []) (preparing (option_text a.save) ++ making (Some a.to.now) a.durability)
           c.in_ok-source.ensures.noted (longer (preparing (option_text a.save)) (making (Some a.to.now) a.durability) _ _ (followed _ _ _ prepared.noted)));
@@ -58,6 +60,7 @@ returns-in_err-out g c =
     record {
       kept = out.kept ∙ (prepared.kept ∙ c.in_ok-source.ensures.kept);
       opened = no_value r e is _;
+      begun = no_value r e is _;
       noted = not_well r e is _;
       followed = an_error r _ (then_follows _ _ _ (Opened c.args.from.now ∷ []) (preparing (option_text a.save) ++ making (Some a.to.now) a.durability)
           c.in_ok-source.ensures.noted (then_follows _ _ _ (preparing (option_text a.save)) (making (Some a.to.now) a.durability) prepared.noted out.followed));
@@ -79,6 +82,7 @@ returns g c =
             (found.0, found.1, made.0, made.1),
             subst (λ (f : Files). IsFresh a.clobber (f a.to.now)) (prepared.kept ∙ c.in_ok-source.ensures.kept) made.2,
           );
+      begun = (c.in_ok-source.ensures.begun, out.begun);
       noted = then_did _ _ _ (Opened c.args.from.now ∷ []) (preparing (option_text a.save) ++ Created a.to.now ∷ []) c.in_ok-source.ensures.noted
           (then_did _ _ _ (preparing (option_text a.save)) (Created a.to.now ∷ []) prepared.noted out.noted);
       followed = tt;

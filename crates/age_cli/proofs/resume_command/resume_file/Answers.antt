@@ -119,7 +119,7 @@ returns-clause-acts g c =
     let before = ports (In c.in_ok-source.source) (Out c.in_ok-source.out.out) in
     resume_acts _ _ (view c.args.files.now) (view c.open_both.new.files) (view c.resume_opened.new.files) _ _ _ before
     (record { source = c.in_ok-source.source; sink = c.in_ok-source.out.out; is = refl }) c.resume_opened.result (both.kept ∙ (earlier.kept ∙ judged.kept)) r
-    c.in_ok-identity.identity c.in_ok-position.position (In first)
+    c.in_ok-identity.identity c.in_ok-position.position (In first) both.begun
     (found_by _ d _ _ _ c.in_ok-choice.ensures.chooses c.in_ok-identity.ensures.makes (view c.args.files.now).entries (λ shown. (judged.read shown).0))
     (λ shown. subst (λ (f : Files). WasEarlier r c.in_ok-position.position f (In first)) judged.kept (earlier.found shown))
     (record { source = first; sink = c.in_ok-source.out.out; is = refl })
