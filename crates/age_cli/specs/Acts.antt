@@ -293,7 +293,8 @@ module _ (IsPorts : Ports → Type 0) where
     -- The engine ended, and OUT was closed with what it wrote; it holds what the engine promises for
     -- what the names stood for at the call.
     pub done : OnOk ended (OfEngine shows asked before.entries (λ engine paths.
-        HasEngineEnded engine after.closed × (shows ≡ true → WritesOut IsPorts engine paths before.entries after.entries)))
+        HasEngineEnded engine after.closed
+        × (shows ≡ true → WritesOut IsPorts engine paths before.entries after.entries)))
     -- Nothing differs, and 26 and 27 have a reason; or OUT holds what the engine promises for a
     -- stop, and the file of `--save` its position.
     pub stops : shows ≡ true → IfErr ended (λ ending. ((after.entries ≡ before.entries)

@@ -242,13 +242,11 @@ impl Source for HostIn {
         let pulled = match self.read(into) {
             Ok(n) => {
                 self.given.note(&into[..n]);
-                if n == 0 && !into.is_empty() {
-                    self.is_at_end = true;
-                }
                 if let Some(left) = &mut self.left {
                     *left = left.saturating_sub(n as u64);
                 }
                 if n == 0 && !into.is_empty() {
+                    self.is_at_end = true;
                     self.note_end();
                 }
                 Ok(n)
