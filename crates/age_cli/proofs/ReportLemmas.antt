@@ -20,7 +20,8 @@ use Rattle.age_command.specs.declared.ending.Ending.TheVariants.{Words, Usage, F
 use Rattle.age_cli.specs.Acts.{status_by, ending_status}
 use Rattle.age_cli.specs.Commands.{FailsReport, IsReportOf}
 use Rattle.age_cli.specs.inner.Reported.{IsInspected}
-use Rattle.std.specs.Io.KnownBytes.{Consumes, IsAtEnd}
+use Rattle.std.specs.Io.KnownBytes as std_bytes
+use Rattle.age_io.specs.Supply.{Supply}
 use Rattle.std.proofs.lemmas.List.{append-nil}
 
 -- an ending has another status than success
@@ -90,15 +91,15 @@ report_fails old new PositionForged h = absurd h
 report_fails old new OldTextDiffers h = absurd h
 
 -- what was read to its end is all that was there
-all_read : (bytes : List ℕ) (new : Option (List ℕ)) (read : List ℕ) → Consumes (Some bytes) new read → IsAtEnd new → bytes ≡ read
+all_read : (bytes : List ℕ) (new : Option (List ℕ)) (read : List ℕ) → std_bytes.Consumes (Some bytes) new read → std_bytes.IsAtEnd new → bytes ≡ read
 all_read bytes None read consumed at_end = absurd consumed
 all_read bytes (Some left) read consumed at_end = consumed ∙ (ap (λ (rest : List ℕ). read ++ rest) at_end ∙ append-nil read)
 
-pub to_end_so : (old new : Option (List ℕ)) (r : Report) → Inspects old new r → IsInspected None old new r
+pub to_end_so : (old new : Supply) (r : Report) → Inspects old new r → IsInspected None old new r
 to_end_so old new r is = record {
   to_end = is;
   whole = λ bytes there size. subst (λ (b : List ℕ). IsReport b r)
-      (sym (all_read bytes new is.0 (subst (λ (o : Option (List ℕ)). Consumes o new is.0) there is.1) is.2)) is.3;
+      (sym (all_read bytes new.left is.0 (subst (λ (o : Option (List ℕ)). std_bytes.Consumes o new.left is.0) there is.1.left) is.2.1)) is.3;
 }
 
 -- a header's fault before a rest that isn't read
@@ -113,21 +114,21 @@ size_is (Some n) bytes remaining there known =
     let e : Some (length bytes) ≡ Some n = sym (ap (λ (o : Option (List ℕ)). option_map length o) there) ∙ known in cc
 
 -- the report is the file's
-pub file_report : (shows : Bool) (held remaining new : Option (List ℕ)) (size : Option ℕ) (r : Report)
-    → (shows ≡ true → (is_some held ≡ true) × (remaining ≡ held)) → (shows ≡ true → IfSome size (λ n. option_map length remaining ≡ Some n))
+pub file_report : (shows : Bool) (held : Option (List ℕ)) (remaining new : Supply) (size : Option ℕ) (r : Report)
+    → (shows ≡ true → (is_some held ≡ true) × (remaining.left ≡ held)) → (shows ≡ true → IfSome size (λ n. option_map length remaining.left ≡ Some n))
     → IsInspected size remaining new r → shows ≡ true → IsReportOf held r
 file_report shows None remaining new size r found sized is shown = absurd (true≢false (sym (found shown).0))
 file_report shows (Some bytes) remaining new size r found sized is shown =
     let same = (found shown).1 in
-    (bytes, refl, is.whole bytes same (size_is size bytes remaining same (sized shown)))
+    (bytes, refl, is.whole bytes same (size_is size bytes remaining.left same (sized shown)))
 
-pub to_end_all : (size : Option ℕ) (old new : Option (List ℕ)) (x : Result Report FileFault) → size ≡ None → IfOk x (Inspects old new)
+pub to_end_all : (size : Option ℕ) (old new : Supply) (x : Result Report FileFault) → size ≡ None → IfOk x (Inspects old new)
     → IfOk x (IsInspected size old new)
 to_end_all size old new (Ok r) none is = subst (λ (o : Option ℕ). IsInspected o old new r) (sym none) (to_end_so old new r is)
 to_end_all size old new (Err f) none is = tt
 
-pub sized_all : (size : Option ℕ) (n : ℕ) (old new : Option (List ℕ)) (x : Result Report FileFault) → size ≡ Some n
-    → ((bytes : List ℕ) → old ≡ Some bytes → n ≡ length bytes → IfOk x (IsReport bytes)) → IfOk x (IsInspected size old new)
+pub sized_all : (size : Option ℕ) (n : ℕ) (old new : Supply) (x : Result Report FileFault) → size ≡ Some n
+    → ((bytes : List ℕ) → old.left ≡ Some bytes → n ≡ length bytes → IfOk x (IsReport bytes)) → IfOk x (IsInspected size old new)
 sized_all size n old new (Ok r) is whole = subst (λ (o : Option ℕ). IsInspected o old new r) (sym is) (record { to_end = tt; whole = whole })
 sized_all size n old new (Err f) is whole = tt
 

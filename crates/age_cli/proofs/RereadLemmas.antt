@@ -91,7 +91,7 @@ module _ (IsPorts : Ports → Type 0) (shows : Bool) (d : Decrypting) (i : Ident
     At keep run p = DecryptStops keep (allows_by i) (refuses_by i) before after run (stopped_at s p)
 
     found_so : (run : Option Run) (p : Position) (settled : ℕ) → FindsKey run (Some key) → DecryptStops Dropped (allows_by i) (refuses_by i) before after run s
-        → HoldsInput d before old → IsSomeAnd after.sink.taken (λ bytes. settled ≡ length bytes)
+        → HoldsInput d before old → IsSomeAnd after.sink.taken.contents (λ bytes. settled ≡ length bytes)
         → IsFoundIn None (old.entries d.from.now) key (min s.written settled) p → At Kept run p
     found_so None p settled finds stops holds all found = absurd (none-some key (sym finds))
     found_so (Some r) p settled finds stops holds all found =

@@ -107,7 +107,7 @@ module _ (IsPorts : Ports → Type 0) (shows : Bool) (d : Decrypting) (i : Ident
     Here run = StandsAt (allows_by i) from (resume_ports before first) (resume_ports after last) Dropped (refuses_by i) run (Err s) (InPayload key)
 
     found_so : (run : Option Run) (p : Position) (settled : ℕ) → Here run → Dropping run → HoldsInput d before old
-        → IsSomeAnd after.sink.taken (λ bytes. settled ≡ length bytes)
+        → IsSomeAnd after.sink.taken.contents (λ bytes. settled ≡ length bytes)
         → IsFoundIn (start_of settled (Some from)) (old.entries d.from.now) key (min s.written settled) p → At Kept run p
     found_so None p settled stands stops holds all found = absurd stands
     found_so (Some r) p settled stands stops holds all found =

@@ -1,7 +1,8 @@
 -- What an output holds for certain, if contracts see it: all that was written.
 use Rattle.std.proofs.Common.{◌≡◌, ◌∙◌, ◌≤◌, ◌*◌, ◌++◌, ℕ, List, [], length, Option, Some, None, Bool, true, false, Result, Ok, Err, IfErr, subst, ap, arith, sym, refl, true≢false, rules}
 use Rattle.std.specs.Prelude.{IfSome, IsSomeAnd, min, nat_lt, if◌then◌else◌}
-use Rattle.std.specs.Io.KnownBytes.{Appends}
+use Rattle.std.specs.Io.KnownBytes as known
+use Rattle.age_io.specs.Taken.{Taken, Appends}
 use Rattle.std.proofs.Math.Nat.{min-eq_left}
 use Rattle.std.proofs.lemmas.List.{length-append}
 use Rattle.std.proofs.lemmas.Option.{none-some}
@@ -13,14 +14,16 @@ use Rattle.age_cli.specs.inner.Endings.{IsBeyond}
 use Rattle.age_cli.specs.inner.Rereadings.{start_of}
 
 -- it is as long as what was written
-pub at_least : (before after : Option (List ℕ)) (text : List ℕ) (settled : ℕ) → before ≡ Some [] → Appends before after text
-    → IsSomeAnd after (λ bytes. settled ≡ length bytes) → length text ≤ settled
-at_least None after text settled empty wrote all = absurd (none-some [] empty)
-at_least (Some xs) None text settled empty wrote all = absurd wrote
-at_least (Some xs) (Some ys) text settled empty wrote all = omega (arith, all, ap length wrote, length-append xs text)
+pub at_least : (before after : Taken) (text : List ℕ) (settled : ℕ) → before.contents ≡ Some [] → Appends before after text
+    → IsSomeAnd after.contents (λ bytes. settled ≡ length bytes) → length text ≤ settled
+at_least before after text settled empty wrote all = least before.contents after.contents empty wrote.contents all where
+  least : (a b : Option (List ℕ)) → a ≡ Some [] → known.Appends a b text → IsSomeAnd b (λ bytes. settled ≡ length bytes) → length text ≤ settled
+  least None b empty wrote all = absurd (none-some [] empty)
+  least (Some xs) None empty wrote all = absurd wrote
+  least (Some xs) (Some ys) empty wrote all = omega (arith, all, ap length wrote, length-append xs text)
 
-pub all_written : (before after : Option (List ℕ)) (text : List ℕ) (written settled : ℕ) → before ≡ Some [] → Appends before after text
-    → written ≡ length text → IsSomeAnd after (λ bytes. settled ≡ length bytes) → min written settled ≡ written
+pub all_written : (before after : Taken) (text : List ℕ) (written settled : ℕ) → before.contents ≡ Some [] → Appends before after text
+    → written ≡ length text → IsSomeAnd after.contents (λ bytes. settled ≡ length bytes) → min written settled ≡ written
 all_written before after text written settled empty wrote count all =
     let most = at_least before after text settled empty wrote all in
     min-eq_left (omega (arith, most, count))

@@ -1,7 +1,7 @@
 //! The command that reports what a file holds.
 
 ghost use Rattle.std.specs.Prelude.{◌≡◌, ◌⊎◌, [], ◌∷◌, ◌++◌, true, IfOk, OnOk, IfErr, IfSome, Some, option_map, length};
-ghost use Rattle.std.specs.Io.KnownBytes.{Appends};
+ghost use Rattle.age_io.specs.Taken.{Appends};
 ghost use Rattle.age_file.specs.Runs.{HeadFails, NoHeadFault};
 ghost use Rattle.age_file.specs.declared.report.Report.{Report};
 ghost use Rattle.age_command.specs.declared.ending.Ending.TheVariants.{Fault};
@@ -69,7 +69,7 @@ fn report_as<I: Source, O: Sink>(
     ensures done { OnOk result ((r : Report)
         × IsInspected length (I.view input.old).remaining (I.view input.new).remaining r
         × Appends (O.view output.old).taken (O.view output.new).taken (report_text r)) }
-    ensures fails { IfErr result (FailsReport (I.view input.old).remaining) }
+    ensures fails { IfErr result (FailsReport (I.view input.old).remaining.left) }
     ensures sent { OnOk result ((O.view output.new).settled ≡ true) }
     ensures unprinted { IfErr result (λ e. FailsWriting (O.view output.old) (O.view output.new) e
         ⊎ (output.new ≡ output.old)) }
@@ -101,7 +101,7 @@ pub(crate) fn report<I: Source, O: Sink>(
 /// How long an input is, if that can be believed: a file of no length may give bytes, as in /proc.
 fn known_length<F: FileSet>(files: &F, source: &F::In) -> Option<u64>
     ensures { F.shows_bytes ≡ true
-        → IfSome result (λ n. option_map length (F.In.view source.now).remaining ≡ Some n) }
+        → IfSome result (λ n. option_map length (F.In.view source.now).remaining.left ≡ Some n) }
 {
     match files.length(source) {
         Some(len) if len > 0 => Some(len),

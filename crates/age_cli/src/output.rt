@@ -68,8 +68,9 @@ fn make_out<F: FileSet>(
 ) -> Result<F::Out, OpenFault>
     ensures kept { (F.view files.new).entries ≡ (F.view files.old).entries }
     ensures made { IfOk result (λ o. F.shows_bytes ≡ true
-        → ((F.Out.view o).taken ≡ Some []) × ((F.Out.view o).label ≡ asked.now.to.now)
+        → ((F.Out.view o).taken.contents ≡ Some []) × ((F.Out.view o).label ≡ asked.now.to.now)
         × IsFresh asked.now.clobber ((F.view files.old).entries asked.now.to.now)) }
+    ensures begun { IfOk result (λ o. (F.Out.view o).taken.bytes ≡ []) }
     ensures noted { (F.view files.new).events
         ≡ (F.view files.old).events ++ Created asked.now.to.now ∷ [] }
     ensures faults { IfErr result (OpenFails (F.shows_bytes) Write) }
@@ -213,7 +214,7 @@ fn settle_stop<F: FileSet>(
     ensures kept { F.view files.new ≡ F.view files.old }
     ensures same { F.Out.view out.new.out ≡ F.Out.view out.old.out }
     ensures all { is_some (option_text save.entry) ≡ true → OnErr engine.now
-        (IsCertain (F.shows_bytes) (F.Out.view out.old.out).taken result) }
+        (IsCertain (F.shows_bytes) (F.Out.view out.old.out).taken.contents result) }
 {
     if save.is_some() && engine.is_err() {
         out.settle(files, durability)

@@ -32,7 +32,7 @@ impl<F: FileSet> Taking<F> {
     pub(crate) fn settle(&mut self, files: &mut F, durability: Durability) -> u64
         ensures kept { F.view files.new ≡ F.view files.old }
         ensures same { F.Out.view self.new.out ≡ F.Out.view self.old.out }
-        ensures all { IsCertain (F.shows_bytes) (F.Out.view self.old.out).taken result }
+        ensures all { IsCertain (F.shows_bytes) (F.Out.view self.old.out).taken.contents result }
     {
         files.settle(&mut self.out, durability)
     }

@@ -43,7 +43,7 @@ Inspects old new r = (bytes : List ℕ) × Consumes old new bytes × IsAtEnd new
 
 -- The report of a source of this length, of which no more was read than its header and what one
 -- pull gives after that: the rest is what the length leaves.
-pub record InspectsFront (size : ℕ) (old new : Option (List ℕ)) (r : Report) : Type 0 where
+pub record InspectsFront (size : ℕ) (old new : Supply) (r : Report) : Type 0 where
   pub h : Header
   pub front : List ℕ
   pub more : List ℕ

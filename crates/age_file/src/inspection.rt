@@ -121,7 +121,7 @@ pub fn inspect_sized<S: Source>(
 ) -> Result<Report, FileFault>
     ensures ok { IfOk result (InspectsFront len (S.view source.old).remaining
         (S.view source.new).remaining) }
-    ensures whole { (bytes : List ℕ) → (S.view source.old).remaining ≡ Some bytes
+    ensures whole { (bytes : List ℕ) → (S.view source.old).remaining.left ≡ Some bytes
         → len ≡ length bytes → IfOk result (IsReport bytes) }
     ensures unfailed { OnOk result ((S.view source.new).failed ≡ (S.view source.old).failed) }
     // When each fault comes.

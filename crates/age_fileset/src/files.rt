@@ -151,7 +151,8 @@ pub trait FileSet {
     fn create_new(&mut self, alloc: Global, name: &str) -> Result<Self::Out, OpenFault>
         ensures kept { (view self.new).entries ≡ (view self.old).entries }
         ensures made { IfOk result (λ o. shows_bytes ≡ true
-            → ((Self.Out.view o).taken ≡ Some []) × ((Self.Out.view o).label ≡ name.now)) }
+            → ((Self.Out.view o).taken.contents ≡ Some []) × ((Self.Out.view o).label ≡ name.now)) }
+        ensures begun { IfOk result (λ o. (Self.Out.view o).taken.bytes ≡ []) }
         ensures absent { OnOk result (shows_bytes ≡ true → (view self.old).entries name.now ≡ None) }
         ensures noted { (view self.new).events ≡ (view self.old).events ++ Created name.now ∷ [] }
         ensures faults { IfErr result (OpenFails shows_bytes FileFault.Write) };
@@ -177,9 +178,9 @@ pub trait FileSet {
     fn settle(&mut self, out: &mut Self::Out, durability: Durability) -> u64
         ensures kept { view self.new ≡ view self.old }
         ensures same { Self.Out.view out.new ≡ Self.Out.view out.old }
-        ensures most { IfSome (Self.Out.view out.old).taken (λ taken. result ≤ length taken) }
+        ensures most { IfSome (Self.Out.view out.old).taken.contents (λ taken. result ≤ length taken) }
         ensures shown { shows_bytes ≡ true
-            → IfSome (Self.Out.view out.old).taken (λ taken. result ≡ length taken) };
+            → IfSome (Self.Out.view out.old).taken.contents (λ taken. result ≡ length taken) };
 
     /// Ends a file that was created, with exactly the bytes that its sink took, in place of what it
     /// held, and waits until they have reached the disk if that is asked for and the machine can

@@ -27,15 +27,9 @@ fn fault_in(line: &str) -> Option<Reported> {
     }
 }
 
-<<<<<<< HEAD
-/// Says on standard error what the machine answered, if that is why a run stopped, or which file the
-/// fault is about; whether a position was saved; which files were one; and what is wrong with a file
-/// that was refused. Then it says what to do.
-=======
-/// Says on standard error which file became shorter while it was read; what the machine answered,
-/// if that is why a run stopped; which files were one; and what is wrong with a file that was
-/// refused. At a terminal it adds what to do.
->>>>>>> 35e351c4 (Rows for closing, waits, room for a position and disks that fail; a file that became shorter is named)
+/// Says on standard error which file became shorter while it was read; what the machine answered, if
+/// that is why a run stopped, or which file the fault is about; whether a position was saved; which
+/// files were one; and what is wrong with a file that was refused. Then it says what to do.
 pub fn explain<O: Sink>(rt: &HostRuntime, heard: &Heard<O>, failures: &Failures<'_>) {
     if let Some(name) = failures.cut_off() {
         let name = Escaped(name.as_bytes());

@@ -150,11 +150,8 @@ pub struct Failures<'w> {
     saved: Cell<Option<&'w str>>,
     twice: Cell<Option<Twice<'w>>>,
     last_read: Cell<Amount<'w>>,
-<<<<<<< HEAD
     output: Cell<Option<&'w str>>,
-=======
     cut_off: Cell<Option<&'w str>>,
->>>>>>> 35e351c4 (Rows for closing, waits, room for a position and disks that fail; a file that became shorter is named)
 }
 
 impl<'w> Failures<'w> {
@@ -167,11 +164,8 @@ impl<'w> Failures<'w> {
             saved: Cell::new(None),
             twice: Cell::new(None),
             last_read: Cell::new(Amount { name: "", bytes: 0 }),
-<<<<<<< HEAD
             output: Cell::new(None),
-=======
             cut_off: Cell::new(None),
->>>>>>> 35e351c4 (Rows for closing, waits, room for a position and disks that fail; a file that became shorter is named)
         }
     }
 

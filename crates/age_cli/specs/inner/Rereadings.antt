@@ -62,7 +62,7 @@ module _ (shows : Bool) (d : Decrypting) (sink : SinkView) (from : Option Positi
       ⊎ ((p : Position) → ConcludesAt p)
 
   abbrev pub ConcludesAgain : Type 0
-  ConcludesAgain = (settled : ℕ) × IsCertain shows sink.taken settled × ConcludesFound settled
+  ConcludesAgain = (settled : ℕ) × IsCertain shows sink.taken.contents settled × ConcludesFound settled
 
 -- OUT was ended after a decryption that ended so, and the position of a stop was saved: the one that
 -- it has, or, of a stop and a key by which the input is read once more, one that is found so
@@ -89,7 +89,7 @@ pub record HoldsInput (d : Decrypting) (before : Ports) (old : FilesView) : Type
   pub there : is_some (old.entries d.from.now) ≡ true
   pub gives : before.source.remaining.left ≡ old.entries d.from.now
   pub other : d.from.now ≢ before.sink.label
-  pub empty : before.sink.taken ≡ Some []
+  pub empty : before.sink.taken.contents ≡ Some []
 
 -- What was opened was decrypted, and OUT was ended. `decrypted` is how it ended; of a stop, it has
 -- the position that is saved, if contracts see the files and IN and OUT are two of them.

@@ -1,6 +1,6 @@
 use Rattle.std.proofs.Common.{◌≡◌, ◌++◌, ◌∙◌, ℕ, List, rules}
 use Rattle.std.proofs.lemmas.Result.{err_from_is_err_and}
-use Rattle.std.specs.Io.KnownBytes.{Consumes}
+use Rattle.age_io.specs.Supply.{Consumes}
 use Rattle.age_file.specs.Runs.{InHeader, StopsAtHeader, HeadFails}
 use Rattle.age_file.proofs.ByteLemmas.{stops_unread}
 use Rattle.age_file.proofs.ReaderLemmas.{read_last}
