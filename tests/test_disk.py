@@ -257,7 +257,7 @@ class DiskTest(FilesCase):
         for name in ("a full file system", "a full file system, and an old position"):
             self.remove("small/out")
             self.expect(1, said, "decrypt --pass pass --save small/saved age small/out", name)
-            self.see(f"{name}: a position", self.is_position("small/saved", 1) and not self.is_there("small/saved.new-0"))
+            self.see(f"{name}: a position", self.is_position("small/saved", 2) and not self.is_there("small/saved.new-0"))
         words = "resume --position small/saved --old small/out --pass pass age whole"
         self.expect(0, b"", words, "resumed after a full file system")
         self.see("resumed after a full file system: the text", self.read("whole") == PLAIN)
