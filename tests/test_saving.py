@@ -118,6 +118,24 @@ class SavingTest(FilesCase):
             self.see(f"{name}: the first one's", self.is_position("saved", 1))
             self.see(f"{name}: nothing is left beside it", not list(self.room.glob("saved.new-*")))
 
+    # ---- what OUT holds for certain
+
+    @needs("cc")
+    def test_unsettled(self):
+        """A position doesn't point beyond what OUT is known to hold: what was there at the last wait for the disk that went well."""
+        failing = {"FSYNC": errno.EIO, "ONLY": "out"}
+        self.expect(1, chunk_fault(2), "decrypt --pass pass --save saved cut out", "no wait went well", failing)
+        self.see("no wait went well: from the start", self.is_position("saved", 0))
+        self.expect(1, chunk_fault(2), "decrypt --no-sync --pass pass --save saved cut out", "no wait is asked for", failing)
+        self.see("no wait is asked for: all that was written", self.is_position("saved", 2))
+        self.write("plain", bytes(40 << 20))
+        self.expect(0, b"", "encrypt --pass pass --log 4 plain age")
+        said = unwritten("out", errno.EIO)
+        self.expect(1, said, "decrypt --pass pass --save saved age out", "the second wait fails", failing | {"FROM": 2})
+        self.see("the second wait fails: what the first one saw", self.is_position("saved", 256))
+        self.expect(0, b"", "resume --position saved --old out --pass pass age whole", "resumed after a wait that failed")
+        self.see("resumed after a wait that failed: the text", self.read("whole") == bytes(40 << 20))
+
     # ---- room for a position
 
     def test_room(self):

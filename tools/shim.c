@@ -3,8 +3,8 @@
  * REFUSED: that allocation fails, counted from 1; with ON all after it too. COUNT names a file that is made then.
  *
  * FSYNC, FTRUNCATE, FLOCK, RENAME, LINK, SEEK (to a place in a file), REREAD (a read after that) and WRITE (from write number AT on):
- * these fail with that error. ONLY says of which kind of file FSYNC fails: d, f or b; or 1, standard output alone. Each call number
- * EVERY of read and write is interrupted.
+ * these fail with that error. ONLY says of which kind of file FSYNC fails: d, f or b; or 1, standard output alone, or out, the file of
+ * that name. FROM: it fails from that call on. Each call number EVERY of read and write is interrupted.
  *
  * SWAP: `folder` leads to `other` before that write to a place in a file. PIPED: before that open of `saved` to be written a pipe takes
  * its place. GONE: `out` is removed before it is opened to be written. TRIGGER names a file that gets a 1 before the first sync. SYNCED names one that gets a line for each file that is synced.
@@ -66,16 +66,21 @@ static int is_interrupted(long *count) {
     errno = EINTR;
     return 1;
 }
+static int ends_in(const char *path, const char *end) {
+    size_t n = strlen(path), m = strlen(end);
+    return n >= m && !strcmp(path + n - m, end);
+}
 static int is_meant(int fd) {
     const char *only = getenv("ONLY");
     struct stat it;
     if (only && *only == '1') return fd == 1;
+    if (only && *only == 'o') {
+        char link[64], path[PATH_MAX + 1] = "";
+        snprintf(link, sizeof link, "/proc/self/fd/%d", fd);
+        return readlink(link, path, PATH_MAX) > 0 && ends_in(path, "/out");
+    }
     if (!only || fstat(fd, &it)) return 1;
     return (S_ISDIR(it.st_mode) && *only == 'd') || (S_ISREG(it.st_mode) && *only == 'f') || (S_ISBLK(it.st_mode) && *only == 'b');
-}
-static int ends_in(const char *path, const char *end) {
-    size_t n = strlen(path), m = strlen(end);
-    return n >= m && !strcmp(path + n - m, end);
 }
 static void swap(void) {
     static long count;
@@ -222,7 +227,8 @@ static int synced(int fd, int ended) {
 int fsync(int fd) {
     trigger();
     list(fd);
-    return is_meant(fd) && fails("FSYNC") ? -1 : synced(fd, NEXT(fsync)(fd));
+    static long count;
+    return is_meant(fd) && ++count >= number("FROM") && fails("FSYNC") ? -1 : synced(fd, NEXT(fsync)(fd));
 }
 int fdatasync(int fd) { return synced(fd, NEXT(fdatasync)(fd)); }
 
