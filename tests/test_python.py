@@ -2,6 +2,7 @@
 secrets, what an argument may be, its types and names, where it finds the library, and files that are read at any place."""
 import contextlib
 import io
+import mmap
 import os
 import pickle
 import pydoc
@@ -396,6 +397,87 @@ class PythonTest(BindingsCase):
                     with agefile.open(io.BytesIO(data), identity=agefile._keys.identities_in(keys[-1]), random_access=any_place) as file:
                         self.see(f"a file of age of {length} bytes for {count}", file.read() == text)
 
+    def test_unlike_files(self):
+        """Sources that can seek but have no `seekable`, or whose seek returns nothing, that overstate their length, and that lie."""
+        text = random.Random(9).randbytes(200_000)
+        data = self.sealed(text)
+
+        class Bare:
+            """A file with nothing but what it has to have."""
+            def __init__(self, more=0):
+                self.held, self.more = io.BytesIO(data), more
+
+            def read(self, size):
+                return self.held.read(size)
+
+            def seek(self, offset, whence=0):
+                self.held.seek(offset + self.more * (whence == 2), whence)
+
+            def tell(self):
+                return self.held.tell()
+
+        with mmap.mmap(-1, len(data)) as mapped:
+            mapped[:] = data
+            for what, under in (("a file with read, seek and tell", Bare()), ("an mmap", mapped), ("one that says it is a byte longer", Bare(1)),
+                                ("one that says it is 16 bytes longer", Bare(16))):
+                with agefile.open(under, file_key=KEY, random_access=True) as file:
+                    self.see(what, file.size == 200_000 and file.seek(-10, 2) == 199_990 and file.read() == text[-10:] and file.seek(0) == 0
+                             and file.read() == text)
+
+        class Lies(io.BytesIO):
+            read1 = None
+
+            def read(self, size):
+                return super().read(size + 1)
+
+        class Awaited(io.BytesIO):
+            read1 = None
+
+            async def read(self, size):
+                return b""
+
+        class Overfull(io.BytesIO):
+            def readinto(self, room):
+                return super().readinto(room) + 1
+
+        self.see("a read of too many bytes", isinstance(fault_of(agefile.open, Lies(data), file_key=KEY), OSError))
+        fault = fault_of(agefile.open, Awaited(data), file_key=KEY)
+        self.see("a read that returns no bytes", isinstance(fault, TypeError) and "coroutine" in str(fault), fault)
+        long = self.sealed(bytes(200_000))
+        fault = fault_of(lambda: agefile.open(Overfull(long), file_key=KEY).read())
+        self.see("a readinto of too many bytes", isinstance(fault, OSError), fault)
+
+    def test_requests(self):
+        """A long read asks its source for many blocks at once, and a short one for one."""
+        class Asked(io.BytesIO):
+            def readinto(self, room):
+                asked.append(len(room))
+                return super().readinto(room)
+
+        text = random.Random(9).randbytes(6_000_000)
+        under = Asked(self.sealed(text))
+        for size in (10, 5_000_000, -1):
+            for into in (False, True):
+                asked = []
+                with self.at_any_place(under) as file:
+                    asked.clear()
+                    file.seek(70_000)
+                    got = bytearray(size if size > 0 else 6_000_000) if into else b""
+                    got = got[:file.readinto(got)] if into else file.read(size)
+                    self.see(f"a read of {size}, into {into}", got == text[70_000:][:size if size > 0 else None])
+                    self.see(f"{len(asked)} requests for {size}, into {into}", len(asked) <= (2 if size == 10 else 4), asked)
+                under.seek(0)
+
+    def test_attributes(self):
+        """What a file that is opened by its name says of itself."""
+        path = self.path("named.age")
+        with agefile.open(path, "wb", passphrase="pw", work=1) as file:
+            self.see("a writer's name", (file.name, file.mode) == (path, "wb") or (file.name, file.mode) == (str(path), "wb"), file.name)
+            file.write(b"text")
+        with agefile.open(path, passphrase="pw", random_access=True) as file:
+            self.see("a reader's name", (str(file.name), file.mode, file.size) == (str(path), "rb", 4) and isinstance(file, io.BufferedIOBase))
+            self.see("a reader is no io.BufferedReader", not isinstance(file, io.BufferedReader))
+
     def at_any_place(self, file):
         return agefile.open(file, file_key=KEY, random_access=True)
 
@@ -404,12 +486,11 @@ class PythonTest(BindingsCase):
         for length in (0, 1, 65_535, 65_536, 65_537, 131_072, 200_000):
             text = random.Random(length).randbytes(length)
             data = self.sealed(text)
-            for raw in (False, True):
+            for any_place in (True, False):
                 under = io.BytesIO(b"in front" + data)
                 under.seek(8)
-                opened = self.at_any_place(under)
-                wrong = self.differences(opened.raw if raw else opened, io.BytesIO(text), length)
-                self.see(f"{length} bytes at any place, raw {raw}: {wrong[:3]}", wrong == [])
+                wrong = self.differences(agefile.open(under, file_key=KEY, random_access=any_place), io.BytesIO(text), length)
+                self.see(f"{length} bytes, at any place {any_place}: {wrong[:3]}", wrong == [])
 
     def differences(self, file, memory, length, turns=120):
         rnd, wrong = random.Random(length), []
@@ -496,7 +577,7 @@ class PythonTest(BindingsCase):
                     one.seek(place)
                     got = one.read(5_000)
                 found.append(got == text[place:place + 5_000])
-                one.raw.tell()
+                one.tell()
 
         threads = [threading.Thread(target=reads, args=(it,)) for it in range(4)]
         for it in threads:

@@ -1,11 +1,13 @@
 """Tries the file objects of the Python module: what they seal, seeks, sources that fail, that don't block or come in pieces, writers that
 nobody closes, what is left after close, threads, and calls from inside a call."""
 import contextlib
+import copy
 import csv
 import gc
 import io
 import os
 import pickle
+import random
 import shutil
 import signal
 import sys
@@ -53,6 +55,13 @@ class Halting(io.RawIOBase):
         return self.held.readinto(memoryview(room)[:self.size])
 
 
+class Kept(io.BytesIO):
+    """Bytes that stay when they are closed."""
+
+    def close(self):
+        pass
+
+
 def by_pieces(data, size, buffering, word):
     """The fault and the text of a file that comes through such a pipe."""
     text = b""
@@ -98,10 +107,40 @@ WAYS = {
     "a large read": lambda file: file.read(1 << 30), "read1": lambda file: b"".join(loop(lambda: file.read1(9_000))),
     "readline": lambda file: b"".join(loop(file.readline)), "lines": lambda file: b"".join(file), "readlines": lambda file: b"".join(file.readlines()),
     "readinto": lambda file: readinto_loop(file.readinto, bytearray(9_000)), "readinto1": lambda file: readinto_loop(file.readinto1, bytearray(9_000)),
-    "a raw read": lambda file: b"".join(loop(lambda: file.raw.read(9_000))), "a raw readall": lambda file: file.raw.readall(), "copyfileobj": copied,
+    "peek": lambda file: b"".join(loop(lambda: file.read(len(file.peek(5_000))))), "copyfileobj": copied,
     "text": lambda file: io.TextIOWrapper(file, newline="").read().encode(),
     "lines of text": lambda file: "".join(io.TextIOWrapper(file, newline="")).encode(), "csv": by_csv,
 }
+
+
+class Interruption(BaseException):
+    """What a signal's handler raises."""
+
+
+def interrupted_at(turn, folder, call):
+    """Makes a call, and raises at the place of this number, of those in a folder's code where Python runs handlers: where a function
+    begins, and where a call that it made returned. Whether there was such a place. (Where the outermost function has returned it is for
+    the caller to know.)"""
+    left, depth = turn, 0
+
+    def profile(frame, event, _):
+        nonlocal left, depth
+        here = frame.f_code.co_filename.startswith(folder)
+        depth += here * {"call": 1, "return": -1}.get(event, 0)
+        if here and (event in ("call", "c_return", "c_exception") or event == "return" and depth > 0):
+            left -= 1
+            if left == -1:
+                sys.setprofile(None)
+                raise Interruption
+
+    sys.setprofile(profile)
+    try:
+        call()
+    except Interruption:
+        return True
+    finally:
+        sys.setprofile(None)
+    return False
 
 
 def together(calls):
@@ -141,17 +180,14 @@ def two_writers(turn):
     return "" if (faults, fault, mixed, wrong) == ([], (0, None), 0, []) else f"{faults} {fault}, {mixed} mixed pieces, {wrong}"
 
 
-def readers(data, raw):
-    """The numbers, of 8 bytes each, that four threads read from one file."""
+def readers(data, any_place):
+    """The numbers, of 24 bytes each, that four threads read from one file. (Some lie in two chunks.)"""
     found = []
-    with agefile.open(io.BytesIO(data), file_key=KEY) as file:
-        shared = file.raw if raw else file
-
+    with agefile.open(io.BytesIO(data), file_key=KEY, random_access=any_place) as file:
         def reads():
-            while piece := shared.read(8):
+            while piece := file.read(24):
                 found.append(int.from_bytes(piece, "big"))
-                if raw:
-                    shared.tell()
+                file.tell()
 
         faults = together([reads] * 4)
     return faults or sorted(found)
@@ -337,6 +373,83 @@ class PythonFilesTest(BindingsCase):
         out.write = lambda piece: None
         self.see("a sink that takes nothing", raised(BlockingIOError, agefile.open, out, "wb", passphrase="pw", work=1))
 
+    def test_kept_pieces(self):
+        """A sink may keep what it is given, as a list of parts and another thread do."""
+        class Parts:
+            def __init__(self):
+                self.parts = []
+
+            def write(self, piece):
+                self.parts.append(piece)
+                return len(piece)
+
+        text, out = plain_of(300_000), Parts()
+        with agefile.open(out, "wb", passphrase="pw", work=1) as file:
+            for at in range(0, 300_000, 7_000):
+                file.write(text[at:at + 7_000])
+        self.see("a sink that keeps its parts", by_python(b"".join(out.parts), passphrase="pw") == ((0, None), text))
+        self.see("what a sink is given", {type(it) for it in out.parts} == {bytes})
+
+    def test_short_writes(self):
+        """Writes of any length, of any kind of bytes, are one text."""
+        rnd, out, text = random.Random(9), io.BytesIO(), b""
+        with agefile.open(out, "wb", passphrase="pw", work=1) as file:
+            for turn in range(400):
+                piece = rnd.randbytes(rnd.choice((0, 1, 100, 16_383, 16_384, 16_385, 70_000)))
+                file.write((bytes, bytearray, memoryview)[turn % 3](piece))
+                text += piece
+                if file.tell() != len(text):
+                    break
+            self.see("where a writer stands", file.tell() == len(text))
+        self.see("short and long writes", by_python(out.getvalue(), passphrase="pw") == ((0, None), text))
+
+    def test_second_close(self):
+        """A file that isn't whole since its close() failed is reported by each later close() too."""
+        class Full(io.BytesIO):
+            full = False
+
+            def write(self, piece):
+                if self.full:
+                    raise OSError(28, "No space left on device")
+                return super().write(piece)
+
+        for mode in ("wb", "wt"):
+            out = Full()
+            file = agefile.open(out, mode, passphrase="pw", work=1)
+            file.write(b"text" if mode == "wb" else "text")
+            out.full = True
+            found = [raised(OSError, file.close), raised(ValueError, file.close), raised(ValueError, file.close)]
+            self.see(f"close() of a file that isn't whole, {mode}", found == [True] * 3 and file.closed, found)
+
+    def test_copies(self):
+        """Open files are neither copied nor pickled, and a forked child can't touch its parent's file."""
+        text, path = plain_of(100_000), self.path("forked.age")
+        data = self.sealed(text)
+        out = agefile.open(path, "wb", passphrase="pw", work=1)
+        for file in (out, *(agefile.open(io.BytesIO(data), file_key=KEY, random_access=it) for it in (False, True))):
+            for call in (copy.copy, copy.deepcopy, pickle.dumps):
+                self.see(f"{call.__name__} of an {type(file).__name__}", raised(TypeError, call, file))
+        out.write(text[:70_000])
+        with warnings.catch_warnings():
+            warnings.simplefilter("ignore")  # a process with threads that is forked
+            child = os.fork()
+        if child == 0:
+            refused = [raised(ValueError, call) for call in (lambda: out.write(b"child"), out.flush, out.close)]
+            out.__del__()
+            os._exit(0 if refused == [True] * 3 else 1)
+        self.see("a forked child is refused", os.waitstatus_to_exitcode(os.waitpid(child, 0)[1]) == 0)
+        child = os.fork()
+        if child == 0:
+            try:
+                out.abandon()
+                del out
+            finally:
+                os._exit(0)
+        os.waitpid(child, 0)
+        out.write(text[70_000:])
+        out.close()
+        self.see("what the parent writes", by_python(path.read_bytes(), passphrase="pw") == ((0, None), text))
+
     def test_closed(self):
         """What io's classes refuse once they are closed."""
         data = self.sealed(b"text")
@@ -344,7 +457,7 @@ class PythonFilesTest(BindingsCase):
             for any_place in (False, True) if mode[0] == "r" else (False,):
                 keys = {"file_key": KEY, "random_access": any_place} if mode[0] == "r" else {"passphrase": "pw", "work": 1}
                 file = agefile.open(io.BytesIO(data), mode, **keys)
-                files = [file, *([file.raw] if mode == "rb" else [file.buffer] if mode[1] == "t" else [])]
+                files = [file, *([file.buffer] if mode[1] == "t" else [])]
                 file.close()
                 file.close()
                 for it in files:
@@ -363,13 +476,12 @@ class PythonFilesTest(BindingsCase):
         data = self.sealed(text)
         for any_place in (False, True):
             file = agefile.open(io.BytesIO(data), file_key=KEY, random_access=any_place)
-            raw = file.raw
             file.seek(70_000)
             file.read(10)
-            held = [raw._stream, raw._begun, raw._text.held]
-            self.see("the key is held while the file is open", KEY in bytes(held[0]) and KEY in bytes(held[1]))
+            file._chunk = held = Kept(file._chunk.getvalue())
+            self.see("the key is held while the file is open", KEY in bytes(file._state) and held.getvalue() == text[65_536:])
             file.close()
-            self.see("the key is held after close", not any(any(bytes(it)) for it in held))
+            self.see("the key is held after close", not any(bytes(file._state)) and not any(held.getvalue()))
         kept, os.urandom = os.urandom, lambda n: RANDOM[:n]
         for left in (False, True):
             file = agefile.open(io.BytesIO(), "wb", passphrase="pw", work=1)
@@ -418,10 +530,11 @@ class PythonFilesTest(BindingsCase):
             (ValueError, (-1,)), (ValueError, (-200, 1)), (ValueError, (-200_001, 2)), (ValueError, (0, 3)), (ValueError, (0, -1)), (TypeError, (1.5,)),
             (BlockingIOError, (150_000,)), (BlockingIOError, (0, 2)), (OSError, (150_000,)),
         ):
-            for buffered in (True, False):
+            for any_place in (False, True):
+                if any_place and kind in (BlockingIOError, OSError):
+                    continue  # such a seek reads nothing
                 under = Halting(data)
-                file = agefile.open(under, file_key=KEY)
-                file = file if buffered else file.detach()
+                file = agefile.open(under, file_key=KEY, random_access=any_place)
                 begin = file.read(100)
                 if kind in (BlockingIOError, OSError):
                     under.left, under.stops, under.stop = 2, 1, OSError("once") if kind is OSError else None
@@ -447,24 +560,47 @@ class PythonFilesTest(BindingsCase):
                     raise OSError("once")
                 return place
 
-        kept = agefile._library.C.age_c_seek
+        under = Moving(data)
+        file = agefile.open(under, file_key=KEY)
+        file.seek(100_000)
+        self.see("a read before the seek", file.read(10) == text[100_000:100_010])
+        under.fails = True
+        self.see("a seek that is interrupted", raised(OSError, file.seek, 0) and file.tell() == 100_010)
+        self.see("what follows it", file.read() == text[100_010:])
 
-        def interrupted(*words):
-            agefile._library.C.age_c_seek = kept
-            kept(*words)
-            raise KeyboardInterrupt
-
+    def test_interrupted_anywhere(self):
+        """An exception at each place where Python lets a signal's handler run, in each call that moves a file: it stands where it stood,
+        and a seek to a known place reads the right text, or what is read without one is an exception."""
+        text = plain_of(200_000)
+        data = self.sealed(text)
+        package = str(bindings.PYTHON / "agefile")
+        calls = {
+            "read": (lambda file: file.read(100_000), 0), "a short read": (lambda file: file.read(10), 0), "read1": (lambda file: file.read1(), 0),
+            "readinto": (lambda file: file.readinto(bytearray(70_000)), 0), "readline": (lambda file: file.readline(), 0),
+            "seek on": (lambda file: file.seek(150_000), 150_000), "seek back": (lambda file: file.seek(10), 10),
+            "seek within a chunk": (lambda file: file.seek(70_001), 70_001), "seek to the end": (lambda file: file.seek(0, 2), 200_000),
+        }
         for any_place in (False, True):
-            under = Moving(data)
-            file = agefile.open(under, file_key=KEY, random_access=any_place).detach()
-            file.seek(100_000)
-            self.see("a read before the seek", file.read(10) == text[100_000:100_010])
-            if any_place:
-                agefile._library.C.age_c_seek = interrupted
-            else:
-                under.fails = True
-            self.see("a seek that is interrupted", raised((OSError, KeyboardInterrupt), file.seek, 0) and file.tell() == 100_010)
-            self.see("what follows it", file.read() == text[100_010:])
+            for what, (call, _) in calls.items():
+                turn, wrong = 0, []
+                while turn < 400:
+                    file = agefile.open(io.BytesIO(data), file_key=KEY, random_access=any_place)
+                    file.seek(70_000)
+                    file.read(5)
+                    if not interrupted_at(turn, package, lambda: call(file)):
+                        break
+                    if file.tell() != 70_005:
+                        wrong.append((turn, "place", file.tell()))
+                    try:
+                        got = file.read(3)
+                        wrong += [(turn, "text", got)] if got != text[70_005:70_008] else []
+                    except OSError:
+                        pass
+                    for place in (66_000, 100, 131_000):
+                        if file.seek(place) != place or file.read(70_000) != text[place:place + 70_000] or file.tell() != min(place + 70_000, 200_000):
+                            wrong.append((turn, "after a seek", place))
+                    turn += 1
+                self.see(f"{what}, at any place {any_place}: {turn} interruptions", wrong == [] and turn > 3, wrong[:5])
 
     def test_waiting(self):
         """A source that doesn't block: what isn't there yet is neither the end nor a fault."""
@@ -476,10 +612,9 @@ class PythonFilesTest(BindingsCase):
                     wanted = fault, text[:65_536] if fault == 17 else b"" if fault else text
                     name = f"a pipe that doesn't block, {what}, pieces of {size}, buffering {buffering}"
                     self.see(name, by_pieces(sent, size, buffering, word) == wanted)
-        for buffered in (True, False):
+        for any_place in (False, True):
             under = Halting(data, 10)
-            file = agefile.open(under, file_key=KEY)
-            file = file if buffered else file.detach()
+            file = agefile.open(under, file_key=KEY, random_access=any_place)
             under.left, under.stops = 50, 1
             self.see("no bytes yet, and nothing to wait for", raised(BlockingIOError, file.read, 10) and raised(OSError, file.read, 10))
             self.see("a seek after that", file.seek(0) == 0 and file.read() == text)
@@ -507,7 +642,7 @@ class PythonFilesTest(BindingsCase):
                     file = agefile.open(under, file_key=KEY)
                     under.left, under.stops, under.stop = after, 1, kind and kind("once")
                     found = [raised((kind or BlockingIOError, OSError), read, file)]
-                    found += [raised(OSError, call) for call in (lambda: file.read(1), file.readline, file.raw.read) if not file.closed]
+                    found += [raised(OSError, call) for call in (lambda: file.read(1), file.readline, file.read1, file.peek) if not file.closed]
                     self.see(f"{what} of a source that fails once with {kind}", found and all(found), found)
                     if not file.closed:
                         self.see(f"{what} again, after a seek", file.seek(0) == 0 and read(file) == text)
@@ -542,9 +677,9 @@ class ThreadsTest(BindingsCase):
         for turn in range(12):
             found = two_writers(turn)
             self.see(f"threads that write, {turn}", found == "", found)
-        data = self.sealed(b"".join(number.to_bytes(8, "big") for number in range(25_000)))
-        for raw in (True, False):
-            self.see(f"threads that read, raw {raw}", readers(data, raw) == list(range(25_000)))
+        data = self.sealed(b"".join(number.to_bytes(24, "big") for number in range(15_000)))
+        for any_place in (True, False):
+            self.see(f"threads that read, at any place {any_place}", readers(data, any_place) == list(range(15_000)))
 
     def test_reentered(self):
         """A call from inside another one on the same file, as a signal's handler may make it, is refused."""

@@ -21,9 +21,9 @@ read() that runs into a damaged chunk returns nothing of what comes before it; r
 of that first.
 
 A read waits for bytes, even if the source doesn't block. BlockingIOError says that there is nothing
-to wait for: the source returned None, and has no fileno(). After an exception of the source, or one
-that interrupts a read, bytes may be lost. So each read raises OSError then, until a seek() to a
-place that you know. (A KeyboardInterrupt may also come between two reads: don't read on after it.)
+to wait for: the source returned None, and has no fileno(). After a read that failed or was
+interrupted, tell() says where it began; who called may have lost bytes. So each read raises OSError
+then, until a seek(). (A KeyboardInterrupt may also come between two reads: don't read on after it.)
 
 A file that can't seek can be read, but not sought in; in one that can, seek() reads on to the
 place, from the beginning if it lies before. After a seek that failed the file stands where it
@@ -36,10 +36,12 @@ The last chunk is opened first, so that the length is checked, and each byte tha
 then; what is passed over isn't. The file has to be one that can be sought in.
 
 Writing: the file is whole once close() returned. A `with` block that is left by an exception
-abandons it: it then ends in a way that every reader reports. So does one that is never closed. But
+abandons it: it then ends in a way that every reader reports. So does one that is never closed. If
+close() fails, each later one does too. But
 contextlib.closing, and an io.TextIOWrapper or io.BufferedWriter of your own over a writer, close it
 even after an exception: what was written until then is a whole file. A write that an exception
-interrupts makes the file one that can't be finished.
+interrupts makes the file one that can't be finished. What is written to gets bytes, and may keep
+them. A forked child can't go on with its parent's file.
 
 A file object that you pass in is left open. Threads may share a file; calls are serialized. Text
 ("rt", "wt") is for one thread at a time, as io.TextIOWrapper is. close() overwrites the key and the
@@ -57,7 +59,7 @@ from typing import Any, Iterable, Literal, Protocol, Union, overload
 from ._arguments import see_one, work_factor
 from ._file import AgeFile
 from ._keys import identities_in, identities_of
-from ._library import CHUNK, VERSION, AgeError, Damaged, OutOfMemory, Truncated, WrongKey
+from ._library import VERSION, AgeError, Damaged, OutOfMemory, Truncated, WrongKey
 from ._reader import AgeReader, opening_of
 from ._writer import AgeWriter, begun
 
@@ -80,12 +82,17 @@ class Source(Protocol):
 class Sink(Protocol):
     """A binary file object that is written to."""
 
-    def write(self, data: memoryview, /) -> int | None:
+    def write(self, data: bytes, /) -> int | None:
         ...
 
 
 class _Text(io.TextIOWrapper):
     """Text that an exception abandons, too."""
+
+    def close(self) -> None:
+        super().close()
+        if isinstance(self.buffer, AgeWriter):
+            self.buffer.close()  # which says so each time if the file isn't whole
 
     def __exit__(self, kind: type[BaseException] | None, value: BaseException | None, trace: TracebackType | None) -> None:
         if kind is not None and isinstance(self.buffer, AgeWriter):
@@ -108,7 +115,7 @@ class _Text(io.TextIOWrapper):
 def _opened(file: Any, mode: str) -> tuple[Any, bool]:
     """The file object, and whether it was opened here."""
     if isinstance(file, (str, bytes, os.PathLike)):
-        return builtins.open(file, mode + "b", buffering=0 if mode == "r" else -1), True
+        return builtins.open(file, mode + "b", buffering=0), True
     if isinstance(file, io.TextIOBase):
         raise TypeError("a file that is open as text: open it in binary mode")
     if not hasattr(file, "read" if mode == "r" else "write"):
@@ -119,7 +126,21 @@ def _opened(file: Any, mode: str) -> tuple[Any, bool]:
 @overload
 def open(file: Path | Source, mode: Literal["r", "rb"] = "rb", *, passphrase: str | bytes | None = None, file_key: bytes | None = None,
          shared: tuple[bytes, bytes] | None = None, identity: str | Iterable[str] | None = None, max_work: int = 22,
-         random_access: bool = False) -> io.BufferedReader:
+         random_access: Literal[False] = False) -> AgeReader:
+    ...
+
+
+@overload
+def open(file: Path | Source, mode: Literal["r", "rb"] = "rb", *, passphrase: str | bytes | None = None, file_key: bytes | None = None,
+         shared: tuple[bytes, bytes] | None = None, identity: str | Iterable[str] | None = None, max_work: int = 22,
+         random_access: Literal[True]) -> AgeFile:
+    ...
+
+
+@overload
+def open(file: Path | Source, mode: Literal["r", "rb"] = "rb", *, passphrase: str | bytes | None = None, file_key: bytes | None = None,
+         shared: tuple[bytes, bytes] | None = None, identity: str | Iterable[str] | None = None, max_work: int = 22,
+         random_access: bool = False) -> AgeReader:
     ...
 
 
@@ -142,10 +163,18 @@ def open(file: Path | Sink, mode: Literal["wt", "xt"], *, passphrase: str | byte
     ...
 
 
+@overload
+def open(file: Path | Source | Sink, mode: str, *, passphrase: str | bytes | None = None, file_key: bytes | None = None,
+         shared: tuple[bytes, bytes] | None = None, identity: str | Iterable[str] | None = None, work: int = 18, max_work: int = 22,
+         random_access: bool = False, encoding: str | None = None, errors: str | None = None,
+         newline: str | None = None) -> AgeReader | AgeWriter | io.TextIOWrapper:
+    ...
+
+
 def open(file: Path | Source | Sink, mode: str = "rb", *, passphrase: str | bytes | None = None, file_key: bytes | None = None,
          shared: tuple[bytes, bytes] | None = None, identity: str | Iterable[str] | None = None, work: int = 18, max_work: int = 22,
          random_access: bool = False, encoding: str | None = None, errors: str | None = None,
-         newline: str | None = None) -> io.BufferedReader | AgeWriter | io.TextIOWrapper:
+         newline: str | None = None) -> AgeReader | AgeWriter | io.TextIOWrapper:
     """Opens an age file, which is a path or a binary file object: "rb" to read it, "wb" (or "xb", which refuses a file that is there)
     to write it under a passphrase; "rt", "wt" and "xt" the same as text. A file object is left open.
 
@@ -177,7 +206,7 @@ def open(file: Path | Source | Sink, mode: str = "rb", *, passphrase: str | byte
     try:
         if beginning is None:
             kind = AgeFile if random_access else AgeReader
-            made = io.BufferedReader(kind(under, passphrase, file_key, shared, max_work, owned, identity), CHUNK)
+            made = kind(under, passphrase, file_key, shared, max_work, owned, identity)
         else:
             made = AgeWriter(under, beginning, owned)
         return _Text(made, encoding, errors, newline) if mode.endswith("t") else made

@@ -7,17 +7,21 @@ from typing import Any, Callable, TypeVar
 T = TypeVar("T")
 
 
+class Inside(RuntimeError):
+    """A call that was made inside another one, as a signal's handler may make it. It has changed nothing."""
+
+
 class OneCall:
     """Lets one call at a time work on a file, as BufferedWriter does: other threads wait, and a call from inside another one, such as a
     signal handler's, is refused. (Its thread may take the lock again: with another kind it would wait for itself.)"""
 
     def __init__(self) -> None:
-        self._lock, self._busy = threading.RLock(), False
+        self.lock, self._busy = threading.RLock(), False
 
     def make(self, call: Callable[..., T], *words: Any) -> T:
-        with self._lock:
+        with self.lock:
             if self._busy:
-                raise RuntimeError("a call on the file from inside another one")
+                raise Inside("a call on the file from inside another one")
             try:
                 self._busy = True
                 return call(*words)

@@ -5,8 +5,12 @@ import ctypes
 import io
 from typing import Any
 
-from ._library import BLOCK, CHUNK, PLACED, C, fault_of
+from . import _rooms
+from ._library import BLOCK, CHUNK, PLACED, Bytes, C, fault_of
 from ._reader import LOST, AgeReader
+from ._source import filled
+
+MOST = 64  # blocks that are read at once, if a call asks for so many: 4 MiB
 
 
 class AgeFile(AgeReader):
@@ -15,54 +19,94 @@ class AgeFile(AgeReader):
     between, by another reader of it, say."""
 
     def __init__(self, file: Any, *words: Any, **more: Any) -> None:
-        self._size = self._skip = 0
         super().__init__(file, *words, **more)
-        if not self.seekable():
+        self._rest = bytearray()
+        self._size = self._last = 0
+        self._until = 0  # the number after the last block that a call needs
+        self._ahead: tuple[int, int, memoryview] | None = None  # the first block that was read ahead, the one after them, and their bytes
+        if not self._can_seek:
             raise io.UnsupportedOperation("random_access needs a file that can be sought in")
         self._measure()
 
+    @property
+    def size(self) -> int:
+        """The length of the text, which was checked when the file was opened."""
+        return self._size
+
     def _measure(self) -> None:
-        """Checks the length of the text, by the last chunk."""
+        """Finds the last chunk by the length of the file, and the length of the text by that chunk, which proves it."""
         size, last = ctypes.c_uint64(), ctypes.c_uint64()
-        payload = self._file.seek(0, io.SEEK_END) - self._payload_at
-        answer = C.age_c_size(self._state, max(0, payload) + self._state.payload_at, size, last)
+        self._file.seek(0, io.SEEK_END)
+        payload = max(0, self._file.tell() - self._payload_at)
+        answer = C.age_c_size(self._state, payload + self._state.payload_at, size, last)
         if answer != 0:
-            raise fault_of(answer, max(0, payload) // BLOCK if answer in PLACED else None)
-        self._size = size.value
-        self._to_chunk(last.value)
-        while self._next():  # the end of a full chunk is a call of its own
-            pass
-        self._go(0)
+            raise fault_of(answer, payload // BLOCK if answer in PLACED else None)
+        self._size, self._last = size.value, last.value
+        self._size = self._last * CHUNK + len(self._text_of(self._last))
 
-    def _to_chunk(self, chunk: int) -> None:
-        """What is read next is that chunk."""
+    def _text_of(self, number: int) -> bytes:
+        """The text of a chunk, as the last one if it is that."""
         self._fault = OSError(LOST)
-        answer = C.age_c_seek(self._state, chunk)
-        if answer != 0:
-            raise fault_of(answer)
-        self._skip = 0
-        self._restart(chunk * CHUNK)
+        room = _rooms.taken()
+        try:
+            have = self._read_block(number, room)
+            self._to_chunk(number)
+            ended, text = self._opened(room, have)
+            if number == self._last and not ended:
+                self._opened(room, 0)
+        finally:
+            _rooms.given_back(room)
+        self._fault = None
+        return text
 
-    def _take(self, room: memoryview) -> int:
-        self._file.seek(self._payload_at + self._before // CHUNK * BLOCK + self._stream.held)
-        return super()._take(room)
+    def _read_block(self, number: int, room: _rooms.Room) -> int:
+        """Reads a block, or what there is of it, into a room. If the call needs the next ones too, they are read with it."""
+        if self._ahead is None or not self._ahead[0] <= number < self._ahead[1]:
+            count = min(self._until - number, MOST)
+            if count <= 1:
+                return filled(self._from(number), room.block.view)
+            held = Bytes(count * BLOCK)
+            self._ahead = number, number + count, held.view[:filled(self._from(number), held.view)]
+        at = (number - self._ahead[0]) * BLOCK
+        piece = self._ahead[2][at:at + BLOCK]
+        room.block.view[:len(piece)] = piece
+        return len(piece)
 
-    def _next(self) -> bool:
-        more = super()._next()
-        if more:
-            self._at, self._skip = min(self._skip, self._len), 0
-        return more
+    def _from(self, number: int) -> Any:
+        """The file, at a block."""
+        self._file.seek(self._payload_at + number * BLOCK)
+        return self._file
 
-    def _here(self) -> int:
-        return super()._here() + self._skip
+    def _read(self, size: int) -> bytes:
+        got: bytes = self._reads(super()._read, size, size if size >= 0 else self._size)
+        return got
+
+    def _read_into(self, room: memoryview, once: bool) -> int:
+        count: int = self._reads(lambda it: super(AgeFile, self)._read_into(it, once), room, 0 if once else len(room))
+        return count
+
+    def _reads(self, call: Any, word: Any, wanted: int) -> Any:
+        """Makes a call that wants so many bytes."""
+        try:
+            self._until = min((self._place() + wanted - 1) // CHUNK, self._last) + 1
+            return call(word)
+        finally:
+            self._until, self._ahead = 0, None
+
+    def _find(self, place: int) -> None:
+        """Opens the chunk of that place, and stands there."""
+        if place >= self._size:
+            self._stand(self._size)
+        else:
+            number = place // CHUNK
+            self._hold(number * CHUNK, self._text_of(number))
+            self._chunk.seek(place - self._before)
 
     def _to_end(self) -> int:
         return self._size
 
     def _go(self, target: int) -> None:
-        target = min(target, self._size)
-        if self._fault is None and self._before <= target < self._before + self._len:
-            self._at = target - self._before
+        if self._before <= target < self._before + self._len:
+            self._chunk.seek(target - self._before)
         else:
-            self._to_chunk(target // CHUNK - (target == self._size and target > 0 and target % CHUNK == 0))
-            self._skip = target - self._before
+            self._stand(min(target, self._size))

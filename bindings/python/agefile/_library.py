@@ -97,11 +97,6 @@ class WriterState(ctypes.Structure):
     ]
 
 
-class StreamState(ctypes.Structure):
-    """age_c_stream of age_c.h."""
-    _fields_ = [("reader", ReaderState), ("held", ctypes.c_uint32), ("unused", ctypes.c_uint32), ("block", ctypes.c_uint8 * BLOCK)]
-
-
 class WriteStreamState(ctypes.Structure):
     """age_c_write_stream of age_c.h."""
     _fields_ = [("writer", WriterState), ("held", ctypes.c_uint32), ("unused", ctypes.c_uint32), ("chunk", ctypes.c_uint8 * CHUNK)]
@@ -129,15 +124,15 @@ def _library() -> ctypes.CDLL:
     bytes_, size, number = ctypes.c_void_p, ctypes.c_size_t, ctypes.c_uint32
     given, count = [bytes_, size], ctypes.POINTER(size)
     reader, writer = ctypes.POINTER(ReaderState), ctypes.POINTER(WriterState)
-    stream, write_stream = ctypes.POINTER(StreamState), ctypes.POINTER(WriteStreamState)
+    write_stream = ctypes.POINTER(WriteStreamState)
     functions: dict[str, list[Any]] = {
         "age_c_version": [],
         "age_c_open_passphrase": given + given + [number, reader],
         "age_c_open_key": given + given + [reader],
         "age_c_open_shared": given + given + given + [reader],
         "age_c_may_open": given + [size],
-        "age_c_feed": [stream] + given + [count] + given + [count],
-        "age_c_finish": [stream] + given + [count],
+        "age_c_block": [reader] + given + given + [count],
+        "age_c_end": [reader] + given + given + [count],
         "age_c_seek": [reader, ctypes.c_uint64],
         "age_c_size": [reader, ctypes.c_uint64, ctypes.POINTER(ctypes.c_uint64), ctypes.POINTER(ctypes.c_uint64)],
         "age_c_seal_passphrase": given + [number] + given + given + [count, writer],

@@ -4,14 +4,19 @@ from __future__ import annotations
 import ctypes
 import io
 import operator
-from typing import Any, Iterable
+from typing import TYPE_CHECKING, Any, BinaryIO, Iterable, NoReturn
 
-from . import _keys
+from . import _keys, _rooms
 from ._arguments import KEY, key, pair, secret, see_one, work_factor
-from ._calls import OneCall
-from ._library import BLOCK, CHUNK, FRONT_MAX, MORE, PLACED, Bytes, C, Opened, ReaderState, StreamState, WrongKey, again, fault_of, \
-    opening, wipe
-from ._source import some, some_into
+from ._calls import Inside, OneCall
+from ._library import BLOCK, CHUNK, FRONT_MAX, MORE, PLACED, C, Opened, ReaderState, WrongKey, again, fault_of, opening, wipe
+from ._source import can_seek, checked, filled, some
+
+if TYPE_CHECKING:
+    class Buffered(io.BufferedIOBase, BinaryIO):  # type: ignore[misc]
+        """So that what asks for a BinaryIO takes it."""
+else:
+    Buffered = io.BufferedIOBase
 
 
 def opening_of(passphrase: Any, file_key: Any, shared: Any, identity: Any, max_work: Any) -> Opened:
@@ -27,222 +32,352 @@ def opening_of(passphrase: Any, file_key: Any, shared: Any, identity: Any, max_w
     return opening(C.age_c_open_shared, pair(shared))
 
 
+def header_of(file: Any, opened: Opened, by_key: bool, state: ReaderState) -> bytearray:
+    """Reads and opens the header, and returns what was read after it."""
+    front = bytearray()
+    answer = MORE
+    while answer == MORE:
+        seen = len(front)
+        piece = _some(file, min(CHUNK, FRONT_MAX - seen))
+        front += piece
+        if not piece or _may_open(front, seen):
+            answer = opened(front, state)
+            if answer != 0 and (answer != MORE or not piece):
+                raise WrongKey(answer) if by_key and answer == 14 else fault_of(answer)
+    del front[:state.payload_at]
+    return front
+
+
+def _some(file: Any, most: int) -> Any:
+    """As many bytes as there are, at most this many. (What read1 doesn't find may be the end, or not there yet: read() says which.)"""
+    read1 = getattr(file, "read1", None)
+    return (checked(read1(most), most) if read1 is not None else None) or some(file, most)
+
+
+def _may_open(front: bytearray, seen: int) -> bool:
+    """Whether the header is worth a try, now that there are more than this many bytes."""
+    answer: int = C.age_c_may_open(ctypes.addressof(ctypes.c_uint8.from_buffer(front)), len(front), seen)
+    return answer == 0
+
+
 LOST = "a read of this file failed or was interrupted, so that bytes may be lost: seek to a place that you know, or open it again"
 
 
-class AgeReader(io.RawIOBase):
-    """The text of an age file, raw: `open` puts a buffer around it. After a read that fails, for whatever reason, each one fails, until
-    a seek: what is above, such as a BufferedReader, may have lost bytes."""
+class AgeReader(Buffered):
+    """The text of an age file. After a read that fails, for whatever reason, each one fails, until a seek: who called may have lost bytes.
+
+    What is held is the text of one chunk. Where the file stands is where that chunk begins and how much of it was read: both change in
+    one step, so that an exception of a signal's handler finds the one or the other."""
 
     def __init__(self, file: Any, passphrase: str | bytes | None = None, file_key: bytes | None = None,
                  shared: tuple[bytes, bytes] | None = None, max_work: int = 22, owned: bool = False,
                  identity: str | Iterable[str] | None = None) -> None:
         super().__init__()
         self._file, self._owned, self._calls = file, owned, OneCall()
-        self._stream = StreamState()
-        self._state: ReaderState = self._stream.reader  # (it is a part of the stream, not a copy)
-        self._piece, self._taken = Bytes(BLOCK), ctypes.c_size_t()
-        self._text, self._written = Bytes(CHUNK), ctypes.c_size_t()
-        self._at = self._len = self._before = 0
-        self._back_to: int | None = None  # where a seek began that failed
-        self._fault: Exception | None = None  # why the stream can't go on from where it is
-        self._lost = False  # whether a read failed since the last seek
+        self._state = ReaderState()
+        self._chunk, self._before, self._len = io.BytesIO(), 0, 0  # the text of a chunk, where it begins, and how long it is
+        self._next_at = 0  # where the text begins that the library's reader opens next
+        self._fault: Exception | None = None  # why it can't go on from there
         self._ended = False
-        self._rest = bytearray()  # what was read with the header and isn't used yet
-        self._payload_at = 0
-        self._begun: ReaderState | None = None
-        self._begin(opening_of(passphrase, file_key, shared, identity, max_work), file_key is not None)
+        self._lost = False  # whether a read failed since the last seek
+        self._rest = header_of(file, opening_of(passphrase, file_key, shared, identity, max_work), file_key is not None, self._state)
+        self._can_seek = can_seek(file)
+        self._payload_at: int = file.tell() - len(self._rest) if self._can_seek else 0
 
-    # ---- the header
+    # ---- chunks
 
-    def _begin(self, opened: Opened, by_key: bool) -> None:
-        """Opens the header, leaves what was read after it, and keeps its place if the file can be sought in."""
-        answer = MORE
-        while answer == MORE:
-            seen = len(self._rest)
-            piece = self._some(min(CHUNK, FRONT_MAX - seen))
-            self._rest += piece
-            if not piece or self._may_open(seen):
-                answer = opened(self._rest, self._state)
-                if answer != 0 and (answer != MORE or not piece):
-                    raise WrongKey(answer) if by_key and answer == 14 else fault_of(answer)
-        del self._rest[:self._state.payload_at]
-        if hasattr(self._file, "seekable") and self._file.seekable():
-            self._payload_at, self._begun = self._file.tell() - len(self._rest), ReaderState.from_buffer_copy(self._state)
+    def _place(self) -> int:
+        return self._before + self._chunk.tell()
 
-    def _some(self, most: int) -> Any:
-        """As many bytes as there are, at most this many. (What read1 doesn't find may be the end, or not there yet: read() says which.)"""
-        read1 = getattr(self._file, "read1", None)
-        return (read1(most) if read1 is not None else None) or some(self._file, most)
+    def _hold(self, before: int, text: bytes) -> None:
+        """Holds a text that begins there. It is the library's next one."""
+        end, chunk = before + len(text), io.BytesIO(text)
+        self._before, self._len, self._chunk, self._next_at = before, len(text), chunk, end
 
-    def _may_open(self, seen: int) -> bool:
-        """Whether the header is worth a try, now that there are more than this many bytes."""
-        place = ctypes.c_uint8.from_buffer(self._rest)
-        answer: int = C.age_c_may_open(ctypes.addressof(place), len(self._rest), seen)
-        return answer == 0
+    def _stand(self, place: int) -> None:
+        """Holds nothing, and stands there."""
+        chunk = io.BytesIO()
+        self._before, self._len, self._chunk = place, 0, chunk
 
-    # ---- blocks
+    def _has_more(self) -> bool:
+        """Whether there is a byte where the file stands: if none is held, the next chunk is opened."""
+        if self._chunk.tell() == self._len:
+            self._find(self._place())
+        return self._chunk.tell() < self._len
 
-    def _more(self) -> int:
-        """Reads a piece: up to the end of the block that is open, so that none is held longer than it has to be. 0 at the end."""
-        room = self._piece.view[:BLOCK - self._stream.held]
-        if not self._rest:
-            return self._take(room)
-        piece = self._rest[:len(room)]
-        room[:len(piece)] = piece
-        del self._rest[:len(piece)]
-        return len(piece)
-
-    def _take(self, room: memoryview) -> int:
-        """Reads into that room."""
-        return some_into(self._file, room)
-
-    def _next(self) -> bool:
-        """Opens the next block. False once the end was checked."""
-        if self._fault is not None:
-            raise again(self._fault)
-        if self._ended:
-            return False
-        self._fault = OSError(LOST)  # so that what an exception interrupts isn't read on
-        self._before += self._len
-        self._at = self._len = 0
-        while self._len == 0 and not self._ended:
-            self._feed(self._more())
-        self._fault = None
-        return True
-
-    def _feed(self, count: int) -> None:
-        """Gives the stream the piece, or the end, and takes the text."""
-        if count > 0:
-            answer = C.age_c_feed(self._stream, self._piece.place, count, self._taken, *self._text.given, self._written)
+    def _find(self, place: int) -> None:
+        """Opens chunks up to that place, or the end, and stands there."""
+        if self._fault is not None or place < self._next_at:
+            self._rewind()
+        while place >= self._next_at and not self._ended:
+            self._next()
+        if self._before <= place <= self._before + self._len:
+            self._chunk.seek(place - self._before)
         else:
-            answer = C.age_c_finish(self._stream, *self._text.given, self._written)
+            self._stand(min(place, self._next_at))
+
+    def _next(self) -> None:
+        """Opens the next chunk, or checks the end."""
+        self._fault = OSError(LOST)  # so that what an exception interrupts isn't read on
+        room = _rooms.taken()
+        try:
+            have = min(len(self._rest), BLOCK)
+            room.block.view[:have] = self._rest[:have]
+            self._rest = self._rest[have:]
+            ended, text = self._opened(room, filled(self._file, room.block.view, have))
+        finally:
+            _rooms.given_back(room)
+        self._hold(self._next_at, text)
+        self._ended, self._fault = ended, None
+
+    def _opened(self, room: _rooms.Room, have: int) -> tuple[bool, bytes]:
+        """Whether a block of a room, or what is left at the end, is the end, and its text."""
+        ended = have < BLOCK
+        call = C.age_c_end if ended else C.age_c_block
+        answer = call(self._state, room.block.place, have, *room.text.given, room.count)
         if answer != 0:
             self._fault = fault_of(answer, self._state.fault_chunk if answer in PLACED else None)
             raise again(self._fault)
-        self._len, self._ended = self._written.value, count == 0
+        return ended, bytes(room.text.view[:room.count.value])
 
-    # ---- what a raw file has
+    def _rewind(self) -> None:
+        """Goes back to the first chunk."""
+        if not self._can_seek:
+            raise again(self._fault or OSError(LOST))
+        self._fault = OSError(LOST)
+        self._file.seek(self._payload_at)
+        self._to_chunk(0)
+        self._rest = bytearray()
+        self._next_at, self._ended, self._fault = 0, False, None
 
-    def readable(self) -> bool:
-        self._check_open()
-        return True
+    def _to_chunk(self, chunk: int) -> None:
+        """What the library opens next is that chunk."""
+        answer = C.age_c_seek(self._state, chunk)
+        if answer != 0:
+            raise fault_of(answer)
 
-    def readinto(self, room: Any) -> int:
-        try:
-            return self._calls.make(self._read_into, memoryview(room).cast("B"))
-        except BaseException:
-            self._lost = True
-            raise
+    # ---- reads
 
-    def _read_into(self, room: memoryview) -> int:
-        self._check_open()
-        if len(room) == 0:
-            return 0
-        self._begin_read()
-        while self._at == self._len and self._next():
-            pass
-        n = min(len(room), self._len - self._at)
-        room[:n] = self._text.view[self._at:self._at + n]
-        self._at += n
-        return n
+    def _see_open(self) -> None:
+        if self.closed:
+            raise ValueError("the file is closed")
 
-    def readall(self) -> bytes:
-        try:
-            return self._calls.make(self._read_all)
-        except BaseException:
-            self._lost = True
-            raise
-
-    def _read_all(self) -> bytes:
-        self._check_open()
-        self._begin_read()
-        parts = io.BytesIO()
-        while self._at < self._len or self._next():
-            parts.write(self._text.view[self._at:self._len])
-            self._at = self._len
-        return parts.getvalue()
-
-    def _begin_read(self) -> None:
-        """Refuses a read after one that failed. Otherwise it goes back to where a seek began that failed, if one did: what is above, such
-        as a BufferedReader, counts on it."""
+    def _see_read(self) -> None:
+        """Refuses a read after one that failed."""
+        self._see_open()
         if self._lost:
             raise again(self._fault or OSError(LOST))
-        if self._back_to is not None:
-            self._go(self._back_to)
-            self._back_to = None
+
+    def _lose(self, before: int = 0, at: int = -1) -> None:
+        """A read failed that began there in the chunk that begins before: the file stands there again, and isn't read until a seek."""
+        if at >= 0 and not self.closed:
+            self._lost = True
+            self._stand(before + at)
+
+    def _reading(self, mark: list[int], call: Any, *words: Any) -> Any:
+        """Makes a call that reads, and notes where it begins. (Who calls it restores the place after an exception, and not this: one may
+        come when this returns.)"""
+        with self._calls.lock:
+            mark += self._before, self._chunk.tell()
+            return self._calls.make(call, *words)
+
+    def read(self, size: int | None = -1, /) -> bytes:
+        size = -1 if size is None else operator.index(size)
+        before, at = 0, -1
+        try:
+            with self._calls.lock:
+                chunk, before = self._chunk, self._before
+                at = chunk.tell()
+                if 0 <= size <= self._len - at:  # (most reads end here)
+                    return chunk.read(size)
+                return self._calls.make(self._read, size)
+        except Inside:
+            raise
+        except BaseException:
+            self._lose(before, at)
+            raise
+
+    def _read(self, size: int) -> bytes:
+        self._see_read()
+        parts: list[bytes] = []
+        while size != 0 and self._has_more():
+            parts.append(self._chunk.read(size))
+            size -= len(parts[-1]) if size > 0 else 0
+        return parts[0] if len(parts) == 1 else b"".join(parts)
+
+    def read1(self, size: int = -1, /) -> bytes:
+        """What is left of a chunk, at most this many bytes: all of the text before a chunk that is damaged."""
+        size, mark = operator.index(size), list[int]()
+        try:
+            got: bytes = self._reading(mark, self._read1, size)
+            return got
+        except Inside:
+            raise
+        except BaseException:
+            self._lose(*mark)
+            raise
+
+    def _read1(self, size: int) -> bytes:
+        self._see_read()
+        return self._chunk.read(size) if size != 0 and self._has_more() else b""
+
+    def readinto(self, room: Any, /) -> int:
+        view, mark = memoryview(room).cast("B"), list[int]()
+        try:
+            count: int = self._reading(mark, self._read_into, view, False)
+            return count
+        except Inside:
+            raise
+        except BaseException:
+            self._lose(*mark)
+            raise
+
+    def readinto1(self, room: Any, /) -> int:
+        view, mark = memoryview(room).cast("B"), list[int]()
+        try:
+            count: int = self._reading(mark, self._read_into, view, True)
+            return count
+        except Inside:
+            raise
+        except BaseException:
+            self._lose(*mark)
+            raise
+
+    def _read_into(self, room: memoryview, once: bool) -> int:
+        self._see_read()
+        count = 0
+        while count < len(room) and self._has_more():
+            count += self._chunk.readinto(room[count:])
+            if once:
+                break
+        return count
+
+    def peek(self, size: int = 0, /) -> bytes:
+        """What the next read returns, or the beginning of it. The file stays where it is."""
+        size, mark = operator.index(size), list[int]()
+        try:
+            got: bytes = self._reading(mark, self._peek, size)
+            return got
+        except Inside:
+            raise
+        except BaseException:
+            self._lose(*mark)
+            raise
+
+    def _peek(self, size: int) -> bytes:
+        self._see_read()
+        if not self._has_more():
+            return b""
+        at = self._chunk.tell()
+        got = self._chunk.read(size if size > 0 else 8_192)
+        self._chunk.seek(at)
+        return got
+
+    def readline(self, size: int | None = -1, /) -> bytes:
+        size = -1 if size is None else operator.index(size)
+        before, at = 0, -1
+        try:
+            with self._calls.lock:
+                chunk, before = self._chunk, self._before
+                at = chunk.tell()
+                line = chunk.readline(size)
+                if line.endswith(b"\n"):
+                    return line
+                chunk.seek(at)
+                return self._calls.make(self._read_line, size)
+        except Inside:
+            raise
+        except BaseException:
+            self._lose(before, at)
+            raise
+
+    def _read_line(self, size: int) -> bytes:
+        self._see_read()
+        parts: list[bytes] = []
+        while size != 0 and self._has_more():
+            parts.append(self._chunk.readline(size))
+            if parts[-1].endswith(b"\n"):
+                break
+            size -= len(parts[-1]) if size > 0 else 0
+        return b"".join(parts)
+
+    # ---- places
 
     def tell(self) -> int:
-        self._check_open()
-        return self._calls.make(self._place)
+        return self._calls.make(self._told)
 
-    def _place(self) -> int:
-        return self._here() if self._back_to is None else self._back_to
-
-    def _here(self) -> int:
-        return self._before + self._at
+    def _told(self) -> int:
+        self._see_open()
+        return self._place()
 
     def seekable(self) -> bool:
-        self._check_open()
-        return self._begun is not None
+        self._see_open()
+        return self._can_seek
 
-    def seek(self, offset: int, whence: int = io.SEEK_SET) -> int:
+    def seek(self, offset: int, whence: int = io.SEEK_SET, /) -> int:
         """Reads on to that place, or from the beginning if it lies before. Nothing is skipped unchecked. A place after the end is the
-        end."""
+        end. A seek that fails leaves the file where it stood."""
         if whence not in (io.SEEK_SET, io.SEEK_CUR, io.SEEK_END):
             raise ValueError(f"bad whence {whence!r}")
-        return self._calls.make(self._seek, operator.index(offset), whence)
+        offset = operator.index(offset)
+        before, chunk, at, lost = 0, self._chunk, -1, False
+        try:
+            with self._calls.lock:
+                before, chunk, lost = self._before, self._chunk, self._lost
+                at = chunk.tell()
+                return self._calls.make(self._seek, offset, whence)
+        except Inside:
+            raise
+        except BaseException:
+            if at >= 0 and not self.closed:
+                self._lost = lost
+                if chunk is self._chunk:
+                    chunk.seek(at)
+                else:
+                    self._stand(before + at)
+            raise
 
     def _seek(self, offset: int, whence: int) -> int:
-        self._check_open()
         if not self.seekable():
             raise io.UnsupportedOperation("seek")
-        place = self._place()
-        self._back_to = place
-        target = offset + (self._to_end() if whence == io.SEEK_END else place if whence == io.SEEK_CUR else 0)
+        target = offset + (self._to_end() if whence == io.SEEK_END else self._place() if whence == io.SEEK_CUR else 0)
         if target < 0:
             raise ValueError(f"negative place {target}")
         self._go(target)
-        self._back_to, self._lost = None, False
+        self._lost = False
         return self._place()
 
     def _to_end(self) -> int:
+        """Reads on to the end: the length of the text."""
         if self._fault is not None:
             self._rewind()
-        while self._pass(CHUNK):
-            pass
-        return self._before + self._at
+        while not self._ended:
+            self._next()
+        return self._next_at
 
     def _go(self, target: int) -> None:
-        if target < self._before or self._fault is not None:
-            self._rewind()
-        self._at = min(self._at, max(0, target - self._before))
-        while self._before + self._at < target and self._pass(target - self._before - self._at):
-            pass
+        if self._before <= target < self._before + self._len:
+            self._chunk.seek(target - self._before)
+        else:
+            self._find(target)
 
-    def _pass(self, most: int) -> bool:
-        """Skips at most this many bytes. False at the end."""
-        if self._at == self._len and not self._next():
-            return False
-        self._at += min(most, self._len - self._at)
+    # ---- what else a file has
+
+    def readable(self) -> bool:
+        self._see_open()
         return True
 
-    def _rewind(self) -> None:
-        assert self._begun is not None
-        self._fault = OSError(LOST)
-        self._file.seek(self._payload_at)
-        ctypes.memmove(ctypes.byref(self._state), ctypes.byref(self._begun), ctypes.sizeof(ReaderState))
-        self._restart(0)
+    @property
+    def name(self) -> Any:
+        """The name of the file that is read, if it has one."""
+        return self._file.name
 
-    def _restart(self, before: int) -> None:
-        """Nothing is read yet of what follows that place."""
-        self._before, self._rest = before, bytearray()
-        self._at = self._len = self._stream.held = 0
-        self._fault, self._ended = None, False
+    @property
+    def mode(self) -> str:
+        return "rb"
 
-    def _check_open(self) -> None:
-        if self.closed:
-            raise ValueError("the file is closed")
+    def __reduce_ex__(self, _: Any) -> NoReturn:
+        raise TypeError(f"cannot pickle or copy an open {type(self).__name__}")
 
     def close(self) -> None:
         """Closes the file if `open` opened it, and overwrites the key and the text that is held."""
@@ -251,7 +386,11 @@ class AgeReader(io.RawIOBase):
     def _close(self) -> None:
         if self.closed:
             return
-        wipe(self._stream, self._text.place, *([self._begun] if self._begun is not None else []))
+        wipe(self._state)
+        with self._chunk.getbuffer() as text:
+            text[:] = bytes(len(text))
+        self._chunk.close()
+        self._rest = bytearray()
         try:
             if self._owned:
                 self._file.close()

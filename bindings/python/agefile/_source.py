@@ -19,8 +19,22 @@ def wait(file: Any, event: int = select.POLLIN) -> None:
 
 def some(file: Any, most: int) -> Any:
     """At most this many bytes. b"" is the end, and nothing else is."""
-    while (piece := file.read(most)) is None:
+    while (piece := checked(file.read(most), most)) is None:
         wait(file)
+    return piece
+
+
+def checked(piece: Any, most: int) -> Any:
+    """What a read returned, if it may: None, or at most this many bytes."""
+    if piece is None:
+        return None
+    try:
+        length = memoryview(piece).nbytes
+    except TypeError:
+        getattr(piece, "close", lambda: None)()  # a coroutine that nobody awaits would warn of itself
+        raise TypeError(f"the file's read() has to return bytes, not {type(piece).__name__}") from None
+    if length > most:
+        raise OSError(f"the file's read() returned {length} bytes, and was asked for {most}")
     return piece
 
 
@@ -33,4 +47,19 @@ def some_into(file: Any, room: memoryview) -> int:
         return len(piece)
     while (count := into(room)) is None:
         wait(file)
+    if not 0 <= count <= len(room):
+        raise OSError(f"the file's readinto() returned {count}, and was given room for {len(room)}")
     return int(count)
+
+
+def filled(file: Any, room: memoryview, have: int = 0) -> int:
+    """Reads until the room is full, or the file ends: how many bytes there are then, `have` among them."""
+    while have < len(room) and (count := some_into(file, room[have:])):
+        have += count
+    return have
+
+
+def can_seek(file: Any) -> bool:
+    """Whether a file can be sought in. Some that can, such as an mmap, have no `seekable`."""
+    seekable = getattr(file, "seekable", None)
+    return bool(seekable()) if seekable is not None else hasattr(file, "seek") and hasattr(file, "tell")

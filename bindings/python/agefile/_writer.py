@@ -2,19 +2,32 @@
 from __future__ import annotations
 
 import ctypes
-import io
 import os
 import select
 import warnings
 from types import TracebackType
-from typing import Any
+from typing import Any, NoReturn
 
+from . import _rooms
 from ._arguments import secret, work_factor
-from ._calls import OneCall
-from ._library import BLOCK, CHUNK, SEAL_FRONT, Bytes, C, WriteStreamState, fault_of, wipe
+from ._calls import Inside, OneCall
+from ._library import CHUNK, SEAL_FRONT, Bytes, C, WriteStreamState, fault_of, wipe
+from ._reader import Buffered
 from ._source import wait
 
-Begun = tuple[WriteStreamState, memoryview]
+Begun = tuple[WriteStreamState, bytes]
+
+GATHERED = 16_384  # bytes of short writes that are sealed together
+
+_forks = 0  # how often a process before this one was forked
+
+
+def _forked() -> None:
+    global _forks
+    _forks += 1
+
+
+os.register_at_fork(after_in_child=_forked)
 
 
 def begun(passphrase: Any, work: Any) -> Begun:
@@ -26,28 +39,33 @@ def begun(passphrase: Any, work: Any) -> Begun:
     wipe(held.place, random.place)
     if answer != 0:
         raise fault_of(answer)
-    return stream, out.view[:written.value]
+    return stream, bytes(out.view[:written.value])
 
 
-class AgeWriter(io.BufferedIOBase):
-    """An age file that is being written. It is whole once close() returned; abandon() leaves one that every reader refuses."""
+class AgeWriter(Buffered):
+    """An age file that is being written. It is whole once close() returned; abandon() leaves one that every reader refuses. What is
+    written to is given bytes, which it may keep. In a forked child every call is refused: the file is its parent's."""
 
     def __init__(self, file: Any, begun: Begun, owned: bool = False) -> None:
         super().__init__()
-        self._file, self._owned, self._calls = file, owned, OneCall()
+        self._file, self._owned, self._calls, self._forks = file, owned, OneCall(), _forks
         self._stream, front = begun
         self._count, self._taken = 0, ctypes.c_size_t()
-        self._out, self._written = Bytes(BLOCK), ctypes.c_size_t()
+        self._gathered = bytearray()  # short writes that the stream hasn't got yet
         self._failed = False
-        self._write(front)
+        self._unfinished = False  # whether close() failed
         self._over = False
+        self._write(front)
+        self._begun = True
 
-    def _write(self, out: memoryview) -> None:
+    def _write(self, out: bytes) -> None:
         while out:
             if (count := self._file.write(out)) is None:  # the file doesn't block, and took nothing
                 wait(self._file, select.POLLOUT)
-            else:
+            elif 0 <= count <= len(out):
                 out = out[count:]
+            else:
+                raise OSError(f"the file's write() returned {count}, and was given {len(out)} bytes")
 
     def _change(self) -> None:
         """Begins what changes the file: until it is done, and if an exception ends it, the file can't be finished."""
@@ -55,61 +73,113 @@ class AgeWriter(io.BufferedIOBase):
             raise ValueError("a block couldn't be written: the file isn't whole")
         self._failed = True
 
-    def _put(self, answer: int) -> None:
-        """Passes on what a call wrote."""
-        if answer != 0:
-            raise fault_of(answer)
-        self._write(self._out.view[:self._written.value])
+    def _put(self, call: Any, *words: Any) -> None:
+        """Makes a call that seals, and passes on what it wrote."""
+        room = _rooms.taken()
+        try:
+            answer = call(self._stream, *words, *room.block.given, room.count)
+            if answer != 0:
+                raise fault_of(answer)
+            out = bytes(room.block.view[:room.count.value])
+        finally:
+            _rooms.given_back(room)
+        self._write(out)
 
-    def _check_open(self) -> None:
+    def _see_open(self) -> None:
+        if self._forks != _forks:
+            raise ValueError("the file belongs to the process that this one was forked from")
         if self.closed:
             raise ValueError("the file is closed")
 
     def writable(self) -> bool:
-        self._check_open()
+        self._see_open()
         return True
 
-    def write(self, data: Any) -> int:
-        return self._calls.make(self._add, memoryview(data).cast("B"))
+    @property
+    def name(self) -> Any:
+        """The name of the file that is written, if it has one."""
+        return self._file.name
 
-    def _add(self, data: memoryview) -> int:
-        self._check_open()
+    @property
+    def mode(self) -> str:
+        return "wb"
+
+    def __reduce_ex__(self, _: Any) -> NoReturn:
+        raise TypeError(f"cannot pickle or copy an open {type(self).__name__}")
+
+    def write(self, data: Any, /) -> int:
+        if type(data) is not bytes:
+            data = memoryview(data).cast("B")
+        try:
+            return self._calls.make(self._add, data)
+        except Inside:
+            raise
+        except BaseException:
+            self._failed = self._failed or not self.closed
+            raise
+
+    def _add(self, data: Any) -> int:
+        self._see_open()
         self._change()
         self._count += len(data)
-        left = data
-        while left:
-            piece = Bytes(left[:CHUNK])
-            self._put(C.age_c_feed_text(self._stream, *piece.given, self._taken, *self._out.given, self._written))
-            left = left[self._taken.value:]
+        if len(self._gathered) + len(data) < GATHERED:
+            self._gathered += data
+        else:
+            self._pass_gathered()
+            self._feed(data)
         self._failed = False
         return len(data)
 
+    def _pass_gathered(self) -> None:
+        held = bytes(self._gathered)
+        self._forget_gathered()
+        self._feed(held)
+
+    def _forget_gathered(self) -> None:
+        self._gathered[:] = bytes(len(self._gathered))
+        self._gathered.clear()
+
+    def _feed(self, data: Any) -> None:
+        """Gives the stream bytes, and passes on the blocks that it seals."""
+        left = memoryview(data)
+        while left:
+            piece = bytes(left[:CHUNK])
+            self._put(C.age_c_feed_text, piece, len(piece), self._taken)
+            left = left[self._taken.value:]
+
     def tell(self) -> int:
-        self._check_open()
+        self._see_open()
         return self._count
 
     def flush(self) -> None:
         """Passes on what is sealed; a chunk that isn't full stays."""
-        self._check_open()
-        if not self._over:
-            self._calls.make(self._pass_on)
+        if self._over and not self.closed:  # it is being closed
+            return
+        self._see_open()
+        self._calls.make(self._pass_on)
 
     def _pass_on(self) -> None:
         if hasattr(self._file, "flush") and not getattr(self._file, "closed", False):
             self._file.flush()
 
     def close(self) -> None:
-        """Seals the last chunk, so that the file is whole."""
+        """Seals the last chunk, so that the file is whole. If that fails, so does each later close()."""
         self._calls.make(self._finish)
 
     def _finish(self) -> None:
+        if self._unfinished:
+            raise ValueError("close() failed before: the file isn't whole")
         if self.closed:
             return
+        self._see_open()
         try:
+            self._unfinished = True
             self._change()
-            self._put(C.age_c_finish_text(self._stream, *self._out.given, self._written))
+            self._pass_gathered()
+            self._put(C.age_c_finish_text)
         finally:
             self._leave()
+        self._unfinished = False
 
     def abandon(self) -> None:
         """Closes without the last chunk."""
@@ -119,8 +189,10 @@ class AgeWriter(io.BufferedIOBase):
         if self.closed:
             return
         wipe(self._stream)
+        self._forget_gathered()
         try:
-            self._pass_on()
+            if self._forks == _forks:
+                self._pass_on()
         finally:
             self._over = True  # so that flush(), which close() of the base calls, does no more
             super().close()
@@ -134,8 +206,8 @@ class AgeWriter(io.BufferedIOBase):
             self.abandon()
 
     def __del__(self) -> None:
-        # a writer that was never closed, so perhaps after an exception, isn't finished
-        if hasattr(self, "_over") and not self.closed:
+        # a writer that was never closed, so perhaps after an exception, isn't finished; in a forked child it is its parent's
+        if hasattr(self, "_begun") and not self.closed and self._forks == _forks:
             try:
                 warnings.warn("an age file that was never closed isn't whole", ResourceWarning, source=self)
             finally:
