@@ -4,9 +4,11 @@ import (
 	"bytes"
 	"encoding/hex"
 	"errors"
+	"fmt"
 	"io"
 	"math/rand"
 	"os"
+	"strings"
 	"sync"
 	"testing"
 	"testing/iotest"
@@ -544,5 +546,98 @@ func TestKeysAreOverwritten(t *testing.T) {
 		if _, err := w.Write([]byte("x")); err == nil {
 			t.Error("it is written on")
 		}
+	}
+}
+
+// A size that isn't the file's, as a stale listing gives it, never makes a text of another length.
+func TestWrongSizes(t *testing.T) {
+	for _, n := range lengths {
+		text := textOf(n)
+		data := sealed(t, text)
+		for off := int64(-20); off <= 70000; off += 1 + 30*(off/20) {
+			file, err := OpenAt(bytes.NewReader(data), int64(len(data))+off, pw())
+			if err != nil {
+				if off == 0 {
+					t.Fatal(n, err)
+				}
+				continue
+			}
+			got, err := io.ReadAll(io.NewSectionReader(file, 0, 1<<40))
+			if err != nil || !bytes.Equal(got, text) || file.Size() != int64(n) {
+				t.Fatalf("%d bytes, size off by %d: Size %d, %d bytes, %v", n, off, file.Size(), len(got), err)
+			}
+			if n > 0 {
+				last := make([]byte, 1)
+				if _, err := file.ReadAt(last, file.Size()-1); err != nil || last[0] != text[n-1] {
+					t.Fatal("the last byte", n, off, err)
+				}
+			}
+		}
+	}
+}
+
+type idle struct{}
+
+func (idle) Read([]byte) (int, error) { return 0, nil }
+
+// A source that gives nothing for ever is an error, in the header and in the payload.
+func TestNoProgress(t *testing.T) {
+	if _, err := Open(idle{}, pw()); !errors.Is(err, io.ErrNoProgress) {
+		t.Error("a header", err)
+	}
+	data := sealed(t, textOf(70000))
+	for _, end := range []int{30, len(data) - 100} {
+		r, err := Open(io.MultiReader(bytes.NewReader(data[:end]), idle{}), pw())
+		if err == nil {
+			_, err = io.ReadAll(r)
+		}
+		if !errors.Is(err, io.ErrNoProgress) {
+			t.Error(end, err)
+		}
+	}
+}
+
+// No verb prints a key or a text.
+func TestPrinted(t *testing.T) {
+	data := sealed(t, textOf(1000))
+	reader, err := Open(bytes.NewReader(data), pw())
+	if err != nil {
+		t.Fatal(err)
+	}
+	if _, err := reader.Read(make([]byte, 10)); err != nil {
+		t.Fatal(err)
+	}
+	writer, err := Create(io.Discard, []byte("pw"), 1)
+	if err != nil {
+		t.Fatal(err)
+	}
+	for _, it := range []any{reader, opened(t, data), writer} {
+		for _, verb := range []string{"%v", "%+v", "%#v", "%s", "%d", "%x", "%q"} {
+			if said := fmt.Sprintf(verb, it); len(said) > 20 || !strings.HasPrefix(said, "agefile.") {
+				t.Errorf("%s of a %T: %.60s", verb, it, said)
+			}
+		}
+	}
+	writer.Abandon()
+}
+
+// Zero values refuse.
+func TestZeroValues(t *testing.T) {
+	if _, err := Open(bytes.NewReader(nil), Key{}); err == nil {
+		t.Error("a Key that is none")
+	}
+	if _, err := OpenAt(bytes.NewReader(nil), 0, Key{}); err == nil {
+		t.Error("a Key that is none, at any place")
+	}
+	var writer Writer
+	if _, err := writer.Write([]byte("text")); err == nil {
+		t.Error("a Writer that is none writes")
+	}
+	if writer.Close() == nil {
+		t.Error("a Writer that is none is closed")
+	}
+	var reader Reader
+	if _, err := reader.Read(make([]byte, 1)); err == nil || err == io.EOF {
+		t.Error("a Reader that is none", err)
 	}
 }

@@ -7,6 +7,7 @@ import "C"
 
 import (
 	"errors"
+	"fmt"
 	"io"
 	"sync"
 )
@@ -19,8 +20,18 @@ type File struct {
 	*io.SectionReader
 }
 
-// OpenAt opens the header of a file of this many bytes, and its last chunk, by which it checks the
-// length of the text.
+// String hides the key and the text.
+func (f *File) String() string { return "agefile.File" }
+
+// GoString does as String.
+func (f *File) GoString() string { return f.String() }
+
+// Format hides the key and the text in every verb.
+func (f *File) Format(state fmt.State, _ rune) { io.WriteString(state, f.String()) }
+
+// OpenAt opens the header of a file of this many bytes, and its last chunk, which proves the length
+// of the text: a size that is a few bytes too great changes nothing, and any other wrong one is an
+// error.
 func OpenAt(file io.ReaderAt, size int64, key Key) (*File, error) {
 	head, err := Open(io.NewSectionReader(file, 0, size), key)
 	if err != nil {
@@ -32,11 +43,13 @@ func OpenAt(file io.ReaderAt, size int64, key Key) (*File, error) {
 		return nil, blockFault(answer, &head.stream.reader)
 	}
 	r := &places{file: file, begun: head.stream.reader, end: size, kept: -1}
-	r.size, r.last = int64(text), int64(last)
+	r.last = int64(last)
 	head.stream = C.age_c_stream{} // its copy of the file key
-	if _, err := r.open(r.last, head.chunk); err != nil {
+	n, err := r.open(r.last, head.chunk)
+	if err != nil {
 		return nil, err
 	}
+	r.size = r.last*C.AGE_C_CHUNK + int64(n) // which the end of that chunk proves, whatever `size` is
 	return &File{io.NewSectionReader(r, 0, r.size)}, nil
 }
 
@@ -132,11 +145,18 @@ func (r *places) ReadAt(into []byte, off int64) (int, error) {
 func (r *places) some(into []byte, off int64) (int, error) {
 	number, skipped := off/C.AGE_C_CHUNK, off%C.AGE_C_CHUNK
 	if skipped == 0 && len(into) >= C.AGE_C_CHUNK {
-		return r.open(number, into)
+		n, err := r.open(number, into)
+		if err == nil && n == 0 {
+			err = io.ErrUnexpectedEOF
+		}
+		return n, err
 	}
 	text, err := r.chunk(number)
 	if err != nil {
 		return 0, err
+	}
+	if skipped >= int64(len(text)) { // the file has become shorter
+		return 0, io.ErrUnexpectedEOF
 	}
 	return copy(into, text[skipped:]), nil
 }

@@ -5,7 +5,11 @@ package agefile
 */
 import "C"
 
-import "io"
+import (
+	"errors"
+	"fmt"
+	"io"
+)
 
 // A Reader reads the text of an age file from its beginning to its end. One goroutine at a time may
 // use it.
@@ -22,6 +26,9 @@ type Reader struct {
 // Open opens the header of a file. It reads no more of the file than it needs, and what comes
 // along.
 func Open(file io.Reader, key Key) (*Reader, error) {
+	if key.open == nil {
+		return nil, errors.New("agefile: a Key that is none: make one by Passphrase, FileKey or SharedSecret")
+	}
 	r := &Reader{file: file, piece: make([]byte, C.AGE_C_BLOCK), chunk: make([]byte, C.AGE_C_CHUNK)}
 	if err := r.begin(key); err != nil {
 		return nil, err
@@ -56,28 +63,51 @@ func (r *Reader) more() error {
 	if left := C.AGE_C_FRONT_MAX - len(r.front); left < len(room) {
 		room = room[:left]
 	}
-	n, err := io.ReadAtLeast(r.file, room, 1)
+	n, err := readSome(r.file, room)
 	r.front = append(r.front, room[:n]...)
+	if n > 0 {
+		return nil
+	}
 	return err
 }
+
+// readSome reads at least a byte, or says why there is none. What comes with an error counts first.
+func readSome(file io.Reader, room []byte) (int, error) {
+	for idle := 0; idle < 100; idle++ {
+		n, err := file.Read(room)
+		if n < 0 || n > len(room) {
+			return 0, errRead
+		}
+		if n > 0 && err == io.EOF {
+			err = nil // it comes again
+		}
+		if n > 0 || err != nil {
+			return n, err
+		}
+	}
+	return 0, io.ErrNoProgress
+}
+
+var errNotOpen = errors.New("agefile: a Reader or Writer that wasn't opened by Open or Create")
+
+var errRead = errors.New("agefile: a Read returned a count that is out of range")
 
 // read reads a piece, up to the end of the block that is open. What came before a failed read is
 // kept.
 func (r *Reader) read() error {
-	for idle := 0; ; idle++ {
-		n, err := r.file.Read(r.piece[:C.AGE_C_BLOCK-r.stream.held])
-		r.front = r.piece[:n]
-		if n > 0 && err == io.EOF {
-			return nil
-		}
-		if n > 0 || err != nil {
-			return err
-		}
-		if idle == 100 {
-			return io.ErrNoProgress
-		}
-	}
+	n, err := readSome(r.file, r.piece[:C.AGE_C_BLOCK-r.stream.held])
+	r.front = r.piece[:n]
+	return err
 }
+
+// String hides the key and the text.
+func (r *Reader) String() string { return "agefile.Reader" }
+
+// GoString does as String.
+func (r *Reader) GoString() string { return r.String() }
+
+// Format hides the key and the text in every verb.
+func (r *Reader) Format(state fmt.State, _ rune) { io.WriteString(state, r.String()) }
 
 // next opens the next block, or what is left at the end, into a chunk's room.
 func (r *Reader) next(room []byte) (int, error) {
@@ -122,6 +152,9 @@ func (r *Reader) feed(room []byte, end bool) (int, error) {
 
 // Read implements io.Reader.
 func (r *Reader) Read(into []byte) (int, error) {
+	if r.file == nil {
+		return 0, errNotOpen
+	}
 	for len(r.text) == 0 && len(into) > 0 {
 		if len(into) >= C.AGE_C_CHUNK {
 			if n, err := r.next(into); n > 0 || err != nil {
@@ -140,6 +173,9 @@ func (r *Reader) Read(into []byte) (int, error) {
 
 // WriteTo implements io.WriterTo.
 func (r *Reader) WriteTo(out io.Writer) (int64, error) {
+	if r.file == nil {
+		return 0, errNotOpen
+	}
 	var all int64
 	for {
 		n, err := out.Write(r.text)

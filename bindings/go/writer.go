@@ -8,6 +8,7 @@ import "C"
 import (
 	"crypto/rand"
 	"errors"
+	"fmt"
 	"io"
 )
 
@@ -46,6 +47,15 @@ func Create(out io.Writer, passphrase []byte, factor int) (*Writer, error) {
 	return w, w.put(int(written))
 }
 
+// String hides the key and the text.
+func (w *Writer) String() string { return "agefile.Writer" }
+
+// GoString does as String.
+func (w *Writer) GoString() string { return w.String() }
+
+// Format hides the key and the text in every verb.
+func (w *Writer) Format(state fmt.State, _ rune) { io.WriteString(state, w.String()) }
+
 // put passes on the first n bytes of the block.
 func (w *Writer) put(n int) error {
 	done, err := w.out.Write(w.block[:n])
@@ -70,6 +80,9 @@ func (w *Writer) wrote(answer C.uint32_t, written C.size_t) error {
 
 // Write implements io.Writer. After an error the file can't be finished.
 func (w *Writer) Write(text []byte) (int, error) {
+	if w.out == nil {
+		return 0, errNotOpen
+	}
 	if w.err != nil {
 		return 0, w.err
 	}
@@ -90,6 +103,9 @@ func (w *Writer) Write(text []byte) (int, error) {
 // Close seals the last chunk, so that the file is whole, even if text is missing: if what gives the
 // text failed, call Abandon first. It doesn't close what is written to.
 func (w *Writer) Close() error {
+	if w.out == nil {
+		return errNotOpen
+	}
 	if w.err != nil {
 		w.wipe()
 		return w.err
