@@ -285,7 +285,8 @@ class PythonTest(BindingsCase):
         data = self.path("made.age").read_bytes()
         self.see("-m agefile encrypt: age_tool doesn't read it", self.judged(data) == ((0, None), text))
         run = self.command("decrypt", "--pass", "pw", "-", "-", given=data[:-1])
-        self.see("-m agefile", (run.returncode, run.stdout, run.stderr) == (1, text[:2 * CHUNK], f"agefile: {agefile.Damaged(17, 2)}\n".encode()), run.stderr)
+        said = f"agefile: {agefile.Damaged(17, 2)}\nagefile: OUT has the first {2 * CHUNK} bytes of the text\n".encode()
+        self.see("-m agefile", (run.returncode, run.stdout, run.stderr) == (1, text[:2 * CHUNK], said), run.stderr)
         for words in (("decrypt", "made.age", "-"), ("decrypt", "-", "-"), ("test", "-"), ("encrypt", "plain", "none.age")):
             for given in (b"", data, b"pw\npw\n"):
                 run = self.command(*words, input=given, start_new_session=True)
@@ -344,7 +345,7 @@ class PythonTest(BindingsCase):
         key, other = (agefile._keys.identities_in((AGE / name).read_text()) for name in ("key.txt", "other.txt"))
         public = [line.split()[-1] for line in (AGE / "key.txt").read_text().splitlines() if "public key" in line][0]
         secret, nine = agefile._keys.secret_of(key[0]), bytes([9]) + bytes(31)
-        for what, call in (("cryptography", agefile._keys.x25519), ("openssl", agefile._keys.by_openssl)):
+        for what, call in (("cryptography", lambda it, point: agefile._keys.x25519_of(it)(point)), ("openssl", agefile._keys.by_openssl)):
             self.see(f"the public key of a key, by {what}", call(secret, nine) == agefile._keys.bech32_decoded(public)[1])
             self.see(f"a point of low order, by {what}", call(secret, bytes(32)) == bytes(32))
         for name, keys, want in (
@@ -384,6 +385,26 @@ class PythonTest(BindingsCase):
             self.see(f"a file {what}, by a key", getattr(fault, "number", None) == number, fault)
 
     @needs("age", "age-keygen")
+    def test_many_recipients(self):
+        """A header of many recipients is opened for the last of them, in time that is linear in its length."""
+        keys = [subprocess.run(["age-keygen"], capture_output=True, text=True, check=True).stdout for _ in range(2)]
+        one, other = (next(word for word in it.split() if word.startswith("age1")) for it in keys)
+        self.path("many").write_text(f"{other}\n" * 700 + f"{one}\n")
+        data = subprocess.run(["age", "-R", self.path("many")], input=b"text", capture_output=True, check=True).stdout
+        looked, kept = [0], agefile._library.C.age_c_open_shared
+
+        def counted(front, length, *words):
+            looked[0] += length
+            return kept(front, length, *words)
+
+        agefile._library.C.age_c_open_shared = counted
+        try:
+            fault = fault_of(lambda: self.see("the last of 701 recipients", agefile.open(io.BytesIO(data), identity=keys[0]).read() == b"text"))
+        finally:
+            agefile._library.C.age_c_open_shared = kept
+        self.see(f"{looked[0]} bytes of a header of {len(data)} are looked at", fault is None and looked[0] < 5 * len(data), fault)
+
+    @needs("age", "age-keygen")
     def test_files_of_age(self):
         """What age makes for keys of its own."""
         keys = [subprocess.run(["age-keygen"], capture_output=True, text=True, check=True).stdout for _ in range(3)]
@@ -396,6 +417,108 @@ class PythonTest(BindingsCase):
                 for any_place in (False, True):
                     with agefile.open(io.BytesIO(data), identity=agefile._keys.identities_in(keys[-1]), random_access=any_place) as file:
                         self.see(f"a file of age of {length} bytes for {count}", file.read() == text)
+
+    def saved(self, data, **keys):
+        """What is salvaged of a file, and what it says of it."""
+        out = io.BytesIO()
+        found = agefile.salvage(data if hasattr(data, "read") else io.BytesIO(data), out, **(keys or {"file_key": KEY}))
+        return out.getvalue(), found.lost, found.ends, found.followed
+
+    def test_salvage(self):
+        """Each chunk that isn't damaged, at its place, zeros for the others, and what is lost. What is expected is made of the text."""
+        for length in (0, 1, 65_536, 131_072, 300_000):
+            text = random.Random(length).randbytes(length)
+            data = self.sealed(text)
+            chunks = max(1, -(-length // CHUNK))
+            begin = len(data) - length - 16 * chunks
+            self.see(f"a whole file of {length} bytes", self.saved(data) == (text, [], True, False))
+            for seed in range(30):
+                rnd = random.Random(seed)
+                bad = sorted(rnd.sample(range(chunks), rnd.randrange(1, chunks + 1)))
+                held, want, lost = bytearray(data), bytearray(text), []
+                for it in bad:
+                    end = min(len(data), begin + (it + 1) * BLOCK)
+                    held[rnd.randrange(begin + it * BLOCK, end)] ^= 1
+                    first, after = it * CHUNK, min((it + 1) * CHUNK, length)
+                    want[first:after] = bytes(after - first)
+                    if after > first:
+                        lost[-1:] = [(lost[-1][0], after)] if lost and lost[-1][1] == first else [*lost[-1:], (first, after)]
+                ends = chunks - 1 not in bad
+                wanted = (bytes(want) if len(bad) < chunks else b"", lost, ends, False)
+                for what, under in (("a file", io.BytesIO(held)), ("a pipe", Pieces(bytes(held), 5_000))):
+                    got = self.saved(under)
+                    self.see(f"{what} of {length} bytes, chunks {bad} damaged", got == wanted, got[1:], wanted[1:])
+        text = random.Random(3).randbytes(200_000)
+        data = self.sealed(text)
+        begin = len(data) - 200_000 - 4 * 16
+        for end in (begin, begin + 1, begin + 16, begin + 17, begin + BLOCK - 1, begin + BLOCK, begin + BLOCK + 10, begin + 2 * BLOCK, len(data) - 1):
+            whole, rest = divmod(end - begin, BLOCK)
+            lost = [(whole * CHUNK, whole * CHUNK + rest - 16)] if rest > 16 else []
+            want = text[:whole * CHUNK] + bytes(sum(after - first for first, after in lost)) if whole else b""
+            got = self.saved(data[:end])
+            self.see(f"a file that is cut at {end - begin}", got == (want, lost, False, False), got[1:], lost)
+        full = self.sealed(text[:131_072])
+        for more in (b"0", full[-BLOCK:]):
+            self.see(f"{len(more)} bytes after the end", self.saved(full + more) == (text[:131_072], [], True, True))
+        swapped = data[:begin] + data[begin + BLOCK:begin + 2 * BLOCK] + data[begin:begin + BLOCK] + data[begin + 2 * BLOCK:]
+        self.see("blocks that changed places", self.saved(swapped) == (bytes(131_072) + text[131_072:], [(0, 131_072)], True, False))
+
+        class Rotten(io.BytesIO):
+            def readinto(self, room):
+                if self.tell() <= begin + BLOCK + 777 < self.tell() + len(room):
+                    raise OSError(5, "Input/output error")
+                return super().readinto(room)
+
+        want = text[:CHUNK] + bytes(CHUNK) + text[2 * CHUNK:]
+        self.see("a disk that can't be read at a place", self.saved(Rotten(data)) == (want, [(CHUNK, 2 * CHUNK)], True, False))
+
+    def test_salvage_command(self):
+        """What `python3 -m agefile salvage` says, and when OUT stays as it was."""
+        text = random.Random(3).randbytes(200_000)
+        data = bytearray(self.sealed(text))
+        self.write("whole.age", bytes(data))
+        begin = len(data) - 200_000 - 4 * 16
+        data[begin + 9] ^= 1
+        data[begin + 2 * BLOCK + 9] ^= 1
+        self.write("damaged.age", bytes(data))
+        self.write("kept", b"kept")
+        lost = b"agefile: lost: from byte 0 to before byte 65536\nagefile: lost: from byte 131072 to before byte 196608\n"
+        want = bytes(CHUNK) + text[CHUNK:2 * CHUNK] + bytes(CHUNK) + text[3 * CHUNK:]
+        for words, status, said, out in (
+            (("--pass", "pw", "whole.age", "out"), 0, b"", text), (("--pass", "pw", "damaged.age", "out"), 1, lost, want),
+            (("--pass", "other", "damaged.age", "kept"), 1, None, b"kept"), (("--pass", "pw", "pw", "kept"), 1, None, b"kept"),
+        ):
+            run = self.command("salvage", *words)
+            self.see(f"salvage {' '.join(words)}", run.returncode == status and said in (None, run.stderr) and self.path(words[-1]).read_bytes() == out,
+                     run.returncode, run.stderr)
+        run = self.command("salvage", "--pass", "pw", "damaged.age", "-")
+        self.see("salvage to standard output", (run.returncode, run.stdout) == (1, want), run.stderr)
+        run = self.command("salvage", "--pass", "pw", "-", "out", given=bytes(data[:begin + 100]))
+        self.see("salvage from standard input, nothing opens", run.returncode == 1 and b"no chunk opens" in run.stderr, run.stderr)
+        key = shutil.copy(AGE / "key.txt", self.path("key.txt"))
+        run = self.command("salvage", "--identity", key, AGE / "one.age", "out")
+        self.see("salvage by a key", run.returncode == 0 and self.path("out").read_bytes() == b"hello, recipient\n", run.stderr)
+
+    def test_files_that_are_read(self):
+        """No file that is named to be read is written to, not by another name of it either."""
+        self.write("plain", b"plain text")
+        self.command("encrypt", "--pass", "pw", "--log", "1", "plain", "made.age")
+        shutil.copy(AGE / "key.txt", self.path("key.txt"))
+        shutil.copy(AGE / "one.age", self.path("one.age"))
+        for name in ("pw", "key.txt", "made.age", "one.age"):
+            os.link(self.path(name), self.path(f"{name}-linked"))
+            self.path(f"{name}-symbolic").symlink_to(name)
+        kept = {name: self.path(name).read_bytes() for name in ("pw", "key.txt", "made.age", "one.age", "plain")}
+        for words in (("encrypt", "--pass", "pw", "plain"), ("decrypt", "--pass", "pw", "made.age"), ("decrypt", "--identity", "key.txt", "one.age"),
+                      ("salvage", "--identity", "key.txt", "one.age"), ("salvage", "--pass", "pw", "made.age")):
+            for out in [name + more for name in words[2:] for more in ("", "-linked", "-symbolic")]:
+                if self.is_there(out):
+                    run = self.command(*words, out)
+                    self.see(f"{' '.join(words)} {out}", run.returncode == 1 and b"one file" in run.stderr, run.returncode, run.stderr)
+        self.see("what was read is as it was", kept == {name: self.path(name).read_bytes() for name in kept})
+        with open(self.path("plain"), "rb") as file:
+            run = self.command("encrypt", "--pass", "pw", "-", "plain", stdin=file)
+        self.see("standard input is OUT", run.returncode == 1 and self.path("plain").read_bytes() == b"plain text", run.stderr)
 
     def test_unlike_files(self):
         """Sources that can seek but have no `seekable`, or whose seek returns nothing, that overstate their length, and that lie."""

@@ -1,11 +1,13 @@
-"""Encrypts, decrypts and tests age files: see `python3 -m agefile --help`."""
+"""Encrypts, decrypts, tests and salvages age files: see `python3 -m agefile --help`."""
 from __future__ import annotations
 
 import argparse
 import contextlib
 import getpass
 import os
+import stat
 import sys
+import time
 import warnings
 from typing import Any, Iterator
 
@@ -45,32 +47,93 @@ def pieces(file: Any) -> Iterator[bytes]:
 
 
 def source(name: str) -> Any:
-    return contextlib.nullcontext(sys.stdin.buffer) if name == "-" else open(name, "rb")
+    return contextlib.nullcontext(sys.stdin.buffer) if name == "-" else open(name, "rb", buffering=0)
 
 
-def sink(name: str, other: str) -> Any:
-    """What is written to: never the file that is read."""
-    if name == "-":
-        return contextlib.nullcontext(sys.stdout.buffer)
-    if os.path.exists(name) and os.path.exists(other) and os.path.samefile(name, other):
-        raise ValueError(f"{name} and {other} are one file")
-    return open(name, "wb")
+def see_apart(words: argparse.Namespace) -> None:
+    """Refuses to write to a file that is read: IN, or the file of --pass or --identity."""
+    if words.output == "-" or not os.path.exists(words.output):
+        return
+    out = os.stat(words.output)
+    for name in (words.input, words.passphrase, getattr(words, "keys", None)):
+        if name is None or name != "-" and not os.path.exists(name):
+            continue
+        if os.path.samestat(out, os.fstat(0) if name == "-" else os.stat(name)) and not stat.S_ISCHR(out.st_mode):
+            raise ValueError(f"{words.output} and {name} are one file")
+
+
+@contextlib.contextmanager
+def sink(words: argparse.Namespace) -> Iterator[Any]:
+    """What is written to, which has reached the disk at the end."""
+    held: Any = contextlib.nullcontext(sys.stdout.buffer) if words.output == "-" else open(words.output, "wb")
+    with held as out:
+        yield out
+        out.flush()
+        if stat.S_ISREG(os.fstat(out.fileno()).st_mode):
+            os.fsync(out.fileno())
 
 
 def encrypt(words: argparse.Namespace) -> None:
     given = passphrase_of(words, again=True)
-    with source(words.input) as file, sink(words.output, words.input) as under:
+    see_apart(words)
+    with source(words.input) as file, sink(words) as under:
         with agefile.open(under, "wb", passphrase=given, work=words.log) as out:
             for piece in pieces(file):
                 out.write(piece)
-        under.flush()
 
 
 def decrypt(words: argparse.Namespace) -> None:
-    with source(words.input) as under, opened(under, words) as file, sink(words.output, words.input) as out:
-        while piece := file.read1(_library.CHUNK):  # a chunk at a time, so that what comes before a fault is written
-            out.write(piece)
-        out.flush()
+    see_apart(words)
+    count = 0
+    try:
+        with source(words.input) as under, opened(under, words) as file, sink(words) as out:
+            while piece := file.read1(_library.CHUNK):  # a chunk at a time, so that what comes before a fault is written
+                out.write(piece)
+                count += len(piece)
+    except agefile.AgeError as fault:
+        if count > 0:
+            fault.args += (f"OUT has the first {count} bytes of the text",)
+        raise
+
+
+def salvage(words: argparse.Namespace) -> int:
+    see_apart(words)
+    keys: dict[str, Any] = {"identity": identities_of(words.keys)} if words.keys is not None else {"passphrase": passphrase_of(words), "max_work": words.max_log}
+    out: Any = sys.stdout.buffer if words.output == "-" else words.output
+    with source(words.input) as file, Progress(file) as progress:
+        found = agefile.salvage(file, out, progress=progress.told, **keys)
+    sys.stdout.buffer.flush()
+    for first, after in found.lost:
+        print(f"agefile: lost: from byte {first} to before byte {after}", file=sys.stderr)
+    if not found.ends:
+        print("agefile: the last chunk is damaged or was cut off: the text may have been longer", file=sys.stderr)
+    if found.followed:
+        print("agefile: something was appended to the file, and is left out", file=sys.stderr)
+    if found.size == 0 and not found.is_whole:
+        print(f"agefile: no chunk opens: {words.output} is as it was", file=sys.stderr)
+    return 0 if found.is_whole else 1
+
+
+class Progress:
+    """A line at a terminal, once a second."""
+
+    def __init__(self, file: Any) -> None:
+        self._shown = 0.0
+        self._is_shown = sys.stderr.isatty()
+        self._size = os.fstat(file.fileno()).st_size
+
+    def told(self, chunks: int) -> None:
+        if self._is_shown and time.monotonic() > self._shown + 1:
+            self._shown = time.monotonic()
+            part = f" of {self._size >> 20}" if self._size else ""
+            print(f"\r{chunks * _library.BLOCK >> 20}{part} MiB ", end="", file=sys.stderr, flush=True)
+
+    def __enter__(self) -> Progress:
+        return self
+
+    def __exit__(self, *_: Any) -> None:
+        if self._shown:
+            print("\r\033[K", end="", file=sys.stderr, flush=True)
 
 
 def test(words: argparse.Namespace) -> None:
@@ -103,11 +166,14 @@ def opened(file: Any, words: argparse.Namespace) -> Any:
 
 
 def words_of() -> argparse.Namespace:
-    top = argparse.ArgumentParser("python3 -m agefile", description="Encrypts, decrypts and tests age files. Only status 0 means that OUT "
-                                  "is whole: after a fault it holds a checked beginning. - is standard input or output.")
+    top = argparse.ArgumentParser("python3 -m agefile", description="Encrypts, decrypts, tests and salvages age files. Only status 0 means that OUT "
+                                  "is whole, and on the disk: after a fault it holds a checked beginning. - is standard input or output.")
     top.add_argument("--version", action="version", version=f"agefile {agefile.__version__}")
     commands = top.add_subparsers(required=True, metavar="COMMAND")
-    for call, what in ((encrypt, "encrypt IN to OUT under a passphrase"), (decrypt, "decrypt IN to OUT"), (test, "decrypt IN to nowhere")):
+    for call, what in (
+        (encrypt, "encrypt IN to OUT under a passphrase"), (decrypt, "decrypt IN to OUT"), (test, "decrypt IN to nowhere"),
+        (salvage, "write what still opens of IN, which was damaged or cut, to OUT, with zeros for what doesn't, and say what is lost"),
+    ):
         command = commands.add_parser(call.__name__, help=what, description=what)
         command.set_defaults(call=call)
         keys = command.add_mutually_exclusive_group()
@@ -132,13 +198,14 @@ def words_of() -> argparse.Namespace:
 def main() -> int:
     words = words_of()
     try:
-        words.call(words)
+        return words.call(words) or 0
     except (agefile.AgeError, OSError, ValueError, ImportError) as fault:
         print(f"agefile: {fault}", file=sys.stderr)
+        if isinstance(fault, agefile.AgeError) and isinstance(fault.args[-1], str):
+            print(f"agefile: {fault.args[-1]}", file=sys.stderr)
         return 1
     except KeyboardInterrupt:
         return 130
-    return 0
 
 
 if __name__ == "__main__":

@@ -6,7 +6,7 @@ import base64
 import os
 import re
 import subprocess
-from collections.abc import Iterable, Iterator
+from collections.abc import Callable, Iterable, Iterator
 from typing import Tuple
 
 from ._library import Bytes, C, Opened, ReaderState
@@ -14,10 +14,9 @@ from ._library import Bytes, C, Opened, ReaderState
 Pair = Tuple[bytes, bytes]  # a shared secret, and the recipient that it is for
 
 WRONG_KEY = 13
-MOST = 500  # X25519 stanzas that are tried: the time grows with the square of their number
 NOTHING = bytes([1]) * 32, bytes(32)
 LETTERS = "qpzry9x8gf2tvdw0s3jn54khce6mua7l"
-SHARE = re.compile(rb"^-> X25519 ([A-Za-z0-9+/]{43})$", re.M)
+STANZA = re.compile(rb"^-> X25519 ([A-Za-z0-9+/]{43})\n[A-Za-z0-9+/]{43}$", re.M)
 
 
 def bech32_decoded(text: str) -> tuple[str, bytes]:
@@ -86,16 +85,22 @@ def identities_of(given: str | Iterable[str]) -> list[str]:
     return found
 
 
-def x25519(secret: bytes, point: bytes) -> bytes:
-    """X25519, by the package cryptography if it is installed, else by openssl. Zeros if it is undefined for the point."""
+def x25519_of(secret: bytes) -> Callable[[bytes], bytes]:
+    """X25519 of this secret and a point, by the package cryptography if it is installed, else by openssl. Zeros if it is undefined for the
+    point."""
     try:
         from cryptography.hazmat.primitives.asymmetric.x25519 import X25519PrivateKey, X25519PublicKey
     except ImportError:
-        return by_openssl(secret, point)
-    try:
-        return X25519PrivateKey.from_private_bytes(secret).exchange(X25519PublicKey.from_public_bytes(point))
-    except ValueError:
-        return bytes(32)
+        return lambda point: by_openssl(secret, point)
+    key = X25519PrivateKey.from_private_bytes(secret)  # (which takes longer than what follows)
+
+    def exchanged(point: bytes) -> bytes:
+        try:
+            return key.exchange(X25519PublicKey.from_public_bytes(point))
+        except ValueError:
+            return bytes(32)
+
+    return exchanged
 
 
 def by_openssl(secret: bytes, point: bytes) -> bytes:
@@ -121,14 +126,15 @@ def by_openssl(secret: bytes, point: bytes) -> bytes:
     raise OSError(f"openssl: {run.stderr.decode(errors='replace').strip()}")
 
 
-def _pairs(identities: Iterable[str], front: bytes) -> Iterator[Pair]:
-    """The shared secret and the recipient of each X25519 stanza of a header, for each key."""
-    shares = [base64.b64decode(it + b"=") for it in SHARE.findall(front.partition(b"\n---")[0])[:MOST]]
+def _pairs(identities: Iterable[str], front: bytes) -> Iterator[tuple[Pair, bytes]]:
+    """The shared secret and the recipient of each X25519 stanza of a header, for each key, and a header of that stanza alone."""
+    found = [(base64.b64decode(it[1] + b"="), b"age-encryption.org/v1\n%b\n--- %b\n%b" % (it[0], b"A" * 43, bytes(16)))
+             for it in STANZA.finditer(front.partition(b"\n---")[0])]
     for identity in identities:
-        secret = secret_of(identity)
-        recipient = x25519(secret, bytes([9]) + bytes(31))
-        for share in shares:
-            yield x25519(secret, share), recipient
+        exchanged = x25519_of(secret_of(identity))
+        recipient = exchanged(bytes([9]) + bytes(31))
+        for share, alone in found:
+            yield (exchanged(share), recipient), alone
 
 
 def opening(identities: list[str]) -> Opened:
@@ -144,10 +150,13 @@ def tried(identities: list[str], front: bytes, state: ReaderState) -> tuple[int,
     did. The first pair opens nothing: by it the library says what is wrong with the header, or that it isn't complete."""
     pair, answer = NOTHING, _by_shared(NOTHING, front, state)
     if answer == WRONG_KEY:
-        for pair in _pairs(identities, bytes(front)):
-            answer = _by_shared(pair, front, state)
-            if answer != WRONG_KEY:
-                break
+        for pair, alone in _pairs(identities, bytes(front)):
+            # A pair opens no stanza but its own. So a header of that one says whether the whole is worth a try, or the time would grow
+            # with the square of the number of stanzas.
+            if _by_shared(pair, alone, ReaderState()) != WRONG_KEY:
+                answer = _by_shared(pair, front, state)
+                if answer != WRONG_KEY:
+                    break
     return answer, pair
 
 

@@ -1,0 +1,138 @@
+"""What can be saved of an age file that was damaged or cut: each chunk that still opens, at its place."""
+from __future__ import annotations
+
+import builtins
+import io
+import os
+from typing import Any, Callable, Iterable, NamedTuple
+
+from . import _rooms
+from ._library import BLOCK, CHUNK, C, ReaderState, fault_of
+from ._reader import header_of, opening_of
+from ._source import can_seek, filled
+
+LAST_SEEN = 2  # the reader's state after the last block, if that is whole
+TAG = 16
+
+
+class Salvage(NamedTuple):
+    """What was saved. Where a chunk didn't open the text has zeros."""
+    size: int  # of the text that was written
+    lost: list[tuple[int, int]]  # what is zeros: the first byte, and the byte after the last
+    ends: bool  # whether the last chunk opened: else the text may have been longer
+    followed: bool  # whether something was appended to the file, which is left out
+
+    @property
+    def is_whole(self) -> bool:
+        return not self.lost and self.ends
+
+
+class _Out:
+    """What is written to, from the first text on: zeros for what was lost, until then and after it."""
+
+    def __init__(self, out: Any) -> None:
+        self._out, self._file, self._size = out, None if isinstance(out, (str, bytes, os.PathLike)) else out, 0
+        self._owned = self._file is None
+
+    def put(self, at: int, text: bytes) -> None:
+        """Writes a text at its place."""
+        if self._file is None:
+            self._file = builtins.open(self._out, "wb")
+        self.zeros(at)
+        self._write(text)
+
+    def zeros(self, end: int) -> None:
+        """Writes zeros up to a place."""
+        while self._size < end:
+            self._write(bytes(min(CHUNK, end - self._size)))
+
+    def _write(self, text: bytes) -> None:
+        self._size += len(text)
+        while text:
+            assert self._file is not None
+            text = text[self._file.write(text):]
+
+    def close(self) -> None:
+        if self._owned and self._file is not None:
+            self._file.flush()
+            os.fsync(self._file.fileno())
+            self._file.close()
+
+
+class _Blocks:
+    """The blocks of a file, in their order. One that can't be read is lost, if the file can be sought in."""
+
+    def __init__(self, file: Any, rest: bytearray) -> None:
+        self._file, self._rest = file, rest
+        self._begin = self._end = -1
+        if can_seek(file):
+            self._begin = file.tell() - len(rest)
+            file.seek(0, io.SEEK_END)
+            self._end = file.tell()
+
+    def read(self, number: int, room: memoryview) -> tuple[int, bool]:
+        """How many bytes the file has of a block, and whether they are in the room."""
+        if self._begin < 0:
+            have = min(len(self._rest), BLOCK)
+            room[:have] = self._rest[:have]
+            del self._rest[:have]
+            return filled(self._file, room, have), True
+        at = self._begin + number * BLOCK
+        have = max(0, min(BLOCK, self._end - at))
+        try:
+            self._file.seek(at)
+            return have, filled(self._file, room[:have]) == have
+        except OSError:
+            return have, False
+
+
+def _opened(state: ReaderState, room: _rooms.Room, number: int, have: int) -> bytes | None:
+    """The text of a block, or of what is left at the end, if it opens at that place."""
+    answer = C.age_c_seek(state, number)
+    if answer != 0:
+        raise fault_of(answer)
+    call = C.age_c_block if have == BLOCK else C.age_c_end
+    if call(state, room.block.place, have, *room.text.given, room.count) != 0:
+        return None
+    return bytes(room.text.view[:room.count.value])
+
+
+def salvage(file: Any, out: Any, *, passphrase: str | bytes | None = None, file_key: bytes | None = None,
+            shared: tuple[bytes, bytes] | None = None, identity: str | Iterable[str] | None = None, max_work: int = 22,
+            progress: Callable[[int], None] | None = None) -> Salvage:
+    """Writes each chunk of a damaged or cut age file that still opens, at its place, to a path or a binary file object, and zeros for
+    each chunk that doesn't. What is written is authentic: no tag is forged, and no chunk stands in another one's place. The header has to
+    be whole. `out` isn't touched before a chunk opened. `progress` is told the number of chunks after each."""
+    opened = opening_of(passphrase, file_key, shared, identity, max_work)
+    under = builtins.open(file, "rb", buffering=0) if isinstance(file, (str, bytes, os.PathLike)) else file
+    to, room = _Out(out), _rooms.taken()
+    try:
+        state = ReaderState()
+        blocks = _Blocks(under, header_of(under, opened, file_key is not None, state))
+        return _saved(blocks, state, room, to, progress or (lambda _: None))
+    finally:
+        _rooms.given_back(room)
+        to.close()
+        if under is not file:
+            under.close()
+
+
+def _saved(blocks: _Blocks, state: ReaderState, room: _rooms.Room, out: _Out, progress: Callable[[int], None]) -> Salvage:
+    lost: list[tuple[int, int]] = []
+    number, size, ends, have, opens = 0, 0, False, BLOCK, False
+    while have == BLOCK and not ends:
+        have, is_there = blocks.read(number, room.block.view)
+        text = _opened(state, room, number, have) if is_there else None
+        at = number * CHUNK
+        if text is not None:
+            out.put(at, text)
+            opens, size = True, at + len(text)
+            ends = have < BLOCK or state.state == LAST_SEEN
+        elif have > TAG or have == BLOCK:
+            size = at + have - TAG
+            lost[-1:] = [(lost[-1][0], size)] if lost and lost[-1][1] == at else [*lost[-1:], (at, size)]
+        number += 1
+        progress(number)
+    if opens:
+        out.zeros(size)
+    return Salvage(size if opens else 0, lost, ends, ends and have == BLOCK and blocks.read(number, room.block.view)[0] > 0)
