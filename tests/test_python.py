@@ -28,6 +28,14 @@ SHARED_EMPTY = SHARED_HEADER + b"defghijklmnopqrs" + bytes.fromhex("c1ab8f53158f
 SECRET, RECIPIENT = bytes(range(0x40, 0x60)), bytes(range(0x60, 0x80))
 
 
+# What release/packages takes of a release, beside the module.
+RELEASED = (
+    "bin/age_tool", "lib/libage_c.so.0", "lib/libage_c.a", "include/age_c.h", "share/man/man1/age_tool.1", "share/age_tool/decrypt.c",
+    "share/bash-completion/completions/age_tool", "share/zsh/site-functions/_age_tool", "share/fish/vendor_completions.d/age_tool.fish",
+    "share/doc/age_tool/CHANGELOG.md", "share/doc/age_tool/docs/LIBRARY.md", "lib/pkgconfig/age_c.pc", "lib/cmake/age_c/age_cConfig.cmake",
+)
+
+
 def setUpModule():
     global agefile
     agefile = bindings.module()
@@ -519,6 +527,29 @@ class PythonTest(BindingsCase):
         with open(self.path("plain"), "rb") as file:
             run = self.command("encrypt", "--pass", "pw", "-", "plain", stdin=file)
         self.see("standard input is OUT", run.returncode == 1 and self.path("plain").read_bytes() == b"plain text", run.stderr)
+
+    @needs("dpkg-deb")
+    def test_upgrade(self):
+        """A package that is unpacked over an earlier one is what Python runs, also where the module's files are as long as they were."""
+        place = self.path("root/usr/lib/python3/dist-packages")
+        program = "import importlib.metadata as it, agefile._writer as module; print(module.GATHERED, it.version('agefile'))"
+        env = {**os.environ, "PYTHONPATH": str(place), "AGE_C_LIBRARY": str(LIBRARY / "libage_c.so"), "PYTHONDONTWRITEBYTECODE": ""}
+        for epoch, number in ((1_700_000_000, "16_384"), (1_700_000_100, "16_383")):
+            release, out = self.path(number), self.path(f"packages-{number}")
+            out.mkdir()
+            for name in RELEASED:
+                (release / name).parent.mkdir(parents=True, exist_ok=True)
+                (release / name).write_text("prefix=\n")
+            module = release / "share/age_tool/agefile"
+            shutil.copytree(PYTHON / "agefile", module, ignore=shutil.ignore_patterns("__pycache__"))
+            text = (module / "_writer.py").read_text()
+            (module / "_writer.py").write_text(text.replace("GATHERED = 16_384", f"GATHERED = {number}"))
+            words = [TOP / "release" / "packages", release, "1.1.0", out]
+            subprocess.run(words, env={**os.environ, "SOURCE_DATE_EPOCH": str(epoch)}, check=True, capture_output=True)
+            subprocess.run(["dpkg-deb", "-x", out / "python3-agefile_1.1.0-1_amd64.deb", self.path("root")], check=True)
+            run = subprocess.run([sys.executable, "-c", program], env=env, capture_output=True, text=True)
+            self.see(f"the module with {number}", run.stdout.split() == [number.replace("_", ""), "1.1.0"], run.stdout, run.stderr[-300:])
+        self.see("the module was compiled", any((place / "agefile" / "__pycache__").iterdir()))
 
     def test_unlike_files(self):
         """Sources that can seek but have no `seekable`, or whose seek returns nothing, that overstate their length, and that lie."""
