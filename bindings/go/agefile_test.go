@@ -641,3 +641,64 @@ func TestZeroValues(t *testing.T) {
 		t.Error("a Reader that is none", err)
 	}
 }
+
+// What is salvaged: each chunk that isn't damaged at its place, zeros for the others, and which are
+// lost.
+func TestSalvage(t *testing.T) {
+	for _, n := range lengths {
+		text := textOf(n)
+		data := sealed(t, text)
+		chunks := (n + 65535) / 65536
+		if chunks == 0 {
+			chunks = 1
+		}
+		begin := len(data) - n - 16*chunks
+		for turn := 0; turn < 1<<chunks; turn++ {
+			file, want, lost := append([]byte(nil), data...), append([]byte(nil), text...), []Range(nil)
+			for i := 0; i < chunks; i++ {
+				if turn>>i&1 == 0 {
+					continue
+				}
+				file[begin+i*65552+turn%16] ^= 1
+				first, after := i*65536, (i+1)*65536
+				if after > n {
+					after = n
+				}
+				for at := first; at < after; at++ {
+					want[at] = 0
+				}
+				if k := len(lost) - 1; k >= 0 && lost[k].After == int64(first) {
+					lost[k].After = int64(after)
+				} else if after > first {
+					lost = append(lost, Range{int64(first), int64(after)})
+				}
+			}
+			if turn == 1<<chunks-1 {
+				want = nil // nothing opens
+			}
+			var out bytes.Buffer
+			found, err := Salvage(&out, iotest.HalfReader(bytes.NewReader(file)), pw())
+			if err != nil || !bytes.Equal(out.Bytes(), want) || found.Size != int64(len(want)) ||
+				fmt.Sprint(found.Lost) != fmt.Sprint(lost) || found.Ends == (turn>>(chunks-1) == 1) || found.Followed {
+				t.Fatalf("%d bytes, damage %b: %+v, %v, not %v", n, turn, found, err, lost)
+			}
+		}
+		for end := begin; end < len(data); end += 1 + (end-begin)%16*4099 {
+			var out bytes.Buffer
+			found, err := Salvage(&out, bytes.NewReader(data[:end]), pw())
+			whole := (end - begin) / 65552 * 65536
+			if err != nil || found.Ends || out.Len() < whole || !bytes.Equal(out.Bytes()[:whole], text[:whole]) {
+				t.Fatalf("%d bytes, cut at %d: %+v, %v", n, end-begin, found, err)
+			}
+		}
+	}
+	var out bytes.Buffer
+	if _, err := Salvage(&out, bytes.NewReader(sealed(t, textOf(9))), Passphrase([]byte("other"), MaxWork)); !errors.Is(err, ErrWrongKey) || out.Len() > 0 {
+		t.Error("another passphrase", err)
+	}
+	full := append(sealed(t, textOf(65536)), 0)
+	found, err := Salvage(&out, bytes.NewReader(full), pw())
+	if err != nil || !found.Followed || !found.Whole() || !bytes.Equal(out.Bytes(), textOf(65536)) {
+		t.Errorf("a byte after the end: %+v, %v", found, err)
+	}
+}

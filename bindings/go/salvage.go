@@ -1,0 +1,139 @@
+package agefile
+
+/*
+#include "age_c.h"
+*/
+import "C"
+
+import (
+	"bytes"
+	"io"
+)
+
+// A Range is a part of a text, from its first byte to the byte after its last.
+type Range struct{ First, After int64 }
+
+// A Salvaged says what Salvage wrote.
+type Salvaged struct {
+	Size     int64   // of the text that was written
+	Lost     []Range // what is zeros in it
+	Ends     bool    // whether the last chunk opened: else the text may have been longer
+	Followed bool    // whether something was appended to the file, which is left out
+}
+
+// Whole says that nothing is missing.
+func (s *Salvaged) Whole() bool { return len(s.Lost) == 0 && s.Ends }
+
+// Salvage writes each chunk of a damaged or cut file that still opens, at its place, and zeros for
+// each chunk that doesn't. What is written is authentic. The header has to be whole. Nothing is
+// written before a chunk opened; if none does, Size is 0.
+func Salvage(out io.Writer, file io.Reader, key Key) (*Salvaged, error) {
+	r, err := Open(file, key)
+	if err != nil {
+		return nil, err
+	}
+	s := &salvager{file: io.MultiReader(bytes.NewReader(append([]byte(nil), r.front...)), file), out: out, reader: r.stream.reader, text: r.chunk}
+	r.stream = C.age_c_stream{} // its copy of the file key
+	defer func() { s.reader = C.age_c_reader{} }()
+	return s.run()
+}
+
+type salvager struct {
+	file   io.Reader
+	out    io.Writer
+	reader C.age_c_reader
+	text   []byte
+	found  Salvaged
+	size   int64 // of the text so far
+	block  [C.AGE_C_BLOCK]byte
+}
+
+func (s *salvager) run() (*Salvaged, error) {
+	have, opens := C.AGE_C_BLOCK, false
+	for number := int64(0); have == C.AGE_C_BLOCK && !s.found.Ends; number++ {
+		var err error
+		if have, err = io.ReadFull(s.file, s.block[:]); err != nil && err != io.EOF && err != io.ErrUnexpectedEOF {
+			return nil, err
+		}
+		n, opened, err := s.open(number, have)
+		if err != nil {
+			return nil, err
+		}
+		at := number * C.AGE_C_CHUNK
+		if opened {
+			if err := s.put(at, s.text[:n]); err != nil {
+				return nil, err
+			}
+			opens, s.size = true, at+int64(n)
+			s.found.Ends = have < C.AGE_C_BLOCK || s.reader.state == 2
+		} else if have > 16 {
+			s.size = at + int64(have) - 16
+			s.lose(at)
+		}
+	}
+	if opens {
+		if err := s.put(s.size, nil); err != nil {
+			return nil, err
+		}
+	}
+	if s.found.Ends && have == C.AGE_C_BLOCK {
+		n, err := readSome(s.file, s.block[:1])
+		if n == 0 && err != io.EOF {
+			return nil, err
+		}
+		s.found.Followed = n > 0
+	}
+	return &s.found, nil
+}
+
+// open opens a block, or what is left at the end, at its place, and says whether it opens.
+func (s *salvager) open(number int64, have int) (int, bool, error) {
+	var written C.size_t
+	if answer := C.age_c_seek(&s.reader, C.uint64_t(number)); answer != 0 {
+		return 0, false, blockFault(answer, &s.reader)
+	}
+	block := s.block[:have]
+	if have == C.AGE_C_BLOCK {
+		answer := C.age_c_block(&s.reader, place(block), length(block), place(s.text), length(s.text), &written)
+		return int(written), answer == 0, nil
+	}
+	answer := C.age_c_end(&s.reader, place(block), length(block), place(s.text), length(s.text), &written)
+	return int(written), answer == 0, nil
+}
+
+// lose notes that the text from a place up to where it stands is lost.
+func (s *salvager) lose(at int64) {
+	if last := len(s.found.Lost) - 1; last >= 0 && s.found.Lost[last].After == at {
+		s.found.Lost[last].After = s.size
+	} else {
+		s.found.Lost = append(s.found.Lost, Range{at, s.size})
+	}
+}
+
+// put writes a text at its place, after zeros.
+func (s *salvager) put(at int64, text []byte) error {
+	var zeros [4096]byte
+	for s.found.Size < at {
+		n := min64(at-s.found.Size, int64(len(zeros)))
+		if err := s.write(zeros[:n]); err != nil {
+			return err
+		}
+	}
+	return s.write(text)
+}
+
+func (s *salvager) write(text []byte) error {
+	n, err := s.out.Write(text)
+	if err == nil && n < len(text) {
+		err = io.ErrShortWrite
+	}
+	s.found.Size += int64(n)
+	return err
+}
+
+func min64(a, b int64) int64 {
+	if a < b {
+		return a
+	}
+	return b
+}
