@@ -13,7 +13,11 @@ const CHUNK: u64 = AGE_C_CHUNK as u64;
 const BLOCK: u64 = AGE_C_BLOCK as u64;
 
 /// Opens a block, or what is left at the end, and returns the length of its text.
-fn open_block(reader: &mut AgeCReader, block: &[u8], text: &mut [u8]) -> Result<usize, AgeError> {
+pub(crate) fn open_block(
+    reader: &mut AgeCReader,
+    block: &[u8],
+    text: &mut [u8],
+) -> Result<usize, AgeError> {
     let call = if block.len() == AGE_C_BLOCK {
         age_c_block
     } else {
@@ -38,7 +42,7 @@ fn open_block(reader: &mut AgeCReader, block: &[u8], text: &mut [u8]) -> Result<
 }
 
 /// Reads until the room is full, or the file ends. What came before a failed read counts.
-fn fill<R: Read>(file: &mut R, room: &mut [u8], have: &mut usize) -> io::Result<()> {
+pub(crate) fn fill<R: Read>(file: &mut R, room: &mut [u8], have: &mut usize) -> io::Result<()> {
     while *have < room.len() {
         match file.read(&mut room[*have..]) {
             Ok(0) => break,
@@ -90,7 +94,8 @@ impl<R: Read + Seek> AgeFile<R> {
             text: vec![0; AGE_C_CHUNK],
             held: None,
         };
-        made.hold(last)?;
+        // (the end of that chunk proves the length, whatever the file says of its own)
+        made.len = last * CHUNK + made.hold(last)? as u64;
         Ok(made)
     }
 

@@ -27,13 +27,15 @@ mod error;
 mod file;
 mod key;
 mod reader;
+mod salvage;
 mod state;
 mod writer;
 
 pub use error::AgeError;
 pub use file::AgeFile;
 pub use key::Key;
-pub use reader::AgeReader;
+pub use reader::{AgeReader, Opening};
+pub use salvage::{salvage, Salvaged};
 pub use writer::AgeWriter;
 
 /// The greatest work factor.

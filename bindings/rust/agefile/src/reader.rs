@@ -22,6 +22,17 @@ pub(crate) fn open_header<R: Read>(
     reader: &mut AgeCReader,
 ) -> io::Result<Vec<u8>> {
     let mut front = Vec::new();
+    read_header(file, key, reader, &mut front)?;
+    Ok(front)
+}
+
+/// The same, from where an earlier read stopped. What was read is kept, whatever happens.
+fn read_header<R: Read>(
+    file: &mut R,
+    key: Key,
+    reader: &mut AgeCReader,
+    front: &mut Vec<u8>,
+) -> io::Result<()> {
     let mut room = vec![0; AGE_C_CHUNK];
     loop {
         let most = room.len().min(AGE_C_FRONT_MAX - front.len());
@@ -31,17 +42,60 @@ pub(crate) fn open_header<R: Read>(
         };
         let seen = front.len();
         front.extend_from_slice(&room[..n]);
-        if n > 0 && !may_open(&front, seen) {
+        if n > 0 && !may_open(front, seen) {
             continue;
         }
-        match key.open(&front, reader) {
+        match key.open(front, reader) {
             0 => break,
             AGE_C_MORE if n > 0 => {}
             number => return Err(AgeError::of_header(number, key.is_file_key()).into()),
         }
     }
     front.drain(..reader.payload_at as usize);
-    Ok(front)
+    Ok(())
+}
+
+/// A file whose header comes in parts, from a source that doesn't block.
+pub struct Opening<'a, R> {
+    file: R,
+    key: Key<'a>,
+    front: Vec<u8>,
+}
+
+impl<'a, R: Read> Opening<'a, R> {
+    /// A file that nothing was read of.
+    pub fn new(file: R, key: Key<'a>) -> Opening<'a, R> {
+        Opening {
+            file,
+            key,
+            front: Vec::new(),
+        }
+    }
+
+    /// Reads on, and opens the header. If the file fails, as with [`ErrorKind::WouldBlock`], what
+    /// was read is in the opening that comes back with the error: try that again.
+    #[allow(clippy::result_large_err)]
+    pub fn open(mut self) -> Result<AgeReader<R>, (io::Error, Opening<'a, R>)> {
+        let mut stream = State::<AgeCStream>::default();
+        match read_header(
+            &mut self.file,
+            self.key,
+            &mut stream.reader,
+            &mut self.front,
+        ) {
+            Ok(()) => Ok(AgeReader::after(self.file, stream, self.front)),
+            Err(error) => Err((error, self)),
+        }
+    }
+}
+
+impl<R> fmt::Debug for Opening<'_, R> {
+    /// Shows no key.
+    fn fmt(&self, f: &mut fmt::Formatter<'_>) -> fmt::Result {
+        f.debug_struct("Opening")
+            .field("read", &self.front.len())
+            .finish_non_exhaustive()
+    }
 }
 
 /// The text of an age file, from its beginning to its end.
@@ -59,13 +113,17 @@ pub struct AgeReader<R> {
 }
 
 impl<R: Read> AgeReader<R> {
-    /// Opens the header. It reads no more of the file than it needs, and what comes along.
-    pub fn open(mut file: R, key: Key) -> io::Result<AgeReader<R>> {
-        let mut stream = State::<AgeCStream>::default();
-        let mut piece = open_header(&mut file, key, &mut stream.reader)?;
+    /// Opens the header. It reads no more of the file than it needs, and what comes along. For a
+    /// file that doesn't block there is [`Opening`].
+    pub fn open(file: R, key: Key) -> io::Result<AgeReader<R>> {
+        Opening::new(file, key).open().map_err(|(error, _)| error)
+    }
+
+    /// A reader after the header: what was read of what follows it.
+    fn after(file: R, stream: State<AgeCStream>, mut piece: Vec<u8>) -> AgeReader<R> {
         let to = piece.len();
         piece.resize(to.max(AGE_C_BLOCK), 0);
-        Ok(AgeReader {
+        AgeReader {
             file,
             stream,
             piece,
@@ -76,7 +134,7 @@ impl<R: Read> AgeReader<R> {
             len: 0,
             fault: None,
             ended: false,
-        })
+        }
     }
 
     /// The file that is read.

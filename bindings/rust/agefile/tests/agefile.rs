@@ -1,6 +1,6 @@
 //! Readers and writers over files in memory, and files that age 1.1.1 made.
 
-use agefile::{AgeError, AgeFile, AgeReader, AgeWriter, Key};
+use agefile::{salvage, AgeError, AgeFile, AgeReader, AgeWriter, Key, Opening};
 use std::cell::RefCell;
 use std::io::{self, BufRead, Cursor, ErrorKind, Read, Seek, SeekFrom, Write};
 use std::rc::Rc;
@@ -523,4 +523,112 @@ fn returns_what_comes_before_a_fault() {
     };
     assert_eq!(AgeError::of(&error).unwrap().chunk, Some(2));
     assert!(got == text[..131_072]);
+}
+
+/// A file that gives ten bytes, then nothing yet, and so on.
+struct Halting<'a>(&'a [u8], bool);
+
+impl Read for Halting<'_> {
+    fn read(&mut self, into: &mut [u8]) -> io::Result<usize> {
+        self.1 = !self.1;
+        if self.1 {
+            return Err(ErrorKind::WouldBlock.into());
+        }
+        let most = into.len().min(10);
+        self.0.read(&mut into[..most])
+    }
+}
+
+#[test]
+fn a_header_that_comes_in_parts() {
+    let data = sealed(b"text");
+    let (mut opening, mut waits) = (Opening::new(Halting(&data, false), PW), 0);
+    let mut reader = loop {
+        match opening.open() {
+            Ok(reader) => break reader,
+            Err((error, rest)) => {
+                assert_eq!(error.kind(), ErrorKind::WouldBlock);
+                (opening, waits) = (rest, waits + 1);
+            }
+        }
+    };
+    assert!(waits > 10);
+    let mut text = Vec::new();
+    while text.len() < 4 {
+        match reader.read_to_end(&mut text) {
+            Ok(_) => {}
+            Err(error) => assert_eq!(error.kind(), ErrorKind::WouldBlock),
+        }
+    }
+    assert_eq!(text, b"text");
+}
+
+#[test]
+fn salvages_what_opens() {
+    for len in LENGTHS {
+        let text = text_of(len);
+        let data = sealed(&text);
+        let chunks = len.div_ceil(65_536).max(1);
+        let begin = data.len() - len - 16 * chunks;
+        for damage in 0..1usize << chunks {
+            let (mut file, mut want) = (data.clone(), text.clone());
+            let mut lost: Vec<std::ops::Range<u64>> = Vec::new();
+            for chunk in (0..chunks).filter(|it| damage >> it & 1 == 1) {
+                file[begin + chunk * BLOCK + damage % 16] ^= 1;
+                let (first, after) = (chunk * 65_536, len.min((chunk + 1) * 65_536));
+                want[first..after].fill(0);
+                match lost.last_mut() {
+                    Some(last) if last.end == first as u64 => last.end = after as u64,
+                    _ if after > first => lost.push(first as u64..after as u64),
+                    _ => {}
+                }
+            }
+            if damage == (1 << chunks) - 1 {
+                want.clear();
+            }
+            let mut out = Vec::new();
+            let found = salvage(&file[..], PW, &mut out).unwrap();
+            assert_eq!((out, found.lost), (want, lost), "{len} bytes, {damage:b}");
+            assert_eq!(found.ends, damage >> (chunks - 1) == 0);
+        }
+    }
+    let mut out = Vec::new();
+    let wrong = Key::passphrase(b"other");
+    assert!(salvage(&sealed(b"text")[..], wrong, &mut out).is_err() && out.is_empty());
+    let mut longer = sealed(&text_of(65_536));
+    longer.push(0);
+    let found = salvage(&longer[..], PW, &mut out).unwrap();
+    assert!(found.is_whole() && found.followed && out == text_of(65_536));
+    for end in (sealed(&text_of(200_000)).len() - 200_064..200_000).step_by(9_973) {
+        let mut out = Vec::new();
+        let found = salvage(&sealed(&text_of(200_000))[..end], PW, &mut out).unwrap();
+        assert!(!found.ends && !found.is_whole());
+    }
+}
+
+/// A file that says it is longer than it is.
+struct Longer(Cursor<Vec<u8>>);
+
+impl Read for Longer {
+    fn read(&mut self, into: &mut [u8]) -> io::Result<usize> {
+        self.0.read(into)
+    }
+}
+
+impl Seek for Longer {
+    fn seek(&mut self, to: SeekFrom) -> io::Result<u64> {
+        match to {
+            SeekFrom::End(_) => Ok(self.0.get_ref().len() as u64 + 1),
+            to => self.0.seek(to),
+        }
+    }
+}
+
+#[test]
+fn a_length_that_is_wrong() {
+    let text = text_of(200_000);
+    let mut file = AgeFile::open(Longer(Cursor::new(sealed(&text))), PW).unwrap();
+    let mut got = Vec::new();
+    file.read_to_end(&mut got).unwrap();
+    assert_eq!((file.len(), got), (200_000, text));
 }
