@@ -46,7 +46,7 @@
  * overwrite it when you are done, by explicit_bzero (a compiler may leave out a memset). The
  * library keeps no pointer and no state. Only age_c_open_.. and age_c_seal_passphrase allocate, by
  * malloc, and free all of it before they return: with a passphrase of work factor N, 2^N KiB, and
- * for the header up to about 16 bytes for each of its bytes, which is 16 MiB for a hostile header
+ * for the header up to about 18 bytes for each of its bytes, which is 18 MiB for a hostile header
  * of 1 MiB. A call uses less than 100 KiB of stack.
  *
  * NOT PROMISED. Constant time, and that no trace of keys and passphrases is left: the library
@@ -69,12 +69,13 @@
  * ERRORS. A call returns 0, the number of a fault (AGE_C_NOT_AGE and so on; docs/FAULTS.md says
  * what each means), AGE_C_MORE or AGE_C_MISUSED. A call that doesn't return 0 has written no byte
  * of `out`, has set *written and *taken (or *text_len and *last_chunk) to 0, and has changed
- * nothing else, with one exception: a fault 17 to 22 of age_c_block, age_c_end, age_c_feed or
- * age_c_finish is kept in the reader (and then age_c_feed took *taken bytes all the same). Each
- * later call of these four on it returns that fault again, unless it is misused. After an end has
- * returned 0, repeating it with no bytes returns 0 and writes nothing, and so does age_c_feed with
- * an empty piece. Any other call of the four that passes bytes returns AGE_C_TRAILING, unless it is
- * misused. age_c_seek ends both: the reader goes on as one that was just begun, at that chunk.
+ * nothing else, with one exception: a fault 17 to 22 of age_c_block, age_c_end, age_c_feed,
+ * age_c_finish or age_c_open_at is kept in the reader (and then age_c_feed took *taken bytes all
+ * the same). Each later call of the first four returns that fault again, unless it is misused.
+ * After an end has returned 0, repeating it with no bytes returns 0 and writes nothing, and so does
+ * age_c_feed with an empty piece. Any other call of the four that passes bytes returns
+ * AGE_C_TRAILING, unless it is misused. age_c_seek and age_c_open_at end both: the reader goes on
+ * as one that was just begun, at that chunk.
  *
  * MISUSE. A call returns AGE_C_MISUSED if, and only if, a length, a work factor or a chunk's number
  * isn't as the call's comment says, or it takes a block or chunk, or goes to one, and its reader or
@@ -230,6 +231,14 @@ uint32_t age_c_end(age_c_reader *reader, const uint8_t *rest, size_t rest_len, u
  */
 AGE_C_MUST_CHECK
 uint32_t age_c_seek(age_c_reader *reader, uint64_t chunk);
+
+/* Opens one chunk at its place, whatever the reader was given before: age_c_seek to the chunk, and
+ * then age_c_block of a whole block; or age_c_end of fewer bytes, if the file ends after them. `out`
+ * as above. Only 0 for an end says where the text ends: at chunk * AGE_C_CHUNK + *written. If the
+ * last block is whole, age_c_end without bytes has to return 0 after this, too. (Since 1.2.0.) */
+AGE_C_MUST_CHECK
+uint32_t age_c_open_at(age_c_reader *reader, uint64_t chunk, const uint8_t *block, size_t block_len,
+                       uint8_t *out, size_t out_len, size_t *written);
 
 /* What the length of the whole file, in bytes, says of its text: on 0 a whole file of this length
  * has a text of *text_len bytes, and *last_chunk is the number of its last chunk. No whole file has

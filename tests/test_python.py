@@ -172,6 +172,9 @@ class PythonTest(BindingsCase):
     def test_names(self):
         """The version, and the names that a user sees."""
         told = self.tool("--version", check=True).stdout.decode().split()[1]
+        own = agefile._library.VERSION
+        for version, is_fit in ((own, True), (own + 1, True), (own + 100, True), (own - 1, False), (own + 10_000, False), (0, False)):
+            self.see(f"a library of version {version}", agefile._library.fits(version) == is_fit)
         run = self.command("--version")
         self.see("the version", agefile.__version__ == told and run.stdout == f"agefile {told}\n".encode(), agefile.__version__, run.stdout)
         for name in agefile.__all__:

@@ -69,9 +69,19 @@ static int seeks(void) {
     uint32_t size = age_c_size(&reader, len, &text_len, &last);
     int right = memcmp(&reader, &before, sizeof reader) == 0 && (size == 0 || (size >= 18 && size <= 20 && text_len == 0 && last == 0));
     if (size == 0) right = right && text_len + 16 * (last + 1) == len - reader.payload_at && len >= reader.payload_at && last == (text_len ? text_len - 1 : 0) / 65536;
+    age_c_reader there = reader;
+    static const size_t lens[] = {0, 1, 65551, 65552, 65553}, rooms[] = {0, 65535, 65536, 65537};
+    size_t size_at = one_of(lens, 5), room = one_of(rooms, 4), written = 77;
+    uint8_t *block = some(size_at), *out = some(room);
+    uint32_t opened = age_c_open_at(&there, chunk, block, size_at, out, room, &written);
     uint32_t answer = age_c_seek(&reader, chunk);
     int state_fits = (before.state >= 1 && before.state <= 3) || (before.state >= 17 && before.state <= 22);
     int fits = state_fits && before.chunk < UINT64_C(1) << 48 && chunk < UINT64_C(1) << 48;
+    int fits_there = fits && size_at <= 65552 && room >= 65536;
+    right = right && (opened == AGE_C_MISUSED) == !fits_there && written == 0 && is_untouched(out, room);
+    right = right && (fits_there ? opened == there.state && there.fault_chunk == chunk : memcmp(&there, &before, sizeof there) == 0);
+    free(block);
+    free(out);
     if (fits) before.chunk = chunk, before.state = 1, before.fault_chunk = 0;
     return right && answer == (fits ? 0u : AGE_C_MISUSED) && memcmp(&reader, &before, sizeof reader) == 0;
 }

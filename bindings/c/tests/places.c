@@ -38,10 +38,18 @@ static void seal(void) {
 /* Reads a chunk of a file that has this many bytes by now. The answer, and whether the text is right if it is 0. */
 static uint32_t read_chunk(age_c_reader *reader, uint64_t chunk, size_t have, uint8_t *out, int *right) {
     size_t at = (size_t)(reader->payload_at + chunk * AGE_C_BLOCK), len = at < have ? have - at : 0, written;
+    age_c_reader other = *reader;
     uint32_t answer = age_c_seek(reader, chunk);
     if (answer != 0) return answer;
     if (len >= AGE_C_BLOCK) answer = age_c_block(reader, file + at, AGE_C_BLOCK, out, AGE_C_CHUNK, &written);
     else answer = age_c_end(reader, len ? file + at : NULL, len, out, AGE_C_CHUNK, &written);
+    /* age_c_open_at does both at once */
+    uint8_t *there = malloc(AGE_C_CHUNK);
+    size_t count = 77, most = len < AGE_C_BLOCK ? len : AGE_C_BLOCK;
+    if (there == NULL) exit(2);
+    see(age_c_open_at(&other, chunk, most ? file + at : NULL, most, there, AGE_C_CHUNK, &count) == answer && count == written
+            && memcmp(there, out, written) == 0 && memcmp(&other, reader, sizeof other) == 0, "a chunk that is opened at its place");
+    free(there);
     *right = answer != 0 ? written == 0 : written > 0 && memcmp(out, text + chunk * AGE_C_CHUNK, written) == 0;
     return answer;
 }

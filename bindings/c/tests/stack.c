@@ -13,7 +13,7 @@
 
 #define ROOM ((size_t)1 << 20)
 #define MOST ((size_t)100 << 10)
-#define CALLS 12
+#define CALLS 13
 
 static uint8_t file[AGE_C_FRONT_MAX], out[AGE_C_BLOCK], key[32], noise[48];
 static size_t len, written, taken;
@@ -38,6 +38,7 @@ static void *call(void *which) {
     case 8: answer = age_c_feed_text(&write_stream, file, 9, &taken, out, sizeof out, &written); break;
     case 9: answer = age_c_finish_text(&write_stream, out, sizeof out, &written); break;
     case 10: answer = age_c_may_open(file, len, 1); break;
+    case 11: answer = age_c_open_at(&reader, 3, file, 400, out, sizeof out, &written); break;
     default: answer = age_c_finish(&stream, out, sizeof out, &written); break;
     }
     return NULL;

@@ -115,6 +115,11 @@ def _found() -> str:
     return os.environ.get("AGE_C_LIBRARY") or beside or "libage_c.so.0"
 
 
+def fits(version: int) -> bool:
+    """Whether a library of this version does what the one did that this module was made with: a later 1.x of it does."""
+    return VERSION <= version and version // 10_000 == VERSION // 10_000
+
+
 def _library() -> ctypes.CDLL:
     name = _found()
     try:
@@ -143,8 +148,8 @@ def _library() -> ctypes.CDLL:
         getattr(library, function).argtypes = arguments
         getattr(library, function).restype = number
     library.age_c_fault_name.argtypes, library.age_c_fault_name.restype = [number], ctypes.c_char_p
-    if library.age_c_version() != VERSION:
-        raise ImportError(f"{name}: version {library.age_c_version()}, not {VERSION}")
+    if not fits(library.age_c_version()):
+        raise ImportError(f"{name}: version {library.age_c_version()}, not {VERSION} or a later one that runs what it did")
     return library
 
 

@@ -74,6 +74,7 @@ class AgeReader(Buffered):
                  identity: str | Iterable[str] | None = None) -> None:
         super().__init__()
         self._file, self._owned, self._calls = file, owned, OneCall()
+        self._lock = self._calls.lock
         self._state = ReaderState()
         self._chunk, self._before, self._len = io.BytesIO(), 0, 0  # the text of a chunk, where it begins, and how long it is
         self._next_at = 0  # where the text begins that the library's reader opens next
@@ -182,10 +183,11 @@ class AgeReader(Buffered):
             return self._calls.make(call, *words)
 
     def read(self, size: int | None = -1, /) -> bytes:
-        size = -1 if size is None else operator.index(size)
+        if type(size) is not int:
+            size = -1 if size is None else operator.index(size)
         before, at = 0, -1
         try:
-            with self._calls.lock:
+            with self._lock:
                 chunk, before = self._chunk, self._before
                 at = chunk.tell()
                 if 0 <= size <= self._len - at:  # (most reads end here)
@@ -199,10 +201,15 @@ class AgeReader(Buffered):
 
     def _read(self, size: int) -> bytes:
         self._see_read()
+        if size < 0:
+            got = io.BytesIO()
+            while self._has_more():
+                got.write(self._chunk.read())
+            return got.getvalue()
         parts: list[bytes] = []
-        while size != 0 and self._has_more():
+        while size > 0 and self._has_more():
             parts.append(self._chunk.read(size))
-            size -= len(parts[-1]) if size > 0 else 0
+            size -= len(parts[-1])
         return parts[0] if len(parts) == 1 else b"".join(parts)
 
     def read1(self, size: int = -1, /) -> bytes:
@@ -274,14 +281,15 @@ class AgeReader(Buffered):
         return got
 
     def readline(self, size: int | None = -1, /) -> bytes:
-        size = -1 if size is None else operator.index(size)
+        if type(size) is not int:
+            size = -1 if size is None else operator.index(size)
         before, at = 0, -1
         try:
-            with self._calls.lock:
+            with self._lock:
                 chunk, before = self._chunk, self._before
                 at = chunk.tell()
                 line = chunk.readline(size)
-                if line.endswith(b"\n"):
+                if line[-1:] == b"\n":  # (most lines end here)
                     return line
                 chunk.seek(at)
                 return self._calls.make(self._read_line, size)

@@ -8,3 +8,4 @@ pub mod WriteStreamLemmas
 pub mod StreamCallLemmas
 pub mod FrontLemmas
 pub mod FrontSizeLemmas
+pub mod SeekLemmas

@@ -1,5 +1,5 @@
 -- What one call, and a list of them, does to a writer.
-use Rattle.std.proofs.Common.{inl, inr, ◌≡◌, ◌≢◌, ℕ, suc, ◌+◌, ◌*◌, ◌<◌, ◌≤◌, refl, ap, sym, subst, ◌∙◌, arith, List, [], ◌∷◌, ◌++◌, length, take, drop, Bool}
+use Rattle.std.proofs.Common.{inl, inr, ◌≡◌, ◌≢◌, ℕ, suc, ◌+◌, ◌*◌, ◌<◌, ◌≤◌, refl, ap, sym, ◌∙◌, arith, List, [], ◌∷◌, ◌++◌, length, take, drop, Bool}
 use Rattle.std.proofs.Common.{true, false}
 use Rattle.std.specs.Prelude.{map, ◌==◌, ◌⊎◌}
 use Rattle.std.specs.List.{enumerate_from}
@@ -18,7 +18,6 @@ use Rattle.age_c.specs.inner.Sealing.{SealsChunk, SealsLast}
 use Rattle.age_c.specs.Calls.{Answers, misused}
 use Rattle.age_keys.specs.Keys.{header_mac, IsMacOf}
 use Rattle.age_keys.specs.Scrypt.{scrypt_head}
-use Rattle.std.proofs.Common.{ap₂}
 
 pub key_same : (was now : Writer) → SameKeys was now → key_of now ≡ key_of was
 key_same was now same = cc (same.file_key, same.nonce)

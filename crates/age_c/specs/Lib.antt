@@ -2,4 +2,5 @@ pub mod Calls
 pub mod Readers
 pub mod Writers
 pub mod Streams
+pub mod Places
 pub mod inner

@@ -2,6 +2,7 @@
 //! no law: each call takes its reader or writer by reference, and the library keeps nothing else.
 
 ghost use Rattle.age_c.specs.Readers.{CallsAreWritten, PartsAreWritten, AnswersAreCalls};
+ghost use Rattle.age_c.specs.Places.{OpeningsAreParts};
 ghost use Rattle.age_c.specs.Streams.{AnswersAreFeedCalls, AnswersAreTextCalls, FeedsAreWritten};
 ghost use Rattle.age_c.specs.Streams.{PiecesReadBack, TextsAreFiles};
 
@@ -27,6 +28,13 @@ pub fn parts_are_written()
 /// use of them one of the calls that [`calls_are_written`] speaks of.
 pub fn answers_are_calls()
     ensures { AnswersAreCalls }
+{}
+
+/// What [`age_c_open_at`](crate::age_c_open_at) promises makes each use of it one of the seeks and
+/// calls that [`parts_are_written`] speaks of: what it writes stands in the writer's text at the
+/// chunk's place.
+pub fn openings_are_parts()
+    ensures { OpeningsAreParts }
 {}
 
 /// The headline for a caller whose pieces have any length: what [`calls_are_written`] says of blocks

@@ -17,6 +17,7 @@ mod feed_text;
 mod laws;
 mod numbers;
 mod open;
+mod open_at;
 mod read;
 mod reader;
 mod seal;
@@ -33,9 +34,10 @@ pub use feed::{age_c_feed, age_c_finish};
 pub use feed_text::{age_c_feed_text, age_c_finish_text};
 pub use laws::{
     answers_are_calls, answers_are_feed_calls, answers_are_text_calls, calls_are_written,
-    feeds_are_written, parts_are_written, pieces_read_back, texts_are_files,
+    feeds_are_written, openings_are_parts, parts_are_written, pieces_read_back, texts_are_files,
 };
 pub use open::{age_c_open_key, age_c_open_passphrase, age_c_open_shared, age_c_version};
+pub use open_at::age_c_open_at;
 pub use read::{age_c_block, age_c_end};
 pub use reader::Reader;
 pub use seal::age_c_seal_passphrase;

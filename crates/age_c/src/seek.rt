@@ -11,7 +11,7 @@ use crate::reader::Reader;
 use age_chunk::CHUNK_LIMIT;
 
 /// Leaves a reader as one that is at a chunk and was given nothing.
-fn go_to(reader: &mut Reader, chunk: u64)
+pub(crate) fn go_to(reader: &mut Reader, chunk: u64)
     requires { chunk < chunk_limit }
     ensures { GoesTo chunk reader.old reader.new }
 {

@@ -153,6 +153,15 @@ extern "C" {
         written: *mut usize,
     ) -> u32;
     pub fn age_c_seek(reader: *mut AgeCReader, chunk: u64) -> u32;
+    pub fn age_c_open_at(
+        reader: *mut AgeCReader,
+        chunk: u64,
+        block: *const u8,
+        block_len: usize,
+        out: *mut u8,
+        out_len: usize,
+        written: *mut usize,
+    ) -> u32;
     pub fn age_c_size(
         reader: *const AgeCReader,
         file_len: u64,

@@ -1,0 +1,54 @@
+//! The function by which C opens a chunk at its place.
+
+ghost use Rattle.std.specs.Prelude.{take};
+ghost use Rattle.age_c.specs.Calls.{Answers, PutsFront, answer_of};
+ghost use Rattle.age_c.specs.Places.{IsOpenAtCall, OpensAt};
+
+use crate::MISUSED;
+use crate::blocks::{open_block, open_last, status_at};
+use crate::numbers::answer_of;
+use crate::reader::Reader;
+use crate::seek::go_to;
+use age_chunk::{BLOCK_LEN, CHUNK_LEN, CHUNK_LIMIT};
+use age_stream::Status;
+
+/// Goes to a chunk, and opens its block there, or what is left of it at the end. Returns how many
+/// bytes of text were put into `out`.
+fn open_there(reader: &mut Reader, chunk: u64, block: &[u8], out: &mut [u8]) -> usize
+    requires { IsOpenAtCall reader.old chunk block.now out.old }
+    ensures opens { OpensAt chunk block.now reader.old (answer_of reader.new.state)
+        (take result out.new) reader.new }
+    ensures put { PutsFront result out.old out.new }
+{
+    go_to(reader, chunk);
+    if block.len() == BLOCK_LEN {
+        open_block(reader, Status::Open, block, out)
+    } else {
+        open_last(reader, Status::Open, block, out)
+    }
+}
+
+/// Goes to a chunk by its number, below 2^48, and opens its block of 65,552 bytes, or what is left
+/// of it if the file ends after fewer. Its text is put into `out`, which has room for 65,536 bytes
+/// or more. A fault or an end that came before is forgotten.
+#[unsafe(no_mangle)]
+pub extern "C" fn age_c_open_at(
+    reader: &mut Reader,
+    chunk: u64,
+    block: &[u8],
+    out: &mut [u8],
+    written: &mut usize,
+) -> u32
+    ensures { Answers (IsOpenAtCall reader.old chunk block.now out.old)
+        (OpensAt chunk block.now reader.old) reader.old reader.new result written.new out.old out.new }
+{
+    *written = 0;
+    if status_at(reader).is_none() || chunk >= CHUNK_LIMIT {
+        return MISUSED;
+    }
+    if block.len() > BLOCK_LEN || out.len() < CHUNK_LEN {
+        return MISUSED;
+    }
+    *written = open_there(reader, chunk, block, out);
+    answer_of(reader.state)
+}
