@@ -34,10 +34,10 @@
  * from the chunk's first byte, and once the end returned 0 it is all that follows, so that the
  * length of the text is known. An undamaged payload gives all of its text, and each call returns 0.
  * With 17 a block isn't the writer's, and `fault_chunk` is its number; the text before it has been
- * written by earlier calls. A file that was cut inside a chunk,
- * as nearly every cut file is, ends with 17 too: nobody can tell it from a damaged one. What a
- * writer wrote, from age_c_seal_passphrase to an age_c_finish_text that returned 0, is the age file of the text. Into which pieces a payload or a text was cut makes no
- * difference.
+ * written by earlier calls. A file that was cut inside a chunk, as nearly every cut file is, ends
+ * with 17 too: nobody can tell it from a damaged one. What a writer wrote, from
+ * age_c_seal_passphrase to an age_c_finish_text that returned 0, is the age file of the text. Into
+ * which pieces a payload or a text was cut makes no difference.
  *
  * OWNERSHIP. A reader or writer is 64 bytes of plain numbers, and a stream of either holds one
  * block or chunk besides, in the caller's memory: there is nothing to free, and it may be copied (a
@@ -83,8 +83,9 @@
  * or a writer's isn't 1; or a stream's `held` is AGE_C_BLOCK or more; or that of one that writes is
  * more than AGE_C_CHUNK, or 0 though its `chunk` isn't. This is looked at before anything else.
  *
- * The library is for x86-64 Linux: glibc 2.14 or later, and a processor with the instructions of
- * x86-64-v2. Link libage_c.a, which holds all that it needs but the C library; or libage_c.so.
+ * The library is for x86-64 Linux: glibc 2.14 or later, or musl, and a processor with the
+ * instructions of x86-64-v2. Link libage_c.a, which holds all that it needs but the C library; or
+ * libage_c.so.
  * Versions follow semantic versioning: within 1.x a later library runs what was built with an
  * earlier one, and an incompatible one has another soname than libage_c.so.0.
  */
@@ -233,8 +234,8 @@ AGE_C_MUST_CHECK
 uint32_t age_c_seek(age_c_reader *reader, uint64_t chunk);
 
 /* Opens one chunk at its place, whatever the reader was given before: age_c_seek to the chunk, and
- * then age_c_block of a whole block; or age_c_end of fewer bytes, if the file ends after them. `out`
- * as above. Only 0 for an end says where the text ends: at chunk * AGE_C_CHUNK + *written. If the
+ * then age_c_block of a whole block, or age_c_end of fewer bytes if the file ends there. `out` as
+ * above. Only 0 for an end says where the text ends: at chunk * AGE_C_CHUNK + *written. If the
  * last block is whole, age_c_end without bytes has to return 0 after this, too. (Since 1.2.0.) */
 AGE_C_MUST_CHECK
 uint32_t age_c_open_at(age_c_reader *reader, uint64_t chunk, const uint8_t *block, size_t block_len,

@@ -28,6 +28,36 @@ SHARED_EMPTY = SHARED_HEADER + b"defghijklmnopqrs" + bytes.fromhex("c1ab8f53158f
 SECRET, RECIPIENT = bytes(range(0x40, 0x60)), bytes(range(0x60, 0x80))
 
 
+# A program that mypy has to accept.
+USER = """
+import tarfile
+import zipfile
+from typing import BinaryIO
+
+import agefile
+
+
+def copied(source: BinaryIO, to: BinaryIO) -> None:
+    while piece := source.read(65_536):
+        to.write(piece)
+
+
+def by_mode(name: str, mode: str) -> None:
+    agefile.open(name, mode, passphrase="pw").close()
+
+
+with agefile.open("a", "wb", passphrase="pw") as out, agefile.open("b", passphrase="pw") as file:
+    copied(file, out)
+with agefile.open("a", "wb", passphrase="pw") as out, zipfile.ZipFile(out, "w") as archive:
+    archive.writestr("name", b"text")
+with agefile.open("a", "wb", passphrase="pw") as out, tarfile.open(fileobj=out, mode="w|") as tar:
+    tar.add("name")
+with agefile.open("a", passphrase="pw", random_access=True) as at:
+    size: int = at.size
+    with zipfile.ZipFile(at) as archive:
+        archive.read("name")
+"""
+
 # What release/packages takes of a release, beside the module.
 RELEASED = (
     "bin/age_tool", "lib/libage_c.so.0", "lib/libage_c.a", "include/age_c.h", "share/man/man1/age_tool.1", "share/age_tool/decrypt.c",
@@ -624,6 +654,23 @@ class PythonTest(BindingsCase):
                     self.see(f"a read of {size}, into {into}", got == text[70_000:][:size if size > 0 else None])
                     self.see(f"{len(asked)} requests for {size}, into {into}", len(asked) <= (2 if size == 10 else 4), asked)
                 under.seek(0)
+
+    def test_in_memory(self):
+        """encrypt and decrypt of bytes."""
+        for length in (0, 1, 200_000):
+            text = random.Random(length).randbytes(length)
+            data = agefile.encrypt(text, passphrase="pw", work=1)
+            self.see(f"encrypt, {length} bytes", self.judged(data) == ((0, None), text))
+            self.see(f"decrypt, {length} bytes", agefile.decrypt(self.sealed(text), file_key=KEY) == text)
+        self.see("decrypt a damaged file", isinstance(fault_of(agefile.decrypt, flipped(data, -1), passphrase="pw"), agefile.Damaged))
+
+    @needs("mypy")
+    def test_types_of_users(self):
+        """A user's program is right for mypy, which takes a writer and a reader for binary files."""
+        self.path("user.py").write_text(USER)
+        words = ["mypy", "--strict", "--cache-dir", os.devnull, "user.py"]
+        run = subprocess.run(words, cwd=self.room, env={**os.environ, "MYPYPATH": str(PYTHON)}, capture_output=True, text=True)
+        self.see("a user's program", run.returncode == 0, run.stdout)
 
     def test_attributes(self):
         """What a file that is opened by its name says of itself."""

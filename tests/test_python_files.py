@@ -487,8 +487,9 @@ class PythonFilesTest(BindingsCase):
             file = agefile.open(io.BytesIO(), "wb", passphrase="pw", work=1)
             file.write(text)
             self.see("the key is held while it is written", KEY in bytes(file._stream) and text[-100:] in bytes(file._stream))
+            stream = file._stream
             (file.abandon if left else file.close)()
-            self.see("the key is held after the end", not any(bytes(file._stream)))
+            self.see("the key is held after the end", not any(bytes(stream)))
         os.urandom = kept
 
     def test_what_finishes(self):

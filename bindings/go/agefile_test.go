@@ -702,3 +702,26 @@ func TestSalvage(t *testing.T) {
 		t.Errorf("a byte after the end: %+v, %v", found, err)
 	}
 }
+
+// io.Copy of a File, from any place on, and up to a damaged chunk.
+func TestCopyOfFile(t *testing.T) {
+	text := textOf(200000)
+	data := sealed(t, text)
+	for _, at := range []int64{0, 1, 65536, 131071, 200000} {
+		file := opened(t, data)
+		if _, err := file.Seek(at, io.SeekStart); err != nil {
+			t.Fatal(err)
+		}
+		var out bytes.Buffer
+		n, err := io.Copy(&out, file)
+		if err != nil || n != 200000-at || !bytes.Equal(out.Bytes(), text[at:]) {
+			t.Error(at, n, err)
+		}
+	}
+	file := opened(t, data)
+	data[len(data)-70000] ^= 1 // chunk 1 or 2
+	var out bytes.Buffer
+	if _, err := io.Copy(&out, file); !errors.Is(err, ErrDamaged) || !bytes.Equal(out.Bytes(), text[:out.Len()]) || out.Len()%65536 != 0 {
+		t.Error("damaged", out.Len(), err)
+	}
+}

@@ -20,6 +20,29 @@ type File struct {
 	*io.SectionReader
 }
 
+// WriteTo implements io.WriterTo: io.Copy gets a chunk at a time.
+func (f *File) WriteTo(out io.Writer) (int64, error) {
+	room := make([]byte, C.AGE_C_CHUNK)
+	var all int64
+	for {
+		n, err := f.Read(room)
+		done, failed := out.Write(room[:n])
+		all += int64(done)
+		if failed == nil && done < n {
+			failed = io.ErrShortWrite
+		}
+		if failed != nil {
+			return all, failed
+		}
+		if err == io.EOF {
+			return all, nil
+		}
+		if err != nil {
+			return all, err
+		}
+	}
+}
+
 // String hides the key and the text.
 func (f *File) String() string { return "agefile.File" }
 

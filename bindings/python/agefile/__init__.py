@@ -60,14 +60,15 @@ from ._arguments import see_one, work_factor
 from ._file import AgeFile
 from ._keys import identities_in, identities_of
 from ._library import VERSION, AgeError, Damaged, OutOfMemory, Truncated, WrongKey
+from ._memory import decrypt, encrypt
 from ._reader import AgeReader, opening_of
 from ._salvage import Salvage, salvage
 from ._writer import AgeWriter, begun
 
-__all__ = ["open", "salvage", "Salvage", "identities_in", "AgeError", "WrongKey", "Truncated", "Damaged", "OutOfMemory", "AgeReader", "AgeFile", "AgeWriter"]
+__all__ = ["open", "encrypt", "decrypt", "salvage", "Salvage", "identities_in", "AgeError", "WrongKey", "Truncated", "Damaged", "OutOfMemory", "AgeReader", "AgeFile", "AgeWriter"]
 __version__ = f"{VERSION // 10_000}.{VERSION // 100 % 100}.{VERSION % 100}"
 
-for _it in (salvage, Salvage, identities_in, AgeError, WrongKey, Truncated, Damaged, OutOfMemory, AgeReader, AgeFile, AgeWriter):
+for _it in (encrypt, decrypt, salvage, Salvage, identities_in, AgeError, WrongKey, Truncated, Damaged, OutOfMemory, AgeReader, AgeFile, AgeWriter):
     _it.__module__ = __name__
 
 Path = Union[str, bytes, "os.PathLike[str]", "os.PathLike[bytes]"]

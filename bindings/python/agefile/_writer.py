@@ -49,7 +49,8 @@ class AgeWriter(Buffered):
     def __init__(self, file: Any, begun: Begun, owned: bool = False) -> None:
         super().__init__()
         self._file, self._owned, self._calls, self._forks = file, owned, OneCall(), _forks
-        self._stream, front = begun
+        stream, front = begun
+        self._stream: Any = stream
         self._count, self._taken = 0, ctypes.c_size_t()
         self._gathered = bytearray()  # short writes that the stream hasn't got yet
         self._failed = False
@@ -168,7 +169,7 @@ class AgeWriter(Buffered):
 
     def _finish(self) -> None:
         if self._unfinished:
-            raise ValueError("close() failed before: the file isn't whole")
+            raise ValueError("close() failed or was interrupted before: the file isn't whole, for all that is known")
         if self.closed:
             return
         self._see_open()
@@ -189,6 +190,7 @@ class AgeWriter(Buffered):
         if self.closed:
             return
         wipe(self._stream)
+        self._stream = None
         self._forget_gathered()
         try:
             if self._forks == _forks:

@@ -164,7 +164,12 @@ impl<R: Read + Seek> BufRead for AgeFile<R> {
     }
 
     fn consume(&mut self, amount: usize) {
-        self.place += amount as u64;
+        // (no further than what fill_buf returned)
+        let left = match self.held {
+            Some((chunk, len)) => (chunk * CHUNK + len as u64).saturating_sub(self.place),
+            None => 0,
+        };
+        self.place += left.min(amount as u64);
     }
 }
 

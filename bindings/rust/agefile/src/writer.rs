@@ -13,6 +13,7 @@ use std::io::{self, ErrorKind, Read, Write};
 /// before, the file has no last chunk, and every reader refuses it.
 ///
 /// After a call failed, the file can't be finished: each later call fails too, and says why.
+#[must_use = "an age file isn't whole until `finish` returned"]
 pub struct AgeWriter<W> {
     out: W,
     stream: State<AgeCWriteStream>,
