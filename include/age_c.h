@@ -99,7 +99,7 @@
 extern "C" {
 #endif
 
-#define AGE_C_VERSION 10100u /* 10,000 * major + 100 * minor + patch */
+#define AGE_C_VERSION 10200u /* 10,000 * major + 100 * minor + patch */
 
 /* The bytes end inside the header or the payload's nonce: call again with more of the file. At the
  * end of a file it means that the file was cut there. */

@@ -577,11 +577,11 @@ class PythonTest(BindingsCase):
             shutil.copytree(PYTHON / "agefile", module, ignore=shutil.ignore_patterns("__pycache__"))
             text = (module / "_writer.py").read_text()
             (module / "_writer.py").write_text(text.replace("GATHERED = 16_384", f"GATHERED = {number}"))
-            words = [TOP / "release" / "packages", release, "1.1.0", out]
+            words = [TOP / "release" / "packages", release, "1.2.0", out]
             subprocess.run(words, env={**os.environ, "SOURCE_DATE_EPOCH": str(epoch)}, check=True, capture_output=True)
-            subprocess.run(["dpkg-deb", "-x", out / "python3-agefile_1.1.0-1_amd64.deb", self.path("root")], check=True)
+            subprocess.run(["dpkg-deb", "-x", out / "python3-agefile_1.2.0-1_amd64.deb", self.path("root")], check=True)
             run = subprocess.run([sys.executable, "-c", program], env=env, capture_output=True, text=True)
-            self.see(f"the module with {number}", run.stdout.split() == [number.replace("_", ""), "1.1.0"], run.stdout, run.stderr[-300:])
+            self.see(f"the module with {number}", run.stdout.split() == [number.replace("_", ""), "1.2.0"], run.stdout, run.stderr[-300:])
         self.see("the module was compiled", any((place / "agefile" / "__pycache__").iterdir()))
 
     def test_unlike_files(self):

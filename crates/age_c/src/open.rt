@@ -14,9 +14,9 @@ use std::alloc::Global;
 /// The version of this library: 10,000 times the first number, 100 times the second, and the third.
 #[unsafe(no_mangle)]
 pub extern "C" fn age_c_version() -> u32
-    ensures { result ≡ 10100 }
+    ensures { result ≡ 10200 }
 {
-    10_100
+    10_200
 }
 
 /// Opens the header that `front` begins with by a passphrase of 1 to 65,536 bytes, if the work

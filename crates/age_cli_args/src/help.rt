@@ -1,7 +1,7 @@
 //! The texts of the help.
 
 /// The version of the workspace, which `--version` prints.
-pub(crate) const VERSION: &str = "1.1.0";
+pub(crate) const VERSION: &str = "1.2.0";
 
 pub(crate) const PROGRAM: &str = "Encrypt, decrypt and inspect age files (age-encryption.org/v1).";
 
