@@ -51,9 +51,9 @@ def setUpModule():
     agefile = bindings.module()
 
 
-def sample_of(language):
-    """The program in bindings/README.md."""
-    return (TOP / "bindings" / "README.md").read_text().split(f"```{language}\n")[1].split("\n```")[0] + "\n"
+def sample_of(language, number=1):
+    """A program in bindings/README.md."""
+    return (TOP / "bindings" / "README.md").read_text().split(f"```{language}\n")[number].split("\n```")[0] + "\n"
 
 
 def as_reported(fault):
@@ -450,6 +450,12 @@ class LanguagesTest(ProgramsCase):
         self.path("sample.py").write_text(sample_of("python"))
         self.see_sample("Python", [sys.executable, self.path("sample.py")], b"b'rase\\n'\n")
         self.see_copy("Python")
+        self.path("photos").mkdir()
+        for number in (1, 2):
+            self.path(f"photos/{number}.jpg").write_bytes(plain_of(300_000 + number))
+        env = {**os.environ, "PYTHONPATH": str(PYTHON), "PYTHONDONTWRITEBYTECODE": "1"}
+        run = subprocess.run([sys.executable, "-c", sample_of("python", 2)], cwd=self.room, env=env, capture_output=True)
+        self.see("one file of a zip archive", run.returncode == 0 and self.read("restored/photos/2.jpg") == plain_of(300_002), run.stderr)
 
     @needs("cargo")
     def test_rust(self):

@@ -395,9 +395,10 @@ class AgeReader(Buffered):
         if self.closed:
             return
         wipe(self._state)
-        with self._chunk.getbuffer() as text:
-            text[:] = bytes(len(text))
-        self._chunk.close()
+        if not self._chunk.closed:  # (as it is where both are collected)
+            with self._chunk.getbuffer() as text:
+                text[:] = bytes(len(text))
+            self._chunk.close()
         self._rest = bytearray()
         try:
             if self._owned:
