@@ -51,7 +51,8 @@ class AgeFile(AgeReader):
         try:
             have = self._read_block(number, room)
             self._to_chunk(number)
-            ended, text = self._opened(room, have)
+            ended = self._opened(room, have)
+            text = bytes(room.text.view[:room.count.value])
             if number == self._last and not ended:
                 self._opened(room, 0)
         finally:
@@ -92,6 +93,17 @@ class AgeFile(AgeReader):
             return call(word)
         finally:
             self._until, self._ahead = 0, None
+
+    def _can_open_into(self) -> bool:
+        place = self._place()
+        return place % CHUNK == 0 and place < self._size
+
+    def _next_into(self, out: memoryview) -> int:
+        number = self._place() // CHUNK
+        text = self._text_of(number)
+        out[:len(text)] = text
+        self._stand(number * CHUNK + len(text))
+        return len(text)
 
     def _find(self, place: int) -> None:
         """Opens the chunk of that place, and stands there."""

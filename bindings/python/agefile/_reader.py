@@ -60,6 +60,16 @@ def _may_open(front: bytearray, seen: int) -> bool:
     return answer == 0
 
 
+def room_of(room: Any) -> memoryview:
+    """The bytes of a buffer that is written to."""
+    view = memoryview(room).cast("B")
+    if view.readonly:
+        raise TypeError("readinto() takes a buffer that can be written to")
+    return view
+
+
+WholeChunk = ctypes.c_uint8 * CHUNK
+
 LOST = "a read of this file failed or was interrupted, so that bytes may be lost: seek to a place that you know, or open it again"
 
 
@@ -125,21 +135,40 @@ class AgeReader(Buffered):
             have = min(len(self._rest), BLOCK)
             room.block.view[:have] = self._rest[:have]
             self._rest = self._rest[have:]
-            ended, text = self._opened(room, filled(self._file, room.block.view, have))
+            ended = self._opened(room, filled(self._file, room.block.view, have))
+            text = bytes(room.text.view[:room.count.value])
         finally:
             _rooms.given_back(room)
         self._hold(self._next_at, text)
         self._ended, self._fault = ended, None
 
-    def _opened(self, room: _rooms.Room, have: int) -> tuple[bool, bytes]:
-        """Whether a block of a room, or what is left at the end, is the end, and its text."""
+    def _next_into(self, out: memoryview) -> int:
+        """Opens the next chunk into room for a whole one, and stands after it: how long its text is. None is held, and the library's
+        next one is where the file stands."""
+        self._fault = OSError(LOST)
+        room = _rooms.taken()
+        try:
+            have = min(len(self._rest), BLOCK)
+            room.block.view[:have] = self._rest[:have]
+            self._rest = self._rest[have:]
+            ended = self._opened(room, filled(self._file, room.block.view, have), out)
+            count, chunk = room.count.value, io.BytesIO()
+        finally:
+            _rooms.given_back(room)
+        end = self._next_at + count
+        self._before, self._len, self._chunk, self._next_at, self._ended, self._fault = end, 0, chunk, end, ended, None
+        return count
+
+    def _opened(self, room: _rooms.Room, have: int, out: memoryview | None = None) -> bool:
+        """Opens a block of a room, or what is left at the end, into the room or another one: whether it is the end."""
         ended = have < BLOCK
         call = C.age_c_end if ended else C.age_c_block
-        answer = call(self._state, room.block.place, have, *room.text.given, room.count)
+        place = room.text.place if out is None else WholeChunk.from_buffer(out)
+        answer = call(self._state, room.block.place, have, place, CHUNK, room.count)
         if answer != 0:
             self._fault = fault_of(answer, self._state.fault_chunk if answer in PLACED else None)
             raise again(self._fault)
-        return ended, bytes(room.text.view[:room.count.value])
+        return ended
 
     def _rewind(self) -> None:
         """Goes back to the first chunk."""
@@ -201,16 +230,16 @@ class AgeReader(Buffered):
 
     def _read(self, size: int) -> bytes:
         self._see_read()
-        if size < 0:
-            got = io.BytesIO()
-            while self._has_more():
-                got.write(self._chunk.read())
-            return got.getvalue()
-        parts: list[bytes] = []
-        while size > 0 and self._has_more():
-            parts.append(self._chunk.read(size))
-            size -= len(parts[-1])
-        return parts[0] if len(parts) == 1 else b"".join(parts)
+        if size == 0 or not self._has_more():
+            return b""
+        piece = self._chunk.read(size)
+        if len(piece) == size:
+            return piece
+        got = io.BytesIO()  # (one that grows is quicker than pieces that are joined)
+        got.write(piece)
+        while (left := size - got.tell()) and self._has_more():
+            got.write(self._chunk.read(left if size > 0 else -1))
+        return got.getvalue()
 
     def read1(self, size: int = -1, /) -> bytes:
         """What is left of a chunk, at most this many bytes: all of the text before a chunk that is damaged."""
@@ -229,7 +258,7 @@ class AgeReader(Buffered):
         return self._chunk.read(size) if size != 0 and self._has_more() else b""
 
     def readinto(self, room: Any, /) -> int:
-        view, mark = memoryview(room).cast("B"), list[int]()
+        view, mark = room_of(room), list[int]()
         try:
             count: int = self._reading(mark, self._read_into, view, False)
             return count
@@ -240,7 +269,7 @@ class AgeReader(Buffered):
             raise
 
     def readinto1(self, room: Any, /) -> int:
-        view, mark = memoryview(room).cast("B"), list[int]()
+        view, mark = room_of(room), list[int]()
         try:
             count: int = self._reading(mark, self._read_into, view, True)
             return count
@@ -253,11 +282,21 @@ class AgeReader(Buffered):
     def _read_into(self, room: memoryview, once: bool) -> int:
         self._see_read()
         count = 0
-        while count < len(room) and self._has_more():
-            count += self._chunk.readinto(room[count:])
+        while count < len(room) and (got := self._some_into(room[count:])):
+            count += got
             if once:
                 break
         return count
+
+    def _some_into(self, room: memoryview) -> int:
+        """Reads into room for a byte at least: 0 at the end."""
+        if len(room) >= CHUNK and self._chunk.tell() == self._len and self._can_open_into():
+            return self._next_into(room)
+        return self._chunk.readinto(room) if self._has_more() else 0
+
+    def _can_open_into(self) -> bool:
+        """Whether the next chunk begins where the file stands, so that it needn't be held."""
+        return self._fault is None and not self._ended and self._place() == self._next_at
 
     def peek(self, size: int = 0, /) -> bytes:
         """What the next read returns, or the beginning of it. The file stays where it is."""
@@ -395,6 +434,7 @@ class AgeReader(Buffered):
         if self.closed:
             return
         wipe(self._state)
+        _rooms.wiped()
         if not self._chunk.closed:  # (as it is where both are collected)
             with self._chunk.getbuffer() as text:
                 text[:] = bytes(len(text))

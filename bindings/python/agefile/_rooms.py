@@ -27,7 +27,14 @@ def taken() -> Room:
 
 
 def given_back(room: Room) -> None:
-    """Overwrites the text in a room, and keeps the room."""
-    wipe(room.text.place)
+    """Keeps a room for the next call. The text in it is overwritten by that, or when a file is closed."""
     if len(_kept) < MOST:
         _kept.append(room)
+    else:
+        wipe(room.text.place, room.block.place)
+
+
+def wiped() -> None:
+    """Overwrites the text in the rooms that nobody has."""
+    for room in tuple(_kept):
+        wipe(room.text.place, room.block.place)
