@@ -26,13 +26,7 @@ static size_t next_block(void) {
 
 /* Opens a block, or what is left at the end, at its place: whether it opens. */
 static int opens(uint64_t chunk, size_t len, size_t *written) {
-    uint32_t answer = age_c_seek(&reader, chunk);
-    if (answer == 0) {
-        answer = len == sizeof block
-                     ? age_c_block(&reader, block, len, text, sizeof text, written)
-                     : age_c_end(&reader, block, len, text, sizeof text, written);
-    }
-    return answer == 0;
+    return age_c_open_at(&reader, chunk, block, len, text, sizeof text, written) == 0;
 }
 
 /* Writes zeros for what was lost before this place, and says so. */

@@ -89,15 +89,12 @@ func (s *salvager) run() (*Salvaged, error) {
 // open opens a block, or what is left at the end, at its place, and says whether it opens.
 func (s *salvager) open(number int64, have int) (int, bool, error) {
 	var written C.size_t
-	if answer := C.age_c_seek(&s.reader, C.uint64_t(number)); answer != 0 {
+	block := s.block[:have]
+	answer := C.age_c_open_at(&s.reader, C.uint64_t(number), place(block), length(block), place(s.text),
+		length(s.text), &written)
+	if answer == C.AGE_C_MISUSED { // more chunks than a payload has
 		return 0, false, blockFault(answer, &s.reader)
 	}
-	block := s.block[:have]
-	if have == C.AGE_C_BLOCK {
-		answer := C.age_c_block(&s.reader, place(block), length(block), place(s.text), length(s.text), &written)
-		return int(written), answer == 0, nil
-	}
-	answer := C.age_c_end(&s.reader, place(block), length(block), place(s.text), length(s.text), &written)
 	return int(written), answer == 0, nil
 }
 
