@@ -188,7 +188,7 @@ fn conclude_found<F: FileSet, E: Sink, P: Meter>(
         again.stopped again.key (F.view files.old) (F.view files.new) result settled }
     ensures silent { asked.now.progress ≡ Silent → progress.new ≡ progress.old }
     ensures shown { (P.shown progress.new ≡ P.shown progress.old)
-        ⊎ ((input left : Option (List ℕ)) × ShowsRun (F.shows_bytes) input left
+        ⊎ ((input : Option (List ℕ)) × (left : Supply) × ShowsRun (F.shows_bytes) input left
         (P.shown progress.old) (P.shown progress.new)) }
 {
     let fault = again.stopped.fault;
