@@ -489,7 +489,7 @@ class LanguagesTest(ProgramsCase):
         env |= {"PKG_CONFIG_PATH": "", "PKG_CONFIG_LIBDIR": str(self.path("none")), "CARGO_TERM_COLOR": "never"}
         build = lambda: subprocess.run(["cargo", "build", "--offline", "--examples", "-v"], cwd=rust, env=env, capture_output=True, text=True)
         run = build()
-        words = f"warning: age-c-sys@1.1.0: libage_c isn't there ({rust}/age-c-sys/../../out/libage_c.a, "
+        words = f"warning: age-c-sys@1.2.0: libage_c isn't there ({rust}/age-c-sys/../../out/libage_c.a, "
         self.see("the library isn't there", run.returncode != 0 and words in run.stderr and "bindings/build" in run.stderr, run.stderr[-2000:])
         (self.path("bindings") / "out").mkdir()
         shutil.copy(LIBRARY / "libage_c.a", self.path("bindings") / "out")

@@ -321,7 +321,7 @@ fn admit_out<'r, 'w>(
     prepared: &[Prepared],
     out: WatchedOut<'r, 'w>,
 ) -> Result<WatchedOut<'r, 'w>, OpenFault>
-    ensures same { IfOk result (λ o. o.sink ≡ out.sink) }
+    ensures same { IfOk result (λ o. o.sink ≡ out.entry.sink) }
     ensures faults { IfErr result (OpenFails false Write) }
 {
     let other = find_prepared(rt, prepared, out.id());
@@ -346,7 +346,7 @@ fn claimed<'r, 'w>(
     out: WatchedOut<'r, 'w>,
     name: &str,
 ) -> Result<WatchedOut<'r, 'w>, OpenFault>
-    ensures same { IfOk result (λ o. o.sink ≡ out.sink) }
+    ensures same { IfOk result (λ o. o.sink ≡ out.entry.sink) }
     ensures faults { IfErr result (OpenFails false Write) }
 {
     match out.claim(rt, name) {

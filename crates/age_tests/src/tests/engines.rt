@@ -1,4 +1,5 @@
-//! Whole files, their cuts, and sources and sinks that fail at each call in turn.
+//! Sources and sinks that fail at each call in turn. What the program can show of whole files, and of
+//! cut and changed ones, is in tests/test_engines.py.
 
 ghost use Rattle.std.specs.Prelude.{◌<◌};
 
@@ -7,7 +8,7 @@ mod machine;
 mod resumption;
 
 use age_file::{
-    Done, FileFault, MemSink, MemSource, Position, PositionPolicy, Stopped, decrypt, decrypt_with,
+    Done, MemSink, MemSource, Position, PositionPolicy, Stopped, decrypt, decrypt_with,
 };
 use age_keys::{FileKey, KnownKey, PayloadKey, payload_key};
 use age_stream::{BLOCK_LEN, seal_all};
@@ -141,18 +142,6 @@ struct Plan {
     ghost moves: { 0 < step },
 }
 
-/// A run in which no call fails.
-fn plan_of(step: usize, room: usize) -> Plan
-    requires { 0 < step }
-{
-    Plan {
-        step,
-        room,
-        fail_pull: None,
-        fail_put: None,
-    }
-}
-
 /// How a run ended, with what it handed out.
 #[derive(Clone, Copy)]
 struct Outcome {
@@ -242,72 +231,6 @@ fn hello(alloc: Global, plan: &Plan) -> Option<Outcome> {
     }
 }
 
-#[test]
-fn a_file_in_any_pieces(rt: HostRuntime) {
-    for step in [1, 2, 7, 92, 1000] {
-        let outcome = hello(rt.alloc(), &plan_of(step, 5));
-        assert!(rt; ends(&outcome, 0, 5, None), "at {step}");
-    }
-}
-
-/// How the decryption of the front of the file of `hello` ends; it ought to write nothing.
-fn hello_cut(alloc: Global, len: usize) -> Option<Outcome> {
-    match hello_file(alloc) {
-        Some(file) => match file.as_slice().get(..len) {
-            Some(front) => opened(alloc, front, b"", &plan_of(7, 5)),
-            None => None,
-        },
-        None => None,
-    }
-}
-
-/// The header has 76 bytes; what follows 92 is held as the last chunk.
-#[test]
-fn a_file_cut_at_each_byte(rt: HostRuntime) {
-    for len in 0..113 {
-        let (number, chunks) = match len {
-            0..=75 => (8, None),
-            76..=91 => (16, None),
-            92 => (20, Some(0)),
-            93..=107 => (18, Some(0)),
-            _ => (17, Some(0)),
-        };
-        assert!(rt;
-            ends(&hello_cut(rt.alloc(), len), number, 0, chunks),
-            "at {len}"
-        );
-    }
-}
-
-/// How the decryption of the file of `hello` ends if one byte is another; it ought to write
-/// nothing.
-fn hello_changed(alloc: Global, at: usize) -> Option<Outcome> {
-    match hello_file(alloc) {
-        Some(mut file) => {
-            invert(&mut file, at);
-            opened(alloc, file.as_slice(), b"", &plan_of(50, 5))
-        }
-        None => None,
-    }
-}
-
-/// Inverts the lowest bit of a byte.
-fn invert(bytes: &mut Vec<u8>, at: usize) {
-    if let Some(byte) = bytes.get_mut(at) {
-        *byte ^= 1;
-    }
-}
-
-#[test]
-fn each_byte_of_a_payload_changed(rt: HostRuntime) {
-    for at in 92..113 {
-        assert!(rt;
-            ends(&hello_changed(rt.alloc(), at), 17, 0, Some(0)),
-            "at {at}"
-        );
-    }
-}
-
 /// How the decryption of `hello` ends under a key of these bytes, into a sink of this room.
 fn hello_under(
     alloc: Global,
@@ -338,12 +261,6 @@ fn opened_under(
         }
         Err(_) => None,
     }
-}
-
-#[test]
-fn another_key(rt: HostRuntime) {
-    let outcome = hello_under(rt.alloc(), [7; 16], PositionPolicy::Kept, 5);
-    assert!(rt; ends(&outcome, 14, 0, None));
 }
 
 /// How the decryption of `hello` ends if this pull fails.
@@ -398,17 +315,6 @@ fn each_put_and_the_flush_fail_in_turn(rt: HostRuntime) {
     assert!(rt; ends(&hello_put(rt.alloc(), 4), 0, 5, None));
 }
 
-/// How the decryption of the long text's file ends, cut after this many bytes.
-fn long_run(alloc: Global, cut: usize, plan: &Plan) -> Option<Outcome> {
-    match example_of(alloc, 200_000) {
-        Some(example) => match example.file.as_slice().get(..cut) {
-            Some(front) => opened(alloc, front, example.text.as_slice(), plan),
-            None => None,
-        },
-        None => None,
-    }
-}
-
 /// Whether the long text's file is Python's.
 fn is_long_file_right(alloc: Global) -> bool {
     match example_of(alloc, 200_000) {
@@ -422,153 +328,4 @@ fn is_long_file_right(alloc: Global) -> bool {
 #[test]
 fn a_file_of_four_chunks(rt: HostRuntime) {
     assert!(rt; is_long_file_right(rt.alloc()));
-    let outcome = long_run(rt.alloc(), 200_156, &plan_of(100_000, 200_000));
-    assert!(rt; ends(&outcome, 0, 200_000, None));
-}
-
-/// The index counts whole chunks that were wholly written.
-#[test]
-fn positions_where_the_sink_is_full(rt: HostRuntime) {
-    for (room, index) in [
-        (0, 0),
-        (65_535, 0),
-        (65_536, 1),
-        (131_071, 1),
-        (131_072, 2),
-        (150_000, 2),
-    ] {
-        let outcome = long_run(rt.alloc(), 200_156, &plan_of(10_000, room));
-        assert!(rt; ends(&outcome, 27, room, Some(index)), "at {room}");
-    }
-}
-
-#[test]
-fn positions_where_the_payload_is_cut(rt: HostRuntime) {
-    for (len, number, index, written) in [
-        (65_643, 17, 0, 0),
-        (65_644, 20, 1, 65_536),
-        (65_645, 18, 1, 65_536),
-        (131_196, 20, 2, 131_072),
-    ] {
-        let outcome = long_run(rt.alloc(), len, &plan_of(70_000, 200_000));
-        assert!(rt; ends(&outcome, number, written, Some(index)), "at {len}");
-    }
-}
-
-/// How the decryption of the file of two whole chunks ends, with these bytes after it.
-fn two_chunks(alloc: Global, more: &[u8]) -> Option<Outcome> {
-    match example_of(alloc, 131_072) {
-        Some(example) => {
-            let file = joined(alloc, example.file.as_slice(), more)?;
-            let plan = plan_of(70_000, 131_072);
-            opened(alloc, file.as_slice(), example.text.as_slice(), &plan)
-        }
-        None => None,
-    }
-}
-
-/// A last chunk of 65,536 bytes is written, and isn't counted.
-#[test]
-fn a_byte_after_a_full_last_chunk(rt: HostRuntime) {
-    assert!(rt; ends(&two_chunks(rt.alloc(), b""), 0, 131_072, None));
-    assert!(rt; ends(&two_chunks(rt.alloc(), b"\0"), 21, 131_072, Some(1)));
-}
-
-/// The text of the position after two chunks of the long text, by Python's base64.
-const POSITION_TEXT: &[u8; 150] = b"age-position/v2 2 d1OYKDfjAFYr1YZ8jnp3n37BEIqWWo6NZKua5lA6O3I \
-        Z/+/pb0gy0Qz9r4nrfQPNKnIsXURwLLWg+TFayQJBo4 hEND0PoQZoUO3u7dpzXqdX+6bFzqNvs/DBT45+lEskk\n";
-
-fn has_text(alloc: Global, position: &Position, expected: &[u8]) -> bool {
-    match position.text(alloc) {
-        Ok(text) => text.as_slice() == expected,
-        Err(_) => false,
-    }
-}
-
-#[test]
-fn a_position_of_python_is_read_and_written(rt: HostRuntime) {
-    let Ok(position) = Position::read(POSITION_TEXT) else {
-        assert!(rt; false, "refused");
-        return;
-    };
-    assert!(rt; is_after(&position, 2));
-    assert!(rt; has_text(rt.alloc(), &position, POSITION_TEXT));
-}
-
-/// The text of an index and three digests of 32 zero bytes, and this end.
-fn zero_position(alloc: Global, front: &[u8], end: &[u8]) -> Option<Vec<u8>> {
-    let digest = b" AAAAAAAAAAAAAAAAAAAAAAAAAAAAAAAAAAAAAAAAAAA";
-    let one = joined(alloc, front, digest)?;
-    let two = joined(alloc, one.as_slice(), digest)?;
-    let three = joined(alloc, two.as_slice(), digest)?;
-    joined(alloc, three.as_slice(), end)
-}
-
-/// Whether the position of this index and of digests of zero bytes is read.
-fn is_index_read(alloc: Global, front: &[u8], index: u64) -> bool {
-    let Some(text) = zero_position(alloc, front, b"\n") else {
-        return false;
-    };
-    match Position::read(text.as_slice()) {
-        Ok(position) => {
-            position.index == index
-                && position.file_id == [0; 32]
-                && position.chain == [0; 32]
-                && position.tag == [0; 32]
-        }
-        Err(_) => false,
-    }
-}
-
-#[test]
-fn an_index_in_its_limits_is_read(rt: HostRuntime) {
-    let greatest = b"age-position/v2 281474976710655".as_slice();
-    assert!(rt; is_index_read(rt.alloc(), b"age-position/v2 0", 0));
-    assert!(rt; is_index_read(rt.alloc(), b"age-position/v2 3", 3));
-    assert!(rt; is_index_read(rt.alloc(), greatest, 281_474_976_710_655));
-}
-
-fn is_no_position(text: &[u8]) -> bool {
-    matches!(Position::read(text), Err(FileFault::BadPosition))
-}
-
-/// Whether the text of this index and of digests of zero bytes is refused.
-fn is_refused(alloc: Global, front: &[u8], end: &[u8]) -> bool {
-    match zero_position(alloc, front, end) {
-        Some(text) => is_no_position(text.as_slice()),
-        None => false,
-    }
-}
-
-/// Whether a text is refused if its last character has low bits that no byte takes.
-fn is_loose_refused(alloc: Global) -> bool {
-    match zero_position(alloc, b"age-position/v2 3", b"") {
-        Some(mut text) => {
-            text.pop();
-            text.extend_from_slice(b"B\n").is_ok() && is_no_position(text.as_slice())
-        }
-        None => false,
-    }
-}
-
-#[test]
-fn other_texts_are_no_positions(rt: HostRuntime) {
-    for (front, end) in [
-        (b"age-position/v2 03".as_slice(), b"\n".as_slice()),
-        (b"age-position/v2 +3", b"\n"),
-        (b"age-position/v2 ", b"\n"),
-        (b"age-position/v2 281474976710656", b"\n"),
-        (b"age-position/v2 18446744073709551616", b"\n"),
-        (b"age-position/v2 3 ", b"\n"),
-        (b"age-position/v1 3", b"\n"),
-        (b"age-position/v2 3", b""),
-        (b"age-position/v2 3", b"\n\n"),
-        (b"age-position/v2 3", b"\r\n"),
-        (b"", b""),
-    ] {
-        assert!(rt; is_refused(rt.alloc(), front, end));
-    }
-    let old = b"age-position/v1 2 d1OYKDfjAFYr1YZ8jnp3n37BEIqWWo6NZKua5lA6O3I\n";
-    assert!(rt; is_no_position(old));
-    assert!(rt; is_loose_refused(rt.alloc()));
 }
