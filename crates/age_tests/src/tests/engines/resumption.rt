@@ -14,6 +14,13 @@ struct Rest<'a> {
     position: &'a Position,
 }
 
+/// Inverts the lowest bit of a byte.
+fn invert(bytes: &mut Vec<u8>, at: usize) {
+    if let Some(byte) = bytes.get_mut(at) {
+        *byte ^= 1;
+    }
+}
+
 /// How a run ends that resumes over memory, into a sink of this room, and ought to write this text.
 fn resumed(alloc: Global, rest: &Rest<'_>, text: &[u8], room: usize) -> Option<Outcome> {
     match rest.old.to_vec(alloc) {
