@@ -6,7 +6,7 @@ import subprocess
 import tempfile
 import time
 
-from tests.case import SECONDS, Case
+from tests.case import SECONDS, Case, without_advice
 from tools import shim, workspace
 
 WRITE = b"age_tool: 27 Write\n"
@@ -95,7 +95,7 @@ class FilesCase(Case):
         """Counts whether what was started ends like this."""
         said = started.communicate(timeout=SECONDS)[1]
         with self.subTest(name):
-            self.assertEqual((started.returncode, said), (status, faults))
+            self.assertEqual((started.returncode, without_advice(said)[0]), (status, faults))
 
 
 class Feeding:

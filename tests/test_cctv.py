@@ -84,5 +84,5 @@ class VectorsTest(Case):
                     while piece := file.read1():
                         text += piece
             except agefile.AgeError as error:
-                fault = error.fault
+                fault = error.number
             self.see(f"{vector.name} in Python", self.judge(vector, fault, text), fault, len(text))

@@ -11,7 +11,7 @@ import subprocess
 import threading
 import time
 
-from tests.case import SECONDS, needs, twice
+from tests.case import SECONDS, needs, twice, without_advice
 from tests.files import NOBODY, OTHER_RUN, PLAIN, WRITE, Feeding, FilesCase
 from tests.files import as_nobody, chunk_fault, reason, unsaved, unwritten, waits_for
 
@@ -155,23 +155,18 @@ class DiskTest(FilesCase):
     def test_harm_seen_early(self):
         """What another program does to an OUT that was there is seen before all of it is written."""
         self.large()
-        for name, harm, said in (
-            ("an old OUT was cut off", lambda: os.truncate(self.path("out"), 10), LENGTH),
-            ("an old OUT was removed", lambda: self.remove("out"), REMOVED),
-        ):
-            self.remove("out", "in")
-            os.mkfifo(self.path("in"))
-            self.write("out", b"O" * 300000)
-            run = self.started("decrypt --pass pass in out")
-            with open(self.path("in"), "wb", buffering=0) as pipe:
-                pipe.write(self.age[:140000])
-                waits_for(lambda: self.path("out").stat().st_size == 131072)
-                harm()
-                try:
-                    pipe.write(self.age[140000:])
-                except BrokenPipeError:
-                    pass
-            self.ends(name, run, 1, unwritten("out", said))
+        os.mkfifo(self.path("in"))
+        self.write("out", b"O" * 300000)
+        run = self.started("decrypt --pass pass in out")
+        with open(self.path("in"), "wb", buffering=0) as pipe:
+            pipe.write(self.age[:140000])
+            waits_for(lambda: self.path("out").stat().st_size == 131072)
+            self.remove("out")
+            try:
+                pipe.write(self.age[140000:])
+            except BrokenPipeError:
+                pass
+        self.ends("an old OUT was removed", run, 1, unwritten("out", REMOVED))
 
     def test_made_up(self):
         """A file that the system makes up has no length of its own, and takes what is written to it."""
@@ -322,8 +317,8 @@ class DiskTest(FilesCase):
         paths = self.synced("decrypt --pass pass age out", "an OUT that goes at the last moment", failing={"GONE": 1})
         self.see("an OUT that goes at the last moment: the one that was made is synced", paths == ["out", here] and self.mode("out") == 0o644)
         self.see("nothing is synced", self.synced("decrypt --no-sync --pass pass age new", "no waiting") == [])
-        self.see("a position is synced", self.synced("decrypt --pass pass --save saved cut out", "a position", status=1, faults=chunk_fault(2))
-            == ["saved.new-0", "out", here, "saved.new-0", here])
+        paths = self.synced("decrypt --pass pass --save saved cut out", "a position", status=1, faults=chunk_fault(2))
+        self.see("a position is synced", paths == ["saved.new-0", "out", "out", here, "saved.new-0", here], paths)
         with open(self.path("new"), "wb") as new:
             self.see("a stream is synced", self.synced("decrypt --pass pass age /dev/stdout", "a stream to a file", stdout=new) == ["new"])
         words = "decrypt --pass pass short /dev/stdout"
@@ -363,13 +358,33 @@ class DiskTest(FilesCase):
             said = unwritten("/dev/stdout", errno.ENOSPC)
             self.expect(1, said, "decrypt --pass pass age /dev/stdout", "standard output, full meanwhile", failing, stdout=new)
 
-    @needs("cc")
-    def test_errors_of_a_descriptor(self):
-        """The system reports a disk's failure to the descriptor through which was written: that one is synced."""
-        with open(self.path("new"), "wb") as new:
-            failing = {"FSYNC": errno.EIO, "ONLY": "1"}
-            said = unsynced("/dev/stdout", errno.EIO)
-            self.expect(1, said, "decrypt --pass pass age /dev/stdout", "a failure that standard output alone is told of", failing, stdout=new)
+    @needs("mkfs.ext4", "sync", root=True)
+    def test_errors_that_others_see(self):
+        """The system reports a failed write to each descriptor that was open then, also if another program's sync has seen it first."""
+        self.path("thin").mkdir()
+        self.path("pool").mkdir()
+        self.mount("-t", "tmpfs", "-o", "size=30M", "none", self.path("pool"))
+        with open(self.path("pool/image"), "wb") as image:
+            image.truncate(200 << 20)
+        subprocess.run(["mkfs.ext4", "-q", "-F", self.path("pool/image")], check=True)
+        self.mount("-o", "loop", self.path("pool/image"), self.path("thin"))
+        self.write("plain", os.urandom(50_000_000))
+        self.expect(0, b"", "encrypt --pass pass --log 4 plain age", "a large file")
+        age = self.read("age")
+        with open(self.path("thin/out"), "wb") as out:
+            run = self.started("decrypt --pass pass /dev/stdin /dev/stdout", stdin=subprocess.PIPE, stdout=out)
+        run.stdin.write(age[:-1000])
+        run.stdin.flush()
+        waits_for(lambda: self.path("thin/out").stat().st_size > 49_000_000)
+        seen = subprocess.run(["sync", self.path("thin/out")], capture_output=True).returncode
+        if seen == 0:
+            self.leave_out("a failure that another program saw", "the disk didn't fail")
+        subprocess.run(["mount", "-o", "remount,size=300M", self.path("pool")], check=True)
+        run.stdin.write(age[-1000:])
+        run.stdin.close()
+        run.stdin = None
+        said = without_advice(run.communicate(timeout=SECONDS)[1])[0]
+        self.see("a failure that another program saw", (run.returncode, said[:18]) == (1, b"age_tool: 27 Write"), run.returncode, said)
 
     def fused(self, name, **variables):
         """A folder that is a file system of our own, whose calls fail or take time (tools/fused.c), until the test ends."""
@@ -569,7 +584,7 @@ class DiskTest(FilesCase):
         """A line of progress says no 100 % of less than was read."""
         for name in ("/proc/self/status", "/proc/cpuinfo"):
             ended = self.tool("encrypt", "--progress", "--pass", "pass", "--log", "4", name, "out")
-            self.see(f"progress of {name}", ended.returncode == 0 and b"%" not in ended.stderr and b"B " in ended.stderr, ended)
+            self.see(f"progress of {name}", ended.returncode == 0 and b"%" not in ended.stderr and b"KiB" in ended.stderr, ended)
 
     def in_chroot(self, words, **more):
         """Runs the program in a folder that is its own system, without /proc."""

@@ -137,7 +137,7 @@ class ProgramTest(Case):
         # A pipe in packet mode gives one write to each read.
         first = os.read(reader, 4096)
         os.close(reader)
-        self.see("a fault's line is one write", ended.returncode == 1 and first == b"age_tool: 8 HeadCut line 1\n", first)
+        self.see("a fault's line is one write", ended.returncode == 1 and first == b"age_tool: 1 NotAge line 1\n", first)
 
     def test_scrypt_once(self):
         """The limit of the work factor, which leaves room to derive the key more than once, costs nothing."""

@@ -60,7 +60,8 @@ with agefile.open("a", passphrase="pw", random_access=True) as at:
 
 # What release/packages takes of a release, beside the module.
 RELEASED = (
-    "bin/age_tool", "lib/libage_c.so.0", "lib/libage_c.a", "include/age_c.h", "share/man/man1/age_tool.1", "share/age_tool/decrypt.c",
+    "bin/age_tool", "lib/libage_c.so.0", "lib/libage_c.a", "include/age_c.h", "share/man/man1/age_tool.1",
+    "share/man/man7/age_tool-faults.7", "share/age_tool/decrypt.c",
     "share/age_tool/salvage.c",
     "share/bash-completion/completions/age_tool", "share/zsh/site-functions/_age_tool", "share/fish/vendor_completions.d/age_tool.fish",
     "share/doc/age_tool/CHANGELOG.md", "share/doc/age_tool/docs/LIBRARY.md", "lib/pkgconfig/age_c.pc", "lib/cmake/age_c/age_cConfig.cmake",

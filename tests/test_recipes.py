@@ -80,9 +80,10 @@ class RecipesTest(Case):
         [typed] = [it for _, script in blocks("sh") for it in script.splitlines() if "read -rsp" in it]
         child, tty = terminal.start(["env", "-C", str(self.path("work")), "bash", "--norc", "-i"], {"PATH": self.env["PATH"], "HISTFILE": ""})
         os.write(tty, typed.encode() + b"\n")
-        seen = terminal.output(tty, b"Passphrase: ", 10)
-        # The line itself has the words of the prompt: what comes after it is the prompt.
-        seen += b"" if seen.count(b"Passphrase: ") > 1 else terminal.output(tty, b"Passphrase: ", 10)
+        seen = b""
+        # The line itself has the words of the prompt.
+        while not seen.endswith(b"Passphrase: ") and (piece := terminal.output(tty, b"Passphrase: ", 10)):
+            seen += piece
         os.write(tty, b"to type\n")
         seen += terminal.output(tty, b"$ ", 10)
         os.write(tty, b"history; exit\n")

@@ -509,7 +509,8 @@ impl<'r, 'w> FileSet for HostFiles<'r, 'w> {
     ) -> Result<(), FileFault> {
         self.log.closed(durability);
         self.closed = Some(out.hand_over());
-        if durability == Durability::Synced {
+        // (what has no id is on no disk)
+        if durability == Durability::Synced && out.id().is_some() {
             announce_sync(self.rt, self.failures);
         }
         match out.close(self.rt, durability) {
