@@ -58,9 +58,12 @@ impl Stream {
         }
     }
 
-    /// Fails if the program was started without this stream.
+    /// Fails if the program was started without this stream. A copy isn't made unless it has to be:
+    /// to some file systems, one that is closed says that all is written.
     pub fn check(self, rt: &HostRuntime) -> io::Result<()> {
-        self.copy(rt)?;
+        if fs::metadata(rt, self.path()).is_err() {
+            self.copy(rt)?;
+        }
         Ok(())
     }
 
