@@ -25,7 +25,7 @@ impl FileSet for Unsettled {
 
     ghost shows_bytes = { false };
 
-    ghost view = { λ f. record { entries = λ _. None; events = f.files.events } };
+    ghost view = { λ f. record { entries = λ _. None; events = f.files.events; closed = f.files.closed } };
 
     fn open(&mut self, alloc: Global, name: &str) -> Result<MemSource, OpenFault> {
         self.files.open(alloc, name)
