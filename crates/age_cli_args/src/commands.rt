@@ -144,11 +144,13 @@ const DRILL: &[Argument] = &[
     Argument { id: "IN", given: Given::Operand, help: help::DRILLED },
 ];
 
-/// A command of the program: its name, its arguments, and what the help says before them and after.
+/// A command of the program: its name, its arguments, how it is used if these don't show it, and what
+/// the help says before them and after.
 #[derive(Clone, Copy)]
 struct Subcommand {
     name: &'static str,
     arguments: &'static [Argument],
+    usage: Option<&'static str>,
     about: &'static str,
     after: &'static str,
 }
@@ -158,30 +160,35 @@ static COMMANDS: [Subcommand; 5] = [
     Subcommand {
         name: "encrypt",
         arguments: ENCRYPT,
+        usage: None,
         about: help::ENCRYPT,
         after: help::AFTER_ENCRYPT,
     },
     Subcommand {
         name: "decrypt",
         arguments: DECRYPT,
+        usage: Some(help::DECRYPT_USAGE),
         about: help::DECRYPT,
         after: help::AFTER_DECRYPT,
     },
     Subcommand {
         name: "resume",
         arguments: RESUME,
+        usage: Some(help::RESUME_USAGE),
         about: help::RESUME,
         after: help::AFTER_RESUME,
     },
     Subcommand {
         name: "inspect",
         arguments: INSPECT,
+        usage: None,
         about: help::INSPECT,
         after: help::AFTER_INSPECT,
     },
     Subcommand {
         name: "drill",
         arguments: DRILL,
+        usage: Some(help::DRILL_USAGE),
         about: help::DRILL,
         after: help::AFTER_DRILL,
     },
@@ -274,12 +281,22 @@ fn with_arguments<'a>(
     Ok(whole)
 }
 
+/// A command whose usage is said, if its arguments don't show it.
+fn with_usage<'a>(plain: Command<'a>, usage: Option<&'a str>) -> Command<'a>
+    ensures { (a : App) → HasApp a plain.entry → HasApp a result }
+{
+    match usage {
+        Some(usage) => plain.override_usage(usage),
+        None => plain,
+    }
+}
+
 /// A command with its arguments.
 fn command_of<'a>(alloc: Global, sub: &Subcommand) -> Result<Command<'a>, AllocError>
     ensures { IfOk result (HasApp (app_as sub.now)) }
 {
     let plain = command(alloc, sub.name, sub.about, sub.after);
-    with_arguments(alloc, plain, sub.arguments)
+    with_arguments(alloc, with_usage(plain, sub.usage), sub.arguments)
 }
 
 /// A program with one command more.

@@ -40,6 +40,10 @@ that, what it has written stays in OUT.";
 
 pub(crate) const DECRYPT: &str = "Decrypt an age file";
 
+/// One of the three has to be there, which `clap` wouldn't say: its rules are simple ones.
+pub(crate) const DECRYPT_USAGE: &str = "age_tool decrypt [OPTIONS] \
+     <--pass <FILE>|--file-key <HEX>|--shared <FILE>> <IN> <OUT>";
+
 pub(crate) const AFTER_DECRYPT: &str =
     "Example: age_tool decrypt --pass passphrase.txt notes.txt.age notes.txt
 
@@ -49,6 +53,9 @@ after a fault it is as it was, or holds the part that was checked so far (after
 27 perhaps followed by what it held before).";
 
 pub(crate) const RESUME: &str = "Continue a decryption that stopped";
+
+pub(crate) const RESUME_USAGE: &str = "age_tool resume [OPTIONS] --position <FILE> --old <FILE> \
+     <--pass <FILE>|--file-key <HEX>|--shared <FILE>> <IN> <OUT>";
 
 pub(crate) const AFTER_RESUME: &str =
     "Example: age_tool resume --position notes.position --old notes.part \\
@@ -71,6 +78,8 @@ the number of bytes after it, and how long the plaintext is if the file is
 whole, which isn't checked.";
 
 pub(crate) const DRILL: &str = "Deliver a payload by a script, and report what a reader holds";
+
+pub(crate) const DRILL_USAGE: &str = "age_tool drill <--clear|--pass <FILE>> <SCRIPT> <IN>";
 
 pub(crate) const AFTER_DRILL: &str =
     "Example: age_tool drill --pass passphrase.txt script.txt notes.txt.age
