@@ -54,6 +54,14 @@ class ProgramTest(Case):
         said = bad + rb"caf\xe9\u{1b}[2J\n isn't UTF-8, as a name must be" + b"\n"
         self.ends("a name that isn't UTF-8", self.decrypt(b"caf\xe9\x1b[2J\n", "back"), 2, b"", said)
 
+    def test_usage(self):
+        """The line says that a key has to be given, which the rules of the arguments can't say."""
+        key = b"<--pass <FILE>|--file-key <HEX>|--shared <FILE>>"
+        for command, which in ((b"decrypt", key), (b"resume", key), (b"drill", b"<--clear|--pass <FILE>>")):
+            shown = self.tool(command, b"--help").stdout
+            with self.subTest(command.decode()):
+                self.assertRegex(shown, rb"(?m)^Usage: age_tool " + command + rb" .*" + re.escape(which))
+
     def test_names(self):
         """A name forges no line, and commands no terminal."""
         for what, name, shown in (
