@@ -242,6 +242,8 @@ class ProgramTest(Case):
         ended = self.decrypt("--save", "position", "cut.age", "part")
         said = b"age_tool: position saved in position; to go on from there: age_tool resume --position position --old part .. IN NEW\n"
         self.see("a position was saved", ended.advice.endswith(said), ended.advice)
+        ended = self.decrypt("--save=position", "cut.age", "/dev/stdout")
+        self.see("whose old output is elsewhere", ended.advice.endswith(said.replace(b"part", b"OLD")), ended.advice)
         ended = self.decrypt("--save=position", "pass", "back")
         self.see("none was", ended.advice.endswith(b"age_tool: no position was saved\n"), ended.advice)
         ended = self.decrypt("cut.age", "part")

@@ -108,10 +108,10 @@ class RecipesTest(Case):
         self.restores_with("rage")
 
     def test_unit(self):
-        """The command of the unit of systemd, with its paths in a folder of our own."""
+        """The commands of the unit of systemd, with their paths in a folder of our own."""
         text = self.make_archive("unused.age")
         [unit] = [script for _, script in blocks("ini")]
-        words = re.search(r"(?m)^ExecStart=/usr/local/bin/(.*)$", unit.replace("\\\n", ""))[1]
+        words = " && ".join(re.findall(r"(?m)^ExecStart(?:Post)?=/(?:usr/local/)?bin/(.*)$", unit.replace("\\\n", "")))
         self.path("work/photos.tar").write_bytes(text)
         for name, path in (("${CREDENTIALS_DIRECTORY}/passphrase", "passphrase.txt"), ("${STATE_DIRECTORY}", "."), ("/srv/", "")):
             self.assertIn(name, words)

@@ -82,6 +82,15 @@ fn name_file(rt: &HostRuntime, fault: Reported, failures: &Failures<'_>) {
     }
 }
 
+/// What to give to `--old`: where standard output went, the program can't say.
+fn old_name(output: &str) -> &str {
+    if output == "/dev/stdout" {
+        "OLD"
+    } else {
+        output
+    }
+}
+
 /// Says where the position was saved and how to go on from there, or that none was saved though
 /// that was asked for.
 fn tell_position(rt: &HostRuntime, failures: &Failures<'_>) {
@@ -89,7 +98,7 @@ fn tell_position(rt: &HostRuntime, failures: &Failures<'_>) {
         && let Some(output) = failures.output()
     {
         let saved = Escaped(saved.as_bytes());
-        let output = Escaped(output.as_bytes());
+        let output = Escaped(old_name(output).as_bytes());
         let _ = eprintln!(rt;
             "age_tool: position saved in {saved}; to go on from there: \
              age_tool resume --position {saved} --old {output} .. IN NEW"

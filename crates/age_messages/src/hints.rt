@@ -46,7 +46,7 @@ fn hint_of_key(number: u8) -> Option<&'static str> {
              passphrase's file is ignored, a second one, a carriage return or a BOM isn't",
         ),
         14 => Some("the header was altered, or --file-key is the key of another file"),
-        15 => Some("check the file of --shared: the secret, and the recipient that it is for"),
+        15 => Some("check the file of --shared; if it is right, fetch the age file again"),
         _ => None,
     }
 }
@@ -60,7 +60,7 @@ fn hint_of_payload(number: u8) -> Option<&'static str> {
         ),
         18 | 20 => Some("the file is cut off here: fetch the rest"),
         19 => Some(
-            "no age program writes such a payload: the file was altered or forged, don't trust it",
+            "the file was cut off here or altered: fetch it again; if 19 remains, don't trust it",
         ),
         21 => Some(
             "something was appended to the file: OUT has the whole text, \
