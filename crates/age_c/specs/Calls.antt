@@ -1,12 +1,12 @@
 -- What an answer of the C library means: by its number, by what it says of a file's size, and when
 -- the bytes that came so far are worth a try as a header.
-use Rattle.std.specs.Prelude.{ℕ, ◌==◌, ◌&&◌, nat_le, Option, Some, None, if◌then◌else◌, ◌≡◌, ◌≢◌, ◌≤◌, List, length}
-use Rattle.std.specs.Prelude.{take, drop, ◌+◌, ◌%◌, ◌⊎◌, ◌<◌, nat_eq, true, ◌∷◌, codes, get_or}
+use Rattle.std.specs.Prelude.{ℕ, ◌==◌, ◌&&◌, nat_le, Option, Some, None, if◌then◌else◌, ◌≡◌, ◌≢◌, ◌≤◌, List}
+use Rattle.std.specs.Prelude.{length, take, drop, ◌+◌, ◌%◌, ◌⊎◌, ◌<◌, nat_eq, true, ◌∷◌, codes, get_or}
 use Rattle.age_chunk.specs.ChunkBoxes.{tag_length}
 use Rattle.age_chunk.specs.Payload.{stream_fault_number, block_length}
 use Rattle.age_chunk.specs.declared.fault.StreamKind.{StreamKind}
-use Rattle.age_chunk.specs.declared.fault.StreamKind.TheVariants.{ChunkDamaged, ChunkCut, EmptyLast, Truncated}
-use Rattle.age_chunk.specs.declared.fault.StreamKind.TheVariants.{Trailing, TooManyChunks}
+use Rattle.age_chunk.specs.declared.fault.StreamKind.TheVariants.{ChunkDamaged, ChunkCut, EmptyLast}
+use Rattle.age_chunk.specs.declared.fault.StreamKind.TheVariants.{Truncated, Trailing, TooManyChunks}
 use Rattle.age_stream.specs.Laws.{IsTextLength, chunks_for}
 use Rattle.age_stream.specs.declared.step.Status.{Status}
 use Rattle.age_stream.specs.declared.step.Status.TheVariants.{Open, LastSeen, Done, Failed}

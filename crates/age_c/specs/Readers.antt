@@ -7,7 +7,8 @@ use Rattle.age_stanza.specs.Grammar.{HeadText, header_limit}
 use Rattle.age_stanza.specs.Parsing.{HasHeader, NoFault, IsFault, memory_fault, head_fault_number}
 use Rattle.age_stanza.specs.declared.header.Header.{Header}
 use Rattle.age_chunk.specs.Payload.{chunk_limit, chunk_length, block_length, chunk_count, payload}
-use Rattle.age_stream.specs.Segment.{Segment, Outcome, outcome, released, rest_bytes, fresh, with_piece, with_end}
+use Rattle.age_stream.specs.Segment.{Segment, Outcome, outcome, released, rest_bytes, fresh, with_piece}
+use Rattle.age_stream.specs.Segment.{with_end}
 use Rattle.age_stream.specs.declared.step.Status.TheVariants.{Open}
 use Rattle.age_keys.specs.Keys.{unbox, Opens, Refuses, key_fault_number, box}
 use Rattle.age_keys.specs.declared.fault.KeyFault.{KeyFault}

@@ -1,6 +1,7 @@
 -- A stream, which takes pieces of any length: what one call does to it, and what a caller may rely
 -- on after any calls.
-use Rattle.std.specs.Prelude.{◌≡◌, ◌≢◌, ℕ, ◌<◌, ◌≤◌, List, [], ◌++◌, length, take, ◌⊎◌, Bool, true, false, ◌∷◌, map}
+use Rattle.std.specs.Prelude.{◌≡◌, ◌≢◌, ℕ, ◌<◌, ◌≤◌, List, [], ◌++◌, length, take, ◌⊎◌, Bool, true, false}
+use Rattle.std.specs.Prelude.{◌∷◌, map}
 use Rattle.age_chunk.specs.Payload.{block_length, chunk_length, chunk_limit, chunk_count}
 use Rattle.age_stream.specs.Segment.{with_end, with_piece, Segment, fresh}
 use Rattle.age_stream.specs.declared.step.Status.TheVariants.{Open}

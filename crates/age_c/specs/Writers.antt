@@ -3,7 +3,8 @@ use Rattle.std.specs.Prelude.{◌≡◌, ◌≢◌, ℕ, ◌+◌, ◌*◌, ◌<�
 use Rattle.std.specs.List.{enumerate_from}
 use Rattle.std.specs.Simd.{first_chunks}
 use Rattle.age_stanza.specs.Grammar.{HeadText}
-use Rattle.age_chunk.specs.Payload.{chunk_limit, chunk_length, block_length, chunk_count, pair, block_bytes, payload}
+use Rattle.age_chunk.specs.Payload.{chunk_limit, chunk_length, block_length, chunk_count, pair, block_bytes}
+use Rattle.age_chunk.specs.Payload.{payload}
 use Rattle.age_keys.specs.Keys.{box}
 use Rattle.age_keys.specs.Scrypt.{IsAllowed, scrypt_head}
 use Rattle.age_c.specs.declared.writer.Writer.{Writer}

@@ -1,6 +1,7 @@
 //! Opens the blocks of a payload.
 
-ghost use Rattle.std.specs.Prelude.{◌≡◌, ◌≢◌, ◌+◌, ◌<◌, ◌≤◌, [], length, min, take, drop, IfSome, IfNone, Some, false};
+ghost use Rattle.std.specs.Prelude.{◌≡◌, ◌≢◌, ◌+◌, ◌<◌, ◌≤◌, [], length, min, take, drop, IfSome, IfNone};
+ghost use Rattle.std.specs.Prelude.{Some, false};
 ghost use Rattle.age_stream.specs.Segment.{with_piece, with_end};
 ghost use Rattle.age_stream.specs.Opener.{chunk_bytes, has_failed};
 ghost use Rattle.age_c.specs.Calls.{PutsFront, answer_of, reader_status};

@@ -3,7 +3,8 @@
 ghost use Rattle.std.specs.Prelude.{◌≡◌, ◌≢◌, ◌+◌, ◌<◌, ◌≤◌, ◌↔◌, IsTrue, true, false, [], length, take};
 ghost use Rattle.age_chunk.specs.Payload.{block_length, chunk_length, chunk_limit};
 ghost use Rattle.age_c.specs.Calls.{Answers, PutsFront};
-ghost use Rattle.age_c.specs.Writers.{CanSeal, WritesOrRefuses, FeedsText, FinishesText, IsTextCall, RefusesText};
+ghost use Rattle.age_c.specs.Writers.{CanSeal, WritesOrRefuses, FeedsText, FinishesText, IsTextCall};
+ghost use Rattle.age_c.specs.Writers.{RefusesText};
 ghost use Rattle.age_c.specs.inner.Holding.{HoldsText};
 
 use crate::MISUSED;

@@ -3,7 +3,8 @@
 -- RFC 8439 ends a block's initial state with a 32-bit counter and the three words of the nonce. The
 -- generator reads the same four words as a counter of 64 bits and a stream number of 64 bits. So
 -- the nonce's first word is the high half of its counter, and the other two are its stream.
-use Rattle.std.specs.Prelude.{◌≡◌, ℕ, ◌+◌, ◌*◌, ◌/◌, ◌%◌, ◌^◌, ◌<◌, List, [], ◌∷◌, length, map, bit_xor, slice_index}
+use Rattle.std.specs.Prelude.{◌≡◌, ℕ, ◌+◌, ◌*◌, ◌/◌, ◌%◌, ◌^◌, ◌<◌, List, [], ◌∷◌, length, map, bit_xor}
+use Rattle.std.specs.Prelude.{slice_index}
 use Rattle.std.specs.List.{range_with_len}
 use Rattle.std.specs.Int.{byte_at}
 use Rattle.rand_chacha.specs.ChaCha.{word_at, key_of}

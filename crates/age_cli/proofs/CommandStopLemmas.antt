@@ -50,7 +50,7 @@ module _ (keep : PositionPolicy) (A : Header → List ℕ → Type 0) (R : Heade
 -- each run is authentic
 module _ (keep : PositionPolicy) (A : Header → List ℕ → Type 0) (p : Position) (R : Header → KeyFault → Type 0) (old new : ResumePorts) (stopped : Stopped) where
   abbrev pub RewriteBegins : List ℕ → Type 0
-  RewriteBegins out = (text : List ℕ) → BeginsWith p old.old.remaining text
+  RewriteBegins out = (text : List ℕ) → BeginsWith p old.old.supply text
       → ((r : Run) → IsFrom p old.old new.old r → IsRun A old.main new.main stopped.written r → IsAuthenticRun r text) → IsPrefixOf out text
 
   abbrev pub Rewrote : Type 0

@@ -38,7 +38,7 @@ ends_so (Err stop) ends ok = absurd (true≢false (sym ok))
 module _ (IsPorts : Ports → Type 0) (engine : Engine) (shows : Bool) (p : Paths) (durability : Durability) (old opened new : FilesView) (before after : Ports)
     (before_is : IsPorts before) (after_is : IsPorts after) (end : Result (Unit {0}) Interruption) (r : Result (Unit {0}) Ending)
     (kept : opened.entries ≡ old.entries)
-    (found : shows ≡ true → (is_some (old.entries p.from) ≡ true) × (before.source.remaining.left ≡ old.entries p.from) × (before.sink.taken.contents ≡ Some [])
+    (found : shows ≡ true → (is_some (old.entries p.from) ≡ true) × (before.source.supply.left ≡ old.entries p.from) × (before.sink.taken.contents ≡ Some [])
     × (before.sink.label ≡ p.to))
     (named : after.sink.label ≡ before.sink.label) (promise : shows ≡ true → Kept engine before after end)
     (concludes : Concludes shows p.save durability after.sink end opened new r) where
@@ -120,7 +120,7 @@ kept_opening keep i before after run (Err s) ends stops =
 
 pub kept_resuming : (IsPorts : Ports → Type 0) (keep : PositionPolicy) (i : Identity) (from : Position) (old_text : Option (List ℕ)) (before after : Ports)
     (first last : SourceView) (run : Option Run) (r : Result Done Stopped) → IsPorts (ports first before.sink) → IsPorts (ports last after.sink)
-    → old_text ≡ first.remaining.left
+    → old_text ≡ first.supply.left
     → IfOk r (λ done. IsSomeAnd run (ResumeEnds (allows_by i) from (resume_ports before first) (resume_ports after last) done))
     → IfErr r (ResumeStops (allows_by i) from (resume_ports before first) (resume_ports after last) keep (refuses_by i) run)
     → Kept (resume_engine IsPorts keep i from old_text) before after (opening_end r)

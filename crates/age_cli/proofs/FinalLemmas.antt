@@ -39,7 +39,7 @@ use Rattle.age_cli.proofs.ObeyLemmas.{both_done}
 
 -- IN and OUT were found so
 abbrev pub Found : Paths → Files → Ports → Type 0
-Found p old before = (is_some (old p.from) ≡ true) × (before.source.remaining.left ≡ old p.from) × (before.sink.taken.contents ≡ Some []) × (before.sink.label ≡ p.to)
+Found p old before = (is_some (old p.from) ≡ true) × (before.source.supply.left ≡ old p.from) × (before.sink.taken.contents ≡ Some []) × (before.sink.label ≡ p.to)
 
 -- what follows from an engine that ended
 sealing_ran : {P : Type 0} {Q : Written → Type 0} (r : Result Written FileFault) → ((x : Written) → Q x → P) → IfOk r Q → OnOk (sealing_end r) P
@@ -53,7 +53,7 @@ opening_ran (Err s) so q = tt
 -- and so the position and the old text
 abbrev pub WasEarlier : Resuming → Position → Files → SourceView → Type 0
 WasEarlier a from old first = IsPositionIn (old a.position.now) from × (is_some (old_for from (old a.old.now)) ≡ true)
-    × (first.remaining.left ≡ old_for from (old a.old.now))
+    × (first.supply.left ≡ old_for from (old a.old.now))
 
 module _ (IsPorts : Ports → Type 0) (shows : Bool) (asked : Request) (old opened new : FilesView) (Failed Unshown : Type 0) (Progress : Option (List ℕ) → Result (Unit {0}) Ending → Type 0) (engine : Engine) (p : Paths)
     (durability : Durability) (before after : Ports) (end : Result (Unit {0}) Interruption) (r : Result (Unit {0}) Ending) (xs ys : List Event) where
@@ -137,7 +137,7 @@ module _ (IsPorts : Ports → Type 0) (shows : Bool) (old opened new : FilesView
   resume_acts a identity from first begun opens earlier first_is found did noted apart fresh =
       let d = a.decrypting in
       let k = kept_for (option_text d.save) in
-      let engine = resume_engine IsPorts k identity from first.remaining.left in
+      let engine = resume_engine IsPorts k identity from first.supply.left in
       let holds : shows ≡ true → HoldsInput d before opened =
       λ shown. let f = found shown in record {
         there = subst (λ (files : Files). is_some (files d.from.now) ≡ true) (sym kept) f.0;
@@ -152,13 +152,13 @@ module _ (IsPorts : Ports → Type 0) (shows : Bool) (old opened new : FilesView
         identity,
         opens,
         from,
-        first.remaining.left,
+        first.supply.left,
         (λ shown. let was = earlier shown in
             (was.0, was.2, ap is_some was.2 ∙ was.1)),
         holds,
       )) begun
       (opening_ran did.resumed (λ done so. let of = the_run did.run so in
       (first, did.last, first_is, did.last_is, refl, (done, of.0, of.1))) did.done) (λ spared. spared) kept found did.named
-      (λ shown. kept_resuming IsPorts k identity from first.remaining.left before did.after first did.last did.run did.resumed first_is
+      (λ shown. kept_resuming IsPorts k identity from first.supply.left before did.after first did.last did.run did.resumed first_is
       did.last_is refl did.done (did.stopped shown (holds shown))) did.concludes noted apart
       (λ same. apart (inr (inl (inl (d.to.now, same, refl))))) fresh (did.silent, λ asked. did.shown asked (old.entries d.from.now) (λ shown. (found shown).1))

@@ -51,12 +51,12 @@ read_from None b bs t c = absurd (true≢false (sym t))
 read_from (Some x) None bs t c = absurd c
 read_from (Some x) (Some y) bs t c = (y, ap Some c, λ e. e)
 
-is_read : (identity : Identity) (input : Option (List ℕ)) (before after : Ports) (written : ℕ) (r : Run) → input ≡ before.source.remaining.left → is_some input
+is_read : (identity : Identity) (input : Option (List ℕ)) (before after : Ports) (written : ℕ) (r : Run) → input ≡ before.source.supply.left → is_some input
     ≡ true
     → IsRun (allows_by identity) before after written r → IsRead identity input r
 is_read identity input before after written r coming there is =
     let read = (r.file.header_bytes ++ r.file.nonce) ++ (r.skipped ++ r.bytes) in
-    let found = read_from before.source.remaining.left after.source.remaining.left read (ap is_some (sym coming) ∙ there) is.reads.read.left in
+    let found = read_from before.source.supply.left after.source.supply.left read (ap is_some (sym coming) ∙ there) is.reads.read.left in
     record {
       text = is.reads.text;
       opens = is.reads.opens;
@@ -140,11 +140,11 @@ module _ (identity : Identity) (p : Position) (input old_text : Option (List ℕ
       let h = begins all.0 all.1 in
       record { all = all.0; shown = sym same ∙ all.1; within = h.0; begins = h.1 }
 
-  authentic_run : (before after : ResumePorts) (written : ℕ) (r : Run) → input ≡ before.main.source.remaining.left → old_text ≡ before.old.remaining.left
+  authentic_run : (before after : ResumePorts) (written : ℕ) (r : Run) → input ≡ before.main.source.supply.left → old_text ≡ before.old.supply.left
       → IsFrom p before.old after.old r → IsRun (allows_by identity) before.main after.main written r → IsAuthenticRun r text
   authentic_run before after written r coming old_coming from is =
-      let b = begins_with before.old.remaining old_coming in
-      let found = read_from before.old.remaining.left after.old.remaining.left (r.copied ++ from.more) (ap is_some (sym old_coming) ∙ old_there) from.old_read.left in
+      let b = begins_with before.old.supply old_coming in
+      let found = read_from before.old.supply.left after.old.supply.left (r.copied ++ from.more) (ap is_some (sym old_coming) ∙ old_there) from.old_read.left in
       let whole : (r.copied ++ from.more) ++ found.0 ≡ b.all = ap (λ (o : Option (List ℕ)). option_map_or (λ t. t) o []) (sym found.1 ∙ b.shown) in
       let size : length (take (p.index * chunk_length) text) ≡ p.index * chunk_length = omega (arith, length-take (p.index * chunk_length) text, b.within) in
       let front = same_front (p.index * chunk_length) r.copied (take (p.index * chunk_length) text) (from.more ++ found.0) b.begins.0 from.old_text.size size
@@ -181,7 +181,7 @@ module _ (identity : Identity) (p : Position) (input old_text : Option (List ℕ
       let written = s.promise.5.0 in
       let stopped : Stopped = record { fault = fault; written = written; position = position } in
       let w = resume_wrote keep (allows_by identity) p (refuses_by identity) before after stopped s.promise.5.1 s.promise.5.2 in
-      let front : IsPrefixOf w.0 text = w.2 text (begins_with before.old.remaining s.promise.4) (λ r from is. authentic_run before after written
+      let front : IsPrefixOf w.0 text = w.2 text (begins_with before.old.supply s.promise.4) (λ r from is. authentic_run before after written
       r s.coming s.promise.4 from is) in
       ⊎_elim (λ same. inl same) (λ put. inr (w.0, put.0 ∙ (s.took ∙ appended s.before.sink.taken.contents s.after.sink.taken.contents w.0 s.empty w.1.0.contents), front)) left
   resumed_stop IsPorts keep old new position fault (inr (taken, ran, left, none, write)) =

@@ -70,18 +70,18 @@ shown_twice shows input left old middle new (Err e) run same again ended =
 
 -- an engine that ended has read its source to the end
 pub sealing_at_end : (s : SecretView) (before after : Ports) (r : Result Written FileFault) → IfOk r (Encrypts s before after)
-    → OnOk (sealing_end r) (IsAtEnd after.source.remaining)
+    → OnOk (sealing_end r) (IsAtEnd after.source.supply)
 sealing_at_end s before after (Ok w) ends = ends.at_end
 sealing_at_end s before after (Err f) ends = tt
 
 pub opening_at_end : (A : Header → List ℕ → Type 0) (before after : Ports) (run : Option Run) (r : Result Done Stopped)
-    → IfOk r (λ done. IsSomeAnd run (DecryptEnds A before after done)) → OnOk (opening_end r) (IsAtEnd after.source.remaining)
+    → IfOk r (λ done. IsSomeAnd run (DecryptEnds A before after done)) → OnOk (opening_end r) (IsAtEnd after.source.supply)
 opening_at_end A before after run (Err s) ends = tt
 opening_at_end A before after None (Ok done) ends = absurd ends
 opening_at_end A before after (Some r) (Ok done) ends = ends.1.is.at_end ends.1.ended
 
 pub resuming_at_end : (A : Header → List ℕ → Type 0) (p : Position) (before after : ResumePorts) (run : Option Run) (r : Result Done Stopped)
-    → IfOk r (λ done. IsSomeAnd run (ResumeEnds A p before after done)) → OnOk (opening_end r) (IsAtEnd after.main.source.remaining)
+    → IfOk r (λ done. IsSomeAnd run (ResumeEnds A p before after done)) → OnOk (opening_end r) (IsAtEnd after.main.source.supply)
 resuming_at_end A p before after run (Err s) ends = tt
 resuming_at_end A p before after None (Ok done) ends = absurd ends
 resuming_at_end A p before after (Some r) (Ok done) ends = ends.2.is.at_end ends.2.ended

@@ -75,8 +75,8 @@ reported_whole Made (Usage usage) old mid new Quiet same first rest = tt
 reported_whole Failed e old mid new Quiet same risen rest = subst (λ (s : SinkView). Leaves e old s) (sym rest) (failed_whole e old mid risen)
 
 -- a report that fails has the fault of what was read
-pub report_fails : (old new : SourceView) (f : FileFault) → HeadFails NoHeadFault old new f → FailsReport old.remaining.left (Fault f)
-report_fails old new (Head fault) h = fault_of_all old.remaining new.remaining fault h
+pub report_fails : (old new : SourceView) (f : FileFault) → HeadFails NoHeadFault old new f → FailsReport old.supply.left (Fault f)
+report_fails old new (Head fault) h = fault_of_all old.supply new.supply fault h
 report_fails old new Read h = tt
 report_fails old new Memory h = tt
 report_fails old new ReadNeverEnds h = tt
@@ -107,20 +107,20 @@ pub head_alone : (old new : SourceView) (f : FileFault) → HeadFails InHeader o
 head_alone old new f fails = sound_too InHeader NoHeadFault old new f (λ h. (h.0, h.1, inl h.2)) fails
 
 -- a length that is known is that of the bytes
-size_is : (size : Option ℕ) (bytes : List ℕ) (remaining : Option (List ℕ)) → remaining ≡ Some bytes
-    → IfSome size (λ n. option_map length remaining ≡ Some n) → IfSome size (λ n. n ≡ length bytes)
-size_is None bytes remaining there known = tt
-size_is (Some n) bytes remaining there known =
+size_is : (size : Option ℕ) (bytes : List ℕ) (coming : Option (List ℕ)) → coming ≡ Some bytes
+    → IfSome size (λ n. option_map length coming ≡ Some n) → IfSome size (λ n. n ≡ length bytes)
+size_is None bytes coming there known = tt
+size_is (Some n) bytes coming there known =
     let e : Some (length bytes) ≡ Some n = sym (ap (λ (o : Option (List ℕ)). option_map length o) there) ∙ known in cc
 
 -- the report is the file's
-pub file_report : (shows : Bool) (held : Option (List ℕ)) (remaining new : Supply) (size : Option ℕ) (r : Report)
-    → (shows ≡ true → (is_some held ≡ true) × (remaining.left ≡ held)) → (shows ≡ true → IfSome size (λ n. option_map length remaining.left ≡ Some n))
-    → IsInspected size remaining new r → shows ≡ true → IsReportOf held r
-file_report shows None remaining new size r found sized is shown = absurd (true≢false (sym (found shown).0))
-file_report shows (Some bytes) remaining new size r found sized is shown =
+pub file_report : (shows : Bool) (held : Option (List ℕ)) (coming new : Supply) (size : Option ℕ) (r : Report)
+    → (shows ≡ true → (is_some held ≡ true) × (coming.left ≡ held)) → (shows ≡ true → IfSome size (λ n. option_map length coming.left ≡ Some n))
+    → IsInspected size coming new r → shows ≡ true → IsReportOf held r
+file_report shows None coming new size r found sized is shown = absurd (true≢false (sym (found shown).0))
+file_report shows (Some bytes) coming new size r found sized is shown =
     let same = (found shown).1 in
-    (bytes, refl, is.whole bytes same (size_is size bytes remaining.left same (sized shown)))
+    (bytes, refl, is.whole bytes same (size_is size bytes coming.left same (sized shown)))
 
 pub to_end_all : (size : Option ℕ) (old new : Supply) (x : Result Report FileFault) → size ≡ None → IfOk x (Inspects old new)
     → IfOk x (IsInspected size old new)

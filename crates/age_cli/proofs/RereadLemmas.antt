@@ -62,8 +62,8 @@ unread keep other i before after (Some r) s none stops = absurd (none-some r.fil
 module _ (IsPorts : Ports → Type 0) (shows : Bool) (d : Decrypting) (i : Identity) (before after : Ports) (after_is : IsPorts after) (old new : FilesView)
     (Unshown : Type 0) (Progress : Option (List ℕ) → Result (Unit {0}) Ending → Type 0) (silent : d.progress ≡ Silent → Unshown) where
   abbrev Shows : Result (Unit {0}) Ending → Type 0
-  Shows r = d.progress ≡ Shown → (input : Option (List ℕ)) → (shows ≡ true → before.source.remaining.left ≡ input)
-      → OnOk r (IsAtEnd after.source.remaining) → Progress input r
+  Shows r = d.progress ≡ Shown → (input : Option (List ℕ)) → (shows ≡ true → before.source.supply.left ≡ input)
+      → OnOk r (IsAtEnd after.source.supply) → Progress input r
 
   -- one that isn't read again ended as if positions had been kept when one is to be saved
   opened_once : (end : Result Done Stopped) (key : Option (List ℕ)) (keep : PositionPolicy) (r : Result (Unit {0}) Ending)
@@ -147,7 +147,7 @@ module _ (IsPorts : Ports → Type 0) (shows : Bool) (d : Decrypting) (i : Ident
       (subst (λ (x : PositionPolicy). DecryptsKeyed x (allows_by i) (refuses_by i) before after (Err s) (Some key)) (dropped refl) did) shown concludes
 
 -- a position that was found by this key, over these bytes
-pub finds_so : (from : Option Position) (bytes : Option (List ℕ)) (key : List ℕ) (old new : SourceView) (written : ℕ) (r : Result Position FileFault) → old.remaining.left ≡ bytes
+pub finds_so : (from : Option Position) (bytes : Option (List ℕ)) (key : List ℕ) (old new : SourceView) (written : ℕ) (r : Result Position FileFault) → old.supply.left ≡ bytes
     → ((copied : List ℕ) → IsTextBefore from copied → IfOk r (IsFoundAgain (λ _ k. k ≡ key) from copied old new written)) → IfOk r (IsFoundIn from bytes key written)
 finds_so from bytes key old new written (Ok p) is found = (old, new, is, found)
 finds_so from bytes key old new written (Err f) is found = tt

@@ -70,8 +70,8 @@ module _ (IsPorts : Ports → Type 0) (shows : Bool) (d : Decrypting) (i : Ident
   Did keep end standing = ResumesKeyed keep (allows_by i) (refuses_by i) from (resume_ports before first) (resume_ports after last) end standing
 
   abbrev Shows : Result (Unit {0}) Ending → Type 0
-  Shows r = d.progress ≡ Shown → (input : Option (List ℕ)) → (shows ≡ true → before.source.remaining.left ≡ input)
-      → OnOk r (IsAtEnd after.source.remaining) → Progress input r
+  Shows r = d.progress ≡ Shown → (input : Option (List ℕ)) → (shows ≡ true → before.source.supply.left ≡ input)
+      → OnOk r (IsAtEnd after.source.supply) → Progress input r
 
   -- one that isn't read again ended as if positions had been kept, if one is to be saved
   resumed_once : (run : Option Run) (end : Result Done Stopped) (r : Result (Unit {0}) Ending) → after.sink.label ≡ before.sink.label

@@ -1,6 +1,7 @@
 -- What a command does with files, done or stopped.
-use Rattle.std.specs.Prelude.{◌≡◌, ℕ, true, Result, Ok, Err, if◌then◌else◌, List, [], Option, Some, ◌⊎◌, is_some, None}
-use Rattle.std.specs.Prelude.{Bool, ◌++◌, OnOk, IfErr, IsErr, IsErrAnd, ◌≢◌, option_map, length}
+use Rattle.std.specs.Prelude.{◌≡◌, ℕ, true, Result, Ok, Err, if◌then◌else◌, List, [], Option, Some, ◌⊎◌}
+use Rattle.std.specs.Prelude.{is_some, None, Bool, ◌++◌, OnOk, IfErr, IsErr, IsErrAnd, ◌≢◌, option_map}
+use Rattle.std.specs.Prelude.{length}
 use Rattle.clap.specs.Words.{Text}
 use Rattle.age_io.specs.Io.{SourceView, SinkView, Shown as ShownOne, ShowsReading}
 use Rattle.age_io.specs.Supply.{Supply, IsAtEnd}
@@ -81,7 +82,7 @@ pub record PortsOf {In Out : Type 0} (read : In → SourceView) (wrote : Out →
 
 -- a source that gave nothing so far, and a sink that took nothing
 abbrev pub AreNew : Ports → Type 0
-AreNew p = (p.source.remaining.given ≡ []) × (p.sink.taken.bytes ≡ [])
+AreNew p = (p.source.supply.given ≡ []) × (p.sink.taken.bytes ≡ [])
 
 module _ (IsPorts : Ports → Type 0) where
   -- a second source of the set gives the old text
@@ -89,7 +90,7 @@ module _ (IsPorts : Ports → Type 0) where
       → Type 0
   Beside old_text Promise before after =
       (first : SourceView) × (last : SourceView) × IsPorts (ports first before.sink)
-      × IsPorts (ports last after.sink) × (old_text ≡ first.remaining.left)
+      × IsPorts (ports last after.sink) × (old_text ≡ first.supply.left)
       × Promise (resume_ports before first) (resume_ports after last)
 
   -- the engine of `resume`, from a position and the old text
@@ -108,7 +109,7 @@ module _ (IsPorts : Ports → Type 0) where
     pub after : Ports
     pub before_is : IsPorts before
     pub after_is : IsPorts after
-    pub coming : input ≡ before.source.remaining.left
+    pub coming : input ≡ before.source.supply.left
     pub empty : before.sink.taken.contents ≡ Some []
     pub took : taken ≡ after.sink.taken.contents
     pub promise : Promise before after
@@ -201,7 +202,7 @@ progress_of (Decrypt d) = d.progress
 progress_of (Resume r) = r.decrypting.progress
 progress_of other = Silent
 
--- what becomes of an OUT that is there
+-- what becomes of an existing OUT
 abbrev pub clobber_of : Request → ClobberOption
 clobber_of (Encrypt e) = e.clobber
 clobber_of (Decrypt d) = d.clobber
@@ -301,7 +302,7 @@ module _ (IsPorts : Ports → Type 0) where
         × EndsBefore asked before.entries ending
         × HasReason before.entries after.events Failed ending) ⊎ OfEngine shows asked before.entries
         (λ engine paths. LeavesOut IsPorts engine paths before.entries after.entries ending))
-    -- With `--no-clobber` an OUT that was there is refused, and nothing differs.
+    -- With `--no-clobber` an existing OUT is refused, and nothing differs.
     pub keeps : shows ≡ true → clobber_of asked ≡ Refused
         → is_some (out_of asked before.entries) ≡ true
         → IsErr ended × (after.entries ≡ before.entries)

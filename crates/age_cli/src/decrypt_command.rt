@@ -6,7 +6,8 @@ ghost use Rattle.age_file.specs.Runs.{ports};
 ghost use Rattle.age_cli_args.specs.Requests.{option_text};
 ghost use Rattle.age_cli_args.specs.declared.request.ProgressOption.TheVariants.{Silent, Shown};
 ghost use Rattle.age_cli_args.specs.declared.request.Request.TheVariants.{Decrypt};
-ghost use Rattle.age_command.specs.Identities.{IsEnough, IsSecretIn, file_bytes, file_of, allows_by, refuses_by};
+ghost use Rattle.age_command.specs.Identities.{IsEnough, IsSecretIn, file_bytes, file_of, allows_by};
+ghost use Rattle.age_command.specs.Identities.{refuses_by};
 ghost use Rattle.age_command.specs.Orders.{opening_event, NamesTwice, order_asked};
 ghost use Rattle.age_command.specs.Endings.{Tells};
 ghost use Rattle.age_command.specs.Files.{SourceFails};
@@ -113,7 +114,7 @@ fn open_text<F: FileSet, P: Meter>(
         (ports (F.In.view result.source) (F.Out.view out.new.out)) result.end result.key }
     ensures silent { asked.now.progress ≡ Silent → progress.new ≡ progress.old }
     ensures shown { asked.now.progress ≡ Shown → ShowsRun (F.shows_bytes)
-        (F.In.view source).remaining.left (F.In.view result.source).remaining (P.shown progress.old)
+        (F.In.view source).supply.left (F.In.view result.source).supply (P.shown progress.old)
         (P.shown progress.new) }
 {
     match asked.progress {

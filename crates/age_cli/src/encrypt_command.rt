@@ -44,10 +44,10 @@ fn random_of(bytes: &[u8]) -> Option<FileRandom>
 
 /// The random parts, from the first 48 bytes of a source.
 fn random_in<S: Source>(alloc: Global, source: &mut S) -> Result<FileRandom, Ending>
-    ensures read { IfOk result (λ r. (bytes : List ℕ) × Consumes (S.view source.old).remaining
-        (S.view source.new).remaining bytes × IsRandom bytes r) }
+    ensures read { IfOk result (λ r. (bytes : List ℕ) × Consumes (S.view source.old).supply
+        (S.view source.new).supply bytes × IsRandom bytes r) }
     ensures short { IfErr result (λ e. is_usage e ≡ true → (bytes : List ℕ)
-        → (S.view source.old).remaining.left ≡ Some bytes → length bytes < 48) }
+        → (S.view source.old).supply.left ≡ Some bytes → length bytes < 48) }
     ensures early { IfErr result EndsEarly }
     ensures reason { IfErr result (λ e. (old : Files) (events : List Event)
         → HasReason old events (SourceFails S.view) e) }
@@ -204,7 +204,7 @@ fn seal_text<F: FileSet, P: Meter>(
     ensures named { (F.Out.view out.new.out).label ≡ (F.Out.view out.old.out).label }
     ensures silent { asked.now.progress ≡ Silent → progress.new ≡ progress.old }
     ensures shown { asked.now.progress ≡ Shown → ShowsRun (F.shows_bytes)
-        (F.In.view source).remaining.left (F.In.view result.source).remaining (P.shown progress.old)
+        (F.In.view source).supply.left (F.In.view result.source).supply (P.shown progress.old)
         (P.shown progress.new) }
 {
     match asked.progress {

@@ -1,6 +1,7 @@
 //! The command that reports what a file holds.
 
-ghost use Rattle.std.specs.Prelude.{◌≡◌, ◌⊎◌, [], ◌∷◌, ◌++◌, true, IfOk, OnOk, IfErr, IfSome, Some, option_map, length};
+ghost use Rattle.std.specs.Prelude.{◌≡◌, ◌⊎◌, [], ◌∷◌, ◌++◌, true, IfOk, OnOk, IfErr, IfSome, Some};
+ghost use Rattle.std.specs.Prelude.{option_map, length};
 ghost use Rattle.age_io.specs.Taken.{Appends};
 ghost use Rattle.age_file.specs.Runs.{HeadFails, NoHeadFault};
 ghost use Rattle.age_file.specs.declared.report.Report.{Report};
@@ -25,8 +26,8 @@ fn inspect_as<I: Source>(
     length: Option<u64>,
     input: &mut I,
 ) -> Result<Report, FileFault>
-    ensures ok { IfOk result (IsInspected length (I.view input.old).remaining
-        (I.view input.new).remaining) }
+    ensures ok { IfOk result (IsInspected length (I.view input.old).supply
+        (I.view input.new).supply) }
     ensures fails { IfErr result (HeadFails NoHeadFault (I.view input.old) (I.view input.new)) }
 {
     match length {
@@ -43,9 +44,9 @@ fn write_report<I: Source, O: Sink>(
     output: &mut O,
 ) -> Result<(), FileFault>
     ensures done { OnOk result ((r : Report)
-        × IsInspected length (I.view input.old).remaining (I.view input.new).remaining r
+        × IsInspected length (I.view input.old).supply (I.view input.new).supply r
         × Appends (O.view output.old).taken (O.view output.new).taken (report_text r)) }
-    ensures fails { IfErr result (λ f. FailsReport (I.view input.old).remaining.left (Fault f)) }
+    ensures fails { IfErr result (λ f. FailsReport (I.view input.old).supply.left (Fault f)) }
     ensures sent { OnOk result ((O.view output.new).settled ≡ true) }
     ensures unprinted { IfErr result (λ f.
         FailsWriting (O.view output.old) (O.view output.new) (Fault f)
@@ -67,9 +68,9 @@ fn report_as<I: Source, O: Sink>(
     output: &mut O,
 ) -> Result<(), Ending>
     ensures done { OnOk result ((r : Report)
-        × IsInspected length (I.view input.old).remaining (I.view input.new).remaining r
+        × IsInspected length (I.view input.old).supply (I.view input.new).supply r
         × Appends (O.view output.old).taken (O.view output.new).taken (report_text r)) }
-    ensures fails { IfErr result (FailsReport (I.view input.old).remaining.left) }
+    ensures fails { IfErr result (FailsReport (I.view input.old).supply.left) }
     ensures sent { OnOk result ((O.view output.new).settled ≡ true) }
     ensures unprinted { IfErr result (λ e. FailsWriting (O.view output.old) (O.view output.new) e
         ⊎ (output.new ≡ output.old)) }
@@ -86,9 +87,9 @@ pub(crate) fn report<I: Source, O: Sink>(
     output: &mut O,
 ) -> Result<(), Ending>
     ensures done { OnOk result
-        (Reports (I.view input.old).remaining (I.view input.new).remaining (O.view output.old).taken
+        (Reports (I.view input.old).supply (I.view input.new).supply (O.view output.old).taken
         (O.view output.new).taken) }
-    ensures fails { IfErr result (FailsReport (I.view input.old).remaining.left) }
+    ensures fails { IfErr result (FailsReport (I.view input.old).supply.left) }
     ensures sent { OnOk result ((O.view output.new).settled ≡ true) }
     ensures unprinted { IfErr result (λ e. FailsWriting (O.view output.old) (O.view output.new) e
         ⊎ (output.new ≡ output.old)) }
@@ -101,7 +102,7 @@ pub(crate) fn report<I: Source, O: Sink>(
 /// How long an input is, if that can be believed: a file of no length may give bytes, as in /proc.
 fn known_length<F: FileSet>(files: &F, source: &F::In) -> Option<u64>
     ensures { F.shows_bytes ≡ true
-        → IfSome result (λ n. option_map length (F.In.view source.now).remaining.left ≡ Some n) }
+        → IfSome result (λ n. option_map length (F.In.view source.now).supply.left ≡ Some n) }
 {
     match files.length(source) {
         Some(len) if len > 0 => Some(len),

@@ -136,7 +136,7 @@ pub(crate) fn open_both<F: FileSet>(
         ++ making (Some asked.now.to.now) asked.now.durability))
         (F.view files.old) (F.view files.new)
         (λ both. ((is_some ((F.view files.old).entries from.now) ≡ true)
-        × ((F.In.view both.0).remaining.left ≡ (F.view files.old).entries from.now)
+        × ((F.In.view both.0).supply.left ≡ (F.view files.old).entries from.now)
         × ((F.Out.view both.1.out).taken.contents ≡ Some [])
         × ((F.Out.view both.1.out).label ≡ asked.now.to.now))
         × IsFresh asked.now.clobber ((F.view files.old).entries asked.now.to.now))
@@ -152,7 +152,7 @@ pub(crate) fn open_both<F: FileSet>(
 /// Shows a meter that a reading of an input begins, with its length if the set of files can say it.
 pub(crate) fn begin_meter<F: FileSet, M: Meter>(files: &F, source: &F::In, meter: &mut M)
     ensures { (size : Option ℕ) × (F.shows_bytes ≡ true
-        → size ≡ option_map length (F.In.view source.now).remaining.left)
+        → size ≡ option_map length (F.In.view source.now).supply.left)
         × Adds (M.shown meter.old) (M.shown meter.new) (Begins size) }
 {
     meter.begin(files.length(source));

@@ -60,8 +60,8 @@ fn obey<F: FileSet, I: Source, O: Sink, E: Sink, P: Meter>(
     ensures announced { Tells announced.new result (E.view faults.old) (E.view faults.new)
         (faults.new ≡ faults.old) }
     ensures obeys { Obeys (texts words.now) (F.shows_bytes) (PortsOf F.In.view F.Out.view)
-        (world (F.view files.old) (I.view input.old).remaining (O.view output.old))
-        (world (F.view files.new) (I.view input.new).remaining (O.view output.new))
+        (world (F.view files.old) (I.view input.old).supply (O.view output.old))
+        (world (F.view files.new) (I.view input.new).supply (O.view output.new))
         (SourceFails F.In.view) (input.new ≡ input.old) (output.new ≡ output.old)
         (progress.new ≡ progress.old)
         (ShowsProgress (F.shows_bytes) (P.shown progress.old) (P.shown progress.new)) result }
@@ -117,8 +117,8 @@ pub fn run<F: FileSet, I: Source, O: Sink, E: Sink, P: Meter>(
     progress: &mut P,
 ) -> u8
     ensures { Runs (texts words.now) (F.shows_bytes) (PortsOf F.In.view F.Out.view)
-        (world (F.view files.old) (I.view input.old).remaining (O.view output.old))
-        (world (F.view files.new) (I.view input.new).remaining (O.view output.new))
+        (world (F.view files.old) (I.view input.old).supply (O.view output.old))
+        (world (F.view files.new) (I.view input.new).supply (O.view output.new))
         (E.view faults.old) (E.view faults.new) (SourceFails F.In.view) (faults.new ≡ faults.old)
         (input.new ≡ input.old) (output.new ≡ output.old) (progress.new ≡ progress.old)
         (ShowsProgress (F.shows_bytes) (P.shown progress.old) (P.shown progress.new)) result }

@@ -10,8 +10,8 @@ ghost use Rattle.age_cli_args.specs.Requests.{option_text};
 ghost use Rattle.age_cli_args.specs.declared.request.ProgressOption.TheVariants.{Silent};
 ghost use Rattle.age_command.specs.Endings.{Announces, Tells};
 ghost use Rattle.age_cli.specs.Acts.{ShowsRun, kept_for};
-ghost use Rattle.age_cli.specs.inner.Rereadings.{IsFoundIn, ConcludesAgain, ConcludesDecryption, ConcludesFound};
-ghost use Rattle.age_cli.specs.inner.Rereadings.{again_of, start_of};
+ghost use Rattle.age_cli.specs.inner.Rereadings.{IsFoundIn, ConcludesAgain, ConcludesDecryption};
+ghost use Rattle.age_cli.specs.inner.Rereadings.{ConcludesFound, again_of, start_of};
 
 use crate::interruption::{opening_end, save};
 use crate::output::{begin_meter, conclude, end_meter, leave};
@@ -99,7 +99,7 @@ fn position_in<S: Source>(
     written: u128,
     source: &mut S,
 ) -> Result<Position, FileFault>
-    ensures found { IfOk result (IsFoundIn from.now (S.view source.old).remaining.left key.now written) }
+    ensures found { IfOk result (IsFoundIn from.now (S.view source.old).supply.left key.now written) }
     ensures faults { IfErr result (IsMemoryOr Read) }
     ensures metered { (began : Origin) → S.metered source.old began → S.metered source.new began }
 {

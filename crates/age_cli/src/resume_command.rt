@@ -90,7 +90,7 @@ fn open_old<F: FileSet>(
     ensures kept { (F.view files.new).entries ≡ (F.view files.old).entries }
     ensures found { IfOk result (λ s. F.shows_bytes ≡ true
         → (is_some (old_for position.now ((F.view files.old).entries name.now)) ≡ true)
-        × ((F.In.view s).remaining.left ≡ old_for position.now ((F.view files.old).entries name.now))) }
+        × ((F.In.view s).supply.left ≡ old_for position.now ((F.view files.old).entries name.now))) }
     ensures noted { (F.view files.new).events ≡ (F.view files.old).events ++ Opened name.now ∷ [] }
     ensures faults { IfErr result (OpenFails (F.shows_bytes) Read) }
     ensures reason { F.shows_bytes ≡ true → IfErr result (λ f. f ≡ OpenFault.Fault Read
@@ -113,7 +113,7 @@ fn open_earlier<F: FileSet>(
     ensures found { IfOk result (λ both. F.shows_bytes ≡ true
         → IsPositionIn ((F.view files.old).entries asked.now.position.now) both.0
         × (is_some (old_for both.0 ((F.view files.old).entries asked.now.old.now)) ≡ true)
-        × ((F.In.view both.1).remaining.left
+        × ((F.In.view both.1).supply.left
         ≡ old_for both.0 ((F.view files.old).entries asked.now.old.now))) }
     ensures noted { OnOk result ((F.view files.new).events ≡ (F.view files.old).events
         ++ Opened asked.now.position.now ∷ Opened asked.now.old.now ∷ []) }
@@ -188,7 +188,7 @@ fn resume_text<F: FileSet, P: Meter>(
         result.end result.standing }
     ensures silent { asked.now.progress ≡ Silent → progress.new ≡ progress.old }
     ensures shown { asked.now.progress ≡ Shown → ShowsRun (F.shows_bytes)
-        (F.In.view source).remaining.left (F.In.view result.source).remaining (P.shown progress.old)
+        (F.In.view source).supply.left (F.In.view result.source).supply (P.shown progress.old)
         (P.shown progress.new) }
 {
     match asked.progress {

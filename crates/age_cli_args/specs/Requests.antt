@@ -61,7 +61,7 @@ option_text = option_map (λ s. s.now)
 abbrev pub IsDurability : List Row → Durability → Type 0
 IsDurability rows d = d ≡ (if is_given (codes "no-sync") rows then Buffered else Synced)
 
--- `--no-clobber` says that an OUT that is there is refused
+-- `--no-clobber` says that an existing OUT is refused
 abbrev pub IsClobber : List Row → ClobberOption → Type 0
 IsClobber rows c = c ≡ (if is_given (codes "no-clobber") rows then Refused else Allowed)
 

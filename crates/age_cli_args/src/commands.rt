@@ -1,7 +1,8 @@
 //! The commands of the program and their arguments, for the parser of command lines.
 
 ghost use Rattle.std.specs.Prelude.{◌≡◌, false, IfOk};
-ghost use Rattle.clap.specs.Words.{App, rule_of, new_rule, with_subcommand, new_app, FailsBy, subcommand_rows_of};
+ghost use Rattle.clap.specs.Words.{App, rule_of, new_rule, with_subcommand, new_app, FailsBy};
+ghost use Rattle.clap.specs.Words.{subcommand_rows_of};
 ghost use Rattle.clap.specs.Walk.{texts};
 ghost use Rattle.age_cli_args.specs.Commands.{option_rule, required_rule, number_rule, flag_rule, age_tool};
 ghost use Rattle.age_cli_args.specs.inner.Commands.{HasApp, described_tool, bare_tool};

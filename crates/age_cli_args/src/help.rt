@@ -14,7 +14,7 @@ pub(crate) const AFTER_PROGRAM: &str =
 Exit status: 0 on success; 1 on a fault, reported in one line such as
 `age_tool: 13 WrongKey`; 2 for a bad command line, and then no file has changed.
 
-Faults: 1-8 no age file, or its header is damaged or cut; 9-15 no key was found;
+Faults: 1-8 no age file, or its header is damaged or cut; 9-15 no key opened it;
 16-22 the payload is damaged, cut, or followed by something; 23-25, 30 and 31
 position, file and old output don't belong together; 26 a file can't be read;
 27 one can't be written; 28 out of memory; 29 an input never ends.
@@ -118,15 +118,15 @@ A file with work factor 22 takes 4 GiB of memory";
 
 pub(crate) const SAVE: &str = "If decryption stops at a fault, save its position here,
 for `resume`. A run that is killed, as by Ctrl-C, saves
-none. May be the file of --position, but no other file
-that is read or written. Slower from a pipe. Best on a
-disk that OUT can't fill";
+none. No file that is read or written, except that of
+resume's --position. Slower from a pipe. Best on a disk
+that OUT can't fill";
 
 pub(crate) const NO_SYNC: &str = "Don't wait until OUT, a regular file or a block device,
 has reached the disk. Errors that come only then (NFS,
 quotas) go unnoticed";
 
-pub(crate) const NO_CLOBBER: &str = "Refuse an OUT that is there (27); it stays as it was";
+pub(crate) const NO_CLOBBER: &str = "Refuse an existing OUT (27); it stays as it was";
 
 pub(crate) const PROGRESS: &str = "Show on standard error how much of IN has been read";
 

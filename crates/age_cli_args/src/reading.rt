@@ -3,10 +3,9 @@
 ghost use Rattle.std.specs.Prelude.{◌≡◌, ◌≤◌, ℕ, None, Some, IfNone, IfOk, IfSome};
 ghost use Rattle.clap.specs.Words.{subcommand_rows_of, rows_of, found_of, one_of, first_of, FailsBy};
 ghost use Rattle.clap.specs.Walk.{texts};
-ghost use Rattle.age_cli_args.specs.Requests.{refusals, is_given, IsNumber, option_text};
-ghost use Rattle.age_cli_args.specs.Requests.{IsClobber, IsDurability, IsProgress};
-ghost use Rattle.age_cli_args.specs.Requests.{IsEncrypting, IsIdentityOptions, IsDecrypting, IsResuming, IsDrilling};
-ghost use Rattle.age_cli_args.specs.Requests.{IsRequest, Requests};
+ghost use Rattle.age_cli_args.specs.Requests.{refusals, is_given, IsNumber, option_text, IsClobber};
+ghost use Rattle.age_cli_args.specs.Requests.{IsDurability, IsProgress, IsEncrypting, IsIdentityOptions};
+ghost use Rattle.age_cli_args.specs.Requests.{IsDecrypting, IsResuming, IsDrilling, IsRequest, Requests};
 ghost use Rattle.age_cli_args.specs.declared.request.Encrypting.{Encrypting};
 ghost use Rattle.age_cli_args.specs.declared.request.IdentityOptions.{IdentityOptions};
 ghost use Rattle.age_cli_args.specs.declared.request.Decrypting.{Decrypting};
@@ -75,7 +74,7 @@ fn durability(matches: &ArgMatches<'_>) -> Durability
     }
 }
 
-/// What becomes of an OUT that is there.
+/// What becomes of an existing OUT.
 fn clobber(matches: &ArgMatches<'_>) -> ClobberOption
     ensures { IsClobber (rows_of (found_of matches.now)) result }
 {

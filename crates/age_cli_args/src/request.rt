@@ -14,7 +14,7 @@ pub enum ProgressOption {
     Silent,
 }
 
-/// What becomes of an OUT that is there.
+/// What becomes of an existing OUT.
 #[derive(Clone, Copy, Debug, PartialEq, Eq)]
 pub enum ClobberOption {
     /// It is overwritten.
@@ -35,7 +35,7 @@ pub struct Encrypting<'a> {
     pub random: Option<&'a str>,
     /// When OUT reaches the disk: later, if `--no-sync` is given.
     pub durability: Durability,
-    /// What becomes of an OUT that is there: it is refused, if `--no-clobber` is given.
+    /// What becomes of an existing OUT: it is refused, if `--no-clobber` is given.
     pub clobber: ClobberOption,
     /// Whether progress is shown: if `--progress` is given.
     pub progress: ProgressOption,
@@ -68,7 +68,7 @@ pub struct Decrypting<'a> {
     pub save: Option<&'a str>,
     /// When OUT and the saved position reach the disk: later, if `--no-sync` is given.
     pub durability: Durability,
-    /// What becomes of an OUT that is there: it is refused, if `--no-clobber` is given.
+    /// What becomes of an existing OUT: it is refused, if `--no-clobber` is given.
     pub clobber: ClobberOption,
     /// Whether progress is shown: if `--progress` is given.
     pub progress: ProgressOption,

@@ -105,7 +105,8 @@ IsEnough old choice held = (identity : Identity)
 -- a choice is what these options say
 pub record Chooses (options : IdentityOptions) (choice : Choice) : Type 0 where
   -- Its file is the one that the options name.
-  pub order : opening_event (file_of choice) ≡ identity_order (option_text options.pass) (option_text options.shared)
+  pub order : opening_event (file_of choice)
+      ≡ identity_order (option_text options.pass) (option_text options.shared)
   -- What it makes of the bytes of its file is what the options and the files make.
   pub opens : (old : Files) (held : Option (List ℕ)) (identity : Identity)
       → IsSecretIn old (file_of choice) held → Makes choice held identity

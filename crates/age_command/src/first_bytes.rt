@@ -26,7 +26,7 @@ fn pull_some<S: Source>(
     requires some { 0 < most }
     requires room { most ≤ 4096 }
     ensures piece { IfOk result (λ n.
-        IsPiece (S.view source.old).remaining (S.view source.new).remaining most n buffer.new) }
+        IsPiece (S.view source.old).supply (S.view source.new).supply most n buffer.new) }
     ensures fault { IfErr result (λ f. f ≡ Read) }
     ensures failed { IfErr result (λ _. SourceFails S.view) }
 {
@@ -45,7 +45,7 @@ pub fn fill_first<S: Source>(
 ) -> Result<(), FileFault>
     requires { held.old.items ≡ [] }
     ensures first { OnOk result
-        (AreFirst (S.view source.old).remaining (S.view source.new).remaining most held.new.items) }
+        (AreFirst (S.view source.old).supply (S.view source.new).supply most held.new.items) }
     ensures faults { IfErr result (IsMemoryOr Read) }
     ensures failed { IfErr result (λ f. f ≡ Read → SourceFails S.view) }
 {
@@ -67,7 +67,7 @@ pub fn read_first<S: Source>(
     most: usize,
 ) -> Result<Vec<u8>, FileFault>
     ensures first { IfOk result
-        (λ v. AreFirst (S.view source.old).remaining (S.view source.new).remaining most v.items) }
+        (λ v. AreFirst (S.view source.old).supply (S.view source.new).supply most v.items) }
     ensures faults { IfErr result (IsMemoryOr Read) }
     ensures failed { IfErr result (λ f. f ≡ Read → SourceFails S.view) }
 {
@@ -85,10 +85,10 @@ pub fn read_up_to<S: Source>(
 ) -> Result<Option<Vec<u8>>, FileFault>
     requires { most < 2 ^ 32 }
     ensures all { IfOk result (λ o. IfSome o
-        (λ v. Consumes (S.view source.old).remaining (S.view source.new).remaining v.items
-        × IsAtEnd (S.view source.new).remaining)) }
+        (λ v. Consumes (S.view source.old).supply (S.view source.new).supply v.items
+        × IsAtEnd (S.view source.new).supply)) }
     ensures long { IfOk result (λ o. IfNone o ((bytes : List ℕ)
-        → (S.view source.old).remaining.left ≡ Some bytes → most < length bytes)) }
+        → (S.view source.old).supply.left ≡ Some bytes → most < length bytes)) }
     ensures faults { IfErr result (IsMemoryOr Read) }
     ensures failed { IfErr result (λ f. f ≡ Read → SourceFails S.view) }
 {

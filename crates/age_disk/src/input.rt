@@ -229,7 +229,7 @@ impl HostIn {
 
 impl Source for HostIn {
     ghost view = { λ s. record {
-      remaining = record {
+      supply = record {
         given = s.1.0;
         left = None;
         is_at_end = s.1.1;

@@ -1,7 +1,7 @@
 //! A decryption over memory.
 
 ghost use Rattle.std.specs.Prelude.{◌≡◌, ℕ, List, [], MatchResult};
-ghost use Rattle.age_io.specs.Io.{supply};
+ghost use Rattle.age_io.specs.Io.{memory_supply};
 ghost use Rattle.age_file.specs.Decrypts.{IsUndamagedFile, StopsOutside};
 
 use age_file::{FileFault, MemSink, MemSource, decrypt, undamaged_is_written};
@@ -19,7 +19,8 @@ const STEP: usize = 65_536;
 /// returns no bytes at all, so nobody takes a cut plaintext for a whole one.
 pub fn text_of<U: Unlock>(alloc: Global, unlock: &U, file: Vec<u8>) -> Result<Vec<u8>, FileFault>
     ensures undamaged { (text : List ℕ)
-        → IsUndamagedFile (U.allows unlock.now) (U.refuses unlock.now) (supply [] file.items) text
+        → IsUndamagedFile (U.allows unlock.now) (U.refuses unlock.now)
+        (memory_supply [] file.items) text
         → MatchResult result (λ v. v.items ≡ text) StopsOutside }
 {
     undamaged_is_written::<U>();

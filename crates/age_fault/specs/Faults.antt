@@ -7,9 +7,10 @@ use Rattle.age_keys.specs.Keys as key
 use Rattle.age_io.specs.Io.{one_more, SinkView}
 use Rattle.age_io.specs.Taken.{Appends}
 use Rattle.age_fault.specs.declared.fault.FileFault.{FileFault}
-use Rattle.age_fault.specs.declared.fault.FileFault.TheVariants.{Head, Key, NonceCut, Stream, BadPosition, OtherFile}
-use Rattle.age_fault.specs.declared.fault.FileFault.TheVariants.{ShortText, Read, Write, Memory, ReadNeverEnds}
-use Rattle.age_fault.specs.declared.fault.FileFault.TheVariants.{PositionForged, OldTextDiffers}
+use Rattle.age_fault.specs.declared.fault.FileFault.TheVariants.{Head, Key, NonceCut, Stream, BadPosition}
+use Rattle.age_fault.specs.declared.fault.FileFault.TheVariants.{OtherFile, ShortText, Read, Write, Memory}
+use Rattle.age_fault.specs.declared.fault.FileFault.TheVariants.{ReadNeverEnds, PositionForged}
+use Rattle.age_fault.specs.declared.fault.FileFault.TheVariants.{OldTextDiffers}
 
 -- ---- The number, the name and the place of a fault.
 

@@ -162,14 +162,14 @@ found_position : OneHeader → (Allows : Header → List ℕ → Type 0) (from :
     (before after : Ports) (written : ℕ) (r : Run) (old new : SourceView) (bytes : List ℕ)
     (next : Position)
     → first_of from < chunk_limit → r.first ≡ first_of from → IsRun Allows before after written r
-    → before.source.remaining.left ≡ Some bytes → old.remaining.left ≡ Some bytes
+    → before.source.supply.left ≡ Some bytes → old.supply.left ≡ Some bytes
     → IsFoundAgain (λ _ key. key ≡ r.file.key) from r.copied old new written next
     → IsPositionOf r next
 found_position one Allows from before after written r old new bytes next limit first is shown again
     found =
     let q = found.run in
-    let f = fronts one Allows (λ _ key. key ≡ r.file.key) before.source.remaining
-    after.source.remaining old.remaining new.remaining bytes r q shown again is.reads
+    let f = fronts one Allows (λ _ key. key ≡ r.file.key) before.source.supply
+    after.source.supply old.supply new.supply bytes r q shown again is.reads
     found.is.reads in
     let same = f.4 in
     let passed : length r.skipped ≡ length q.skipped =
@@ -183,8 +183,8 @@ found_position one Allows from before after written r old new bytes next limit f
     same_stand r q (first_of from) next f.0 f.1 limit first found.first_is found.copied_is
     (is.copied_size ∙ ap (λ (n : ℕ). n * chunk_length) first) found.is.reads.opens.allowed
     same.header_bytes same.nonce behind (sym is.count ∙ found.is.count)
-    (λ e. none_left after.source.remaining f.0 f.2 (is.at_end e))
-    (λ e. none_left new.remaining f.1 f.3 (found.is.at_end e)) is.prefix found.is.prefix found.here
+    (λ e. none_left after.source.supply f.0 f.2 (is.at_end e))
+    (λ e. none_left new.supply f.1 f.3 (found.is.at_end e)) is.prefix found.is.prefix found.here
 
 -- the stop, with that position
 pub stops_kept : (Allows : Header → List ℕ → Type 0) (Refused : Header → KeyFault → Type 0)

@@ -67,9 +67,9 @@ module _ (Allows : Header → List ℕ → Type 0) (from : Option Position) (a :
   abbrev head : List ℕ
   head = s.front ++ unlocked.nonce
 
-  after_blocks : Pulled (start_at a.remaining) m.source.remaining m.unread.pulls
+  after_blocks : Pulled (start_at a.supply) m.source.supply m.unread.pulls
       (head ++ (passed ++ m.unread.bytes))
-  after_blocks = passes.uses (start_at a.remaining) head s.pulled
+  after_blocks = passes.uses (start_at a.supply) head s.pulled
 
   -- there is room for what is after them
   pub place_after : HasPlace (stage m (writer_view sink t))
@@ -121,17 +121,17 @@ module _ (Allows : Header → List ℕ → Type 0) (from : Option Position) (a :
           ended = q.ended;
           out = q.out;
         } in
-        let all : Pulled (start_at a.remaining) s2.reader.source.remaining s2.reader.unread.pulls
+        let all : Pulled (start_at a.supply) s2.reader.source.supply s2.reader.unread.pulls
         ((head ++ (passed ++ m.unread.bytes)) ++ q.fresh) =
-        q.pulled (start_at a.remaining) (head ++ (passed ++ m.unread.bytes)) after_blocks in
+        q.pulled (start_at a.supply) (head ++ (passed ++ m.unread.bytes)) after_blocks in
         let parts : (head ++ (passed ++ m.unread.bytes)) ++ q.fresh ≡ head ++ (passed ++ q.bytes) =
         append_assoc head (passed ++ m.unread.bytes) q.fresh
         ∙ ap (λ (x : List ℕ). head ++ x)
         (append_assoc passed m.unread.bytes q.fresh
         ∙ ap (λ (x : List ℕ). passed ++ x) q.parts) in
-        let pulls : Pulled (start_at a.remaining) s2.reader.source.remaining s2.reader.unread.pulls
+        let pulls : Pulled (start_at a.supply) s2.reader.source.supply s2.reader.unread.pulls
         (head ++ (passed ++ q.bytes)) =
-        subst (λ (x : List ℕ). Pulled (start_at a.remaining) s2.reader.source.remaining
+        subst (λ (x : List ℕ). Pulled (start_at a.supply) s2.reader.source.supply
         s2.reader.unread.pulls x) parts all in
         let long = size_before from copied before in
         let counts : HasCounted Kept (unbox unlocked.key unlocked.nonce) chunk_length (held r)

@@ -64,8 +64,8 @@ stops_unread a =
 
 -- a fault that the bytes have is the fault that is reported
 fails_by_kind : (old new : SourceView) (kind : HeadKind) (fault : HeadFault)
-    → StopsAtHeader old.remaining new.remaining
-    → ReportsFault old.remaining new.remaining fault
+    → StopsAtHeader old.supply new.supply
+    → ReportsFault old.supply new.supply fault
     → HeadFails InHeader old new (fault_by_kind kind fault)
 fails_by_kind old new NotAge fault stops reported = reported
 fails_by_kind old new Armored fault stops reported = reported
@@ -108,11 +108,11 @@ fault_of_all old new fault r = elim r.reports [
 
 -- the input ended inside the header
 pub end_fails : (old new : SourceView) (bytes : List ℕ) (fault : HeadFault)
-    → Consumes old.remaining new.remaining bytes → IsAtEnd new.remaining
+    → Consumes old.supply new.supply bytes → IsAtEnd new.supply
     → IsCut bytes fault → HeadFails InHeader old new (fault_of fault)
 end_fails old new bytes fault consumed ended cut =
     fails_by_kind old new fault.kind fault
-    (stops_at_held old.remaining new.remaining bytes consumed cut.0) (record {
+    (stops_at_held old.supply new.supply bytes consumed cut.0) (record {
       bytes = bytes;
       consumed = consumed;
       no_header = cut.0.no_header;
@@ -121,8 +121,8 @@ end_fails old new bytes fault consumed ended cut =
 
 -- a piece that was refused
 pub piece_fails : (old new : SourceView) (held piece : List ℕ) (fault : HeadFault)
-    → StopsAtHeader old.remaining new.remaining
-    → Consumes old.remaining new.remaining (held ++ piece)
+    → StopsAtHeader old.supply new.supply
+    → Consumes old.supply new.supply (held ++ piece)
     → (fault ≡ memory_fault) ⊎ ((HasHeader (held ++ piece) → ⊥) × IsFault (held ++ piece) fault)
     → HeadFails InHeader old new (fault_of fault)
 piece_fails old new held piece fault stops consumed (inl memory) =
@@ -138,7 +138,7 @@ piece_fails old new held piece fault stops consumed (inr is) =
 -- the bytes are sound in another sense too
 pub sound_too : (P Q : Supply → Supply → Type 0) (old new : SourceView)
     (fault : FileFault)
-    → (P old.remaining new.remaining → Q old.remaining new.remaining) → HeadFails P old new fault
+    → (P old.supply new.supply → Q old.supply new.supply) → HeadFails P old new fault
     → HeadFails Q old new fault
 sound_too P Q old new (Head x) sound f = f
 sound_too P Q old new Read sound f = (sound f.0, f.1)
@@ -157,7 +157,7 @@ cut_pulled start now pulls held bytes none h =
 -- a header was not read, since a pull gave nothing
 pub pull_fails : (old mid new : SourceView) (was now : Unread) (held : List ℕ) (fault : FileFault)
     → mid.failed ≡ old.failed
-    → EndsInHeader held → Pulled (start_at old.remaining) new.remaining now.pulls held
+    → EndsInHeader held → Pulled (start_at old.supply) new.supply now.pulls held
     → PullFails (reader_view mid was) (reader_view new now) fault → HeadFails InHeader old new fault
 pull_fails old mid new was now held Read same inside all f =
     ((held, all.consumed, inside), subst (λ (m : ℕ). HasFailed m new.failed new.failing) same f)

@@ -82,7 +82,7 @@ module _ (text : List ℕ) (few : chunk_count chunk_length text ≤ chunk_limit)
       → IfSome run (IsTexts text) → Right text out stopped.position
   stop_right old new None stopped out wrote f auth = none_right text old new stopped out wrote f.0
   stop_right old new (Some r) stopped out wrote f auth =
-      run_right text keep A (NeverEnds old.source.remaining new.source.remaining) old new stopped r
+      run_right text keep A (NeverEnds old.source.supply new.source.supply) old new stopped r
       out (omega (arith, f.0.zero)) wrote f.1 (from_start r f.0 text few auth)
 
 -- ---- a resumed one, if the old text begins the text
@@ -92,7 +92,7 @@ module _ (text : List ℕ) (few : chunk_count chunk_length text ≤ chunk_limit)
     → Type 0) where
   module _ (p : Position) (old new : ResumePorts) (out : List ℕ)
       (wrote : Appends old.main.sink.taken new.main.sink.taken out)
-      (before : (given : List ℕ) → Consumes old.old.remaining new.old.remaining given
+      (before : (given : List ℕ) → Consumes old.old.supply new.old.supply given
       → IsPrefixOf given text) where
     copied_begins : (written : ℕ) (copied : List ℕ) → WritesOld p old new written copied
         → IsPrefixOf copied text
@@ -163,7 +163,7 @@ module _ (Who : Type 0) (Allows : Who → Header → List ℕ → Type 0) (Refus
   call_right : (keep : PositionPolicy) (who : Who) (p : Position) (old new : ResumePorts)
       (result : Result Done Stopped) (run : Option Run) (out : List ℕ)
       → Appends old.main.sink.taken new.main.sink.taken out
-      → ((given : List ℕ) → Consumes old.old.remaining new.old.remaining given
+      → ((given : List ℕ) → Consumes old.old.supply new.old.supply given
       → IsPrefixOf given text)
       → ResumeAnswers Who Allows Refused keep who p old new result run → IfSome run (IsTexts text)
       → AnswersRight text out result
@@ -190,7 +190,7 @@ module _ (Who : Type 0) (Allows : Who → Header → List ℕ → Type 0) (Refus
       first.run first.took first.wrote first.answers auth
   in_a_row first (c ∷ earlier) row auth =
       let rest = in_a_row first earlier row.1 auth.1 in
-      let before : (given : List ℕ) → Consumes c.old.old.remaining c.new.old.remaining given
+      let before : (given : List ℕ) → Consumes c.old.old.supply c.new.old.supply given
       → IsPrefixOf given text =
       λ given read. prefix_trans given (last_took Who Allows Refused first earlier) text
       (row.0 given read) (last_began first earlier rest) in (

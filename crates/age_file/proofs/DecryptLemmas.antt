@@ -47,9 +47,9 @@ module _ (keep : PositionPolicy) (Allows : Header → List ℕ → Type 0) (Refu
 
   fails : (a : SourceView) (old new : Stage) (r : Run) (pulled : List ℕ) (fault : FileFault)
       → old.reader.source.failed ≡ a.failed
-      → Pulled (start_at a.remaining) new.reader.source.remaining new.reader.unread.pulls pulled
+      → Pulled (start_at a.supply) new.reader.source.supply new.reader.unread.pulls pulled
       → SegmentFails (unbox r.file.key r.file.nonce) chunk_length old new (segment_of r) r.out fault
-      → PayloadFails (NeverEnds a.remaining new.reader.source.remaining) (before a old) (after new)
+      → PayloadFails (NeverEnds a.supply new.reader.source.supply) (before a old) (after new)
       r fault
   fails a old new r pulled (Stream x) same h f = (f.1, f.0, (f.2.0 ∙ same, f.2.1))
   fails a old new r pulled Write same h f = (f.0, (f.1.0, f.1.1 ∙ same))
@@ -82,7 +82,7 @@ module _ (keep : PositionPolicy) (Allows : Header → List ℕ → Type 0) (Refu
     pub nonce_is : run.file.nonce ≡ unlocked.nonce
     pub id : unlocked.id ≡ file_id run.file.header_bytes run.file.nonce
     pub is : IsRun Allows (before a old) (after new) new.writer.tally.written run
-    pub pulled : Pulled (start_at a.remaining) new.reader.source.remaining new.reader.unread.pulls
+    pub pulled : Pulled (start_at a.supply) new.reader.source.supply new.reader.unread.pulls
         ((run.file.header_bytes ++ run.file.nonce) ++ run.bytes)
     pub counts : HasCounted keep (unbox run.file.key run.file.nonce) chunk_length (held run)
         (segment_of run) new.writer.tally
@@ -102,14 +102,14 @@ module _ (keep : PositionPolicy) (Allows : Header → List ℕ → Type 0) (Refu
       → IsDecrypted a unlocked old new result
   decrypted a unlocked old new result none index chain_none s p =
       let head = s.front ++ unlocked.nonce in
-      let all : Pulled (start_at a.remaining) new.reader.source.remaining new.reader.unread.pulls
+      let all : Pulled (start_at a.supply) new.reader.source.supply new.reader.unread.pulls
       ((head ++ old.reader.unread.bytes) ++ p.fresh) =
-      p.pulled (start_at a.remaining) (head ++ old.reader.unread.bytes) s.pulled in
+      p.pulled (start_at a.supply) (head ++ old.reader.unread.bytes) s.pulled in
       let parts : (head ++ old.reader.unread.bytes) ++ p.fresh ≡ head ++ p.bytes =
       append_assoc head old.reader.unread.bytes p.fresh ∙ ap (λ (t : List ℕ). head ++ t) p.parts in
-      let pulls : Pulled (start_at a.remaining) new.reader.source.remaining new.reader.unread.pulls
+      let pulls : Pulled (start_at a.supply) new.reader.source.supply new.reader.unread.pulls
       (head ++ p.bytes) =
-      subst (λ (t : List ℕ). Pulled (start_at a.remaining) new.reader.source.remaining new.reader.unread.pulls
+      subst (λ (t : List ℕ). Pulled (start_at a.supply) new.reader.source.supply new.reader.unread.pulls
       t) parts all in
       let zero_len : length {A = ℕ} [] ≡ 0 * chunk_length = omega arith in
       let zero_size : length {A = ℕ} [] ≡ 0 * block_length = omega arith in

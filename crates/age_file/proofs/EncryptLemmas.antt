@@ -38,7 +38,7 @@ module _ (s : SecretView) (front : List ℕ) (begins : BeginsFile s front) where
       }
 
   -- the sink failed in the front
-  pub front_cut : (old new : Ports) (coming : new.source.remaining ≡ old.source.remaining)
+  pub front_cut : (old new : Ports) (coming : new.source.supply ≡ old.source.supply)
       (failed : WriteFailed old new)
       (out unwritten : List ℕ) → front ≡ out ++ unwritten
       → Appends old.sink.taken new.sink.taken out
@@ -50,8 +50,8 @@ module _ (s : SecretView) (front : List ℕ) (begins : BeginsFile s front) where
         file = front ++ payload (box s.key s.nonce) chunk_length [];
         out = out;
         is = file_of [];
-        read = subst (λ t. Consumes old.source.remaining t []) (sym coming)
-            (Consumes-nil old.source.remaining);
+        read = subst (λ t. Consumes old.source.supply t []) (sym coming)
+            (Consumes-nil old.source.supply);
         wrote = wrote;
         prefix = (
           unwritten ++ payload (box s.key s.nonce) chunk_length [],
@@ -63,7 +63,7 @@ module _ (s : SecretView) (front : List ℕ) (begins : BeginsFile s front) where
 
   -- the payload that followed
   module _ (old mid new : Ports) (mid_written new_written : ℕ)
-      (coming : mid.source.remaining ≡ old.source.remaining) (read_failed : mid.source.failed
+      (coming : mid.source.supply ≡ old.source.supply) (read_failed : mid.source.failed
       ≡ old.source.failed) (write_failed : mid.sink.failed ≡ old.sink.failed)
       (wrote : Appends old.sink.taken mid.sink.taken front)
       (count : mid_written ≡ length front) where
@@ -76,7 +76,7 @@ module _ (s : SecretView) (front : List ℕ) (begins : BeginsFile s front) where
           file = front ++ payload (box s.key s.nonce) chunk_length a.text;
           few = a.few;
           is = file_of a.text;
-          read = subst (λ t. Consumes t new.source.remaining a.text) coming a.moved.read;
+          read = subst (λ t. Consumes t new.source.supply a.text) coming a.moved.read;
           at_end = a.at_end;
           wrote = Appends-trans old.sink.taken mid.sink.taken new.sink.taken front
               (payload (box s.key s.nonce) chunk_length a.text) wrote a.moved.wrote;
@@ -144,7 +144,7 @@ module _ (s : SecretView) (front : List ℕ) (begins : BeginsFile s front) where
           file = front ++ payload (box s.key s.nonce) chunk_length a.text;
           out = front ++ a.out;
           is = file_of a.text;
-          read = subst (λ t. Consumes t new.source.remaining a.text) coming a.moved.read;
+          read = subst (λ t. Consumes t new.source.supply a.text) coming a.moved.read;
           wrote = Appends-trans old.sink.taken mid.sink.taken new.sink.taken front a.out wrote
               a.moved.wrote;
           prefix = (

@@ -43,8 +43,8 @@ module _ {B : Type 0} (opening : B → List ℕ → List ℕ → Option (List �
     pub parts : old.reader.unread.bytes ++ fresh ≡ fed ++ left
     pub releases : Releases opening n (λ s. with_piece s fed) a b old.writer new.writer unwritten
     pub pulled : (start : Start) (bytes : List ℕ)
-        → Pulled start old.reader.source.remaining old.reader.unread.pulls bytes
-        → Pulled start new.reader.source.remaining new.reader.unread.pulls (bytes ++ fresh)
+        → Pulled start old.reader.source.supply old.reader.unread.pulls bytes
+        → Pulled start new.reader.source.supply new.reader.unread.pulls (bytes ++ fresh)
 
   -- all but what is unread was fed and written, and there is room for it: few bytes for the pulls
   -- that were made
@@ -60,7 +60,7 @@ module _ {B : Type 0} (opening : B → List ℕ → List ℕ → Option (List �
   pub record Ends (a b : OpenerView B) (old new : Stage) : Type 0 where
     pub flows : Flows a b old new [] []
     pub same : NoneFailed (ports_at old) (ports_at new)
-    pub at_end : IsAtEnd new.reader.source.remaining
+    pub at_end : IsAtEnd new.reader.source.supply
     pub room : length b.held + new.writer.tally.written < 2 ^ 128
 
   -- it stopped before
@@ -82,7 +82,7 @@ module _ {B : Type 0} (opening : B → List ℕ → List ℕ → Option (List �
           parts = append-nil old.reader.unread.bytes;
           releases = releases_none opening n a old.writer;
           pulled = λ start bytes h. subst
-              (λ (t : List ℕ). Pulled start old.reader.source.remaining old.reader.unread.pulls t)
+              (λ (t : List ℕ). Pulled start old.reader.source.supply old.reader.unread.pulls t)
               (sym (append-nil bytes)) h;
         };
         sound = sound;
@@ -109,7 +109,7 @@ module _ {B : Type 0} (opening : B → List ℕ → List ℕ → Option (List �
           releases = releases_then opening n f.fed fed a b c old.writer was now unwritten f.releases
               releases;
           pulled = λ start bytes h. subst
-              (λ (k : ℕ). Pulled start source.remaining k (bytes ++ f.fresh)) (sym pulls)
+              (λ (k : ℕ). Pulled start source.supply k (bytes ++ f.fresh)) (sym pulls)
               (f.pulled start bytes h);
         }
 
@@ -177,7 +177,7 @@ module _ {B : Type 0} (opening : B → List ℕ → List ℕ → Option (List �
               (f.parts ∙ (ap (λ (t : List ℕ). f.fed ++ t) used ∙ append-nil f.fed));
           releases = f.releases;
           pulled = λ start bytes h. subst
-              (λ (t : List ℕ). Pulled start z.source.remaining z.unread.pulls t)
+              (λ (t : List ℕ). Pulled start z.source.supply z.unread.pulls t)
               (append_assoc bytes f.fresh z.unread.bytes)
               (r.pulled start (bytes ++ f.fresh) (f.pulled start bytes h));
         }

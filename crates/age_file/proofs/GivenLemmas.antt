@@ -19,7 +19,7 @@ use Rattle.age_file.specs.declared.decryption.Stopped.{Stopped}
 
 module _ (Allows : Header → List ℕ → Type 0) (old new : Ports) where
   gave_file : (done : Done) (r : Run) → DecryptEnds Allows old new done r
-      → (text : List ℕ) × GaveFile Allows old.source.remaining new.source.remaining text
+      → (text : List ℕ) × GaveFile Allows old.source.supply new.source.supply text
       × WritesText old.sink.taken new.sink.taken done.written text
   gave_file done r d =
       let is = d.1.is in
@@ -45,7 +45,7 @@ module _ (Allows : Header → List ℕ → Type 0) (old new : Ports) where
           nonce = nonce;
           bytes = front ++ r.bytes;
           read = subst
-              (λ (t : List ℕ). Consumes old.source.remaining new.source.remaining (front ++ (t ++ r.bytes)))
+              (λ (t : List ℕ). Consumes old.source.supply new.source.supply (front ++ (t ++ r.bytes)))
               d.0.none_skipped is.reads.read;
           file = record {
             front = r.file.header_bytes;
@@ -66,7 +66,7 @@ module _ (Allows : Header → List ℕ → Type 0) (old new : Ports) where
   pub done_gave_file : (result : Result Done Stopped) (run : Option Run)
       → IfOk result (λ done. IsSomeAnd run (DecryptEnds Allows old new done))
       → IfOk result (λ done. (text : List ℕ)
-      × GaveFile Allows old.source.remaining new.source.remaining text
+      × GaveFile Allows old.source.supply new.source.supply text
       × WritesText old.sink.taken new.sink.taken done.written text)
   done_gave_file (Ok done) (Some r) d = gave_file done r d
   done_gave_file (Ok done) None d = absurd d
@@ -91,7 +91,7 @@ module _ (Allows : Header → List ℕ → Type 0) (old new : Ports) where
 
   pub done_is_file : (result : Result Done Stopped) (run : Option Run) (coming held : List ℕ)
       → IfOk result (λ done. IsSomeAnd run (DecryptEnds Allows old new done))
-      → old.source.remaining.left ≡ Some coming → old.sink.taken.contents ≡ Some held
+      → old.source.supply.left ≡ Some coming → old.sink.taken.contents ≡ Some held
       → IfOk result (λ done. (text : List ℕ) × (header : Header) × (key : List ℕ) × (nonce : List ℕ)
       × FileOf header key nonce text coming × (new.sink.taken.contents ≡ Some (held ++ text)))
   done_is_file (Ok done) None coming held d shown kept = absurd d
@@ -99,7 +99,7 @@ module _ (Allows : Header → List ℕ → Type 0) (old new : Ports) where
   done_is_file (Ok done) (Some r) coming held d shown kept =
       let gave = gave_file done r d in
       let f = gave.1 in
-      let all : coming ≡ f.bytes = all_came old.source.remaining.left new.source.remaining.left coming f.bytes
+      let all : coming ≡ f.bytes = all_came old.source.supply.left new.source.supply.left coming f.bytes
       shown f.read.left f.at_end.1 in (
         gave.0,
         f.header,

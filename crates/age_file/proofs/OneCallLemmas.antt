@@ -19,7 +19,7 @@ module _ (one : OneHeader) (Allows : Header → List ℕ → Type 0) (Refused : 
   pub undamaged_decrypted : (old new : Ports) (text : List ℕ) (result : Result Done Stopped)
       (run : Option Run) → IfOk result (λ done. IsSomeAnd run (DecryptEnds Allows old new done))
       → IfErr result (DecryptStops keep Allows Refused old new run)
-      → IsUndamagedFile Allows Refused old.source.remaining text
+      → IsUndamagedFile Allows Refused old.source.supply text
       → MatchResult result (λ done. WritesText old.sink.taken new.sink.taken done.written text)
       (λ stopped. StopsOutside stopped.fault)
   undamaged_decrypted old new text (Ok done) None ends stops whole = absurd ends
@@ -32,7 +32,7 @@ module _ (one : OneHeader) (Allows : Header → List ℕ → Type 0) (Refused : 
       (result : Result Done Stopped) (run : Option Run)
       → IfOk result (λ done. IsSomeAnd run (ResumeEnds Allows p old new done))
       → IfErr result (ResumeStops Allows p old new keep Refused run)
-      → IsUndamagedRest Allows Refused p old.main.source.remaining old.old.remaining text
+      → IsUndamagedRest Allows Refused p old.main.source.supply old.old.supply text
       → MatchResult result
       (λ done. WritesText old.main.sink.taken new.main.sink.taken done.written text)
       (λ stopped. StopsOutside stopped.fault)

@@ -115,8 +115,8 @@ module _ (keep : PositionPolicy) (Allows : Header → List ℕ → Type 0) (Refu
 
   reads_of : (a : SourceView) (b : ReaderView) (unlocked : Unlocked)
       (s : StartsAt Allows a b unlocked) (c : Supply) (rest : List ℕ)
-      → Consumes a.remaining c ((s.front ++ unlocked.nonce) ++ rest)
-      → Reads Allows a.remaining c (opened a b unlocked s) rest
+      → Consumes a.supply c ((s.front ++ unlocked.nonce) ++ rest)
+      → Reads Allows a.supply c (opened a b unlocked s) rest
   reads_of a b unlocked s c rest read =
       record { text = s.text; opens = s.opens; size = s.size; read = read }
 
@@ -158,7 +158,7 @@ module _ (keep : PositionPolicy) (Allows : Header → List ℕ → Type 0) (Refu
     (
       u.bytes,
       s.few,
-      reads_of old.main.source (reader_view new.main.source u) unlocked s new.main.source.remaining
+      reads_of old.main.source (reader_view new.main.source u) unlocked s new.main.source.supply
           u.bytes s.pulled.consumed,
     ),
     λ own. f (own ∙ sym s.id),
@@ -168,7 +168,7 @@ module _ (keep : PositionPolicy) (Allows : Header → List ℕ → Type 0) (Refu
     (
       u.bytes,
       s.few,
-      reads_of old.main.source (reader_view new.main.source u) unlocked s new.main.source.remaining
+      reads_of old.main.source (reader_view new.main.source u) unlocked s new.main.source.supply
           u.bytes s.pulled.consumed,
     ),
     f.0 ∙ s.id,
@@ -230,26 +230,26 @@ module _ (keep : PositionPolicy) (Allows : Header → List ℕ → Type 0) (Refu
 
     -- what was used of the old text, from its start
     old_pulled : (used : List ℕ) → Uses x z used
-        → Pulled (start_after started x.source.remaining) z.source.remaining z.unread.pulls
+        → Pulled (start_after started x.source.supply) z.source.supply z.unread.pulls
         (used ++ z.unread.bytes)
     old_pulled used uses =
-        let none_used = counted_on a.remaining s1.reader.source.remaining x.source.remaining u.pulls
+        let none_used = counted_on a.supply s1.reader.source.supply x.source.supply u.pulls
         started s.pulled in
-        let fresh = subst (λ (k : ℕ). Pulled (start_after started x.source.remaining)
-        x.source.remaining k []) (sym pulls) none_used in
-        uses (start_after started x.source.remaining) []
-        (subst (λ (t : List ℕ). Pulled (start_after started x.source.remaining) x.source.remaining
+        let fresh = subst (λ (k : ℕ). Pulled (start_after started x.source.supply)
+        x.source.supply k []) (sym pulls) none_used in
+        uses (start_after started x.source.supply) []
+        (subst (λ (t : List ℕ). Pulled (start_after started x.source.supply) x.source.supply
         x.unread.pulls t) (sym none) fresh)
 
     old_dried : (used : List ℕ) → z.unread.bytes ≡ [] → Uses x z used
-        → Pulled (start_after started x.source.remaining) z.source.remaining z.unread.pulls used
+        → Pulled (start_after started x.source.supply) z.source.supply z.unread.pulls used
     old_dried used empty uses =
-        subst (λ (t : List ℕ). Pulled (start_after started x.source.remaining) z.source.remaining
+        subst (λ (t : List ℕ). Pulled (start_after started x.source.supply) z.source.supply
         z.unread.pulls t)
         (ap (λ (t : List ℕ). used ++ t) empty ∙ append-nil used) (old_pulled used uses)
 
-    old_read : (y : List ℕ) → Pulled (start_after started x.source.remaining)
-        z.source.remaining z.unread.pulls y → Consumes x.source.remaining z.source.remaining y
+    old_read : (y : List ℕ) → Pulled (start_after started x.source.supply)
+        z.source.supply z.unread.pulls y → Consumes x.source.supply z.source.supply y
     old_read y h = h.consumed
 
     -- the copy of the old text stopped
@@ -257,7 +257,7 @@ module _ (keep : PositionPolicy) (Allows : Header → List ℕ → Type 0) (Refu
         → Appends first.sink.taken s1.writer.sink.taken out
         → s1.writer.tally.written ≡ first.tally.written + length out
         → length out ≤ p.index * chunk_length
-        → Consumes x.source.remaining z.source.remaining pulled
+        → Consumes x.source.supply z.source.supply pulled
         → length pulled ≤ p.index * chunk_length + pull_room → IsPrefixOf out pulled
         → InOldFails Allows p (before a first x) (after s1 z) pulled out fault
         → StopsInOld Allows p (before a first x) (after s1 z)
@@ -267,7 +267,7 @@ module _ (keep : PositionPolicy) (Allows : Header → List ℕ → Type 0) (Refu
       opened = (
         u.bytes,
         s.few,
-        reads_of a (reader_view s1.reader.source u) unlocked s s1.reader.source.remaining u.bytes
+        reads_of a (reader_view s1.reader.source u) unlocked s s1.reader.source.supply u.bytes
             s.pulled.consumed,
       );
       own = v.0 ∙ s.id;
@@ -280,7 +280,7 @@ module _ (keep : PositionPolicy) (Allows : Header → List ℕ → Type 0) (Refu
         front = front;
         wrote = wrote;
         count = omega (arith, count, zero);
-        of = old_of p x.source.remaining z.source.remaining pulled out read front le;
+        of = old_of p x.source.supply z.source.supply pulled out read front le;
       };
       nowhere = refl;
       why = why;
@@ -364,31 +364,31 @@ module _ (keep : PositionPolicy) (Allows : Header → List ℕ → Type 0) (Refu
       abbrev old_bytes : List ℕ
       old_bytes = c.out ++ z.unread.bytes
 
-      old_used : Pulled (start_after started x.source.remaining) z.source.remaining z.unread.pulls
+      old_used : Pulled (start_after started x.source.supply) z.source.supply z.unread.pulls
           old_bytes
       old_used = old_pulled c.out c.answered.1.uses
 
-      old_is_read : Consumes x.source.remaining z.source.remaining old_bytes
+      old_is_read : Consumes x.source.supply z.source.supply old_bytes
       old_is_read = old_read old_bytes old_used
 
-      pub again : Pulled (start_after old_bytes a.remaining) s1.reader.source.remaining
+      pub again : Pulled (start_after old_bytes a.supply) s1.reader.source.supply
           s1.reader.unread.pulls (head ++ s1.reader.unread.bytes)
       again =
-          let back = counted_back a.remaining s1.reader.source.remaining x.source.remaining
-          z.source.remaining u.pulls z.unread.pulls started old_bytes s.pulled
+          let back = counted_back a.supply s1.reader.source.supply x.source.supply
+          z.source.supply u.pulls z.unread.pulls started old_bytes s.pulled
           old_used in
-          subst (λ (k : ℕ). Pulled (start_after old_bytes a.remaining) s1.reader.source.remaining k
+          subst (λ (k : ℕ). Pulled (start_after old_bytes a.supply) s1.reader.source.supply k
           (head ++ s1.reader.unread.bytes)) (sym on)
-          (subst (λ (t : List ℕ). Pulled (start_after old_bytes a.remaining)
-          s1.reader.source.remaining z.unread.pulls (head ++ t)) (sym kept) back)
+          (subst (λ (t : List ℕ). Pulled (start_after old_bytes a.supply)
+          s1.reader.source.supply z.unread.pulls (head ++ t)) (sym kept) back)
 
       read_on : (now : ReaderView) (y : List ℕ)
-          → Pulled (start_after old_bytes a.remaining) now.source.remaining now.unread.pulls y
-          → Consumes a.remaining now.source.remaining y
+          → Pulled (start_after old_bytes a.supply) now.source.supply now.unread.pulls y
+          → Consumes a.supply now.source.supply y
       read_on now y h = h.consumed
 
       never_end : (s2 : Stage) (y : List ℕ)
-          → Pulled (start_after old_bytes a.remaining) s2.reader.source.remaining
+          → Pulled (start_after old_bytes a.supply) s2.reader.source.supply
           s2.reader.unread.pulls y
           → s2.reader.unread.pulls ≡ 2 ^ 63 → NeverEndTogether (before a first x) (after s2 z)
       never_end s2 y h all =
@@ -413,7 +413,7 @@ module _ (keep : PositionPolicy) (Allows : Header → List ℕ → Type 0) (Refu
             front = front;
             wrote = c.wrote;
             count = omega (arith, c.count, zero);
-            of = old_of p x.source.remaining z.source.remaining old_bytes c.out old_is_read front
+            of = old_of p x.source.supply z.source.supply old_bytes c.out old_is_read front
                 le;
           }
 
@@ -426,13 +426,13 @@ module _ (keep : PositionPolicy) (Allows : Header → List ℕ → Type 0) (Refu
       stops_in_skipped : (m : ReaderView) (position : Option Position) (fault : FileFault)
           (skipped : List ℕ) → GivesPosition keep (IsSame p) position
           → length skipped < p.index * block_length
-          → Consumes a.remaining m.source.remaining (head ++ skipped)
+          → Consumes a.supply m.source.supply (head ++ skipped)
           → InSkippedFails Allows p (before a first x) (after (stage m s1.writer) z) skipped fault
           → skipped_stop m position fault
       stops_in_skipped m position fault skipped at short read why = record {
         file = file;
         skipped = skipped;
-        reads = reads_of a (reader_view s1.reader.source u) unlocked s m.source.remaining skipped
+        reads = reads_of a (reader_view s1.reader.source u) unlocked s m.source.supply skipped
             read;
         own = v.0 ∙ s.id;
         tagged = v.1;
@@ -446,13 +446,13 @@ module _ (keep : PositionPolicy) (Allows : Header → List ℕ → Type 0) (Refu
       }
 
       dried : (m : ReaderView) (skipped : List ℕ) → m.unread.bytes ≡ [] → Uses s1.reader m skipped
-          → Pulled (start_after old_bytes a.remaining) m.source.remaining m.unread.pulls
+          → Pulled (start_after old_bytes a.supply) m.source.supply m.unread.pulls
           (head ++ skipped)
       dried m skipped empty uses =
-          subst (λ (t : List ℕ). Pulled (start_after old_bytes a.remaining) m.source.remaining
+          subst (λ (t : List ℕ). Pulled (start_after old_bytes a.supply) m.source.supply
           m.unread.pulls (head ++ t))
           (ap (λ (t : List ℕ). skipped ++ t) empty ∙ append-nil skipped)
-          (uses (start_after old_bytes a.remaining) head again)
+          (uses (start_after old_bytes a.supply) head again)
 
       skipped_fails : (m : ReaderView) (position : Option Position) (fault : FileFault)
           → GivesPosition keep (IsSame p) position
@@ -527,9 +527,9 @@ module _ (keep : PositionPolicy) (Allows : Header → List ℕ → Type 0) (Refu
       -- they were
       module _ (m : ReaderView) (passed : List ℕ) (size : length passed ≡ p.index * block_length)
           (passes : Passes s1.reader m passed) where
-        after_blocks : Pulled (start_after old_bytes a.remaining) m.source.remaining m.unread.pulls
+        after_blocks : Pulled (start_after old_bytes a.supply) m.source.supply m.unread.pulls
             (head ++ (passed ++ m.unread.bytes))
-        after_blocks = passes.uses (start_after old_bytes a.remaining) head again
+        after_blocks = passes.uses (start_after old_bytes a.supply) head again
 
         -- there is room for what is after them
         pub place_after : HasPlace (stage m s1.writer)
@@ -555,7 +555,7 @@ module _ (keep : PositionPolicy) (Allows : Header → List ℕ → Type 0) (Refu
           file_is : run.file ≡ file
           from : IsFrom p x.source z.source run
           is : IsRun Allows (before a first x).main (after s2 z).main s2.writer.tally.written run
-          pulled : Pulled (start_after old_bytes a.remaining) s2.reader.source.remaining
+          pulled : Pulled (start_after old_bytes a.supply) s2.reader.source.supply
               s2.reader.unread.pulls (head ++ (run.skipped ++ run.bytes))
           counts : HasCounted keep (unbox run.file.key run.file.nonce) chunk_length (held run)
               (segment_of run) s2.writer.tally
@@ -569,8 +569,8 @@ module _ (keep : PositionPolicy) (Allows : Header → List ℕ → Type 0) (Refu
             → DecryptsPayload (opens (payload_key unlocked.key unlocked.nonce)) chunk_length p.index
             (stage m s1.writer) s2 result → IsDecrypted s2 result
         decrypted s2 result q =
-            let start = start_after old_bytes a.remaining in
-            let all : Pulled start s2.reader.source.remaining s2.reader.unread.pulls
+            let start = start_after old_bytes a.supply in
+            let all : Pulled start s2.reader.source.supply s2.reader.unread.pulls
             ((head ++ (passed ++ m.unread.bytes)) ++ q.fresh) =
             q.pulled start (head ++ (passed ++ m.unread.bytes)) after_blocks in
             let parts : (head ++ (passed ++ m.unread.bytes)) ++ q.fresh
@@ -579,9 +579,9 @@ module _ (keep : PositionPolicy) (Allows : Header → List ℕ → Type 0) (Refu
             ∙ ap (λ (t : List ℕ). head ++ t)
             (append_assoc passed m.unread.bytes q.fresh
             ∙ ap (λ (t : List ℕ). passed ++ t) q.parts) in
-            let pulls : Pulled start s2.reader.source.remaining s2.reader.unread.pulls
+            let pulls : Pulled start s2.reader.source.supply s2.reader.unread.pulls
             (head ++ (passed ++ q.bytes)) =
-            subst (λ (t : List ℕ). Pulled start s2.reader.source.remaining s2.reader.unread.pulls t)
+            subst (λ (t : List ℕ). Pulled start s2.reader.source.supply s2.reader.unread.pulls t)
             parts all in
             let read = read_on s2.reader (head ++ (passed ++ q.bytes)) pulls in
             record {
@@ -606,7 +606,7 @@ module _ (keep : PositionPolicy) (Allows : Header → List ℕ → Type 0) (Refu
               };
               is = record {
                 reads = reads_of a (reader_view s1.reader.source u) unlocked s
-                    s2.reader.source.remaining (passed ++ q.bytes) read;
+                    s2.reader.source.supply (passed ++ q.bytes) read;
                 copied_size = c.answered.0;
                 skipped_size = size;
                 at_end = q.at_end;

@@ -56,7 +56,7 @@ undamaged_of opens s max_log text bytes coming shown is within few closed file =
 answered : (keep : PositionPolicy) → OneHeader
     → (w : PassphraseIdentity) (text : List ℕ) (now last : Ports) (result : Result Done Stopped)
     (run : Option Run)
-    → IsUndamagedFile (IsPassphraseKey w) (PassphraseRefuses w) now.source.remaining text
+    → IsUndamagedFile (IsPassphraseKey w) (PassphraseRefuses w) now.source.supply text
     → DecryptAnswers PassphraseIdentity IsPassphraseKey PassphraseRefuses keep w now last result run
     → MatchResult result (λ done. Appends now.sink.taken last.sink.taken text)
     (λ stopped. StopsOutside stopped.fault)
@@ -71,6 +71,6 @@ pub there_and_back : OneHeader → PassphraseOpens → RoundTrip
 there_and_back one opens keep s max_log was became now last written e result run is within closed
     coming f =
     answered keep one (passphrase_identity s max_log) e.text now last result run
-    (undamaged_of opens s max_log e.text e.file now.source.remaining coming is within e.few closed
+    (undamaged_of opens s max_log e.text e.file now.source.supply coming is within e.few closed
     e.is)
     f

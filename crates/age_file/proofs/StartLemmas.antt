@@ -26,22 +26,22 @@ use Rattle.age_file.proofs.ByteLemmas.{cut_pulled, head_pulled}
 pub uses_then : (x y z : ReaderView) (p q r : List ℕ) → p ++ q ≡ r → Uses x y p → Uses y z q
     → Uses x z r
 uses_then x y z p q r e f g = λ start used h.
-    let first = subst (λ (t : List ℕ). Pulled start y.source.remaining y.unread.pulls t)
+    let first = subst (λ (t : List ℕ). Pulled start y.source.supply y.unread.pulls t)
     (sym (append_assoc used p y.unread.bytes)) (f start used h) in
     let e' : (used ++ p) ++ (q ++ z.unread.bytes) ≡ used ++ (r ++ z.unread.bytes) =
     append_assoc used p (q ++ z.unread.bytes)
     ∙ ap (λ (t : List ℕ). used ++ t) (sym (append_assoc p q z.unread.bytes)
     ∙ ap (λ (t : List ℕ). t ++ z.unread.bytes) e) in
-    subst (λ (t : List ℕ). Pulled start z.source.remaining z.unread.pulls t) e'
+    subst (λ (t : List ℕ). Pulled start z.source.supply z.unread.pulls t) e'
     (g start (used ++ p) first)
 
 pub uses_front : (v : SourceView) (x y : Unread) (piece : List ℕ) (n : ℕ) → y.pulls ≡ x.pulls
     → piece ≡ x.bytes → y.bytes ≡ drop n x.bytes
     → Uses (reader_view v x) (reader_view v y) (take n piece)
 uses_front v x y piece n pulls is rest = λ start used h.
-    subst (λ (t : List ℕ). Pulled start v.remaining y.pulls t)
+    subst (λ (t : List ℕ). Pulled start v.supply y.pulls t)
     (append_assoc used (take n piece) y.bytes)
-    (head_pulled start v.remaining x y used piece n pulls is rest h)
+    (head_pulled start v.supply x y used piece n pulls is rest h)
 
 -- no byte came for the rest of a nonce
 pub nonce_fails : (x y z : ReaderView) (p : List ℕ) (fault : FileFault) → length p < 16
@@ -65,8 +65,8 @@ module _ (Allows : Header → List ℕ → Type 0) (Refused : Header → KeyFaul
   head_to_start a b other h = absurd h
 
   pub key_to_start : (a b : SourceView) (h : Header) (front rest : List ℕ) (fault : KeyFault)
-      → StopsAtHeader a.remaining b.remaining → HeadText h front
-      → Consumes a.remaining b.remaining (front ++ rest) → length rest ≤ pull_room
+      → StopsAtHeader a.supply b.supply → HeadText h front
+      → Consumes a.supply b.supply (front ++ rest) → length rest ≤ pull_room
       → Refuses Allows Refused h fault → StartFails Allows Refused a b (fault_of_key fault)
   key_to_start a b h front rest KeyMemory stops text consumed few refuses = stops
   key_to_start a b h front rest ScryptNotAlone stops text consumed few refuses =
@@ -86,17 +86,17 @@ module _ (Allows : Header → List ℕ → Type 0) (Refused : Header → KeyFaul
 
   -- what was pulled if a nonce fell short
   short_pulled : (a : Start) (y z : ReaderView) (front : List ℕ) (u : UsesShort y z)
-      → Pulled a y.source.remaining y.unread.pulls (front ++ y.unread.bytes)
-      → Pulled a z.source.remaining z.unread.pulls (front ++ u.0)
+      → Pulled a y.source.supply y.unread.pulls (front ++ y.unread.bytes)
+      → Pulled a z.source.supply z.unread.pulls (front ++ u.0)
   short_pulled a y z front u p =
-      cut_pulled a z.source.remaining z.unread.pulls (front ++ u.0) z.unread.bytes u.3
-      (subst (λ (t : List ℕ). Pulled a z.source.remaining z.unread.pulls t)
+      cut_pulled a z.source.supply z.unread.pulls (front ++ u.0) z.unread.bytes u.3
+      (subst (λ (t : List ℕ). Pulled a z.source.supply z.unread.pulls t)
       (sym (append_assoc front u.0 z.unread.bytes)) (u.2 a front p))
 
   nonce_to_start : (a : SourceView) (y z : ReaderView) (h : Header) (front key : List ℕ)
       (fault : FileFault) → y.source.failed ≡ a.failed
       → HeadText h front → Opens Allows h key
-      → Pulled (start_at a.remaining) y.source.remaining y.unread.pulls (front ++ y.unread.bytes)
+      → Pulled (start_at a.supply) y.source.supply y.unread.pulls (front ++ y.unread.bytes)
       → NonceFails y z fault → StartFails Allows Refused a z.source fault
   nonce_to_start a y z h front key NonceCut e text opens p f = (
     (
@@ -107,7 +107,7 @@ module _ (Allows : Header → List ℕ → Type 0) (Refused : Header → KeyFaul
       text,
       opens,
       f.0.1,
-      (short_pulled (start_at a.remaining) y z front f.0 p).consumed,
+      (short_pulled (start_at a.supply) y z front f.0 p).consumed,
     ),
     f.1,
   )
@@ -120,12 +120,12 @@ module _ (Allows : Header → List ℕ → Type 0) (Refused : Header → KeyFaul
       text,
       opens,
       f.0.1,
-      (short_pulled (start_at a.remaining) y z front f.0 p).consumed,
+      (short_pulled (start_at a.supply) y z front f.0 p).consumed,
     ),
     subst (λ (m : ℕ). HasFailed m z.source.failed z.source.failing) e f.1,
   )
   nonce_to_start a y z h front key ReadNeverEnds e text opens p f =
-      let all = short_pulled (start_at a.remaining) y z front f.0 p in (
+      let all = short_pulled (start_at a.supply) y z front f.0 p in (
         inr (h, front, key, f.0.0, text, opens, f.0.1, all.consumed),
         (
           front ++ f.0.0,
@@ -140,7 +140,7 @@ module _ (Allows : Header → List ℕ → Type 0) (Refused : Header → KeyFaul
       (same : y.source.failed
       ≡ a.failed) (text : HeadText h front) (opens : Opens Allows h key)
       (hashed : Holds256 digest front)
-      (pulled : Pulled (start_at a.remaining) y.source.remaining y.unread.pulls
+      (pulled : Pulled (start_at a.supply) y.source.supply y.unread.pulls
       (front ++ y.unread.bytes)) where
     pub nonce_found : (result : Result Unlocked FileFault) → IfOk result (ReadsNonce key digest y z)
         → IfOk result (StartsAt Allows a z)
@@ -152,9 +152,9 @@ module _ (Allows : Header → List ℕ → Type 0) (Refused : Header → KeyFaul
       size = r.size;
       id = r.id front hashed;
       few = r.takes.few;
-      pulled = subst (λ (t : List ℕ). Pulled (start_at a.remaining) z.source.remaining z.unread.pulls t)
+      pulled = subst (λ (t : List ℕ). Pulled (start_at a.supply) z.source.supply z.unread.pulls t)
           (sym (append_assoc front u.nonce z.unread.bytes))
-          (r.takes.uses (start_at a.remaining) front pulled);
+          (r.takes.uses (start_at a.supply) front pulled);
       unfailed = r.takes.unfailed ∙ same;
     }
     nonce_found (Err fault) r = tt

@@ -267,17 +267,17 @@ module _ (one : OneHeader) (Allows : Header → List ℕ → Type 0) (Refused : 
 -- no fault of what is before a payload
 module _ (one : OneHeader) (Allows : Header → List ℕ → Type 0) (Refused : Header → KeyFault
     → Type 0) (before after : SourceView) (text : List ℕ)
-    (u : IsWhole Allows Refused before.remaining text) where
+    (u : IsWhole Allows Refused before.supply text) where
   pub start_undamaged : (fault : FileFault) → StartFails Allows Refused before after fault
       → StopsOutside fault
   start_undamaged (Head x) f = absurd
-      (no_head_fault one Allows Refused before.remaining text u x
-      (fault_of_all before.remaining after.remaining x f))
+      (no_head_fault one Allows Refused before.supply text u x
+      (fault_of_all before.supply after.supply x f))
   start_undamaged (Key x) f = absurd
-      (no_key_fault one Allows Refused before.remaining text u after.remaining f.0 f.1 f.2 x f.3 f.4
+      (no_key_fault one Allows Refused before.supply text u after.supply f.0 f.1 f.2 x f.3 f.4
       f.5 f.6)
   start_undamaged NonceCut f = absurd
-      (no_nonce_cut one Allows Refused before.remaining text u after.remaining f.0.0 f.0.1 f.0.3
+      (no_nonce_cut one Allows Refused before.supply text u after.supply f.0.0 f.0.1 f.0.3
       f.0.4 f.0.6 f.0.7 f.1)
   start_undamaged Read f = tt
   start_undamaged Write f = tt
@@ -321,7 +321,7 @@ authentic_as text k key nonce own_key own_nonce bytes all ended keys nonces bloc
 -- a run of an undamaged file, from a chunk of its text
 module _ (one : OneHeader) (Allows : Header → List ℕ → Type 0) (Refused : Header → KeyFault
     → Type 0) (old new : Ports) (text : List ℕ)
-    (u : IsWhole Allows Refused old.source.remaining text)
+    (u : IsWhole Allows Refused old.source.supply text)
     (closed : IsClosed (box u.key u.nonce) (unbox u.key u.nonce) chunk_length text)
     (written : ℕ)
     (r : Run) (below : r.first < chunk_count chunk_length text) where
@@ -329,10 +329,10 @@ module _ (one : OneHeader) (Allows : Header → List ℕ → Type 0) (Refused : 
   rest = drop (r.first * block_length) (payload (box u.key u.nonce) chunk_length text)
 
   run_opened : IsRun Allows old new written r
-      → IsOpenedAs one Allows Refused old.source.remaining text u r.file.key r.file.nonce
-      (r.skipped ++ r.bytes) new.source.remaining
+      → IsOpenedAs one Allows Refused old.source.supply text u r.file.key r.file.nonce
+      (r.skipped ++ r.bytes) new.source.supply
   run_opened is =
-      opened_as one Allows Refused old.source.remaining text u new.source.remaining r.file.header
+      opened_as one Allows Refused old.source.supply text u new.source.supply r.file.header
       r.file.header_bytes r.file.key r.file.nonce
       (r.skipped ++ r.bytes) is.reads.text is.reads.opens.allowed is.reads.size is.reads.read
 
@@ -340,9 +340,9 @@ module _ (one : OneHeader) (Allows : Header → List ℕ → Type 0) (Refused : 
   pub run_opens : (fault : StreamFault) → IsRun Allows old new written r
       → (run_outcome r).status ≡ Failed fault → ⊥
   run_opens fault is failed =
-      no_stream_fault one Allows Refused old.source.remaining text u r.first below
+      no_stream_fault one Allows Refused old.source.supply text u r.first below
       (own_authentic u.key u.nonce text u.few closed r.first below)
-      new.source.remaining r.file.key r.file.nonce r.skipped r.bytes r.ended fault (run_opened is)
+      new.source.supply r.file.key r.file.nonce r.skipped r.bytes r.ended fault (run_opened is)
       is.skipped_size is.at_end failed
 
   -- so it has no fault
@@ -360,7 +360,7 @@ module _ (one : OneHeader) (Allows : Header → List ℕ → Type 0) (Refused : 
   run_writes old_text d =
       let is = d.is in
       let o = run_opened is in
-      let none = none_left new.source.remaining o.left o.left_is (is.at_end d.ended) in
+      let none = none_left new.source.supply o.left o.left_is (is.at_end d.ended) in
       let after : r.bytes ++ o.left ≡ rest =
       sym (drop_at r.skipped (r.bytes ++ o.left) (r.first * block_length) is.skipped_size)
       ∙ ap (drop (r.first * block_length))
@@ -382,20 +382,20 @@ module _ (one : OneHeader) (Allows : Header → List ℕ → Type 0) (Refused : 
 pub undamaged : (keep : PositionPolicy) → OneHeader
     → (Allows : Header → List ℕ → Type 0) (Refused : Header → KeyFault → Type 0) (old new : Ports)
     (run : Option Run) (stopped : Stopped) (text : List ℕ)
-    → IsUndamagedFile Allows Refused old.source.remaining text
+    → IsUndamagedFile Allows Refused old.source.supply text
     → DecryptStops keep Allows Refused old new run stopped → StopsOutside stopped.fault
 undamaged keep one Allows Refused old new None stopped text u f =
     start_undamaged one Allows Refused old.source new.source text u.whole stopped.fault f.1
 undamaged keep one Allows Refused old new (Some r) stopped text u f =
     payload_undamaged one Allows Refused old new text u.whole u.closed stopped.written r
     (omega (arith, f.0.zero))
-    (NeverEnds old.source.remaining new.source.remaining) stopped.fault f.1.is f.1.why
+    (NeverEnds old.source.supply new.source.supply) stopped.fault f.1.is f.1.why
 
 -- an undamaged file that was read to its end gave its text
 pub undamaged_done : OneHeader
     → (Allows : Header → List ℕ → Type 0) (Refused : Header → KeyFault → Type 0) (old new : Ports)
     (written : ℕ) (r : Run)
-    (text : List ℕ) → IsUndamagedFile Allows Refused old.source.remaining text → IsFromStart r
+    (text : List ℕ) → IsUndamagedFile Allows Refused old.source.supply text → IsFromStart r
     → IsDone Allows old new written r
     → WritesText old.sink.taken new.sink.taken written text
 undamaged_done one Allows Refused old new written r text u from d =

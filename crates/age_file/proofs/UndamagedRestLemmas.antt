@@ -26,27 +26,27 @@ use Rattle.age_chunk.specs.Payload.{chunk_length}
 
 module _ (one : OneHeader) (Allows : Header → List ℕ → Type 0) (Refused : Header → KeyFault
     → Type 0) (p : Position) (old new : ResumePorts) (text : List ℕ)
-    (u : IsUndamagedRest Allows Refused p old.main.source.remaining old.old.remaining text) where
+    (u : IsUndamagedRest Allows Refused p old.main.source.supply old.old.supply text) where
   opened_of : (f : OpenedFile) (rest : List ℕ)
-      → Reads Allows old.main.source.remaining new.main.source.remaining f rest
-      → IsOpenedAs one Allows Refused old.main.source.remaining text u.whole f.key f.nonce rest
-      new.main.source.remaining
-  opened_of f rest r = opened_as one Allows Refused old.main.source.remaining text u.whole
-      new.main.source.remaining f.header f.header_bytes f.key
+      → Reads Allows old.main.source.supply new.main.source.supply f rest
+      → IsOpenedAs one Allows Refused old.main.source.supply text u.whole f.key f.nonce rest
+      new.main.source.supply
+  opened_of f rest r = opened_as one Allows Refused old.main.source.supply text u.whole
+      new.main.source.supply f.header f.header_bytes f.key
       f.nonce rest r.text r.opens.allowed r.size r.read
 
   own_file : (f : OpenedFile) (rest : List ℕ)
-      → Reads Allows old.main.source.remaining new.main.source.remaining f rest → HasId p f
+      → Reads Allows old.main.source.supply new.main.source.supply f rest → HasId p f
   own_file f rest r =
       let o = opened_of f rest r in
-      let front = front_is one Allows Refused old.main.source.remaining text u.whole
-      new.main.source.remaining f.header f.header_bytes f.nonce rest
+      let front = front_is one Allows Refused old.main.source.supply text u.whole
+      new.main.source.supply f.header f.header_bytes f.nonce rest
       r.text r.read in
       u.own ∙ (ap (λ (x : List ℕ). file_id x u.whole.nonce) (sym front)
       ∙ ap (file_id f.header_bytes) (sym o.nonce_is))
 
   own_tag : (f : OpenedFile) (rest : List ℕ)
-      → Reads Allows old.main.source.remaining new.main.source.remaining f rest → HasTag p f
+      → Reads Allows old.main.source.supply new.main.source.supply f rest → HasTag p f
   own_tag f rest r =
       let o = opened_of f rest r in
       u.tagged
@@ -57,12 +57,12 @@ module _ (one : OneHeader) (Allows : Header → List ℕ → Type 0) (Refused : 
 
   -- the old text is long enough
   old_is_long : (written : ℕ) (copied : List ℕ) (w : WritesOld p old new written copied)
-      → copied ≡ w.pulled → IsAtEnd new.old.remaining → p.index * chunk_length
+      → copied ≡ w.pulled → IsAtEnd new.old.supply → p.index * chunk_length
       ≤ length copied
   old_is_long written copied w whole ended =
       let b = u.old_text in
-      let t = left_of old.old.remaining new.old.remaining b.all w.pulled b.shown w.read in
-      let none = none_left new.old.remaining t.0 t.2 ended in
+      let t = left_of old.old.supply new.old.supply b.all w.pulled b.shown w.read in
+      let none = none_left new.old.supply t.0 t.2 ended in
       omega (
         arith,
         b.within,
@@ -120,9 +120,9 @@ module _ (one : OneHeader) (Allows : Header → List ℕ → Type 0) (Refused : 
       (s : StopsInSkipped Allows p old new keep stopped) (fault : FileFault)
       → InSkippedFails Allows p old new s.skipped fault → StopsOutside fault
   skipped_undamaged keep stopped s (Stream x) f =
-      absurd (no_early_end one Allows Refused old.main.source.remaining text u.whole p.index u.below
+      absurd (no_early_end one Allows Refused old.main.source.supply text u.whole p.index u.below
       (own_authentic u.whole.key u.whole.nonce text u.whole.few u.closed p.index u.below)
-      new.main.source.remaining s.file.key
+      new.main.source.supply s.file.key
       s.file.nonce s.skipped (opened_of s.file s.skipped s.reads) s.short f.2)
   skipped_undamaged keep stopped s Read f = tt
   skipped_undamaged keep stopped s ReadNeverEnds f = tt
@@ -148,7 +148,7 @@ module _ (one : OneHeader) (Allows : Header → List ℕ → Type 0) (Refused : 
       → WritesText old.main.sink.taken new.main.sink.taken written text
   undamaged_rest_done written r from d =
       let b = u.old_text in
-      let t = left_of old.old.remaining new.old.remaining b.all (r.copied ++ from.more) b.shown
+      let t = left_of old.old.supply new.old.supply b.all (r.copied ++ from.more) b.shown
       from.old_read in
       let size : length (take (p.index * chunk_length) text) ≡ p.index * chunk_length =
       omega (arith, length-take (p.index * chunk_length) text, b.within) in

@@ -41,7 +41,7 @@ abbrev pub ReadAgain : (Who : Type 0) → (Who → Header → List ℕ → Type 
 ReadAgain Who Allows Refused = (who : Who) (before after : Ports) (r : Run) (stopped : Stopped)
     (old new : SourceView) (bytes : List ℕ) (p : Position)
     → DecryptStops Dropped (Allows who) (Refused who) before after (Some r) stopped
-    → before.source.remaining.left ≡ Some bytes → old.remaining.left ≡ Some bytes
+    → before.source.supply.left ≡ Some bytes → old.supply.left ≡ Some bytes
     → IsFoundAgain (λ _ key. key ≡ r.file.key) None [] old new stopped.written p
     → DecryptStops Kept (Allows who) (Refused who) before after (Some r)
     (record { fault = stopped.fault; written = stopped.written; position = Some p })
@@ -52,7 +52,7 @@ abbrev pub RestReadAgain : (Who : Type 0) → (Who → Header → List ℕ → T
 RestReadAgain Who Allows Refused = (who : Who) (p : Position) (before after : ResumePorts) (r : Run)
     (stopped : Stopped) (old new : SourceView) (bytes : List ℕ) (next : Position)
     → ResumeStops (Allows who) p before after Dropped (Refused who) (Some r) stopped
-    → before.main.source.remaining.left ≡ Some bytes → old.remaining.left ≡ Some bytes
+    → before.main.source.supply.left ≡ Some bytes → old.supply.left ≡ Some bytes
     → IsFoundAgain (λ _ key. key ≡ r.file.key) (Some p) r.copied old new stopped.written next
     → ResumeStops (Allows who) p before after Kept (Refused who) (Some r)
     (record { fault = stopped.fault; written = stopped.written; position = Some next })

@@ -12,7 +12,8 @@ use Rattle.age_keys.specs.Keys.{Opens, Refuses, IsScryptNotAlone, box, unbox, Fi
 use Rattle.age_keys.specs.declared.fault.KeyFault.{KeyFault}
 use Rattle.age_keys.specs.declared.fault.KeyFault.TheVariants.{Memory as KeyMemory}
 use Rattle.age_fault.specs.declared.fault.FileFault.{FileFault}
-use Rattle.age_fault.specs.declared.fault.FileFault.TheVariants.{Key, NonceCut, Read, Write, Memory, ReadNeverEnds}
+use Rattle.age_fault.specs.declared.fault.FileFault.TheVariants.{Key, NonceCut, Read, Write, Memory}
+use Rattle.age_fault.specs.declared.fault.FileFault.TheVariants.{ReadNeverEnds}
 use Rattle.age_file.specs.Runs.{pull_room, InHeader, HeadFails, NeverEnds, Ports, NoneFailed, Run}
 use Rattle.age_file.specs.Runs.{IsFromStart, WritesNone, StopsInPayload, IsDone, IsPositionOf}
 use Rattle.age_file.specs.declared.decryption.Done.{Done}
@@ -37,10 +38,10 @@ abbrev pub StartFails : (Header → List ℕ → Type 0) → (Header → KeyFaul
     → SourceView → FileFault → Type 0
 StartFails Allows Refused old new (Key fault) =
     (h : Header) × (front : List ℕ) × (rest : List ℕ) × HeadText h front
-    × Consumes old.remaining new.remaining (front ++ rest) × (fault ≢ KeyMemory)
+    × Consumes old.supply new.supply (front ++ rest) × (fault ≢ KeyMemory)
     × Refuses Allows Refused h fault × (length rest ≤ pull_room)
-StartFails Allows Refused old new NonceCut = InNonce Allows old.remaining new.remaining
-    × IsAtEnd new.remaining
+StartFails Allows Refused old new NonceCut = InNonce Allows old.supply new.supply
+    × IsAtEnd new.supply
 StartFails Allows Refused old new fault = HeadFails (IsEarly Allows) old new fault
 
 -- ---- How a decryption ended.
@@ -57,7 +58,7 @@ abbrev pub DecryptStops : PositionPolicy → (Header → List ℕ → Type 0) �
 DecryptStops keep Allows Refused old new None stopped = WritesNone old new stopped
     × StartFails Allows Refused old.source new.source stopped.fault
 DecryptStops keep Allows Refused old new (Some r) stopped = IsFromStart r
-    × StopsInPayload keep Allows (NeverEnds old.source.remaining new.source.remaining) old new
+    × StopsInPayload keep Allows (NeverEnds old.source.supply new.source.supply) old new
     stopped r
 
 -- ---- A file that is undamaged.

@@ -37,8 +37,8 @@ pub record Encrypts (s : SecretView) (old new : Ports) (written : Written) : Typ
   -- the file is the text's
   pub is : AgeFile s text file
   -- the text is all that the source gave
-  pub read : Consumes old.source.remaining new.source.remaining text
-  pub at_end : IsAtEnd new.source.remaining
+  pub read : Consumes old.source.supply new.source.supply text
+  pub at_end : IsAtEnd new.source.supply
   -- the sink took the file
   pub wrote : Appends old.sink.taken new.sink.taken file
   -- the bytes of both are counted
@@ -73,7 +73,7 @@ pub record EncryptsFront (s : SecretView) (old new : Ports) (fault : FileFault) 
   pub file : List ℕ
   pub out : List ℕ
   pub is : AgeFile s text file
-  pub read : Consumes old.source.remaining new.source.remaining text
+  pub read : Consumes old.source.supply new.source.supply text
   pub wrote : Appends old.sink.taken new.sink.taken out
   pub prefix : IsPrefixOf out file
   pub why : WhyStopped s old new is.front text out fault

@@ -13,8 +13,8 @@ use Rattle.age_stream.specs.declared.step.Status.TheVariants.{Done as AllDone}
 use Rattle.age_keys.specs.Scrypt.{PassphraseIdentity, IsAllowed, IsPassphraseKey, PassphraseRefuses}
 use Rattle.age_keys.specs.Keys.{box, unbox, Opens, FileOf}
 use Rattle.age_keys.specs.declared.fault.KeyFault.{KeyFault}
-use Rattle.age_file.specs.Runs.{Run, IsFromStart, run_outcome, run_text, held, IsTexts, IsAuthenticRun, IsPositionOf}
-use Rattle.age_file.specs.Runs.{CarriesText, Ports, IsRun, IsDone, IsHeadFault, ReportsFault}
+use Rattle.age_file.specs.Runs.{Run, IsFromStart, run_outcome, run_text, held, IsTexts, IsAuthenticRun}
+use Rattle.age_file.specs.Runs.{IsPositionOf, CarriesText, Ports, IsRun, IsDone, IsHeadFault, ReportsFault}
 use Rattle.age_file.specs.Resumes.{IsSame, IsOldText, ResumePorts, ResumeEnds, ResumeStops}
 use Rattle.age_file.specs.Resumes.{IsBoundTo, IsFrom, IsUndamagedRest, ResumesText}
 use Rattle.age_file.specs.Decrypts.{DecryptEnds, DecryptStops, IsWhole, StopsOutside, Decrypts}
@@ -143,7 +143,7 @@ module _ (Who : Type 0) (Allows : Who → Header → List ℕ → Type 0)
   abbrev pub AreInARow : FirstCall → List NextCall → Type 0
   AreInARow first [] = Unit {0}
   AreInARow first (c ∷ earlier) = ((given : List ℕ)
-      → Consumes c.old.old.remaining c.new.old.remaining given
+      → Consumes c.old.old.supply c.new.old.supply given
       → IsPrefixOf given (last_took first earlier)) × AreInARow first earlier
 
   -- the run of each call, if it came to its payload, is authentic for one text
@@ -213,7 +213,7 @@ module _ (Who : Type 0) (Allows : Who → Header → List ℕ → Type 0)
     (result : Result Done Stopped) (text : List ℕ) where
   abbrev pub UndamagedIsDecrypted : Type 0
   UndamagedIsDecrypted = (old new : Ports) → Decrypts keep (Allows who) (Refused who) old new result
-      → IsUndamagedFile (Allows who) (Refused who) old.source.remaining text
+      → IsUndamagedFile (Allows who) (Refused who) old.source.supply text
       → MatchResult result (λ done. WritesText old.sink.taken new.sink.taken done.written text)
       (λ stopped. StopsOutside stopped.fault)
 
@@ -221,7 +221,7 @@ module _ (Who : Type 0) (Allows : Who → Header → List ℕ → Type 0)
   abbrev pub UndamagedIsResumed : Type 0
   UndamagedIsResumed = (p : Position) (old new : ResumePorts)
       → ResumesText keep (Allows who) (Refused who) p old new result
-      → IsUndamagedRest (Allows who) (Refused who) p old.main.source.remaining old.old.remaining text
+      → IsUndamagedRest (Allows who) (Refused who) p old.main.source.supply old.old.supply text
       → MatchResult result
       (λ done. WritesText old.main.sink.taken new.main.sink.taken done.written text)
       (λ stopped. StopsOutside stopped.fault)
@@ -249,7 +249,7 @@ module _ (Who : Type 0) (Allows : Who → Header → List ℕ → Type 0)
   DoneGaveFile = (keep : PositionPolicy) (who : Who) (old new : Ports)
       (result : Result Done Stopped) → Decrypts keep (Allows who) (Refused who) old new result
       → IfOk result (λ done. (text : List ℕ)
-      × GaveFile (Allows who) old.source.remaining new.source.remaining text
+      × GaveFile (Allows who) old.source.supply new.source.supply text
       × WritesText old.sink.taken new.sink.taken done.written text)
 
   -- and so is all that was to come of a source that shows it; a sink that shows what it holds then
@@ -257,7 +257,7 @@ module _ (Who : Type 0) (Allows : Who → Header → List ℕ → Type 0)
   abbrev pub DoneIsFile : Type 0
   DoneIsFile = (keep : PositionPolicy) (who : Who) (old new : Ports) (result : Result Done Stopped)
       (coming held : List ℕ) → Decrypts keep (Allows who) (Refused who) old new result
-      → old.source.remaining.left ≡ Some coming → old.sink.taken.contents ≡ Some held
+      → old.source.supply.left ≡ Some coming → old.sink.taken.contents ≡ Some held
       → IfOk result (λ done. (text : List ℕ) × (header : Header) × (key : List ℕ) × (nonce : List ℕ)
       × FileOf header key nonce text coming × (new.sink.taken.contents ≡ Some (held ++ text)))
 
@@ -280,8 +280,8 @@ abbrev pub AgeFileIsWhole : Type 0
 AgeFileIsWhole = (s : SecretView) (max_log : ℕ) (text bytes : List ℕ) (coming : Supply)
     → coming.left ≡ Some bytes → IsSecret s → s.log ≤ max_log
     → chunk_count chunk_length text ≤ chunk_limit → AgeFile s text bytes
-    → IsWhole (IsPassphraseKey (passphrase_identity s max_log)) (PassphraseRefuses (passphrase_identity s max_log))
-    coming text
+    → IsWhole (IsPassphraseKey (passphrase_identity s max_log))
+    (PassphraseRefuses (passphrase_identity s max_log)) coming text
 
 -- after an encryption, a decryption of what its sink took, with the same passphrase, gives back the
 -- text that its source gave, or stops as reading, writing or running out of memory may stop it
@@ -291,7 +291,7 @@ RoundTrip = (keep : PositionPolicy) (s : SecretView) (max_log : ℕ) (was became
     (run : Option Run) → IsSecret s
     → s.log ≤ max_log
     → IsClosed (box s.key s.nonce) (unbox s.key s.nonce) chunk_length e.text
-    → now.source.remaining.left ≡ Some e.file
+    → now.source.supply.left ≡ Some e.file
     → DecryptAnswers PassphraseIdentity IsPassphraseKey PassphraseRefuses keep (passphrase_identity s max_log)
     now last result run
     → MatchResult result (λ done. Appends now.sink.taken last.sink.taken e.text)

@@ -1,5 +1,6 @@
 -- What a report says of a file's bytes (C2SP age.md, "Payload", for the length of the plaintext).
-use Rattle.std.specs.Prelude.{◌≡◌, ℕ, ◌-◌, ◌≤◌, List, [], ◌++◌, length, map, Option, slice_index_or, MatchOption}
+use Rattle.std.specs.Prelude.{◌≡◌, ℕ, ◌-◌, ◌≤◌, List, [], ◌++◌, length, map, Option, slice_index_or}
+use Rattle.std.specs.Prelude.{MatchOption}
 use Rattle.age_io.specs.Supply.{Supply, Consumes, IsAtEnd}
 use Rattle.age_stanza.specs.Grammar.{HeadText}
 use Rattle.age_stanza.specs.declared.header.Header.{Header}

@@ -1,6 +1,6 @@
 -- What resuming at a position promises: from the text of the position to the end of the payload.
-use Rattle.std.specs.Prelude.{◌≡◌, ◌≢◌, ℕ, List, ◌++◌, length, codes, ◌*◌, ◌≤◌, take, Option, Some, ◌⊎◌, ◌/◌, ◌+◌, ◌<◌}
-use Rattle.std.specs.Prelude.{None, true, Result, IfOk, IfErr, OnOk, IsSomeAnd, IfSome, Err}
+use Rattle.std.specs.Prelude.{◌≡◌, ◌≢◌, ℕ, List, ◌++◌, length, codes, ◌*◌, ◌≤◌, take, Option, Some, ◌⊎◌, ◌/◌}
+use Rattle.std.specs.Prelude.{◌+◌, ◌<◌, None, true, Result, IfOk, IfErr, OnOk, IsSomeAnd, IfSome, Err}
 use Rattle.age_io.specs.Taken.{Appends}
 use Rattle.age_io.specs.Supply.{Supply, Consumes, IsAtEnd}
 use Rattle.base64.specs.GeneralPurpose.{IsBytes}
@@ -16,12 +16,13 @@ use Rattle.age_keys.specs.declared.fault.KeyFault.{KeyFault}
 use Rattle.age_fault.specs.Faults.{HasFailed}
 use Rattle.age_fault.specs.declared.fault.FileFault.{FileFault}
 use Rattle.age_fault.specs.declared.fault.FileFault.TheVariants.{Stream, OtherFile, ShortText, Read, Write}
-use Rattle.age_fault.specs.declared.fault.FileFault.TheVariants.{ReadNeverEnds, PositionForged, OldTextDiffers}
+use Rattle.age_fault.specs.declared.fault.FileFault.TheVariants.{ReadNeverEnds, PositionForged}
+use Rattle.age_fault.specs.declared.fault.FileFault.TheVariants.{OldTextDiffers}
 use Rattle.age_file.specs.declared.position.Position.{Position}
 use Rattle.age_file.specs.Bindings.{position_front, chain_over, file_id}
-use Rattle.age_file.specs.Runs.{CarriesText, Ports, Run, HasId, HasTag, pull_room, IsByAllPulls, Reads, GivesPosition}
-use Rattle.age_file.specs.Runs.{WritesNone, StopsInPayload, IsDone, NoneFailed, ReadFailed, WriteFailed, OpenedFile}
-use Rattle.age_file.specs.Runs.{IsTagged, IsPositionOf}
+use Rattle.age_file.specs.Runs.{CarriesText, Ports, Run, HasId, HasTag, pull_room, IsByAllPulls, Reads}
+use Rattle.age_file.specs.Runs.{GivesPosition, WritesNone, StopsInPayload, IsDone, NoneFailed, ReadFailed}
+use Rattle.age_file.specs.Runs.{WriteFailed, OpenedFile, IsTagged, IsPositionOf}
 use Rattle.age_file.specs.Decrypts.{StartFails, IsWhole}
 use Rattle.age_file.specs.declared.position.PositionPolicy.{PositionPolicy}
 use Rattle.age_file.specs.declared.decryption.Done.{Done}
@@ -81,7 +82,7 @@ pub record WritesOld (p : Position) (old new : ResumePorts) (written : ℕ) (cop
     : Type 0 where
   -- what was read of the old text
   pub pulled : List ℕ
-  pub read : Consumes old.old.remaining new.old.remaining pulled
+  pub read : Consumes old.old.supply new.old.supply pulled
   -- it is at most one pull more than the position needs
   pub few : length pulled ≤ p.index * chunk_length + pull_room
   -- the first of these bytes were written, and nothing else
@@ -89,7 +90,7 @@ pub record WritesOld (p : Position) (old new : ResumePorts) (written : ℕ) (cop
   pub wrote : Appends old.main.sink.taken new.main.sink.taken copied
   pub count : written ≡ length copied
   -- if the old text begins with the chunks of a text before the position, they begin that text
-  pub of : (text : List ℕ) → BeginsWith p old.old.remaining text → IsPrefixOf copied text
+  pub of : (text : List ℕ) → BeginsWith p old.old.supply text → IsPrefixOf copied text
 
 -- a run that begins from a position
 pub record IsFrom (p : Position) (old new : SourceView) (r : Run) : Type 0 where
@@ -101,7 +102,7 @@ pub record IsFrom (p : Position) (old new : SourceView) (r : Run) : Type 0 where
   pub old_text : IsOldText p r.copied
   -- of the old text at most one pull more was read
   pub more : List ℕ
-  pub old_read : Consumes old.remaining new.remaining (r.copied ++ more)
+  pub old_read : Consumes old.supply new.supply (r.copied ++ more)
   pub few : length more ≤ pull_room
 
 -- two positions have the same fields
@@ -125,8 +126,8 @@ pub record IsSame (p next : Position) : Type 0 where
 -- never end
 abbrev pub NeverEndTogether : ResumePorts → ResumePorts → Type 0
 NeverEndTogether old new = (bytes : List ℕ) × (texts : List ℕ)
-    × Consumes old.main.source.remaining new.main.source.remaining bytes
-    × Consumes old.old.remaining new.old.remaining texts
+    × Consumes old.main.source.supply new.main.source.supply bytes
+    × Consumes old.old.supply new.old.supply texts
     × IsByAllPulls (length bytes + length texts)
 
 module _ (Allows : Header → List ℕ → Type 0) (p : Position) (old new : ResumePorts) where
@@ -138,7 +139,7 @@ module _ (Allows : Header → List ℕ → Type 0) (p : Position) (old new : Res
   -- this file was opened, and no more was read after its nonce than one pull gives
   abbrev pub HasOpened : OpenedFile → Type 0
   HasOpened f = (rest : List ℕ) × (length rest ≤ pull_room)
-      × Reads Allows old.main.source.remaining new.main.source.remaining f rest
+      × Reads Allows old.main.source.supply new.main.source.supply f rest
 
   -- Before the old text: the position is another file's, or wasn't made under this file's key; or
   -- there is no payload
@@ -151,7 +152,7 @@ module _ (Allows : Header → List ℕ → Type 0) (p : Position) (old new : Res
   -- While the old text is copied, a failed read of it leaves all that it gave written; so does its
   -- end, and a source that never ends
   abbrev pub CopyFails : (pulled copied : List ℕ) → FileFault → Type 0
-  CopyFails pulled copied ShortText = (copied ≡ pulled) × IsAtEnd new.old.remaining
+  CopyFails pulled copied ShortText = (copied ≡ pulled) × IsAtEnd new.old.supply
   CopyFails pulled copied Read = (copied ≡ pulled) × NoneFailed old.main new.main
       × HasFailed old.old.failed new.old.failed new.old.failing
   CopyFails pulled copied ReadNeverEnds = (copied ≡ pulled) × NeverEndTogether old new
@@ -181,7 +182,7 @@ module _ (Allows : Header → List ℕ → Type 0) (p : Position) (old new : Res
   -- no more comes of it
   abbrev pub InSkippedFails : (skipped : List ℕ) → FileFault → Type 0
   InSkippedFails skipped (Stream fault) = (fault.kind ≡ Truncated)
-      × (fault.chunk ≡ length skipped / block_length) × IsAtEnd new.main.source.remaining
+      × (fault.chunk ≡ length skipped / block_length) × IsAtEnd new.main.source.supply
       × NoneFailed old.main new.main
   InSkippedFails skipped Read = ReadFailed old.main new.main
   InSkippedFails skipped ReadNeverEnds = NeverEndTogether old new
@@ -192,7 +193,7 @@ module _ (Allows : Header → List ℕ → Type 0) (p : Position) (old new : Res
   pub record StopsInSkipped (keep : PositionPolicy) (stopped : Stopped) : Type 0 where
     pub file : OpenedFile
     pub skipped : List ℕ
-    pub reads : Reads Allows old.main.source.remaining new.main.source.remaining file skipped
+    pub reads : Reads Allows old.main.source.supply new.main.source.supply file skipped
     pub own : HasId p file
     pub tagged : HasTag p file
     pub short : length skipped < p.index * block_length

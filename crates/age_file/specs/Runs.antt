@@ -17,7 +17,8 @@ use Rattle.age_stream.specs.declared.step.Status.TheVariants.{Done, Failed}
 use Rattle.age_keys.specs.Keys.{position_key, Opens, box, unbox}
 use Rattle.age_fault.specs.Faults.{HasFailed}
 use Rattle.age_fault.specs.declared.fault.FileFault.{FileFault}
-use Rattle.age_fault.specs.declared.fault.FileFault.TheVariants.{Head, Read, Memory, ReadNeverEnds, Stream, Write}
+use Rattle.age_fault.specs.declared.fault.FileFault.TheVariants.{Head, Read, Memory, ReadNeverEnds, Stream}
+use Rattle.age_fault.specs.declared.fault.FileFault.TheVariants.{Write}
 use Rattle.age_file.specs.Bindings.{file_id, position_tag, chain_over}
 use Rattle.age_file.specs.declared.decryption.Stopped.{Stopped}
 use Rattle.age_file.specs.declared.position.Position.{Position}
@@ -104,12 +105,12 @@ pub record StopsAtHeader (old new : Supply) : Type 0 where
 -- when each fault comes. No more bytes came only if those that did are sound: they hold no fault
 abbrev pub HeadFails : (Sound : Supply → Supply → Type 0) → SourceView
     → SourceView → FileFault → Type 0
-HeadFails Sound old new (Head fault) = ReportsFault old.remaining new.remaining fault
-HeadFails Sound old new Read = Sound old.remaining new.remaining
+HeadFails Sound old new (Head fault) = ReportsFault old.supply new.supply fault
+HeadFails Sound old new Read = Sound old.supply new.supply
     × HasFailed old.failed new.failed new.failing
-HeadFails Sound old new Memory = StopsAtHeader old.remaining new.remaining
-HeadFails Sound old new ReadNeverEnds = Sound old.remaining new.remaining
-    × NeverEnds old.remaining new.remaining
+HeadFails Sound old new Memory = StopsAtHeader old.supply new.supply
+HeadFails Sound old new ReadNeverEnds = Sound old.supply new.supply
+    × NeverEnds old.supply new.supply
 HeadFails Sound old new other = ⊥
 
 -- ---- A run: what was read of an age file, and what was written. A decryption is a run that begins
@@ -166,10 +167,10 @@ pub record Reads (Allows : Header → List ℕ → Type 0) (old new : Supply) (f
 -- of the text that was released
 pub record IsRun (Allows : Header → List ℕ → Type 0) (old new : Ports) (written : ℕ) (r : Run)
     : Type 0 where
-  pub reads : Reads Allows old.source.remaining new.source.remaining r.file (r.skipped ++ r.bytes)
+  pub reads : Reads Allows old.source.supply new.source.supply r.file (r.skipped ++ r.bytes)
   pub copied_size : length r.copied ≡ r.first * chunk_length
   pub skipped_size : length r.skipped ≡ r.first * block_length
-  pub at_end : r.ended ≡ true → IsAtEnd new.source.remaining
+  pub at_end : r.ended ≡ true → IsAtEnd new.source.supply
   pub wrote : Appends old.sink.taken new.sink.taken (held r)
   pub count : written ≡ length (held r)
   pub prefix : IsPrefixOf r.out (run_text r)

@@ -86,8 +86,8 @@ fn plain_of(rest: u128) -> Option<u128>
 /// Refuses with the header's fault (1 to 8), `Read` (26), `Memory` (28) and `ReadNeverEnds` (29).
 /// If the bytes that it read have a fault of the header, it refuses with that, not with 26 or 29.
 pub fn inspect<S: Source>(alloc: Global, source: &mut S) -> Result<Report, FileFault>
-    ensures ok { IfOk result (Inspects (S.view source.old).remaining
-        (S.view source.new).remaining) }
+    ensures ok { IfOk result (Inspects (S.view source.old).supply
+        (S.view source.new).supply) }
     ensures unfailed { OnOk result ((S.view source.new).failed ≡ (S.view source.old).failed) }
     // When each fault comes.
     ensures fails { IfErr result (HeadFails NoHeadFault (S.view source.old) (S.view source.new)) }
@@ -119,9 +119,9 @@ pub fn inspect_sized<S: Source>(
     len: u64,
     source: &mut S,
 ) -> Result<Report, FileFault>
-    ensures ok { IfOk result (InspectsFront len (S.view source.old).remaining
-        (S.view source.new).remaining) }
-    ensures whole { (bytes : List ℕ) → (S.view source.old).remaining.left ≡ Some bytes
+    ensures ok { IfOk result (InspectsFront len (S.view source.old).supply
+        (S.view source.new).supply) }
+    ensures whole { (bytes : List ℕ) → (S.view source.old).supply.left ≡ Some bytes
         → len ≡ length bytes → IfOk result (IsReport bytes) }
     ensures unfailed { OnOk result ((S.view source.new).failed ≡ (S.view source.old).failed) }
     // When each fault comes.

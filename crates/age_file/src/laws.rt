@@ -3,8 +3,8 @@ ghost use Rattle.std.specs.Prelude.{ℕ, List, Result};
 ghost use Rattle.age_file.specs.declared.decryption.Done.{Done};
 ghost use Rattle.age_file.specs.declared.decryption.Stopped.{Stopped};
 ghost use Rattle.age_file.specs.declared.position.PositionPolicy.{PositionPolicy};
-ghost use Rattle.age_file.specs.InARow.{RunsInARow, CallsInARow, RunsAreBound, DoneIsBound, AgeFileIsWhole, RoundTrip};
-ghost use Rattle.age_file.specs.InARow.{AuthenticRuns, HeadFaultsStay, UndamagedIsDecrypted};
+ghost use Rattle.age_file.specs.InARow.{RunsInARow, CallsInARow, RunsAreBound, DoneIsBound, AgeFileIsWhole};
+ghost use Rattle.age_file.specs.InARow.{RoundTrip, AuthenticRuns, HeadFaultsStay, UndamagedIsDecrypted};
 ghost use Rattle.age_file.specs.InARow.{UndamagedIsResumed, DoneGaveFile, DoneIsFile};
 ghost use Rattle.age_file.specs.Again.{ReadAgain, RestReadAgain};
 

@@ -3,7 +3,8 @@
 ghost use Rattle.std.specs.Prelude.{◌≡◌, ◌+◌, ◌^◌, ◌<◌, length, IfOk, OnOk, true, false};
 ghost use Rattle.age_stream.specs.Opener.{has_failed};
 ghost use Rattle.age_file.specs.inner.Decrypts.{opens};
-ghost use Rattle.age_file.specs.inner.Payloads.{FeedsOnce, FeedsPiece, ClosesPayload, HasPlace, DecryptsPayload};
+ghost use Rattle.age_file.specs.inner.Payloads.{FeedsOnce, FeedsPiece, ClosesPayload, HasPlace};
+ghost use Rattle.age_file.specs.inner.Payloads.{DecryptsPayload};
 ghost use Rattle.age_file.specs.inner.Readers.{view_of_writer, stage_of, SameReader, KeepsMeter, SameWriter};
 ghost use Rattle.age_chunk.specs.Payload.{chunk_length, chunk_limit};
 

@@ -3,7 +3,8 @@
 ghost use Rattle.std.specs.Prelude.{◌≡◌, ◌^◌, ◌≤◌, [], length, OnOk, true};
 ghost use Rattle.age_file.specs.inner.Decrypts.{seals};
 ghost use Rattle.age_file.specs.inner.Readers.{view_of_writer, ports_of, SameReader, KeepsMeter, SameWriter};
-ghost use Rattle.age_file.specs.inner.Seals.{IsFeeding, HasRoom, SealsOnce, SealsPiece, SealsRest, SealsSource};
+ghost use Rattle.age_file.specs.inner.Seals.{IsFeeding, HasRoom, SealsOnce, SealsPiece, SealsRest};
+ghost use Rattle.age_file.specs.inner.Seals.{SealsSource};
 ghost use Rattle.age_chunk.specs.Payload.{chunk_length};
 
 use crate::encryption::Written;

@@ -3,7 +3,8 @@
 ghost use Rattle.std.specs.Prelude.{◌≡◌, ◌+◌, ◌-◌, ◌≤◌, [], ◌++◌, length, take, min, IfOk, IfErr};
 ghost use Rattle.age_file.specs.Decrypts.{StartFails};
 ghost use Rattle.age_file.specs.inner.Readers.{view_of_reader, SameReader, KeepsMeter};
-ghost use Rattle.age_file.specs.inner.Copies.{Uses, SomeAnswers, NonceFails, TakesNonce, ReadsNonce, StartsAt};
+ghost use Rattle.age_file.specs.inner.Copies.{Uses, SomeAnswers, NonceFails, TakesNonce, ReadsNonce};
+ghost use Rattle.age_file.specs.inner.Copies.{StartsAt};
 ghost use Rattle.age_file.specs.Runs.{pull_room};
 
 use crate::head::read_head;

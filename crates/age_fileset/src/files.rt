@@ -1,7 +1,8 @@
 //! Files by their names.
 
-ghost use Rattle.std.specs.Prelude.{◌≡◌, ◌≢◌, ◌⊎◌, ℕ, Bool, true, false, List, [], ◌∷◌, ◌++◌, None, Some, IfOk, IfErr};
-ghost use Rattle.std.specs.Prelude.{IsOkUnless, OnOk, OnErr, IfSome, ◌≤◌, is_some, option_map, length};
+ghost use Rattle.std.specs.Prelude.{◌≡◌, ◌≢◌, ◌⊎◌, ℕ, Bool, true, false, List, [], ◌∷◌, ◌++◌, None, Some};
+ghost use Rattle.std.specs.Prelude.{IfOk, IfErr, IsOkUnless, OnOk, OnErr, IfSome, ◌≤◌, is_some, option_map};
+ghost use Rattle.std.specs.Prelude.{length};
 ghost use Rattle.age_fileset.specs.FileSet.{FilesView, IsMemoryOr, OpenFails, or_empty, Opened};
 ghost use Rattle.age_fileset.specs.FileSet.{Prepared, Created, Replaced, Closed};
 ghost use Rattle.age_fileset.specs.declared.files.OpenFault.TheVariants.{Fault};
@@ -80,10 +81,10 @@ pub trait FileSet {
     fn open(&mut self, alloc: Global, name: &str) -> Result<Self::In, OpenFault>
         ensures kept { (view self.new).entries ≡ (view self.old).entries }
         ensures noted { (view self.new).events ≡ (view self.old).events ++ Opened name.now ∷ [] }
-        ensures begun { IfOk result (λ s. (Self.In.view s).remaining.given ≡ []) }
+        ensures begun { IfOk result (λ s. (Self.In.view s).supply.given ≡ []) }
         ensures found { IfOk result (λ s. shows_bytes ≡ true
             → (is_some ((view self.old).entries name.now) ≡ true)
-            × ((Self.In.view s).remaining.left ≡ (view self.old).entries name.now)) }
+            × ((Self.In.view s).supply.left ≡ (view self.old).entries name.now)) }
         ensures missing { shows_bytes ≡ true → IfErr result (λ f. f ≡ Fault FileFault.Read
             → (view self.old).entries name.now ≡ None) }
         ensures faults { IfErr result (OpenFails shows_bytes FileFault.Read) };
@@ -94,9 +95,9 @@ pub trait FileSet {
     fn open_or_empty(&mut self, alloc: Global, name: &str) -> Result<Self::In, OpenFault>
         ensures kept { (view self.new).entries ≡ (view self.old).entries }
         ensures noted { (view self.new).events ≡ (view self.old).events ++ Opened name.now ∷ [] }
-        ensures begun { IfOk result (λ s. (Self.In.view s).remaining.given ≡ []) }
+        ensures begun { IfOk result (λ s. (Self.In.view s).supply.given ≡ []) }
         ensures found { IfOk result (λ s. shows_bytes ≡ true
-            → (Self.In.view s).remaining.left ≡ or_empty ((view self.old).entries name.now)) }
+            → (Self.In.view s).supply.left ≡ or_empty ((view self.old).entries name.now)) }
         ensures shown { shows_bytes ≡ true → IfErr result (λ f. f ≡ Fault FileFault.Memory) }
         ensures faults { IfErr result (OpenFails shows_bytes FileFault.Read) };
 
@@ -104,7 +105,7 @@ pub trait FileSet {
     /// can't of a pipe or a terminal.
     fn length(&self, source: &Self::In) -> Option<u64>
         ensures shown { shows_bytes ≡ true
-            → result ≡ option_map length (Self.In.view source.now).remaining.left };
+            → result ≡ option_map length (Self.In.view source.now).supply.left };
 
     /// Whether a file that was opened can be read once more from its start.
     fn can_reread(&self, _source: &Self::In) -> bool {
@@ -117,7 +118,7 @@ pub trait FileSet {
     /// only if there is no such file.
     fn reread(&self, alloc: Global, name: &str, source: &mut Self::In) -> Result<(), FileFault>
         ensures again { OnOk result (shows_bytes ≡ true
-            → (Self.In.view source.new).remaining.left ≡ (view self.now).entries name.now) }
+            → (Self.In.view source.new).supply.left ≡ (view self.now).entries name.now) }
         ensures missing { shows_bytes ≡ true → IfErr result (λ f. f ≡ FileFault.Read
             → (view self.now).entries name.now ≡ None) }
         ensures faults { IfErr result (IsMemoryOr FileFault.Read) };

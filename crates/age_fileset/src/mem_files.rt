@@ -1,7 +1,8 @@
 //! Files over memory.
 
-ghost use Rattle.std.specs.Prelude.{◌≡◌, ◌↔◌, ◌⊎◌, ◌++◌, ◌∷◌, ◌<◌, ◌≤◌, IsTrue, [], true, Some, None, OnOk, OnErr};
-ghost use Rattle.std.specs.Prelude.{IfOk, IsErrOf, IsOk, IfErr, IsOkUnless, Contains, is_some, option_map, length};
+ghost use Rattle.std.specs.Prelude.{◌≡◌, ◌↔◌, ◌⊎◌, ◌++◌, ◌∷◌, ◌<◌, ◌≤◌, IsTrue, [], true, Some, None, OnOk};
+ghost use Rattle.std.specs.Prelude.{OnErr, IfOk, IsErrOf, IsOk, IfErr, IsOkUnless, Contains, is_some};
+ghost use Rattle.std.specs.Prelude.{option_map, length};
 ghost use Rattle.age_io.specs.Taken.{WriteAppends, Keeps};
 ghost use Rattle.age_io.specs.Io.{Puts, Flushes, holds};
 ghost use Rattle.age_fileset.specs.FileSet.{entry_of, empty_with, PutsEntry, IsMemoryOr, OpenFails};

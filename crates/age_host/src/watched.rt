@@ -75,7 +75,7 @@ impl<'r, 'w> WatchedIn<'r, 'w> {
 
 impl<'r, 'w> Source for WatchedIn<'r, 'w> {
     ghost view = { λ s. record {
-      remaining = record {
+      supply = record {
         given = s.source.1.0;
         left = None;
         is_at_end = s.source.1.1;

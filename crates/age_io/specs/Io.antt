@@ -1,7 +1,8 @@
 -- What contracts see of sources, sinks and meters, and what those over memory do.
 use base.Fml.{GName}
-use Rattle.std.specs.Prelude.{ℕ, List, Option, Bool, ◌+◌, ◌-◌, ◌^◌, min, option_map, Result, Ok, Err, ◌≡◌, [], ◌∷◌}
-use Rattle.std.specs.Prelude.{◌++◌, Some, None, ◌≢◌, ◌⊎◌, length, take, drop, true, false, map, IfSome, nat_eq}
+use Rattle.std.specs.Prelude.{ℕ, List, Option, Bool, ◌+◌, ◌-◌, ◌^◌, min, option_map, Result, Ok, Err, ◌≡◌, []}
+use Rattle.std.specs.Prelude.{◌∷◌, ◌++◌, Some, None, ◌≢◌, ◌⊎◌, length, take, drop, true, false, map, IfSome}
+use Rattle.std.specs.Prelude.{nat_eq}
 use Rattle.std.specs.List.{sum}
 use Rattle.age_io.specs.Supply.{Supply, Consumes}
 use Rattle.age_io.specs.Taken.{Taken}
@@ -12,7 +13,7 @@ use Rattle.age_io.specs.declared.failed.Failed.{Failed}
 -- the bytes that came and that are still to come, how many pulls have failed, and whether the last
 -- one did; the count stays at the greatest value of its type
 pub record SourceView : Type 0 where
-  pub remaining : Supply
+  pub supply : Supply
   pub failed : ℕ
   pub failing : Bool
 
@@ -95,8 +96,8 @@ abbrev pub one_more : ℕ → ℕ
 one_more n = min (n + 1) (2 ^ 64 - 1)
 
 -- the bytes of a source over memory
-abbrev pub supply : List ℕ → List ℕ → Supply
-supply given left = record { given = given; left = Some left; is_at_end = nat_eq (length left) 0 }
+abbrev pub memory_supply : List ℕ → List ℕ → Supply
+memory_supply given left = record { given = given; left = Some left; is_at_end = nat_eq (length left) 0 }
 
 -- the bytes of a sink over memory
 abbrev pub holds : List ℕ → Taken

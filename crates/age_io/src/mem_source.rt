@@ -2,7 +2,7 @@
 
 ghost use Rattle.std.specs.Prelude.{◌≡◌, ◌<◌, ◌≤◌, [], length, take, IfOk, MatchResult, drop, false};
 ghost use Rattle.age_io.specs.Supply.{ReadConsumes};
-ghost use Rattle.age_io.specs.Io.{Feeding, Pulls, supply};
+ghost use Rattle.age_io.specs.Io.{Feeding, Pulls, memory_supply};
 
 use crate::failed::Failed;
 use crate::failures::Failures;
@@ -82,7 +82,7 @@ fn copy_front(from: &[u8], into: &mut [u8], n: usize)
 
 impl Source for MemSource {
     ghost view = { λ s. record {
-      remaining = supply s.given s.left;
+      supply = memory_supply s.given s.left;
       failed = s.failures;
       failing = s.failing;
     } };
@@ -90,8 +90,8 @@ impl Source for MemSource {
     /// Leaves the slice as it was past the bytes that it gives, and all of it if it fails.
     fn pull(&mut self, into: &mut [u8]) -> Result<usize, Failed>
         ensures bound { IfOk result (λ n. n ≤ length into.new) }
-        ensures bytes { ReadConsumes (supply self.old.given self.old.left)
-            (supply self.new.given self.new.left) result into.new }
+        ensures bytes { ReadConsumes (memory_supply self.old.given self.old.left)
+            (memory_supply self.new.given self.new.left) result into.new }
         ensures rest { MatchResult result (λ n. drop n into.new ≡ drop n into.old)
             (λ _. into.new ≡ into.old) }
         ensures plan { Pulls self.old (length into.new) result self.new }

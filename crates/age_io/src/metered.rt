@@ -22,14 +22,14 @@ impl<'m, S: Source, M: Meter> Source for Metered<'m, S, M> {
     ghost view = { λ s. S.view s.source };
 
     ghost metered = { λ s from. (s.meter.ghost_name ≡ from.meter)
-        × CountsSince from (S.view s.source).remaining (M.shown s.meter.now) };
+        × CountsSince from (S.view s.source).supply (M.shown s.meter.now) };
 
     /// Does what the source's own pull does, and reports to the meter how many bytes it gave;
     /// nothing if it failed.
     fn pull(&mut self, into: &mut [u8]) -> Result<usize, Failed>
         ensures bound { IfOk result (λ n. n ≤ length into.new) }
-        ensures bytes { ReadConsumes (S.view self.old.source).remaining
-            (S.view self.new.source).remaining result into.new }
+        ensures bytes { ReadConsumes (S.view self.old.source).supply
+            (S.view self.new.source).supply result into.new }
         ensures counted { MatchResult result
             (λ _. (S.view self.new.source).failed ≡ (S.view self.old.source).failed)
             (λ _. (S.view self.new.source).failed ≡ one_more (S.view self.old.source).failed) }
@@ -37,9 +37,9 @@ impl<'m, S: Source, M: Meter> Source for Metered<'m, S, M> {
         ensures metered { M.count self.new.meter.now ≡ pulled result (M.count self.old.meter.now) }
         ensures shown { AddsPull (M.shown self.old.meter.now) (M.shown self.new.meter.now) result }
         ensures since { (from : Origin) → (self.old.meter.ghost_name ≡ from.meter)
-            × CountsSince from (S.view self.old.source).remaining (M.shown self.old.meter.now)
+            × CountsSince from (S.view self.old.source).supply (M.shown self.old.meter.now)
             → (self.new.meter.ghost_name ≡ from.meter)
-            × CountsSince from (S.view self.new.source).remaining (M.shown self.new.meter.now) }
+            × CountsSince from (S.view self.new.source).supply (M.shown self.new.meter.now) }
     {
         let n = self.source.pull(into)?;
         self.meter.advance(n as u64);

@@ -26,7 +26,7 @@ pub trait Source {
     /// or if the slice is empty. A pull that fails moves no bytes.
     fn pull(&mut self, into: &mut [u8]) -> Result<usize, Failed>
         ensures bound { IfOk result (λ n. n ≤ length into.new) }
-        ensures bytes { ReadConsumes (view self.old).remaining (view self.new).remaining result
+        ensures bytes { ReadConsumes (view self.old).supply (view self.new).supply result
             into.new }
         ensures counted { MatchResult result
             (λ _. (view self.new).failed ≡ (view self.old).failed)
@@ -76,7 +76,7 @@ impl<R: Read> Reading<R> {
 
 impl<R: Read> Source for Reading<R> {
     ghost view = { λ s. record {
-      remaining = record {
+      supply = record {
         given = s.1.1.0;
         left = R.remaining s.0;
         is_at_end = s.1.1.1;

@@ -1,5 +1,6 @@
 -- How keys are derived from others: HMAC, HKDF and PBKDF2, all with SHA-256.
-use Rattle.std.specs.Prelude.{ℕ, ◌-◌, List, ◌++◌, length, map, replicate, bit_xor, nat_le, if◌then◌else◌, [], ◌∷◌, take}
+use Rattle.std.specs.Prelude.{ℕ, ◌-◌, List, ◌++◌, length, map, replicate, bit_xor, nat_le, if◌then◌else◌, []}
+use Rattle.std.specs.Prelude.{◌∷◌, take}
 use Rattle.std.specs.List.{range_with_len, flat_map}
 use Rattle.std.specs.Int.{w32, to_be_bytes, div_ceil}
 use Rattle.sha2.specs.Sha256.{sha256}

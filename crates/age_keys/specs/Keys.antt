@@ -12,8 +12,9 @@ use Rattle.age_stanza.specs.declared.header.Stanza.{Stanza}
 use Rattle.age_kdf.specs.Derivation.{hmac, hkdf32}
 use Rattle.age_cipher.specs.Aead.{sealing, opening}
 use Rattle.age_keys.specs.declared.fault.KeyFault.{KeyFault}
-use Rattle.age_keys.specs.declared.fault.KeyFault.TheVariants.{ScryptNotAlone, BadScrypt, WorkTooHigh, NoMatch}
-use Rattle.age_keys.specs.declared.fault.KeyFault.TheVariants.{WrongKey, MacMismatch, BadX25519, Memory}
+use Rattle.age_keys.specs.declared.fault.KeyFault.TheVariants.{ScryptNotAlone, BadScrypt, WorkTooHigh}
+use Rattle.age_keys.specs.declared.fault.KeyFault.TheVariants.{NoMatch, WrongKey, MacMismatch, BadX25519}
+use Rattle.age_keys.specs.declared.fault.KeyFault.TheVariants.{Memory}
 use Rattle.age_chunk.specs.Payload.{payload, chunk_length}
 
 -- ---- The keys of an age file (C2SP age.md, "File key", "Header MAC", "Payload", "Recipient

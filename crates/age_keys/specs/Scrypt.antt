@@ -1,5 +1,6 @@
 -- What a passphrase finds in a header (C2SP age.md, "The scrypt recipient type").
-use Rattle.std.specs.Prelude.{◌≡◌, ◌≢◌, ℕ, List, [], ◌∷◌, ◌++◌, length, take, codes, ◌*◌, ◌^◌, ◌<◌, ◌≤◌, true, false}
+use Rattle.std.specs.Prelude.{◌≡◌, ◌≢◌, ℕ, List, [], ◌∷◌, ◌++◌, length, take, codes, ◌*◌, ◌^◌, ◌<◌, ◌≤◌, true}
+use Rattle.std.specs.Prelude.{false}
 use Rattle.std.specs.Fmt.{decimal}
 use Rattle.std.specs.Str.Parse.{IsNumeral, digits_value}
 use Rattle.base64.specs.GeneralPurpose.{IsBytes}
@@ -9,8 +10,8 @@ use Rattle.age_stanza.specs.declared.header.Stanza.{Stanza}
 use Rattle.age_scrypt.specs.Scrypt.{scrypt, work_factor_limit}
 use Rattle.age_keys.specs.Keys.{header_mac, wrapped_key, IsScryptNotAlone, has_scrypt, AllowsAlone}
 use Rattle.age_keys.specs.declared.fault.KeyFault.{KeyFault}
-use Rattle.age_keys.specs.declared.fault.KeyFault.TheVariants.{ScryptNotAlone, BadScrypt, WorkTooHigh, NoMatch}
-use Rattle.age_keys.specs.declared.fault.KeyFault.TheVariants.{WrongKey, Memory}
+use Rattle.age_keys.specs.declared.fault.KeyFault.TheVariants.{ScryptNotAlone, BadScrypt, WorkTooHigh}
+use Rattle.age_keys.specs.declared.fault.KeyFault.TheVariants.{NoMatch, WrongKey, Memory}
 
 -- ---- The scrypt stanza.
 

@@ -1,5 +1,6 @@
 -- What a shared secret finds in a header (C2SP age.md, "The X25519 recipient type").
-use Rattle.std.specs.Prelude.{◌≡◌, ℕ, Bool, true, false, List, [], ◌∷◌, length, codes, ◌⊎◌, ◌++◌, Any, replicate}
+use Rattle.std.specs.Prelude.{◌≡◌, ℕ, Bool, true, false, List, [], ◌∷◌, length, codes, ◌⊎◌, ◌++◌, Any}
+use Rattle.std.specs.Prelude.{replicate}
 use Rattle.std.specs.List.{list_any, AllByRecursion}
 use Rattle.base64.specs.GeneralPurpose.{IsBytes}
 use Rattle.age_stanza.specs.Text.{base64_text}

@@ -1,7 +1,7 @@
 //! The scrypt stanza (<https://c2sp.org/age#scrypt-recipient-stanza>): read and written.
 
-ghost use Rattle.std.specs.Prelude.{◌≡◌, ◌≤◌, ◌↔◌, ℕ, ◌+◌, ◌*◌, ◌^◌, List, [], ◌∷◌, min, IsTrue, IfSome, IfNone, IfOk};
-ghost use Rattle.std.specs.Prelude.{IfErr, OnOk, OnErr, ◌++◌, codes};
+ghost use Rattle.std.specs.Prelude.{◌≡◌, ◌≤◌, ◌↔◌, ℕ, ◌+◌, ◌*◌, ◌^◌, List, [], ◌∷◌, min, IsTrue, IfSome};
+ghost use Rattle.std.specs.Prelude.{IfNone, IfOk, IfErr, OnOk, OnErr, ◌++◌, codes};
 ghost use Rattle.std.specs.Char.{is_ascii_digit};
 ghost use Rattle.std.specs.Fmt.{decimal};
 ghost use Rattle.std.specs.List.{list_all};
@@ -9,7 +9,8 @@ ghost use Rattle.std.specs.Str.Parse.{digits_value};
 ghost use Rattle.age_stanza.specs.Grammar.{HasText};
 ghost use Rattle.age_stanza.specs.Text.{base64_text};
 ghost use Rattle.age_scrypt.specs.Scrypt.{work_factor_limit};
-ghost use Rattle.age_keys.specs.Scrypt.{IsAllowed, IsWorkFactor, IsScryptStanza, wrap_key, scrypt_stanza, scrypt_head};
+ghost use Rattle.age_keys.specs.Scrypt.{IsAllowed, IsWorkFactor, IsScryptStanza, wrap_key, scrypt_stanza};
+ghost use Rattle.age_keys.specs.Scrypt.{scrypt_head};
 ghost use Rattle.age_keys.specs.declared.fault.KeyFault.TheVariants.{Memory};
 
 use crate::fault::KeyFault;

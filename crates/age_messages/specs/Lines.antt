@@ -1,6 +1,7 @@
 -- Which line shows how far a run is, and when a line is due.
-use Rattle.std.specs.Prelude.{◌≡◌, ◌⊎◌, ℕ, ◌+◌, ◌-◌, ◌*◌, ◌/◌, ◌%◌, ◌^◌, min, Bool, true, false, List, ◌++◌, length}
-use Rattle.std.specs.Prelude.{take, codes, decimal, nat_eq, nat_lt, nat_le, Option, None, Some, if◌then◌else◌}
+use Rattle.std.specs.Prelude.{◌≡◌, ◌⊎◌, ℕ, ◌+◌, ◌-◌, ◌*◌, ◌/◌, ◌%◌, ◌^◌, min, Bool, true, false, List, ◌++◌}
+use Rattle.std.specs.Prelude.{length, take, codes, decimal, nat_eq, nat_lt, nat_le, Option, None, Some}
+use Rattle.std.specs.Prelude.{if◌then◌else◌}
 use Rattle.age_io.specs.Taken.{Appends}
 use Rattle.age_io.specs.Io.{one_more, SinkView}
 use Rattle.age_messages.specs.declared.line_style.LineStyle.{LineStyle}

@@ -2,8 +2,8 @@
 
 ghost use Rattle.std.specs.Prelude.{◌≡◌, ℕ, ◌+◌, ◌*◌, ◌%◌, ◌^◌, ◌<◌, ◌≤◌, List, length};
 ghost use Rattle.age_scrypt.specs.Scrypt.{xor_words, v_block, integerify, romix, work_factor_limit};
-ghost use Rattle.age_scrypt.specs.inner.Workspace.{IsTable, IsTurned, IsCount, HasTableRoom, AreBlocks, IsWorkspace};
-ghost use Rattle.age_scrypt.specs.inner.Workspace.{IsFilled};
+ghost use Rattle.age_scrypt.specs.inner.Workspace.{IsTable, IsTurned, IsCount, HasTableRoom, AreBlocks};
+ghost use Rattle.age_scrypt.specs.inner.Workspace.{IsWorkspace, IsFilled};
 
 use crate::part::Part;
 use crate::steps::{Steps, block_mix};

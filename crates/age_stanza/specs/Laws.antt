@@ -1,5 +1,6 @@
 -- What holds of all headers, faults and parsers, whatever the code does.
-use Rattle.std.specs.Prelude.{◌≡◌, ◌⊎◌, ℕ, List, [], ◌∷◌, ◌++◌, Result, ◌+◌, ◌*◌, ◌/◌, ◌%◌, length, codes, slice_index}
+use Rattle.std.specs.Prelude.{◌≡◌, ◌⊎◌, ℕ, List, [], ◌∷◌, ◌++◌, Result, ◌+◌, ◌*◌, ◌/◌, ◌%◌, length, codes}
+use Rattle.std.specs.Prelude.{slice_index}
 use Rattle.std.specs.List.{concat}
 use Rattle.base64.specs.GeneralPurpose.{IsBytes, engine_symbols}
 use Rattle.base64.specs.Engines.{standard_no_pad}

@@ -5,11 +5,13 @@ use Rattle.std.specs.Prelude.{count_by, ◌<◌, ◌≤◌, Result, Ok, Err}
 use Rattle.std.specs.List.{flat_map, AllByRecursion, starts_with}
 use Rattle.std.specs.Str.{bytes_eq}
 use Rattle.base64.specs.GeneralPurpose.{IsBytes}
-use Rattle.age_stanza.specs.Grammar.{line, version, stanza_text, end_line, IsStanza, Spells, HeadText, header_limit}
+use Rattle.age_stanza.specs.Grammar.{line, version, stanza_text, end_line, IsStanza, Spells, HeadText}
+use Rattle.age_stanza.specs.Grammar.{header_limit}
 use Rattle.age_stanza.specs.declared.fault.HeadFault.{HeadFault}
 use Rattle.age_stanza.specs.declared.fault.HeadKind.{HeadKind}
-use Rattle.age_stanza.specs.declared.fault.HeadKind.TheVariants.{NotAge, Armored, BadStanzaLine, BadBody, BadEndLine}
-use Rattle.age_stanza.specs.declared.fault.HeadKind.TheVariants.{NoStanza, HeadTooLong, HeadCut, Memory}
+use Rattle.age_stanza.specs.declared.fault.HeadKind.TheVariants.{NotAge, Armored, BadStanzaLine, BadBody}
+use Rattle.age_stanza.specs.declared.fault.HeadKind.TheVariants.{BadEndLine, NoStanza, HeadTooLong, HeadCut}
+use Rattle.age_stanza.specs.declared.fault.HeadKind.TheVariants.{Memory}
 use Rattle.age_stanza.specs.declared.head_step.HeadStep.{HeadStep}
 use Rattle.age_stanza.specs.declared.head_step.HeadStep.TheVariants.{More, Ready}
 use Rattle.age_stanza.specs.declared.header.Header.{Header}

@@ -3,7 +3,8 @@
 ghost use Rattle.std.specs.Prelude.{◌≡◌, ◌++◌, ◌+◌, ◌-◌, ◌<◌, ◌≤◌, [], length, take, OnOk, IfErr, OnErr};
 ghost use Rattle.age_stanza.specs.Grammar.{header_limit};
 ghost use Rattle.age_stanza.specs.Parsing.{line_after, memory_fault, IsLine};
-ghost use Rattle.age_stanza.specs.inner.LineMachine.{fault_at as spec_fault_at, Gives, step as step_of, IsUnfinished};
+ghost use Rattle.age_stanza.specs.inner.LineMachine.{fault_at as spec_fault_at, Gives, step as step_of};
+ghost use Rattle.age_stanza.specs.inner.LineMachine.{IsUnfinished};
 
 use crate::fault::{HeadFault, HeadKind, MEMORY};
 use crate::header::Header;

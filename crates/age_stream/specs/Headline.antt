@@ -1,6 +1,6 @@
 -- When what is held is what was written: the premises of the headline, and the headline.
-use Rattle.std.specs.Prelude.{◌≡◌, ◌≢◌, ℕ, ◌+◌, ◌-◌, ◌<◌, Bool, false, ◌&&◌, List, [], ◌∷◌, Contains, Some, None}
-use Rattle.std.specs.Prelude.{if◌then◌else◌, ◌*◌, ◌≤◌, true, ◌++◌, length, take, drop, IsSome, ◌⊎◌, map}
+use Rattle.std.specs.Prelude.{◌≡◌, ◌≢◌, ℕ, ◌+◌, ◌-◌, ◌<◌, Bool, false, ◌&&◌, List, [], ◌∷◌, Contains, Some}
+use Rattle.std.specs.Prelude.{None, if◌then◌else◌, ◌*◌, ◌≤◌, true, ◌++◌, length, take, drop, IsSome, ◌⊎◌, map}
 use Rattle.std.specs.Str.{bytes_eq}
 use Rattle.std.specs.List.{AllByRecursion, flat_map}
 use Rattle.std.specs.Borrow.{Bor}

@@ -1,9 +1,9 @@
 //! Laws over the definitions, for the layers above.
 ghost use Rattle.age_stream.specs.Laws.{ChunksAreCounted, ClosedStays, EndCloses, FreshIsOpen, NoncesDiffer};
-ghost use Rattle.age_stream.specs.Laws.{PayloadIsLonger, PiecesJoin, ReleasedGrows, ReleasedIsWritten, SealedGrows};
-ghost use Rattle.age_stream.specs.Laws.{SealingsDiffer, ClearIsSealable, RestIsAuthentic, PayloadRoundTrip};
-ghost use Rattle.age_stream.specs.Laws.{UndamagedIsAuthentic, WholeIsAuthentic, LengthsAreOne, ChunksAreOne};
-ghost use Rattle.age_stream.specs.Laws.{SealsChunks};
+ghost use Rattle.age_stream.specs.Laws.{PayloadIsLonger, PiecesJoin, ReleasedGrows, ReleasedIsWritten};
+ghost use Rattle.age_stream.specs.Laws.{SealedGrows, SealingsDiffer, ClearIsSealable, RestIsAuthentic};
+ghost use Rattle.age_stream.specs.Laws.{PayloadRoundTrip, UndamagedIsAuthentic, WholeIsAuthentic};
+ghost use Rattle.age_stream.specs.Laws.{LengthsAreOne, ChunksAreOne, SealsChunks};
 
 /// No two chunks of a payload have the same nonce.
 pub fn nonces_differ()

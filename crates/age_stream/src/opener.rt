@@ -1,6 +1,6 @@
 //! The reader's side: sealed chunks in, text out.
-ghost use Rattle.std.specs.Prelude.{◌≡◌, ◌≢◌, ◌+◌, ◌-◌, ◌<◌, ◌≤◌, [], ◌++◌, length, take, IfOk, OnOk, Some, None, true};
-ghost use Rattle.std.specs.Prelude.{false, if◌then◌else◌, nat_lt, ◌==◌, ◌&&◌};
+ghost use Rattle.std.specs.Prelude.{◌≡◌, ◌≢◌, ◌+◌, ◌-◌, ◌<◌, ◌≤◌, [], ◌++◌, length, take, IfOk, OnOk, Some};
+ghost use Rattle.std.specs.Prelude.{None, true, false, if◌then◌else◌, nat_lt, ◌==◌, ◌&&◌};
 ghost use Rattle.std.specs.Bool.{OnTrue, OnFalse};
 ghost use Rattle.std.specs.Borrow.{sem};
 ghost use Rattle.std.specs.Io.BufRead.{Rests};
@@ -33,9 +33,9 @@ struct OpenerState<'k, B: ChunkBox, const SEALED: usize> {
 
 impl<'k, B: ChunkBox, const SEALED: usize> OpenerState<'k, B, SEALED> {
     ghost use Rattle.age_stream.specs.Segment.{failed};
-    ghost use Rattle.age_stream.specs.inner.OpenerSteps.{final_block, one_block, IsTried, TakesPart, TakesWhole};
-    ghost use Rattle.age_stream.specs.inner.OpenerSteps.{TakesNone, OpenerAdvances, OpenerCloses, OpenerEndsAs};
-    ghost use Rattle.age_stream.specs.inner.OpenerSteps.{EndsNone};
+    ghost use Rattle.age_stream.specs.inner.OpenerSteps.{final_block, one_block, IsTried, TakesPart};
+    ghost use Rattle.age_stream.specs.inner.OpenerSteps.{TakesWhole, TakesNone, OpenerAdvances, OpenerCloses};
+    ghost use Rattle.age_stream.specs.inner.OpenerSteps.{OpenerEndsAs, EndsNone};
     ghost use Rattle.age_stream.specs.Opener.{held_bytes};
 
     /// Empties the buffer of a text that was lent.

@@ -1,9 +1,10 @@
 -- What the definitions say of the texts of the table of headers: the length of the header in front,
 -- or the fault's number and line.
 use Rattle.age_vectors.specs.Header.{Accepts, RefusesHeader}
-use Rattle.age_vectors.specs.declared.header.TheConstants.{SMALLEST, SMALLEST_AND_ONE, FULL_LINE, LAST_BYTE_ONE, CR_LF}
-use Rattle.age_vectors.specs.declared.header.TheConstants.{ARMOR, ARMOR_CR, TWO_SPACES, SPACE_AT_END, HIGH_BYTE, NUL}
-use Rattle.age_vectors.specs.declared.header.TheConstants.{NO_EMPTY_LINE, TRAILING_BIT, NO_STANZA}
+use Rattle.age_vectors.specs.declared.header.TheConstants.{SMALLEST, SMALLEST_AND_ONE, FULL_LINE}
+use Rattle.age_vectors.specs.declared.header.TheConstants.{LAST_BYTE_ONE, CR_LF, ARMOR, ARMOR_CR, TWO_SPACES}
+use Rattle.age_vectors.specs.declared.header.TheConstants.{SPACE_AT_END, HIGH_BYTE, NUL, NO_EMPTY_LINE}
+use Rattle.age_vectors.specs.declared.header.TheConstants.{TRAILING_BIT, NO_STANZA}
 
 pub record AcceptedRows : Type 0 where
   pub smallest : Accepts SMALLEST.now 76

@@ -8,7 +8,8 @@ use Rattle.std.proofs.lemmas.Slice.Eq.{bytes_eq-Decides}
 use Rattle.std.proofs.lemmas.List.{length-append, drop_at, take_at, take-append-drop}
 use Rattle.std.proofs.lemmas.Bool.{le-leb, and_parts}
 use Rattle.std.proofs.lemmas.Option.{cond_some}
-use Rattle.age_chunk.specs.ChunkBoxes.{IsChunkBox, tag_length, text_length, clear_mark, clear_sealing, clear_opening}
+use Rattle.age_chunk.specs.ChunkBoxes.{IsChunkBox, tag_length, text_length, clear_mark, clear_sealing}
+use Rattle.age_chunk.specs.ChunkBoxes.{clear_opening}
 
 mark_length : (nonce : List ℕ) → length nonce ≡ 12 → length (clear_mark nonce) ≡ tag_length
 mark_length nonce h =

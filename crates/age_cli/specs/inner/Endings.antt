@@ -1,6 +1,6 @@
 -- How a part of the program ended. What only private code cites.
-use Rattle.std.specs.Prelude.{◌≡◌, ◌≢◌, ◌⊎◌, ℕ, ◌++◌, ◌∷◌, [], true, false, Bool, List, Option}
-use Rattle.std.specs.Prelude.{Some, None, Result, Ok, Err, IsOk, OnOk, IfErr, IsErrAnd, IsSomeAnd, length, ◌<◌, ◌*◌}
+use Rattle.std.specs.Prelude.{◌≡◌, ◌≢◌, ◌⊎◌, ℕ, ◌++◌, ◌∷◌, [], true, false, Bool, List, Option, Some, None}
+use Rattle.std.specs.Prelude.{Result, Ok, Err, IsOk, OnOk, IfErr, IsErrAnd, IsSomeAnd, length, ◌<◌, ◌*◌}
 use Rattle.clap.specs.Words.{Text}
 use Rattle.clap.specs.declared.error.kind.ErrorKind.{ErrorKind}
 use Rattle.clap.specs.declared.error.kind.ErrorKind.TheVariants.{DisplayHelp, DisplayVersion}

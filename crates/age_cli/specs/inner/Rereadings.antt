@@ -27,7 +27,7 @@ use Rattle.age_cli.specs.inner.Endings.{Concludes, IsCertain, opening_end}
 -- position, whatever old text it has
 abbrev pub IsFoundIn : Option Position → Option (List ℕ) → List ℕ → ℕ → Position → Type 0
 IsFoundIn from bytes key written p = (old : SourceView) × (new : SourceView)
-    × (old.remaining.left ≡ bytes) × ((copied : List ℕ) → IsTextBefore from copied
+    × (old.supply.left ≡ bytes) × ((copied : List ℕ) → IsTextBefore from copied
     → IsFoundAgain (λ _ k. k ≡ key) from copied old new written p)
 
 -- a stop, had positions been kept
@@ -87,7 +87,7 @@ key_of other = None
 -- IN is there, and is what the source gives; OUT is another file, and its sink took nothing
 pub record HoldsInput (d : Decrypting) (before : Ports) (old : FilesView) : Type 0 where
   pub there : is_some (old.entries d.from.now) ≡ true
-  pub gives : before.source.remaining.left ≡ old.entries d.from.now
+  pub gives : before.source.supply.left ≡ old.entries d.from.now
   pub other : d.from.now ≢ before.sink.label
   pub empty : before.sink.taken.contents ≡ Some []
 
@@ -95,7 +95,8 @@ pub record HoldsInput (d : Decrypting) (before : Ports) (old : FilesView) : Type
 -- the position that is saved, if contracts see the files and IN and OUT are two of them.
 pub record DecryptsOpened (IsPorts : Ports → Type 0) (shows : Bool) (d : Decrypting)
     (identity : Identity) (before : Ports) (old new : FilesView) (Unshown : Type 0)
-    (Progress : Option (List ℕ) → Result (Unit {0}) Ending → Type 0) (result : Result (Unit {0}) Ending) : Type 0 where
+    (Progress : Option (List ℕ) → Result (Unit {0}) Ending → Type 0)
+    (result : Result (Unit {0}) Ending) : Type 0 where
   pub after : Ports
   pub after_is : IsPorts after
   pub decrypted : Result Done Stopped
@@ -109,7 +110,7 @@ pub record DecryptsOpened (IsPorts : Ports → Type 0) (shows : Bool) (d : Decry
       old new result
   pub silent : d.progress ≡ Silent → Unshown
   pub shown : d.progress ≡ Shown → (input : Option (List ℕ))
-      → (shows ≡ true → before.source.remaining.left ≡ input) → Progress input result
+      → (shows ≡ true → before.source.supply.left ≡ input) → Progress input result
 
 -- The same of what was opened and resumed from a position, after the old text of a source.
 pub record ResumesOpened (IsPorts : Ports → Type 0) (shows : Bool) (d : Decrypting)
@@ -133,4 +134,4 @@ pub record ResumesOpened (IsPorts : Ports → Type 0) (shows : Bool) (d : Decryp
       old new result
   pub silent : d.progress ≡ Silent → Unshown
   pub shown : d.progress ≡ Shown → (input : Option (List ℕ))
-      → (shows ≡ true → before.source.remaining.left ≡ input) → Progress input result
+      → (shows ≡ true → before.source.supply.left ≡ input) → Progress input result

@@ -16,10 +16,11 @@ use Rattle.age_keys.specs.Keys.{Opens}
 use Rattle.age_io.specs.Io.{SourceView}
 use Rattle.age_fault.specs.Faults.{HasFailed}
 use Rattle.age_fault.specs.declared.fault.FileFault.{FileFault}
-use Rattle.age_fault.specs.declared.fault.FileFault.TheVariants.{NonceCut, Read, ReadNeverEnds, Stream, ShortText}
-use Rattle.age_fault.specs.declared.fault.FileFault.TheVariants.{Write, OldTextDiffers}
+use Rattle.age_fault.specs.declared.fault.FileFault.TheVariants.{NonceCut, Read, ReadNeverEnds, Stream}
+use Rattle.age_fault.specs.declared.fault.FileFault.TheVariants.{ShortText, Write, OldTextDiffers}
 use Rattle.age_file.specs.Bindings.{file_id, chain}
-use Rattle.age_file.specs.inner.Readers.{Start, start_at, ReaderView, Pulled, PullFails, reader_view, WriterView}
+use Rattle.age_file.specs.inner.Readers.{Start, start_at, ReaderView, Pulled, PullFails, reader_view}
+use Rattle.age_file.specs.inner.Readers.{WriterView}
 use Rattle.age_file.specs.Runs.{pull_room}
 use Rattle.age_file.specs.inner.Bindings.{link_if, chain_if}
 use Rattle.age_file.specs.inner.Unread.{Unread}
@@ -34,14 +35,14 @@ use Rattle.age_file.specs.declared.tally.Tally.{Tally}
 -- bytes of the intake were used, after those that were used before
 abbrev pub Uses : ReaderView → ReaderView → List ℕ → Type 0
 Uses old new bytes = (start : Start) (used : List ℕ)
-    → Pulled start old.source.remaining old.unread.pulls (used ++ old.unread.bytes)
-    → Pulled start new.source.remaining new.unread.pulls (used ++ (bytes ++ new.unread.bytes))
+    → Pulled start old.source.supply old.unread.pulls (used ++ old.unread.bytes)
+    → Pulled start new.source.supply new.unread.pulls (used ++ (bytes ++ new.unread.bytes))
 
 -- some byte is there, or the source is at its end
 abbrev pub SomeAnswers : ReaderView → ReaderView → Result Bool FileFault → Type 0
 SomeAnswers old new (Ok true) = (0 < length new.unread.bytes)
     × (new.source.failed ≡ old.source.failed) × (length new.unread.bytes ≤ pull_room)
-SomeAnswers old new (Ok false) = (new.unread.bytes ≡ []) × IsAtEnd new.source.remaining
+SomeAnswers old new (Ok false) = (new.unread.bytes ≡ []) × IsAtEnd new.source.supply
     × (new.source.failed ≡ old.source.failed)
 SomeAnswers old new (Err fault) = (new.unread.bytes ≡ []) × PullFails old new fault
 
@@ -51,7 +52,7 @@ UsesShort old new = (short : List ℕ) × (length short < 16) × Uses old new sh
     × (new.unread.bytes ≡ [])
 
 abbrev pub NonceFails : ReaderView → ReaderView → FileFault → Type 0
-NonceFails old new NonceCut = UsesShort old new × IsAtEnd new.source.remaining
+NonceFails old new NonceCut = UsesShort old new × IsAtEnd new.source.supply
 NonceFails old new Read = UsesShort old new
     × HasFailed old.source.failed new.source.failed new.source.failing
 NonceFails old new ReadNeverEnds = UsesShort old new × (new.unread.pulls ≡ 2 ^ 63)
@@ -81,7 +82,7 @@ pub record StartsAt (Allows : Header → List ℕ → Type 0) (old : SourceView)
   pub size : length unlocked.nonce ≡ 16
   pub id : unlocked.id ≡ file_id front unlocked.nonce
   pub few : length new.unread.bytes ≤ pull_room
-  pub pulled : Pulled (start_at old.remaining) new.source.remaining new.unread.pulls
+  pub pulled : Pulled (start_at old.supply) new.source.supply new.unread.pulls
       ((front ++ unlocked.nonce) ++ new.unread.bytes)
   pub unfailed : new.source.failed ≡ old.failed
 
@@ -102,7 +103,7 @@ pub record Dries (old new : ReaderView) (bytes : List ℕ) (fault : FileFault) :
 abbrev pub SkipsBlock : ℕ → ReaderView → ReaderView → Result Bool FileFault → Type 0
 SkipsBlock n old new (Ok true) = (bytes : List ℕ) × (length bytes ≡ n) × Passes old new bytes
 SkipsBlock n old new (Ok false) = (bytes : List ℕ) × (length bytes < n) × Passes old new bytes
-    × (new.unread.bytes ≡ []) × IsAtEnd new.source.remaining
+    × (new.unread.bytes ≡ []) × IsAtEnd new.source.supply
 SkipsBlock n old new (Err fault) = (bytes : List ℕ) × (length bytes < n)
     × Dries old new bytes fault
 
@@ -113,7 +114,7 @@ pub record EndsAfter (n j : ℕ) (old new : ReaderView) : Type 0 where
   pub most : length bytes < j * n + n
   pub passes : Passes old new bytes
   pub used : new.unread.bytes ≡ []
-  pub at_end : IsAtEnd new.source.remaining
+  pub at_end : IsAtEnd new.source.supply
 
 abbrev pub SkipFails : ℕ → ℕ → ReaderView → ReaderView → FileFault → Type 0
 SkipFails n blocks old new (Stream fault) = (fault.kind ≡ Truncated) × (fault.chunk < blocks)
@@ -146,7 +147,7 @@ pub record CanCopy (t : Tally) : Type 0 where
 abbrev pub FailsInCopy : ReaderView → ReaderView → WriterView → WriterView → List ℕ → FileFault
     → Type 0
 FailsInCopy old new was now out ShortText = Passes old new out × (new.unread.bytes ≡ [])
-    × IsAtEnd new.source.remaining × (now.sink.failed ≡ was.sink.failed)
+    × IsAtEnd new.source.supply × (now.sink.failed ≡ was.sink.failed)
 FailsInCopy old new was now out Write = (used : List ℕ) × Passes old new used
     × IsPrefixOf out (used ++ new.unread.bytes)
     × HasFailed was.sink.failed now.sink.failed now.sink.failing × (length used ≤ length out)

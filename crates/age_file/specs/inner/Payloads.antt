@@ -83,9 +83,9 @@ module _ (opening : List ℕ → List ℕ → Option (List ℕ)) (n : ℕ) where
     pub fresh : List ℕ
     pub parts : old.reader.unread.bytes ++ fresh ≡ bytes
     pub pulled : (from : Start) (all : List ℕ)
-        → Pulled from old.reader.source.remaining old.reader.unread.pulls all
-        → Pulled from new.reader.source.remaining new.reader.unread.pulls (all ++ fresh)
-    pub at_end : ended ≡ true → IsAtEnd new.reader.source.remaining
+        → Pulled from old.reader.source.supply old.reader.unread.pulls all
+        → Pulled from new.reader.source.supply new.reader.unread.pulls (all ++ fresh)
+    pub at_end : ended ≡ true → IsAtEnd new.reader.source.supply
     pub wrote : Appends old.writer.sink.taken new.writer.sink.taken out
     pub named : new.writer.sink.label ≡ old.writer.sink.label
     pub count : new.writer.tally.written ≡ old.writer.tally.written + length out

@@ -109,7 +109,7 @@ Refilled old new (Ok true) = (0 < length new.unread.bytes) × (length new.unread
     × (new.unread.pulls ≤ 2 ^ 63) × (new.unread.pulls ≡ old.unread.pulls + 1)
     × (new.source.failed ≡ old.source.failed)
 Refilled old new (Ok false) = (new.unread.bytes ≡ []) × (new.unread.pulls ≡ old.unread.pulls)
-    × IsAtEnd new.source.remaining × (new.source.failed ≡ old.source.failed)
+    × IsAtEnd new.source.supply × (new.source.failed ≡ old.source.failed)
 Refilled old new (Err fault) = (new.unread.bytes ≡ []) × (new.unread.pulls ≡ old.unread.pulls)
     × PullFails old new fault
 
@@ -117,8 +117,8 @@ Refilled old new (Err fault) = (new.unread.bytes ≡ []) × (new.unread.pulls �
 pub record Refills (old new : ReaderView) (result : Result Bool FileFault) : Type 0 where
   pub answered : Refilled old new result
   pub pulled : (start : Start) (bytes : List ℕ)
-      → Pulled start old.source.remaining old.unread.pulls bytes
-      → Pulled start new.source.remaining new.unread.pulls (bytes ++ new.unread.bytes)
+      → Pulled start old.source.supply old.unread.pulls bytes
+      → Pulled start new.source.supply new.unread.pulls (bytes ++ new.unread.bytes)
 
 -- a header was read, and what follows it is in the intake: it came with the last pull
 pub record ReadsHead (old : SourceView) (new : ReaderView) (head : Head) : Type 0 where
@@ -127,26 +127,26 @@ pub record ReadsHead (old : SourceView) (new : ReaderView) (head : Head) : Type 
   pub len_is : head.len ≡ length front
   pub hashed : Holds256 head.digest front
   pub few : length new.unread.bytes ≤ pull_room
-  pub pulled : Pulled (start_at old.remaining) new.source.remaining new.unread.pulls
+  pub pulled : Pulled (start_at old.supply) new.source.supply new.unread.pulls
       (front ++ new.unread.bytes)
-  pub last : StopsAtHeader old.remaining new.source.remaining
+  pub last : StopsAtHeader old.supply new.source.supply
   pub unfailed : new.source.failed ≡ old.failed
 
 -- the rest of a source was read to its end: this many bytes, those in the intake among them
 pub record CountsRest (old new : ReaderView) (count : ℕ) : Type 0 where
   pub counts : (start : Start) (used : List ℕ)
-      → Pulled start old.source.remaining old.unread.pulls (used ++ old.unread.bytes)
+      → Pulled start old.source.supply old.unread.pulls (used ++ old.unread.bytes)
       → (rest : List ℕ) × (count ≡ length rest)
-      × Consumes start.source new.source.remaining (used ++ rest)
-  pub at_end : IsAtEnd new.source.remaining
+      × Consumes start.source new.source.supply (used ++ rest)
+  pub at_end : IsAtEnd new.source.supply
   pub small : count ≤ pull_room * (2 ^ 63 + 1)
   pub unfailed : new.source.failed ≡ old.source.failed
 
 -- the rest could not be read: some bytes came after those that were there, and then no more
 pub record RestFails (old new : ReaderView) (fault : FileFault) : Type 0 where
   pub more : (start : Start) (used : List ℕ)
-      → Pulled start old.source.remaining old.unread.pulls (used ++ old.unread.bytes)
-      → (rest : List ℕ) × Pulled start new.source.remaining new.unread.pulls (used ++ rest)
+      → Pulled start old.source.supply old.unread.pulls (used ++ old.unread.bytes)
+      → (rest : List ℕ) × Pulled start new.source.supply new.unread.pulls (used ++ rest)
   pub why : PullFails old new fault
 
 -- ---- A header's text that is being read.

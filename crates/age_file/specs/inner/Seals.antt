@@ -151,7 +151,7 @@ module _ {B : Type 0} (sealing : B → List ℕ → List ℕ → List ℕ) (n : 
 -- this much was read from a source, and this much written
 pub record ReadsWrites (old new : Ports) (written_old written_new : ℕ) (text out : List ℕ)
     : Type 0 where
-  pub read : Consumes old.source.remaining new.source.remaining text
+  pub read : Consumes old.source.supply new.source.supply text
   pub wrote : Appends old.sink.taken new.sink.taken out
   pub count : written_new ≡ written_old + length out
   pub small : length text ≤ 2 ^ 80
@@ -173,7 +173,7 @@ module _ (sealing : List ℕ → List ℕ → List ℕ) (n : ℕ) where
     pub text : List ℕ
     pub few : chunk_count n text ≤ chunk_limit
     pub moved : ReadsWrites old new written_old written_new text (payload sealing n text)
-    pub at_end : IsAtEnd new.source.remaining
+    pub at_end : IsAtEnd new.source.supply
     pub plain_is : plain ≡ length text
     pub none_failed : NoneFailed old new
 

@@ -15,8 +15,8 @@ use Rattle.age_stanza.specs.Parsing.{line_after, HasHeader, IsFault}
 use Rattle.age_stanza.specs.Text.{base64_text}
 use Rattle.age_stanza.specs.declared.fault.HeadFault.{HeadFault}
 use Rattle.age_stanza.specs.declared.fault.HeadKind.{HeadKind}
-use Rattle.age_stanza.specs.declared.fault.HeadKind.TheVariants.{NotAge, Armored, BadStanzaLine, BadBody, BadEndLine}
-use Rattle.age_stanza.specs.declared.fault.HeadKind.TheVariants.{NoStanza, Memory}
+use Rattle.age_stanza.specs.declared.fault.HeadKind.TheVariants.{NotAge, Armored, BadStanzaLine, BadBody}
+use Rattle.age_stanza.specs.declared.fault.HeadKind.TheVariants.{BadEndLine, NoStanza, Memory}
 use Rattle.age_stanza.specs.declared.head_step.HeadStep.{HeadStep}
 use Rattle.age_stanza.specs.declared.head_step.HeadStep.TheVariants.{More, Ready}
 use Rattle.age_stanza.specs.declared.header.Header.{Header}

@@ -7,8 +7,8 @@ use Rattle.age_chunk.specs.Payload.{nonce_bytes}
 use Rattle.age_chunk.specs.ChunkBoxes.{tag_length, Seals, OpensBlock, text_length}
 use Rattle.age_chunk.specs.declared.fault.StreamFault.{StreamFault}
 use Rattle.age_chunk.specs.declared.fault.StreamKind.{StreamKind}
-use Rattle.age_chunk.specs.declared.fault.StreamKind.TheVariants.{ChunkDamaged, ChunkCut, EmptyLast, Truncated}
-use Rattle.age_chunk.specs.declared.fault.StreamKind.TheVariants.{Trailing, TooManyChunks}
+use Rattle.age_chunk.specs.declared.fault.StreamKind.TheVariants.{ChunkDamaged, ChunkCut, EmptyLast}
+use Rattle.age_chunk.specs.declared.fault.StreamKind.TheVariants.{Truncated, Trailing, TooManyChunks}
 use Rattle.age_stream.specs.Segment.{Outcome, failed, first_line, text_before_last, Segment}
 use Rattle.age_stream.specs.Segment.{outcome, released, with_piece, with_end}
 use Rattle.age_stream.specs.Headline.{ReleasesWritten}

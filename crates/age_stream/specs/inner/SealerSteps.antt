@@ -1,8 +1,9 @@
 -- What each step of a sealer does. Private: no public contract cites this module.
-use Rattle.std.specs.Prelude.{◌≡◌, ℕ, ◌+◌, ◌≤◌, ◌<◌, List, [], ◌++◌, length, take, Bool, true, false, Option, Some}
-use Rattle.std.specs.Prelude.{None, MatchOption, if◌then◌else◌, Result, IfOk, OnOk, IfErr, OnErr}
+use Rattle.std.specs.Prelude.{◌≡◌, ℕ, ◌+◌, ◌≤◌, ◌<◌, List, [], ◌++◌, length, take, Bool, true, false, Option}
+use Rattle.std.specs.Prelude.{Some, None, MatchOption, if◌then◌else◌, Result, IfOk, OnOk, IfErr, OnErr}
 use Rattle.age_chunk.specs.ChunkBoxes.{Seals, text_length}
-use Rattle.age_chunk.specs.Payload.{nonce_bytes, sealed_before_last, block_bytes, chunk_limit, chunk_count, payload}
+use Rattle.age_chunk.specs.Payload.{nonce_bytes, sealed_before_last, block_bytes, chunk_limit, chunk_count}
+use Rattle.age_chunk.specs.Payload.{payload}
 use Rattle.age_chunk.specs.declared.fault.StreamFault.{StreamFault}
 use Rattle.age_stream.specs.Sealer.{SealerView, Holds, held_text, sealer_view, step_len}
 use Rattle.age_stream.specs.Sealer.{needs_too_many, too_many, IsRefused, SealRefuses}

@@ -85,7 +85,7 @@ returns-clause-acts g c =
           shown_once _ _ _ _ _ c.conclude.result
           (run_of _ _ _ _ _ _ (λ shown. (both.opened shown).0.1 ∙ ap (λ (f : Files). f a.from.now) judged.kept) (run.ensures.shown asked))
           (at_end_of _ c.sealing_end.result c.conclude.result _
-          (subst (λ (e : Result (Unit {0}) Interruption). OnOk e (IsAtEnd (In run.result.source).remaining)) (sym c.sealing_end.ensures)
+          (subst (λ (e : Result (Unit {0}) Interruption). OnOk e (IsAtEnd (In run.result.source).supply)) (sym c.sealing_end.ensures)
           (sealing_at_end c.in_ok-secret.secret before after run.result.end run.ensures.done))
           c.conclude.ensures.concludes.done),
     )

@@ -8,7 +8,7 @@ returns-in-Shown-clause-shown g c =
     let In = g.F.In.Source.view in
     inr (
       _,
-      (In run.new.source.source).remaining,
-      shows_run g.P.Meter.shown _ _ _ (In run.new.source.source).remaining _ _ c.begin_meter.new.meter run.new.source.meter.now _
+      (In run.new.source.source).supply,
+      shows_run g.P.Meter.shown _ _ _ (In run.new.source.source).supply _ _ c.begin_meter.new.meter run.new.source.meter.now _
           run.new.source.meter.ghost_name c.begin_meter.ensures run.ensures.metered c.progress-1.given.1 c.end_meter.ensures,
     )

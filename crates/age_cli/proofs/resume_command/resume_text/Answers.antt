@@ -9,5 +9,5 @@ pub returns-in-Shown-clause-shown : goal.returns-in-Shown-clause-shown
 returns-in-Shown-clause-shown g c asked =
     let run = c.resume_keyed-end-in-Shown in
     let In = g.F.In.Source.view in
-    shows_run g.P.Meter.shown _ _ (In c.args.source).remaining (In run.new.reader.source).remaining _ _ c.begin_meter.new.meter run.new.reader.meter.now _
+    shows_run g.P.Meter.shown _ _ (In c.args.source).supply (In run.new.reader.source).supply _ _ c.begin_meter.new.meter run.new.reader.meter.now _
     run.new.reader.meter.ghost_name c.begin_meter.ensures run.ensures.metered c.progress-1.given.1 c.end_meter.ensures

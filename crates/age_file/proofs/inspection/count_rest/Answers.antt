@@ -9,7 +9,7 @@ pub returns-clause-counts : goal.returns-clause-counts
 returns-clause-counts g c =
     let kept = c.pulls.invariant in
     let r = rw c.if-branch.false at c.in_ok-refill.ensures.refills.answered in
-    let now = (g.S.Source.view c.refill.new.source).remaining in
+    let now = (g.S.Source.view c.refill.new.source).supply in
     record {
       counts = λ start used h. (
         kept.passed,
@@ -57,7 +57,7 @@ returns-in_err-refill-clause-fails g c =
     let fails : RestFails old new c.in_err-refill.field-0.0 = record {
       more = λ start used h. (
         kept.passed,
-        cut_pulled start source.remaining c.refill.new.self.pulls (used ++ kept.passed)
+        cut_pulled start source.supply c.refill.new.self.pulls (used ++ kept.passed)
             c.refill.new.self.bytes a.0
             (c.refill.ensures.refills.pulled start (used ++ kept.passed) (kept.pulled start used h)),
       );

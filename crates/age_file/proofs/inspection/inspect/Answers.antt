@@ -15,8 +15,8 @@ use Rattle.age_file.proofs.inspection.inspect.Goals as goal
 
 -- no more came of a source, whose bytes so far are sound
 no_more : (first : SourceView) (was : Unread) (now : ReaderView) (fault : FileFault)
-    (bytes : List ℕ) → NoHeadFault first.remaining now.source.remaining
-    → Pulled (start_at first.remaining) now.source.remaining now.unread.pulls bytes
+    (bytes : List ℕ) → NoHeadFault first.supply now.source.supply
+    → Pulled (start_at first.supply) now.source.supply now.unread.pulls bytes
     → PullFails (reader_view first was) now fault
     → HeadFails NoHeadFault first now.source fault
 no_more first was now Read bytes sound all why = (sound, why)
@@ -37,11 +37,11 @@ no_more first was now other bytes sound all why = absurd why
 rest_to_head : (first : SourceView) (mid now : ReaderView) (header : Header) (front : List ℕ)
     (fault : FileFault) → HeadText header front
     → mid.source.failed ≡ first.failed
-    → Pulled (start_at first.remaining) mid.source.remaining mid.unread.pulls (front ++ mid.unread.bytes)
+    → Pulled (start_at first.supply) mid.source.supply mid.unread.pulls (front ++ mid.unread.bytes)
     → RestFails mid now fault → HeadFails NoHeadFault first now.source fault
 rest_to_head first mid now header front fault text same h f =
-    let more = f.more (start_at first.remaining) front h in
-    let sound : NoHeadFault first.remaining now.source.remaining =
+    let more = f.more (start_at first.supply) front h in
+    let sound : NoHeadFault first.supply now.source.supply =
     (front ++ more.0, more.1.consumed, inr (header, front, more.0, text, refl)) in
     no_more first mid.unread now fault (front ++ more.0) sound more.1
     (pull_fails_since (reader_view first mid.unread) mid now fault same f.why)
@@ -49,7 +49,7 @@ rest_to_head first mid now header front fault text same h f =
 pub returns-in_err-intake-clause-fails : goal.returns-in_err-intake-clause-fails
 returns-in_err-intake-clause-fails g c =
     let p = err_from_is_err_and c.from_residual.result c.from_residual.ensures.1 in
-    rw (p.1, p.2) (stops_unread (g.S.Source.view c.args.source.now).remaining)
+    rw (p.1, p.2) (stops_unread (g.S.Source.view c.args.source.now).supply)
 
 pub returns-in_err-head-clause-fails : goal.returns-in_err-head-clause-fails
 returns-in_err-head-clause-fails g c =
@@ -69,7 +69,7 @@ returns-in_err-stanzas-clause-fails g c =
     let p = err_from_is_err_and c.from_residual-in_err-stanzas.result
     c.from_residual-in_err-stanzas.ensures.1 in
     let first = g.S.Source.view c.args.source.now in
-    rw (p.1, p.2) (read_last g.S.Source.view (λ v. StopsAtHeader first.remaining v.remaining) _
+    rw (p.1, p.2) (read_last g.S.Source.view (λ v. StopsAtHeader first.supply v.supply) _
     c.read_head.new.reader.source.now (search rules)
     c.in_ok-head.ensures.found.last)
 
@@ -99,13 +99,13 @@ pub returns-clause-ok : goal.returns-clause-ok
 returns-clause-ok g c =
     let head = c.in_ok-head.ensures.found in
     let first = g.S.Source.view c.args.source.now in
-    let counted = c.in_ok-rest.ensures.counts.counts (start_at first.remaining) head.front head.pulled in
+    let counted = c.in_ok-rest.ensures.counts.counts (start_at first.supply) head.front head.pulled in
     let reports = rw c.in_ok-stanzas.was at c.reports_of.ensures in (
       head.front ++ counted.0,
-      read_last g.S.Source.view (λ v. Consumes first.remaining v.remaining
+      read_last g.S.Source.view (λ v. Consumes first.supply v.supply
           (head.front ++ counted.0)) _ c.count_rest.new.reader.source.now (search rules)
           counted.2,
-      read_last g.S.Source.view (λ v. IsAtEnd v.remaining) _ c.count_rest.new.reader.source.now
+      read_last g.S.Source.view (λ v. IsAtEnd v.supply) _ c.count_rest.new.reader.source.now
           (search rules) c.in_ok-rest.ensures.counts.at_end,
       record {
         h = c.in_ok-head.head.header;

@@ -10,7 +10,7 @@ use Rattle.age_file.proofs.inspection.inspect_sized.Goals as goal
 pub returns-in_err-intake-clause-fails : goal.returns-in_err-intake-clause-fails
 returns-in_err-intake-clause-fails g c =
     let p = err_from_is_err_and c.from_residual.result c.from_residual.ensures.1 in
-    rw (p.1, p.2) (stops_unread (g.S.Source.view c.args.source.now).remaining)
+    rw (p.1, p.2) (stops_unread (g.S.Source.view c.args.source.now).supply)
 
 pub returns-in_err-head-clause-fails : goal.returns-in_err-head-clause-fails
 returns-in_err-head-clause-fails g c =
@@ -27,7 +27,7 @@ returns-in_err-stanzas-clause-fails g c =
     let p = err_from_is_err_and c.from_residual-in_err-stanzas.result
     c.from_residual-in_err-stanzas.ensures.1 in
     let first = g.S.Source.view c.args.source.now in
-    rw (p.1, p.2) (read_last g.S.Source.view (λ v. StopsAtHeader first.remaining v.remaining) _
+    rw (p.1, p.2) (read_last g.S.Source.view (λ v. StopsAtHeader first.supply v.supply) _
     c.read_head.new.reader.source.now (search rules)
     c.in_ok-head.ensures.found.last)
 
@@ -47,7 +47,7 @@ returns-clause-ok g c =
       front = head.front;
       more = c.read_head.new.reader.intake.now.bytes;
       text = head.text;
-      read = read_last g.S.Source.view (λ v. Consumes first.remaining v.remaining
+      read = read_last g.S.Source.view (λ v. Consumes first.supply v.supply
           (head.front ++ c.read_head.new.reader.intake.now.bytes)) _ c.read_head.new.reader.source.now
           (search rules) head.pulled.consumed;
       few = head.few;

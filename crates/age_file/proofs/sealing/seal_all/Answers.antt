@@ -122,7 +122,7 @@ returns-in_err-seal_piece-clause-sealed g c =
     let new = ports (g.S.Source.view c.refill.new.source)
     (g.O.Sink.view c.seal_piece.new.writer.sink.now) in
     let all = rw (← c.bytes.ensures.bytes)
-    at (r.pulled (start_at old.source.remaining) kept.text kept.pulled) in
+    at (r.pulled (start_at old.source.supply) kept.text kept.pulled) in
     let unwritten = piece_cut seals n c.new-sealer.result c.pulls.sealer c.seal_piece.new.sealer was
     mid now kept.text piece s.fed s.left s.unwritten
     kept.goes kept.fresh kept.wrote s.some positive in
@@ -163,7 +163,7 @@ pulls-preserved g c =
     let mid = view_of_writer g.O.Sink.view c.pulls.writer in
     let now = view_of_writer g.O.Sink.view c.seal_piece.new.writer in
     let all = rw (← c.bytes.ensures.bytes)
-    at (r.pulled (start_at (g.S.Source.view c.args.reader.now.source.now).remaining) kept.text
+    at (r.pulled (start_at (g.S.Source.view c.args.reader.now.source.now).supply) kept.text
     kept.pulled) in
     let done = piece_done seals n c.new-sealer.result c.pulls.sealer c.seal_piece.new.sealer was mid
     now kept.text piece s.fed s.left s.unwritten kept.goes
@@ -175,8 +175,8 @@ pulls-preserved g c =
       metered = λ from began. c.in_ok-refill.ensures.metered from (kept.metered from began);
       same_writer = c.in_ok-seal_piece.ensures.same_writer ∙ kept.same_writer;
       text = kept.text ++ piece;
-      pulled = subst (λ (k : ℕ). Pulled (start_at (g.S.Source.view c.args.reader.now.source.now).remaining)
-          (g.S.Source.view c.refill.new.source).remaining k
+      pulled = subst (λ (k : ℕ). Pulled (start_at (g.S.Source.view c.args.reader.now.source.now).supply)
+          (g.S.Source.view c.refill.new.source).supply k
           (kept.text ++ piece)) (sym c.use_all.ensures.pulls) all;
       unread = c.use_all.ensures.bytes;
       plain_is = omega (

@@ -15,8 +15,8 @@ invariant-pulls g l = record {
   metered : KeepsMeter g.S.Source.metered l.fn.reader l.reader;
   same_writer : SameWriter l.fn.writer l.writer;
   text : List ℕ;
-  pulled : Pulled (start_at (g.S.Source.view l.fn.reader.source.now).remaining)
-      (g.S.Source.view l.reader.source.now).remaining l.reader.intake.now.pulls text;
+  pulled : Pulled (start_at (g.S.Source.view l.fn.reader.source.now).supply)
+      (g.S.Source.view l.reader.source.now).supply l.reader.intake.now.pulls text;
   unread : l.reader.intake.now.bytes ≡ [];
   plain_is : l.plain ≡ length text;
   goes : GoesOn seals chunk_length l.initial.sealer l.sealer text;

@@ -13,9 +13,9 @@ returns-clause-fails g c =
     let new = g.S.Source.view c.refill.new.source in
     let r = rw c.if-branch.false at c.in_ok-refill.ensures.refills.answered in
     let cuts = rw kept.front.parser_is at c.end.ensures in
-    let all = cut_pulled (start_at old.remaining) new.remaining c.refill.new.self.pulls kept.held
+    let all = cut_pulled (start_at old.supply) new.supply c.refill.new.self.pulls kept.held
     c.refill.new.self.bytes r.0
-    (c.refill.ensures.refills.pulled (start_at old.remaining) kept.held kept.pulled) in
+    (c.refill.ensures.refills.pulled (start_at old.supply) kept.held kept.pulled) in
     let inside : EndsInHeader kept.held =
     record { no_header = cuts.2; no_fault = cuts.3; short = kept.front.inside.short } in
     rw c.from.ensures (end_fails old new kept.held c.end.result all.consumed r.2 (inside, cuts.0))
@@ -27,9 +27,9 @@ returns-in_err-refill-clause-fails g c =
     let old = g.S.Source.view c.args.reader.now.source.now in
     let new = g.S.Source.view c.refill.new.source in
     let a = c.in_err-refill.ensures.refills.answered in
-    let all = cut_pulled (start_at old.remaining) new.remaining c.refill.new.self.pulls kept.held
+    let all = cut_pulled (start_at old.supply) new.supply c.refill.new.self.pulls kept.held
     c.refill.new.self.bytes a.0
-    (c.refill.ensures.refills.pulled (start_at old.remaining) kept.held kept.pulled) in
+    (c.refill.ensures.refills.pulled (start_at old.supply) kept.held kept.pulled) in
     rw (p.1, p.2) (pull_fails old (g.S.Source.view c.pieces.reader.source.now) new
     c.pieces.reader.intake.now c.refill.new.self kept.held
     c.in_err-refill.field-0.0 kept.unfailed kept.front.inside all a.2)
@@ -45,8 +45,8 @@ returns-in_err-header-clause-fails g c =
     let old = g.S.Source.view c.args.reader.now.source.now in
     let new = g.S.Source.view c.refill.new.source in
     let r = rw c.if-branch.true at c.in_ok-refill.ensures.refills.answered in
-    let all = c.refill.ensures.refills.pulled (start_at old.remaining) kept.held kept.pulled in
-    let stops = stops_at old.remaining new.remaining kept.held c.refill.new.self.bytes r.1
+    let all = c.refill.ensures.refills.pulled (start_at old.supply) kept.held kept.pulled in
+    let stops = stops_at old.supply new.supply kept.held c.refill.new.self.bytes r.1
     kept.front.inside all.consumed in
     rw (p.1, p.2) (piece_fails old new kept.held c.refill.new.self.bytes c.in_err-header.field-0.0
     stops all.consumed
@@ -57,7 +57,7 @@ returns-in-Some-clause-found g c =
     let kept = c.pieces.invariant in
     let old = g.S.Source.view c.args.reader.now.source.now in
     let new = g.S.Source.view c.refill.new.source in
-    let all = c.refill.ensures.refills.pulled (start_at old.remaining) kept.held kept.pulled in
+    let all = c.refill.ensures.refills.pulled (start_at old.supply) kept.held kept.pulled in
     let ends = rw c.in-Some.is at (c.in_ok-header.ensures kept.held kept.front) in
     let r = rw c.if-branch.true at c.in_ok-refill.ensures.refills.answered in
     let bytes = c.refill.new.self.bytes in
@@ -67,9 +67,9 @@ returns-in-Some-clause-found g c =
       len_is = ends.len_is;
       hashed = ends.hashed;
       few = omega (arith, r.1, ap length ends.rest, length-drop ends.taken c.refill.new.self.bytes);
-      pulled = head_pulled (start_at old.remaining) new.remaining c.refill.new.self c.take.new.intake kept.held
+      pulled = head_pulled (start_at old.supply) new.supply c.refill.new.self c.take.new.intake kept.held
           bytes ends.taken ends.pulls refl ends.rest all;
-      last = stops_at old.remaining new.remaining kept.held bytes r.1 kept.front.inside
+      last = stops_at old.supply new.supply kept.held bytes r.1 kept.front.inside
           all.consumed;
       unfailed = r.4 ∙ kept.unfailed;
     }
@@ -85,7 +85,7 @@ pieces-preserved g c =
       metered = λ from began. c.in_ok-refill.ensures.metered from (kept.metered from began);
       held = kept.held ++ c.refill.new.self.bytes;
       front = goes.0;
-      pulled = rw goes.2 (c.refill.ensures.refills.pulled (start_at old.remaining) kept.held kept.pulled);
+      pulled = rw goes.2 (c.refill.ensures.refills.pulled (start_at old.supply) kept.held kept.pulled);
       unread = goes.1;
       unfailed = r.4 ∙ kept.unfailed;
     }

@@ -8,8 +8,8 @@ invariant-pieces g l = record {
   metered : KeepsMeter g.S.Source.metered l.fn.reader l.reader;
   held : List ℕ;
   front : IsFront l.self held;
-  pulled : Pulled (start_at (g.S.Source.view l.fn.reader.source.now).remaining)
-      (g.S.Source.view l.reader.source.now).remaining l.reader.intake.now.pulls held;
+  pulled : Pulled (start_at (g.S.Source.view l.fn.reader.source.now).supply)
+      (g.S.Source.view l.reader.source.now).supply l.reader.intake.now.pulls held;
   unread : l.reader.intake.now.bytes ≡ [];
   unfailed : (g.S.Source.view l.reader.source.now).failed
       ≡ (g.S.Source.view l.fn.reader.source.now).failed;

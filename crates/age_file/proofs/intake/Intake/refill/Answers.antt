@@ -20,8 +20,8 @@ goes_on start old new pulls now bytes piece read gave small most p = record {
 
 pub returns-in-Err-clause-refills : goal.returns-in-Err-clause-refills
 returns-in-Err-clause-refills g c =
-    let old = (g.S.Source.view c.args.source.now).remaining in
-    let new = (g.S.Source.view c.pull.new.self).remaining in
+    let old = (g.S.Source.view c.args.source.now).supply in
+    let new = (g.S.Source.view c.pull.new.self).supply in
     let pulls = c.self.inside.pulls in
     let same : pulls ≡ c.args.self.now.pulls = ap (λ v. v.pulls) c.self.view_is in
     let most : pulls ≤ 2 ^ 63 = omega (arith, c.self.invariant) in
@@ -34,8 +34,8 @@ returns-in-Err-clause-refills g c =
 
 pub returns-in-Ok-eq0-clause-refills : goal.returns-in-Ok-eq0-clause-refills
 returns-in-Ok-eq0-clause-refills g c =
-    let old = (g.S.Source.view c.args.source.now).remaining in
-    let new = (g.S.Source.view c.pull.new.self).remaining in
+    let old = (g.S.Source.view c.args.source.now).supply in
+    let new = (g.S.Source.view c.pull.new.self).supply in
     let pulls = c.self.inside.pulls in
     let same : pulls ≡ c.args.self.now.pulls = ap (λ v. v.pulls) c.self.view_is in
     let most : pulls ≤ 2 ^ 63 = omega (arith, c.self.invariant) in

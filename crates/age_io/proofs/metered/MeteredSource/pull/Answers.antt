@@ -4,7 +4,7 @@ use Rattle.age_io.proofs.metered.MeteredSource.pull.Goals as goal
 pub returns-clause-since : goal.returns-clause-since
 returns-clause-since g c from since = (
   since.0,
-  pulls_since from (g.S.Source.view c.args.self.now.source).remaining (g.S.Source.view c.pull.new.self).remaining
+  pulls_since from (g.S.Source.view c.args.self.now.source).supply (g.S.Source.view c.pull.new.self).supply
       (g.M.Meter.shown c.args.self.now.meter.now) (g.M.Meter.shown c.advance.new.self) c.in_ok-n.n c.pull.new.into
       c.in_ok-n.ensures.bound c.in_ok-n.ensures.bytes.0 c.advance.ensures.shown since.1,
 )
