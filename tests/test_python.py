@@ -52,8 +52,11 @@ with agefile.open("a", "wb", passphrase="pw") as out, zipfile.ZipFile(out, "w") 
     archive.writestr("name", b"text")
 with agefile.open("a", "wb", passphrase="pw") as out, tarfile.open(fileobj=out, mode="w|") as tar:
     tar.add("name")
-with agefile.open("a", passphrase="pw", random_access=True) as at:
-    size: int = at.size
+with agefile.open("a", "wb", recipient=["age1"]) as out, agefile.open("a", identity="AGE-SECRET-KEY-1") as file:
+    copied(file, out)
+work: int | None = agefile.inspect("a").work
+with agefile.open("a", passphrase="pw", random_access=True) as at, at.reopen(open("a", "rb")) as other:
+    size: int = at.size + other.size
     with zipfile.ZipFile(at) as archive:
         archive.read("name")
 """
@@ -363,104 +366,6 @@ class PythonTest(BindingsCase):
         run = self.slow_command((AGE / "one.age").read_bytes(), "shared", "keys", "-", size=100)
         self.see("shared", run.returncode == 0 and len(run.stdout) == 64, run.stderr)
 
-    def test_bech32(self):
-        """The test vectors of BIP 173."""
-        valid = (
-            "A12UEL5L", "a12uel5l", "an83characterlonghumanreadablepartthatcontainsthenumber1andtheexcludedcharactersbio1tt5tgs",
-            "abcdef1qpzry9x8gf2tvdw0s3jn54khce6mua7lmqqqxw",
-            "11qqqqqqqqqqqqqqqqqqqqqqqqqqqqqqqqqqqqqqqqqqqqqqqqqqqqqqqqqqqqqqqqqqqqqqqqqqqqqqqqqqc8247j",
-            "split1checkupstagehandshakeupstreamerranterredcaperred2y9e3w", "?1ezyfcl",
-        )
-        invalid = (
-            "\x201nwldj5", "\x7f1axkwrx", "\x801eym55h", "an84characterslonghumanreadablepartthatcontainsthenumber1andtheexcludedcharactersbio1569pvx",
-            "pzry9x0s0muk", "1pzry9x0s0muk", "x1b4n0q5v", "li1dgmt3", "de1lg7wt\xff", "A1G7SGD8", "10a06t8", "1qzzfhee", "A12uEL5L",
-        )
-        for it in valid:
-            self.see(f"Bech32: {it}", fault_of(agefile._keys.bech32_decoded, it) is None)
-        for it in invalid:
-            self.see(f"Bech32, invalid: {it!r}", isinstance(fault_of(agefile._keys.bech32_decoded, it), ValueError))
-        # (its bytes are BIP 173's list of all letters)
-        held = bytes.fromhex("00443214c74254b635cf84653a56d7c675be77df")
-        self.see("the bytes of a Bech32 text", agefile._keys.bech32_decoded(valid[3]) == ("abcdef", held))
-
-    def test_identities(self):
-        """Files of age for the keys of age-keygen."""
-        key, other = (agefile._keys.identities_in((AGE / name).read_text()) for name in ("key.txt", "other.txt"))
-        public = [line.split()[-1] for line in (AGE / "key.txt").read_text().splitlines() if "public key" in line][0]
-        secret, nine = agefile._keys.secret_of(key[0]), bytes([9]) + bytes(31)
-        for what, call in (("cryptography", lambda it, point: agefile._keys.x25519_of(it)(point)), ("openssl", agefile._keys.by_openssl)):
-            self.see(f"the public key of a key, by {what}", call(secret, nine) == agefile._keys.bech32_decoded(public)[1])
-            self.see(f"a point of low order, by {what}", call(secret, bytes(32)) == bytes(32))
-        for name, keys, want in (
-            ("one.age", key, b"hello, recipient\n"), ("one.age", [*other, *key], b"hello, recipient\n"), ("two.age", key, b"hello, both\n"),
-            ("two.age", other, b"hello, both\n"), ("other.age", other, b"hello, other\n"), ("one.age", other, 13), ("passphrase.age", key, 12),
-        ):
-            of_file = "# of age-keygen\n\n" + "\r\n".join(keys) + "\n"
-            for given in (keys, iter(keys), of_file, io.StringIO(of_file), [of_file, *keys], *(keys if len(keys) == 1 else [])):
-                fault = got = None
-                try:
-                    with agefile.open(AGE / name, identity=given) as file:
-                        got = file.read()
-                except agefile.WrongKey as it:
-                    fault = it.number
-                self.see(f"{name} by a key", want in (got, fault), got, fault)
-            self.path("keys").write_text("# of two\n\n" + "\n".join(keys) + "\n")
-            run = self.command("decrypt", "--identity", "keys", str(AGE / name), "-")
-            self.see("--identity", (run.returncode, run.stdout) == ((1, b"") if isinstance(want, int) else (0, want)), run.stderr)
-            run = self.command("shared", "keys", str(AGE / name))
-            self.path("shared").write_bytes(run.stdout)
-            self.see("shared", (run.returncode, len(run.stdout)) == ((1, 0) if isinstance(want, int) else (0, 64)), run.stderr)
-            if run.returncode == 0:
-                run = self.tool("decrypt", "--shared", "shared", "--no-sync", str(AGE / name), "by-shared")
-                self.see("age_tool --shared", run.returncode == 0 and self.path("by-shared").read_bytes() == want, run.stderr)
-        with agefile.open(AGE / "passphrase.age", passphrase="correct horse") as file:
-            self.see("a file of age for a passphrase", file.read() == b"hello, passphrase\n")
-        with open(AGE / "key.txt", encoding="ascii") as file:
-            self.see("an open key file", agefile.open(AGE / "one.age", identity=file).read() == b"hello, recipient\n")
-        self.see("the keys in a file", agefile.identities_in((AGE / "key.txt").read_text()) == key and len(key) == 1)
-        bad = ("age1xyz", public, key[0][:-1], "", key[0].lower().replace("1", "I"))
-        for it in bad:
-            self.see(f"a bad key: {it}", isinstance(fault_of(agefile.open, AGE / "one.age", identity=it), ValueError))
-        self.see("a key and a passphrase", isinstance(fault_of(agefile.open, AGE / "one.age", identity=key[0], passphrase="pw"), TypeError))
-        data = (AGE / "one.age").read_bytes()
-        for what, given, number in (("cut in its header", data[:90], 254), ("that isn't age's", b"x\n" + data, 1), ("damaged", flipped(data, -1), 17)):
-            fault = fault_of(lambda: agefile.open(io.BytesIO(given), identity=key[0]).read())
-            self.see(f"a file {what}, by a key", getattr(fault, "number", None) == number, fault)
-
-    @needs("age", "age-keygen")
-    def test_many_recipients(self):
-        """A header of many recipients is opened for the last of them, in time that is linear in its length."""
-        keys = [subprocess.run(["age-keygen"], capture_output=True, text=True, check=True).stdout for _ in range(2)]
-        one, other = (next(word for word in it.split() if word.startswith("age1")) for it in keys)
-        self.path("many").write_text(f"{other}\n" * 700 + f"{one}\n")
-        data = subprocess.run(["age", "-R", self.path("many")], input=b"text", capture_output=True, check=True).stdout
-        looked, kept = [0], agefile._library.C.age_c_open_shared
-
-        def counted(front, length, *words):
-            looked[0] += length
-            return kept(front, length, *words)
-
-        agefile._library.C.age_c_open_shared = counted
-        try:
-            fault = fault_of(lambda: self.see("the last of 701 recipients", agefile.open(io.BytesIO(data), identity=keys[0]).read() == b"text"))
-        finally:
-            agefile._library.C.age_c_open_shared = kept
-        self.see(f"{looked[0]} bytes of a header of {len(data)} are looked at", fault is None and looked[0] < 5 * len(data), fault)
-
-    @needs("age", "age-keygen")
-    def test_files_of_age(self):
-        """What age makes for keys of its own."""
-        keys = [subprocess.run(["age-keygen"], capture_output=True, text=True, check=True).stdout for _ in range(3)]
-        recipients = [word for it in keys for word in it.split() if word.startswith("age1")]
-        for length in (0, 1, 65_536, 200_000):
-            text = random.Random(length).randbytes(length)
-            for count in (1, 3):
-                words = [part for it in recipients[-count:] for part in ("-r", it)]
-                data = subprocess.run(["age", *words], input=text, capture_output=True, check=True).stdout
-                for any_place in (False, True):
-                    with agefile.open(io.BytesIO(data), identity=agefile._keys.identities_in(keys[-1]), random_access=any_place) as file:
-                        self.see(f"a file of age of {length} bytes for {count}", file.read() == text)
-
     def saved(self, data, **keys):
         """What is salvaged of a file, and what it says of it."""
         out = io.BytesIO()
@@ -605,10 +510,21 @@ class PythonTest(BindingsCase):
             def tell(self):
                 return self.held.tell()
 
+        data = self.sealed(text[:131_072])
+        for more in (1, 16, 17, BLOCK, -1, -17, -BLOCK):
+            got = fault = None
+            try:
+                got = agefile.open(Bare(more), file_key=KEY, random_access=True).read()
+            except agefile.AgeError as it:
+                fault = it
+            self.see(f"a file of whole chunks that says it is {more} bytes longer", fault is not None if more > 0 else fault or got == text[:131_072], fault)
+        data = self.sealed(text)
         with mmap.mmap(-1, len(data)) as mapped:
             mapped[:] = data
             for what, under in (("a file with read, seek and tell", Bare()), ("an mmap", mapped), ("one that says it is a byte longer", Bare(1)),
                                 ("one that says it is 16 bytes longer", Bare(16))):
+                self.see(f"{what}: salvage", self.saved(under) == (text, [], True, False))
+                under.seek(0)
                 with agefile.open(under, file_key=KEY, random_access=True) as file:
                     self.see(what, file.size == 200_000 and file.seek(-10, 2) == 199_990 and file.read() == text[-10:] and file.seek(0) == 0
                              and file.read() == text)
@@ -665,6 +581,40 @@ class PythonTest(BindingsCase):
             self.see(f"encrypt, {length} bytes", self.judged(data) == ((0, None), text))
             self.see(f"decrypt, {length} bytes", agefile.decrypt(self.sealed(text), file_key=KEY) == text)
         self.see("decrypt a damaged file", isinstance(fault_of(agefile.decrypt, flipped(data, -1), passphrase="pw"), agefile.Damaged))
+
+    def test_inspect(self):
+        """What a file says of itself, as age_tool inspect says it; a file object stands where it stood."""
+        more, bad = SHARED_EMPTY.replace(b"\n-> ", b"\n-> x ~!\n\n-> ", 1), self.sealed(b"").replace(b" 1\n", b" 01\n", 1)
+        works = (self.sealed(b"text"), 1), ((AGE / "passphrase.age").read_bytes(), 18), (SHARED_EMPTY, None), (more, None), (bad, None)
+        for data, work in works:
+            self.write("it.age", data)
+            lines = [it.split(" ") for it in self.tool("inspect", "it.age", check=True).stdout.decode().splitlines()]
+            under = io.BytesIO(b"in front" + data)
+            under.seek(8)
+            for given in (self.path("it.age"), str(self.path("it.age")), under, Pieces(data, 10)):
+                found = agefile.inspect(given)
+                told = [["stanza", it.type, str(len(it.arguments))] for it in found.stanzas]
+                self.see(f"the stanzas of {given}", told == [it[:3] for it in lines if it[0] == "stanza"], found, lines)
+                self.see(f"the header of {given}", ["header", str(found.header_size)] in lines and found.work == work, found, lines)
+            self.see("a file that is inspected stands where it stood", under.tell() == 8)
+        self.see("arguments", agefile.inspect(io.BytesIO(more)).stanzas[0] == ("x", ["~!"]))
+        for what, given, number in (("no age file", b"x\n", 1), ("a cut header", data[:60], 254), ("two kinds", more.replace(b"-> x", b"-> scrypt"), 9), ("armor", b"-----BEGIN AGE ENCRYPTED FILE-----\n", 2)):
+            self.see(f"{what} is inspected", getattr(fault_of(agefile.inspect, io.BytesIO(given)), "number", None) == number)
+
+    def test_reopened(self):
+        """A reader of the same file over another file object needs no key, and refuses another file."""
+        text = random.Random(4).randbytes(200_000)
+        data = self.sealed(text)
+        for any_place in (True, False):
+            first = agefile.open(io.BytesIO(data), passphrase="pw", random_access=any_place)
+            first.seek(70_000)
+            with first.reopen(io.BytesIO(data)) as file:
+                self.see("a reopened file", type(file) is type(first) and (file.tell(), file.read()) == (0, text))
+            self.see("the file that it was reopened from", first.read() == text[70_000:])
+            other = io.BytesIO(agefile.encrypt(b"", passphrase="pw", work=1))
+            self.see("another file", isinstance(fault_of(first.reopen, other), agefile.WrongKey))
+            first.close()
+            self.see("a closed file", isinstance(fault_of(first.reopen, io.BytesIO(data)), ValueError))
 
     @needs("mypy")
     def test_types_of_users(self):

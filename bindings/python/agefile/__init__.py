@@ -8,6 +8,9 @@
     with agefile.open("notes.age", "wb", passphrase="correct horse") as file:
         file.write(b"text")
 
+    with agefile.open("notes.age", "wb", recipient="age1..") as file:  # as age -r: several may be given
+        file.write(b"text")
+
 It needs libage_c.so, made by `bindings/build`: the file that the environment variable AGE_C_LIBRARY
 names, else the one beside this package, of its release or of its checkout, else one that the loader
 finds. `python3 -m agefile` encrypts, decrypts and tests files.
@@ -33,7 +36,9 @@ stood. With random_access=True a seek takes the same time wherever it goes, and 
         zipfile.ZipFile(file).extract("photos/1.jpg")
 
 The last chunk is opened first, so that the length is checked, and each byte that is read is checked
-then; what is passed over isn't. The file has to be one that can be sought in.
+then; what is passed over isn't. The file has to be one that can be sought in. reopen() of a reader
+takes another file object of the same file, and needs neither the key nor the time of a passphrase.
+inspect() says whether a file is for a passphrase or for recipients, before a key is asked for.
 
 Writing: the file is whole once close() returned. A `with` block that is left by an exception
 abandons it: it then ends in a way that every reader reports. So does one that is never closed. If
@@ -58,17 +63,21 @@ from typing import Any, Iterable, Literal, Protocol, Union, overload
 
 from ._arguments import see_one, work_factor
 from ._file import AgeFile
+from ._inspection import Inspection, Stanza, inspect
 from ._keys import identities_in, identities_of
 from ._library import VERSION, AgeError, Damaged, OutOfMemory, Truncated, WrongKey
 from ._memory import decrypt, encrypt
 from ._reader import AgeReader, opening_of
+from ._recipients import beginning_of
 from ._salvage import Salvage, salvage
-from ._writer import AgeWriter, begun
+from ._writer import AgeWriter
 
-__all__ = ["open", "encrypt", "decrypt", "salvage", "Salvage", "identities_in", "AgeError", "WrongKey", "Truncated", "Damaged", "OutOfMemory", "AgeReader", "AgeFile", "AgeWriter"]
+__all__ = ["open", "encrypt", "decrypt", "inspect", "Inspection", "Stanza", "salvage", "Salvage", "identities_in", "AgeError", "WrongKey",
+           "Truncated", "Damaged", "OutOfMemory", "AgeReader", "AgeFile", "AgeWriter"]
 __version__ = f"{VERSION // 10_000}.{VERSION // 100 % 100}.{VERSION % 100}"
 
-for _it in (encrypt, decrypt, salvage, Salvage, identities_in, AgeError, WrongKey, Truncated, Damaged, OutOfMemory, AgeReader, AgeFile, AgeWriter):
+for _it in (encrypt, decrypt, inspect, Inspection, Stanza, salvage, Salvage, identities_in, AgeError, WrongKey, Truncated, Damaged,
+            OutOfMemory, AgeReader, AgeFile, AgeWriter):
     _it.__module__ = __name__
 
 Path = Union[str, bytes, "os.PathLike[str]", "os.PathLike[bytes]"]
@@ -147,7 +156,8 @@ def open(file: Path | Source, mode: Literal["r", "rb"] = "rb", *, passphrase: st
 
 
 @overload
-def open(file: Path | Sink, mode: Literal["w", "x", "wb", "xb"], *, passphrase: str | bytes, work: int = 18) -> AgeWriter:
+def open(file: Path | Sink, mode: Literal["w", "x", "wb", "xb"], *, passphrase: str | bytes | None = None,
+         recipient: str | Iterable[str] | None = None, work: int = 18) -> AgeWriter:
     ...
 
 
@@ -160,49 +170,55 @@ def open(file: Path | Source, mode: Literal["rt"], *, passphrase: str | bytes | 
 
 
 @overload
-def open(file: Path | Sink, mode: Literal["wt", "xt"], *, passphrase: str | bytes, work: int = 18, encoding: str | None = None,
-         errors: str | None = None, newline: str | None = None) -> io.TextIOWrapper:
+def open(file: Path | Sink, mode: Literal["wt", "xt"], *, passphrase: str | bytes | None = None, recipient: str | Iterable[str] | None = None,
+         work: int = 18, encoding: str | None = None, errors: str | None = None, newline: str | None = None) -> io.TextIOWrapper:
     ...
 
 
 @overload
 def open(file: Path | Source | Sink, mode: str, *, passphrase: str | bytes | None = None, file_key: bytes | None = None,
-         shared: tuple[bytes, bytes] | None = None, identity: str | Iterable[str] | None = None, work: int = 18, max_work: int = 22,
-         random_access: bool = False, encoding: str | None = None, errors: str | None = None,
-         newline: str | None = None) -> AgeReader | AgeWriter | io.TextIOWrapper:
+         shared: tuple[bytes, bytes] | None = None, identity: str | Iterable[str] | None = None,
+         recipient: str | Iterable[str] | None = None, work: int = 18, max_work: int = 22, random_access: bool = False,
+         encoding: str | None = None, errors: str | None = None, newline: str | None = None) -> AgeReader | AgeWriter | io.TextIOWrapper:
     ...
 
 
 def open(file: Path | Source | Sink, mode: str = "rb", *, passphrase: str | bytes | None = None, file_key: bytes | None = None,
-         shared: tuple[bytes, bytes] | None = None, identity: str | Iterable[str] | None = None, work: int = 18, max_work: int = 22,
-         random_access: bool = False, encoding: str | None = None, errors: str | None = None,
-         newline: str | None = None) -> AgeReader | AgeWriter | io.TextIOWrapper:
+         shared: tuple[bytes, bytes] | None = None, identity: str | Iterable[str] | None = None,
+         recipient: str | Iterable[str] | None = None, work: int = 18, max_work: int = 22, random_access: bool = False,
+         encoding: str | None = None, errors: str | None = None, newline: str | None = None) -> AgeReader | AgeWriter | io.TextIOWrapper:
     """Opens an age file, which is a path or a binary file object: "rb" to read it, "wb" (or "xb", which refuses a file that is there)
-    to write it under a passphrase; "rt", "wt" and "xt" the same as text. A file object is left open.
+    to write it; "rt", "wt" and "xt" the same as text. A file object is left open.
 
     It is read by one of these keys: a passphrase (a str is encoded as UTF-8); a file_key of 16 bytes; shared, a pair of an X25519
     shared secret and the recipient that it was computed for, of 32 bytes each; or identity: a key of age-keygen ("AGE-SECRET-KEY-1.."),
     several, the text of a key file, or one that is open as text.
 
-    work is the work factor of a file that is written, from 1 to 22: its key takes 2^work KiB of memory. Work factors above max_work are
-    refused: an untrusted file may demand 4 GiB. With random_access a seek takes the same time wherever it goes.
+    It is written under a passphrase or for a recipient of age-keygen ("age1.."), several, the text of a file of them, or one that is
+    open as text; whoever has the key of any of them can read it. That needs the package cryptography.
+
+    work is the work factor of a file that is written under a passphrase, from 1 to 22: its key takes 2^work KiB of memory. Work factors
+    above max_work are refused: an untrusted file may demand 4 GiB. With random_access a seek takes the same time wherever it goes.
 
     An argument that isn't allowed is a TypeError or a ValueError, and what is wrong with the file an AgeError."""
     if mode not in ("r", "w", "x", "rb", "wb", "xb", "rt", "wt", "xt"):
         raise ValueError(f"mode is rb, wb, xb, rt, wt or xt, not {mode!r}")
     if not mode.endswith("t") and (encoding, errors, newline) != (None, None, None):
         raise ValueError("encoding, errors and newline are for text alone")
-    if mode[0] != "r" and passphrase is None:
-        raise ValueError("a file is written under a passphrase")
     if mode[0] != "r" and random_access:
         raise ValueError("random_access is for reading alone")
-    see_one(passphrase, file_key, shared, identity)
+    if mode[0] == "r" and recipient is not None:
+        raise ValueError("recipient is for writing alone")
+    see_one(passphrase, file_key, shared, identity, recipient)
     work_factor("work", work)
-    if identity is not None:
-        identity = identities_of(identity)
-    opening_of(passphrase, file_key, shared, identity, max_work)
+    work_factor("max_work", max_work)
     # what can't be begun leaves the file as it is
-    beginning = begun(passphrase, work) if mode[0] != "r" else None
+    beginning = None
+    if mode[0] != "r":
+        beginning = beginning_of(passphrase, recipient, work)
+    else:
+        identity = None if identity is None else identities_of(identity)
+        opening_of(passphrase, file_key, shared, identity, max_work)
     under, owned = _opened(file, mode[0])
     made: Any
     try:

@@ -14,6 +14,7 @@ from typing import Any, Iterator
 import agefile
 from agefile import _keys, _library
 from agefile._arguments import WORK_MAX, secret
+from agefile._recipients import beginning_of
 from agefile._source import some
 
 FACTORS = range(1, WORK_MAX + 1)
@@ -51,11 +52,11 @@ def source(name: str) -> Any:
 
 
 def see_apart(words: argparse.Namespace) -> None:
-    """Refuses to write to a file that is read: IN, or the file of --pass or --identity."""
+    """Refuses to write to a file that is read: IN, or the file of --pass, --identity or --recipients-file."""
     if words.output == "-" or not os.path.exists(words.output):
         return
     out = os.stat(words.output)
-    for name in (words.input, words.passphrase, getattr(words, "keys", None)):
+    for name in (words.input, words.passphrase, getattr(words, "keys", None), *getattr(words, "files", [])):
         if name is None or name != "-" and not os.path.exists(name):
             continue
         if os.path.samestat(out, os.fstat(0) if name == "-" else os.stat(name)) and not stat.S_ISCHR(out.st_mode):
@@ -74,12 +75,25 @@ def sink(words: argparse.Namespace) -> Iterator[Any]:
 
 
 def encrypt(words: argparse.Namespace) -> None:
-    given = passphrase_of(words, again=True)
+    recipients = recipients_of(words)
+    given = None if recipients else passphrase_of(words, again=True)
     see_apart(words)
-    with source(words.input) as file, sink(words) as under:
-        with agefile.open(under, "wb", passphrase=given, work=words.log) as out:
-            for piece in pieces(file):
-                out.write(piece)
+    beginning = beginning_of(given, recipients or None, words.log)  # before OUT is opened
+    with source(words.input) as file, sink(words) as under, agefile.AgeWriter(under, beginning) as out:
+        for piece in pieces(file):
+            out.write(piece)
+
+
+def recipients_of(words: argparse.Namespace) -> list[str]:
+    """Those of --recipient, and those in the files of --recipients-file."""
+    found = list(words.recipients)
+    for name in words.files:
+        with open(name, encoding="utf-8") as file:
+            lines = _keys.lines_of("recipient", file)
+        if not lines:
+            raise ValueError(f"{name} has no recipient")
+        found += lines
+    return found
 
 
 def decrypt(words: argparse.Namespace) -> None:
@@ -171,7 +185,7 @@ def words_of() -> argparse.Namespace:
     top.add_argument("--version", action="version", version=f"agefile {agefile.__version__}")
     commands = top.add_subparsers(required=True, metavar="COMMAND")
     for call, what in (
-        (encrypt, "encrypt IN to OUT under a passphrase"), (decrypt, "decrypt IN to OUT"), (test, "decrypt IN to nowhere"),
+        (encrypt, "encrypt IN to OUT under a passphrase or for recipients"), (decrypt, "decrypt IN to OUT"), (test, "decrypt IN to nowhere"),
         (salvage, "write what still opens of IN, which was damaged or cut, to OUT, with zeros for what doesn't, and say what is lost"),
     ):
         command = commands.add_parser(call.__name__, help=what, description=what)
@@ -181,6 +195,10 @@ def words_of() -> argparse.Namespace:
         if call is not encrypt:
             keys.add_argument("--identity", dest="keys", metavar="FILE", help="a file of age-keygen, whose keys open IN")
         if call is encrypt:
+            command.add_argument("--recipient", dest="recipients", action="append", default=[], metavar="AGE1..", help="a recipient of age-keygen; "
+                                 "may be repeated")
+            command.add_argument("--recipients-file", dest="files", action="append", default=[], metavar="FILE", help="a file with one to a line; "
+                                 "may be repeated")
             command.add_argument("--log", type=int, default=18, choices=FACTORS, metavar="N", help="the work factor, 1 to 22: it takes 2^N KiB (18)")
         else:
             command.add_argument("--max-log", type=int, default=22, choices=FACTORS, metavar="N", help="the greatest work factor to accept (22)")
@@ -192,7 +210,10 @@ def words_of() -> argparse.Namespace:
     command.set_defaults(call=shared)
     command.add_argument("keys", metavar="KEYFILE", help="a file of age-keygen")
     command.add_argument("input", metavar="IN")
-    return top.parse_args()
+    words = top.parse_args()
+    if words.call is encrypt and words.passphrase is not None and words.recipients + words.files:
+        top.error("encrypt under --pass, or for the recipients of --recipient and --recipients-file")
+    return words
 
 
 def main() -> int:

@@ -12,9 +12,9 @@ KEY, SHARED = 16, 32
 def see_one(*keys: Any) -> None:
     given = sum(it is not None for it in keys)
     if given == 0:
-        raise ValueError("a passphrase, a file_key, shared (secret, recipient) or an identity is needed")
+        raise ValueError("a passphrase, a file_key, shared (secret, recipient), an identity or, to write, a recipient is needed")
     if given > 1:
-        raise TypeError("give one of passphrase, file_key, shared and identity")
+        raise TypeError("give one of passphrase, file_key, shared, identity and recipient")
 
 
 def work_factor(name: str, given: Any) -> int:

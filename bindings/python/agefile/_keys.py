@@ -15,6 +15,7 @@ Pair = Tuple[bytes, bytes]  # a shared secret, and the recipient that it is for
 
 WRONG_KEY = 13
 NOTHING = bytes([1]) * 32, bytes(32)
+NINE = bytes([9]) + bytes(31)  # the point whose X25519 with a secret is the recipient, or the share
 LETTERS = "qpzry9x8gf2tvdw0s3jn54khce6mua7l"
 STANZA = re.compile(rb"^-> X25519 ([A-Za-z0-9+/]{43})\n[A-Za-z0-9+/]{43}$", re.M)
 
@@ -69,15 +70,22 @@ def identities_in(text: str) -> list[str]:
     return [it for it in lines if it and not it.startswith("#")]
 
 
-def identities_of(given: str | Iterable[str]) -> list[str]:
-    """The keys that are given: a key, the text of a file of them, the lines of such a file that is open, or several of these."""
+def lines_of(name: str, given: str | Iterable[str]) -> list[str]:
+    """The keys or recipients that are given: one, the text of a file of them, the lines of such a file that is open, or several of
+    these."""
     if isinstance(given, (bytes, bytearray, memoryview)) or not isinstance(given, Iterable):
-        raise TypeError(f"identity is a str, several, or a key file that is open as text, not {type(given).__name__}")
+        raise TypeError(f"{name} is a str, several, or a file of them that is open as text, not {type(given).__name__}")
     found: list[str] = []
     for it in [given] if isinstance(given, str) else given:
         if not isinstance(it, str):
-            raise TypeError(f"an identity is a str, not {type(it).__name__}")
+            raise TypeError(f"{name} is a str, not {type(it).__name__}")
         found += identities_in(it)
+    return found
+
+
+def identities_of(given: str | Iterable[str]) -> list[str]:
+    """The keys that are given."""
+    found = lines_of("identity", given)
     if not found:
         raise ValueError("identity has no key: one begins with AGE-SECRET-KEY-1")
     for it in found:
@@ -132,7 +140,7 @@ def _pairs(identities: Iterable[str], front: bytes) -> Iterator[tuple[Pair, byte
              for it in STANZA.finditer(front.partition(b"\n---")[0])]
     for identity in identities:
         exchanged = x25519_of(secret_of(identity))
-        recipient = exchanged(bytes([9]) + bytes(31))
+        recipient = exchanged(NINE)
         for share, alone in found:
             yield (exchanged(share), recipient), alone
 
@@ -148,18 +156,18 @@ def opening(identities: list[str]) -> Opened:
 def tried(identities: list[str], front: bytes, state: ReaderState) -> tuple[int, Pair]:
     """What the bytes that a file begins with answer to these keys, and the pair that was tried last: the one that opened it, if one
     did. The first pair opens nothing: by it the library says what is wrong with the header, or that it isn't complete."""
-    pair, answer = NOTHING, _by_shared(NOTHING, front, state)
+    pair, answer = NOTHING, by_shared(NOTHING, front, state)
     if answer == WRONG_KEY:
         for pair, alone in _pairs(identities, bytes(front)):
             # A pair opens no stanza but its own. So a header of that one says whether the whole is worth a try, or the time would grow
             # with the square of the number of stanzas.
-            if _by_shared(pair, alone, ReaderState()) != WRONG_KEY:
-                answer = _by_shared(pair, front, state)
+            if by_shared(pair, alone, ReaderState()) != WRONG_KEY:
+                answer = by_shared(pair, front, state)
                 if answer != WRONG_KEY:
                     break
     return answer, pair
 
 
-def _by_shared(pair: Pair, front: bytes, state: ReaderState) -> int:
+def by_shared(pair: Pair, front: bytes, state: ReaderState) -> int:
     answer: int = C.age_c_open_shared(*Bytes(front).given, *Bytes(pair[0]).given, *Bytes(pair[1]).given, state)
     return answer

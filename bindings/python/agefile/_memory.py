@@ -5,13 +5,14 @@ import io
 from typing import Iterable
 
 from ._reader import AgeReader
-from ._writer import AgeWriter, begun
+from ._recipients import beginning_of
+from ._writer import AgeWriter
 
 
-def encrypt(text: bytes, *, passphrase: str | bytes, work: int = 18) -> bytes:
-    """The age file of a text that is in memory."""
+def encrypt(text: bytes, *, passphrase: str | bytes | None = None, recipient: str | Iterable[str] | None = None, work: int = 18) -> bytes:
+    """The age file of a text that is in memory, under a passphrase or for recipients."""
     out = io.BytesIO()
-    with AgeWriter(out, begun(passphrase, work)) as file:
+    with AgeWriter(out, beginning_of(passphrase, recipient, work)) as file:
         file.write(text)
     return out.getvalue()
 

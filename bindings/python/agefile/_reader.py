@@ -4,7 +4,7 @@ from __future__ import annotations
 import ctypes
 import io
 import operator
-from typing import TYPE_CHECKING, Any, BinaryIO, Iterable, NoReturn
+from typing import TYPE_CHECKING, Any, BinaryIO, Iterable, NoReturn, TypeVar
 
 from . import _keys, _rooms
 from ._arguments import KEY, key, pair, secret, see_one, work_factor
@@ -69,6 +69,8 @@ def room_of(room: Any) -> memoryview:
 
 
 WholeChunk = ctypes.c_uint8 * CHUNK
+
+Reader = TypeVar("Reader", bound="AgeReader")
 
 LOST = "a read of this file failed or was interrupted, so that bytes may be lost: seek to a place that you know, or open it again"
 
@@ -422,6 +424,11 @@ class AgeReader(Buffered):
     @property
     def mode(self) -> str:
         return "rb"
+
+    def reopen(self: Reader, file: Any) -> Reader:
+        """Another reader of the same age file, over a file object of its own, for another thread, say. It needs no key, and no scrypt."""
+        self._see_open()
+        return type(self)(file, file_key=bytes(self._state.file_key))
 
     def __reduce_ex__(self, _: Any) -> NoReturn:
         raise TypeError(f"cannot pickle or copy an open {type(self).__name__}")

@@ -81,7 +81,7 @@ class _Blocks:
         have = max(0, min(BLOCK, self._end - at))
         try:
             self._file.seek(at)
-            return have, filled(self._file, room[:have]) == have
+            return filled(self._file, room[:have]), True  # (a file that ends sooner than it said ends there)
         except OSError:
             return have, False
 

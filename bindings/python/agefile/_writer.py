@@ -30,13 +30,13 @@ def _forked() -> None:
 os.register_at_fork(after_in_child=_forked)
 
 
-def begun(passphrase: Any, work: Any) -> Begun:
-    """A stream, and what stands before the payload."""
+def begun(passphrase: Any, work: Any, random: bytes | None = None) -> Begun:
+    """A stream, and what stands before the payload. `random` is the file key, the salt and the nonce."""
     log = work_factor("work", work)
     stream, out, written = WriteStreamState(), Bytes(SEAL_FRONT), ctypes.c_size_t()
-    held, random = Bytes(secret(passphrase)), Bytes(os.urandom(48))
-    answer = C.age_c_seal_passphrase(*held.given, log, *random.given, *out.given, written, stream.writer)
-    wipe(held.place, random.place)
+    held, taken = Bytes(secret(passphrase)), Bytes(random or os.urandom(48))
+    answer = C.age_c_seal_passphrase(*held.given, log, *taken.given, *out.given, written, stream.writer)
+    wipe(held.place, taken.place)
     if answer != 0:
         raise fault_of(answer)
     return stream, bytes(out.view[:written.value])
