@@ -472,24 +472,30 @@ class PythonTest(BindingsCase):
     def test_upgrade(self):
         """A package that is unpacked over an earlier one is what Python runs, also where the module's files are as long as they were."""
         place = self.path("root/usr/lib/python3/dist-packages")
-        program = "import importlib.metadata as it, agefile._writer as module; print(module.GATHERED, it.version('agefile'))"
+        program = "import importlib.metadata as it, agefile._writer as module; held = it.distribution('agefile'); " \
+            "print(module.GATHERED, held.version, held.read_text('INSTALLER'))"
         env = {**os.environ, "PYTHONPATH": str(place), "AGE_C_LIBRARY": str(LIBRARY / "libage_c.so"), "PYTHONDONTWRITEBYTECODE": ""}
-        for epoch, number in ((1_700_000_000, "16_384"), (1_700_000_100, "16_383")):
+        for epoch, number in ((1_800_000_000, "16_384"), (1_800_000_100, "16_383")):
             release, out = self.path(number), self.path(f"packages-{number}")
             out.mkdir()
             for name in RELEASED:
                 (release / name).parent.mkdir(parents=True, exist_ok=True)
                 (release / name).write_text("prefix=\n")
+            shutil.copy(TOP / "CHANGELOG.md", release / "share/doc/age_tool/CHANGELOG.md")
             module = release / "share/age_tool/agefile"
             shutil.copytree(PYTHON / "agefile", module, ignore=shutil.ignore_patterns("__pycache__"))
             text = (module / "_writer.py").read_text()
             (module / "_writer.py").write_text(text.replace("GATHERED = 16_384", f"GATHERED = {number}"))
             words = [TOP / "release" / "packages", release, "1.2.0", out]
             subprocess.run(words, env={**os.environ, "SOURCE_DATE_EPOCH": str(epoch)}, check=True, capture_output=True)
-            subprocess.run(["dpkg-deb", "-x", out / "python3-agefile_1.2.0-1_amd64.deb", self.path("root")], check=True)
+            package = out / "python3-agefile_1.2.0-1_amd64.deb"
+            subprocess.run(["dpkg-deb", "-x", package, self.path("root")], check=True)
             run = subprocess.run([sys.executable, "-c", program], env=env, capture_output=True, text=True)
-            self.see(f"the module with {number}", run.stdout.split() == [number.replace("_", ""), "1.2.0"], run.stdout, run.stderr[-300:])
+            self.see(f"the module with {number}", run.stdout.split() == [number.replace("_", ""), "1.2.0", "debian"], run.stdout, run.stderr[-300:])
         self.see("the module was compiled", any((place / "agefile" / "__pycache__").iterdir()))
+        if shutil.which("lintian"):
+            run = subprocess.run(["lintian", "--no-cfg", "--profile", "debian", package], capture_output=True, text=True)
+            self.see("lintian", [it.split()[2] for it in run.stdout.splitlines()] == ["no-copyright-file"], run.stdout)
 
     def test_unlike_files(self):
         """Sources that can seek but have no `seekable`, or whose seek returns nothing, that overstate their length, and that lie."""
