@@ -1,5 +1,5 @@
 -- What each arm of the part that obeys the words promises, from what its callee does.
-use Rattle.std.proofs.Common.{◌≡◌, ◌∙◌, ◌++◌, ap, sym, subst, refl, inl, inr, List, [], ◌∷◌, Bool, true, false, true≢false, Option, Result, Ok, Err, length}
+use Rattle.std.proofs.Common.{◌≡◌, ◌∙◌, ◌++◌, ap, sym, subst, refl, inl, inr, List, [], ◌∷◌, Bool, true, false, true≢false, Option, Some, None, Result, Ok, Err, length}
 use Rattle.std.proofs.Common.{rules}
 use Rattle.std.specs.Borrow.{Bor}
 use Rattle.std.specs.Prelude.{OnOk, IfErr, IsOk, IsErrAnd, ◌==◌}
@@ -12,7 +12,7 @@ use Rattle.clap.specs.Values.{kind_of}
 use Rattle.clap.specs.declared.error.Error.{Error}
 use Rattle.clap.specs.declared.error.kind.ErrorKind.{ErrorKind}
 use Rattle.age_cli_args.specs.Requests.{IsForHelp, refusals, Requests}
-use Rattle.age_cli_args.specs.declared.request.Request.TheVariants.{Inspect, Drill}
+use Rattle.age_cli_args.specs.declared.request.Request.TheVariants.{Inspect, Encrypt, Decrypt, Resume, Drill}
 use Rattle.age_cli_args.specs.declared.request.Drilling.{Drilling}
 use Rattle.age_file.specs.Runs.{Ports}
 use Rattle.age_fileset.specs.FileSet.{FilesView}
@@ -20,7 +20,7 @@ use Rattle.age_command.specs.Endings.{is_usage}
 use Rattle.age_command.specs.Orders.{Follows, order_asked}
 use Rattle.age_command.specs.declared.ending.Ending.{Ending}
 use Rattle.age_cli.specs.Acts.{Acts, IsUsage}
-use Rattle.age_cli.specs.Runs.{FailsWriting, IsRefusal}
+use Rattle.age_cli.specs.Runs.{DoesOther, FailsWriting, IsRefusal, Obeys, World}
 use Rattle.age_io.specs.Io.{SinkView}
 use Rattle.age_cli.specs.Commands.{FailsReport}
 use Rattle.age_cli_args.specs.declared.request.Request.{Request}
@@ -150,3 +150,24 @@ module _ (IsPorts : Ports → Type 0) (shows : Bool) (before after : FilesView) 
         progress = inl silent;
         shown = always r _ (λ asked. absurd (shown_not_silent (sym asked)));
       }
+
+module _ (words : List Text) (shows : Bool) (IsPorts : Ports → Type 0) (before after : World) (Failed Unread Unprinted Unshown : Type 0)
+    (Progress : Option (List ℕ) → Result (Unit {0}) Ending → Type 0) (r : Result (Unit {0}) Ending) where
+  -- a report isn't refused
+  unblamed : (held : Option (List ℕ)) → IfErr r (FailsReport held) → IfErr r (λ e. IsUsage e → Unprinted)
+  unblamed held fails = IfErr-weaker r _ _ (λ e no usage. absurd (no usage)) (reported_accepts r held fails)
+
+  answered : (asked : Request) → DoesOther words shows IsPorts before after Failed Unread Unprinted Unshown Progress r asked
+      → IfErr r (λ e. IsUsage e → Unprinted)
+  answered (Inspect None) a = unblamed _ a.stops
+  answered (Inspect (Some name)) a = unblamed _ a.1.stops
+  answered (Encrypt e) a = every_fault r _ (λ e usage. a.1)
+  answered (Decrypt d) a = every_fault r _ (λ e usage. a.1)
+  answered (Resume d) a = every_fault r _ (λ e usage. a.1)
+  answered (Drill d) a = a.2
+
+  -- a run that refuses its words writes nothing
+  pub refused_silently : Obeys words shows IsPorts before after Failed Unread Unprinted Unshown Progress r → IfErr r (λ e. IsUsage e → Unprinted)
+  refused_silently (inl report) = unblamed _ report.report.stops
+  refused_silently (inr (inl did)) = answered did.asked did.answers
+  refused_silently (inr (inr declined)) = refused_unprinted r _ _ before.output after.output declined.stops

@@ -17,7 +17,7 @@ use Rattle.age_command.specs.Files.{Files}
 use Rattle.age_command.specs.Identities.{allows_by, OpensBy}
 use Rattle.age_command.specs.declared.identity.Identity.{Identity}
 use Rattle.age_cli.specs.Acts.{ShowsProgress, IsUsage}
-use Rattle.age_cli.specs.Runs.{World, Runs, Declines, IsRefusal}
+use Rattle.age_cli.specs.Runs.{World, Runs, Declines, Obeys, IsRefusal}
 use Rattle.age_cli.specs.Commands.{IsPositionIn, FailsReport}
 use Rattle.age_command.specs.declared.ending.Ending.{Ending}
 
@@ -110,18 +110,20 @@ RunsKeepOut IsPorts Failed Input Output Faults Progress =
 
 -- ---- What follows for a run from what its parts promise.
 
--- Words that ask neither for help nor for the version are refused, or memory is, and nothing is
--- written; nor is it with any other words that are refused.
+-- Words that ask neither for help nor for the version, and make no request, are refused, or memory
+-- is, and nothing is written; nor does any run write that refuses its words.
 abbrev pub RefusesInSilence : Bool → (Ports → Type 0) → (Failed Input Output Progress : Type 0)
     → Type 0
 RefusesInSilence shows IsPorts Failed Input Output Progress =
     (words : List Text) (before after : World) (input : Input × Input) (output : Output × Output)
     (progress : Progress × Progress) (shown : Option (List Shown) × Option (List Shown))
     (ended : Result (Unit {0}) Ending)
-    → Declines words shows IsPorts before after Failed (input.1 ≡ input.0) (output.1 ≡ output.0)
+    → (Declines words shows IsPorts before after Failed (input.1 ≡ input.0) (output.1 ≡ output.0)
     (progress.1 ≡ progress.0) (ShowsProgress shows shown.0 shown.1) ended
-    → ((IsForHelp words → ⊥) → IsErrAnd ended IsRefusal × (output.1 ≡ output.0))
-    × IfErr ended (λ e. IsUsage e → output.1 ≡ output.0)
+    → (IsForHelp words → ⊥) → IsErrAnd ended IsRefusal × (output.1 ≡ output.0))
+    × (Obeys words shows IsPorts before after Failed (input.1 ≡ input.0) (output.1 ≡ output.0)
+    (progress.1 ≡ progress.0) (ShowsProgress shows shown.0 shown.1) ended
+    → IfErr ended (λ e. IsUsage e → output.1 ≡ output.0))
 
 -- A report that fails doesn't blame the command line.
 abbrev pub ReportsAccept : Type 0

@@ -71,8 +71,9 @@ module _ (words : List Text) (shows : Bool) (IsPorts : Ports → Type 0) (before
     pub silent : Unshown
 
   -- `inspect` reported the input, or its file, which 26 says can't be read. A drill sent on what it
-  -- wrote; with both or neither of `--clear` and `--pass` it is refused before a file is opened.
-  -- Other commands write nothing to the output, and none of them reads the input.
+  -- wrote, and wrote nothing if it is refused; with both or neither of `--clear` and `--pass` it is
+  -- refused before a file is opened. Other commands write nothing to the output, and none of them
+  -- reads the input.
   abbrev pub DoesOther : Request → Type 0
   DoesOther (Inspect None) =
       Reported ended (Reports before.input after.input before.output.taken after.output.taken)
@@ -83,7 +84,7 @@ module _ (words : List Text) (shows : Bool) (IsPorts : Ports → Type 0) (before
       × (shows ≡ true → IfErr ended (λ e. e ≡ Fault Read
       → IsUnread before.files.entries after.files.events Failed))
   DoesOther (Drill d) = Unread × OnOk ended (after.output.settled ≡ true)
-      × (d.clear ≡ is_some (option_text d.pass)
+      × IfErr ended (λ e. IsUsage e → Unprinted) × (d.clear ≡ is_some (option_text d.pass)
       → (after.files.events ≡ before.files.events) × IsErrAnd ended IsUsage)
   DoesOther other = Unread × Unprinted
 

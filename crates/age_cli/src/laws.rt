@@ -18,7 +18,7 @@ pub fn runs_keep_out<F: FileSet, I: Source, O: Sink, E: Sink, P: Meter>()
 /// What is refused writes nothing to the output, and a report that fails doesn't blame the command
 /// line.
 pub fn refusals_are_silent<F: FileSet, I: Source, O: Sink, P: Meter>()
-    ensures declined { RefusesInSilence (F.shows_bytes) (PortsOf F.In.view F.Out.view)
+    ensures silent { RefusesInSilence (F.shows_bytes) (PortsOf F.In.view F.Out.view)
         (SourceFails F.In.view) I O P }
     ensures reported { ReportsAccept }
 {}

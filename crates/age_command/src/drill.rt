@@ -1,8 +1,9 @@
 //! The command that delivers a payload by a script.
 
-ghost use Rattle.std.specs.Prelude.{◌≡◌, ◌≤◌, ◌++◌, ◌∷◌, [], Some, IfOk, OnOk, length, is_some, true};
+ghost use Rattle.std.specs.Prelude.{◌≡◌, ◌≤◌, ◌++◌, ◌∷◌, [], Some, IfOk, IfErr, OnOk, length, is_some};
+ghost use Rattle.std.specs.Prelude.{true};
 ghost use Rattle.age_fileset.specs.FileSet.{Opened};
-ghost use Rattle.age_command.specs.Endings.{RefusesAtOnce};
+ghost use Rattle.age_command.specs.Endings.{RefusesAtOnce, is_usage};
 ghost use Rattle.age_command.specs.Orders.{Follows, order_asked};
 ghost use Rattle.age_cli_args.specs.Requests.{option_text};
 ghost use Rattle.age_cli_args.specs.declared.request.Request.TheVariants.{Drill};
@@ -201,7 +202,8 @@ fn deliver<O: Sink>(
     script: &[u8],
     output: &mut O,
 ) -> Result<(), Ending>
-    ensures { OnOk result ((O.view output.new).settled ≡ true) }
+    ensures sent { OnOk result ((O.view output.new).settled ≡ true) }
+    ensures silent { IfErr result (λ e. is_usage e ≡ true → output.new ≡ output.old) }
 {
     let lines = read_lines(alloc, script, payload.len())?;
     answer_lines(alloc, replay, payload, lines.as_slice(), output)?;
@@ -215,7 +217,8 @@ fn deliver_clear<S: Source, O: Sink>(
     script: &[u8],
     output: &mut O,
 ) -> Result<(), Ending>
-    ensures { OnOk result ((O.view output.new).settled ≡ true) }
+    ensures sent { OnOk result ((O.view output.new).settled ≡ true) }
+    ensures silent { IfErr result (λ e. is_usage e ≡ true → output.new ≡ output.old) }
 {
     match read_up_to(alloc, source, PAYLOAD_MAX)? {
         Some(mut payload) => {
@@ -234,7 +237,8 @@ fn deliver_payload<O: Sink>(
     script: &[u8],
     output: &mut O,
 ) -> Result<(), Ending>
-    ensures { OnOk result ((O.view output.new).settled ≡ true) }
+    ensures sent { OnOk result ((O.view output.new).settled ≡ true) }
+    ensures silent { IfErr result (λ e. is_usage e ≡ true → output.new ≡ output.old) }
 {
     if payload.len() > PAYLOAD_MAX {
         return Err(Ending::Usage(Usage::PayloadTooLong));
@@ -252,7 +256,8 @@ fn deliver_sealed<S: Source, O: Sink>(
     script: &[u8],
     output: &mut O,
 ) -> Result<(), Ending>
-    ensures { OnOk result ((O.view output.new).settled ≡ true) }
+    ensures sent { OnOk result ((O.view output.new).settled ≡ true) }
+    ensures silent { IfErr result (λ e. is_usage e ≡ true → output.new ≡ output.old) }
 {
     let mut bytes = Vec::new(alloc);
     let read = fill_first(source, &mut bytes, BYTES_MAX);
@@ -269,7 +274,8 @@ fn deliver_opened<S: Source + Drop, O: Sink>(
     script: &[u8],
     output: &mut O,
 ) -> Result<(), Ending>
-    ensures { OnOk result ((O.view output.new).settled ≡ true) }
+    ensures sent { OnOk result ((O.view output.new).settled ≡ true) }
+    ensures silent { IfErr result (λ e. is_usage e ≡ true → output.new ≡ output.old) }
 {
     let mut source = opened?;
     match unlock {
@@ -292,6 +298,7 @@ fn drill<F: FileSet, O: Sink>(
     ensures order_done { OnOk result ((F.view files.new).events ≡ (F.view files.old).events
         ++ Opened asked.now.script.now ∷ Opened asked.now.from.now ∷ []) }
     ensures sent { OnOk result ((O.view output.new).settled ≡ true) }
+    ensures silent { IfErr result (λ e. is_usage e ≡ true → output.new ≡ output.old) }
 {
     let script = read_script(alloc, files, asked.script)?;
     let opened = files.open(alloc, asked.from);
@@ -313,6 +320,7 @@ fn drill_sealed<F: FileSet, O: Sink>(
     ensures order_done { OnOk result ((F.view files.new).events ≡ (F.view files.old).events
         ++ Opened pass_name.now ∷ Opened asked.now.script.now ∷ Opened asked.now.from.now ∷ []) }
     ensures sent { OnOk result ((O.view output.new).settled ≡ true) }
+    ensures silent { IfErr result (λ e. is_usage e ≡ true → output.new ≡ output.old) }
 {
     let pass = read_pass(alloc, files, pass_name)?;
     match Passphrase::new(trimmed(pass.as_slice()), WORK_FACTOR_LIMIT) {
@@ -335,6 +343,8 @@ pub fn drill_file<F: FileSet, O: Sink>(
         ≡ (F.view files.old).events ++ (order_asked (Drill asked.now)).done) }
     // What was written was sent on.
     ensures sent { OnOk result ((O.view output.new).settled ≡ true) }
+    // What is refused prints nothing.
+    ensures silent { IfErr result (λ e. is_usage e ≡ true → output.new ≡ output.old) }
     // Both or neither of `--clear` and `--pass`.
     ensures one { asked.now.clear ≡ is_some (option_text asked.now.pass)
         → RefusesAtOnce (F.view files.old).events (F.view files.new).events result }

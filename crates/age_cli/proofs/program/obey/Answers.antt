@@ -126,7 +126,7 @@ returns-in-Drill-clause-obeys g c =
       asked = Drill here.asked;
       made = subst (Requests (texts c.args.words.now)) here.is (rw c.in-Ok-Some.field-0-is at c.in-Ok-Some.ensures.asked);
       acts = drill_acts _ _ _ _ _ _ _ c.drill_file.result did.kept refl here.asked did.order did.order_done;
-      answers = (refl, did.sent, did.one);
+      answers = (refl, did.sent, did.silent, did.one);
     }))
 
 pub returns-in-Drill-clause-announced : goal.returns-in-Drill-clause-announced
