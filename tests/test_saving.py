@@ -3,11 +3,13 @@ folders and file systems that refuse a new file, an input that changes before it
 import errno
 import fcntl
 import os
+import select
 import signal
+import subprocess
 import threading
 import time
 
-from tests.case import needs, twice
+from tests.case import SECONDS, needs, twice
 from tests.files import NOBODY, OTHER_RUN, PLAIN, WRITE, Feeding, FilesCase
 from tests.files import as_nobody, chunk_fault, reason, unsaved, unwritten
 from tools import shim
@@ -196,21 +198,31 @@ class SavingTest(FilesCase):
 
     @needs(root=True)
     def test_unreadable_pipe(self):
-        """The line of the fault comes before the position is saved, which waits at a pipe that may only be written."""
+        """The line of the fault comes before the position is saved, which waits at a pipe that may only be written. It does too if IN is a
+        pipe, which can't be read again to find the position."""
         os.umask(0)
         os.mkfifo(self.path("inbox"), 0o222)
         os.umask(0o022)
-        words = "decrypt --pass pass --save inbox cut /dev/null"
-        for is_killed in (True, False):
-            first = self.started(words, **as_nobody())
-            self.see(f"a pipe that may only be written, {is_killed}: the fault", first.stderr.readline() == chunk_fault(2))
-            self.see(f"a pipe that may only be written, {is_killed}: it is waited at", first.poll() is None)
-            if is_killed:
-                first.kill()
-                self.ends("a pipe that may only be written: a run that is killed", first, -signal.SIGKILL, b"")
-            else:
-                self.see("a pipe that may only be written: a position", self.read("inbox").startswith(b"age-position/v2 2 "))
-                self.ends("a pipe that may only be written: a run that goes on", first, 1, b"")
+        os.mkfifo(self.path("in"))
+        for read in ("cut", "in"):
+            for is_killed in (True, False):
+                with subprocess.Popen(["sh", "-c", "exec cat cut >in"], cwd=self.room) as feeding:
+                    self.see_fault_first(read, is_killed)
+                    feeding.kill()
+
+    def see_fault_first(self, read, is_killed):
+        """Counts whether the line of the fault is there while the run waits to save its position."""
+        name = f"a pipe that may only be written, IN is {read}, {is_killed}"
+        first = self.started(f"decrypt --pass pass --save inbox {read} /dev/null", **as_nobody())
+        came = select.select([first.stderr], [], [], SECONDS)[0]
+        self.see(f"{name}: the fault", came and first.stderr.readline() == chunk_fault(2))
+        self.see(f"{name}: it is waited at", first.poll() is None)
+        if is_killed:
+            first.kill()
+            self.ends(f"{name}: the run is killed", first, -signal.SIGKILL, b"")
+        else:
+            self.see(f"{name}: a position", self.read("inbox").startswith(b"age-position/v2 2 "))
+            self.ends(f"{name}: the run goes on", first, 1, b"")
 
     def test_direct(self):
         """If no file can be made next to the one of `--save`, or take its place, that one is written itself."""
