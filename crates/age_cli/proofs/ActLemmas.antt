@@ -15,7 +15,7 @@ use Rattle.age_command.specs.Endings.{is_usage}
 use Rattle.age_command.specs.Files.{HasReason}
 use Rattle.age_command.specs.declared.ending.Ending.{Ending}
 use Rattle.age_cli.specs.inner.Openings.{IsFresh}
-use Rattle.age_cli.specs.Acts.{Acts, clobber_of, out_of, EndsBefore, GivesNone, HasEngineEnded, OfEngine, Spares, progress_of, input_of, IsUsage, LeavesOut, WritesOut}
+use Rattle.age_cli.specs.Acts.{Acts, clobber_of, out_of, EndsBefore, HasEngineEnded, IsBlamed, OfEngine, Spares, progress_of, input_of, IsUsage, LeavesOut, WritesOut}
 use Rattle.age_cli.proofs.CommandLemmas.{not_well, this_error, just_error}
 use Rattle.age_command.proofs.EventLemmas.{longer}
 use Rattle.std.proofs.lemmas.Result.{IfErr-weaker}
@@ -55,7 +55,7 @@ module _ (IsPorts : Ports → Type 0) (shows : Bool) (asked : Request) (before a
       → Follows (order_asked asked).done before.events after.events
       → (shows ≡ true → IsUsage e → Follows (order_asked asked).judged before.events after.events)
       → (NamesTwice (order_asked asked).apart → (after.events ≡ before.events) × IsUsage e)
-      → (shows ≡ true → IsUsage e → NamesTwice (order_asked asked).apart ⊎ GivesNone asked before.entries)
+      → (shows ≡ true → IsUsage e → IsBlamed asked before.entries e)
       → Unshown → Acted
   acts_early e is kept early reason follows judged apart blamed silent = record {
     done = not_well r e is _;
@@ -90,7 +90,7 @@ module _ (IsPorts : Ports → Type 0) (shows : Bool) (asked : Request) (before a
         stops = λ shown. IfErr-weaker r _ _ (λ e s. inr s) (stops shown);
         keeps = λ shown refused there. absurd (true≢false (sym there ∙ ap is_some (fresh shown refused)));
         usage = impossible _;
-        blamed = λ shown. impossible _;
+        blamed = λ shown. IfErr-weaker r _ _ (λ e no usage. absurd (true≢false (sym usage ∙ no))) fault;
         spares = spares;
         order = order;
         order_done = finished;

@@ -142,7 +142,8 @@ either_way (Ok x) P Q R p q well bad = well p
 either_way (Err e) P Q R p q well bad = bad q
 
 -- what is asked of a choice is asked of what the options say
-pub in_order : {A : Type 0} (shows : Bool) (a b : List Event) (old new : FilesView) (IsRead : A → Type 0) (IsTwice Blame Failed : Type 0) (r : Result A Ending) → a ≡ b
+pub in_order : {A : Type 0} (shows : Bool) (a b : List Event) (old new : FilesView) (IsRead : A → Type 0) (IsTwice : Type 0) (Blame : Ending → Type 0)
+    (Failed : Type 0) (r : Result A Ending) → a ≡ b
     → Judges shows a old new IsRead IsTwice Blame Failed r → Judges shows b old new IsRead IsTwice Blame Failed r
 in_order shows a b old new IsRead IsTwice Blame Failed r same judged = subst (λ (order : List Event). Judges shows order old new IsRead IsTwice Blame Failed r) same judged
 

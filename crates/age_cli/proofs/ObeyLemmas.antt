@@ -139,7 +139,7 @@ module _ (IsPorts : Ports → Type 0) (shows : Bool) (before after : FilesView) 
         stops = λ shown. every_fault r _ (λ e. inr tt);
         keeps = λ shown refused there. absurd (true≢false (sym there));
         usage = impossible _;
-        blamed = λ shown. impossible _;
+        blamed = λ shown. IfErr-weaker r _ _ (λ e no usage. absurd (true≢false (sym usage ∙ no))) fault;
         spares = λ shown. spares_kept (Inspect file) before.entries after.entries kept;
         order = followed before.events after.events _ noted;
         order_done = always r _ noted;

@@ -21,18 +21,21 @@ use Rattle.age_cli_args.specs.Requests.{option_text}
 use Rattle.age_cli_args.specs.declared.request.ClobberOption.{ClobberOption}
 use Rattle.age_cli_args.specs.declared.request.ClobberOption.TheVariants.{Allowed, Refused}
 use Rattle.age_cli_args.specs.declared.request.Decrypting.{Decrypting}
+use Rattle.age_cli_args.specs.declared.request.IdentityOptions.{IdentityOptions}
 use Rattle.age_cli_args.specs.declared.request.ProgressOption.{ProgressOption}
 use Rattle.age_cli_args.specs.declared.request.ProgressOption.TheVariants.{Silent, Shown}
 use Rattle.age_cli_args.specs.declared.request.Request.{Request}
 use Rattle.age_cli_args.specs.declared.request.Request.TheVariants.{Encrypt, Decrypt, Resume, Inspect, Drill}
 use Rattle.age_command.specs.Endings.{is_usage, EndsEarly}
 use Rattle.age_command.specs.declared.ending.Ending.{Ending}
-use Rattle.age_command.specs.declared.ending.Ending.TheVariants.{Fault, Unsaved}
+use Rattle.age_command.specs.declared.ending.Ending.TheVariants.{Usage, Fault, Unsaved}
+use Rattle.age_command.specs.declared.ending.Usage.TheVariants.{SameFile, BadPassphraseFile, BadRandomFile}
 use Rattle.age_command.specs.Files.{HasReason, Files, SparesBut, SparesBoth}
 use Rattle.age_command.specs.declared.identity.Identity.{Identity}
-use Rattle.age_command.specs.Identities.{allows_by, refuses_by, OpensBy}
-use Rattle.age_command.specs.Orders.{Follows, NamesTwice, order_asked}
-use Rattle.age_cli.specs.Commands.{MakesSecret, HoldsNoPosition, IsPositionIn, old_for}
+use Rattle.age_command.specs.Identities.{allows_by, refuses_by, OpensBy, blame_by}
+use Rattle.age_command.specs.Orders.{Follows, NamesTwice, order_asked, random_name}
+use Rattle.age_cli.specs.Commands.{MakesSecret, HoldsNoPassphrase, HoldsNoPosition, HoldsNoRandom}
+use Rattle.age_cli.specs.Commands.{IsPositionIn, old_for}
 
 -- ---- How a command or a run ended: with all done, or with an ending.
 
@@ -222,14 +225,27 @@ EndsBefore (Resume r) old ending = EndsEarly ending
     ⊎ ((ending ≡ Fault BadPosition) × HoldsNoPosition (old r.position.now))
 EndsBefore other old ending = EndsEarly ending
 
--- the options and the files that they name give no secret, or nothing that opens the input; a drill
--- may be refused for its script too, and `inspect` isn't
-abbrev pub GivesNone : Request → Files → Type 0
-GivesNone (Encrypt e) old = (secret : SecretView) → MakesSecret e old secret → ⊥
-GivesNone (Decrypt d) old = (identity : Identity) → OpensBy old d.identity identity → ⊥
-GivesNone (Resume r) old = (identity : Identity) → OpensBy old r.decrypting.identity identity → ⊥
-GivesNone (Drill d) old = Unit {0}
-GivesNone (Inspect file) old = ⊥
+-- the options and the file that they name open nothing, and this ending says why
+abbrev pub OpensNone : Files → IdentityOptions → Ending → Type 0
+OpensNone old options ending = (ending ≡ Usage (blame_by options))
+    × ((identity : Identity) → OpensBy old options identity → ⊥)
+
+-- The options and the files that they name give no secret or identity, and the ending says which of
+-- them doesn't. A drill may be refused for more, and `inspect` isn't.
+abbrev pub GivesNone : Request → Files → Ending → Type 0
+GivesNone (Encrypt e) old ending =
+    ((ending ≡ Usage BadPassphraseFile) × HoldsNoPassphrase (old e.pass.now) e.log)
+    ⊎ ((ending ≡ Usage BadRandomFile) × HoldsNoRandom (old (random_name (option_text e.random))))
+GivesNone (Decrypt d) old ending = OpensNone old d.identity ending
+GivesNone (Resume r) old ending = OpensNone old r.decrypting.identity ending
+GivesNone (Drill d) old ending = Unit {0}
+GivesNone (Inspect file) old ending = ⊥
+
+-- the command line is refused for what the ending says: names that have to differ are equal, or the
+-- options and the files that they name give none
+abbrev pub IsBlamed : Request → Files → Ending → Type 0
+IsBlamed asked old ending = ((ending ≡ Usage SameFile) × NamesTwice (order_asked asked).apart)
+    ⊎ GivesNone asked old ending
 
 -- what IN holds, of a command that may show progress
 abbrev pub input_of : Request → Files → Option (List ℕ)
@@ -308,9 +324,8 @@ module _ (IsPorts : Ports → Type 0) where
         → IsErr ended × (after.entries ≡ before.entries)
     -- A command line that is refused changes no file.
     pub usage : IfErr ended (λ e. IsUsage e → after.entries ≡ before.entries)
-    -- If contracts see the files, it is refused for this alone.
-    pub blamed : shows ≡ true → IfErr ended (λ e. IsUsage e
-        → NamesTwice (order_asked asked).apart ⊎ GivesNone asked before.entries)
+    -- If contracts see the files, it is refused for this alone, and the ending says for what.
+    pub blamed : shows ≡ true → IfErr ended (λ e. IsUsage e → IsBlamed asked before.entries e)
     -- However it ended, no file but OUT and the file of `--save` differs.
     pub spares : shows ≡ true → Spares asked before.entries after.entries
     -- What is opened and made, also of the machine's files, is a beginning of the command's order.

@@ -43,6 +43,13 @@ pub record MakesSecret (asked : Encrypting) (old : Files) (secret : SecretView) 
   pub within : IsAllowed secret.pass secret.log
   pub random_is : IsRandomIn (old (random_name (option_text asked.random))) secret
 
+-- a file holds no passphrase that may be used with this work factor, and no random bytes
+abbrev pub HoldsNoPassphrase : Option (List ℕ) → ℕ → Type 0
+HoldsNoPassphrase held log = (pass : List ℕ) → IsPassphraseIn held pass → IsAllowed pass log → ⊥
+
+abbrev pub HoldsNoRandom : Option (List ℕ) → Type 0
+HoldsNoRandom held = (secret : SecretView) → IsRandomIn held secret → ⊥
+
 -- ---- Where `resume` begins.
 
 -- the position in a file

@@ -14,7 +14,8 @@ use Rattle.age_cli_args.specs.declared.request.Request.{Request}
 use Rattle.age_cli_args.specs.declared.request.Request.TheVariants.{Inspect, Drill}
 use Rattle.age_command.specs.Endings.{ReportsEnding}
 use Rattle.age_command.specs.declared.ending.Ending.{Ending}
-use Rattle.age_command.specs.declared.ending.Ending.TheVariants.{Fault}
+use Rattle.age_command.specs.declared.ending.Ending.TheVariants.{Words, Usage, Fault, Unsaved}
+use Rattle.age_command.specs.declared.ending.Usage.TheVariants as why
 use Rattle.age_command.specs.Files.{IsUnread}
 use Rattle.age_cli.specs.Acts.{Acts, IsUsage, status_by}
 use Rattle.age_cli.specs.Commands.{Reports, ReportsFile, FailsReport, seen}
@@ -30,9 +31,12 @@ pub record World : Type 0 where
 abbrev pub world : FilesView → Supply → SinkView → World
 world files input output = record { files = files; input = input; output = output }
 
--- words are refused; or memory was, while they were read
+-- words are refused, or no request could be read of them; or memory was refused meanwhile
 abbrev pub IsRefusal : Ending → Type 0
-IsRefusal ending = IsUsage ending ⊎ (ending ≡ Fault Memory)
+IsRefusal (Words text) = Unit {0}
+IsRefusal (Usage usage) = usage ≡ why.Unread
+IsRefusal (Fault fault) = fault ≡ Memory
+IsRefusal (Unsaved fault second) = ⊥
 
 -- writing to the output failed, as it says itself
 abbrev pub FailsWriting : (old new : SinkView) → Ending → Type 0

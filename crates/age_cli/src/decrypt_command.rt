@@ -12,7 +12,7 @@ ghost use Rattle.age_command.specs.Orders.{opening_event, NamesTwice, order_aske
 ghost use Rattle.age_command.specs.Endings.{Tells};
 ghost use Rattle.age_command.specs.Files.{SourceFails};
 ghost use Rattle.age_cli.specs.Acts.{Acts, PortsOf, ShowsProgress, ShowsRun};
-ghost use Rattle.age_cli.specs.inner.Openings.{IsReadAs, Judges};
+ghost use Rattle.age_cli.specs.inner.Openings.{BlamesNames, IsReadAs, Judges};
 ghost use Rattle.age_cli.specs.inner.Rereadings.{DecryptsOpened};
 
 use crate::output::{Content, Output, begin_meter, end_meter, open_both};
@@ -81,7 +81,7 @@ pub(crate) fn read_secret<F: FileSet>(
     ensures { Judges (F.shows_bytes) (opening_event (file_of choice.now)) (F.view files.old)
         (F.view files.new) (λ secret. IsSecretIn (F.view files.old).entries (file_of choice.now)
         (file_bytes secret) × IsEnough (F.view files.old).entries choice.now (file_bytes secret))
-        (is_file_named_twice ≡ true) (is_file_named_twice ≡ true) (SourceFails F.In.view) result }
+        (is_file_named_twice ≡ true) (BlamesNames is_file_named_twice) (SourceFails F.In.view) result }
 {
     if is_file_named_twice {
         return Err(Ending::Usage(Usage::SameFile));

@@ -1,6 +1,6 @@
 //! The command that encrypts a file.
 
-ghost use Rattle.std.specs.Prelude.{◌≡◌, ◌⊎◌, ◌<◌, ◌++◌, [], ◌∷◌, ℕ, List, length};
+ghost use Rattle.std.specs.Prelude.{◌≡◌, ◌<◌, ◌++◌, [], ◌∷◌, ℕ, List, length};
 ghost use Rattle.std.specs.Prelude.{Some, true, IfOk, IfErr, IfSome, IfNone};
 ghost use Rattle.age_io.specs.Supply.{Consumes};
 ghost use Rattle.age_fileset.specs.FileSet.{Event, Opened};
@@ -8,15 +8,15 @@ ghost use Rattle.age_cli_args.specs.Requests.{option_text};
 ghost use Rattle.age_cli_args.specs.declared.request.Request.TheVariants.{Encrypt};
 ghost use Rattle.age_command.specs.Endings.{EndsEarly, is_usage, Tells};
 ghost use Rattle.age_command.specs.Files.{SourceFails, HasReason};
-ghost use Rattle.age_file.specs.Encrypts.{SecretView, Encrypts, EncryptFails};
+ghost use Rattle.age_file.specs.Encrypts.{Encrypts, EncryptFails};
 ghost use Rattle.age_file.specs.Runs.{ports};
 ghost use Rattle.age_cli_args.specs.declared.request.ProgressOption.TheVariants.{Silent, Shown};
 ghost use Rattle.age_command.specs.Files.{Files};
 ghost use Rattle.age_command.specs.Orders.{NamesTwice, order_asked, random_name};
-ghost use Rattle.age_command.specs.Identities.{IsPassphraseIn};
-ghost use Rattle.age_keys.specs.Scrypt.{IsAllowed};
-ghost use Rattle.age_cli.specs.Acts.{Acts, GivesNone, PortsOf, ShowsProgress, ShowsRun};
-ghost use Rattle.age_cli.specs.Commands.{MakesSecret, IsRandomIn};
+ghost use Rattle.age_command.specs.declared.ending.Ending.TheVariants.{Usage as UsageEnding};
+ghost use Rattle.age_command.specs.declared.ending.Usage.TheVariants.{BadPassphraseFile, BadRandomFile};
+ghost use Rattle.age_cli.specs.Acts.{Acts, IsBlamed, PortsOf, ShowsProgress, ShowsRun};
+ghost use Rattle.age_cli.specs.Commands.{HoldsNoPassphrase, HoldsNoRandom, MakesSecret};
 ghost use Rattle.age_cli.specs.inner.Openings.{Judges, IsRandom, IsMaterialIn};
 
 use crate::interruption::sealing_end;
@@ -46,8 +46,8 @@ fn random_of(bytes: &[u8]) -> Option<FileRandom>
 fn random_in<S: Source>(alloc: Global, source: &mut S) -> Result<FileRandom, Ending>
     ensures read { IfOk result (λ r. (bytes : List ℕ) × Consumes (S.view source.old).supply
         (S.view source.new).supply bytes × IsRandom bytes r) }
-    ensures short { IfErr result (λ e. is_usage e ≡ true → (bytes : List ℕ)
-        → (S.view source.old).supply.left ≡ Some bytes → length bytes < 48) }
+    ensures short { IfErr result (λ e. is_usage e ≡ true → (e ≡ UsageEnding BadRandomFile)
+        × ((bytes : List ℕ) → (S.view source.old).supply.left ≡ Some bytes → length bytes < 48)) }
     ensures early { IfErr result EndsEarly }
     ensures reason { IfErr result (λ e. (old : Files) (events : List Event)
         → HasReason old events (SourceFails S.view) e) }
@@ -66,7 +66,7 @@ fn read_random<F: FileSet>(alloc: Global, files: &mut F, name: &str) -> Result<F
         → (bytes : List ℕ) × (rest : List ℕ)
         × ((F.view files.old).entries name.now ≡ Some (bytes ++ rest)) × IsRandom bytes r) }
     ensures short { F.shows_bytes ≡ true → IfErr result (λ e. is_usage e ≡ true
-        → (s : SecretView) → IsRandomIn ((F.view files.old).entries name.now) s → ⊥) }
+        → (e ≡ UsageEnding BadRandomFile) × HoldsNoRandom ((F.view files.old).entries name.now)) }
     ensures noted { (F.view files.new).events ≡ (F.view files.old).events ++ Opened name.now ∷ [] }
     ensures early { IfErr result EndsEarly }
     ensures reason { F.shows_bytes ≡ true → IfErr result (HasReason (F.view files.old).entries
@@ -91,8 +91,8 @@ fn read_pass<F: FileSet>(
     ensures read { IfOk result
         (λ v. F.shows_bytes ≡ true → (F.view files.old).entries asked.now.pass.now ≡ Some v.items) }
     ensures refused { F.shows_bytes ≡ true → IfErr result (λ e. is_usage e ≡ true
-        → (pass : List ℕ) → IsPassphraseIn ((F.view files.old).entries asked.now.pass.now) pass
-        → IsAllowed pass asked.now.log → ⊥) }
+        → (e ≡ UsageEnding BadPassphraseFile)
+        × HoldsNoPassphrase ((F.view files.old).entries asked.now.pass.now) asked.now.log) }
 {
     let choice = Choice::PassphraseFile(asked.pass, asked.log);
     let held = choice.read(alloc, files)?;
@@ -142,9 +142,7 @@ fn read_material<F: FileSet>(
         (Opened asked.now.pass.now ∷ Opened (random_name (option_text asked.now.random)) ∷ [])
         (F.view files.old) (F.view files.new) (IsMaterialIn asked.now (F.view files.old).entries)
         (NamesTwice (order_asked (Encrypt asked.now)).apart)
-        (NamesTwice (order_asked (Encrypt asked.now)).apart
-        ⊎ GivesNone (Encrypt asked.now) (F.view files.old).entries) (SourceFails F.In.view)
-        result }
+        (IsBlamed (Encrypt asked.now) (F.view files.old).entries) (SourceFails F.In.view) result }
 {
     if names_out_twice(files, asked) {
         return Err(Ending::Usage(Usage::SameFile));
@@ -163,8 +161,9 @@ fn read_material<F: FileSet>(
 fn secret_of<'a>(asked: &Encrypting<'_>, material: &'a Material) -> Result<Secret<'a>, Usage>
     ensures makes { IfOk result (λ secret. (old : Files) → IsMaterialIn asked.now old material.now
         → MakesSecret asked.now old secret) }
-    ensures none { IfErr result (λ _. (old : Files) → IsMaterialIn asked.now old material.now
-        → (secret : SecretView) → MakesSecret asked.now old secret → ⊥) }
+    ensures none { IfErr result (λ usage. (usage ≡ BadPassphraseFile) × ((old : Files)
+        → IsMaterialIn asked.now old material.now
+        → HoldsNoPassphrase (old asked.now.pass.now) asked.now.log)) }
 {
     match Secret::new(
         trimmed(material.pass.as_slice()),

@@ -14,6 +14,9 @@ use Rattle.age_command.specs.Files.{Files}
 use Rattle.age_command.specs.Orders.{opening_event, identity_order}
 use Rattle.age_command.specs.declared.choice.Choice.{Choice}
 use Rattle.age_command.specs.declared.choice.Choice.TheVariants.{PassphraseFile, FileKey, SharedFile}
+use Rattle.age_command.specs.declared.ending.Usage.{Usage}
+use Rattle.age_command.specs.declared.ending.Usage.TheVariants.{GiveOneIdentity, BadFileKey}
+use Rattle.age_command.specs.declared.ending.Usage.TheVariants.{BadPassphraseFile, BadSharedFile}
 use Rattle.age_command.specs.declared.identity.Identity.{Identity}
 use Rattle.age_command.specs.declared.identity.Identity.TheVariants.{ByPassphrase, ByFileKey, ByShared}
 
@@ -67,6 +70,17 @@ abbrev pub OpensBy : Files → IdentityOptions → Identity → Type 0
 OpensBy old u identity = IsIdentity old (option_text u.pass) (option_text u.file_key) (option_text u.shared)
     u.max_log identity
 
+-- what is to blame if these options open nothing: the file or the key that the one of them gives, or
+-- that there isn't one
+abbrev pub blame_of : Option Text → Option Text → Option Text → Usage
+blame_of (Some pass) None None = BadPassphraseFile
+blame_of None (Some digits) None = BadFileKey
+blame_of None None (Some name) = BadSharedFile
+blame_of pass file_key shared = GiveOneIdentity
+
+abbrev pub blame_by : IdentityOptions → Usage
+blame_by u = blame_of (option_text u.pass) (option_text u.file_key) (option_text u.shared)
+
 -- ---- What opens a file, by the one option that is chosen.
 
 -- the file that a choice names, if it names one
@@ -78,6 +92,12 @@ file_of (SharedFile name) = Some name.now
 -- the bytes of a file that was read, if it wasn't too long
 abbrev pub file_bytes : {Z : Type 0} → Option (Vec ℕ Z) → Option (List ℕ)
 file_bytes = option_map (λ v. v.items)
+
+-- what is to blame if a choice opens nothing
+abbrev pub blame_in : Choice → Usage
+blame_in (PassphraseFile name max_log) = BadPassphraseFile
+blame_in (FileKey known) = BadFileKey
+blame_in (SharedFile name) = BadSharedFile
 
 -- these bytes, if there are any, are what the file of this name holds, if there is a name
 abbrev pub IsSecretIn : Files → Option Text → Option (List ℕ) → Type 0
@@ -107,6 +127,8 @@ pub record Chooses (options : IdentityOptions) (choice : Choice) : Type 0 where
   -- Its file is the one that the options name.
   pub order : opening_event (file_of choice)
       ≡ identity_order (option_text options.pass) (option_text options.shared)
+  -- If it makes nothing, that is to blame which is if the options open nothing.
+  pub blame : blame_in choice ≡ blame_by options
   -- What it makes of the bytes of its file is what the options and the files make.
   pub opens : (old : Files) (held : Option (List ℕ)) (identity : Identity)
       → IsSecretIn old (file_of choice) held → Makes choice held identity

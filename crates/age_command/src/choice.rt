@@ -7,6 +7,7 @@ ghost use Rattle.age_fault.specs.declared.fault.FileFault.TheVariants.{Read};
 ghost use Rattle.age_fileset.specs.FileSet.{OpenFails};
 ghost use Rattle.age_command.specs.Orders.{opening_event};
 ghost use Rattle.age_command.specs.Identities.{IsPassphraseIn, IsSharedIn, OpensBy, file_of};
+ghost use Rattle.age_command.specs.Identities.{blame_by, blame_in};
 ghost use Rattle.age_command.specs.Identities.{file_bytes, IsSecretIn, Makes, Chooses, IsEnough};
 ghost use Rattle.age_command.specs.Files.{SourceFails, IsUnread};
 ghost use Rattle.age_fileset.specs.declared.files.OpenFault.TheVariants.{Fault};
@@ -36,6 +37,7 @@ impl<'a> Choice<'a> {
     /// The choice made by the single identity option. Refuses none, several, and a bad file key.
     pub fn of(options: &IdentityOptions<'a>) -> Result<Choice<'a>, Usage>
         ensures chooses { IfOk result (Chooses options.now) }
+        ensures blame { IfErr result (λ usage. usage ≡ blame_by options.now) }
         ensures none { IfErr result (λ _. (old : Files) (identity : Identity)
             → OpensBy old options.now identity → ⊥) }
     {
@@ -80,6 +82,7 @@ impl<'a> Choice<'a> {
     /// passphrase, or no shared secret with its recipient.
     pub fn identity<'s>(self, secret: &'s Option<Vec<u8>>) -> Result<Identity<'s>, Usage>
         ensures makes { IfOk result (Makes self.entry (file_bytes secret.now)) }
+        ensures blame { IfErr result (λ usage. usage ≡ blame_in self.entry) }
         ensures none { IfErr result (λ _. (identity : Identity)
             → Makes self.entry (file_bytes secret.now) identity → ⊥) }
     {

@@ -14,6 +14,8 @@ use Rattle.age_cli_args.specs.declared.request.Decrypting.{Decrypting}
 use Rattle.age_cli_args.specs.declared.request.Encrypting.{Encrypting}
 use Rattle.age_command.specs.Endings.{EndsEarly, RefusesAtOnce, is_usage}
 use Rattle.age_command.specs.declared.ending.Ending.{Ending}
+use Rattle.age_command.specs.declared.ending.Ending.TheVariants.{Usage}
+use Rattle.age_command.specs.declared.ending.Usage.TheVariants.{SameFile}
 use Rattle.age_command.specs.Files.{Files, HasReason}
 use Rattle.age_command.specs.Orders.{Follows, random_name}
 use Rattle.age_cli.specs.declared.encrypt_command.Material.{Material}
@@ -59,10 +61,15 @@ pub record OpensFiles {A : Type 0} (shows : Bool) (order whole : List Event) (ol
   -- The command line is not to blame if contracts see the files.
   pub fault : shows ≡ true → IfErr result (λ ending. is_usage ending ≡ false)
 
+-- names that have to differ are equal, and the ending says so
+abbrev pub BlamesNames : Bool → Ending → Type 0
+BlamesNames is_twice ending = (ending ≡ Usage SameFile) × (is_twice ≡ true)
+
 -- the files by which a command line is judged were opened, `order` being the events of that, and
 -- this was read of them; if names that have to differ are equal, none is
 pub record Judges {A : Type 0} (shows : Bool) (order : List Event) (old new : FilesView)
-    (IsRead : A → Type 0) (IsTwice Blame Failed : Type 0) (result : Result A Ending) : Type 0 where
+    (IsRead : A → Type 0) (IsTwice : Type 0) (Blame : Ending → Type 0) (Failed : Type 0)
+    (result : Result A Ending) : Type 0 where
   -- No entry differs.
   pub kept : new.entries ≡ old.entries
   -- What was read is what the files hold.
@@ -74,7 +81,7 @@ pub record Judges {A : Type 0} (shows : Bool) (order : List Event) (old new : Fi
   -- Names that have to differ are refused before a file is opened.
   pub apart : IsTwice → RefusesAtOnce old.events new.events result
   -- The command line is refused for this alone if contracts see the files.
-  pub blamed : shows ≡ true → IfErr result (λ ending. is_usage ending ≡ true → Blame)
+  pub blamed : shows ≡ true → IfErr result (λ ending. is_usage ending ≡ true → Blame ending)
   -- It ended early.
   pub early : IfErr result EndsEarly
   -- It had a reason.

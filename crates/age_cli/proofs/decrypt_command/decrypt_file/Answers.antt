@@ -1,4 +1,4 @@
-use Rattle.std.proofs.Common.{◌∙◌, ◌++◌, ◌∷◌, [], inl, inr, refl, sym, subst, true≢false, Some}
+use Rattle.std.proofs.Common.{◌∙◌, ◌++◌, ◌∷◌, [], ap, inl, inr, refl, sym, subst, true≢false, Some}
 use Rattle.age_file.specs.Runs.{ports}
 use Rattle.age_fileset.specs.FileSet.{Opened, Created}
 use Rattle.age_cli_args.specs.Requests.{option_text}
@@ -22,7 +22,7 @@ returns-in_err-choice-clause-acts g c =
     let e : Ending = Usage c.in_err-choice.field-0.0 in
     acts_early _ _ (Decrypt d) _ _ _ _ _ c.from_residual.result e c.from_residual.ensures refl (λ shown. tt) (λ shown. tt) (none_done _ _) (λ shown usage. none_done _ _)
     (λ twice. (refl, refl))
-    (λ shown usage. inr (c.in_err-choice.ensures.none (g.F.FileSet.view c.args.files.now).entries)) refl
+    (λ shown usage. inr (ap Usage c.in_err-choice.ensures.blame, c.in_err-choice.ensures.none (g.F.FileSet.view c.args.files.now).entries)) refl
 
 pub returns-in_err-choice-clause-announced : goal.returns-in_err-choice-clause-announced
 returns-in_err-choice-clause-announced g c = unmade c.from_residual.result _ _ _ refl
@@ -35,7 +35,7 @@ returns-in_err-secret-clause-acts g c =
     acts_early _ _ (Decrypt d) _ _ _ _ _ c.from_residual-in_err-secret.result e c.from_residual-in_err-secret.ensures judged.kept (λ shown. judged.early) judged.reason
     (longer _ (Opened d.from.now ∷ (preparing (option_text d.save) ++ making (Some d.to.now) d.durability)) _ _ judged.followed) (λ shown usage. judged.followed)
     (λ twice. judged.apart (c.names_a_file_twice-is_file_named_twice.ensures.twice twice))
-    (λ shown usage. inl (c.names_a_file_twice-is_file_named_twice.ensures.shown shown (judged.blamed shown usage))) refl
+    (λ shown usage. let named = judged.blamed shown usage in inl (named.0, c.names_a_file_twice-is_file_named_twice.ensures.shown shown named.1)) refl
 
 pub returns-in_err-secret-clause-announced : goal.returns-in_err-secret-clause-announced
 returns-in_err-secret-clause-announced g c = unmade c.from_residual-in_err-secret.result _ _ _ refl
@@ -48,8 +48,12 @@ returns-in_err-identity-clause-acts g c =
     acts_early _ _ (Decrypt d) _ _ _ _ _ c.from_residual-in_err-identity.result e c.from_residual-in_err-identity.ensures judged.kept (λ shown. tt) (λ shown. tt)
     (longer _ (Opened d.from.now ∷ (preparing (option_text d.save) ++ making (Some d.to.now) d.durability)) _ _ judged.followed) (λ shown usage. judged.followed)
     (λ twice. absurd (judged.apart (c.names_a_file_twice-is_file_named_twice.ensures.twice twice)).1)
-    (λ shown usage. inr (λ identity opens. c.in_err-identity.ensures.none identity
-    ((judged.read shown).1 identity (c.in_ok-choice.ensures.chooses.only (g.F.FileSet.view c.args.files.now).entries identity opens)))) refl
+    (λ shown usage. inr (
+      ap Usage (c.in_err-identity.ensures.blame ∙ c.in_ok-choice.ensures.chooses.blame),
+      λ identity opens.
+          c.in_err-identity.ensures.none identity
+          ((judged.read shown).1 identity (c.in_ok-choice.ensures.chooses.only (g.F.FileSet.view c.args.files.now).entries identity opens)),
+    )) refl
 
 pub returns-in_err-identity-clause-announced : goal.returns-in_err-identity-clause-announced
 returns-in_err-identity-clause-announced g c = unmade c.from_residual-in_err-identity.result _ _ _ refl

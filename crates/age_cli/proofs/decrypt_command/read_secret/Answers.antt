@@ -13,7 +13,7 @@ returns-then-is_file_named_twice g c = record {
   noted = tt;
   followed = none_done _ _;
   apart = λ twice. (refl, refl);
-  blamed = λ shown usage. c.if-is_file_named_twice.true;
+  blamed = λ shown usage. (refl, c.if-is_file_named_twice.true);
   early = tt;
   reason = λ shown. tt;
 }

@@ -1,4 +1,4 @@
-use Rattle.std.proofs.Common.{◌∙◌, ◌∷◌, [], inr, refl, ap, sym, subst, true≢false, Some, None, Result, OnOk}
+use Rattle.std.proofs.Common.{◌∙◌, ◌∷◌, [], inl, inr, refl, ap, sym, subst, true≢false, Some, None, Result, OnOk}
 use Rattle.age_io.specs.Supply.{IsAtEnd}
 use Rattle.age_file.specs.Runs.{ports}
 use Rattle.age_fileset.specs.FileSet.{Opened, Created}
@@ -39,7 +39,8 @@ returns-in_err-secret-clause-acts g c =
     acts_early _ _ (Encrypt a) _ _ _ _ _ c.from_residual-in_err-secret.result e c.from_residual-in_err-secret.ensures judged.kept (λ shown. tt) (λ shown. tt)
     (longer _ (Opened a.from.now ∷ making (Some a.to.now) a.durability) _ _ judged.followed) (λ shown usage. judged.followed)
     (λ twice. absurd (judged.apart twice).1)
-    (λ shown usage. inr (λ secret makes. c.in_err-secret.ensures.none (g.F.FileSet.view c.args.files.now).entries (judged.read shown) secret makes)) refl
+    (λ shown usage. let none = c.in_err-secret.ensures.none in
+    inr (inl (ap Usage none.0, none.1 (g.F.FileSet.view c.args.files.now).entries (judged.read shown)))) refl
 
 pub returns-in_err-secret-clause-announced : goal.returns-in_err-secret-clause-announced
 returns-in_err-secret-clause-announced g c = unmade c.from_residual-in_err-secret.result _ _ _ refl

@@ -7,8 +7,7 @@ use Rattle.age_command.specs.inner.Endings.{ending_of}
 use Rattle.age_command.specs.declared.ending.Ending.{Ending}
 use Rattle.age_command.specs.Orders.{random_name}
 use Rattle.age_command.specs.Files.{Files}
-use Rattle.age_keys.specs.Scrypt.{IsAllowed}
-use Rattle.age_cli.specs.Commands.{IsRandomIn}
+use Rattle.age_cli.specs.Commands.{HoldsNoRandom}
 use Rattle.age_cli.proofs.CommandLemmas.{no_value, not_well, this_error, created_fault, streams_early, streams_reason, reason_at}
 use Rattle.age_command.proofs.EventLemmas.{followed, none_done, then_did}
 use Rattle.age_cli.proofs.encrypt_command.read_material.Goals as goal
@@ -20,7 +19,7 @@ returns-then-names_out_twice g c = record {
   noted = tt;
   followed = none_done _ _;
   apart = λ twice. (refl, refl);
-  blamed = λ shown usage. inl (c.names_out_twice.ensures.shown shown c.if-names_out_twice.true);
+  blamed = λ shown usage. inl (refl, c.names_out_twice.ensures.shown shown c.if-names_out_twice.true);
   early = tt;
   reason = λ shown. tt;
 }
@@ -59,8 +58,7 @@ returns-in_err-pass g c =
         front = refl;
       };
       apart = λ twice. absurd (true≢false (sym (c.names_out_twice.ensures.twice twice) ∙ c.if-names_out_twice.false));
-      blamed = λ shown. this_error r e is _ (λ usage.
-          inr (λ s makes. c.in_err-pass.ensures.refused shown usage s.pass makes.passphrase (subst (IsAllowed s.pass) makes.log_is makes.within)));
+      blamed = λ shown. this_error r e is _ (λ usage. inr (inl (c.in_err-pass.ensures.refused shown usage)));
       early = this_error r e is EndsEarly c.in_err-pass.ensures.early;
       reason = λ shown. this_error r e is _ (c.in_err-pass.ensures.reason shown);
     }
@@ -78,9 +76,12 @@ returns-in_err-random g c =
       followed = followed _ _ _ (then_did _ _ _ (Opened a.pass.now ∷ []) (Opened c.random_name-random_name.result.now ∷ []) c.in_ok-pass.ensures.noted
           c.in_err-random.ensures.noted ∙ ap (λ n. (g.F.FileSet.view c.args.files.now).events ++ Opened a.pass.now ∷ Opened n ∷ []) c.random_name-random_name.ensures);
       apart = λ twice. absurd (true≢false (sym (c.names_out_twice.ensures.twice twice) ∙ c.if-names_out_twice.false));
-      blamed = λ shown. this_error r e is _ (λ usage. inr (λ s makes. c.in_err-random.ensures.short shown usage s
-          (subst (λ n. IsRandomIn ((g.F.FileSet.view c.read_pass.new.files).entries n) s) (sym c.random_name-random_name.ensures)
-          (subst (λ (f : Files). IsRandomIn (f (random_name (option_text a.random))) s) (sym c.in_ok-pass.ensures.kept) makes.random_is))));
+      blamed = λ shown. this_error r e is _ (λ usage. let short = c.in_err-random.ensures.short shown usage in
+          inr (inr (
+            short.0,
+            subst (λ (f : Files). HoldsNoRandom (f (random_name (option_text a.random)))) c.in_ok-pass.ensures.kept
+                (subst (λ n. HoldsNoRandom ((g.F.FileSet.view c.read_pass.new.files).entries n)) c.random_name-random_name.ensures short.1),
+          )));
       early = this_error r e is EndsEarly c.in_err-random.ensures.early;
       reason = λ shown. this_error r e is _ (reason_at _ _ (g.F.FileSet.view c.read_random.new.files).events (SourceFails g.F.In.Source.view) e c.in_ok-pass.ensures.kept (c.in_err-random.ensures.reason shown));
     }

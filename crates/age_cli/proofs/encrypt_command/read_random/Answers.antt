@@ -30,8 +30,11 @@ returns g c = record {
       let found = c.in_ok-source.ensures.found shown in
       let front = front_read _ _ of.0 (ap (λ o. is_some o) found.1 ∙ found.0) of.1 in
       (of.0, front.0, sym found.1 ∙ front.1, of.2)) c.random_in.ensures.read;
-  short = λ shown. IfErr-weaker c.random_in.result _ _ (λ e short usage secret held.
-      too_few secret _ held (short usage _ ((c.in_ok-source.ensures.found shown).1 ∙ held.bytes))) c.random_in.ensures.short;
+  short = λ shown. IfErr-weaker c.random_in.result _ _ (λ e short usage. (
+    (short usage).0,
+    λ secret held.
+        too_few secret _ held ((short usage).1 _ ((c.in_ok-source.ensures.found shown).1 ∙ held.bytes)),
+  )) c.random_in.ensures.short;
   noted = c.in_ok-source.ensures.noted;
   early = c.random_in.ensures.early;
   reason = λ shown. IfErr-weaker c.random_in.result _ _ (λ e so. so _ _) c.random_in.ensures.reason;

@@ -21,7 +21,7 @@ returns-then-is_empty-clause-announced g c = unmade c.report.result _ _ _ refl
 pub returns-in-Ok-None-clause-obeys : goal.returns-in-Ok-None-clause-obeys
 returns-in-Ok-None-clause-obeys g c = inr (inr (record {
   done = tt;
-  stops = inl (inl refl, refl);
+  stops = inl (refl, refl);
   untouched = refl;
   unread = refl;
   silent = refl;

@@ -1,12 +1,8 @@
-use Rattle.std.proofs.Common.{◌∙◌, ◌∷◌, [], refl, Result, Ok, Err, IfErr, OnOk}
-use Rattle.std.proofs.lemmas.Result.{IfOk-from_err}
+use Rattle.std.proofs.Common.{◌∙◌, ◌∷◌, [], refl, Result, Ok, Err, OnOk}
+use Rattle.std.proofs.lemmas.Result.{IfOk-from_err, MatchResult-from_err}
 use Rattle.age_fileset.specs.FileSet.{Opened}
 use Rattle.age_command.proofs.EventLemmas.{then_did, followed, longer}
 use Rattle.age_command.proofs.drill.drill.Goals as goal
-
-always_silent : {T E : Type 0} (r : Result T E) (P : E → Type 0) → ((e : E) → P e) → IfErr r P
-always_silent (Ok x) P h = tt
-always_silent (Err e) P h = h e
 
 always : {T E : Type 0} (r : Result T E) (P : Type 0) → P → OnOk r P
 always (Ok x) P h = h
@@ -34,5 +30,5 @@ returns-in_err-script g c =
       order = longer (Opened asked.script.now ∷ []) (Opened asked.from.now ∷ []) _ _ (followed _ _ (Opened asked.script.now ∷ []) c.read_script.ensures.noted);
       order_done = IfOk-from_err c.from_residual.result _ c.from_residual.ensures.0;
       sent = IfOk-from_err c.from_residual.result _ c.from_residual.ensures.0;
-      silent = always_silent c.from_residual.result _ (λ e usage. refl);
+      silent = MatchResult-from_err c.from_residual.result _ _ c.from_residual.ensures.0 (λ e usage. refl);
     }

@@ -1,12 +1,8 @@
-use Rattle.std.proofs.Common.{◌∙◌, ◌∷◌, [], refl, Result, Ok, Err, IfErr}
-use Rattle.std.proofs.lemmas.Result.{on_ok_weaker, IfOk-from_err}
+use Rattle.std.proofs.Common.{◌∙◌, ◌∷◌, [], refl}
+use Rattle.std.proofs.lemmas.Result.{on_ok_weaker, IfOk-from_err, MatchResult-from_err}
 use Rattle.age_fileset.specs.FileSet.{Opened}
 use Rattle.age_command.proofs.EventLemmas.{then_did, then_follows, followed, longer}
 use Rattle.age_command.proofs.drill.drill_sealed.Goals as goal
-
-always_silent : {T E : Type 0} (r : Result T E) (P : E → Type 0) → ((e : E) → P e) → IfErr r P
-always_silent (Ok x) P h = tt
-always_silent (Err e) P h = h e
 
 pub returns-in-Some : goal.returns-in-Some
 returns-in-Some g c =
@@ -45,5 +41,5 @@ returns-in_err-pass g c =
       order = longer first (Opened asked.script.now ∷ Opened asked.from.now ∷ []) _ _ (followed _ _ first c.read_pass.ensures.noted);
       order_done = IfOk-from_err c.from_residual.result _ c.from_residual.ensures.0;
       sent = IfOk-from_err c.from_residual.result _ c.from_residual.ensures.0;
-      silent = always_silent c.from_residual.result _ (λ e usage. refl);
+      silent = MatchResult-from_err c.from_residual.result _ _ c.from_residual.ensures.0 (λ e usage. refl);
     }
