@@ -44,10 +44,10 @@
  * copy of a reader goes on from the same place; never go on from a copy of a writer, which would
  * seal two texts under one nonce). It holds the file key, and a stream that writes holds text too:
  * overwrite it when you are done, by explicit_bzero (a compiler may leave out a memset). The
- * library keeps no pointer and no state. Only age_c_open_.. and age_c_seal_passphrase allocate, by
- * malloc, and free all of it before they return: with a passphrase of work factor N, 2^N KiB, and
- * for the header up to about 18 bytes for each of its bytes, which is 18 MiB for a hostile header
- * of 1 MiB. A call uses less than 100 KiB of stack.
+ * library keeps no pointer and no state. Only age_c_open_.., age_c_header, age_c_stanza and
+ * age_c_seal_passphrase allocate, by malloc, and free all of it before they return: with a
+ * passphrase of work factor N, 2^N KiB, and for the header up to about 18 bytes for each of its
+ * bytes, which is 18 MiB for a hostile header of 1 MiB. A call uses less than 100 KiB of stack.
  *
  * NOT PROMISED. Constant time, and that no trace of keys and passphrases is left: the library
  * overwrites neither its stack nor the memory that it frees, such as scrypt's table.
@@ -68,8 +68,8 @@
  *
  * ERRORS. A call returns 0, the number of a fault (AGE_C_NOT_AGE and so on; docs/FAULTS.md says
  * what each means), AGE_C_MORE or AGE_C_MISUSED. A call that doesn't return 0 has written no byte
- * of `out`, has set *written and *taken (or *text_len and *last_chunk) to 0, and has changed
- * nothing else, with one exception: a fault 17 to 22 of age_c_block, age_c_end, age_c_feed,
+ * of `out`, has set to 0 each number that it would have told (as *written and *taken), and has
+ * changed nothing else, with one exception: a fault 17 to 22 of age_c_block, age_c_end, age_c_feed,
  * age_c_finish or age_c_open_at is kept in the reader (and then age_c_feed took *taken bytes all
  * the same). Each later call of the first four returns that fault again, unless it is misused.
  * After an end has returned 0, repeating it with no bytes returns 0 and writes nothing, and so does
@@ -77,11 +77,12 @@
  * AGE_C_TRAILING, unless it is misused. age_c_seek and age_c_open_at end both: the reader goes on
  * as one that was just begun, at that chunk.
  *
- * MISUSE. A call returns AGE_C_MISUSED if, and only if, a length, a work factor or a chunk's number
- * isn't as the call's comment says, or it takes a block or chunk, or goes to one, and its reader or
- * writer can't be used: `chunk` is 2^48 or more, a reader's `state` is none of those listed below,
- * or a writer's isn't 1; or a stream's `held` is AGE_C_BLOCK or more; or that of one that writes is
- * more than AGE_C_CHUNK, or 0 though its `chunk` isn't. This is looked at before anything else.
+ * MISUSE. A call returns AGE_C_MISUSED if, and only if, a length, a work factor or a number of a
+ * chunk or stanza isn't as the call's comment says, or it takes a block or chunk, or goes to one,
+ * and its reader or writer can't be used: `chunk` is 2^48 or more, a reader's `state` is none of
+ * those listed below, or a writer's isn't 1; or a stream's `held` is AGE_C_BLOCK or more; or that of
+ * one that writes is more than AGE_C_CHUNK, or 0 though its `chunk` isn't. This is looked at before
+ * anything else, but a stanza's number after the header was read.
  *
  * The library is for x86-64 Linux: glibc 2.14 or later, or musl, and a processor with the
  * instructions of x86-64-v2. Link libage_c.a, which holds all that it needs but the C library; or
@@ -178,6 +179,26 @@ _Static_assert(sizeof(age_c_reader) == 64 && sizeof(age_c_writer) == 64, "64 byt
 
 /* AGE_C_VERSION of the library that is linked. */
 uint32_t age_c_version(void);
+
+/* ---- looking at a header ---- */
+
+/* What the header says that `front` begins with, before anything is opened: it has *header_len
+ * bytes and *stanzas stanzas. *work is the work factor that it demands of a passphrase (UINT32_MAX
+ * if it is above that), or 0 if it isn't one valid scrypt stanza alone, so that no passphrase opens
+ * it. AGE_C_MORE says that the bytes end inside the header; here the nonce isn't needed. Nobody has
+ * confirmed what is told: whoever can change the file can change that. (Since 1.2.0.) */
+AGE_C_MUST_CHECK
+uint32_t age_c_header(const uint8_t *front, size_t front_len, size_t *header_len, size_t *stanzas,
+                      uint32_t *work);
+
+/* Stanza number `index` of that header, from 0 and less than *stanzas. Its type and the other
+ * arguments are the *args_len bytes at front + *args_at, with one space between two of them. The
+ * bytes of its body, which its base64 spells, are the first *written of `out`, which has room for
+ * front_len bytes or more. Each call reads the whole header: look at a few stanzas only, since a
+ * hostile header has 174,000. (Since 1.2.0.) */
+AGE_C_MUST_CHECK
+uint32_t age_c_stanza(const uint8_t *front, size_t front_len, size_t index, size_t *args_at,
+                      size_t *args_len, uint8_t *out, size_t out_len, size_t *written);
 
 /* ---- reading ---- */
 

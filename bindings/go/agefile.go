@@ -39,8 +39,9 @@ var (
 	ErrDamaged = errors.New("agefile: the file is damaged or cut off")
 )
 
-// A Fault says what is wrong with a file, by its number in docs/FAULTS.md. 254 says that the file
-// ends in its header or in the 16 bytes after it, 255 that an argument is out of range.
+// A Fault says what is wrong with a file, by its number in docs/FAULTS.md (NumberWrongKey and so
+// on). NumberHeaderOrNonceCut says that the file ends in its header or in the 16 bytes after it,
+// NumberMisused that an argument is out of range.
 type Fault struct {
 	Number uint32
 	Chunk  int64 // -1 if it isn't about one chunk
@@ -58,33 +59,33 @@ func (f *Fault) Error() string {
 
 // meanings says in a few words what each number means.
 var meanings = map[uint32]string{
-	1:               "the file isn't an age file",
-	2:               "the file is armored",
-	3:               "the header is damaged",
-	4:               "the header is damaged",
-	5:               "the header is damaged",
-	6:               "the header is damaged",
-	7:               "the header is too long",
-	9:               "no age program writes such a header",
-	10:              "no age program writes such a header",
-	11:              "the work factor is above the limit",
-	12:              "the file isn't for a key of this kind",
-	13:              "the passphrase or key doesn't open the file",
-	14:              "the header was altered",
-	15:              "an X25519 stanza is malformed, or the shared secret is zero",
-	17:              "the file is damaged or cut off",
-	18:              "the file is cut off",
-	19:              "no age program writes such a payload",
-	20:              "the file is cut off",
-	21:              "something was appended to the file",
-	22:              "the file has too many chunks",
-	28:              "there isn't enough memory",
-	C.AGE_C_MORE:    "the file ends in its header or just after it",
-	C.AGE_C_MISUSED: "an argument is out of range",
+	NumberNotAge:           "the file isn't an age file",
+	NumberArmored:          "the file is armored",
+	NumberBadStanzaLine:    "the header is damaged",
+	NumberBadBody:          "the header is damaged",
+	NumberBadEndLine:       "the header is damaged",
+	NumberNoStanza:         "the header is damaged",
+	NumberHeadTooLong:      "the header is too long",
+	NumberScryptNotAlone:   "no age program writes such a header",
+	NumberBadScrypt:        "no age program writes such a header",
+	NumberWorkTooHigh:      "the work factor is above the limit",
+	NumberNoMatch:          "the file isn't for a key of this kind",
+	NumberWrongKey:         "the passphrase or key doesn't open the file",
+	NumberMacMismatch:      "the header was altered",
+	NumberBadX25519:        "an X25519 stanza is malformed, or the shared secret is zero",
+	NumberChunkDamaged:     "the file is damaged or cut off",
+	NumberChunkCut:         "the file is cut off",
+	NumberEmptyLast:        "no age program writes such a payload",
+	NumberTruncated:        "the file is cut off",
+	NumberTrailing:         "something was appended to the file",
+	NumberTooManyChunks:    "the file has too many chunks",
+	NumberMemory:           "there isn't enough memory",
+	NumberHeaderOrNonceCut: "the file ends in its header or just after it",
+	NumberMisused:          "an argument is out of range",
 }
 
 func (f *Fault) meaning() string {
-	if f.Number == 14 && f.byKey {
+	if f.Number == NumberMacMismatch && f.byKey {
 		return "the file key doesn't fit, or the header was altered"
 	}
 	if text, ok := meanings[f.Number]; ok {
@@ -100,11 +101,11 @@ func (f *Fault) Is(target error) bool {
 
 func (f *Fault) kind() error {
 	switch n := f.Number; {
-	case n == 12 || n == 13 || n == 14 && f.byKey:
+	case n == NumberNoMatch || n == NumberWrongKey || n == NumberMacMismatch && f.byKey:
 		return ErrWrongKey
-	case n == 18 || n == 20 || n == C.AGE_C_MORE:
+	case n == NumberChunkCut || n == NumberTruncated || n == NumberHeaderOrNonceCut:
 		return io.ErrUnexpectedEOF
-	case n >= 3 && n <= 22 && n != 11:
+	case n >= NumberBadStanzaLine && n <= NumberTooManyChunks && n != NumberWorkTooHigh:
 		return ErrDamaged
 	}
 	return nil
@@ -112,7 +113,7 @@ func (f *Fault) kind() error {
 
 // blockFault is the fault of a block. 21 is about what follows the last one.
 func blockFault(number C.uint32_t, reader *C.age_c_reader) *Fault {
-	if number >= 17 && number <= 22 && number != 21 {
+	if number >= NumberChunkDamaged && number <= NumberTooManyChunks && number != NumberTrailing {
 		return &Fault{Number: uint32(number), Chunk: int64(reader.fault_chunk)}
 	}
 	return &Fault{Number: uint32(number), Chunk: -1}
@@ -142,7 +143,8 @@ func FileKey(key []byte) Key {
 
 // SharedSecret is an X25519 shared secret and the recipient that it was computed for, 32 bytes
 // each. For the header's `-> X25519 SHARE`, secret is X25519(identity, SHARE) and recipient is
-// X25519(identity, 9): bindings/README.md shows how to compute them ("Files for an X25519 key").
+// X25519(identity, 9), and ReadHeader gives SHARE: bindings/README.md shows how to compute them
+// ("Files for an X25519 key").
 func SharedSecret(secret, recipient []byte) Key {
 	return Key{open: func(front []byte, reader *C.age_c_reader) C.uint32_t {
 		return C.age_c_open_shared(place(front), length(front), place(secret), length(secret),

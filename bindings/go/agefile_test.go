@@ -82,7 +82,16 @@ func TestSharedSecret(t *testing.T) {
 	}
 	secret, _ := hex.DecodeString("a63e711bbe766ac02492dac2ddac009640a5dec3407e1d76637592c111245643")
 	recipient, _ := hex.DecodeString("ebaa24287c1e692527056fc5ea4806639e8c56c9257e953b6dc556e8be34d20f")
-	reader, err := Open(bytes.NewReader(data), SharedSecret(secret, recipient))
+	header, file, err := ReadHeader(bytes.NewReader(data))
+	if err != nil {
+		t.Fatal(err)
+	}
+	stanza := header.Stanzas[0]
+	if header.Count != 1 || header.Work != 0 || stanza.Type != "X25519" || len(stanza.Body) != 32 ||
+		stanza.Args[0] != "Y4OC5dPKQNGTlZbR6ZAEl/zzlXpPdeDUc++aVmZwUho" {
+		t.Errorf("%+v", header)
+	}
+	reader, err := Open(file, SharedSecret(secret, recipient))
 	if err != nil {
 		t.Fatal(err)
 	}
@@ -92,6 +101,51 @@ func TestSharedSecret(t *testing.T) {
 	secret[0] ^= 1
 	if _, err := Open(bytes.NewReader(data), SharedSecret(secret, recipient)); !errors.Is(err, ErrWrongKey) {
 		t.Error("another secret:", err)
+	}
+}
+
+func TestReadHeader(t *testing.T) {
+	data := sealed(t, []byte("a text"))
+	header, file, err := ReadHeader(bytes.NewReader(data))
+	if err != nil {
+		t.Fatal(err)
+	}
+	stanza := header.Stanzas[0]
+	if header.Work != 1 || header.Count != 1 || len(header.Stanzas) != 1 || stanza.Type != "scrypt" ||
+		len(stanza.Args) != 2 || stanza.Args[1] != "1" || len(stanza.Body) != 32 {
+		t.Errorf("%+v", header)
+	}
+	if reader, err := Open(file, pw()); err != nil {
+		t.Error(err)
+	} else if text, err := io.ReadAll(reader); err != nil || string(text) != "a text" {
+		t.Errorf("%q, %v", text, err)
+	}
+
+	of := func(count int) string {
+		return "age-encryption.org/v1\n" + strings.Repeat("-> a bc !~\nAQID\n", count) + "--- " +
+			strings.Repeat("A", 43) + "\n"
+	}
+	many := of(300)
+	header, file, err = ReadHeader(iotest.OneByteReader(strings.NewReader(many)))
+	if err != nil {
+		t.Fatal(err)
+	}
+	if stanza := header.Stanzas[MaxStanzas-1]; header.Len != len(many) || header.Work != 0 ||
+		header.Count != 300 || len(header.Stanzas) != MaxStanzas || stanza.Type != "a" ||
+		strings.Join(stanza.Args, ",") != "bc,!~" || string(stanza.Body) != "\x01\x02\x03" {
+		t.Errorf("%d %d %d %+v", header.Len, header.Work, header.Count, stanza)
+	}
+	if whole, err := io.ReadAll(file); err != nil || string(whole) != many {
+		t.Errorf("%d bytes, %v", len(whole), err)
+	}
+
+	for data, number := range map[string]uint32{
+		many[:len(many)-1]: NumberHeaderOrNonceCut, of(0): NumberNoStanza, "not age\n": NumberNotAge,
+	} {
+		var fault *Fault
+		if _, _, err := ReadHeader(strings.NewReader(data)); !errors.As(err, &fault) || fault.Number != number {
+			t.Error(number, err)
+		}
 	}
 }
 

@@ -124,7 +124,17 @@ static int opens(void) {
     memset(&reader, 9, sizeof reader);
     memset(&writer, 9, sizeof writer);
     int right = 0;
-    switch (next() % 4) {
+    size_t at = 77, count = 77;
+    uint32_t work = 77;
+    switch (next() % 6) {
+    case 4:
+        answer = age_c_header(front, front_len, &at, &count, &work);
+        right = answer == AGE_C_MORE && at == 0 && count == 0 && work == 0;
+        break;
+    case 5:
+        answer = age_c_stanza(front, front_len, number, &at, &count, out, room, &written);
+        right = answer == (room < front_len ? AGE_C_MISUSED : AGE_C_MORE) && at == 0 && count == 0 && written == 0 && is_untouched(out, room);
+        break;
     case 0:
         answer = age_c_open_passphrase(front, front_len, a, a_len, number, &reader);
         right = answer == (a_len < 1 || a_len > 65536 || number < 1 || number > 22 ? AGE_C_MISUSED : AGE_C_MORE);

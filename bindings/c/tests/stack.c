@@ -13,10 +13,11 @@
 
 #define ROOM ((size_t)1 << 20)
 #define MOST ((size_t)100 << 10)
-#define CALLS 13
+#define CALLS 15
 
-static uint8_t file[AGE_C_FRONT_MAX], out[AGE_C_BLOCK], key[32], noise[48];
-static size_t len, written, taken;
+static uint8_t file[AGE_C_FRONT_MAX], big[AGE_C_FRONT_MAX], out[AGE_C_BLOCK], key[32], noise[48];
+static size_t len, written, taken, args_len;
+static uint32_t work;
 static age_c_reader reader;
 static age_c_writer writer;
 static age_c_stream stream, empty;
@@ -39,6 +40,8 @@ static void *call(void *which) {
     case 9: answer = age_c_finish_text(&write_stream, out, sizeof out, &written); break;
     case 10: answer = age_c_may_open(file, len, 1); break;
     case 11: answer = age_c_open_at(&reader, 3, file, 400, out, sizeof out, &written); break;
+    case 12: answer = age_c_header(file, len, &written, &taken, &work); break;
+    case 13: answer = age_c_stanza(file, len, 0, &taken, &args_len, big, sizeof big, &written); break;
     default: answer = age_c_finish(&stream, out, sizeof out, &written); break;
     }
     return NULL;

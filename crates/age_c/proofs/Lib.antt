@@ -9,3 +9,5 @@ pub mod StreamCallLemmas
 pub mod FrontLemmas
 pub mod FrontSizeLemmas
 pub mod SeekLemmas
+pub mod HeaderLemmas
+pub mod UndamagedOpeningLemmas

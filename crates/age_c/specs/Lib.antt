@@ -3,4 +3,5 @@ pub mod Readers
 pub mod Writers
 pub mod Streams
 pub mod Places
+pub mod Headers
 pub mod inner

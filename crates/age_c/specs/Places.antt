@@ -1,6 +1,10 @@
 -- A chunk that is opened at its place, by one call.
-use Rattle.std.specs.Prelude.{◌≡◌, ◌≢◌, ℕ, ◌<◌, ◌≤◌, List, [], ◌∷◌, length, Bool, true, false}
-use Rattle.age_chunk.specs.Payload.{chunk_limit, chunk_length, block_length}
+use Rattle.std.specs.Prelude.{◌≡◌, ◌≢◌, ℕ, ◌<◌, ◌≤◌, List, [], ◌∷◌, length, Bool, true, false, ◌⊎◌}
+use Rattle.std.specs.Prelude.{slice_index_or}
+use Rattle.std.specs.List.{AllByRecursion}
+use Rattle.age_chunk.specs.Payload.{chunk_limit, chunk_length, block_length, chunk_count, chunks, sealed}
+use Rattle.age_keys.specs.Keys.{box, unbox}
+use Rattle.age_stream.specs.Laws.{IsClosed}
 use Rattle.age_c.specs.Calls.{Answers, misused}
 use Rattle.age_c.specs.Readers.{CanBeUsed, GoesTo, TakesBlock, TakesEnd, after_block}
 use Rattle.age_c.specs.Readers.{Part, AreParts, call_of}
@@ -45,3 +49,43 @@ OpeningsAreParts = (old new : Reader) (chunk : ℕ) (block before after : List �
     → AreParts old (opening_part chunk begun false block answer written after new ∷ []))
     × (length block ≢ block_length
     → AreParts old (opening_part chunk begun true block answer written after new ∷ []))
+
+-- ---- What came undamaged at its place.
+
+-- the chunk of this number of a text, and the block that its writer sealed it as
+abbrev pub chunk_of : List ℕ → ℕ → List ℕ
+chunk_of text chunk = slice_index_or (chunks chunk_length text) chunk []
+
+abbrev pub sealed_block : Reader → List ℕ → ℕ → List ℕ
+sealed_block r text chunk =
+    (slice_index_or (sealed (box r.file_key r.nonce) chunk_length text) chunk ([], [])).1
+
+-- an opening: the chunk that it was of, what was given as its block, what was answered and written,
+-- and the reader after it
+pub record Opening : Type 0 where
+  pub chunk : ℕ
+  pub block : List ℕ
+  pub answer : ℕ
+  pub text : List ℕ
+  pub after : Reader
+
+-- the openings were made one after the other, and nothing else changed the reader; one that was
+-- misused changed nothing
+abbrev pub AreOpenings : Reader → List Opening → Type 0
+AreOpenings r [] = Unit {0}
+AreOpenings r (o ∷ openings) =
+    (((o.answer ≡ misused) × (o.after ≡ r)) ⊎ OpensAt o.chunk o.block r o.answer o.text o.after)
+    × AreOpenings o.after openings
+
+-- the opening gave the chunk of the text, if it was given the block that its writer sealed it as
+abbrev pub IsOpenedRight : Reader → List ℕ → Opening → Type 0
+IsOpenedRight r text o = o.answer ≢ misused → o.chunk < chunk_count chunk_length text
+    → o.block ≡ sealed_block r text o.chunk → (o.answer ≡ 0) × (o.text ≡ chunk_of text o.chunk)
+
+-- each chunk whose block came undamaged is opened, whatever else was: with `parts_are_written`, a
+-- report of the others names exactly the damaged ones
+abbrev pub UndamagedOpens : Type 0
+UndamagedOpens = (r : Reader) (openings : List Opening) → AreOpenings r openings → (text : List ℕ)
+    → chunk_count chunk_length text ≤ chunk_limit
+    → IsClosed (box r.file_key r.nonce) (unbox r.file_key r.nonce) chunk_length text
+    → AllByRecursion (IsOpenedRight r text) openings

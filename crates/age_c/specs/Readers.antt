@@ -50,6 +50,11 @@ pub record CanBeUsed (r : Reader) : Type 0 where
 
 -- ---- How a file is begun: its header is opened, and the payload's nonce is read.
 
+-- the bytes begin with a header's text of that length
+pub record HasHead (front : List ℕ) (header : Header) (len : ℕ) : Type 0 where
+  pub text : HeadText header (take len front)
+  pub within : len ≤ length front
+
 -- the bytes begin with a header's text of that length and 16 bytes more
 pub record HasFront (front : List ℕ) (header : Header) (len : ℕ) : Type 0 where
   pub text : HeadText header (take len front)
@@ -67,21 +72,19 @@ pub record IsStarted (Allows : Header → List ℕ → Type 0) (front : List ℕ
   pub payload_at : r.payload_at ≡ len + 16
   pub start : IsAt r (fresh 0)
 
--- more bytes are needed: these begin with no header, and none of their lines is faulty; or fewer
--- than 16 follow their header
-abbrev pub NeedsMore : List ℕ → Type 0
-NeedsMore front =
-    ((length front < header_limit) × (¬ HasHeader front) × NoFault front)
-    ⊎ ((header : Header) × (len : ℕ) × HeadText header (take len front) × (len ≤ length front)
-    × (length front < len + 16))
-
--- no header and nonce are read: more bytes are needed, or the header is faulty, or took too much
--- memory
-abbrev pub HeadRefuses : List ℕ → StartFault → Type 0
-HeadRefuses front More = NeedsMore front
-HeadRefuses front (Head fault) =
+-- no header is read: the bytes begin with none, and none of their lines is faulty, so that more of
+-- them are needed; or the header is faulty, or took too much memory
+abbrev pub HasNoHead : List ℕ → StartFault → Type 0
+HasNoHead front More = (length front < header_limit) × (¬ HasHeader front) × NoFault front
+HasNoHead front (Head fault) =
     (fault ≡ memory_fault) ⊎ ((¬ HasHeader front) × IsFault front fault)
-HeadRefuses front (Key fault) = ⊥
+HasNoHead front (Key fault) = ⊥
+
+-- no header and nonce are read: no header is, or fewer than 16 bytes follow it
+abbrev pub HeadRefuses : List ℕ → StartFault → Type 0
+HeadRefuses front More = HasNoHead front More
+    ⊎ ((header : Header) × (len : ℕ) × HasHead front header len × (length front < len + 16))
+HeadRefuses front fault = HasNoHead front fault
 
 -- the file isn't begun: no header is read, or it isn't opened
 abbrev pub StartRefuses : (Header → List ℕ → Type 0) → (Header → KeyFault → Type 0) → List ℕ

@@ -2,7 +2,7 @@
 //! no law: each call takes its reader or writer by reference, and the library keeps nothing else.
 
 ghost use Rattle.age_c.specs.Readers.{CallsAreWritten, PartsAreWritten, AnswersAreCalls};
-ghost use Rattle.age_c.specs.Places.{OpeningsAreParts};
+ghost use Rattle.age_c.specs.Places.{OpeningsAreParts, UndamagedOpens};
 ghost use Rattle.age_c.specs.Streams.{AnswersAreFeedCalls, AnswersAreTextCalls, FeedsAreWritten};
 ghost use Rattle.age_c.specs.Streams.{PiecesReadBack, TextsAreFiles};
 
@@ -35,6 +35,14 @@ pub fn answers_are_calls()
 /// chunk's place.
 pub fn openings_are_parts()
     ensures { OpeningsAreParts }
+{}
+
+/// The converse of [`parts_are_written`] for a caller who saves what still opens: after any calls
+/// of [`age_c_open_at`](crate::age_c_open_at) on one reader, each chunk whose block was given as the
+/// writer sealed it, at its place, was opened and written. So the chunks that didn't open are just
+/// those that were damaged.
+pub fn undamaged_opens()
+    ensures { UndamagedOpens }
 {}
 
 /// The headline for a caller whose pieces have any length: what [`calls_are_written`] says of blocks

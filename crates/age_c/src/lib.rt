@@ -14,6 +14,7 @@ mod again;
 mod blocks;
 mod feed;
 mod feed_text;
+mod header;
 mod laws;
 mod numbers;
 mod open;
@@ -26,15 +27,19 @@ mod seek;
 mod size;
 mod start;
 mod stream;
+mod text_len;
+mod work;
 mod write_stream;
 mod writer;
 
 pub use again::age_c_may_open;
 pub use feed::{age_c_feed, age_c_finish};
 pub use feed_text::{age_c_feed_text, age_c_finish_text};
+pub use header::{age_c_header, age_c_stanza};
 pub use laws::{
     answers_are_calls, answers_are_feed_calls, answers_are_text_calls, calls_are_written,
     feeds_are_written, openings_are_parts, parts_are_written, pieces_read_back, texts_are_files,
+    undamaged_opens,
 };
 pub use open::{age_c_open_key, age_c_open_passphrase, age_c_open_shared, age_c_version};
 pub use open_at::age_c_open_at;

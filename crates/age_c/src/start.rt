@@ -2,7 +2,7 @@
 
 ghost use Rattle.std.specs.Prelude.{◌≡◌, ◌≢◌, ◌+◌, ◌≤◌, length, take, drop, IfOk, IfErr};
 ghost use Rattle.age_stream.specs.Segment.{fresh};
-ghost use Rattle.age_c.specs.Readers.{IsAt, HasFront, HeadRefuses, IsStarted, StartRefuses};
+ghost use Rattle.age_c.specs.Readers.{IsAt, HasHead, HasNoHead, HasFront, HeadRefuses, IsStarted, StartRefuses};
 ghost use Rattle.age_c.specs.Readers.{start_fault_number};
 ghost use Rattle.age_c.specs.inner.Counts.{StartCounts};
 
@@ -40,9 +40,22 @@ impl StartFault {
 
 /// A header, and how many bytes its text has.
 #[derive(Drop)]
-struct Head {
-    header: Header,
-    len: usize,
+pub(crate) struct Head {
+    pub header: Header,
+    pub len: usize,
+}
+
+/// Reads the header that the bytes begin with.
+pub(crate) fn head_of(alloc: Global, front: &[u8]) -> Result<Head, StartFault>
+    ensures head { IfOk result (λ head. HasHead front.now head.header head.len) }
+    ensures refused { IfErr result (HasNoHead front.now) }
+{
+    let mut parser = HeadParser::new(alloc);
+    match parser.feed(front) {
+        Ok(HeadStep::More) => Err(StartFault::More),
+        Ok(HeadStep::Ready { taken, header }) => Ok(Head { header, len: taken }),
+        Err(fault) => Err(StartFault::Head(fault)),
+    }
 }
 
 /// Reads the header that the bytes begin with, before the payload's nonce.
@@ -50,16 +63,14 @@ fn read_head(alloc: Global, front: &[u8]) -> Result<Head, StartFault>
     ensures head { IfOk result (λ head. HasFront front.now head.header head.len) }
     ensures refused { IfErr result (HeadRefuses front.now) }
 {
-    let mut parser = HeadParser::new(alloc);
-    match parser.feed(front) {
-        Ok(HeadStep::More) => Err(StartFault::More),
-        Ok(HeadStep::Ready { taken, header }) => {
-            if front.len() - taken < PAYLOAD_NONCE_LEN {
+    match head_of(alloc, front) {
+        Ok(head) => {
+            if front.len() - head.len < PAYLOAD_NONCE_LEN {
                 return Err(StartFault::More);
             }
-            Ok(Head { header, len: taken })
+            Ok(head)
         }
-        Err(fault) => Err(StartFault::Head(fault)),
+        Err(fault) => Err(fault),
     }
 }
 

@@ -96,6 +96,23 @@ extern "C" {
     /// The name of what a call returned, a text that ends in a zero byte and stays.
     pub fn age_c_fault_name(answer: u32) -> *const core::ffi::c_char;
     pub fn age_c_version() -> u32;
+    pub fn age_c_header(
+        front: *const u8,
+        front_len: usize,
+        header_len: *mut usize,
+        stanzas: *mut usize,
+        work: *mut u32,
+    ) -> u32;
+    pub fn age_c_stanza(
+        front: *const u8,
+        front_len: usize,
+        index: usize,
+        args_at: *mut usize,
+        args_len: *mut usize,
+        out: *mut u8,
+        out_len: usize,
+        written: *mut usize,
+    ) -> u32;
     pub fn age_c_open_passphrase(
         front: *const u8,
         front_len: usize,

@@ -17,8 +17,8 @@ pub enum Key<'a> {
     },
     /// The file key, 16 bytes.
     FileKey(&'a [u8]),
-    /// An X25519 shared secret. It depends on the file's header: bindings/README.md shows how to
-    /// compute it ("Files for an X25519 key").
+    /// An X25519 shared secret. It depends on the file's header, which [`Header`](crate::Header)
+    /// reads: bindings/README.md shows how to compute it ("Files for an X25519 key").
     Shared {
         /// X25519(identity, SHARE) for the header's `-> X25519 SHARE`, 32 bytes.
         secret: &'a [u8],

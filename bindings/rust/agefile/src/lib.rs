@@ -25,6 +25,7 @@
 
 mod error;
 mod file;
+mod header;
 mod key;
 mod reader;
 mod salvage;
@@ -33,6 +34,7 @@ mod writer;
 
 pub use error::AgeError;
 pub use file::AgeFile;
+pub use header::{Header, Stanza, MAX_STANZAS};
 pub use key::Key;
 pub use reader::{AgeReader, Opening};
 pub use salvage::{salvage, Salvaged};

@@ -33,6 +33,20 @@ fn read_header<R: Read>(
     reader: &mut AgeCReader,
     front: &mut Vec<u8>,
 ) -> io::Result<()> {
+    let answer = read_front(file, front, |front| key.open(front, reader))?;
+    if answer != 0 {
+        return Err(AgeError::of_header(answer, key.is_file_key()).into());
+    }
+    front.drain(..reader.payload_at as usize);
+    Ok(())
+}
+
+/// Reads on until a call says what it makes of the header that was read, and returns that.
+pub(crate) fn read_front<R: Read>(
+    file: &mut R,
+    front: &mut Vec<u8>,
+    mut call: impl FnMut(&[u8]) -> u32,
+) -> io::Result<u32> {
     let mut room = vec![0; AGE_C_CHUNK];
     loop {
         let most = room.len().min(AGE_C_FRONT_MAX - front.len());
@@ -45,14 +59,11 @@ fn read_header<R: Read>(
         if n > 0 && !may_open(front, seen) {
             continue;
         }
-        match key.open(front, reader) {
-            0 => break,
-            AGE_C_MORE if n > 0 => {}
-            number => return Err(AgeError::of_header(number, key.is_file_key()).into()),
+        let answer = call(front);
+        if answer != AGE_C_MORE || n == 0 {
+            return Ok(answer);
         }
     }
-    front.drain(..reader.payload_at as usize);
-    Ok(())
 }
 
 /// A file whose header comes in parts, from a source that doesn't block.

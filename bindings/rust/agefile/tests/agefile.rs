@@ -1,6 +1,8 @@
 //! Readers and writers over files in memory, and files that age 1.1.1 made.
 
-use agefile::{salvage, AgeError, AgeFile, AgeReader, AgeWriter, Key, Opening};
+use agefile::{
+    salvage, AgeError, AgeFile, AgeReader, AgeWriter, Header, Key, Opening, MAX_STANZAS,
+};
 use std::cell::RefCell;
 use std::io::{self, BufRead, Cursor, ErrorKind, Read, Seek, SeekFrom, Write};
 use std::rc::Rc;
@@ -84,6 +86,11 @@ fn reads_a_file_for_an_x25519_key() {
     };
     let secret = bytes_of("a63e711bbe766ac02492dac2ddac009640a5dec3407e1d76637592c111245643");
     let recipient = bytes_of("ebaa24287c1e692527056fc5ea4806639e8c56c9257e953b6dc556e8be34d20f");
+    let (header, _) = Header::read(&data[..]).unwrap();
+    let stanza = &header.stanzas[0];
+    assert_eq!((header.count, header.work), (1, 0));
+    assert_eq!((stanza.kind.as_str(), stanza.body.len()), ("X25519", 32));
+    assert_eq!(stanza.args, ["Y4OC5dPKQNGTlZbR6ZAEl/zzlXpPdeDUc++aVmZwUho"]);
     let opened = |secret: &[u8]| {
         let recipient = &recipient;
         text_in(&data, Key::Shared { secret, recipient })
@@ -93,6 +100,62 @@ fn reads_a_file_for_an_x25519_key() {
     assert_eq!((fault.number, fault.is_wrong_key()), (13, true));
     let fault = AgeError::of(&opened(&[0; 32]).unwrap_err()).unwrap();
     assert_eq!(fault.number, 15);
+}
+
+#[test]
+fn says_what_a_header_says() {
+    let (header, file) = Header::read(&sealed(b"a text")[..]).unwrap();
+    assert_eq!((header.work, header.count), (1, 1));
+    let stanza = &header.stanzas[0];
+    assert_eq!(
+        (stanza.kind.as_str(), stanza.args[1].as_str()),
+        ("scrypt", "1")
+    );
+    assert_eq!((stanza.args.len(), stanza.body.len()), (2, 32));
+    let mut text = String::new();
+    let mut reader = AgeReader::open(file, PW).unwrap();
+    reader.read_to_string(&mut text).unwrap();
+    assert_eq!(text, "a text");
+
+    let end = format!("--- {}\n", "A".repeat(43));
+    let of = |count| {
+        format!(
+            "age-encryption.org/v1\n{}{end}",
+            "-> a bc !~\nAQID\n".repeat(count)
+        )
+    };
+    let data = of(300);
+    // (the source gives a byte at a time, and no nonce follows)
+    let (header, mut file) = Header::read(Bytewise(data.as_bytes())).unwrap();
+    assert_eq!((header.len, header.work), (data.len(), 0));
+    assert_eq!((header.count, header.stanzas.len()), (300, MAX_STANZAS));
+    let stanza = &header.stanzas[255];
+    assert_eq!(
+        (stanza.kind.as_str(), &stanza.body[..]),
+        ("a", &[1, 2, 3][..])
+    );
+    assert_eq!(stanza.args, ["bc", "!~"]);
+    let mut whole = String::new();
+    file.read_to_string(&mut whole).unwrap();
+    assert_eq!(whole, data);
+
+    let number = |data: &str| {
+        let error = Header::read(data.as_bytes()).unwrap_err();
+        AgeError::of(&error).unwrap().number
+    };
+    assert_eq!(number(&data[..data.len() - 1]), 254);
+    assert_eq!(number(&of(0)), 6);
+    assert_eq!(number("not age\n"), 1);
+}
+
+/// A source that gives a byte at a time.
+struct Bytewise<'a>(&'a [u8]);
+
+impl Read for Bytewise<'_> {
+    fn read(&mut self, into: &mut [u8]) -> std::io::Result<usize> {
+        let most = into.len().min(1);
+        self.0.read(&mut into[..most])
+    }
 }
 
 #[test]

@@ -1,4 +1,4 @@
-use Rattle.age_c.proofs.start.read_head.Goals as goal
+use Rattle.age_c.proofs.start.head_of.Goals as goal
 
 pub returns-clause-refused : goal.returns-clause-refused
 returns-clause-refused c =

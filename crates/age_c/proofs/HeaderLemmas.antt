@@ -1,0 +1,175 @@
+-- What is told of a header and its stanzas.
+use Rattle.std.proofs.Common.{◌≡◌, ℕ, ◌+◌, ◌-◌, ◌<◌, ◌≤◌, List, [], ◌∷◌, ◌++◌, length, get_or, take, drop, min, Option, Some, None, refl, sym, ap, ◌∙◌, arith}
+use Rattle.std.specs.Prelude.{codes, IfSome, IfNone}
+use Rattle.std.specs.Option.{unwrap_or}
+use Rattle.std.specs.List.{flat_map, AllByRecursion}
+use Rattle.std.proofs.lemmas.List.{append_assoc, drop_at, drop_more, length-append, length-take, take_at, take-append-drop}
+use Rattle.std.proofs.lemmas.List.Concat.{flat_map-append}
+use Rattle.age_stanza.specs.Grammar.{IsStanza, argument_line, end_line, head_text, header_limit, in_lines, line, stanza_text, version}
+use Rattle.age_stanza.specs.Parsing.{stanzas_text}
+use Rattle.age_stanza.specs.Text.{base64_text}
+use Rattle.age_stanza.specs.declared.header.Header.{Header}
+use Rattle.age_stanza.specs.declared.header.Stanza.{Stanza}
+use Rattle.age_stanza.proofs.LineLemmas.{All-back}
+use Rattle.age_stanza.proofs.TextLengthLemmas.{length-body}
+use Rattle.age_keys.specs.Scrypt.{IsScryptStanza}
+use Rattle.age_keys.proofs.WorkFactorLemmas.{work_factor_some}
+use Rattle.age_c.specs.Headers.{HasStanza, IsWork}
+use Rattle.age_c.specs.Readers.{HasHead}
+
+-- ---- the work factor
+
+-- what was read of the only stanza is the header's work factor
+pub work_from : (h : Header) (s : Stanza) (found : Option ℕ) (work : ℕ) → h.stanzas ≡ s ∷ [] → work ≡ unwrap_or found 0
+    → IfSome found (λ n. (salt : List ℕ) × (log : ℕ) × (body : List ℕ) × (n ≡ min log 4294967295) × IsScryptStanza s salt log body)
+    → IfNone found ((salt : List ℕ) (log : ℕ) (body : List ℕ) → ¬ IsScryptStanza s salt log body)
+    → IsWork h work
+work_from h s None work one is read none = record {
+  some = λ other. absurd (other is);
+  none = λ _ only.
+      let same : only.stanza ≡ s = cc (only.alone, one) in
+      none only.salt only.log only.body (rw same at only.valid);
+}
+work_from h s (Some n) work one is read none =
+    let valid = read.4 in
+    let least = work_factor_some valid.characters valid.work_factor in
+    let log_is = valid.log_is in
+    let number_is = read.3 in
+    record {
+      some = λ _. (record { stanza = s; alone = one; salt = read.0; log = read.1; body = read.2; valid = valid }, is ∙ read.3);
+      none = λ zero _. absurd (omega arith);
+    }
+
+-- ---- how long texts are
+
+abbrev pub spaced : List (List ℕ) → List ℕ
+spaced args = flat_map (λ a. 32 ∷ a) args
+
+-- a stanza's text, by its parts
+pub length-stanza : (s : Stanza) → length (stanza_text s) ≡ length (spaced s.args) + length (in_lines (base64_text s.body)) + 3
+length-stanza s =
+    let all = length-append (line (argument_line s.args)) (in_lines (base64_text s.body)) in
+    let first = length-append (argument_line s.args) (10 ∷ []) in
+    omega arith
+
+-- a body is no longer than its lines
+pub body_within : (body : List ℕ) → length body ≤ length (in_lines (base64_text body))
+body_within body =
+    let lines = length-body body in
+    omega arith
+
+-- the texts from a place on are that of the next, and those after it
+pub texts_more : {X : Type 0} (f : X → List ℕ) (xs : List X) (i : ℕ) (x : X) → i < length xs → x ≡ get_or xs i x
+    → length (flat_map f (drop i xs)) ≡ length (f x) + length (flat_map f (drop (i + 1) xs))
+texts_more {X} f xs i x lt is =
+    let first : drop i xs ≡ x ∷ drop (i + 1) xs = drop_more xs i x lt ∙ ap (λ (y : X). y ∷ drop (i + 1) xs) (sym is) in
+    ap (λ (ys : List X). length (flat_map f ys)) first ∙ length-append (f x) (flat_map f (drop (i + 1) xs))
+
+-- ---- where a stanza stands
+
+pub parts_at : (ss : List Stanza) (i : ℕ) (s : Stanza) → i < length ss → s ≡ get_or ss i s → ss ≡ take i ss ++ s ∷ drop (i + 1) ss
+parts_at ss i s lt is =
+    sym (take-append-drop i ss)
+    ∙ ap (λ (t : List Stanza). take i ss ++ t) (drop_more ss i s lt ∙ ap (λ (t : Stanza). t ∷ drop (i + 1) ss) (sym is))
+
+-- a header's text: what is before a stanza, its text, and what follows
+pub head_parts : (h : Header) (before after : List Stanza) (s : Stanza) → h.stanzas ≡ before ++ s ∷ after
+    → head_text h ≡ stanzas_text before ++ (stanza_text s ++ (flat_map stanza_text after ++ line (end_line h.mac)))
+head_parts h before after s parts =
+    let last = line (end_line h.mac) in
+    let more : List ℕ = flat_map stanza_text after in
+    ap (λ (ss : List Stanza). line version ++ (flat_map stanza_text ss ++ last)) parts
+    ∙ (ap (λ (t : List ℕ). line version ++ (t ++ last)) (flat_map-append stanza_text before (s ∷ after))
+    ∙ (ap (λ (t : List ℕ). line version ++ t) (append_assoc (flat_map stanza_text before) (stanza_text s ++ more) last)
+    ∙ ap (λ (t : List ℕ). line version ++ (flat_map stanza_text before ++ t)) (append_assoc (stanza_text s) more last)))
+
+-- the arguments of a stanza that has some, without the space before them
+abbrev pub letters : List (List ℕ) → List ℕ
+letters args = drop 1 (spaced args)
+
+spaced_is : (args : List (List ℕ)) → 0 < length args → spaced args ≡ 32 ∷ letters args
+spaced_is [] some = absurd (omega arith)
+spaced_is (a ∷ args) some = refl
+
+pub some_spaced : (args : List (List ℕ)) → 0 < length args → 1 ≤ length (spaced args)
+some_spaced args some = omega (arith, ap length (spaced_is args some))
+
+-- a stanza's text begins with its mark and they follow
+marked : (args : List (List ℕ)) (w lines more : List ℕ) → spaced args ≡ 32 ∷ w
+    → (line (argument_line args) ++ lines) ++ more ≡ codes "-> " ++ (w ++ ((10 ∷ lines) ++ more))
+marked args w lines more e =
+    ap (λ (t : List ℕ). (((codes "->" ++ t) ++ 10 ∷ []) ++ lines) ++ more) e
+    ∙ ap (λ (t : List ℕ). codes "-> " ++ t)
+    (append_assoc (w ++ 10 ∷ []) lines more ∙ append_assoc w (10 ∷ []) (lines ++ more))
+
+-- where they stand
+args_there : (front lines letters rest : List ℕ) (at : ℕ) → front ≡ lines ++ (letters ++ rest) → at ≡ length lines
+    → (take (length letters) (drop at front) ≡ letters) × (at + length letters ≤ length front)
+args_there front lines letters rest at e is = (
+  ap (λ (t : List ℕ). take (length letters) (drop at t)) e
+      ∙ ap (take (length letters)) (drop_at lines (letters ++ rest) at (sym is))
+      ∙ take_at letters rest (length letters) refl,
+  omega (arith, ap length e, length-append lines (letters ++ rest), length-append letters rest),
+)
+
+-- a stanza of a header that the bytes begin with, and how long it is
+pub record IsWithin (front : List ℕ) (h : Header) (index : ℕ) (s : Stanza) : Type 0 where
+  pub some : 0 < length s.args
+  pub limit : length (stanzas_text (take index h.stanzas)) + length (stanza_text s) ≤ header_limit
+  pub fits : length (stanzas_text (take index h.stanzas)) + length (stanza_text s) ≤ length front
+
+pub is_within : (front : List ℕ) (h : Header) (len index : ℕ) (s : Stanza) → HasHead front h len
+    → index < length h.stanzas → s ≡ get_or h.stanzas index s → IsWithin front h index s
+is_within front h len index s has lt is =
+    let before : List Stanza = take index h.stanzas in
+    let after : List Stanza = drop (index + 1) h.stanzas in
+    let parts = parts_at h.stanzas index s lt is in
+    let rest : List ℕ = flat_map stanza_text after ++ line (end_line h.mac) in
+    let size : length (take len front) ≡ length (stanzas_text before) + (length (stanza_text s) + length rest) =
+    ap length (has.text.spells.bytes_are ∙ head_parts h before after s parts)
+    ∙ (length-append (stanzas_text before) (stanza_text s ++ rest)
+    ∙ ap (λ (n : ℕ). length (stanzas_text before) + n) (length-append (stanza_text s) rest)) in
+    let limit = has.text.within in
+    let all = length-take len front in
+    let valid : AllByRecursion IsStanza (before ++ s ∷ after) = rw (← parts) has.text.spells.valid.stanzas in
+    record {
+      some = (All-back IsStanza before (s ∷ after) valid).0.some_argument;
+      limit = omega arith;
+      fits = omega arith;
+    }
+
+-- what is told of it
+pub has_stanza : (front : List ℕ) (h : Header) (len index : ℕ) (s : Stanza) (args_at args_len : ℕ) (body : List ℕ) → HasHead front h len
+    → index < length h.stanzas → s ≡ get_or h.stanzas index s
+    → args_at ≡ length (stanzas_text (take index h.stanzas)) + 3 → args_len ≡ length (spaced s.args) - 1 → body ≡ s.body
+    → HasStanza front h index args_at args_len body
+has_stanza front h len index s args_at args_len body has lt is at_is len_is body_is =
+    let before : List Stanza = take index h.stanzas in
+    let after : List Stanza = drop (index + 1) h.stanzas in
+    let parts = parts_at h.stanzas index s lt is in
+    let spaces = spaced_is s.args (is_within front h len index s has lt is).some in
+    let rest : List ℕ = flat_map stanza_text after ++ line (end_line h.mac) in
+    let behind : List ℕ = (10 ∷ in_lines (base64_text s.body)) ++ (rest ++ drop len front) in
+    let text : front ≡ (stanzas_text before ++ codes "-> ") ++ (letters s.args ++ behind) =
+    sym (take-append-drop len front)
+    ∙ (ap (λ (t : List ℕ). t ++ drop len front) (has.text.spells.bytes_are ∙ head_parts h before after s parts)
+    ∙ (append_assoc (stanzas_text before) (stanza_text s ++ rest) (drop len front)
+    ∙ (ap (λ (t : List ℕ). stanzas_text before ++ t)
+    (append_assoc (stanza_text s) rest (drop len front)
+    ∙ marked s.args (letters s.args) (in_lines (base64_text s.body)) (rest ++ drop len front) spaces)
+    ∙ sym (append_assoc (stanzas_text before) (codes "-> ") (letters s.args ++ behind))))) in
+    let size = ap length spaces in
+    let there = args_there front (stanzas_text before ++ codes "-> ") (letters s.args) behind args_at text
+    (omega (arith, at_is, length-append (stanzas_text before) (codes "-> "))) in
+    let length_is : args_len ≡ length (letters s.args) = omega (arith, len_is, size) in
+    record {
+      before = before;
+      stanza = s;
+      after = after;
+      parts = parts;
+      index_is = omega (arith, length-take index h.stanzas);
+      at = at_is;
+      args = ap (λ (n : ℕ). 32 ∷ take n (drop args_at front)) length_is ∙ ap (λ (t : List ℕ). 32 ∷ t) there.0 ∙ sym spaces;
+      within = omega (arith, length_is, there.1);
+      body_is = body_is;
+    }

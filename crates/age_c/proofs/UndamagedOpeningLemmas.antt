@@ -1,0 +1,338 @@
+-- A block that came undamaged at its place is opened.
+use Rattle.std.proofs.Common.{inl, inr, ◌≡◌, ◌≢◌, ℕ, suc, ◌+◌, ◌-◌, ◌*◌, ◌/◌, ◌<◌, ◌≤◌, refl, ap, sym, subst, ◌∙◌, arith, List, [], ◌∷◌, ◌++◌, length, get_or, take, drop, Bool, true, false, Option, Some, None}
+use Rattle.std.specs.Prelude.{◌==◌, ◌||◌, ◌⊎◌, if◌then◌else◌, nat_lt, slice_get}
+use Rattle.std.specs.List.{flat_map, AllByRecursion}
+use Rattle.std.specs.Simd.{first_chunks}
+use Rattle.std.proofs.lemmas.Bool.{cases_lt, eq-eqb, le-ltb, lt-ltb, ne_eqb}
+use Rattle.std.proofs.lemmas.Bool.Decides.{eqb_tells}
+use Rattle.std.proofs.lemmas.Grind.{flat_map-append}
+use Rattle.std.proofs.lemmas.List.{append-nil, drop_at, get_or_append_left, get_or_push, length-append, length-drop, length-take, length_push, take_all}
+use Rattle.std.proofs.lemmas.Nat.{div-mul-add}
+use Rattle.age_chunk.specs.ChunkBoxes.{tag_length}
+use Rattle.age_chunk.specs.Payload.{block_bytes, block_length, chunk_count, chunk_length, chunk_limit, chunks, last_chunk, last_index, nonce_bytes, pair, payload, sealed, sealed_before_last}
+use Rattle.age_chunk.specs.declared.fault.StreamFault.{StreamFault}
+use Rattle.age_chunk.proofs.FirstChunkLemmas.{get_or-first_chunks, length-first_chunks}
+use Rattle.age_chunk.proofs.NonceLemmas.{nonce_bytes-length}
+use Rattle.age_keys.specs.inner.PayloadBox.{box_valid}
+use Rattle.age_stream.specs.Laws.{IsClosed}
+use Rattle.age_stream.specs.Segment.{Segment, Outcome, fresh, outcome, rest_bytes, text_before_last, text_then, unless_greatest, whole_blocks}
+use Rattle.age_stream.specs.inner.OpenerSteps.{after_last, at_block}
+use Rattle.age_stream.specs.declared.step.Status.{Status}
+use Rattle.age_stream.specs.declared.step.Status.TheVariants.{Failed, LastSeen, Open}
+use Rattle.age_stream.proofs.ChunkLemmas.{last_chunk_le}
+use Rattle.age_stream.proofs.FreshLemmas.{fresh_outcome}
+use Rattle.age_stream.proofs.LawLemmas.{payload_is_longer}
+use Rattle.age_stream.proofs.PartLemmas.{sealed_at}
+use Rattle.age_stream.proofs.SealingLemmas.{last_index_le}
+use Rattle.age_stream.proofs.TableLemmas.{by_blocks, outcome_of, verdict_at}
+use Rattle.age_c.specs.Calls.{answer_of, misused, reader_status}
+use Rattle.age_c.specs.Readers.{Call, GoesTo, IsAt, SameFile, TakesBlock, TakesEnd, after_block, call_of}
+use Rattle.age_c.specs.Places.{AreOpenings, IsOpenedRight, Opening, OpensAt, UndamagedOpens, chunk_of, sealed_block}
+use Rattle.age_c.specs.declared.reader.Reader.{Reader}
+use Rattle.age_c.specs.inner.Keys.{key_of_reader as key_of, opens, seals}
+use Rattle.age_c.proofs.AuthenticCallLemmas.{calls_are_written}
+use Rattle.age_c.proofs.CallFaultLemmas.{fault_from, refused_of}
+use Rattle.age_c.proofs.CallLemmas.{taken_next}
+use Rattle.age_c.proofs.ReaderLemmas.{key_same}
+
+-- ---- a segment of one whole block
+
+module _ (opening : List ℕ → List ℕ → Option (List ℕ)) (n i : ℕ) (block text : List ℕ) (len : length block ≡ n + tag_length) where
+  abbrev pub one : Segment
+  one = record { start = i; bytes = block; ended = false; late = false }
+
+  blocks : whole_blocks n block ≡ block ∷ []
+  blocks =
+      let positive : 0 < n + tag_length = omega arith in
+      let size : length block ≡ 1 * (n + tag_length) + 0 = omega (arith, len) in
+      let count : length block / (n + tag_length) ≡ 1 = ap (λ (k : ℕ). k / (n + tag_length)) size
+      ∙ div-mul-add 1 (n + tag_length) 0 positive in
+      ap (λ (c : ℕ). first_chunks (n + tag_length) c block) count
+      ∙ ap (λ (b : List ℕ). b ∷ []) (take_all (n + tag_length) block (omega (arith, len)))
+
+  abbrev by_text : Option (List ℕ) → Outcome
+  by_text o =
+      let texts = text_then opening o [] in
+      verdict_at opening texts (i + length texts) (slice_get (block ∷ []) (length texts))
+      (nat_lt ((length texts + 1) * (n + tag_length)) (length block)) (rest_bytes n block) false false
+
+  by_front : outcome opening n one ≡ by_text (text_before_last opening i block)
+  by_front =
+      by_blocks opening n one
+      ∙ ap (λ (bs : List (List ℕ)). outcome_of opening n i bs (length block) (rest_bytes n block) false false) blocks
+
+  -- it opens as one before the last
+  pub opens_before : opening (nonce_bytes i false) block ≡ Some text → i + 1 < chunk_limit
+      → outcome opening n one ≡ record { texts = text ∷ []; index = i + 1; status = Open }
+  opens_before is lt =
+      by_front
+      ∙ (ap (λ (o : Option (List ℕ)). by_text (unless_greatest i o)) is
+      ∙ ap (λ (b : Bool). by_text (if b then Some text else None)) (lt-ltb (i + 1) chunk_limit lt))
+
+  -- it opens as the last alone
+  pub opens_last : opening (nonce_bytes i false) block ≡ None → opening (nonce_bytes i true) block ≡ Some text
+      → outcome opening n one ≡ record { texts = text ∷ []; index = i; status = LastSeen }
+  opens_last closed is =
+      let zero : i + 0 ≡ i = omega arith in
+      let alone : nat_lt ((0 + 1) * (n + tag_length)) (length block) ≡ false =
+      le-ltb ((0 + 1) * (n + tag_length)) (length block) (omega (arith, len)) in
+      let At : ℕ → Bool → Outcome = λ k followed.
+      at_block opening [] k block (followed || false) false (opening (nonce_bytes k false) block) in
+      by_front
+      ∙ (ap (λ (o : Option (List ℕ)). by_text (unless_greatest i o)) closed
+      ∙ (ap (λ (k : ℕ). At k (nat_lt ((0 + 1) * (n + tag_length)) (length block))) zero
+      ∙ (ap (λ (b : Bool). At i b) alone
+      ∙ (ap (λ (o : Option (List ℕ)). at_block opening [] i block false false o) closed
+      ∙ ap (λ (o : Option (List ℕ)). after_last opening [] i o false false) is))))
+
+-- ---- the chunks of a text
+
+module _ (text : List ℕ) (i : ℕ) where
+  abbrev front : List (List ℕ)
+  front = first_chunks chunk_length (last_index chunk_length text) text
+
+  front_size : length front ≡ last_index chunk_length text
+  front_size = length-first_chunks chunk_length (last_index chunk_length text) text
+
+  pub chunks_size : length (chunks chunk_length text) ≡ last_index chunk_length text + 1
+  chunks_size = length_push front (last_chunk chunk_length text) ∙ ap (λ (k : ℕ). k + 1) front_size
+
+  -- one before the last is full
+  pub full_chunk : i < last_index chunk_length text → length (chunk_of text i) ≡ chunk_length
+  full_chunk lt =
+      let is : chunk_of text i ≡ take chunk_length (drop (i * chunk_length) text) =
+      get_or_append_left front (last_chunk chunk_length text ∷ []) [] i (omega (arith, lt, front_size))
+      ∙ get_or-first_chunks chunk_length (last_index chunk_length text) text i [] lt in
+      omega (
+        arith,
+        lt,
+        ap length is,
+        length-take chunk_length (drop (i * chunk_length) text),
+        length-drop (i * chunk_length) text,
+        last_index_le chunk_length text,
+      )
+
+  pub last_chunk_is : i ≡ last_index chunk_length text → chunk_of text i ≡ last_chunk chunk_length text
+  last_chunk_is e = get_or_push front (last_chunk chunk_length text) [] i (front_size ∙ sym e)
+
+-- the last block ends the payload
+pub payload_end : (k text : List ℕ) → (block : List ℕ)
+    → block ≡ seals k (nonce_bytes (last_index chunk_length text) true) (last_chunk chunk_length text)
+    → block ≡ drop (last_index chunk_length text * block_length) (payload (seals k) chunk_length text)
+payload_end k text block is =
+    let at = last_index chunk_length text in
+    let before : List ℕ = block_bytes (sealed_before_last (seals k) chunk_length text) in
+    let last : List ℕ = seals k (nonce_bytes at true) (last_chunk chunk_length text) in
+    let whole : payload (seals k) chunk_length text ≡ before ++ last =
+    flat_map-append (λ (p : List ℕ × List ℕ). p.1) (sealed_before_last (seals k) chunk_length text)
+    (pair (seals k) true (at, last_chunk chunk_length text) ∷ [])
+    ∙ ap (λ (x : List ℕ). before ++ x) (append-nil last) in
+    let size = (payload_is_longer (seals k) (opens k) (box_valid k) chunk_length text).1 in
+    is ∙ sym (ap (drop (at * block_length)) whole ∙ drop_at before last (at * block_length) size)
+
+-- ---- an answer
+
+-- a reader that isn't refused answers 0
+pub answers_zero : (n chunk answer : ℕ) (status : Status) → answer ≡ answer_of n
+    → reader_status n chunk ≡ Some status
+    → ((f : StreamFault) → Some status ≡ Some (Failed f) → ⊥)
+    → answer ≡ 0
+answers_zero n chunk answer status is stands unfailed =
+    elim (eqb_tells answer 0) [
+      | inl zero ↦ zero.1
+      | inr some ↦
+          (let refused = refused_of n chunk (λ zero. some.1 (is ∙ zero)) in
+          absurd (unfailed refused.0 (sym stands ∙ refused.1)))
+    ]
+
+pub never_misused : (n answer : ℕ) → answer ≡ answer_of n → answer ≢ misused
+never_misused n answer is misused_is =
+    let fault = fault_from n (λ zero. omega (arith, is, zero, misused_is)) in
+    let most = fault.most in
+    omega (arith, is, fault.is, misused_is)
+
+-- ---- one opening
+
+-- a whole block that gives one text
+whole_gives : (r new : Reader) (chunk answer : ℕ) (block opened text : List ℕ) (status : Status) (index : ℕ)
+    → IsAt r (fresh chunk) → TakesBlock (after_block block) r answer opened new
+    → outcome (opens (key_of r)) chunk_length (record { start = chunk; bytes = block; ended = false; late = false })
+    ≡ record { texts = text ∷ []; index = index; status = status }
+    → ((f : StreamFault) → Some status ≡ Some (Failed f) → ⊥)
+    → (answer ≡ 0) × (opened ≡ text)
+whole_gives r new chunk answer block opened text status index at takes is unfailed =
+    let given : Segment = record { start = chunk; bytes = block; ended = false; late = false } in
+    let after : IsAt new given = takes.at (fresh chunk) at in
+    let key : key_of new ≡ key_of r = key_same r new takes.same in
+    let stands : reader_status new.state new.fault_chunk ≡ Some status =
+    after.status
+    ∙ (ap (λ (k : List ℕ). Some (outcome (opens k) chunk_length given).status) key
+    ∙ ap (λ (o : Outcome). Some o.status) is) in
+    let Texts : Outcome → List ℕ = λ o. flat_map (λ (t : List ℕ). t) o.texts in
+    (
+      answers_zero new.state new.fault_chunk answer status takes.answer_is stands unfailed,
+      ap (λ (o : Outcome). Texts o ++ opened) (sym (fresh_outcome (opens (key_of r)) chunk_length chunk))
+          ∙ (sym (takes.released (fresh chunk) at)
+          ∙ (ap Texts is ∙ append-nil text)),
+    )
+
+-- what a reader at a chunk did with a block there
+record OpensThere (r new : Reader) (block : List ℕ) (answer : ℕ) (opened : List ℕ) : Type 0 where
+  pub whole : length block ≡ block_length → TakesBlock (after_block block) r answer opened new
+  pub rest : length block ≢ block_length → TakesEnd block r answer opened new
+
+module _ (k text : List ℕ) (few : chunk_count chunk_length text ≤ chunk_limit)
+    (closed : IsClosed (seals k) (opens k) chunk_length text)
+    (r new : Reader) (key : key_of r ≡ k) (chunk answer : ℕ) (block opened : List ℕ) (at : IsAt r (fresh chunk)) where
+  abbrev Gives : Type 0
+  Gives = (answer ≡ 0) × (opened ≡ chunk_of text chunk)
+
+  -- a block before the last
+  gives_before : chunk < last_index chunk_length text → block ≡ seals k (nonce_bytes chunk false) (chunk_of text chunk)
+      → (length block ≡ block_length → TakesBlock (after_block block) r answer opened new) → Gives
+  gives_before lt is whole =
+      let valid = box_valid k in
+      let size : length block ≡ block_length = omega (
+        arith,
+        ap length is,
+        valid.longer (nonce_bytes chunk false) (chunk_of text chunk) (nonce_bytes-length chunk false),
+        full_chunk text chunk lt,
+      ) in
+      let opened_as : opens (key_of r) (nonce_bytes chunk false) block ≡ Some (chunk_of text chunk) =
+      ap (λ (k : List ℕ). opens k (nonce_bytes chunk false) block) key
+      ∙ (ap (opens k (nonce_bytes chunk false)) is
+      ∙ valid.opens (nonce_bytes chunk false) (chunk_of text chunk) (nonce_bytes-length chunk false)) in
+      whole_gives r new chunk answer block opened (chunk_of text chunk) Open (chunk + 1) at (whole size)
+      (opens_before (opens (key_of r)) chunk_length chunk block (chunk_of text chunk) size opened_as (omega (arith, lt, few)))
+      (λ f e. cc)
+
+  -- the last block, if it is whole
+  gives_full : chunk ≡ last_index chunk_length text → block ≡ seals k (nonce_bytes chunk true) (chunk_of text chunk)
+      → length (chunk_of text chunk) ≡ chunk_length
+      → (length block ≡ block_length → TakesBlock (after_block block) r answer opened new) → Gives
+  gives_full last is full whole =
+      let valid = box_valid k in
+      let part = last_chunk_is text chunk last in
+      let size : length block ≡ block_length = omega (
+        arith,
+        ap length is,
+        valid.longer (nonce_bytes chunk true) (chunk_of text chunk) (nonce_bytes-length chunk true),
+        full,
+      ) in
+      let as_written : block ≡ seals k (nonce_bytes (last_index chunk_length text) true) (last_chunk chunk_length text) =
+      is ∙ (ap (λ (j : ℕ). seals k (nonce_bytes j true) (chunk_of text chunk)) last
+      ∙ ap (seals k (nonce_bytes (last_index chunk_length text) true)) part) in
+      let shut : opens (key_of r) (nonce_bytes chunk false) block ≡ None =
+      ap (λ (k : List ℕ). opens k (nonce_bytes chunk false) block) key
+      ∙ (ap (λ (j : ℕ). opens k (nonce_bytes j false) block) last
+      ∙ (ap (opens k (nonce_bytes (last_index chunk_length text) false)) as_written
+      ∙ closed (sym (ap length part) ∙ full))) in
+      let opened_as : opens (key_of r) (nonce_bytes chunk true) block ≡ Some (chunk_of text chunk) =
+      ap (λ (k : List ℕ). opens k (nonce_bytes chunk true) block) key
+      ∙ (ap (opens k (nonce_bytes chunk true)) is
+      ∙ valid.opens (nonce_bytes chunk true) (chunk_of text chunk) (nonce_bytes-length chunk true)) in
+      whole_gives r new chunk answer block opened (chunk_of text chunk) LastSeen chunk at (whole size)
+      (opens_last (opens (key_of r)) chunk_length chunk block (chunk_of text chunk) size shut opened_as)
+      (λ f e. cc)
+
+  -- the last block, if it is shorter
+  gives_short : chunk ≡ last_index chunk_length text → block ≡ seals k (nonce_bytes chunk true) (chunk_of text chunk)
+      → length (chunk_of text chunk) < chunk_length
+      → (length block ≢ block_length → TakesEnd block r answer opened new) → Gives
+  gives_short last is short rest =
+      let valid = box_valid k in
+      let part = last_chunk_is text chunk last in
+      let size : length block ≢ block_length = λ e. omega (
+        arith,
+        e,
+        ap length is,
+        valid.longer (nonce_bytes chunk true) (chunk_of text chunk) (nonce_bytes-length chunk true),
+        short,
+      ) in
+      let ends = rest size in
+      let other : answer ≢ misused = never_misused new.state answer ends.takes.answer_is in
+      let call : Call = record { is_end = true; bytes = block; answer = answer; text = opened; after = new } in
+      let as_written : block ≡ seals k (nonce_bytes (last_index chunk_length text) true) (last_chunk chunk_length text) =
+      is ∙ (ap (λ (j : ℕ). seals k (nonce_bytes j true) (chunk_of text chunk)) last
+      ∙ ap (seals k (nonce_bytes (last_index chunk_length text) true)) part) in
+      let there : block ≡ drop (chunk * block_length) (payload (seals (key_of r)) chunk_length text) =
+      payload_end k text block as_written
+      ∙ (ap (λ (j : ℕ). drop (j * block_length) (payload (seals k) chunk_length text)) (sym last)
+      ∙ ap (λ (k : List ℕ). drop (chunk * block_length) (payload (seals k) chunk_length text)) (sym key)) in
+      let right = calls_are_written r chunk at (omega (arith, last, few)) (call ∷ [])
+      (inr (other, ends.takes, λ _ zero. ends.done zero), tt) text few in
+      let closed_here : IsClosed (seals (key_of r)) (opens (key_of r)) chunk_length text =
+      subst (λ (k : List ℕ). IsClosed (seals k) (opens k) chunk_length text) (sym key) closed in
+      let gives = right.whole closed_here (omega (arith, last))
+      (taken_next call (fresh chunk) other
+      ∙ ap (λ (b : List ℕ). record { start = chunk; bytes = b; ended = true; late = false }) there) in
+      (
+        gives.1.0 other,
+        sym (append-nil opened) ∙ (gives.0 ∙ (ap (λ (j : ℕ). drop (j * chunk_length) text) last ∙ sym part)),
+      )
+
+  -- any block
+  gives : chunk < chunk_count chunk_length text → OpensThere r new block answer opened
+      → block ≡ (get_or (sealed (seals k) chunk_length text) chunk ([], [])).1 → Gives
+  gives below it is =
+      let count = chunks_size text chunk in
+      let sealed_is = ap (λ (p : List ℕ × List ℕ). p.1) (sealed_at (seals k) chunk_length text chunk (omega (arith, count, below))) in
+      let flagged : (last : Bool) → (chunk + 1 == length (chunks chunk_length text)) ≡ last
+          → block ≡ seals k (nonce_bytes chunk last) (chunk_of text chunk) =
+      λ last e. is ∙ (sealed_is ∙ ap (λ (b : Bool). seals k (nonce_bytes chunk b) (chunk_of text chunk)) e) in
+      elim (cases_lt chunk (last_index chunk_length text)) [
+        | inl lt ↦
+            gives_before lt
+            (flagged false (ne_eqb (chunk + 1) (length (chunks chunk_length text)) (λ e. omega (arith, lt, e, count))))
+            it.whole
+        | inr le ↦
+            (let last : chunk ≡ last_index chunk_length text = omega (arith, le, below) in
+            let as_last = flagged true (eq-eqb (chunk + 1) (length (chunks chunk_length text)) (omega (arith, last, count))) in
+            let most : length (chunk_of text chunk) ≤ chunk_length = omega (
+              arith,
+              ap length (last_chunk_is text chunk last),
+              last_chunk_le chunk_length text (omega arith),
+            ) in
+            elim (cases_lt (length (chunk_of text chunk)) chunk_length) [
+              | inl short ↦ gives_short last as_last short it.rest
+              | inr full ↦ gives_full last as_last (omega (arith, full, most)) it.whole
+            ])
+      ]
+
+-- ---- a list of openings
+
+same_through : (a b c : Reader) → SameFile a b → SameFile b c → SameFile a c
+same_through a b c x y = record {
+  file_key = y.file_key ∙ x.file_key;
+  nonce = y.nonce ∙ x.nonce;
+  payload_at = y.payload_at ∙ x.payload_at;
+}
+
+after_opening : (chunk answer : ℕ) (block text : List ℕ) (old new : Reader) → OpensAt chunk block old answer text new → SameFile old new
+after_opening chunk answer block text old new it =
+    same_through old it.begun new it.goes.same
+    (elim (eqb_tells (length block) block_length) [
+      | inl is ↦ (it.whole is.1).same
+      | inr is ↦ (it.rest is.1).takes.same
+    ])
+
+openings_from : (first r : Reader) (openings : List Opening) → SameFile first r → AreOpenings r openings
+    → (text : List ℕ) → chunk_count chunk_length text ≤ chunk_limit
+    → IsClosed (seals (key_of first)) (opens (key_of first)) chunk_length text
+    → AllByRecursion (IsOpenedRight first text) openings
+openings_from first r [] same are text few closed = tt
+openings_from first r (o ∷ openings) same (inl idle, are) text few closed = (
+  λ other. absurd (other idle.0),
+  openings_from first o.after openings (subst (SameFile first) (sym idle.1) same) are text few closed,
+)
+openings_from first r (o ∷ openings) same (inr it, are) text few closed =
+    let key : key_of it.begun ≡ key_of first = key_same r it.begun it.goes.same ∙ key_same first r same in (
+      λ _ below is. gives (key_of first) text few closed it.begun o.after key o.chunk o.answer o.block o.text it.goes.at below
+      (record { whole = it.whole; rest = it.rest }) is,
+      openings_from first o.after openings
+          (same_through first r o.after same (after_opening o.chunk o.answer o.block o.text r o.after it)) are text few closed,
+    )
+
+pub undamaged_opens : UndamagedOpens
+undamaged_opens r openings are text few closed =
+    openings_from r r openings (record { file_key = refl; nonce = refl; payload_at = refl }) are text few closed
