@@ -58,13 +58,6 @@ body_within body =
     let lines = length-body body in
     omega arith
 
--- the texts from a place on are that of the next, and those after it
-pub texts_more : {X : Type 0} (f : X → List ℕ) (xs : List X) (i : ℕ) (x : X) → i < length xs → x ≡ get_or xs i x
-    → length (flat_map f (drop i xs)) ≡ length (f x) + length (flat_map f (drop (i + 1) xs))
-texts_more {X} f xs i x lt is =
-    let first : drop i xs ≡ x ∷ drop (i + 1) xs = drop_more xs i x lt ∙ ap (λ (y : X). y ∷ drop (i + 1) xs) (sym is) in
-    ap (λ (ys : List X). length (flat_map f ys)) first ∙ length-append (f x) (flat_map f (drop (i + 1) xs))
-
 -- ---- where a stanza stands
 
 pub parts_at : (ss : List Stanza) (i : ℕ) (s : Stanza) → i < length ss → s ≡ get_or ss i s → ss ≡ take i ss ++ s ∷ drop (i + 1) ss

@@ -1,12 +1,12 @@
 -- A block that came undamaged at its place is opened.
-use Rattle.std.proofs.Common.{inl, inr, ◌≡◌, ◌≢◌, ℕ, suc, ◌+◌, ◌-◌, ◌*◌, ◌/◌, ◌<◌, ◌≤◌, refl, ap, sym, subst, ◌∙◌, arith, List, [], ◌∷◌, ◌++◌, length, get_or, take, drop, Bool, true, false, Option, Some, None}
-use Rattle.std.specs.Prelude.{◌==◌, ◌||◌, ◌⊎◌, if◌then◌else◌, nat_lt, slice_get}
+use Rattle.std.proofs.Common.{inl, inr, ◌≡◌, ◌≢◌, ℕ, ◌+◌, ◌*◌, ◌/◌, ◌<◌, ◌≤◌, refl, ap, sym, subst, ◌∙◌, arith, List, [], ◌∷◌, ◌++◌, length, get_or, take, drop, Bool, true, false, Option, Some, None}
+use Rattle.std.specs.Prelude.{◌==◌, ◌||◌, if◌then◌else◌, nat_lt, slice_get}
 use Rattle.std.specs.List.{flat_map, AllByRecursion}
 use Rattle.std.specs.Simd.{first_chunks}
 use Rattle.std.proofs.lemmas.Bool.{cases_lt, eq-eqb, le-ltb, lt-ltb, ne_eqb}
 use Rattle.std.proofs.lemmas.Bool.Decides.{eqb_tells}
 use Rattle.std.proofs.lemmas.Grind.{flat_map-append}
-use Rattle.std.proofs.lemmas.List.{append-nil, drop_at, get_or_append_left, get_or_push, length-append, length-drop, length-take, length_push, take_all}
+use Rattle.std.proofs.lemmas.List.{append-nil, drop_at, get_or_append_left, get_or_push, length-drop, length-take, length_push, take_all}
 use Rattle.std.proofs.lemmas.Nat.{div-mul-add}
 use Rattle.age_chunk.specs.ChunkBoxes.{tag_length}
 use Rattle.age_chunk.specs.Payload.{block_bytes, block_length, chunk_count, chunk_length, chunk_limit, chunks, last_chunk, last_index, nonce_bytes, pair, payload, sealed, sealed_before_last}
@@ -26,8 +26,8 @@ use Rattle.age_stream.proofs.PartLemmas.{sealed_at}
 use Rattle.age_stream.proofs.SealingLemmas.{last_index_le}
 use Rattle.age_stream.proofs.TableLemmas.{by_blocks, outcome_of, verdict_at}
 use Rattle.age_c.specs.Calls.{answer_of, misused, reader_status}
-use Rattle.age_c.specs.Readers.{Call, GoesTo, IsAt, SameFile, TakesBlock, TakesEnd, after_block, call_of}
-use Rattle.age_c.specs.Places.{AreOpenings, IsOpenedRight, Opening, OpensAt, UndamagedOpens, chunk_of, sealed_block}
+use Rattle.age_c.specs.Readers.{Call, IsAt, SameFile, TakesBlock, TakesEnd, after_block}
+use Rattle.age_c.specs.Places.{AreOpenings, IsOpenedRight, Opening, OpensAt, UndamagedOpens, chunk_of}
 use Rattle.age_c.specs.declared.reader.Reader.{Reader}
 use Rattle.age_c.specs.inner.Keys.{key_of_reader as key_of, opens, seals}
 use Rattle.age_c.proofs.AuthenticCallLemmas.{calls_are_written}
@@ -168,8 +168,7 @@ whole_gives r new chunk answer block opened text status index at takes is unfail
     after.status
     ∙ (ap (λ (k : List ℕ). Some (outcome (opens k) chunk_length given).status) key
     ∙ ap (λ (o : Outcome). Some o.status) is) in
-    let Texts : Outcome → List ℕ = λ o. flat_map (λ (t : List ℕ). t) o.texts in
-    (
+    let Texts : Outcome → List ℕ = λ o. flat_map (λ (t : List ℕ). t) o.texts in (
       answers_zero new.state new.fault_chunk answer status takes.answer_is stands unfailed,
       ap (λ (o : Outcome). Texts o ++ opened) (sym (fresh_outcome (opens (key_of r)) chunk_length chunk))
           ∙ (sym (takes.released (fresh chunk) at)
@@ -265,8 +264,7 @@ module _ (k text : List ℕ) (few : chunk_count chunk_length text ≤ chunk_limi
       subst (λ (k : List ℕ). IsClosed (seals k) (opens k) chunk_length text) (sym key) closed in
       let gives = right.whole closed_here (omega (arith, last))
       (taken_next call (fresh chunk) other
-      ∙ ap (λ (b : List ℕ). record { start = chunk; bytes = b; ended = true; late = false }) there) in
-      (
+      ∙ ap (λ (b : List ℕ). record { start = chunk; bytes = b; ended = true; late = false }) there) in (
         gives.1.0 other,
         sym (append-nil opened) ∙ (gives.0 ∙ (ap (λ (j : ℕ). drop (j * chunk_length) text) last ∙ sym part)),
       )
@@ -278,7 +276,7 @@ module _ (k text : List ℕ) (few : chunk_count chunk_length text ≤ chunk_limi
       let count = chunks_size text chunk in
       let sealed_is = ap (λ (p : List ℕ × List ℕ). p.1) (sealed_at (seals k) chunk_length text chunk (omega (arith, count, below))) in
       let flagged : (last : Bool) → (chunk + 1 == length (chunks chunk_length text)) ≡ last
-          → block ≡ seals k (nonce_bytes chunk last) (chunk_of text chunk) =
+      → block ≡ seals k (nonce_bytes chunk last) (chunk_of text chunk) =
       λ last e. is ∙ (sealed_is ∙ ap (λ (b : Bool). seals k (nonce_bytes chunk b) (chunk_of text chunk)) e) in
       elim (cases_lt chunk (last_index chunk_length text)) [
         | inl lt ↦
@@ -328,7 +326,7 @@ openings_from first r (o ∷ openings) same (inl idle, are) text few closed = (
 openings_from first r (o ∷ openings) same (inr it, are) text few closed =
     let key : key_of it.begun ≡ key_of first = key_same r it.begun it.goes.same ∙ key_same first r same in (
       λ _ below is. gives (key_of first) text few closed it.begun o.after key o.chunk o.answer o.block o.text it.goes.at below
-      (record { whole = it.whole; rest = it.rest }) is,
+          (record { whole = it.whole; rest = it.rest }) is,
       openings_from first o.after openings
           (same_through first r o.after same (after_opening o.chunk o.answer o.block o.text r o.after it)) are text few closed,
     )
