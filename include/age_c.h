@@ -32,12 +32,13 @@
  * age_c_finish has returned 0: don't act on it before as if it were whole. After age_c_seek the
  * same holds from that chunk on: the output since then is a prefix of what follows in the plaintext
  * from the chunk's first byte, and once the end returned 0 it is all that follows, so that the
- * length of the text is known. An undamaged payload gives all of its text, and each call returns 0.
- * With 17 a block isn't the writer's, and `fault_chunk` is its number; the text before it has been
- * written by earlier calls. A file that was cut inside a chunk, as nearly every cut file is, ends
- * with 17 too: nobody can tell it from a damaged one. What a writer wrote, from
- * age_c_seal_passphrase to an age_c_finish_text that returned 0, is the age file of the text. Into
- * which pieces a payload or a text was cut makes no difference.
+ * length of the text is known. An undamaged payload gives all of its text, and each call returns 0;
+ * age_c_open_at opens each chunk whose block is undamaged, whatever else is. With 17 a block isn't
+ * the writer's, and `fault_chunk` is its number; the text before it has been written by earlier
+ * calls. A file that was cut inside a chunk, as nearly every cut file is, ends with 17 too: nobody
+ * can tell it from a damaged one. What a writer wrote, from age_c_seal_passphrase to an
+ * age_c_finish_text that returned 0, is the age file of the text. Into which pieces a payload or a
+ * text was cut makes no difference.
  *
  * OWNERSHIP. A reader or writer is 64 bytes of plain numbers, and a stream of either holds one
  * block or chunk besides, in the caller's memory: there is nothing to free, and it may be copied (a
@@ -194,8 +195,8 @@ uint32_t age_c_header(const uint8_t *front, size_t front_len, size_t *header_len
 /* Stanza number `index` of that header, from 0 and less than *stanzas. Its type and the other
  * arguments are the *args_len bytes at front + *args_at, with one space between two of them. The
  * bytes of its body, which its base64 spells, are the first *written of `out`, which has room for
- * front_len bytes or more. Each call reads the whole header: look at a few stanzas only, since a
- * hostile header has 174,000. (Since 1.2.0.) */
+ * front_len bytes or more. Each call reads the whole header again: so don't look at all stanzas of a
+ * hostile header, which has 174,000. (Since 1.2.0.) */
 AGE_C_MUST_CHECK
 uint32_t age_c_stanza(const uint8_t *front, size_t front_len, size_t index, size_t *args_at,
                       size_t *args_len, uint8_t *out, size_t out_len, size_t *written);

@@ -130,8 +130,8 @@ func TestReadHeader(t *testing.T) {
 	if err != nil {
 		t.Fatal(err)
 	}
-	if stanza := header.Stanzas[MaxStanzas-1]; header.Len != len(many) || header.Work != 0 ||
-		header.Count != 300 || len(header.Stanzas) != MaxStanzas || stanza.Type != "a" ||
+	if stanza := header.Stanzas[299]; header.Len != len(many) || header.Work != 0 ||
+		header.Count != 300 || len(header.Stanzas) != 300 || stanza.Type != "a" ||
 		strings.Join(stanza.Args, ",") != "bc,!~" || string(stanza.Body) != "\x01\x02\x03" {
 		t.Errorf("%d %d %d %+v", header.Len, header.Work, header.Count, stanza)
 	}
@@ -139,6 +139,10 @@ func TestReadHeader(t *testing.T) {
 		t.Errorf("%d bytes, %v", len(whole), err)
 	}
 
+	header, _, err = ReadHeader(strings.NewReader(of(20000)))
+	if err != nil || header.Count != 20000 || len(header.Stanzas) != 53 {
+		t.Error(header.Count, len(header.Stanzas), err)
+	}
 	for data, number := range map[string]uint32{
 		many[:len(many)-1]: NumberHeaderOrNonceCut, of(0): NumberNoStanza, "not age\n": NumberNotAge,
 	} {

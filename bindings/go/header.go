@@ -11,8 +11,9 @@ import (
 	"strings"
 )
 
-// MaxStanzas is how many stanzas ReadHeader returns at most: a hostile header has 174,000.
-const MaxStanzas = 256
+// mostRead is how many bytes of headers are read for the stanzas of one: each is found by reading
+// all of it, and a hostile header has 174,000.
+const mostRead = 16 << 20
 
 // A Header is what the header of a file says, before anything is opened. Nobody has confirmed it:
 // whoever can change the file can change it.
@@ -20,7 +21,7 @@ type Header struct {
 	Len     int      // how many bytes it has
 	Work    uint32   // the work factor that it demands of a passphrase; 0 if none opens the file
 	Count   int      // how many stanzas it has
-	Stanzas []Stanza // the stanzas, or the first MaxStanzas of them
+	Stanzas []Stanza // all of them, of some 400 recipients or fewer; else only the first
 }
 
 // A Stanza is what one recipient, or a passphrase, finds the file key in.
@@ -47,7 +48,7 @@ func (h *Header) look(front []byte) C.uint32_t {
 	var work C.uint32_t
 	answer := C.age_c_header(place(front), length(front), &size, &count, &work)
 	h.Len, h.Work, h.Count = int(size), uint32(work), int(count)
-	for index := 0; answer == 0 && index < h.Count && index < MaxStanzas; index++ {
+	for index := 0; answer == 0 && index < h.Count && index*h.Len < mostRead; index++ {
 		answer = h.lookAt(front[:size], C.size_t(index))
 	}
 	return answer

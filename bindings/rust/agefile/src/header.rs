@@ -5,8 +5,9 @@ use crate::AgeError;
 use age_c_sys::{age_c_header, age_c_stanza};
 use std::io::{self, Chain, Cursor, Read};
 
-/// How many stanzas [`Header::read`] returns at most: a hostile header has 174,000.
-pub const MAX_STANZAS: usize = 256;
+/// How many bytes of headers are read for the stanzas of one: each is found by reading all of it,
+/// and a hostile header has 174,000.
+const MOST_READ: usize = 16 << 20;
 
 /// What the header of a file says, before anything is opened. Nobody has confirmed it: whoever can
 /// change the file can change it.
@@ -19,9 +20,12 @@ pub struct Header {
     pub work: u32,
     /// How many stanzas it has.
     pub count: usize,
-    /// The stanzas, or the first [`MAX_STANZAS`] of them.
+    /// The stanzas: all of them, of some 400 recipients or fewer; else only the first.
     pub stanzas: Vec<Stanza>,
 }
+
+/// What reads a file from its beginning, after its header was read.
+pub type WholeFile<R> = Chain<Cursor<Vec<u8>>, R>;
 
 /// What one recipient, or a passphrase, finds the file key in.
 #[derive(Clone, Debug, PartialEq, Eq)]
@@ -50,7 +54,7 @@ impl Header {
     /// let file = AgeReader::open(file, Key::Shared { secret: &secret, recipient: &recipient })?;
     /// # Ok::<(), std::io::Error>(())
     /// ```
-    pub fn read<R: Read>(mut file: R) -> io::Result<(Header, Chain<Cursor<Vec<u8>>, R>)> {
+    pub fn read<R: Read>(mut file: R) -> io::Result<(Header, WholeFile<R>)> {
         let (mut header, mut front) = (Header::default(), Vec::new());
         let answer = read_front(&mut file, &mut front, |front| header.look(front))?;
         if answer != 0 {
@@ -65,10 +69,10 @@ impl Header {
         // SAFETY: the slice is as long as it says, and not null; nothing overlaps.
         let mut answer =
             unsafe { age_c_header(at, len, &mut self.len, &mut self.count, &mut self.work) };
-        for index in 0..self.count.min(MAX_STANZAS) {
-            if answer == 0 {
-                answer = self.look_at(&front[..self.len], index);
-            }
+        let mut index = 0;
+        while answer == 0 && index < self.count && index * self.len < MOST_READ {
+            answer = self.look_at(&front[..self.len], index);
+            index += 1;
         }
         answer
     }

@@ -34,7 +34,7 @@ mod writer;
 
 pub use error::AgeError;
 pub use file::AgeFile;
-pub use header::{Header, Stanza, MAX_STANZAS};
+pub use header::{Header, Stanza, WholeFile};
 pub use key::Key;
 pub use reader::{AgeReader, Opening};
 pub use salvage::{salvage, Salvaged};

@@ -1,8 +1,6 @@
 //! Readers and writers over files in memory, and files that age 1.1.1 made.
 
-use agefile::{
-    salvage, AgeError, AgeFile, AgeReader, AgeWriter, Header, Key, Opening, MAX_STANZAS,
-};
+use agefile::{salvage, AgeError, AgeFile, AgeReader, AgeWriter, Header, Key, Opening};
 use std::cell::RefCell;
 use std::io::{self, BufRead, Cursor, ErrorKind, Read, Seek, SeekFrom, Write};
 use std::rc::Rc;
@@ -104,7 +102,8 @@ fn reads_a_file_for_an_x25519_key() {
 
 #[test]
 fn says_what_a_header_says() {
-    let (header, file) = Header::read(&sealed(b"a text")[..]).unwrap();
+    let data = sealed(b"a text");
+    let (header, file) = Header::read(&data[..]).unwrap();
     assert_eq!((header.work, header.count), (1, 1));
     let stanza = &header.stanzas[0];
     assert_eq!(
@@ -128,8 +127,8 @@ fn says_what_a_header_says() {
     // (the source gives a byte at a time, and no nonce follows)
     let (header, mut file) = Header::read(Bytewise(data.as_bytes())).unwrap();
     assert_eq!((header.len, header.work), (data.len(), 0));
-    assert_eq!((header.count, header.stanzas.len()), (300, MAX_STANZAS));
-    let stanza = &header.stanzas[255];
+    assert_eq!((header.count, header.stanzas.len()), (300, 300));
+    let stanza = &header.stanzas[299];
     assert_eq!(
         (stanza.kind.as_str(), &stanza.body[..]),
         ("a", &[1, 2, 3][..])
@@ -145,6 +144,8 @@ fn says_what_a_header_says() {
     };
     assert_eq!(number(&data[..data.len() - 1]), 254);
     assert_eq!(number(&of(0)), 6);
+    let (header, _) = Header::read(of(20_000).as_bytes()).unwrap();
+    assert_eq!((header.count, header.stanzas.len()), (20_000, 53));
     assert_eq!(number("not age\n"), 1);
 }
 
