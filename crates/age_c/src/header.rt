@@ -7,7 +7,7 @@ ghost use Rattle.age_c.specs.Headers.{TellsHeader, TellsStanza};
 use crate::MISUSED;
 use crate::blocks::put;
 use crate::start::head_of;
-use crate::text_len::{args_len as text_len_of, stanzas_len};
+use crate::text_len::{args_len as spaced_len, stanzas_len};
 use crate::work::work_of;
 use std::alloc::Global;
 
@@ -72,7 +72,7 @@ pub extern "C" fn age_c_stanza(
     let stanza = &stanzas[index];
     let mark_len = 3;
     *args_at = stanzas_len(&stanzas[..index]) + mark_len;
-    *args_len = text_len_of(stanza.args.as_slice()) - 1;
+    *args_len = spaced_len(stanza.args.as_slice()) - 1;
     *written = put(stanza.body.as_slice(), out);
     0
 }
