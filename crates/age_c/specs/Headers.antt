@@ -52,8 +52,8 @@ pub record TellsStanza (front : List ℕ) (index room answer args_at args_len : 
     (body : List ℕ) : Type 0 where
   pub told : answer ≡ 0 → (header : Header) × (len : ℕ) × HasHead front header len
       × HasStanza front header index args_at args_len body
-  -- 255 says that there is less room than bytes, or that the header has no such stanza
   pub room_is : room < length front → answer ≡ misused
+  -- 255 says that there is less room than bytes, or that the header has no such stanza
   pub misused_is : answer ≡ misused → (room < length front)
       ⊎ ((header : Header) × (len : ℕ) × HasHead front header len × (length header.stanzas ≤ index))
   pub refused : answer ≢ 0 → answer ≢ misused → IsHeadRefusal front answer
