@@ -44,7 +44,8 @@ static size_t len;
 static const uint8_t key[16] = {7, 7, 7, 7, 7, 7, 7, 7, 7, 7, 7, 7, 7, 7, 7, 7}, pass[2] = {'p', 'w'}, noise[48] = {1, 2, 3};
 static age_c_reader reader;
 static age_c_writer writer;
-static size_t written;
+static size_t written, at, size;
+static uint32_t work;
 
 static uint32_t call(int which) {
     count = 0;
@@ -54,6 +55,8 @@ static uint32_t call(int which) {
     switch (which) {
     case 0: return age_c_open_passphrase(file, len, pass, sizeof pass, 22, &reader);
     case 1: return age_c_open_key(file, len, key, sizeof key, &reader);
+    case 2: return age_c_header(file, len, &at, &size, &work);
+    case 3: return age_c_stanza(file, sizeof out, 0, &at, &size, out, sizeof out, &written);
     default: return age_c_seal_passphrase(pass, sizeof pass, 1, noise, sizeof noise, out, sizeof out, &written, &writer);
     }
 }
@@ -65,13 +68,13 @@ static int is_untouched(const void *at, size_t size) {
 }
 
 int main(int argc, char **argv) {
-    static const char *const names[] = {"open_passphrase", "open_key", "seal_passphrase"};
+    static const char *const names[] = {"open_passphrase", "open_key", "header", "stanza", "seal_passphrase"};
     FILE *in = argc == 2 ? fopen(argv[1], "rb") : NULL;
     int passed = 0, failed = 0;
     if (in == NULL) return 2;
     len = fread(file, 1, sizeof file, in);
     fclose(in);
-    for (int which = 0; which < 3; which++) {
+    for (int which = 0; which < 5; which++) {
         refused_at = 0;
         int right = call(which) == 0 && live == 0;
         long all = count;
