@@ -3,7 +3,6 @@
 #![tactic(auto)]
 
 mod beside;
-mod calls;
 mod input;
 mod lock;
 mod names;
@@ -14,8 +13,9 @@ mod retry;
 mod saving;
 mod sync;
 
+pub use age_machine::{Node, found_at};
 pub use input::HostIn;
-pub use names::{FileId, Node, Resolved, Stream, StreamId, found_at};
+pub use names::{FileId, Resolved, Stream, StreamId};
 pub use output::HostOut;
 pub use prepare::Prepared;
 pub use saving::replace;

@@ -1,7 +1,7 @@
 //! Keeps two runs from writing to one file, and from removing what another one writes.
 
-use crate::names::{FileId, found_at};
 use crate::paths::remove;
+use age_machine::is_at;
 use std::fs::{File, TryLockError};
 use std::io;
 use std::rt::HostRuntime;
@@ -37,12 +37,4 @@ pub(crate) fn remove_at(rt: &HostRuntime, file: &File, path: &str) -> bool {
         remove(rt, path);
     }
     is_there
-}
-
-/// Whether a file is the one at a path, without following a link.
-pub(crate) fn is_at(rt: &HostRuntime, file: &File, path: &str) -> bool {
-    match (file.metadata(), found_at(rt, path)) {
-        (Ok(own), Ok(Some(there))) => FileId::of(&own) == FileId::of(&there),
-        _ => false,
-    }
 }

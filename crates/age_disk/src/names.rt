@@ -1,9 +1,9 @@
 //! What the machine's names stand for: an inherited stream, or a file, whatever links lead to it.
 
 use std::alloc::Global;
-use std::fs::{self, File, Metadata};
+use std::fs::{self, Metadata};
 use std::io;
-use std::os::fd::{AsFd, AsRawFd, OwnedFd};
+use std::os::fd::{AsFd, OwnedFd};
 use std::os::unix::fs::{FileTypeExt, MetadataExt};
 use std::path::PathBuf;
 use std::rt::HostRuntime;
@@ -241,22 +241,6 @@ impl StreamId {
     }
 }
 
-/// Identifies a file of any kind, as long as it exists.
-#[derive(Clone, Copy, PartialEq, Eq)]
-pub struct Node {
-    device: u64,
-    inode: u64,
-}
-
-impl Node {
-    pub fn of(metadata: &Metadata) -> Node {
-        Node {
-            device: metadata.dev(),
-            inode: metadata.ino(),
-        }
-    }
-}
-
 /// Whether a file holds bytes that can reach a disk.
 pub fn is_on_disk(metadata: &Metadata) -> bool {
     let kind = metadata.file_type();
@@ -266,26 +250,4 @@ pub fn is_on_disk(metadata: &Metadata) -> bool {
 /// Whether a file is the machine's generator of random bytes.
 pub fn is_random(metadata: &Metadata) -> bool {
     metadata.file_type().is_char_device() && matches!(metadata.rdev(), 0x108 | 0x109)
-}
-
-/// The metadata of what is at a path, also of a link; `None` if nothing is there.
-pub fn found_at(rt: &HostRuntime, path: &str) -> io::Result<Option<Metadata>> {
-    match fs::symlink_metadata(rt, path) {
-        Ok(found) => Ok(Some(found)),
-        Err(error) if error.kind() == io::ErrorKind::NotFound => Ok(None),
-        Err(error) => Err(error),
-    }
-}
-
-/// The highest descriptor of a standard stream.
-const STREAM_MAX: i32 = 2;
-
-/// Moves a file to a descriptor above 2. If the program was started with a standard stream closed,
-/// the next file opened would take its place, and output meant for the stream would go there.
-pub fn above_streams(file: File) -> io::Result<File> {
-    if file.as_raw_fd() > STREAM_MAX {
-        Ok(file)
-    } else {
-        file.try_clone()
-    }
 }

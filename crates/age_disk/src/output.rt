@@ -3,13 +3,14 @@
 ghost use Rattle.std.specs.Prelude.{◌≡◌, [], None, true, false, IfOk};
 ghost use Rattle.std.specs.Io.{WritesAtMost};
 
-use crate::calls::{close, cut};
 use crate::lock::{lock, remove_own};
-use crate::names::{FileId, Resolved, Stream, above_streams, resolve};
+use crate::names::{FileId, Resolved, Stream, resolve};
 use crate::paths::{OUTPUT_MODE, make_output, open_to_write};
 use crate::retry::{TRIES, is_to_retry, too_many_tries};
 use crate::sync::{Witness, close_stream, sync_file, sync_folder, sync_folder_if_readable};
 use age_io::{Durability, Failed, Failures, Sink, Tape};
+use age_machine::above_streams;
+use age_machine::calls::{close, cut};
 use std::alloc::Global;
 use std::fs::File;
 use std::io::{self, IsTerminal, Write};

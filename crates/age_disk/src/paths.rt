@@ -1,17 +1,13 @@
 //! Opens, makes and removes files of the machine.
 
-use crate::calls;
-use crate::names::{above_streams, is_on_disk};
+use crate::names::is_on_disk;
+use age_machine::{POSITION_MODE, calls, kept_above};
 use std::fs::{self, File};
 use std::io;
 use std::rt::HostRuntime;
 
 /// Who may do what with a new output, if the umask allows it.
 pub(crate) const OUTPUT_MODE: u32 = 0o666;
-
-/// Who may do what with a new position: its owner alone, since it holds digests of the plaintext,
-/// against which guesses can be tried.
-pub(crate) const POSITION_MODE: u32 = 0o600;
 
 /// Opens a file to be written without emptying it; `None` if there is none. It is opened as if it
 /// might have to be made (`O_CREAT`), since only then the system refuses somebody else's file or
@@ -50,15 +46,6 @@ pub(crate) fn make_file(rt: &HostRuntime, path: &str) -> io::Result<File> {
 /// Makes an output, at a path where there is neither a file nor a link.
 pub(crate) fn make_output(rt: &HostRuntime, path: &str) -> io::Result<File> {
     kept_above(rt, calls::make_to_append(rt, path, OUTPUT_MODE)?, path)
-}
-
-/// A file that was made at a path, above the standard streams; it is removed if that fails.
-fn kept_above(rt: &HostRuntime, made: File, path: &str) -> io::Result<File> {
-    let file = above_streams(made);
-    if file.is_err() {
-        remove(rt, path);
-    }
-    file
 }
 
 /// Removes a file that was made, if that is allowed.

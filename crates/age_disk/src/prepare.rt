@@ -1,11 +1,11 @@
 //! A file of the machine that is to be replaced later.
 
-use crate::beside::{Beside, make_beside};
+use crate::beside::Kept;
 use crate::lock::{lock, remove_at};
-use crate::names::{FileId, Node, Resolved, Stream, above_streams, found_at, is_on_disk, resolve};
+use crate::names::{FileId, Resolved, Stream, is_on_disk, resolve};
 use crate::paths::{make_file, open_at_once};
-use crate::sync::folder_of;
 use age_io::Durability;
+use age_machine::{Folder, Node, above_streams, check_same, folder_of, found_at};
 use std::alloc::Global;
 use std::fs::{self, File, Metadata};
 use std::io;
@@ -23,34 +23,6 @@ enum Found {
     Device(Node),
 }
 
-/// A folder that a path leads into.
-#[derive(Drop)]
-enum Folder {
-    /// Its path, without links.
-    Path(PathBuf),
-    /// What it is, if it has no such path, as when that is longer than the system takes.
-    Node(Node),
-}
-
-impl Folder {
-    /// The folder that a path leads into. Fails if that isn't known.
-    fn of(rt: &HostRuntime, path: &PathBuf) -> io::Result<Folder> {
-        match fs::canonicalize(rt, folder_of(path)) {
-            Ok(folder) => Ok(Folder::Path(folder)),
-            Err(error) if error.kind() == io::ErrorKind::OutOfMemory => Err(error),
-            Err(_) => Ok(Folder::Node(Node::of(&fs::metadata(rt, folder_of(path))?))),
-        }
-    }
-
-    fn is_same(&self, other: &Folder) -> bool {
-        match (self, other) {
-            (Folder::Path(one), Folder::Path(other)) => one.as_str() == other.as_str(),
-            (Folder::Node(one), Folder::Node(other)) => one == other,
-            _ => false,
-        }
-    }
-}
-
 /// A file that is to be replaced later: where its name led when that was judged.
 #[derive(Drop)]
 pub struct Prepared {
@@ -60,7 +32,7 @@ pub struct Prepared {
     folder: Option<Folder>,
     found: Found,
     // The file that is to take its place, if one could be made there.
-    beside: Option<Beside>,
+    kept: Option<Kept>,
     // A file that it may be although that is open.
     spared: Option<FileId>,
 }
@@ -83,13 +55,13 @@ impl Prepared {
             Resolved::Path(path) => check_path(rt, name, path)?,
         };
         let folder = folder_in(rt, &resolved, &found)?;
-        let beside = beside_in(alloc, rt, &resolved, &found, durability)?;
+        let kept = kept_in(alloc, rt, &resolved, &found, durability)?;
         let prepared = Prepared {
             name: String::from_str(alloc, name)?,
             resolved,
             folder,
             found,
-            beside,
+            kept,
             spared,
         };
         prepared.check_folder(rt)?;
@@ -120,19 +92,18 @@ impl Prepared {
     }
 
     /// The file that was made to take its place.
-    pub(crate) fn beside(&self) -> Option<&Beside> {
-        self.beside.as_ref()
+    pub(crate) fn kept(&self) -> Option<&Kept> {
+        self.kept.as_ref()
     }
 
-    /// Fails if its path no longer leads into the same folder. What is done there next goes by its
-    /// path again, so somebody who may rename that folder has the moment between.
+    /// The folder that its path led into.
+    pub(crate) fn folder(&self) -> Option<&Folder> {
+        self.folder.as_ref()
+    }
+
+    /// Fails if its path no longer leads into the same folder.
     pub fn check_folder(&self, rt: &HostRuntime) -> io::Result<()> {
-        match (&self.folder, folder_in(rt, &self.resolved, &self.found)) {
-            (Some(before), Ok(Some(now))) if before.is_same(&now) => Ok(()),
-            (None, Ok(None)) => Ok(()),
-            (_, Err(error)) if error.kind() == io::ErrorKind::OutOfMemory => Err(error),
-            _ => Err(io::Error::other("its folder has changed")),
-        }
+        check_same(self.folder(), folder_in(rt, &self.resolved, &self.found))
     }
 
     /// The name under which it was prepared.
@@ -170,55 +141,35 @@ impl Prepared {
 
     /// Whether this is the file that is there now, or the one that is to take its place.
     pub fn is_of(&self, rt: &HostRuntime, id: Option<FileId>) -> bool {
-        let beside = match &self.beside {
-            Some(beside) => beside.id(),
+        let kept = match &self.kept {
+            Some(kept) => kept.id(),
             None => None,
         };
-        id.is_some() && (self.id(rt) == id || beside == id)
+        id.is_some() && (self.id(rt) == id || kept == id)
     }
 }
 
 /// The file that is to take the place of what was found, with room for a position.
-fn beside_in(
+fn kept_in(
     alloc: Global,
     rt: &HostRuntime,
     resolved: &Resolved,
     found: &Found,
     durability: Durability,
-) -> io::Result<Option<Beside>> {
+) -> io::Result<Option<Kept>> {
     let Resolved::Path(path) = resolved else {
         return Ok(None);
     };
     match found {
         Found::Nothing => {
-            let beside = room_beside(alloc, rt, path, durability)?;
-            if beside.is_none() {
+            let kept = Kept::make(alloc, rt, path, durability)?;
+            if kept.is_none() {
                 try_to_make(rt, path)?;
             }
-            Ok(beside)
+            Ok(kept)
         }
-        Found::File(file) if file.metadata()?.is_file() => {
-            room_beside(alloc, rt, path, durability)
-        }
+        Found::File(file) if file.metadata()?.is_file() => Kept::make(alloc, rt, path, durability),
         _ => Ok(None),
-    }
-}
-
-/// A file beside a path with room for a position; `None` if none can be made there. Fails if it
-/// can't be filled.
-fn room_beside(
-    alloc: Global,
-    rt: &HostRuntime,
-    path: &PathBuf,
-    durability: Durability,
-) -> io::Result<Option<Beside>> {
-    match make_beside(alloc, rt, path) {
-        Ok(beside) => {
-            beside.keep_room(durability)?;
-            Ok(Some(beside))
-        }
-        Err(error) if error.kind() == io::ErrorKind::OutOfMemory => Err(error),
-        Err(_) => Ok(None),
     }
 }
 
@@ -233,7 +184,7 @@ fn try_to_make(rt: &HostRuntime, path: &PathBuf) -> io::Result<()> {
 fn folder_in(rt: &HostRuntime, resolved: &Resolved, found: &Found) -> io::Result<Option<Folder>> {
     match (resolved, found) {
         (Resolved::Stream(_), _) | (_, Found::Device(_)) => Ok(None),
-        (Resolved::Path(path), _) => Ok(Some(Folder::of(rt, path)?)),
+        (Resolved::Path(path), _) => Ok(Some(Folder::of(rt, path.as_str())?)),
     }
 }
 
@@ -297,7 +248,7 @@ fn check_folder(rt: &HostRuntime, path: &PathBuf) -> io::Result<()> {
     if path.as_str().is_empty() || path.as_str().ends_with('/') {
         return Err(io::Error::from(io::ErrorKind::IsADirectory));
     }
-    if fs::metadata(rt, folder_of(path))?.is_dir() {
+    if fs::metadata(rt, folder_of(path.as_str()))?.is_dir() {
         Ok(())
     } else {
         Err(io::Error::from(io::ErrorKind::NotADirectory))

@@ -1,15 +1,17 @@
 //! Replaces a file of the machine as a whole.
 
-use crate::beside::{Beside, make_beside};
-use crate::calls;
 use crate::lock::{lock, remove_own};
-use crate::names::{Node, Resolved, found_at, is_on_disk};
+use crate::names::{Resolved, is_on_disk};
 use crate::output::HostOut;
-use crate::paths::{POSITION_MODE, make_file, open_at_once, open_to_write};
+use crate::paths::{make_file, open_at_once, open_to_write};
 use crate::prepare::Prepared;
 use crate::sync::sync_folder;
 use age_fault::write_all;
 use age_io::Durability;
+use age_machine::{
+    HostMachine, Node, POSITION_MODE, Spot, Unplaced, found_at, made_meanwhile, replace_by_kept,
+    replace_by_new,
+};
 use std::alloc::Global;
 use std::fs::{self, File, Metadata};
 use std::io;
@@ -17,95 +19,8 @@ use std::os::unix::fs::FileTypeExt;
 use std::path::PathBuf;
 use std::rt::HostRuntime;
 
-/// Why a file that was made next to another didn't take its place.
-#[derive(Drop)]
-enum Unplaced {
-    /// None can be put there.
-    NotBeside,
-    /// It could not be filled or renamed, or it took the place and the wait for the disk failed.
-    Failed(io::Error),
-}
-
-impl From<io::Error> for Unplaced {
-    fn from(error: io::Error) -> Unplaced {
-        Unplaced::Failed(error)
-    }
-}
-
-/// What a rename that failed says: only some errors say that no file can be put there. After the
-/// others, as those of a disk that fails or is full, the file that is there is kept.
-fn unplaced_by(error: io::Error) -> Unplaced {
-    match error.kind() {
-        io::ErrorKind::PermissionDenied
-        | io::ErrorKind::ResourceBusy
-        | io::ErrorKind::CrossesDevices => Unplaced::NotBeside,
-        _ => Unplaced::Failed(error),
-    }
-}
-
-/// What is reported of a file that has come to where none was: another run may have saved it.
-fn made_meanwhile() -> io::Error {
-    io::Error::other("another program made it meanwhile")
-}
-
-/// Gives a new file the name of one that wasn't there. A second name for it never takes a file's
-/// place; where the file system has no second names, this looks first.
-fn publish(rt: &HostRuntime, new: &Beside, path: &str) -> Result<(), Unplaced> {
-    match calls::link(rt, new.path(), path) {
-        Ok(()) => {
-            new.remove(rt);
-            Ok(())
-        }
-        Err(error) if error.kind() == io::ErrorKind::AlreadyExists => {
-            Err(Unplaced::Failed(made_meanwhile()))
-        }
-        Err(_) => match found_at(rt, path)? {
-            Some(_) => Err(Unplaced::Failed(made_meanwhile())),
-            None => take_place(rt, new, path),
-        },
-    }
-}
-
-/// Puts a new file in the place of the one at a path.
-fn take_place(rt: &HostRuntime, new: &Beside, path: &str) -> Result<(), Unplaced> {
-    match calls::rename(rt, new.path(), path) {
-        Ok(()) => Ok(()),
-        Err(error) => Err(unplaced_by(error)),
-    }
-}
-
-/// Where a new file goes: to a path where there is nothing, or in the place of what is there.
-#[derive(Clone, Copy, PartialEq, Eq)]
-enum Spot {
-    Free,
-    Taken,
-}
-
-/// Puts a new file that was filled to a path. Fails if it isn't in the folder that was prepared, as
-/// when its path has come to lead elsewhere before it was made.
-fn place(
-    rt: &HostRuntime,
-    prepared: &Prepared,
-    new: &Beside,
-    path: &PathBuf,
-    to: Spot,
-    durability: Durability,
-) -> Result<(), Unplaced> {
-    prepared.check_folder(rt)?;
-    match to {
-        Spot::Free => publish(rt, new, path.as_str())?,
-        Spot::Taken => take_place(rt, new, path.as_str())?,
-    }
-    match durability {
-        Durability::Synced => Ok(sync_folder(rt, path)?),
-        Durability::Buffered => Ok(()),
-    }
-}
-
-/// Puts a new file of these bytes to a path. What is there stays as it is until the new one is
-/// whole. The new one is its owner's alone, whoever may read the old one: what lets others do that
-/// can't all be seen. It is the one that was made beside when this was prepared, unless that is
-/// gone, or can't be written over.
+/// Puts a new file of these bytes to a path. It is the one that was made beside when this was
+/// prepared, unless that is gone, or can't be written over.
 fn replace_beside(
     alloc: Global,
     rt: &HostRuntime,
@@ -115,21 +30,27 @@ fn replace_beside(
     bytes: &[u8],
     durability: Durability,
 ) -> Result<(), Unplaced> {
-    if let Some(kept) = prepared.beside()
-        && kept.is_there(rt)
-    {
-        match kept.fill(bytes, durability) {
-            Ok(()) => return place(rt, prepared, kept, path, to, durability),
-            Err(_) => kept.remove(rt),
+    let folder = prepared.folder();
+    let path = path.as_str();
+    match prepared.kept() {
+        Some(kept) => {
+            let mut machine = kept.machine();
+            let kept = kept.beside();
+            replace_by_kept(
+                alloc,
+                &mut machine,
+                folder,
+                kept,
+                path,
+                to,
+                bytes,
+                durability,
+            )
         }
-    }
-    match make_beside(alloc, rt, path) {
-        Ok(new) => {
-            new.fill(bytes, durability)?;
-            place(rt, prepared, &new, path, to, durability)
+        None => {
+            let mut machine = HostMachine::new(rt);
+            replace_by_new(alloc, &mut machine, folder, path, to, bytes, durability)
         }
-        Err(error) if error.kind() == io::ErrorKind::OutOfMemory => Err(Unplaced::Failed(error)),
-        Err(_) => Err(Unplaced::NotBeside),
     }
 }
 
@@ -206,6 +127,7 @@ fn make_at(
         Ok(()) => Ok(()),
         Err(Unplaced::NotBeside) => make_directly(rt, path, bytes, durability),
         Err(Unplaced::Failed(error)) => Err(error),
+        Err(Unplaced::Memory) => Err(io::Error::from(io::ErrorKind::OutOfMemory)),
     }
 }
 
@@ -243,6 +165,7 @@ fn replace_found(
             Ok(()) => return Ok(()),
             Err(Unplaced::NotBeside) => {}
             Err(Unplaced::Failed(error)) => return Err(error),
+            Err(Unplaced::Memory) => return Err(io::Error::from(io::ErrorKind::OutOfMemory)),
         }
     }
     fill_directly(rt, HostOut::over(rt, file)?, bytes, durability)

@@ -1,27 +1,17 @@
 //! Waits until files of the machine have reached the disk, and closes them.
 
-use crate::calls::{close, sync_whole};
-use crate::names::{Stream, above_streams, is_on_disk};
+use crate::names::{Stream, is_on_disk};
+use age_machine::calls::close;
+use age_machine::{above_streams, folder_of};
 use std::fs::File;
 use std::io;
 use std::path::PathBuf;
 use std::rt::HostRuntime;
 
-/// Whether an error says that the machine has no way to wait here. A file system that became
-/// read-only after a file was written says something else: that its disk failed.
-fn is_unsupported(error: &io::Error) -> bool {
-    matches!(
-        error.kind(),
-        io::ErrorKind::InvalidInput | io::ErrorKind::Unsupported
-    )
-}
-
 /// Waits until a file has reached the disk. If the machine can't wait, nothing is waited for.
-pub(crate) fn sync(file: &File) -> io::Result<()> {
-    match sync_whole(file) {
-        Err(error) if !is_unsupported(&error) => Err(error),
-        _ => Ok(()),
-    }
+fn sync(file: &File) -> io::Result<()> {
+    age_machine::sync(file)?;
+    Ok(())
 }
 
 /// Waits until a file has reached the disk, if it is of a kind that can.
@@ -35,13 +25,13 @@ pub(crate) fn sync_file(file: &File) -> io::Result<()> {
 /// Waits until the names in the folder of a path have reached the disk. Fails if the folder can't
 /// be read.
 pub(crate) fn sync_folder(rt: &HostRuntime, path: &PathBuf) -> io::Result<()> {
-    sync(&File::open(rt, folder_of(path))?)
+    sync(&File::open(rt, folder_of(path.as_str()))?)
 }
 
 /// The same for a name that another program made: nothing is waited for if the folder can't be
 /// read.
 pub(crate) fn sync_folder_if_readable(rt: &HostRuntime, path: &PathBuf) -> io::Result<()> {
-    match File::open(rt, folder_of(path)) {
+    match File::open(rt, folder_of(path.as_str())) {
         Ok(folder) => sync(&folder),
         Err(error) if is_out_of_reach(&error) => Ok(()),
         Err(error) => Err(error),
@@ -53,14 +43,6 @@ fn is_out_of_reach(error: &io::Error) -> bool {
         error.kind(),
         io::ErrorKind::PermissionDenied | io::ErrorKind::NotFound
     )
-}
-
-/// The folder of a path.
-pub(crate) fn folder_of(path: &PathBuf) -> &str {
-    match path.parent() {
-        Some(folder) if !folder.as_str().is_empty() => folder.as_str(),
-        _ => ".",
-    }
 }
 
 /// A second descriptor of the file to which a stream leads, by which the disk is waited for: the kit

@@ -1,6 +1,8 @@
 //! The calls that change what a folder or a disk holds: each function makes one, and says what the
 //! system answered.
 
+ghost use Rattle.std.specs.Io.{WritesAtMost};
+
 use std::fs::{self, File};
 use std::io;
 use std::os::unix::fs::{FileExt, OpenOptionsExt};
@@ -19,7 +21,7 @@ const TOO_LONG: &str =
 /// nowhere else. `std` closes what is dropped and loses the answer, but the system keeps the reason
 /// of its last failure. So something else fails first, and if the reason is another one then, it is
 /// that of the close. Only a close for which a name is too long would go unnoticed.
-pub(crate) fn close<D: Drop>(rt: &HostRuntime, descriptor: D) -> io::Result<()> {
+pub fn close<D: Drop>(rt: &HostRuntime, descriptor: D) -> io::Result<()> {
     let _ = fs::metadata(rt, TOO_LONG);
     let before = last_error().raw_os_error();
     drop(descriptor);
@@ -32,22 +34,24 @@ pub(crate) fn close<D: Drop>(rt: &HostRuntime, descriptor: D) -> io::Result<()> 
 }
 
 /// Waits until what was written to a file has reached the disk.
-pub(crate) fn sync_whole(file: &File) -> io::Result<()> {
+pub fn sync_whole(file: &File) -> io::Result<()> {
     file.sync_all()
 }
 
 /// Cuts a file off, or makes it longer.
-pub(crate) fn cut(file: &File, len: u64) -> io::Result<()> {
+pub fn cut(file: &File, len: u64) -> io::Result<()> {
     file.set_len(len)
 }
 
-/// Writes all bytes from a file's start on, without moving where it stands.
-pub(crate) fn write_at_start(file: &File, bytes: &[u8]) -> io::Result<()> {
-    file.write_all_at(bytes, 0)
+/// Writes some bytes to a file, from a place on, without moving where it stands.
+pub fn write_at(file: &File, bytes: &[u8], at: u64) -> io::Result<usize>
+    ensures { WritesAtMost result bytes.now }
+{
+    file.write_at(bytes, at)
 }
 
 /// Makes a file that wasn't there, at a path that is no link.
-pub(crate) fn make(rt: &HostRuntime, path: &str, mode: u32) -> io::Result<File> {
+pub fn make(rt: &HostRuntime, path: &str, mode: u32) -> io::Result<File> {
     let mut options = File::options();
     options
         .write(true)
@@ -57,7 +61,7 @@ pub(crate) fn make(rt: &HostRuntime, path: &str, mode: u32) -> io::Result<File> 
 }
 
 /// Makes a file that wasn't there, at a path that is no link. Each write to it goes to its end.
-pub(crate) fn make_to_append(rt: &HostRuntime, path: &str, mode: u32) -> io::Result<File> {
+pub fn make_to_append(rt: &HostRuntime, path: &str, mode: u32) -> io::Result<File> {
     let mut options = File::options();
     options
         .append(true)
@@ -67,12 +71,7 @@ pub(crate) fn make_to_append(rt: &HostRuntime, path: &str, mode: u32) -> io::Res
 }
 
 /// Opens a file to be written, and read if that is wanted. It is made if it has just been removed.
-pub(crate) fn open_or_make(
-    rt: &HostRuntime,
-    name: &str,
-    is_read: bool,
-    mode: u32,
-) -> io::Result<File> {
+pub fn open_or_make(rt: &HostRuntime, name: &str, is_read: bool, mode: u32) -> io::Result<File> {
     let mut options = File::options();
     options
         .read(is_read)
@@ -83,16 +82,16 @@ pub(crate) fn open_or_make(
 }
 
 /// Gives a file another name, whatever file has that.
-pub(crate) fn rename(rt: &HostRuntime, from: &str, to: &str) -> io::Result<()> {
+pub fn rename(rt: &HostRuntime, from: &str, to: &str) -> io::Result<()> {
     fs::rename(rt, from, to)
 }
 
 /// Gives a file a second name that no file has.
-pub(crate) fn link(rt: &HostRuntime, from: &str, to: &str) -> io::Result<()> {
+pub fn link(rt: &HostRuntime, from: &str, to: &str) -> io::Result<()> {
     fs::hard_link(rt, from, to)
 }
 
 /// Removes a name of a file.
-pub(crate) fn remove(rt: &HostRuntime, path: &str) -> io::Result<()> {
+pub fn remove(rt: &HostRuntime, path: &str) -> io::Result<()> {
     fs::remove_file(rt, path)
 }

@@ -1,0 +1,5 @@
+pub mod DiskLemmas
+pub mod FillLemmas
+pub mod LawLemmas
+pub mod PutLemmas
+pub mod SaveLemmas

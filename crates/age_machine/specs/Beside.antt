@@ -1,0 +1,24 @@
+-- What is known of a file that was made beside a path, to be put there later.
+use Rattle.std.specs.Prelude.{◌≡◌, ◌≢◌, ℕ, List, false, Some, Contains}
+use Rattle.age_machine.specs.Calls.{FileCall, Made}
+use Rattle.age_machine.specs.Disk.{Disk, after_calls, MayLead}
+use Rattle.age_machine.specs.Saves.{AllAnswered, SavesWhole, SparesFile, Touches}
+
+-- at this path was made this file, and no other path is touched but the one that it is to have
+pub record HasBeside (path from : List ℕ) (n : ℕ) (old calls : List FileCall) : Type 0 where
+  pub touches : Touches path old calls
+  pub made : Contains touches.since (Made from n)
+
+-- It is there since the old calls, and nothing is seen of it at the path.
+pub record IsBeside (path from : List ℕ) (n : ℕ) (old calls : List FileCall) : Type 0 where
+  pub has : HasBeside path from n old calls
+  pub apart : from ≢ path
+  pub saves : (bytes : List ℕ) → SavesWhole path bytes old calls
+  pub spares : SparesFile path old calls
+  pub file : (disk : Disk) → AllAnswered path calls disk → (after_calls calls disk).file from ≡ Some n
+  pub elsewhere : (disk : Disk) → AllAnswered path calls disk
+      → MayLead (after_calls calls disk) path (Some n) → ⊥
+
+-- no call about it has failed
+abbrev pub IsSound : ℕ → List FileCall → Type 0
+IsSound n calls = (disk : Disk) → (after_calls calls disk).is_lost n ≡ false

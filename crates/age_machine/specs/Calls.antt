@@ -1,0 +1,38 @@
+-- The calls of the system by which a file is put in another's place.
+use Rattle.std.specs.Prelude.{◌≡◌, ◌⊎◌, ℕ, List, ◌∷◌}
+
+-- a call that succeeded, or that may have done something although it failed, or what a call showed;
+-- a file goes by its number, a name by its path
+pub data FileCall : Type 0 where
+  -- an empty file was made at a path
+  Made : List ℕ → ℕ → FileCall
+  -- bytes were written to a file, from this place on
+  Wrote : ℕ → ℕ → List ℕ → FileCall
+  -- a file was cut off after so many bytes
+  Cut : ℕ → ℕ → FileCall
+  -- a write to a file has failed, or a cut, or the wait for the disk: it may hold anything
+  Broke : ℕ → FileCall
+  -- a file was seen to have so many bytes
+  Measured : ℕ → ℕ → FileCall
+  -- what a file holds has reached the disk; the system can't wait for it
+  Synced : ℕ → FileCall
+  Unwaited : ℕ → FileCall
+  -- nothing was seen at a path
+  Missing : List ℕ → FileCall
+  -- the file at the first path is at the second now too, where nothing was
+  Linked : List ℕ → List ℕ → FileCall
+  -- the file at the first path is at the second now, in place of what was there
+  Renamed : List ℕ → List ℕ → FileCall
+  -- a path leads to nothing now
+  Removed : List ℕ → FileCall
+  -- the names in the folder of a path have reached the disk; the system can't wait for them
+  SyncedNames : List ℕ → FileCall
+  UnwaitedNames : List ℕ → FileCall
+
+-- this call was made, or none
+abbrev pub MayHave : FileCall → List FileCall → List FileCall → Type 0
+MayHave call old new = (new ≡ old) ⊎ (new ≡ call ∷ old)
+
+-- the call that waits was made, or the one that can't
+abbrev pub Waited : FileCall → FileCall → List FileCall → List FileCall → Type 0
+Waited waits cant old new = (new ≡ waits ∷ old) ⊎ (new ≡ cant ∷ old)

@@ -1,0 +1,89 @@
+-- What it means that a file is put to a path at once, whatever fails and whenever the power is cut.
+use Rattle.std.specs.Prelude.{◌≡◌, ◌≢◌, ◌⊎◌, ℕ, List, [], ◌∷◌, ◌++◌, length, Option, Some, None, Contains}
+use Rattle.age_machine.specs.Calls.{FileCall, Made, Wrote, Cut, Broke, Measured, Synced, Unwaited}
+use Rattle.age_machine.specs.Calls.{Missing, Linked, Renamed, Removed, SyncedNames, UnwaitedNames}
+use Rattle.age_machine.specs.Disk.{Disk, after_calls, MayLead, MayLeave}
+
+-- A disk on which this call is the next one answers as one that can be waited for. A file that is
+-- made is a new one, to which the path may not lead; a link is made only where nothing is.
+abbrev pub IsAnswered : List ℕ → FileCall → Disk → Type 0
+IsAnswered path (Made p n) disk = MayLead disk path (Some n) → ⊥
+IsAnswered path (Measured n len) disk = length (disk.bytes n) ≡ len
+IsAnswered path (Missing p) disk = disk.file p ≡ None
+IsAnswered path (Linked from to) disk = disk.file to ≡ None
+IsAnswered path (Unwaited n) disk = ⊥
+IsAnswered path (UnwaitedNames p) disk = ⊥
+IsAnswered path call disk = Unit {0}
+
+-- each of these calls is answered so
+abbrev pub AllAnswered : List ℕ → List FileCall → Disk → Type 0
+AllAnswered path [] disk = Unit {0}
+AllAnswered path (call ∷ calls) disk =
+    IsAnswered path call (after_calls calls disk) × AllAnswered path calls disk
+
+-- this holds of the calls at each moment: after the old ones, and after each of those since
+abbrev pub AtEachMoment : (List FileCall → Type 0) → List FileCall → List FileCall → Type 0
+AtEachMoment P [] old = P old
+AtEachMoment P (call ∷ since) old = P (call ∷ (since ++ old)) × AtEachMoment P since old
+
+-- on each disk that answers
+pub record Throughout (path : List ℕ) (P : Disk → List FileCall → Type 0) (old new : List FileCall)
+    : Type 0 where
+  pub since : List FileCall
+  pub are : new ≡ since ++ old
+  pub each : (disk : Disk) → AllAnswered path new disk → AtEachMoment (P disk) since old
+
+-- A power cut leaves at a path what it might have left after the old calls, or these bytes.
+abbrev pub SavesWhole : List ℕ → List ℕ → List FileCall → List FileCall → Type 0
+SavesWhole path bytes old = Throughout path (λ disk calls. (left : Option (List ℕ))
+    → MayLeave (after_calls calls disk) path left
+    → MayLeave (after_calls old disk) path left ⊎ (left ≡ Some bytes)) old
+
+-- A power cut leaves these bytes at a path and nothing else.
+abbrev pub IsSafe : List ℕ → List ℕ → List FileCall → Type 0
+IsSafe path bytes calls = (disk : Disk) → AllAnswered path calls disk
+    → (left : Option (List ℕ)) → MayLeave (after_calls calls disk) path left → left ≡ Some bytes
+
+-- A file that was at a path after the old calls stays there.
+abbrev pub SparesFile : List ℕ → List FileCall → List FileCall → Type 0
+SparesFile path old = Throughout path (λ disk calls. (n : ℕ)
+    → (after_calls old disk).file path ≡ Some n → (after_calls calls disk).file path ≡ Some n) old
+
+-- ---- What else is touched.
+
+-- these calls have made a file, or one at this path
+abbrev pub HasMade : ℕ → List FileCall → Type 0
+HasMade n calls = (p : List ℕ) × Contains calls (Made p n)
+
+abbrev pub HasMadeAt : List ℕ → List FileCall → Type 0
+HasMadeAt p calls = (n : ℕ) × Contains calls (Made p n)
+
+-- a path begins with another one
+abbrev pub IsLonger : List ℕ → List ℕ → Type 0
+IsLonger path p = (more : List ℕ) × (p ≡ path ++ more) × (p ≢ path)
+
+-- After these calls, this one is about the path, a longer one beside it, or a file that they made.
+abbrev pub IsWithin : List ℕ → List FileCall → FileCall → Type 0
+IsWithin path calls (Made p n) = IsLonger path p
+IsWithin path calls (Wrote n at part) = HasMade n calls
+IsWithin path calls (Cut n len) = HasMade n calls
+IsWithin path calls (Broke n) = HasMade n calls
+IsWithin path calls (Measured n len) = HasMade n calls
+IsWithin path calls (Synced n) = HasMade n calls
+IsWithin path calls (Unwaited n) = HasMade n calls
+IsWithin path calls (Missing p) = p ≡ path
+IsWithin path calls (Linked from to) = HasMadeAt from calls × (to ≡ path)
+IsWithin path calls (Renamed from to) = HasMadeAt from calls × (to ≡ path)
+IsWithin path calls (Removed p) = HasMadeAt p calls
+IsWithin path calls (SyncedNames p) = p ≡ path
+IsWithin path calls (UnwaitedNames p) = p ≡ path
+
+abbrev pub AllWithin : List ℕ → List FileCall → Type 0
+AllWithin path [] = Unit {0}
+AllWithin path (call ∷ calls) = IsWithin path calls call × AllWithin path calls
+
+-- Nothing else was touched since the old calls.
+pub record Touches (path : List ℕ) (old new : List FileCall) : Type 0 where
+  pub since : List FileCall
+  pub are : new ≡ since ++ old
+  pub within : AllWithin path since

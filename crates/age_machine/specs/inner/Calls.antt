@@ -1,0 +1,92 @@
+-- How code notes calls. Private: no public contract cites this module.
+use Rattle.std.specs.Prelude.{◌≡◌, ◌⊎◌, ℕ, List, refl}
+use Rattle.std.specs.Coded.{Coded, coded_ℕ, coded_list, coded⊎, coded×, code_by}
+use mathlib.Core.Logic.{inl, inr}
+use Rattle.age_machine.specs.Calls.{FileCall, Made, Wrote, Cut, Broke, Measured, Synced, Unwaited}
+use Rattle.age_machine.specs.Calls.{Missing, Linked, Renamed, Removed, SyncedNames, UnwaitedNames}
+use Rattle.age_machine.specs.Numbers.{number_of}
+use Rattle.age_machine.specs.declared.notes.Word.{Word}
+use Rattle.age_machine.specs.declared.notes.Word.TheVariants as word
+
+-- the call that a word says
+abbrev pub file_call_of : Word → FileCall
+file_call_of (word.Made path node) = Made path.now (number_of node)
+file_call_of (word.Wrote node at bytes) = Wrote (number_of node) at bytes.now
+file_call_of (word.Cut node len) = Cut (number_of node) len
+file_call_of (word.Broke node) = Broke (number_of node)
+file_call_of (word.Measured node len) = Measured (number_of node) len
+file_call_of (word.Synced node) = Synced (number_of node)
+file_call_of (word.Unwaited node) = Unwaited (number_of node)
+file_call_of (word.Missing path) = Missing path.now
+file_call_of (word.Linked from to) = Linked from.now to.now
+file_call_of (word.Renamed from to) = Renamed from.now to.now
+file_call_of (word.Removed path) = Removed path.now
+file_call_of (word.SyncedNames path) = SyncedNames path.now
+file_call_of (word.UnwaitedNames path) = UnwaitedNames path.now
+
+-- a call as a choice among sums, the form in which ghost state is kept
+abbrev Text : Type 0
+Text = List ℕ
+
+abbrev FileParts : Type 0
+FileParts = (Text × ℕ) ⊎ ((ℕ × (ℕ × Text)) ⊎ ((ℕ × ℕ) ⊎ (ℕ ⊎ ((ℕ × ℕ) ⊎ (ℕ ⊎ ℕ)))))
+
+abbrev NameParts : Type 0
+NameParts = Text ⊎ ((Text × Text) ⊎ ((Text × Text) ⊎ (Text ⊎ (Text ⊎ Text))))
+
+abbrev parts_of : FileCall → FileParts ⊎ NameParts
+parts_of (Made path n) = inl (inl (path, n))
+parts_of (Wrote n at bytes) = inl (inr (inl (n, (at, bytes))))
+parts_of (Cut n len) = inl (inr (inr (inl (n, len))))
+parts_of (Broke n) = inl (inr (inr (inr (inl n))))
+parts_of (Measured n len) = inl (inr (inr (inr (inr (inl (n, len))))))
+parts_of (Synced n) = inl (inr (inr (inr (inr (inr (inl n))))))
+parts_of (Unwaited n) = inl (inr (inr (inr (inr (inr (inr n))))))
+parts_of (Missing path) = inr (inl path)
+parts_of (Linked from to) = inr (inr (inl (from, to)))
+parts_of (Renamed from to) = inr (inr (inr (inl (from, to))))
+parts_of (Removed path) = inr (inr (inr (inr (inl path))))
+parts_of (SyncedNames path) = inr (inr (inr (inr (inr (inl path)))))
+parts_of (UnwaitedNames path) = inr (inr (inr (inr (inr (inr path)))))
+
+abbrev from_parts : FileParts ⊎ NameParts → FileCall
+from_parts (inl (inl made)) = Made made.0 made.1
+from_parts (inl (inr (inl wrote))) = Wrote wrote.0 wrote.1.0 wrote.1.1
+from_parts (inl (inr (inr (inl cut)))) = Cut cut.0 cut.1
+from_parts (inl (inr (inr (inr (inl n))))) = Broke n
+from_parts (inl (inr (inr (inr (inr (inl measured)))))) = Measured measured.0 measured.1
+from_parts (inl (inr (inr (inr (inr (inr (inl n))))))) = Synced n
+from_parts (inl (inr (inr (inr (inr (inr (inr n))))))) = Unwaited n
+from_parts (inr (inl path)) = Missing path
+from_parts (inr (inr (inl linked))) = Linked linked.0 linked.1
+from_parts (inr (inr (inr (inl renamed)))) = Renamed renamed.0 renamed.1
+from_parts (inr (inr (inr (inr (inl path))))) = Removed path
+from_parts (inr (inr (inr (inr (inr (inl path)))))) = SyncedNames path
+from_parts (inr (inr (inr (inr (inr (inr path)))))) = UnwaitedNames path
+
+pub from_parts-parts_of : (call : FileCall) → from_parts (parts_of call) ≡ call
+from_parts-parts_of (Made path n) = refl
+from_parts-parts_of (Wrote n at bytes) = refl
+from_parts-parts_of (Cut n len) = refl
+from_parts-parts_of (Broke n) = refl
+from_parts-parts_of (Measured n len) = refl
+from_parts-parts_of (Synced n) = refl
+from_parts-parts_of (Unwaited n) = refl
+from_parts-parts_of (Missing path) = refl
+from_parts-parts_of (Linked from to) = refl
+from_parts-parts_of (Renamed from to) = refl
+from_parts-parts_of (Removed path) = refl
+from_parts-parts_of (SyncedNames path) = refl
+from_parts-parts_of (UnwaitedNames path) = refl
+
+abbrev coded_text : Coded (List ℕ)
+coded_text = coded_list coded_ℕ
+
+abbrev pub coded_call : Coded FileCall
+coded_call = code_by (FileParts ⊎ NameParts)
+    (coded⊎ (coded⊎ (coded× coded_text coded_ℕ) (coded⊎ (coded× coded_ℕ (coded× coded_ℕ coded_text))
+    (coded⊎ (coded× coded_ℕ coded_ℕ) (coded⊎ coded_ℕ (coded⊎ (coded× coded_ℕ coded_ℕ)
+    (coded⊎ coded_ℕ coded_ℕ))))))
+    (coded⊎ coded_text (coded⊎ (coded× coded_text coded_text)
+    (coded⊎ (coded× coded_text coded_text) (coded⊎ coded_text (coded⊎ coded_text coded_text))))))
+    parts_of from_parts from_parts-parts_of

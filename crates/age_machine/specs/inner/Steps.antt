@@ -1,0 +1,86 @@
+-- What the steps of a replacement do. Private: no public contract cites this module.
+use Rattle.std.specs.Prelude.{◌≡◌, ◌≢◌, ℕ, List, [], ◌∷◌, ◌++◌, take, drop, true, false, Some}
+use Rattle.age_io.specs.declared.durability.Durability.{Durability}
+use Rattle.age_io.specs.declared.durability.Durability.TheVariants as wait
+use Rattle.age_machine.specs.Calls.{FileCall, Wrote, Cut, Broke, Measured, Synced, Unwaited}
+use Rattle.age_machine.specs.Disk.{Disk, after_calls}
+use Rattle.age_machine.specs.Saves.{AllAnswered, SavesWhole, SparesFile}
+use Rattle.age_machine.specs.Beside.{HasBeside}
+use Rattle.age_machine.specs.declared.replacing.Spot.{Spot}
+use Rattle.age_machine.specs.declared.replacing.Spot.TheVariants as spot
+
+-- this call is about what this file holds; each of these is
+abbrev pub IsOf : ℕ → FileCall → Type 0
+IsOf n (Wrote m at part) = m ≡ n
+IsOf n (Cut m len) = m ≡ n
+IsOf n (Broke m) = m ≡ n
+IsOf n (Measured m len) = m ≡ n
+IsOf n (Synced m) = m ≡ n
+IsOf n (Unwaited m) = m ≡ n
+IsOf n call = ⊥
+
+abbrev pub AllOf : ℕ → List FileCall → Type 0
+AllOf n [] = Unit {0}
+AllOf n (call ∷ calls) = IsOf n call × AllOf n calls
+
+-- the calls since the old ones are about what this file holds
+pub record IsAbout (n : ℕ) (old new : List FileCall) : Type 0 where
+  pub since : List FileCall
+  pub are : new ≡ since ++ old
+  pub all : AllOf n since
+
+-- no call about it has failed since
+abbrev pub StaysSound : ℕ → List FileCall → List FileCall → Type 0
+StaysSound n old new =
+    (disk : Disk) → (after_calls new disk).is_lost n ≡ (after_calls old disk).is_lost n
+
+-- so many of these bytes are written over what a file held
+pub record WritesOver (n count : ℕ) (text : List ℕ) (old new : List FileCall) : Type 0 where
+  pub sound : StaysSound n old new
+  pub bytes : (disk : Disk) → (after_calls new disk).bytes n
+      ≡ take count text ++ drop count ((after_calls old disk).bytes n)
+
+-- it is cut off after so many bytes
+pub record CutsOff (n len : ℕ) (old new : List FileCall) : Type 0 where
+  pub sound : StaysSound n old new
+  pub bytes : (path : List ℕ) (disk : Disk) → AllAnswered path new disk
+      → (after_calls new disk).bytes n ≡ take len ((after_calls old disk).bytes n)
+
+-- it holds these bytes, and a power cut leaves them
+pub record Has (n : ℕ) (text : List ℕ) (disk : Disk) : Type 0 where
+  pub bytes : disk.bytes n ≡ text
+  pub is_kept : disk.is_kept n ≡ true
+
+-- a file of which no call has failed gets these bytes, which reach the disk
+pub record Fills (n : ℕ) (bytes : List ℕ) (old new : List FileCall) : Type 0 where
+  pub on : (path : List ℕ) (disk : Disk) → AllAnswered path new disk
+      → (after_calls old disk).is_lost n ≡ false → Has n bytes (after_calls new disk)
+
+-- ---- From a file that was filled to one that is at its path.
+
+-- beside the path is a file of these bytes, which a power cut leaves
+pub record IsFull (path from : List ℕ) (n : ℕ) (bytes : List ℕ) (old calls : List FileCall)
+    : Type 0 where
+  pub apart : from ≢ path
+  pub saves : SavesWhole path bytes old calls
+  pub file : (disk : Disk) → AllAnswered path calls disk → (after_calls calls disk).file from ≡ Some n
+  pub has : (disk : Disk) → AllAnswered path calls disk → Has n bytes (after_calls calls disk)
+
+-- it is at the path
+pub record IsInPlace (path : List ℕ) (n : ℕ) (bytes : List ℕ) (calls : List FileCall) : Type 0 where
+  pub file : (disk : Disk) → AllAnswered path calls disk → (after_calls calls disk).file path ≡ Some n
+  pub has : (disk : Disk) → AllAnswered path calls disk → Has n bytes (after_calls calls disk)
+
+-- what holds before it is put there, and after that was tried
+pub record IsReady (durability : Durability) (path from : List ℕ) (n : ℕ) (bytes : List ℕ)
+    (old calls : List FileCall) : Type 0 where
+  pub apart : from ≢ path
+  pub has : HasBeside path from n old calls
+  pub spares : SparesFile path old calls
+  pub full : durability ≡ wait.Synced → IsFull path from n bytes old calls
+
+pub record HasTried (to : Spot) (durability : Durability) (path from : List ℕ) (n : ℕ)
+    (bytes : List ℕ) (old calls : List FileCall) : Type 0 where
+  pub has : HasBeside path from n old calls
+  pub spares : to ≡ spot.Free → SparesFile path old calls
+  pub saves : durability ≡ wait.Synced → SavesWhole path bytes old calls

@@ -1,0 +1,168 @@
+//! A file beside another one, whose place it is to take.
+
+ghost use Rattle.std.specs.Prelude.{◌≡◌, ◌≢◌, ◌≤◌, ◌<◌, ◌∷◌, string_bytes, IfOk, IfErr, OnOk, OnErr};
+ghost use Rattle.std.specs.Prelude.{MatchOption, length};
+ghost use Rattle.age_io.specs.declared.durability.Durability.TheVariants as wait;
+ghost use Rattle.age_machine.specs.Calls.{Made, Synced, Unwaited, Waited};
+ghost use Rattle.age_machine.specs.Saves.{IsLonger};
+ghost use Rattle.age_machine.specs.Beside.{IsBeside, IsSound};
+ghost use Rattle.age_machine.specs.declared.beside.Unplaced.TheVariants.{Memory};
+ghost use Rattle.age_machine.specs.inner.Steps.{IsAbout, StaysSound, WritesOver};
+
+use crate::machine::Machine;
+use age_io::Durability;
+use std::alloc::{AllocError, Global};
+use std::io;
+
+/// How many names are tried for a new file.
+const TRIES: u32 = 1000;
+
+/// Why a file that was made next to another didn't take its place.
+#[derive(Drop)]
+pub enum Unplaced {
+    /// None can be put there.
+    NotBeside,
+    /// It could not be filled or renamed, or it took the place and the wait for the disk failed.
+    Failed(io::Error),
+    /// Memory was refused.
+    Memory,
+}
+
+impl From<io::Error> for Unplaced {
+    fn from(error: io::Error) -> Unplaced {
+        Unplaced::Failed(error)
+    }
+}
+
+/// A file that was made in the folder of another.
+#[derive(Drop)]
+pub struct Beside<F> {
+    pub file: F,
+    pub path: String,
+}
+
+/// The name of a path with a number.
+fn numbered(alloc: Global, path: &str, n: u32) -> Result<String, AllocError>
+    ensures { IfOk result (λ p. IsLonger path.now (string_bytes p)) }
+{
+    let beside = format!(in alloc; "{path}.new-{n}")?;
+    Ok(beside)
+}
+
+/// Makes a file next to another, under its name with the first number that is free.
+pub(crate) fn make_beside<M: Machine>(
+    alloc: Global,
+    machine: &mut M,
+    path: &str,
+) -> Result<Beside<M::File>, Unplaced>
+    ensures ok { IfOk result (λ made. M.calls machine.new
+        ≡ Made (string_bytes made.path) (M.number made.file) ∷ M.calls machine.old) }
+    ensures longer { IfOk result (λ made. IsLonger path.now (string_bytes made.path)) }
+    ensures err { OnErr result (M.calls machine.new ≡ M.calls machine.old) }
+    ensures counted { M.failed machine.old ≤ M.failed machine.new }
+    ensures caused { IfErr result (λ why. why ≢ Memory
+        → M.failed machine.old < M.failed machine.new) }
+{
+    for n in 0..TRIES {
+        let Ok(beside) = numbered(alloc, path, n) else {
+            return Err(Unplaced::Memory);
+        };
+        match machine.make(beside.as_str()) {
+            Ok(file) => return Ok(Beside { file, path: beside }),
+            Err(error) if error.kind() == io::ErrorKind::AlreadyExists => {}
+            Err(error) if error.kind() == io::ErrorKind::OutOfMemory => {
+                return Err(Unplaced::Failed(error));
+            }
+            Err(_) => return Err(Unplaced::NotBeside),
+        }
+    }
+    Err(Unplaced::NotBeside)
+}
+
+/// Writes all of these bytes over what a file holds.
+pub(crate) fn write_all<M: Machine>(machine: &mut M, file: &M::File, bytes: &[u8]) -> io::Result<()>
+    ensures about { IsAbout (M.number file.now) (M.calls machine.old) (M.calls machine.new) }
+    ensures written { OnOk result
+        (WritesOver (M.number file.now) (length bytes.now) bytes.now (M.calls machine.old)
+        (M.calls machine.new)) }
+    ensures counted { M.failed machine.old ≤ M.failed machine.new }
+    ensures caused { OnErr result (M.failed machine.old < M.failed machine.new) }
+{
+    let mut at = 0;
+    'parts: while at < bytes.len() {
+        let n = machine.write(file, at as u64, &bytes[at..])?;
+        at += n;
+    }
+    Ok(())
+}
+
+/// Waits until what a file holds has reached the disk, if it is to.
+pub(crate) fn settle<M: Machine>(
+    machine: &mut M,
+    file: &M::File,
+    durability: Durability,
+) -> io::Result<()>
+    ensures about { IsAbout (M.number file.now) (M.calls machine.old) (M.calls machine.new) }
+    ensures sound { OnOk result
+        (StaysSound (M.number file.now) (M.calls machine.old) (M.calls machine.new)) }
+    ensures synced { OnOk result (durability ≡ wait.Synced
+        → Waited (Synced (M.number file.now)) (Unwaited (M.number file.now))
+        (M.calls machine.old) (M.calls machine.new)) }
+    ensures counted { M.failed machine.old ≤ M.failed machine.new }
+    ensures caused { OnErr result (M.failed machine.old < M.failed machine.new) }
+{
+    match durability {
+        Durability::Synced => {
+            machine.sync(file)?;
+            Ok(())
+        }
+        Durability::Buffered => Ok(()),
+    }
+}
+
+/// Fills a new file with room for what is to be written to it.
+fn keep_room<M: Machine>(
+    machine: &mut M,
+    file: &M::File,
+    room: &[u8],
+    durability: Durability,
+) -> io::Result<()>
+    ensures about { IsAbout (M.number file.now) (M.calls machine.old) (M.calls machine.new) }
+    ensures sound { OnOk result
+        (StaysSound (M.number file.now) (M.calls machine.old) (M.calls machine.new)) }
+    ensures counted { M.failed machine.old ≤ M.failed machine.new }
+    ensures caused { OnErr result (M.failed machine.old < M.failed machine.new) }
+{
+    write_all(machine, file, room)?;
+    settle(machine, file, durability)?;
+    Ok(())
+}
+
+/// A file beside a path with room for what is to be written to it, which is on the disk then if it
+/// is to be; `None` if none can be made there. Fails if it can't be filled.
+pub fn prepare_beside<M: Machine>(
+    alloc: Global,
+    machine: &mut M,
+    path: &str,
+    room: &[u8],
+    durability: Durability,
+) -> io::Result<Option<Beside<M::File>>>
+    ensures beside { IfOk result (λ made. MatchOption made (M.calls machine.new ≡ M.calls machine.old)
+        (λ b. IsBeside path.now (string_bytes b.path) (M.number b.file) (M.calls machine.old)
+        (M.calls machine.new))) }
+    ensures sound { IfOk result (λ made. MatchOption made (M.calls machine.new ≡ M.calls machine.old)
+        (λ b. IsSound (M.number b.file) (M.calls machine.new))) }
+{
+    match make_beside(alloc, machine, path) {
+        Ok(made) => match keep_room(machine, &made.file, room, durability) {
+            Ok(()) => Ok(Some(made)),
+            Err(error) => {
+                machine.remove(&made.file, made.path.as_str());
+                Err(error)
+            }
+        },
+        Err(Unplaced::Memory) => Err(io::Error::from(io::ErrorKind::OutOfMemory)),
+        Err(Unplaced::Failed(error)) => Err(error),
+        Err(Unplaced::NotBeside) => Ok(None),
+    }
+}

@@ -1,0 +1,25 @@
+//! Laws of disks: that the calls of a replacement can be answered, and what none may leave out.
+
+ghost use Rattle.age_machine.specs.Laws.{WaitsAreAnswered, TornIfUnwaited, TornIfRenamedFirst};
+ghost use Rattle.age_machine.specs.Laws.{LostIfNamesUnwaited};
+
+/// There is a disk that answers the calls of a replacement, by a link or by a rename, and on which a
+/// power cut may leave the new file.
+pub fn waits_are_answered()
+    ensures { WaitsAreAnswered }
+{}
+
+/// A file that is renamed though it wasn't waited for may be torn.
+pub fn torn_if_unwaited()
+    ensures { TornIfUnwaited }
+{}
+
+/// A file that is renamed before it is waited for may be torn meanwhile.
+pub fn torn_if_renamed_first()
+    ensures { TornIfRenamedFirst }
+{}
+
+/// A file whose name wasn't waited for may be lost.
+pub fn lost_if_names_unwaited()
+    ensures { LostIfNamesUnwaited }
+{}

@@ -1,0 +1,28 @@
+//! The calls of the system by which a file is put in another's place, one by one, and what puts it
+//! there with them.
+//!
+//! A [`Machine`] makes the calls, and its contracts see nothing but which ones it made, in order,
+//! and how many have failed. What they leave on a disk, also if the power is cut between two of
+//! them, is defined in `specs` for any list of calls. So what is proved of a function that is
+//! generic in its machine is proved of every disk that does what the definitions say of a call.
+#![tactic(auto)]
+
+mod beside;
+pub mod calls;
+mod folder;
+mod host;
+mod laws;
+mod machine;
+mod node;
+mod notes;
+mod replacing;
+
+pub use beside::{Beside, Unplaced, prepare_beside};
+pub use folder::{Folder, check_same, folder_of};
+pub use host::{HostFile, HostMachine, POSITION_MODE, above_streams, kept_above, sync};
+pub use laws::{
+    lost_if_names_unwaited, torn_if_renamed_first, torn_if_unwaited, waits_are_answered,
+};
+pub use machine::Machine;
+pub use node::{Node, found_at, is_at};
+pub use replacing::{Spot, made_meanwhile, replace_by_kept, replace_by_new};

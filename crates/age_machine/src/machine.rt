@@ -1,0 +1,126 @@
+//! The calls of the system by which a file is put in another's place.
+
+ghost use Rattle.std.specs.Prelude.{◌≡◌, ◌≤◌, ◌<◌, ℕ, List, ◌∷◌, take, length, true, false, IfOk};
+ghost use Rattle.std.specs.Prelude.{OnOk, OnErr};
+ghost use Rattle.age_machine.specs.Calls.{FileCall, Made, Wrote, Cut, Broke, Measured, Synced};
+ghost use Rattle.age_machine.specs.Calls.{Unwaited, Missing, Linked, Renamed, Removed};
+ghost use Rattle.age_machine.specs.Calls.{SyncedNames, UnwaitedNames, MayHave, Waited};
+
+use std::io;
+
+/// A system that makes the calls.
+///
+/// Contracts see which calls were made, and which file each one was about. A call that fails has
+/// changed nothing, or what it changes if it succeeds: nobody can tell.
+pub trait Machine {
+    /// A file that is open to be written.
+    type File: Drop;
+
+    /// What a path's folder was when it was judged.
+    type Folder: Drop;
+
+    // The calls that were made, the newest first.
+    ghost calls: { Self → List FileCall };
+
+    // How many calls have failed.
+    ghost failed: { Self → ℕ };
+
+    // Which file it is, whatever its names: its device and inode as one number.
+    ghost number: { Self.File → ℕ };
+
+    /// Makes an empty file at a path where there is nothing, not even a link, and opens it.
+    fn make(&mut self, path: &str) -> io::Result<Self::File>
+        ensures ok { IfOk result
+            (λ f. calls self.new ≡ Made path.now (number f) ∷ calls self.old) }
+        ensures err { OnErr result (calls self.new ≡ calls self.old) }
+        ensures counted { OnOk result (failed self.new ≡ failed self.old) }
+        ensures failing { OnErr result (failed self.old < failed self.new) };
+
+    /// Writes some of these bytes to a file, from a place on.
+    fn write(&mut self, file: &Self::File, at: u64, bytes: &[u8]) -> io::Result<usize>
+        ensures bound { IfOk result (λ n. n ≤ length bytes.now) }
+        ensures some { IfOk result (λ n. 0 < length bytes.now → 0 < n) }
+        ensures ok { IfOk result (λ n. calls self.new
+            ≡ Wrote (number file.now) at (take n bytes.now) ∷ calls self.old) }
+        ensures err { OnErr result (calls self.new ≡ Broke (number file.now) ∷ calls self.old) }
+        ensures counted { OnOk result (failed self.new ≡ failed self.old) }
+        ensures failing { OnErr result (failed self.old < failed self.new) };
+
+    /// How many bytes a file has.
+    fn len(&mut self, file: &Self::File) -> io::Result<u64>
+        ensures ok { IfOk result (λ len. calls self.new
+            ≡ Measured (number file.now) len ∷ calls self.old) }
+        ensures err { OnErr result (calls self.new ≡ calls self.old) }
+        ensures counted { OnOk result (failed self.new ≡ failed self.old) }
+        ensures failing { OnErr result (failed self.old < failed self.new) };
+
+    /// Cuts a file off after this many bytes.
+    fn cut(&mut self, file: &Self::File, len: u64) -> io::Result<()>
+        ensures ok { OnOk result (calls self.new ≡ Cut (number file.now) len ∷ calls self.old) }
+        ensures err { OnErr result (calls self.new ≡ Broke (number file.now) ∷ calls self.old) }
+        ensures counted { OnOk result (failed self.new ≡ failed self.old) }
+        ensures failing { OnErr result (failed self.old < failed self.new) };
+
+    /// Waits until what a file holds has reached the disk, if the system can.
+    fn sync(&mut self, file: &Self::File) -> io::Result<()>
+        ensures ok { OnOk result (Waited (Synced (number file.now)) (Unwaited (number file.now))
+            (calls self.old) (calls self.new)) }
+        ensures err { OnErr result (calls self.new ≡ Broke (number file.now) ∷ calls self.old) }
+        ensures counted { OnOk result (failed self.new ≡ failed self.old) }
+        ensures failing { OnErr result (failed self.old < failed self.new) };
+
+    /// Lets the system say whether what was written has failed, as it does when a file is closed. It
+    /// stays open.
+    fn close(&mut self, file: &Self::File) -> io::Result<()>
+        ensures ok { OnOk result (calls self.new ≡ calls self.old) }
+        ensures err { OnErr result (calls self.new ≡ Broke (number file.now) ∷ calls self.old) }
+        ensures counted { OnOk result (failed self.new ≡ failed self.old) }
+        ensures failing { OnErr result (failed self.old < failed self.new) };
+
+    /// Waits until the names in the folder of a path have reached the disk, if the system can.
+    fn sync_names(&mut self, path: &str) -> io::Result<()>
+        ensures ok { OnOk result (Waited (SyncedNames path.now) (UnwaitedNames path.now)
+            (calls self.old) (calls self.new)) }
+        ensures err { OnErr result (calls self.new ≡ calls self.old) }
+        ensures counted { OnOk result (failed self.new ≡ failed self.old) }
+        ensures failing { OnErr result (failed self.old < failed self.new) };
+
+    /// Fails if a path no longer leads into the same folder.
+    fn check_folder(&mut self, folder: Option<&Self::Folder>, path: &str) -> io::Result<()>
+        ensures same { calls self.new ≡ calls self.old }
+        ensures counted { OnOk result (failed self.new ≡ failed self.old) }
+        ensures failing { OnErr result (failed self.old < failed self.new) };
+
+    /// Whether nothing is at a path, not even a link.
+    fn is_free(&mut self, path: &str) -> io::Result<bool>
+        ensures free { IfOk result (λ free. free ≡ true
+            → calls self.new ≡ Missing path.now ∷ calls self.old) }
+        ensures taken { IfOk result (λ free. free ≡ false → calls self.new ≡ calls self.old) }
+        ensures err { OnErr result (calls self.new ≡ calls self.old) }
+        ensures counted { OnOk result (failed self.new ≡ failed self.old) }
+        ensures failing { OnErr result (failed self.old < failed self.new) };
+
+    /// Whether a file is the one at a path, without following a link.
+    fn is_at(&self, file: &Self::File, path: &str) -> bool;
+
+    /// Gives a file a second path, where nothing is.
+    fn link(&mut self, from: &str, to: &str) -> io::Result<()>
+        ensures ok { OnOk result (calls self.new ≡ Linked from.now to.now ∷ calls self.old) }
+        ensures err { OnErr result
+            (MayHave (Linked from.now to.now) (calls self.old) (calls self.new)) }
+        ensures counted { OnOk result (failed self.new ≡ failed self.old) }
+        ensures failing { OnErr result (failed self.old < failed self.new) };
+
+    /// Gives a file another path, in place of what is there.
+    fn rename(&mut self, from: &str, to: &str) -> io::Result<()>
+        ensures ok { OnOk result (calls self.new ≡ Renamed from.now to.now ∷ calls self.old) }
+        ensures err { OnErr result
+            (MayHave (Renamed from.now to.now) (calls self.old) (calls self.new)) }
+        ensures counted { OnOk result (failed self.new ≡ failed self.old) }
+        ensures failing { OnErr result (failed self.old < failed self.new) };
+
+    /// Removes what is at a path, unless by now that is another file than this one.
+    fn remove(&mut self, file: &Self::File, path: &str)
+        ensures calls { MayHave (Removed path.now) (calls self.old) (calls self.new) }
+        ensures counted { failed self.old ≤ failed self.new };
+}

@@ -1,0 +1,153 @@
+//! Which calls were made and how many have failed, for contracts alone.
+
+ghost use Rattle.std.specs.Prelude.{◌≡◌, ◌+◌, [], ◌∷◌, List, ℕ};
+ghost use Rattle.std.specs.Borrow.{ftrue};
+ghost use Rattle.std.specs.Coded.{coded_list};
+ghost use Rattle.age_machine.specs.Calls.{FileCall};
+ghost use Rattle.age_machine.specs.inner.Calls.{coded_call, file_call_of};
+
+use crate::node::Node;
+use std::marker::Model;
+
+/// A call, as code has it.
+#[derive(Clone, Copy)]
+pub(crate) enum Word<'a> {
+    Made(&'a str, Node),
+    Wrote(Node, u64, &'a [u8]),
+    Cut(Node, u64),
+    Broke(Node),
+    Measured(Node, u64),
+    Synced(Node),
+    Unwaited(Node),
+    Missing(&'a str),
+    Linked(&'a str, &'a str),
+    Renamed(&'a str, &'a str),
+    Removed(&'a str),
+    SyncedNames(&'a str),
+    UnwaitedNames(&'a str),
+}
+
+/// Calls that were noted.
+#[derive(Clone, Copy)]
+struct Noted<'a> {
+    calls: &'a Calls,
+}
+
+// Calls that no code holds: the proofs of `note` and `copy` set them.
+#[derive(Drop)]
+struct Cell {
+    pub ghost calls: { List FileCall } by { coded_list coded_call },
+}
+
+impl Model for Cell {
+    ghost also_owns = { λ _. ftrue };
+}
+
+impl Cell {
+    fn empty() -> Cell
+        ensures { result.calls ≡ [] }
+    {
+        Cell {}
+    }
+
+    fn note(&mut self, _word: &Word<'_>)
+        ensures { self.new.calls ≡ file_call_of _word.now ∷ self.old.calls }
+    {}
+
+    fn copy(&mut self, _noted: &Noted<'_>)
+        ensures { self.new.calls ≡ _noted.now.calls.now }
+    {}
+}
+
+/// The calls that were made, the newest first, for contracts alone. It has no bytes at run time.
+#[derive(Drop)]
+pub(crate) struct Calls {
+    cell: Cell,
+}
+
+impl Model for Calls {
+    ghost Value = { List FileCall };
+
+    ghost coded = { coded_list coded_call };
+
+    ghost view = { λ calls. calls.cell.calls };
+}
+
+impl Calls {
+    /// No call so far.
+    pub(crate) fn new() -> Calls
+        ensures { result ≡ [] }
+    {
+        Calls {
+            cell: Cell::empty(),
+        }
+    }
+
+    /// The same calls once more, to go on from.
+    pub(crate) fn again(&self) -> Calls
+        ensures { result ≡ self.now }
+    {
+        let mut cell = Cell::empty();
+        cell.copy(&Noted { calls: self });
+        Calls { cell }
+    }
+
+    /// A call was made.
+    pub(crate) fn note(&mut self, word: &Word<'_>)
+        ensures { self.new ≡ file_call_of word.now ∷ self.old }
+    {
+        self.cell.note(word);
+    }
+}
+
+// A number that no code holds: the proofs of `zero` and `raise` set it.
+#[derive(Drop)]
+struct Count {
+    pub ghost number: { ℕ },
+}
+
+impl Model for Count {
+    ghost also_owns = { λ _. ftrue };
+}
+
+impl Count {
+    fn zero() -> Count
+        ensures { result.number ≡ 0 }
+    {
+        Count {}
+    }
+
+    fn raise(&mut self)
+        ensures { self.new.number ≡ self.old.number + 1 }
+    {}
+}
+
+/// How many calls have failed, for contracts alone. It has no bytes at run time.
+#[derive(Drop)]
+pub(crate) struct Failed {
+    count: Count,
+}
+
+impl Model for Failed {
+    ghost Value = { ℕ };
+
+    ghost view = { λ failed. failed.count.number };
+}
+
+impl Failed {
+    /// None so far.
+    pub(crate) fn new() -> Failed
+        ensures { result ≡ 0 }
+    {
+        Failed {
+            count: Count::zero(),
+        }
+    }
+
+    /// One more call has failed.
+    pub(crate) fn note(&mut self)
+        ensures { self.new ≡ self.old + 1 }
+    {
+        self.count.raise();
+    }
+}

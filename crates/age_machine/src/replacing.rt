@@ -1,0 +1,363 @@
+//! Puts a whole file to a path.
+
+ghost use Rattle.std.specs.Prelude.{◌≡◌, ◌≢◌, ◌⊎◌, ◌≤◌, ◌<◌, ◌∷◌, ℕ, List, string_bytes, IfErr, OnOk};
+ghost use Rattle.std.specs.Prelude.{OnErr, Err};
+ghost use Rattle.age_io.specs.declared.durability.Durability.TheVariants as wait;
+ghost use Rattle.age_machine.specs.Calls.{FileCall, Renamed, SyncedNames, UnwaitedNames, MayHave, Waited};
+ghost use Rattle.age_machine.specs.Saves.{SavesWhole, IsSafe, SparesFile, Touches};
+ghost use Rattle.age_machine.specs.Beside.{IsBeside, IsSound};
+ghost use Rattle.age_machine.specs.declared.beside.Unplaced.{Unplaced};
+ghost use Rattle.age_machine.specs.declared.beside.Unplaced.TheVariants.{Memory};
+ghost use Rattle.age_machine.specs.declared.replacing.Spot.TheVariants as spot;
+ghost use Rattle.age_machine.specs.inner.Steps.{IsAbout, CutsOff, Fills, IsFull, IsInPlace, IsReady, HasTried};
+ghost use Rattle.age_io.specs.declared.durability.Durability.{Durability};
+
+use crate::beside::{Beside, Unplaced, make_beside, settle, write_all};
+use crate::machine::Machine;
+use age_io::Durability;
+use std::alloc::Global;
+use std::io;
+
+/// What a path leads to that a new file is put to.
+#[derive(Clone, Copy, PartialEq, Eq)]
+pub enum Spot {
+    /// Nothing.
+    Free,
+    /// What it is to replace.
+    Taken,
+}
+
+/// What is reported of a file that has come to where none was: another run may have saved it.
+pub fn made_meanwhile() -> io::Error {
+    io::Error::other("another program made it meanwhile")
+}
+
+/// What a rename that failed says: only some errors say that no file can be put there. After the
+/// others, as those of a disk that fails or is full, the file that is there is kept.
+fn unplaced_by(error: io::Error) -> Unplaced
+    ensures { result ≢ Memory }
+{
+    match error.kind() {
+        io::ErrorKind::PermissionDenied
+        | io::ErrorKind::ResourceBusy
+        | io::ErrorKind::CrossesDevices => Unplaced::NotBeside,
+        _ => Unplaced::Failed(error),
+    }
+}
+
+/// Cuts off what a file holds after this many bytes.
+fn cut_off<M: Machine>(machine: &mut M, file: &M::File, len: u64) -> io::Result<()>
+    ensures about { IsAbout (M.number file.now) (M.calls machine.old) (M.calls machine.new) }
+    ensures cut { OnOk result
+        (CutsOff (M.number file.now) len (M.calls machine.old) (M.calls machine.new)) }
+    ensures counted { M.failed machine.old ≤ M.failed machine.new }
+    ensures caused { OnErr result (M.failed machine.old < M.failed machine.new) }
+{
+    let shown = machine.len(file)?;
+    if shown <= len {
+        return Ok(());
+    }
+    machine.cut(file, len)?;
+    Ok(())
+}
+
+/// Writes bytes over what a file holds, and lets the system answer as if it was closed, so that it
+/// is whole before it takes another one's place.
+fn fill<M: Machine>(
+    machine: &mut M,
+    file: &M::File,
+    bytes: &[u8],
+    durability: Durability,
+) -> io::Result<()>
+    ensures about { IsAbout (M.number file.now) (M.calls machine.old) (M.calls machine.new) }
+    ensures filled { OnOk result (durability ≡ wait.Synced
+        → Fills (M.number file.now) bytes.now (M.calls machine.old) (M.calls machine.new)) }
+    ensures counted { M.failed machine.old ≤ M.failed machine.new }
+    ensures caused { OnErr result (M.failed machine.old < M.failed machine.new) }
+{
+    write_all(machine, file, bytes)?;
+    cut_off(machine, file, bytes.len() as u64)?;
+    settle(machine, file, durability)?;
+    machine.close(file)?;
+    Ok(())
+}
+
+/// Puts a new file in the place of the one at a path.
+fn take_place<M: Machine>(machine: &mut M, beside: &str, path: &str) -> Result<(), Unplaced>
+    ensures ok { OnOk result
+        (M.calls machine.new ≡ Renamed beside.now path.now ∷ M.calls machine.old) }
+    ensures calls { MayHave (Renamed beside.now path.now) (M.calls machine.old) (M.calls machine.new) }
+    ensures counted { M.failed machine.old ≤ M.failed machine.new }
+    ensures caused { IfErr result (λ why. M.failed machine.old < M.failed machine.new) }
+{
+    match machine.rename(beside, path) {
+        Ok(()) => Ok(()),
+        Err(error) => Err(unplaced_by(error)),
+    }
+}
+
+/// Renames a new file to a path where nothing is seen.
+fn take_free<M: Machine>(machine: &mut M, beside: &str, path: &str) -> Result<(), Unplaced>
+    ensures tried { (wanted : Durability) (n : ℕ) (bytes : List ℕ) (old : List FileCall)
+        → IsReady wanted path.now beside.now n bytes old (M.calls machine.old)
+        → HasTried spot.Free wanted path.now beside.now n bytes old (M.calls machine.new) }
+    ensures put { OnOk result ((n : ℕ) (bytes : List ℕ) (old : List FileCall)
+        → IsFull path.now beside.now n bytes old (M.calls machine.old)
+        → IsInPlace path.now n bytes (M.calls machine.new)) }
+    ensures counted { M.failed machine.old ≤ M.failed machine.new }
+{
+    match machine.is_free(path) {
+        Ok(true) => {
+            take_place(machine, beside, path)?;
+            Ok(())
+        }
+        Ok(false) => Err(Unplaced::Failed(made_meanwhile())),
+        Err(error) => Err(Unplaced::Failed(error)),
+    }
+}
+
+/// Gives a new file the name of one that wasn't there. A second name for it never takes a file's
+/// place; where the file system has no second names, this looks first.
+fn publish<M: Machine>(
+    machine: &mut M,
+    file: &M::File,
+    beside: &str,
+    path: &str,
+) -> Result<(), Unplaced>
+    ensures tried { (wanted : Durability) (bytes : List ℕ) (old : List FileCall)
+        → IsReady wanted path.now beside.now (M.number file.now) bytes old (M.calls machine.old)
+        → HasTried spot.Free wanted path.now beside.now (M.number file.now) bytes old
+        (M.calls machine.new) }
+    ensures put { OnOk result ((bytes : List ℕ) (old : List FileCall)
+        → IsFull path.now beside.now (M.number file.now) bytes old (M.calls machine.old)
+        → IsInPlace path.now (M.number file.now) bytes (M.calls machine.new)) }
+    ensures counted { M.failed machine.old ≤ M.failed machine.new }
+    ensures caused { OnErr result (M.failed machine.old < M.failed machine.new) }
+{
+    match machine.link(beside, path) {
+        Ok(()) => {
+            machine.remove(file, beside);
+            Ok(())
+        }
+        Err(error) if error.kind() == io::ErrorKind::AlreadyExists => {
+            Err(Unplaced::Failed(made_meanwhile()))
+        }
+        Err(_) => {
+            take_free(machine, beside, path)?;
+            Ok(())
+        }
+    }
+}
+
+/// Puts a new file to a path.
+fn put<M: Machine>(
+    machine: &mut M,
+    file: &M::File,
+    beside: &str,
+    path: &str,
+    to: Spot,
+) -> Result<(), Unplaced>
+    ensures tried { (wanted : Durability) (bytes : List ℕ) (old : List FileCall)
+        → IsReady wanted path.now beside.now (M.number file.now) bytes old (M.calls machine.old)
+        → HasTried to wanted path.now beside.now (M.number file.now) bytes old
+        (M.calls machine.new) }
+    ensures put { OnOk result ((bytes : List ℕ) (old : List FileCall)
+        → IsFull path.now beside.now (M.number file.now) bytes old (M.calls machine.old)
+        → IsInPlace path.now (M.number file.now) bytes (M.calls machine.new)) }
+    ensures counted { M.failed machine.old ≤ M.failed machine.new }
+    ensures caused { OnErr result (M.failed machine.old < M.failed machine.new) }
+{
+    match to {
+        Spot::Free => publish(machine, file, beside, path),
+        Spot::Taken => {
+            take_place(machine, beside, path)?;
+            Ok(())
+        }
+    }
+}
+
+/// Waits until the names in the folder of a path have reached the disk, if they are to.
+fn settle_names<M: Machine>(machine: &mut M, path: &str, durability: Durability) -> io::Result<()>
+    ensures ok { OnOk result (durability ≡ wait.Synced → Waited (SyncedNames path.now)
+        (UnwaitedNames path.now) (M.calls machine.old) (M.calls machine.new)) }
+    ensures either { (M.calls machine.new ≡ M.calls machine.old) ⊎ Waited (SyncedNames path.now)
+        (UnwaitedNames path.now) (M.calls machine.old) (M.calls machine.new) }
+    ensures counted { M.failed machine.old ≤ M.failed machine.new }
+    ensures caused { OnErr result (M.failed machine.old < M.failed machine.new) }
+{
+    match durability {
+        Durability::Synced => {
+            machine.sync_names(path)?;
+            Ok(())
+        }
+        Durability::Buffered => Ok(()),
+    }
+}
+
+/// Puts a new file that was filled to a path. Fails if it isn't in the folder that was judged, as
+/// when its path has come to lead elsewhere before it was made.
+fn place<M: Machine>(
+    machine: &mut M,
+    folder: Option<&M::Folder>,
+    new: &Beside<M::File>,
+    path: &str,
+    to: Spot,
+    durability: Durability,
+) -> Result<(), Unplaced>
+    ensures tried { (bytes : List ℕ) (old : List FileCall)
+        → IsReady durability path.now (string_bytes new.now.path) (M.number new.now.file) bytes old
+        (M.calls machine.old)
+        → HasTried to durability path.now (string_bytes new.now.path) (M.number new.now.file) bytes
+        old (M.calls machine.new) }
+    ensures safe { durability ≡ wait.Synced → (bytes : List ℕ) (old : List FileCall)
+        → IsFull path.now (string_bytes new.now.path) (M.number new.now.file) bytes old
+        (M.calls machine.old)
+        → OnOk result (IsSafe path.now bytes (M.calls machine.new)) }
+    ensures counted { M.failed machine.old ≤ M.failed machine.new }
+    ensures caused { OnErr result (M.failed machine.old < M.failed machine.new) }
+{
+    machine.check_folder(folder, path)?;
+    put(machine, &new.file, new.path.as_str(), path, to)?;
+    settle_names(machine, path, durability)?;
+    Ok(())
+}
+
+/// Fills a file that was made beside a path, and puts it there.
+fn fill_and_place<M: Machine>(
+    machine: &mut M,
+    folder: Option<&M::Folder>,
+    new: &Beside<M::File>,
+    path: &str,
+    to: Spot,
+    bytes: &[u8],
+    durability: Durability,
+) -> Result<(), Unplaced>
+    ensures tried { (old : List FileCall)
+        → IsBeside path.now (string_bytes new.now.path) (M.number new.now.file) old
+        (M.calls machine.old)
+        → IsSound (M.number new.now.file) (M.calls machine.old)
+        → HasTried to durability path.now (string_bytes new.now.path) (M.number new.now.file)
+        bytes.now old (M.calls machine.new) }
+    ensures safe { durability ≡ wait.Synced → (old : List FileCall)
+        → IsBeside path.now (string_bytes new.now.path) (M.number new.now.file) old
+        (M.calls machine.old)
+        → IsSound (M.number new.now.file) (M.calls machine.old)
+        → OnOk result (IsSafe path.now bytes.now (M.calls machine.new)) }
+    ensures counted { M.failed machine.old ≤ M.failed machine.new }
+    ensures caused { OnErr result (M.failed machine.old < M.failed machine.new) }
+{
+    fill(machine, &new.file, bytes, durability)?;
+    place(machine, folder, new, path, to, durability)
+}
+
+/// Does the same, and removes the file if that fails.
+fn place_or_remove<M: Machine>(
+    machine: &mut M,
+    folder: Option<&M::Folder>,
+    new: &Beside<M::File>,
+    path: &str,
+    to: Spot,
+    bytes: &[u8],
+    durability: Durability,
+) -> Result<(), Unplaced>
+    ensures tried { (old : List FileCall)
+        → IsBeside path.now (string_bytes new.now.path) (M.number new.now.file) old
+        (M.calls machine.old)
+        → IsSound (M.number new.now.file) (M.calls machine.old)
+        → HasTried to durability path.now (string_bytes new.now.path) (M.number new.now.file)
+        bytes.now old (M.calls machine.new) }
+    ensures safe { durability ≡ wait.Synced → (old : List FileCall)
+        → IsBeside path.now (string_bytes new.now.path) (M.number new.now.file) old
+        (M.calls machine.old)
+        → IsSound (M.number new.now.file) (M.calls machine.old)
+        → OnOk result (IsSafe path.now bytes.now (M.calls machine.new)) }
+    ensures counted { M.failed machine.old ≤ M.failed machine.new }
+    ensures caused { OnErr result (M.failed machine.old < M.failed machine.new) }
+{
+    match fill_and_place(machine, folder, new, path, to, bytes, durability) {
+        Ok(()) => Ok(()),
+        Err(unplaced) => {
+            machine.remove(&new.file, new.path.as_str());
+            Err(unplaced)
+        }
+    }
+}
+
+/// Puts a new file of these bytes to a path. What is there stays as it is until the new one is
+/// whole. The new one is its owner's alone, whoever may read the old one: what lets others do that
+/// can't all be seen.
+pub fn replace_by_new<M: Machine>(
+    alloc: Global,
+    machine: &mut M,
+    folder: Option<&M::Folder>,
+    path: &str,
+    to: Spot,
+    bytes: &[u8],
+    durability: Durability,
+) -> Result<(), Unplaced>
+    // Whatever fails, and whenever the power is cut.
+    ensures whole { durability ≡ wait.Synced
+        → SavesWhole path.now bytes.now (M.calls machine.old) (M.calls machine.new) }
+    ensures safe { durability ≡ wait.Synced
+        → OnOk result (IsSafe path.now bytes.now (M.calls machine.new)) }
+    ensures spares { to ≡ spot.Free
+        → SparesFile path.now (M.calls machine.old) (M.calls machine.new) }
+    ensures touches { Touches path.now (M.calls machine.old) (M.calls machine.new) }
+    ensures counted { M.failed machine.old ≤ M.failed machine.new }
+    ensures caused { (why : Unplaced) → result ≡ Err why → why ≢ Memory
+        → M.failed machine.old < M.failed machine.new }
+{
+    match make_beside(alloc, machine, path) {
+        Ok(new) => place_or_remove(machine, folder, &new, path, to, bytes, durability),
+        Err(unplaced) => Err(unplaced),
+    }
+}
+
+/// Puts the file that was made beside a path when that was prepared there, with these bytes, or a
+/// new one if that is gone, or can't be written over.
+pub fn replace_by_kept<M: Machine>(
+    alloc: Global,
+    machine: &mut M,
+    folder: Option<&M::Folder>,
+    kept: &Beside<M::File>,
+    path: &str,
+    to: Spot,
+    bytes: &[u8],
+    durability: Durability,
+) -> Result<(), Unplaced>
+    // The old calls are those before the file was made.
+    ensures whole { durability ≡ wait.Synced → (old : List FileCall)
+        → IsBeside path.now (string_bytes kept.now.path) (M.number kept.now.file) old
+        (M.calls machine.old)
+        → IsSound (M.number kept.now.file) (M.calls machine.old)
+        → SavesWhole path.now bytes.now old (M.calls machine.new) }
+    ensures safe { durability ≡ wait.Synced → (old : List FileCall)
+        → IsBeside path.now (string_bytes kept.now.path) (M.number kept.now.file) old
+        (M.calls machine.old)
+        → IsSound (M.number kept.now.file) (M.calls machine.old)
+        → OnOk result (IsSafe path.now bytes.now (M.calls machine.new)) }
+    ensures spares { to ≡ spot.Free → (old : List FileCall)
+        → IsBeside path.now (string_bytes kept.now.path) (M.number kept.now.file) old
+        (M.calls machine.old)
+        → IsSound (M.number kept.now.file) (M.calls machine.old)
+        → SparesFile path.now old (M.calls machine.new) }
+    ensures touches { (old : List FileCall)
+        → IsBeside path.now (string_bytes kept.now.path) (M.number kept.now.file) old
+        (M.calls machine.old)
+        → IsSound (M.number kept.now.file) (M.calls machine.old)
+        → Touches path.now old (M.calls machine.new) }
+    ensures caused { (why : Unplaced) → result ≡ Err why → why ≢ Memory
+        → M.failed machine.old < M.failed machine.new }
+{
+    let beside = kept.path.as_str();
+    if !machine.is_at(&kept.file, beside) {
+        return replace_by_new(alloc, machine, folder, path, to, bytes, durability);
+    }
+    match fill(machine, &kept.file, bytes, durability) {
+        Ok(()) => place(machine, folder, kept, path, to, durability),
+        Err(_) => {
+            machine.remove(&kept.file, beside);
+            replace_by_new(alloc, machine, folder, path, to, bytes, durability)
+        }
+    }
+}
