@@ -328,6 +328,13 @@ class PythonTest(BindingsCase):
             run = self.command(*words, "made.age", "back")
             is_said = run.stderr.splitlines()[-1].startswith((b"agefile: ", b"python3 -m agefile "))
             self.see(f"-m agefile {words}", run.returncode == status and is_said and self.read("back") == text, run.stderr)
+        for name, held in (("sealed", self.read("made.age")), ("armored", b"-----BEGIN AGE ENCRYPTED FILE-----\n")):
+            self.write(name, held)
+            run = self.command("decrypt", "--identity", name, "made.age", "back")
+            said = f"agefile: {name} is an encrypted key file: decrypt it first\n"
+            self.see(f"a key file is {name}", (run.returncode, run.stderr.decode()) == (1, said), run.stderr)
+        run = self.command("decrypt", "--pass", "pw", "made.age", "/dev/full")
+        self.see("a full disk is said of OUT", (run.returncode, b"/dev/full" in run.stderr) == (1, True), run.stderr)
         data = self.path("made.age").read_bytes()
         self.see("-m agefile encrypt: age_tool doesn't read it", self.judged(data) == ((0, None), text))
         run = self.command("decrypt", "--pass", "pw", "-", "-", given=data[:-1])

@@ -3,6 +3,7 @@ from __future__ import annotations
 
 import argparse
 import contextlib
+import errno
 import getpass
 import os
 import stat
@@ -18,6 +19,9 @@ from agefile._recipients import beginning_of
 from agefile._source import some
 
 FACTORS = range(1, WORK_MAX + 1)
+
+# What only a write is answered.
+FULL = (errno.ENOSPC, errno.EDQUOT, errno.EFBIG)
 
 
 def passphrase_of(words: argparse.Namespace, again: bool = False) -> bytes:
@@ -67,11 +71,16 @@ def see_apart(words: argparse.Namespace) -> None:
 def sink(words: argparse.Namespace) -> Iterator[Any]:
     """What is written to, which has reached the disk at the end."""
     held: Any = contextlib.nullcontext(sys.stdout.buffer) if words.output == "-" else open(words.output, "wb")
-    with held as out:
-        yield out
-        out.flush()
-        if stat.S_ISREG(os.fstat(out.fileno()).st_mode):
-            os.fsync(out.fileno())
+    try:
+        with held as out:
+            yield out
+            out.flush()
+            if stat.S_ISREG(os.fstat(out.fileno()).st_mode):
+                os.fsync(out.fileno())
+    except OSError as fault:
+        if fault.errno in FULL and fault.filename is None:
+            fault.filename = words.output
+        raise
 
 
 def encrypt(words: argparse.Namespace) -> None:
@@ -169,8 +178,11 @@ def shared(words: argparse.Namespace) -> None:
 
 
 def identities_of(name: str) -> list[str]:
-    with open(name, encoding="ascii") as file:
-        return _keys.identities_of(file)
+    with open(name, encoding="ascii", errors="replace") as file:
+        text = file.read()
+    if text.startswith(("age-encryption.org/", "-----BEGIN AGE ENCRYPTED FILE-----")):
+        raise ValueError(f"{name} is an encrypted key file: decrypt it first")
+    return _keys.identities_of(text)
 
 
 def opened(file: Any, words: argparse.Namespace) -> Any:
