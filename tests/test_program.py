@@ -8,6 +8,7 @@ import resource
 import subprocess
 
 from tests.case import Case, twice, without_advice
+from tests.files import Feeding, FilesCase
 from tools import terminal
 from tools.workspace import TOP
 
@@ -320,3 +321,39 @@ class ProgramTest(Case):
         for log, fault in (("21", b"11 WorkTooHigh"), ("22", b"28 Memory")):
             ended = self.decrypt("--max-log", log, "costly", "never", preexec_fn=within_memory)
             self.ends(f"a work factor of 22 within a limit of {log}", ended, 1, b"", b"age_tool: " + fault + b"\n")
+
+
+def heap(process):
+    """What a process may write in its memory, but for its stack."""
+    held = []
+    with open(f"/proc/{process}/maps", encoding="utf-8") as maps, open(f"/proc/{process}/mem", "rb", buffering=0) as memory:
+        for first, end, may, name in re.findall(r"(?m)^(\w+)-(\w+) (\S+) \S+ \S+ \S+ *(.*)$", maps.read()):
+            if may.startswith("rw") and not name.startswith("[stack"):
+                memory.seek(int(first, 16))
+                held.append(memory.read(int(end, 16) - int(first, 16)))
+    return b"".join(held)
+
+
+class SecretTest(FilesCase):
+    """A passphrase, and an age file, to whose header the program has come."""
+
+    def test_passphrase(self):
+        """Once its key is derived no piece of a passphrase is left in the heap. (What is freed loses its first bytes to the allocator.)"""
+        for name, size in (("short", 400), ("long", 60_000)):
+            secret = os.urandom(size // 2).hex().encode()
+            pieces = [secret[at : at + 20] for at in range(0, size, 20)]
+            self.write("pass", secret + b"\n")
+            self.expect(0, b"", "encrypt --pass pass --log 4 plain age")
+            self.age = self.read("age")
+            self.remove("position", "old")
+            self.write("cut", self.age[:150000])
+            self.tool(*"decrypt --pass pass --save position cut old".split())
+            for words in ("decrypt --pass pass in out", "resume --position position --old old --pass pass in out"):
+                feeding = Feeding(self, words)
+                held = heap(feeding.run.pid)
+                found = [at for at, piece in enumerate(pieces) if piece in held]
+                self.see(f"a {name} passphrase: {words}: the heap is read", self.age[139936:140000] in held, len(held))
+                self.see(f"a {name} passphrase: {words}", not found, len(found), found[:5])
+                feeding.input.write(self.age[140000:])
+                feeding.input.close()
+                self.ends(f"a {name} passphrase: {words}: the end", feeding.run, 0, b"")

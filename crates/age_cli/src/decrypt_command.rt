@@ -104,12 +104,12 @@ fn open_text<F: FileSet, P: Meter>(
     files: &F,
     asked: &Decrypting<'_>,
     positions: PositionPolicy,
-    identity: &Identity<'_>,
+    identity: Identity,
     mut source: F::In,
     out: &mut Taking<F>,
     progress: &mut P,
 ) -> Opened<F::In>
-    ensures opened { DecryptsKeyed positions (allows_by identity.now) (refuses_by identity.now)
+    ensures opened { DecryptsKeyed positions (allows_by identity) (refuses_by identity)
         (ports (F.In.view source) (F.Out.view out.old.out))
         (ports (F.In.view result.source) (F.Out.view out.new.out)) result.end result.key }
     ensures silent { asked.now.progress ≡ Silent → progress.new ≡ progress.old }
@@ -146,7 +146,7 @@ fn decrypt_opened<F: FileSet, E: Sink, P: Meter>(
     alloc: Global,
     files: &mut F,
     asked: &Decrypting<'_>,
-    identity: &Identity<'_>,
+    identity: Identity,
     source: F::In,
     mut out: Taking<F>,
     faults: &mut E,
@@ -155,12 +155,12 @@ fn decrypt_opened<F: FileSet, E: Sink, P: Meter>(
 ) -> Result<(), Ending>
     ensures announced { Tells announced.new result (E.view faults.old) (E.view faults.new)
         (faults.new ≡ faults.old) }
-    ensures opened { DecryptsOpened (PortsOf F.In.view F.Out.view) (F.shows_bytes) asked.now identity.now
+    ensures opened { DecryptsOpened (PortsOf F.In.view F.Out.view) (F.shows_bytes) asked.now identity
         (ports (F.In.view source) (F.Out.view out.out)) (F.view files.old) (F.view files.new)
         (progress.new ≡ progress.old)
         (ShowsProgress (F.shows_bytes) (P.shown progress.old) (P.shown progress.new)) result }
 {
-    read_again::<Identity<'_>>();
+    read_again::<Identity>();
     let is_reread = can_reread(files, &source, asked.save);
     let opened = open_text(
         alloc,
@@ -206,7 +206,7 @@ pub fn decrypt_file<F: FileSet, E: Sink, P: Meter>(
     let choice = Choice::of(&asked.identity)?;
     let read = [asked.identity.pass, asked.identity.shared, Some(asked.from)];
     let secret = read_secret(alloc, files, &choice, is_file_named_twice, &read)?;
-    let identity = choice.identity(&secret)?;
+    let identity = choice.identity(secret)?;
     let output = Output {
         to: asked.to,
         save: asked.save,
@@ -217,6 +217,6 @@ pub fn decrypt_file<F: FileSet, E: Sink, P: Meter>(
     };
     let (source, out) = open_both(alloc, files, asked.from, &output)?;
     decrypt_opened(
-        alloc, files, asked, &identity, source, out, faults, announced, progress,
+        alloc, files, asked, identity, source, out, faults, announced, progress,
     )
 }

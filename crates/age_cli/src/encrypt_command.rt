@@ -12,6 +12,9 @@ ghost use Rattle.age_file.specs.Encrypts.{Encrypts, EncryptFails};
 ghost use Rattle.age_file.specs.Runs.{ports};
 ghost use Rattle.age_cli_args.specs.declared.request.ProgressOption.TheVariants.{Silent, Shown};
 ghost use Rattle.age_command.specs.Files.{Files};
+ghost use Rattle.age_command.specs.Identities.{IsPassphraseIn, file_bytes};
+ghost use Rattle.age_command.specs.Lines.{without_line_feed};
+ghost use Rattle.age_keys.specs.Scrypt.{IsAllowed};
 ghost use Rattle.age_command.specs.Orders.{NamesTwice, order_asked, random_name};
 ghost use Rattle.age_command.specs.declared.ending.Ending.TheVariants.{Usage as UsageEnding};
 ghost use Rattle.age_command.specs.declared.ending.Usage.TheVariants.{BadPassphraseFile, BadRandomFile};
@@ -27,7 +30,7 @@ use age_command::{Announcement, Choice, Ending, Usage, read_first, trimmed};
 use age_file::{FileFault, Secret, Source, Written, encrypt};
 use age_fileset::FileSet;
 use age_io::{Meter, Metered, Sink};
-use age_keys::{FileRandom, RANDOM_LEN};
+use age_keys::{FileRandom, Passphrase, RANDOM_LEN};
 use std::alloc::Global;
 
 /// Where random bytes come from if no file is named.
@@ -76,6 +79,24 @@ fn read_random<F: FileSet>(alloc: Global, files: &mut F, name: &str) -> Result<F
     random_in(alloc, &mut source)
 }
 
+/// The bytes of a file, if they hold a passphrase for this work factor.
+fn passphrase_in(held: Option<Vec<u8>>, log: u32) -> Option<Vec<u8>>
+    ensures some { IfSome result (λ v. (file_bytes held ≡ Some v.items)
+        × IsAllowed (without_line_feed v.items) log) }
+    ensures none { IfNone result ((pass : List ℕ)
+        → IsPassphraseIn (file_bytes held) pass → IsAllowed pass log → ⊥) }
+{
+    match held {
+        Some(bytes) => {
+            if Passphrase::new(trimmed(bytes.as_slice()), log).is_none() {
+                return None;
+            }
+            Some(bytes)
+        }
+        None => None,
+    }
+}
+
 /// The bytes of the file of the passphrase. Refuses those that hold none.
 fn read_pass<F: FileSet>(
     alloc: Global,
@@ -96,8 +117,7 @@ fn read_pass<F: FileSet>(
 {
     let choice = Choice::PassphraseFile(asked.pass, asked.log);
     let held = choice.read(alloc, files)?;
-    choice.identity(&held)?;
-    match held {
+    match passphrase_in(held, asked.log) {
         Some(pass) => Ok(pass),
         None => Err(Ending::Usage(Usage::BadPassphraseFile)),
     }

@@ -174,14 +174,14 @@ fn resume_text<F: FileSet, P: Meter>(
     files: &F,
     asked: &Decrypting<'_>,
     positions: PositionPolicy,
-    identity: &Identity<'_>,
+    identity: Identity,
     position: &Position,
     mut source: F::In,
     old: &mut F::In,
     out: &mut Taking<F>,
     progress: &mut P,
 ) -> Resumed<F::In>
-    ensures resumed { ResumesKeyed positions (allows_by identity.now) (refuses_by identity.now)
+    ensures resumed { ResumesKeyed positions (allows_by identity) (refuses_by identity)
         position.now
         (resume_ports (ports (F.In.view source) (F.Out.view out.old.out)) (F.In.view old.old))
         (resume_ports (ports (F.In.view result.source) (F.Out.view out.new.out)) (F.In.view old.new))
@@ -243,7 +243,7 @@ fn resume_opened<F: FileSet, E: Sink, P: Meter>(
     alloc: Global,
     files: &mut F,
     asked: &Decrypting<'_>,
-    identity: &Identity<'_>,
+    identity: Identity,
     position: &Position,
     mut old: F::In,
     source: F::In,
@@ -254,12 +254,12 @@ fn resume_opened<F: FileSet, E: Sink, P: Meter>(
 ) -> Result<(), Ending>
     ensures announced { Tells announced.new result (E.view faults.old) (E.view faults.new)
         (faults.new ≡ faults.old) }
-    ensures opened { ResumesOpened (PortsOf F.In.view F.Out.view) (F.shows_bytes) asked.now identity.now
+    ensures opened { ResumesOpened (PortsOf F.In.view F.Out.view) (F.shows_bytes) asked.now identity
         position.now (F.In.view old) (ports (F.In.view source) (F.Out.view out.out)) (F.view files.old)
         (F.view files.new) (progress.new ≡ progress.old)
         (ShowsProgress (F.shows_bytes) (P.shown progress.old) (P.shown progress.new)) result }
 {
-    read_again::<Identity<'_>>();
+    read_again::<Identity>();
     let is_reread = can_reread(files, &source, asked.save);
     let resumed = resume_text(
         alloc,
@@ -318,7 +318,7 @@ pub fn resume_file<F: FileSet, E: Sink, P: Meter>(
         Some(wanted.from),
     ];
     let secret = read_secret(alloc, files, &choice, is_file_named_twice, &read)?;
-    let identity = choice.identity(&secret)?;
+    let identity = choice.identity(secret)?;
     let (position, old) = open_earlier(alloc, files, asked)?;
     let output = Output {
         to: wanted.to,
@@ -330,6 +330,6 @@ pub fn resume_file<F: FileSet, E: Sink, P: Meter>(
     };
     let (source, out) = open_both(alloc, files, wanted.from, &output)?;
     resume_opened(
-        alloc, files, wanted, &identity, &position, old, source, out, faults, announced, progress,
+        alloc, files, wanted, identity, &position, old, source, out, faults, announced, progress,
     )
 }

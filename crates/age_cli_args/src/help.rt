@@ -113,8 +113,8 @@ users in the process list";
 pub(crate) const SHARED: &str = "File with the shared secret of an X25519 stanza and
 then its recipient, 32 bytes each";
 
-pub(crate) const MAX_LOG: &str = "Refuse work factors above N, 1 to 22 [default: 22].
-A file with work factor 22 takes 4 GiB of memory";
+pub(crate) const MAX_LOG: &str = "With --pass, refuse work factors above N, 1 to 22
+[default: 22]. A work factor of 22 takes 4 GiB of memory";
 
 pub(crate) const SAVE: &str = "If decryption stops at a fault, save its position here,
 for `resume`. A run that is killed, as by Ctrl-C, saves

@@ -1,6 +1,5 @@
 -- What opens a file, by the options and by the files that they name.
-use Rattle.std.specs.Prelude.{◌≡◌, ℕ, ◌-◌, ◌==◌, ◌&&◌, nat_lt, List, ◌++◌, length, take}
-use Rattle.std.specs.Prelude.{slice_index, Option, Some, None, if◌then◌else◌, option_map}
+use Rattle.std.specs.Prelude.{◌≡◌, ℕ, List, ◌++◌, length, Option, Some, None, option_map}
 use Rattle.std.specs.declared.vec.Vec.{Vec}
 use Rattle.clap.specs.Words.{Text}
 use Rattle.age_stanza.specs.declared.header.Header.{Header}
@@ -12,6 +11,7 @@ use Rattle.age_cli_args.specs.Requests.{option_text}
 use Rattle.age_cli_args.specs.declared.request.IdentityOptions.{IdentityOptions}
 use Rattle.age_command.specs.Files.{Files}
 use Rattle.age_command.specs.Orders.{opening_event, identity_order}
+use Rattle.age_command.specs.Lines.{without_line_feed}
 use Rattle.age_command.specs.declared.choice.Choice.{Choice}
 use Rattle.age_command.specs.declared.choice.Choice.TheVariants.{PassphraseFile, FileKey, SharedFile}
 use Rattle.age_command.specs.declared.ending.Usage.{Usage}
@@ -39,12 +39,6 @@ abbrev pub steps_by : Identity → ℕ
 steps_by (ByPassphrase words) = passphrase_steps words
 steps_by (ByFileKey known) = 0
 steps_by (ByShared shared) = 0
-
--- the bytes without one line feed at their end
-abbrev pub without_line_feed : List ℕ → List ℕ
-without_line_feed xs =
-    if nat_lt 0 (length xs) && (slice_index xs (length xs - 1) == 10) then take (length xs - 1) xs
-    else xs
 
 -- the passphrase in a file
 abbrev pub IsPassphraseIn : Option (List ℕ) → List ℕ → Type 0

@@ -16,10 +16,11 @@ ghost use Rattle.age_command.specs.declared.identity.Identity.{Identity};
 
 use crate::Usage;
 use crate::first_bytes::read_file;
-use crate::identity::{Identity, PASSPHRASE_FILE_MAX, SHARED_FILE_LEN, shared_of, trimmed};
+use crate::identity::{Identity, PASSPHRASE_FILE_MAX, SHARED_FILE_LEN, shared_of};
+use crate::secret::{OwnPassphrase, own_passphrase};
 use age_cli_args::IdentityOptions;
 use age_fileset::{FileSet, OpenFault};
-use age_keys::{KnownKey, Passphrase, SharedSecret};
+use age_keys::{KnownKey, SharedSecret};
 use std::alloc::Global;
 
 /// What opens a file, as one of the options says: a key, or the name of a file that isn't read yet.
@@ -80,11 +81,11 @@ impl<'a> Choice<'a> {
 
     /// What opens the file, given the bytes that `read` returned. Refuses those that hold no
     /// passphrase, or no shared secret with its recipient.
-    pub fn identity<'s>(self, secret: &'s Option<Vec<u8>>) -> Result<Identity<'s>, Usage>
-        ensures makes { IfOk result (Makes self.entry (file_bytes secret.now)) }
+    pub fn identity(self, secret: Option<Vec<u8>>) -> Result<Identity, Usage>
+        ensures makes { IfOk result (Makes self.entry (file_bytes secret)) }
         ensures blame { IfErr result (λ usage. usage ≡ blame_in self.entry) }
         ensures none { IfErr result (λ _. (identity : Identity)
-            → Makes self.entry (file_bytes secret.now) identity → ⊥) }
+            → Makes self.entry (file_bytes secret) identity → ⊥) }
     {
         match self {
             Choice::PassphraseFile(_, max_log) => match passphrase_in(secret, max_log) {
@@ -92,7 +93,7 @@ impl<'a> Choice<'a> {
                 None => Err(Usage::BadPassphraseFile),
             },
             Choice::FileKey(key) => Ok(Identity::ByFileKey(key)),
-            Choice::SharedFile(_) => match shared_in(secret) {
+            Choice::SharedFile(_) => match shared_in(&secret) {
                 Some(shared) => Ok(Identity::ByShared(shared)),
                 None => Err(Usage::BadSharedFile),
             },
@@ -101,15 +102,15 @@ impl<'a> Choice<'a> {
 }
 
 /// The passphrase in the bytes of its file.
-fn passphrase_in<'s>(secret: &'s Option<Vec<u8>>, max_log: u32) -> Option<Passphrase<'s>>
-    ensures some { IfSome result (λ words. IsPassphraseIn (file_bytes secret.now) words.pass
+fn passphrase_in(secret: Option<Vec<u8>>, max_log: u32) -> Option<OwnPassphrase>
+    ensures some { IfSome result (λ words. IsPassphraseIn (file_bytes secret) words.pass
         × (words.max_log ≡ max_log) × IsAllowed words.pass words.max_log) }
     ensures none { IfNone result ((words : PassphraseIdentity)
-        → IsPassphraseIn (file_bytes secret.now) words.pass → words.max_log ≡ max_log
+        → IsPassphraseIn (file_bytes secret) words.pass → words.max_log ≡ max_log
         → IsAllowed words.pass words.max_log → ⊥) }
 {
     match secret {
-        Some(bytes) => Passphrase::new(trimmed(bytes.as_slice()), max_log),
+        Some(bytes) => own_passphrase(bytes, max_log),
         None => None,
     }
 }

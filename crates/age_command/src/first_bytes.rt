@@ -9,6 +9,7 @@ ghost use Rattle.age_fileset.specs.declared.files.OpenFault.TheVariants.{Fault};
 ghost use Rattle.age_command.specs.Files.{AreFirst, SourceFails, IsUnread};
 ghost use Rattle.age_command.specs.inner.Pieces.{IsPiece};
 
+use crate::identity::PASSPHRASE_FILE_MAX;
 use age_fault::FileFault;
 use age_fileset::{FileSet, OpenFault};
 use age_io::Source;
@@ -71,7 +72,8 @@ pub fn read_first<S: Source>(
     ensures faults { IfErr result (IsMemoryOr Read) }
     ensures failed { IfErr result (λ f. f ≡ Read → SourceFails S.view) }
 {
-    let mut held = Vec::new(alloc);
+    // A vector that grows leaves copies behind, so that of a passphrase's file never does.
+    let mut held = Vec::with_capacity(alloc, most.min(PASSPHRASE_FILE_MAX + 1))?;
     fill_first(source, &mut held, most)?;
     Ok(held)
 }

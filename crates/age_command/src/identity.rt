@@ -5,29 +5,29 @@ ghost use Rattle.age_fileset.specs.FileSet.{Opened};
 ghost use Rattle.age_keys.specs.Scrypt.{IsAllowed};
 ghost use Rattle.age_keys.specs.X25519.{Shared};
 ghost use Rattle.age_command.specs.Endings.{EndsEarly, is_usage};
-ghost use Rattle.age_command.specs.Identities.{without_line_feed, IsPassphraseIn, IsSharedIn};
+ghost use Rattle.age_command.specs.Identities.{IsPassphraseIn, IsSharedIn};
+ghost use Rattle.age_command.specs.Lines.{without_line_feed};
 
 use crate::first_bytes::read_file;
+use crate::secret::OwnPassphrase;
 use crate::{Ending, Usage};
 use age_fileset::FileSet;
-use age_keys::{
-    FileKey, KeyFault, KnownKey, PASSPHRASE_LIMIT, Passphrase, SharedSecret, Steps, Unlock,
-};
+use age_keys::{FileKey, KeyFault, KnownKey, PASSPHRASE_LIMIT, SharedSecret, Steps, Unlock};
 use age_stanza::Header;
 use std::alloc::Global;
 
 /// What opens a file.
 #[derive(Drop)]
-pub enum Identity<'a> {
+pub enum Identity {
     /// A passphrase, and the greatest work factor that is accepted.
-    ByPassphrase(Passphrase<'a>),
+    ByPassphrase(OwnPassphrase),
     /// A file key.
     ByFileKey(KnownKey),
     /// A shared secret, and the recipient that it was made for.
     ByShared(SharedSecret),
 }
 
-impl<'a> Unlock for Identity<'a> {
+impl Unlock for Identity {
     ghost use Rattle.age_command.specs.Identities.{allows_by, refuses_by, steps_by};
 
     ghost allows = { allows_by };

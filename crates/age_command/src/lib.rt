@@ -16,6 +16,7 @@ mod put;
 mod replaying;
 mod reporting;
 mod script;
+mod secret;
 
 pub use choice::Choice;
 pub use drill::drill_file;
@@ -24,3 +25,4 @@ pub use first_bytes::{fill_first, read_file, read_first, read_up_to};
 pub use identity::{Identity, read_pass, trimmed};
 pub use put::put_bytes;
 pub use reporting::{announce, report_ending};
+pub use secret::OwnPassphrase;

@@ -11,10 +11,11 @@ ghost use Rattle.age_file.specs.inner.Payloads.{HasPlace};
 ghost use Rattle.age_file.specs.inner.Readers.{stage_of, SameReader, KeepsMeter, SameWriter};
 
 use crate::intake::Intake;
+use crate::lent::Lent;
 use crate::payload::decrypt_payload;
 use crate::position::{Position, PositionPolicy};
 use crate::reader::{Reader, Writer};
-use crate::start::{Unlocked, start};
+use crate::start::{Unlocked, start_once};
 use crate::tally::Tally;
 use age_fault::FileFault;
 use age_io::{Sink, Source};
@@ -156,19 +157,20 @@ pub fn decrypt_with<U: Unlock, S: Source, O: Sink>(
         (ports (S.view reader.new) (O.view writer.new)) result }
     ensures metered { (from : Origin) → S.metered reader.old from → S.metered reader.new from }
 {
-    decrypt_keyed(alloc, positions, unlock, reader, writer).0
+    decrypt_keyed(alloc, positions, Lent { unlock }, reader, writer).0
 }
 
 /// Decrypts as [`decrypt_with`] does, and also returns the key that opened the file, if the payload
-/// was reached. By this key [`position_after`](crate::position_after) can read the file again.
-pub fn decrypt_keyed<U: Unlock, S: Source, O: Sink>(
+/// was reached. By this key [`position_after`](crate::position_after) can read the file again. What
+/// opens the file is dropped before its payload is read.
+pub fn decrypt_keyed<U: Unlock + Drop, S: Source, O: Sink>(
     alloc: Global,
     positions: PositionPolicy,
-    unlock: &U,
+    unlock: U,
     reader: &mut S,
     writer: &mut O,
 ) -> (Result<Done, Stopped>, Option<KnownKey>)
-    ensures decrypts { DecryptsKeyed positions (U.allows unlock.now) (U.refuses unlock.now)
+    ensures decrypts { DecryptsKeyed positions (U.allows unlock) (U.refuses unlock)
         (ports (S.view reader.old) (O.view writer.old))
         (ports (S.view reader.new) (O.view writer.new)) result.0 result.1 }
     ensures metered { (from : Origin) → S.metered reader.old from → S.metered reader.new from }
@@ -180,7 +182,7 @@ pub fn decrypt_keyed<U: Unlock, S: Source, O: Sink>(
         source: reader,
         intake: &mut intake,
     };
-    let unlocked = match start(alloc, unlock, &mut reader) {
+    let unlocked = match start_once(alloc, unlock, &mut reader) {
         Ok(unlocked) => unlocked,
         Err(fault) => return (Err(Stopped::early(fault)), None),
     };

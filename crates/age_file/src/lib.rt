@@ -20,6 +20,7 @@ mod head;
 mod inspection;
 mod intake;
 mod laws;
+mod lent;
 mod payload;
 mod position;
 mod position_text;

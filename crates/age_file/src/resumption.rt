@@ -18,11 +18,12 @@ ghost use Rattle.age_file.specs.Resumes.{resume_ports, ResumesText, ResumesKeyed
 use crate::copy::copy_chunks;
 use crate::decryption::{Done, Stopped, ended, open_payload};
 use crate::intake::Intake;
+use crate::lent::Lent;
 use crate::position::{Position, PositionPolicy, tag_of};
 use crate::reader::{Reader, Writer};
 use crate::skip::skip_blocks;
 use crate::standing::Standing;
-use crate::start::{Unlocked, start};
+use crate::start::{Unlocked, start_once};
 use crate::tally::Tally;
 use age_fault::FileFault;
 use age_io::{Sink, Source};
@@ -63,22 +64,22 @@ fn verify(unlocked: &Unlocked, position: &Position) -> Result<(), FileFault>
     Ok(())
 }
 
-/// Reads a file up to its payload, and refuses a position that isn't its.
-fn start_for<U: Unlock, S: Source>(
+/// Reads a file up to its payload, drops what opened it, and refuses a position that isn't its.
+fn start_for<U: Unlock + Drop, S: Source>(
     alloc: Global,
-    unlock: &U,
+    unlock: U,
     position: &Position,
     reader: &mut Reader<'_, S>,
 ) -> Result<Unlocked, FileFault>
     requires { (reader.old.intake.now.bytes ≡ []) × (reader.old.intake.now.pulls ≡ 0) }
-    ensures found { IfOk result (StartsFor (U.allows unlock.now) position.now
+    ensures found { IfOk result (StartsFor (U.allows unlock) position.now
         (S.view reader.old.source.now) (view_of_reader S.view reader.new)) }
-    ensures fails { IfErr result (StartForFails (U.allows unlock.now) (U.refuses unlock.now)
+    ensures fails { IfErr result (StartForFails (U.allows unlock) (U.refuses unlock)
         position.now (S.view reader.old.source.now) (view_of_reader S.view reader.new)) }
     ensures same { SameReader reader.old reader.new }
     ensures metered { KeepsMeter S.metered reader.old reader.new }
 {
-    let unlocked = start(alloc, unlock, reader)?;
+    let unlocked = start_once(alloc, unlock, reader)?;
     verify(&unlocked, position)?;
     Ok(unlocked)
 }
@@ -211,6 +212,7 @@ pub fn resume_with<U: Unlock, S: Source, L: Source, O: Sink>(
         result }
     ensures metered { (from : Origin) → S.metered reader.old from → S.metered reader.new from }
 {
+    let unlock = Lent { unlock };
     resume_keyed(
         alloc, positions, unlock, position, reader, old_reader, writer,
     )
@@ -218,17 +220,18 @@ pub fn resume_with<U: Unlock, S: Source, L: Source, O: Sink>(
 }
 
 /// Resumes as [`resume_with`] does, and also returns where it stood at its end. By this
-/// [`position_after`](crate::position_after) can find a position that was dropped.
-pub fn resume_keyed<U: Unlock, S: Source, L: Source, O: Sink>(
+/// [`position_after`](crate::position_after) can find a position that was dropped. What opens the
+/// file is dropped before the earlier output is copied.
+pub fn resume_keyed<U: Unlock + Drop, S: Source, L: Source, O: Sink>(
     alloc: Global,
     positions: PositionPolicy,
-    unlock: &U,
+    unlock: U,
     position: &Position,
     reader: &mut S,
     old_reader: &mut L,
     writer: &mut O,
 ) -> (Result<Done, Stopped>, Standing)
-    ensures resumes { ResumesKeyed positions (U.allows unlock.now) (U.refuses unlock.now) position.now
+    ensures resumes { ResumesKeyed positions (U.allows unlock) (U.refuses unlock) position.now
         (resume_ports (ports (S.view reader.old) (O.view writer.old)) (L.view old_reader.old))
         (resume_ports (ports (S.view reader.new) (O.view writer.new)) (L.view old_reader.new))
         result.0 result.1 }

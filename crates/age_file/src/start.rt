@@ -111,3 +111,22 @@ pub(crate) fn start<U: Unlock, S: Source>(
     let key = open_header(alloc, &head.header, unlock, &mut Steps::new())?;
     read_nonce(key, head.digest, reader)
 }
+
+/// Reads a file up to its payload, and drops what opened it.
+pub(crate) fn start_once<U: Unlock + Drop, S: Source>(
+    alloc: Global,
+    unlock: U,
+    reader: &mut Reader<'_, S>,
+) -> Result<Unlocked, FileFault>
+    requires { (reader.old.intake.now.bytes ≡ []) × (reader.old.intake.now.pulls ≡ 0) }
+    ensures found { IfOk result (StartsAt (U.allows unlock) (S.view reader.old.source.now)
+        (view_of_reader S.view reader.new)) }
+    ensures fails { IfErr result (StartFails (U.allows unlock) (U.refuses unlock)
+        (S.view reader.old.source.now) (S.view reader.new.source.now)) }
+    ensures same { SameReader reader.old reader.new }
+    ensures metered { KeepsMeter S.metered reader.old reader.new }
+{
+    let started = start(alloc, &unlock, reader);
+    drop(unlock);
+    started
+}

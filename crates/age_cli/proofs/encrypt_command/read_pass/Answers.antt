@@ -1,17 +1,18 @@
-use Rattle.std.proofs.Common.{ap, refl}
+use Rattle.std.proofs.Common.{refl, subst, List, ℕ, Option, Some}
 use Rattle.age_keys.specs.Scrypt.{PassphraseIdentity}
-use Rattle.age_command.specs.declared.ending.Ending.{Ending}
-use Rattle.age_command.specs.declared.ending.Ending.TheVariants.{Usage}
+use Rattle.age_command.specs.Identities.{IsSecretIn}
 use Rattle.age_command.specs.declared.identity.Identity.TheVariants.{ByPassphrase}
-use Rattle.age_cli.proofs.CommandLemmas.{this_error}
 use Rattle.age_cli.proofs.encrypt_command.read_pass.Goals as goal
 
-pub returns-in_err-identity-clause-refused : goal.returns-in_err-identity-clause-refused
-returns-in_err-identity-clause-refused g c =
-    let e : Ending = Usage c.in_err-identity.field-0.0 in
-    λ shown. this_error c.from_residual-in_err-identity.result e c.from_residual-in_err-identity.ensures _ (λ usage. (
-      ap Usage c.in_err-identity.ensures.blame,
-      λ pass holds allowed.
-          let words : PassphraseIdentity = record { pass = pass; max_log = c.args.asked.now.log } in
-          c.in_err-identity.ensures.none (ByPassphrase words) (c.in_ok-held.ensures.enough shown (ByPassphrase words) (holds, refl, allowed)),
-    ))
+pub returns-in-Some-clause-read : goal.returns-in-Some-clause-read
+returns-in-Some-clause-read g c = λ shown.
+    subst (λ (o : Option (List ℕ)). IsSecretIn (g.F.FileSet.view c.args.files.now).entries (Some c.args.asked.now.pass.now) o)
+    c.in-Some.ensures.some.0 (c.in_ok-held.ensures.read shown)
+
+pub returns-in-None-clause-refused : goal.returns-in-None-clause-refused
+returns-in-None-clause-refused g c = λ shown usage. (
+  refl,
+  λ pass holds allowed.
+      let words : PassphraseIdentity = record { pass = pass; max_log = c.args.asked.now.log } in
+      c.in-None.ensures.none pass (c.in_ok-held.ensures.enough shown (ByPassphrase words) (holds, refl, allowed)).0 allowed,
+)

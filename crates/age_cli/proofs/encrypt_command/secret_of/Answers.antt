@@ -1,7 +1,7 @@
 use Rattle.std.proofs.Common.{◌∙◌, ap, sym, subst}
 use Rattle.age_keys.specs.Scrypt.{IsAllowed}
 use Rattle.age_file.specs.Encrypts.{SecretView}
-use Rattle.age_command.specs.Identities.{without_line_feed}
+use Rattle.age_command.specs.Lines.{without_line_feed}
 use Rattle.age_cli.proofs.EncryptionLemmas.{random_in}
 use Rattle.age_cli.proofs.encrypt_command.secret_of.Goals as goal
 

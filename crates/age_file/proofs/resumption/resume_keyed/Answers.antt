@@ -13,8 +13,8 @@ pub returns-in_default-clause-resumes : goal.returns-in_default-clause-resumes
 returns-in_default-clause-resumes g c =
     let old = resume_ports (ports (g.S.Source.view c.args.reader.now)
     (g.O.Sink.view c.args.writer.now)) (g.L.Source.view c.args.old_reader.now) in
-    let Allows = g.U.Unlock.allows c.args.unlock.now in
-    let Refused = g.U.Unlock.refuses c.args.unlock.now in
+    let Allows = g.U.Unlock.allows c.args.unlock in
+    let Refused = g.U.Unlock.refuses c.args.unlock in
     rw (c.nowhere.ensures, c.early.ensures) (stopped_early c.args.positions Allows Refused c.args.position.now
     old old Memory refl refl (stops_unread _))
 
@@ -24,8 +24,8 @@ returns-in-Err-clause-resumes g c =
     (g.O.Sink.view c.args.writer.now)) (g.L.Source.view c.args.old_reader.now) in
     let new = resume_ports (ports (g.S.Source.view c.start_for.new.reader.source.now)
     (g.O.Sink.view c.args.writer.now)) (g.L.Source.view c.args.old_reader.now) in
-    let Allows = g.U.Unlock.allows c.args.unlock.now in
-    let Refused = g.U.Unlock.refuses c.args.unlock.now in
+    let Allows = g.U.Unlock.allows c.args.unlock in
+    let Refused = g.U.Unlock.refuses c.args.unlock in
     let early = refused c.args.positions Allows Refused c.args.position.now old
     new c.start_for.new.reader.intake.now c.in-Err.fault refl refl c.in-Err.ensures.fails in
     rw (c.nowhere-in-Err.ensures, c.early-in-Err.ensures) (read_last g.S.Source.view
@@ -46,8 +46,8 @@ returns-in-Err-copy_before-clause-resumes g c =
     (view_of_writer g.O.Sink.view c.copy_before.new.writer) in
     let old = resume_ports (ports (g.S.Source.view c.args.reader.now)
     (g.O.Sink.view c.args.writer.now)) (g.L.Source.view c.args.old_reader.now) in
-    let Allows = g.U.Unlock.allows c.args.unlock.now in
-    let Refused = g.U.Unlock.refuses c.args.unlock.now in
+    let Allows = g.U.Unlock.allows c.args.unlock in
+    let Refused = g.U.Unlock.refuses c.args.unlock in
     let stops = copy_stopped c.args.positions Allows Refused c.args.position.now
     (g.S.Source.view c.args.reader.now) c.in-Ok.unlocked
     s1 c.start_for.new.reader.intake.now f.starts (f.own, f.tagged)
@@ -74,8 +74,8 @@ resume_rest-requires g c =
     let s1 = stage (reader_view (g.S.Source.view c.start_for.new.reader.source.now)
     c.copy_before.new.intake)
     (view_of_writer g.O.Sink.view c.copy_before.new.writer) in
-    place_after c.args.positions (g.U.Unlock.allows c.args.unlock.now)
-    (g.U.Unlock.refuses c.args.unlock.now) c.args.position.now
+    place_after c.args.positions (g.U.Unlock.allows c.args.unlock)
+    (g.U.Unlock.refuses c.args.unlock) c.args.position.now
     (g.S.Source.view c.args.reader.now) c.in-Ok.unlocked
     s1 c.start_for.new.reader.intake.now f.starts (f.own, f.tagged)
     f.starts.unfailed first c.new-tally.ensures.written x z
@@ -95,8 +95,8 @@ returns-clause-resumes g c =
     c.resume_rest.new.writer in
     let old = resume_ports (ports (g.S.Source.view c.args.reader.now)
     (g.O.Sink.view c.args.writer.now)) (g.L.Source.view c.args.old_reader.now) in
-    let Allows = g.U.Unlock.allows c.args.unlock.now in
-    let Refused = g.U.Unlock.refuses c.args.unlock.now in
+    let Allows = g.U.Unlock.allows c.args.unlock in
+    let Refused = g.U.Unlock.refuses c.args.unlock in
     ports_last g.S.Source.view g.O.Sink.view
     (λ p. ResumesKeyed c.args.positions Allows Refused c.args.position.now old
     (resume_ports p (g.L.Source.view c.copy_before.new.source)) c.resume_rest.result.0

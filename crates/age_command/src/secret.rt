@@ -1,0 +1,94 @@
+//! A passphrase whose bytes are overwritten once it isn't needed.
+
+ghost use Rattle.age_keys.specs.Scrypt.{IsAllowed, IsPassphraseKey, PassphraseRefuses, passphrase_steps};
+ghost use Rattle.age_command.specs.Lines.{without_line_feed};
+ghost use Rattle.std.specs.Prelude.{◌≡◌, IfSome, IfNone};
+
+use crate::identity::trimmed;
+use age_keys::{FileKey, KeyFault, Passphrase, Steps, Unlock};
+use age_stanza::Header;
+use std::alloc::Global;
+use std::marker::Model;
+
+/// Bytes that are overwritten before their memory is freed. No contract says so: a test looks.
+struct Erased {
+    bytes: Vec<u8>,
+}
+
+impl Model for Erased {
+    ghost use Rattle.std.specs.Prelude.{List, ℕ};
+
+    ghost Value = { List ℕ };
+
+    ghost view = { λ e. e.bytes.items };
+}
+
+impl Drop for Erased {
+    fn drop(self) {
+        let Erased { mut bytes } = self;
+        bytes.as_mut_slice().fill(0);
+    }
+}
+
+impl Erased {
+    /// The bytes.
+    fn bytes(&self) -> &[u8]
+        ensures { result.now ≡ self.now }
+    {
+        self.bytes.as_slice()
+    }
+}
+
+/// A passphrase that owns the bytes of its file, and the greatest work factor that is accepted with
+/// it. When it is dropped, these bytes are overwritten. A contract sees both.
+#[derive(Drop)]
+pub struct OwnPassphrase {
+    held: Erased,
+    max_log: u32,
+}
+
+impl Model for OwnPassphrase {
+    ghost use Rattle.age_keys.specs.Scrypt.{PassphraseIdentity, IsAllowed};
+    ghost use Rattle.age_command.specs.Lines.{without_line_feed};
+
+    ghost Value = { PassphraseIdentity };
+
+    ghost view = { λ p. record { pass = without_line_feed p.held; max_log = p.max_log } };
+
+    ghost invariant = { λ p. IsAllowed (without_line_feed p.held) p.max_log };
+}
+
+impl Unlock for OwnPassphrase {
+    ghost allows = { IsPassphraseKey };
+
+    ghost refuses = { PassphraseRefuses };
+
+    ghost most_steps = { passphrase_steps };
+
+    fn unlock(
+        &self,
+        alloc: Global,
+        header: &Header,
+        steps: &mut Steps,
+    ) -> Result<FileKey, KeyFault> {
+        match Passphrase::new(trimmed(self.held.bytes()), self.max_log) {
+            Some(pass) => pass.unlock(alloc, header, steps),
+            None => Err(KeyFault::NoMatch),
+        }
+    }
+}
+
+/// The passphrase in the bytes of its file, if they hold one.
+pub(crate) fn own_passphrase(bytes: Vec<u8>, max_log: u32) -> Option<OwnPassphrase>
+    ensures some { IfSome result (λ words. (words.pass ≡ without_line_feed bytes.items)
+        × (words.max_log ≡ max_log)) }
+    ensures none { IfNone result (IsAllowed (without_line_feed bytes.items) max_log → ⊥) }
+{
+    if Passphrase::new(trimmed(bytes.as_slice()), max_log).is_none() {
+        return None;
+    }
+    Some(OwnPassphrase {
+        held: Erased { bytes },
+        max_log,
+    })
+}
