@@ -149,17 +149,19 @@ class ProgramTest(Case):
         self.see("a fault's line is one write", ended.returncode == 1 and first == b"age_tool: 1 NotAge line 1\n", first)
 
     def test_scrypt_once(self):
-        """The limit of the work factor, which leaves room to derive the key more than once, costs nothing."""
+        """The limit of the work factor, which leaves room to derive the key more than once, costs nothing; nor does a decryption cost more than
+        the encryption."""
         self.encrypt("15 plain fifteen.age")
 
-        def cost(limit):
+        def cost(words):
             before = resource.getrusage(resource.RUSAGE_CHILDREN)
-            self.decrypt("--max-log", limit, "fifteen.age", "back")
+            self.tool(*words.split())
             after = resource.getrusage(resource.RUSAGE_CHILDREN)
             return after.ru_utime - before.ru_utime
 
-        least = {limit: min(cost(limit) for _ in range(5)) for limit in ("15", "22")}
-        self.see("scrypt is run once", least["22"] < 1.6 * least["15"], least)
+        commands = ("encrypt --pass pass --log 15 plain back", *(f"decrypt --pass pass --max-log {it} fifteen.age back" for it in (15, 22)))
+        sealing, opening, open_within = (min(cost(words) for _ in range(5)) for words in commands)
+        self.see("scrypt is run once", max(opening, open_within) < 1.6 * sealing and open_within < 1.6 * opening, sealing, opening, open_within)
 
     def test_drill_of_a_costly_file(self):
         """A drill opens what `encrypt` writes by default."""
@@ -321,6 +323,9 @@ class ProgramTest(Case):
         for log, fault in (("21", b"11 WorkTooHigh"), ("22", b"28 Memory")):
             ended = self.decrypt("--max-log", log, "costly", "never", preexec_fn=within_memory)
             self.ends(f"a work factor of 22 within a limit of {log}", ended, 1, b"", b"age_tool: " + fault + b"\n")
+        self.write("script", b"end\n")
+        ended = self.tool(*"drill --pass pass script costly".split(), preexec_fn=within_memory)
+        self.ends("a drill at a work factor of 22", ended, 1, b"", b"age_tool: 28 Memory\n")
 
 
 def heap(process):
