@@ -2,8 +2,8 @@
 
 ghost use Rattle.std.specs.Prelude.{◌≡◌, ◌≢◌, ◌+◌, ◌≤◌, length, take, drop, IfOk, IfErr};
 ghost use Rattle.age_stream.specs.Segment.{fresh};
-ghost use Rattle.age_c.specs.Readers.{IsAt, HasHead, HasNoHead, HasFront, HeadRefuses, IsStarted, StartRefuses};
-ghost use Rattle.age_c.specs.Readers.{start_fault_number};
+ghost use Rattle.age_c.specs.Readers.{IsAt, HasHead, HasNoHead, HasFront, HeadRefuses, IsStarted};
+ghost use Rattle.age_c.specs.Readers.{StartRefuses, start_fault_number};
 ghost use Rattle.age_c.specs.inner.Counts.{StartCounts};
 
 use crate::MORE;

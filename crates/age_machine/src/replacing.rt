@@ -9,7 +9,8 @@ ghost use Rattle.age_machine.specs.Beside.{IsBeside, IsSound};
 ghost use Rattle.age_machine.specs.declared.beside.Unplaced.{Unplaced};
 ghost use Rattle.age_machine.specs.declared.beside.Unplaced.TheVariants.{Memory};
 ghost use Rattle.age_machine.specs.declared.replacing.Spot.TheVariants as spot;
-ghost use Rattle.age_machine.specs.inner.Steps.{IsAbout, CutsOff, Fills, IsFull, IsInPlace, IsReady, HasTried};
+ghost use Rattle.age_machine.specs.inner.Steps.{IsAbout, CutsOff, Fills, IsFull, IsInPlace, IsReady};
+ghost use Rattle.age_machine.specs.inner.Steps.{HasTried};
 ghost use Rattle.age_io.specs.declared.durability.Durability.{Durability};
 
 use crate::beside::{Beside, Unplaced, make_beside, settle, write_all};
