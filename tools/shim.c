@@ -11,7 +11,7 @@
  *
  * RECORD names a file that gets each call that succeeded and changes what a regular file holds or which names a folder has, or waits
  * for the disk. A line has the name of the call and its arguments, with tabs between them: an inode where a file is meant, and a path
- * from the root where a name is. What was written follows its line. */
+ * from the root where a name is. What was written follows its line. A write, a cut or a wait that was made to fail is `broke`. */
 #define _GNU_SOURCE
 #include <dlfcn.h>
 #include <errno.h>
@@ -128,6 +128,13 @@ static ino_t regular(int fd) {
     struct stat it;
     return getenv("RECORD") && fstat(fd, &it) == 0 && S_ISREG(it.st_mode) ? it.st_ino : 0;
 }
+static int broke(int fd) {
+    int why = errno;
+    ino_t file = regular(fd);
+    if (file) note("broke\t%lu\n", file);
+    errno = why;
+    return -1;
+}
 /* Where a descriptor or the working folder is, followed by a path unless that begins at the root. */
 struct path { char text[2 * PATH_MAX]; };
 static struct path path(int folder, const char *name) {
@@ -190,13 +197,13 @@ static int is_refused_write(int fd) {
 ssize_t write(int fd, const void *bytes, size_t size) {
     static long count;
     if (is_interrupted(&count)) return -1;
-    if (is_refused_write(fd)) return -1;
+    if (is_refused_write(fd)) return broke(fd);
     ssize_t n = NEXT(write)(fd, bytes, size);
     return n > 0 ? wrote(fd, bytes, n, place(fd) - n) : n;
 }
 ssize_t pwrite(int fd, const void *bytes, size_t size, off_t at) {
     swap();
-    return is_refused_write(fd) ? -1 : wrote(fd, bytes, NEXT(pwrite)(fd, bytes, size, at), at);
+    return is_refused_write(fd) ? broke(fd) : wrote(fd, bytes, NEXT(pwrite)(fd, bytes, size, at), at);
 }
 ssize_t pwrite64(int fd, const void *bytes, size_t size, off_t at) { return pwrite(fd, bytes, size, at); }
 ssize_t writev(int fd, const struct iovec *parts, int count) {
@@ -210,7 +217,7 @@ ssize_t writev(int fd, const struct iovec *parts, int count) {
     return n;
 }
 int ftruncate(int fd, off_t length) {
-    int ended = fails("FTRUNCATE") ? -1 : NEXT(ftruncate)(fd, length);
+    int ended = fails("FTRUNCATE") ? broke(fd) : NEXT(ftruncate)(fd, length);
     if (ended == 0) note("cut\t%lu\t%ld\n", regular(fd), length);
     return ended;
 }
@@ -228,7 +235,7 @@ int fsync(int fd) {
     trigger();
     list(fd);
     static long count;
-    return is_meant(fd) && ++count >= number("FROM") && fails("FSYNC") ? -1 : synced(fd, NEXT(fsync)(fd));
+    return is_meant(fd) && ++count >= number("FROM") && fails("FSYNC") ? broke(fd) : synced(fd, NEXT(fsync)(fd));
 }
 int fdatasync(int fd) { return synced(fd, NEXT(fdatasync)(fd)); }
 

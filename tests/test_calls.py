@@ -1,0 +1,206 @@
+"""Compares the calls of the built program with the definitions that its contracts cite. It records what each run does to its files, also
+if a call fails (tools/shim.c), and computes what that leaves by `age_machine/specs/Disk.antt` itself (tools/definitions.py):
+
+- the disk that the definitions give is the real one, so they say rightly what calls do;
+- after status 0 a power cut leaves OUT as it is, and so a position, once it was said to be saved;
+- at each moment it leaves a position as it was, or the new one, whole;
+- a run that stops before there is a byte to write leaves OUT as it was, or empty, if it wasn't there.
+
+A run with --no-sync has to be one after which OUT may hold anything: so the test can fail. Each run is a test."""
+import errno
+import pathlib
+import re
+import tempfile
+import unittest
+
+from tests import test_power_cut as cuts
+from tests.case import needs
+from tools import definitions, shim
+from tools.workspace import CRATES
+
+AFTER_CALL = definitions.read(CRATES / "age_machine/specs/Disk.antt")["after_call"]
+ANYTHING = "anything"
+NOTHING = ("None",)
+# What a disk has of the paths and files that weren't named.
+OTHERS = {"file": NOTHING, "before": (), "bytes": b"", "is_kept": True, "is_lost": False}
+# The calls that change what a file holds, or wait for it, may fail from one of their first turns on.
+TURNS = range(1, 6)
+ERRORS = (errno.EIO, errno.ENOSPC, errno.EROFS)
+
+
+def table(values, other):
+    return lambda key: values.get(key, other)
+
+
+class Disk:
+    """A disk as the definitions have it, from a real folder on. Its functions are kept as tables of the paths and files that were named."""
+
+    def __init__(self, top):
+        files = {bytes(path): path for path in top.rglob("*") if path.is_file()}
+        numbers = {path: it.stat().st_ino for path, it in files.items()}
+        self.paths, self.files = set(files), set(numbers.values())
+        held = {numbers[path]: it.read_bytes() for path, it in files.items()}
+        self.disk = {
+            "file": table({path: ("Some", numbers[path]) for path in files}, OTHERS["file"]),
+            "bytes": table(held, OTHERS["bytes"]),
+        } | {field: table({}, OTHERS[field]) for field in ("before", "is_kept", "is_lost")}
+
+    def do(self, call):
+        self.paths |= {it for it in call[1:3] if isinstance(it, bytes)}
+        self.files |= {call[2] if call[0] == "Made" else call[1]} - self.paths
+        disk = AFTER_CALL(call)(self.disk)
+        for keys, fields in ((self.paths, ("file", "before")), (self.files, ("bytes", "is_kept", "is_lost"))):
+            for field in fields:
+                disk[field] = table({key: disk[field](key) for key in keys}, OTHERS[field])
+        self.disk = disk
+
+    def held(self, file):
+        return bytes(self.disk["bytes"](file))
+
+    def now(self):
+        found = {path: self.disk["file"](path) for path in self.paths}
+        return {path: self.held(it[1]) for path, it in found.items() if it != NOTHING}
+
+    def path_of(self, file):
+        return next(path for path in self.paths if self.disk["file"](path) == ("Some", file))
+
+    def may_lead(self, path):
+        """The files to which a power cut may let a path lead (`MayLead`)."""
+        return {self.disk["file"](path), *self.disk["before"](path)}
+
+    def leaves(self, path):
+        """What a power cut may leave at a path (`MayLeave`): bytes, None if there may be no file, ANYTHING."""
+        kept = self.disk["is_kept"]
+        return {None if it == NOTHING else self.held(it[1]) if kept(it[1]) else ANYTHING for it in self.may_lead(path)}
+
+    def is_answer(self, call):
+        """Whether it is what the definitions expect of a disk (`IsAnswered`)."""
+        if call[0] == "Made":
+            return ("Some", call[2]) not in self.may_lead(call[1])
+        return call[0] != "Linked" or self.disk["file"](call[2]) == NOTHING
+
+
+def calls_of(record, disk):
+    """The calls of a record as the definitions name them. The disk is the one at each of them."""
+    made = None
+    for name, words, held in record:
+        if name == "make":
+            made = int(words[0])
+        elif name == "link" and int(words[0]) == made:
+            yield "Made", words[1].encode(), made
+            made = None
+        elif name == "link":
+            yield "Linked", disk.path_of(int(words[0])), words[1].encode()
+        elif name == "write":
+            yield "Wrote", int(words[0]), int(words[1]), held
+        elif name == "cut":
+            yield "Cut", int(words[0]), int(words[1])
+        elif name == "sync":
+            yield "Synced", int(words[0])
+        elif name == "broke":
+            yield "Broke", int(words[0])
+        elif name == "rename":
+            yield "Renamed", words[0].encode(), words[1].encode()
+        elif name == "unlink":
+            yield "Removed", words[0].encode()
+        else:
+            folder = pathlib.Path(words[0]).resolve()
+            yield from (("SyncedNames", path) for path in sorted(disk.paths) if pathlib.Path(path.decode()).parent == folder)
+
+
+def failures():
+    """The variables by which one kind of call fails, from each of its first turns on."""
+    for turn in TURNS:
+        yield {"WRITE": errno.EIO, "AT": turn}
+        yield {"WRITE": errno.ENOSPC, "AT": turn, "EVERY": 2}
+        yield {"FSYNC": errno.EIO, "ONLY": "f", "FROM": turn}
+    for error in ERRORS:
+        yield {"FSYNC": error, "ONLY": "d"}
+        yield {"RENAME": error}
+        yield {"LINK": error}
+    yield {"FTRUNCATE": errno.EIO}
+    yield {"FLOCK": errno.EIO}
+
+
+class Run:
+    """A run, what was there before and after it, and the disk that its calls give."""
+
+    def __init__(self, room, case, failing):
+        self.case, self.failing = case, failing
+        folder = room.laid_out({name: room.read(held) for name, held in case.before.items()})
+        self.out = bytes(folder / "out")
+        saved = case.word_after("--save")
+        self.saved = bytes(folder / saved) if saved else None
+        self.before, self.disk = files_in(folder), Disk(folder)
+        room.path("record").write_bytes(b"")
+        self.ended = room.run(folder, case.words, shim.loaded(RECORD=room.path("record"), **failing))
+        self.after = files_in(folder)
+        self.record = list(cuts.calls(room.path("record")))
+
+    def wrong(self):
+        """What is wrong with it: a sentence for each kind."""
+        return sorted({f"{fault} ({self.failing})" for fault in self.faults()})
+
+    def faults(self):
+        yield from self.faults_now()
+        for call in calls_of(self.record, self.disk):
+            if not self.disk.is_answer(call):
+                yield "a call that the definitions don't expect"
+            self.disk.do(call)
+            yield from self.faults_now()
+        yield from self.faults_at_end()
+
+    def faults_now(self):
+        """What no moment may show."""
+        if self.saved and self.disk.leaves(self.saved) - {self.before.get(self.saved), self.after.get(self.saved)}:
+            yield "a position may be torn or lost"
+        if self.case.keeps_out() and self.disk.leaves(self.out) - {self.before.get(self.out), None if self.out in self.before else b""}:
+            yield "OUT may not be as it was"
+
+    def faults_at_end(self):
+        if self.disk.now() != self.after:
+            yield "the disk of the definitions isn't the real one"
+        may_be_lost = self.disk.leaves(self.out) != {self.after.get(self.out)}
+        if self.ended.returncode == 0 and self.case.waits() and may_be_lost:
+            yield "status 0, and OUT may be lost"
+        if self.ended.returncode == 0 and not self.case.waits() and not may_be_lost:
+            yield "OUT can't be lost, though nothing was waited for"
+        if b"position saved in" in self.ended.stderr and self.disk.leaves(self.saved) != {self.after[self.saved]}:
+            yield "a position was said to be saved, and may be lost"
+
+
+def files_in(folder):
+    return {bytes(path): path.read_bytes() for path in folder.rglob("*") if path.is_file()}
+
+
+@needs("cc")
+class CallsTest(unittest.TestCase):
+    """A test for each run, with and without calls that fail."""
+
+    @classmethod
+    def setUpClass(cls):
+        made = tempfile.TemporaryDirectory(dir=cuts.MEMORY)
+        cls.addClassCleanup(made.cleanup)
+        cls.room = cuts.Room(pathlib.Path(made.name).resolve())
+        cls.runs = cls.calls = 0
+
+    @classmethod
+    def tearDownClass(cls):
+        print(f"calls: {cls.runs} runs, {cls.calls} calls")
+
+    def see(self, case):
+        for failing in ({}, *failures()):
+            run = Run(self.room, case, failing)
+            self.assertEqual(run.wrong(), [], run.ended.stderr)
+            type(self).runs += 1
+            type(self).calls += len(run.record)
+
+    def see_unwaited(self, case):
+        self.assertEqual(Run(self.room, case, {}).wrong(), [])
+
+
+for it in cuts.cases():
+    test = "test_" + re.sub(r"\W+", "_", it.name)
+    setattr(CallsTest, test, lambda self, case=it: self.see(case))
+    if it.status == 0:
+        setattr(CallsTest, f"{test}_no_sync", lambda self, case=it.without_waiting(): self.see_unwaited(case))
