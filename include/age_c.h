@@ -34,11 +34,11 @@
  * from the chunk's first byte, and once the end returned 0 it is all that follows, so that the
  * length of the text is known. An undamaged payload gives all of its text, and each call returns 0;
  * age_c_open_at opens each chunk whose block is undamaged, whatever else is. With 17 a block isn't
- * the writer's, and `fault_chunk` is its number; the text before it has been written by earlier
- * calls. A file that was cut inside a chunk, as nearly every cut file is, ends with 17 too: nobody
- * can tell it from a damaged one. What a writer wrote, from age_c_seal_passphrase to an
- * age_c_finish_text that returned 0, is the age file of the text. Into which pieces a payload or a
- * text was cut makes no difference.
+ * the writer's, and `fault_chunk` is its number; the text before it, from the last seek on, has
+ * been written by earlier calls. A file that was cut inside a block, after its 16th byte, as nearly
+ * every cut file is, ends with 17 too: nobody can tell it from a damaged one. What a writer wrote,
+ * from age_c_seal_passphrase to an age_c_finish_text that returned 0, is the age file of the text.
+ * Into which pieces a payload or a text was cut makes no difference.
  *
  * OWNERSHIP. A reader or writer is 64 bytes of plain numbers, and a stream of either holds one
  * block or chunk besides, in the caller's memory: there is nothing to free, and it may be copied (a
@@ -67,16 +67,16 @@
  * reader, but only one of them with a writer; glibc's malloc, and so each call, works in the child
  * of a process with threads too.
  *
- * ERRORS. A call returns 0, the number of a fault (AGE_C_NOT_AGE and so on; docs/FAULTS.md says
- * what each means), AGE_C_MORE or AGE_C_MISUSED. A call that doesn't return 0 has written no byte
- * of `out`, has set to 0 each number that it would have told (as *written and *taken), and has
- * changed nothing else, with one exception: a fault 17 to 22 of age_c_block, age_c_end, age_c_feed,
- * age_c_finish or age_c_open_at is kept in the reader (and then age_c_feed took *taken bytes all
- * the same). Each later call of the first four returns that fault again, unless it is misused.
- * After an end has returned 0, repeating it with no bytes returns 0 and writes nothing, and so does
- * age_c_feed with an empty piece. Any other call of the four that passes bytes returns
- * AGE_C_TRAILING, unless it is misused. age_c_seek and age_c_open_at end both: the reader goes on
- * as one that was just begun, at that chunk.
+ * ERRORS. A call but age_c_version and age_c_fault_name returns 0, the number of a fault
+ * (AGE_C_NOT_AGE and so on; docs/FAULTS.md says what each means), AGE_C_MORE or AGE_C_MISUSED. One
+ * that doesn't return 0 has written no byte of `out`, has set to 0 each number that it would have
+ * told (as *written and *taken), and has changed nothing else, with one exception: a fault 17 to 22
+ * of age_c_block, age_c_end, age_c_feed, age_c_finish or age_c_open_at is kept in the reader (and
+ * then age_c_feed took *taken bytes all the same). Each later call of the first four returns that
+ * fault again, unless it is misused. After an end has returned 0, repeating it with no bytes
+ * returns 0 and writes nothing, and so does age_c_feed with an empty piece. Any other call of the
+ * four that passes bytes returns AGE_C_TRAILING, unless it is misused. age_c_seek and age_c_open_at
+ * end both: the reader goes on as one that was just begun, at that chunk.
  *
  * MISUSE. A call returns AGE_C_MISUSED if, and only if, a length, a work factor or a number of a
  * chunk or stanza isn't as the call's comment says, or it takes a block or chunk, or goes to one,
@@ -88,7 +88,7 @@
  * The library is for x86-64 Linux: glibc 2.14 or later, or musl, and a processor with the
  * instructions of x86-64-v2. Link libage_c.a, which holds all that it needs but the C library; or
  * libage_c.so.
- * Versions follow semantic versioning: within 1.x a later library runs what was built with an
+ * Versions follow semantic versioning: from 1.2.0 on, a later 1.x runs what was built with an
  * earlier one, and an incompatible one has another soname than libage_c.so.0.
  */
 #ifndef AGE_C_H
@@ -106,7 +106,8 @@ extern "C" {
 /* The bytes end inside the header or the payload's nonce: call again with more of the file. At the
  * end of a file it means that the file was cut there. */
 #define AGE_C_MORE 254u
-/* The call was misused: see MISUSE above. Nothing was changed, but that *written is 0. */
+/* The call was misused: see MISUSE above. Nothing was changed, but that *written and its like are
+ * 0. */
 #define AGE_C_MISUSED 255u
 
 /* The faults that a call can return, as docs/FAULTS.md lists them. */
