@@ -75,7 +75,7 @@ var meanings = map[uint32]string{
 	NumberBadX25519:        "an X25519 stanza is malformed, or the shared secret is zero",
 	NumberChunkDamaged:     "the file is damaged or cut off",
 	NumberChunkCut:         "the file is cut off",
-	NumberEmptyLast:        "no age program writes such a payload",
+	NumberEmptyLast:        "the file was cut off here, or altered",
 	NumberTruncated:        "the file is cut off",
 	NumberTrailing:         "something was appended to the file",
 	NumberTooManyChunks:    "the file has too many chunks",

@@ -84,7 +84,7 @@ impl AgeError {
             15 => "an X25519 stanza is malformed, or the shared secret is zero",
             17 => "the file is damaged or cut off",
             18 | 20 => "the file is cut off",
-            19 => "no age program writes such a payload",
+            19 => "the file was cut off here, or altered",
             21 => "something was appended to the file",
             22 => "the file has too many chunks",
             28 => "there isn't enough memory",
