@@ -42,13 +42,14 @@
  *
  * OWNERSHIP. A reader or writer is 64 bytes of plain numbers, and a stream of either holds one
  * block or chunk besides, in the caller's memory: there is nothing to free, and it may be copied (a
- * copy of a reader goes on from the same place; never go on from a copy of a writer, which would
- * seal two texts under one nonce). It holds the file key, and a stream that writes holds text too:
- * overwrite it when you are done, by explicit_bzero (a compiler may leave out a memset). The
- * library keeps no pointer and no state. Only age_c_open_.., age_c_header, age_c_stanza and
- * age_c_seal_passphrase allocate, by malloc, and free all of it before they return: with a
- * passphrase of work factor N, 2^N KiB, and for the header up to about 18 bytes for each of its
- * bytes, which is 18 MiB for a hostile header of 1 MiB. A call uses less than 100 KiB of stack.
+ * copy of a reader goes on from the same place; of a writer and its copies only one may go on,
+ * since two would seal two texts under one nonce). It holds the file key, and a stream that writes
+ * holds text too: overwrite it when you are done, by explicit_bzero (a compiler may leave out a
+ * memset). The library keeps no pointer and no state. Only age_c_open_.., age_c_header,
+ * age_c_stanza and age_c_seal_passphrase allocate, by malloc, and free all of it before they
+ * return: with a passphrase of work factor N, 2^N KiB, and for the header up to about 18 bytes for
+ * each of its bytes, which is 18 MiB for a hostile header of 1 MiB. A call uses less than 100 KiB
+ * of stack.
  *
  * NOT PROMISED. Constant time, and that no trace of keys and passphrases is left: the library
  * overwrites neither its stack nor the memory that it frees, such as scrypt's table.
@@ -197,7 +198,7 @@ uint32_t age_c_header(const uint8_t *front, size_t front_len, size_t *header_len
  * arguments are the *args_len bytes at front + *args_at, with one space between two of them. The
  * bytes of its body, which its base64 spells, are the first *written of `out`, which has room for
  * front_len bytes or more. Each call reads the whole header again: so don't look at all stanzas of a
- * hostile header, which has 174,000. (Since 1.2.0.) */
+ * hostile header, which may have 174,000. (Since 1.2.0.) */
 AGE_C_MUST_CHECK
 uint32_t age_c_stanza(const uint8_t *front, size_t front_len, size_t index, size_t *args_at,
                       size_t *args_len, uint8_t *out, size_t out_len, size_t *written);
@@ -266,7 +267,7 @@ uint32_t age_c_open_at(age_c_reader *reader, uint64_t chunk, const uint8_t *bloc
 
 /* What the length of the whole file, in bytes, says of its text: on 0 a whole file of this length
  * has a text of *text_len bytes, and *last_chunk is the number of its last chunk. No whole file has
- * another length: that is answered with the fault with which such a file ends (AGE_C_TRUNCATED,
+ * another length: that is answered with the fault of a payload that was cut there (AGE_C_TRUNCATED,
  * AGE_C_EMPTY_LAST or AGE_C_CHUNK_CUT), and both are set to 0. Of the reader only payload_at is
  * looked at. A length proves nothing: the file may be cut or damaged. To prove the length of the
  * text, go to *last_chunk by age_c_seek, give its block, and then the end, as always: once
