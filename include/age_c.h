@@ -1,6 +1,6 @@
 /* age_c.h: age files (https://c2sp.org/age), version 1, read and written by proved code.
  *
- * A reader of a file on standard input (without error checks of its own):
+ * A reader of a file on standard input (it has no check of fread or fwrite of its own):
  *
  *     static uint8_t bytes[AGE_C_FRONT_MAX], out[AGE_C_CHUNK];
  *     static age_c_stream stream;
@@ -25,41 +25,43 @@
  *     if (answer != 0) fprintf(stderr, "%u %s\n", answer, age_c_fault_name(answer));
  *
  * bindings/c/decrypt.c (share/age_tool/decrypt.c of a release) is a whole program, and
- * bindings/README.md has one that writes a file and one that reads from any place on.
+ * bindings/README.md has one that writes a file and reads one from any place on.
  *
- * WHAT HOLDS. Every byte written to `out` has been authenticated. Unless a tag is forged, the
- * output of one reader is a prefix of the original plaintext. It is complete only once age_c_end or
- * age_c_finish has returned 0: don't act on it before as if it were whole. After age_c_seek the
- * same holds from that chunk on: the output since then is a prefix of what follows in the plaintext
- * from the chunk's first byte, and once the end returned 0 it is all that follows, so that the
- * length of the text is known. An undamaged payload gives all of its text, and each call returns 0;
- * age_c_open_at opens each chunk whose block is undamaged, whatever else is. With 17 a block isn't
- * the writer's, and `fault_chunk` is its number; the text before it, from the last seek on, has
- * been written by earlier calls. A file that was cut inside a block, after its 16th byte, as nearly
- * every cut file is, ends with 17 too: nobody can tell it from a damaged one. What a writer wrote,
- * from age_c_seal_passphrase to an age_c_finish_text that returned 0, is the age file of the text.
- * Into which pieces a payload or a text was cut makes no difference.
+ * WHAT HOLDS. Every byte of text that is written to `out` has been authenticated. Unless a tag is
+ * forged, the output of a reader since it was opened is a prefix of the original plaintext. It is
+ * known to be complete only once an end (age_c_end, age_c_finish, or age_c_open_at of less than a
+ * block) has returned 0: don't act on it before as if it were. After age_c_seek, and for
+ * age_c_open_at, the same holds from that chunk on: the output since then is a prefix of what
+ * follows in the plaintext from the chunk's first byte, and once an end returned 0 it is all that
+ * follows, so that the length of the text is known. An undamaged payload gives all of its text and
+ * no fault; age_c_open_at opens each chunk whose block is undamaged, whatever the others are. With
+ * 17 the block with the number `fault_chunk`, or the nonce, isn't the writer's; the text before it,
+ * from the last seek on, has been written by earlier calls. A file that was cut inside a block,
+ * with more than 16 bytes of it left, as nearly every long file that was cut, ends with 17 too:
+ * nobody can tell it from a damaged one. What a writer wrote, from age_c_seal_passphrase to an
+ * age_c_finish_text that returned 0, is the age file of the text. The pieces into which a payload
+ * or a text was cut change nothing of this.
  *
  * OWNERSHIP. A reader or writer is 64 bytes of plain numbers, and a stream of either holds one
  * block or chunk besides, in the caller's memory: there is nothing to free, and it may be copied (a
  * copy of a reader goes on from the same place; of a writer and its copies only one may go on,
- * since two would seal two texts under one nonce). It holds the file key, and a stream that writes
- * holds text too: overwrite it when you are done, by explicit_bzero (a compiler may leave out a
- * memset). The library keeps no pointer and no state. Only age_c_open_.., age_c_header,
- * age_c_stanza and age_c_seal_passphrase allocate, by malloc, and free all of it before they
- * return: with a passphrase of work factor N, 2^N KiB, and for the header up to about 18 bytes for
- * each of its bytes, which is 18 MiB for a hostile header of 1 MiB. A call uses less than 100 KiB
- * of stack.
+ * since two would seal two texts under one nonce). Each holds the file key, and a stream that
+ * writes holds text too: overwrite it when you are done, by explicit_bzero (a compiler may leave
+ * out a memset). The library keeps no pointer and no state. Only age_c_open_.. (which never means
+ * age_c_open_at), age_c_header, age_c_stanza and age_c_seal_passphrase allocate, by malloc and
+ * realloc, and free all of it before they return: with a passphrase of work factor N, some KiB more
+ * than 2^N KiB, and for the header up to about 28 bytes for each of its bytes while realloc copies.
+ * A call uses less than 100 KiB of stack.
  *
  * NOT PROMISED. Constant time, and that no trace of keys and passphrases is left: the library
  * overwrites neither its stack nor the memory that it frees, such as scrypt's table.
  *
- * POINTERS. Each points to at least as many bytes as the length after it says, and may be null if
- * that is 0; no other pointer may be null. An output buffer must not overlap any other argument,
- * nor may a reader, a writer, a stream or a number that a call writes. Bytes may stand at any
- * address; these objects are aligned as their types are. Nothing else may modify a reader, a writer
- * or a stream, during a call or between calls, except `held` of a stream, which you set to 0; nor,
- * during a call, any bytes that it was given. The library can't check this.
+ * POINTERS. A uint8_t pointer points to at least as many bytes as the length after it says, and may
+ * be null if that is 0; no other pointer may be null. An output buffer must not overlap any other
+ * argument, nor may a reader, a writer, a stream or a number that a call writes. Bytes may stand at
+ * any address; these objects are aligned as their types are. While you use a reader, a writer or a
+ * stream, only the library modifies it, except `held` of a stream, which you set to 0. During a
+ * call nothing else may modify the bytes that it was given. The library can't check this.
  *
  * THREADS, SIGNALS, FORK. Any number of calls may run at the same time, on different readers,
  * writers and streams. The library takes no lock, and calls nothing but malloc, realloc, free,
@@ -68,27 +70,27 @@
  * reader, but only one of them with a writer; glibc's malloc, and so each call, works in the child
  * of a process with threads too.
  *
- * ERRORS. A call but age_c_version and age_c_fault_name returns 0, the number of a fault
+ * ERRORS. Each call but age_c_version and age_c_fault_name returns 0, the number of a fault
  * (AGE_C_NOT_AGE and so on; docs/FAULTS.md says what each means), AGE_C_MORE or AGE_C_MISUSED. One
  * that doesn't return 0 has written no byte of `out`, has set to 0 each number that it would have
  * told (as *written and *taken), and has changed nothing else, with one exception: a fault 17 to 22
- * of age_c_block, age_c_end, age_c_feed, age_c_finish or age_c_open_at is kept in the reader (and
- * then age_c_feed took *taken bytes all the same). Each later call of the first four returns that
- * fault again, unless it is misused. After an end has returned 0, repeating it with no bytes
- * returns 0 and writes nothing, and so does age_c_feed with an empty piece. Any other call of the
- * four that passes bytes returns AGE_C_TRAILING, unless it is misused. age_c_seek and age_c_open_at
- * end both: the reader goes on as one that was just begun, at that chunk.
+ * of age_c_block, age_c_end, age_c_feed, age_c_finish or age_c_open_at changes the reader or
+ * stream, which keeps it (and then age_c_feed took *taken bytes all the same). Each later call of
+ * the first four returns that fault again, unless it is misused. After an end has returned 0,
+ * age_c_end and age_c_feed without bytes and age_c_finish return 0 and write nothing; one of the
+ * four that is given bytes returns AGE_C_TRAILING, unless it is misused. age_c_seek and
+ * age_c_open_at, if not misused, end both: the reader goes on as one just begun, at that chunk.
  *
- * MISUSE. A call returns AGE_C_MISUSED if, and only if, a length, a work factor or a number of a
- * chunk or stanza isn't as the call's comment says, or it takes a block or chunk, or goes to one,
- * and its reader or writer can't be used: `chunk` is 2^48 or more, a reader's `state` is none of
- * those listed below, or a writer's isn't 1; or a stream's `held` is AGE_C_BLOCK or more; or that of
- * one that writes is more than AGE_C_CHUNK, or 0 though its `chunk` isn't. This is looked at before
- * anything else, but a stanza's number after the header was read.
+ * MISUSE. A call but age_c_may_open and age_c_size returns AGE_C_MISUSED if, and only if, a length,
+ * a work factor or a number of a chunk or stanza isn't as its comment says, or it goes on with a
+ * reader, writer or stream that can't be used: `chunk` of a reader or writer is 2^48 or more, a
+ * reader's `state` is none of those listed below, or a writer's isn't 1; or a stream's `held` is
+ * AGE_C_BLOCK or more; or that of one that writes is more than AGE_C_CHUNK, or 0 though its
+ * writer's `chunk` isn't. This is looked at before anything else, but a stanza's number after the
+ * header was read.
  *
  * The library is for x86-64 Linux: glibc 2.14 or later, or musl, and a processor with the
- * instructions of x86-64-v2. Link libage_c.a, which holds all that it needs but the C library; or
- * libage_c.so.
+ * instructions of x86-64-v2. Link libage_c.so, or libage_c.a, which needs the C library alone.
  * Versions follow semantic versioning: from 1.2.0 on, a later 1.x runs what was built with an
  * earlier one, and an incompatible one has another soname than libage_c.so.0.
  */
@@ -105,7 +107,7 @@ extern "C" {
 #define AGE_C_VERSION 10200u /* 10,000 * major + 100 * minor + patch */
 
 /* The bytes end inside the header or the payload's nonce: call again with more of the file. At the
- * end of a file it means that the file was cut there. */
+ * end of a file it is a fault: the file was cut there, or is no age file. */
 #define AGE_C_MORE 254u
 /* The call was misused: see MISUSE above. Nothing was changed, but that *written and its like are
  * 0. */
@@ -143,7 +145,7 @@ extern "C" {
 #define AGE_C_PASS_MAX 65536u /* bytes of a passphrase; at least 1 */
 #define AGE_C_WORK_MAX 22u    /* the greatest work factor; at least 1 */
 
-/* Return values must be checked; compilers warn if they aren't. */
+/* Return values must be checked; GCC and Clang warn if they aren't. */
 #ifndef AGE_C_MUST_CHECK
 #if defined __GNUC__
 #define AGE_C_MUST_CHECK __attribute__((warn_unused_result))
@@ -152,24 +154,22 @@ extern "C" {
 #endif
 #endif
 
-/* Where a file is being read. Only the library writes to it, or to a stream of it, except `held` of
- * a stream, which you set to 0. */
+/* Where a file is being read. */
 typedef struct age_c_reader {
     uint8_t file_key[16];
     uint8_t nonce[16];
     uint64_t payload_at;  /* offset of the first block in the file */
-    uint64_t chunk;       /* number of the next chunk, from 0 */
+    uint64_t chunk;       /* number of the next chunk, from 0; at the end, of the last */
     uint64_t fault_chunk; /* after a fault 17 to 22, the number of its chunk */
-    uint32_t state;       /* 1 blocks are to come, 2 the last came whole, 3 ended, 17 to 22 a fault */
+    uint32_t state;       /* 1 blocks are to come, 2 the last came whole, 3 ended, 17 to 22 fault */
     uint32_t unused;
 } age_c_reader;
 
-/* How far a file was written. Only the library writes to it, or to a stream of it, except `held`
- * of a stream, which you set to 0. */
+/* How far a file was written. */
 typedef struct age_c_writer {
     uint8_t file_key[16];
     uint8_t nonce[16];
-    uint64_t chunk; /* number of the next chunk, from 0 */
+    uint64_t chunk; /* number of the next chunk, from 0; at the end, of the last */
     uint32_t state; /* 1 chunks are to come, 2 ended */
     uint32_t unused[5];
 } age_c_writer;
@@ -187,9 +187,9 @@ uint32_t age_c_version(void);
 
 /* What the header says that `front` begins with, before anything is opened: it has *header_len
  * bytes and *stanzas stanzas. *work is the work factor that it demands of a passphrase (UINT32_MAX
- * if it is above that), or 0 if it isn't one valid scrypt stanza alone, so that no passphrase opens
- * it. AGE_C_MORE says that the bytes end inside the header; here the nonce isn't needed. Nobody has
- * confirmed what is told: whoever can change the file can change that. (Since 1.2.0.) */
+ * if that is less), or 0 if the header isn't one valid scrypt stanza alone, so that no passphrase
+ * opens it. AGE_C_MORE says that the bytes end inside the header; here the nonce isn't needed.
+ * Nobody has confirmed what is told: whoever can change the file can change it. (Since 1.2.0.) */
 AGE_C_MUST_CHECK
 uint32_t age_c_header(const uint8_t *front, size_t front_len, size_t *header_len, size_t *stanzas,
                       uint32_t *work);
@@ -197,8 +197,8 @@ uint32_t age_c_header(const uint8_t *front, size_t front_len, size_t *header_len
 /* Stanza number `index` of that header, from 0 and less than *stanzas. Its type and the other
  * arguments are the *args_len bytes at front + *args_at, with one space between two of them. The
  * bytes of its body, which its base64 spells, are the first *written of `out`, which has room for
- * front_len bytes or more. Each call reads the whole header again: so don't look at all stanzas of a
- * hostile header, which may have 174,000. (Since 1.2.0.) */
+ * front_len bytes or more. Each call reads the whole header again: so don't look at all stanzas of
+ * a hostile header, which may have 174,000. (Since 1.2.0.) */
 AGE_C_MUST_CHECK
 uint32_t age_c_stanza(const uint8_t *front, size_t front_len, size_t index, size_t *args_at,
                       size_t *args_len, uint8_t *out, size_t out_len, size_t *written);
@@ -227,14 +227,14 @@ uint32_t age_c_open_shared(const uint8_t *front, size_t front_len, const uint8_t
                            age_c_reader *reader);
 
 /* Tells whether to call age_c_open_.. again. `seen` is how many bytes you had when you last got
- * AGE_C_MORE, from this call or from that one. Returns 0 if so, else AGE_C_MORE. It returns 0 as
- * soon as the header and the nonce are there. Calling age_c_open_.. only on 0 keeps a slow header
- * linear. (At the end of the file call it in any case, to learn what is wrong.) */
+ * AGE_C_MORE, from this call or from that one. Returns 0 if so, else AGE_C_MORE. It returns 0 at
+ * the latest when the header and the nonce are there. Calling age_c_open_.. only on 0 keeps a slow
+ * header linear. (At the end of the file call that in any case, to learn what is wrong.) */
 AGE_C_MUST_CHECK
 uint32_t age_c_may_open(const uint8_t *front, size_t front_len, size_t seen);
 
-/* Opens the next block: block_len is AGE_C_BLOCK. `out` has room for AGE_C_CHUNK bytes or more;
- * *written of them are the text. */
+/* Opens the next block: block_len is AGE_C_BLOCK. `out` has room for AGE_C_CHUNK bytes or more; the
+ * first *written of them are the text. */
 AGE_C_MUST_CHECK
 uint32_t age_c_block(age_c_reader *reader, const uint8_t *block, size_t block_len, uint8_t *out,
                      size_t out_len, size_t *written);
@@ -249,7 +249,7 @@ uint32_t age_c_end(age_c_reader *reader, const uint8_t *rest, size_t rest_len, u
  * chunk * AGE_C_CHUNK of the whole text, and its block at reader->payload_at + chunk *
  * AGE_C_BLOCK of the file. What the reader was given before is forgotten, a fault and an end too.
  * It isn't known here how many chunks the file has: past the last, no block opens. The reader of a
- * stream has to forget the open block as well, else an undamaged file gives 17:
+ * stream has to forget the open block as well, else an undamaged file may give 17:
  *
  *     answer = age_c_seek(&stream.reader, chunk);
  *     stream.held = 0;
@@ -259,15 +259,15 @@ uint32_t age_c_seek(age_c_reader *reader, uint64_t chunk);
 
 /* Opens one chunk at its place, whatever the reader was given before: age_c_seek to the chunk, and
  * then age_c_block of a whole block, or age_c_end of fewer bytes if the file ends there. `out` as
- * above. Only 0 for an end says where the text ends: at chunk * AGE_C_CHUNK + *written. If the
- * last block is whole, age_c_end without bytes has to return 0 after this, too. (Since 1.2.0.) */
+ * above. Only 0 for an end says where the text ends: at chunk * AGE_C_CHUNK + *written of this
+ * call. After a last block that is whole, age_c_end without bytes is that end. (Since 1.2.0.) */
 AGE_C_MUST_CHECK
 uint32_t age_c_open_at(age_c_reader *reader, uint64_t chunk, const uint8_t *block, size_t block_len,
                        uint8_t *out, size_t out_len, size_t *written);
 
 /* What the length of the whole file, in bytes, says of its text: on 0 a whole file of this length
- * has a text of *text_len bytes, and *last_chunk is the number of its last chunk. No whole file has
- * another length: that is answered with the fault of a payload that was cut there (AGE_C_TRUNCATED,
+ * has a text of *text_len bytes, and *last_chunk is the number of its last chunk. A length that no
+ * whole file has is answered with the fault of a payload that was cut there (AGE_C_TRUNCATED,
  * AGE_C_EMPTY_LAST or AGE_C_CHUNK_CUT), and both are set to 0. Of the reader only payload_at is
  * looked at. A length proves nothing: the file may be cut or damaged. To prove the length of the
  * text, go to *last_chunk by age_c_seek, give its block, and then the end, as always: once
@@ -279,9 +279,8 @@ uint32_t age_c_size(const age_c_reader *reader, uint64_t file_len, uint64_t *tex
 /* ---- reading in pieces ---- */
 
 /* A reader that takes its payload in pieces of any length. Set `held` to 0, as `= {0}` does, and
- * open the header with &stream->reader; give what follows payload_at by age_c_feed. To go to
- * a chunk, call age_c_seek with &stream->reader, and always set `held` to 0 after it, as shown
- * there. Nothing has to be freed, and a copy goes on from the same place. */
+ * open the header with &stream->reader; give the file from payload_at on by age_c_feed. To go to
+ * a chunk, call age_c_seek with &stream->reader, and always set `held` to 0 after it. */
 typedef struct age_c_stream {
     age_c_reader reader;
     uint32_t held; /* bytes of the block that is open: fewer than AGE_C_BLOCK */
@@ -304,15 +303,15 @@ uint32_t age_c_finish(age_c_stream *stream, uint8_t *out, size_t out_len, size_t
 
 /* Begins a file under a passphrase: pass_len is 1 to AGE_C_PASS_MAX, and work 1 to AGE_C_WORK_MAX.
  * `random` is 48 bytes, new ones for each file, as getrandom gives them: the file key, the salt and
- * the payload's nonce. `out` has room for AGE_C_SEAL_FRONT bytes or more; *written of them begin
- * the file. */
+ * the payload's nonce. `out` has room for AGE_C_SEAL_FRONT bytes or more; the first *written
+ * of them begin the file. */
 AGE_C_MUST_CHECK
 uint32_t age_c_seal_passphrase(const uint8_t *pass, size_t pass_len, uint32_t work,
                                const uint8_t *random, size_t random_len, uint8_t *out,
                                size_t out_len, size_t *written, age_c_writer *writer);
 
 /* A writer that takes its text in pieces of any length. Set `held` to 0, as `= {0}` does, and begin
- * the file with &stream->writer. Nothing has to be freed. Never go on from a copy. */
+ * the file with &stream->writer. Of its copies only one may go on. */
 typedef struct age_c_write_stream {
     age_c_writer writer;
     uint32_t held; /* bytes of the chunk that is open: at most AGE_C_CHUNK */
@@ -336,9 +335,9 @@ uint32_t age_c_finish_text(age_c_write_stream *stream, uint8_t *out, size_t out_
 
 /* ---- faults ---- */
 
-/* The name of what a call returned, as age_tool prints it: "WrongKey" of AGE_C_WRONG_KEY, "Ok" of
- * 0, "HeaderOrNonceCut" of AGE_C_MORE, "Misused" of AGE_C_MISUSED, and "Unknown" of any other
- * number. Returns a static string; don't free it. */
+/* The name of what a call returned: of a fault the one that age_tool prints, as "WrongKey"; "Ok" of
+ * 0, "HeaderOrNonceCut" of AGE_C_MORE and "Misused" of AGE_C_MISUSED. A number above 22 that no
+ * call returns is "Unknown". Returns a static string; don't free it. */
 const char *age_c_fault_name(uint32_t answer);
 
 #ifdef __cplusplus
