@@ -1,5 +1,5 @@
 -- A position that is found by reading again is the run's.
-use Rattle.std.proofs.Common.{◌≡◌, ℕ, ◌/◌, ◌<◌, ◌≤◌, min, List, [], ◌++◌, length, Option, Some, None}
+use Rattle.std.proofs.Common.{◌≡◌, ℕ, ◌/◌, ◌<◌, min, List, [], ◌++◌, length, Option, Some, None}
 use Rattle.std.proofs.Common.{refl, sym, ap, subst, ◌∙◌, arith, append_assoc, true, false, ◌*◌}
 use Rattle.std.proofs.lemmas.List.{length-append}
 use Rattle.age_io.specs.Supply.{Supply}
@@ -15,12 +15,12 @@ use Rattle.age_file.specs.Resumes.{ResumePorts, ResumeStops}
 use Rattle.age_file.specs.Again.{first_of, IsFoundAgain, ReadAgain, RestReadAgain}
 use Rattle.age_file.specs.declared.decryption.Stopped.{Stopped}
 use Rattle.age_file.specs.declared.position.PositionPolicy.TheVariants.{Kept, Dropped}
-use Rattle.age_keys.specs.Keys.{payload_key, position_key, box, unbox}
+use Rattle.age_keys.specs.Keys.{payload_key, box, unbox}
 use Rattle.age_keys.specs.inner.PayloadBox.{box_valid}
-use Rattle.age_file.specs.Bindings.{file_id, chain, chain_over, position_tag}
+use Rattle.age_file.specs.Bindings.{chain_over}
 use Rattle.age_file.specs.Runs.{Ports, Run, IsRun, IsPositionOf, Reads, held, run_text, segment_of, run_outcome}
 use Rattle.age_file.specs.declared.position.Position.{Position}
-use Rattle.age_file.proofs.UndamagedLemmas.{left_of, none_left, same_front}
+use Rattle.age_file.proofs.ByteLemmas.{left_of, none_left, same_front, regroup}
 use Rattle.age_file.proofs.AgainRunLemmas.{stand_alike}
 
 -- two files that were opened at the front of the same bytes
@@ -43,14 +43,8 @@ fronts one A B was now before after bytes r q shown again a b =
     let y = q.skipped ++ q.bytes in
     let f = r.file in
     let g = q.file in
-    let whole_f : bytes ≡ f.header_bytes ++ (f.nonce ++ (x ++ s.0)) =
-    s.1 ∙ (append_assoc (f.header_bytes ++ f.nonce) x s.0
-    ∙ append_assoc f.header_bytes f.nonce (x ++ s.0)) in
-    let whole_g : bytes ≡ g.header_bytes ++ (g.nonce ++ (y ++ t.0)) =
-    t.1 ∙ (append_assoc (g.header_bytes ++ g.nonce) y t.0
-    ∙ append_assoc g.header_bytes g.nonce (y ++ t.0)) in
     let e : f.header_bytes ++ (f.nonce ++ (x ++ s.0)) ≡ g.header_bytes ++ (g.nonce ++ (y ++ t.0)) =
-    sym whole_f ∙ whole_g in
+    sym (s.1 ∙ regroup f.header_bytes f.nonce x s.0) ∙ (t.1 ∙ regroup g.header_bytes g.nonce y t.0) in
     let same = one f.header g.header f.header_bytes g.header_bytes _ _ a.text.spells b.text.spells e
     in
     let behind = (same_front f.header_bytes g.header_bytes _ _ (ap length same.1) e).1 in
@@ -70,23 +64,11 @@ carried : (r q : Run) (p : Position) (limit : r.first < chunk_limit) → q.file.
     ≡ min (length (held r) / chunk_length) (run_outcome r).index
     → IsPositionOf q p → IsPositionOf r p
 carried r q p limit key head nonce begins wrote place at =
-    let id : p.file_id ≡ file_id r.file.header_bytes r.file.nonce =
-    at.own ∙ (ap (λ (h : List ℕ). file_id h q.file.nonce) head
-    ∙ ap (file_id r.file.header_bytes) nonce) in
-    let over : p.chain ≡ chain_over p.index (held r) =
-    at.chain_is ∙ ap (chain_over p.index) wrote in
-    let tag : p.tag ≡ position_tag (position_key r.file.key r.file.nonce) p.index p.file_id p.chain =
-    at.tagged ∙ (ap (λ (k : List ℕ). position_tag (position_key k q.file.nonce) p.index p.file_id
-    p.chain) key
-    ∙ ap (λ (k : List ℕ). position_tag (position_key r.file.key k) p.index p.file_id p.chain)
-    nonce) in
-    let index : p.index ≡ min (length (held r) / chunk_length) (run_outcome r).index =
-    at.index ∙ place in
     record {
-      index = index;
-      own = id;
-      chain_is = over;
-      tagged = tag;
+      index = at.index ∙ place;
+      own = cc (at.own, head, nonce);
+      chain_is = at.chain_is ∙ ap (chain_over p.index) wrote;
+      tagged = cc (at.tagged, key, nonce);
     }
 
 -- Two runs by one key from the same chunk, after the same text and over the same bytes, which wrote
@@ -109,7 +91,7 @@ module _ (r q : Run) (k : ℕ) (at : Position) (left rest : List ℕ) (limit : k
   open_r = unbox r.file.key r.file.nonce
 
   keys : unbox q.file.key q.file.nonce ≡ open_r
-  keys = ap (λ (c : List ℕ). unbox c q.file.nonce) key ∙ ap (unbox r.file.key) nonce
+  keys = cc (key, nonce)
 
   begins_r : IsPrefixOf r.out (released open_r chunk_length (part_of r))
   begins_r = subst (λ (s : Segment). IsPrefixOf r.out (released open_r chunk_length s))

@@ -1,10 +1,10 @@
 -- Two runs over the same bytes that wrote as many: they stand at the same place.
-use Rattle.std.proofs.Common.{◌≡◌, ℕ, ◌+◌, ◌*◌, ◌/◌, ◌<◌, ◌≤◌, min, List, [], ◌∷◌, ◌++◌, length, take, Option, drop, Bool, true, false, refl, sym, ap, subst}
-use Rattle.std.proofs.Common.{◌∙◌, arith, inl, inr, true≢false, ⊎_elim, append_assoc, append-nil}
+use Rattle.std.proofs.Common.{◌≡◌, ℕ, ◌+◌, ◌*◌, ◌/◌, ◌<◌, ◌≤◌, min, List, [], ◌∷◌, ◌++◌, length, take, Option, Bool, true, false, refl, sym, ap, subst}
+use Rattle.std.proofs.Common.{◌∙◌, arith, inl, inr, append-nil}
 use Rattle.std.specs.Prelude.{◌⊎◌, nat_lt, slice_get}
 use Rattle.std.specs.List.{flat_map}
 use Rattle.std.proofs.lemmas.Grind.{flat_map-append}
-use Rattle.std.proofs.lemmas.List.{length-append, length-take, take-append-drop, length-take-le}
+use Rattle.std.proofs.lemmas.List.{length-append, length-take}
 use Rattle.std.proofs.lemmas.Bool.{cases_lt}
 use Rattle.std.proofs.Math.Nat.{le-div_iff_mul-le}
 use Rattle.age_chunk.specs.ChunkBoxes.{IsChunkBox, tag_length}
@@ -16,22 +16,7 @@ use Rattle.age_stream.proofs.GoingLemmas.{going, going_outcome}
 use Rattle.age_stream.proofs.GrowingLemmas.{begins_stop}
 use Rattle.age_stream.proofs.TableLemmas.{by_blocks}
 use Rattle.age_stream.proofs.LawLemmas.{chunks_are_counted, closed_stays, end_closes, released_grows}
-use Rattle.age_file.proofs.ByteLemmas.{prefix_trans}
-use Rattle.age_file.proofs.UndamagedLemmas.{same_front}
-
--- the longer of two beginnings of the same bytes
-longer : (xs ys a b : List ℕ) → xs ++ a ≡ ys ++ b → length xs ≤ length ys
-    → (more : List ℕ) × (ys ≡ xs ++ more) × (a ≡ more ++ b)
-longer xs ys a b e le =
-    let n = length xs in
-    let parts : take n ys ++ drop n ys ≡ ys = take-append-drop n ys in
-    let all : xs ++ a ≡ take n ys ++ (drop n ys ++ b) =
-    e ∙ (ap (λ (t : List ℕ). t ++ b) (sym parts) ∙ append_assoc (take n ys) (drop n ys) b) in
-    let same = same_front xs (take n ys) a (drop n ys ++ b) (sym (length-take-le n ys le)) all in (
-      drop n ys,
-      sym parts ∙ ap (λ (t : List ℕ). t ++ drop n ys) (sym same.0),
-      same.1,
-    )
+use Rattle.age_file.proofs.ByteLemmas.{prefix_trans, same_front, longer}
 
 -- nothing before nothing
 none_more : (more b : List ℕ) → [] ≡ more ++ b → (more ≡ []) × (b ≡ [])

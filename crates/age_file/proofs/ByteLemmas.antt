@@ -1,14 +1,14 @@
 -- Bytes that are shown, one call after another.
-use Rattle.std.proofs.Common.{◌≡◌, ℕ, ◌≤◌, List, [], ◌++◌, length, take, drop, Option, Some, None, sym, ap, subst, ◌∙◌, append_assoc, append-nil, inl, inr}
+use Rattle.std.proofs.Common.{◌≡◌, ℕ, ◌≤◌, List, [], ◌++◌, length, take, drop, Option, Some, None, refl, sym, ap, subst, ◌∙◌, append_assoc, append-nil, inl, inr}
 use Rattle.std.proofs.Common.{arith}
 use Rattle.std.specs.Prelude.{◌⊎◌, IfSome}
 use Rattle.std.specs.Io.KnownBytes as known
 use Rattle.age_io.specs.Supply.{Supply, Consumes, IsAtEnd}
-use Rattle.std.proofs.lemmas.List.{take-append-drop}
+use Rattle.std.proofs.lemmas.List.{take-append-drop, take_at, drop_at, length-take-le}
 use Rattle.age_io.specs.Io.{SourceView}
 use Rattle.age_stanza.specs.declared.fault.HeadFault.{HeadFault}
 use Rattle.age_stanza.specs.declared.fault.HeadKind.{HeadKind}
-use Rattle.age_stanza.specs.declared.fault.HeadKind.TheVariants.{NotAge, Armored, BadStanzaLine, BadBody, BadEndLine, NoStanza, HeadTooLong, HeadCut, Memory}
+use Rattle.age_stanza.specs.declared.fault.HeadKind.TheVariants.{Memory}
 use Rattle.age_stanza.specs.Parsing.{HasHeader, IsFault, memory_fault}
 use Rattle.age_io.proofs.SupplyLemmas.{Consumes-nil}
 use Rattle.age_stanza.proofs.AnyPiecesLemmas.{more_fault}
@@ -20,7 +20,7 @@ use Rattle.age_file.specs.Runs.{pull_room, EndsInHeader, InHeader, IsCut, IsHead
 use Rattle.age_fault.specs.inner.Faults.{fault_of, fault_by_kind}
 use Rattle.age_fault.specs.declared.fault.FileFault.{FileFault}
 use Rattle.age_fault.specs.declared.fault.FileFault.TheVariants.{Head, Read, ReadNeverEnds, Memory as FileMemory}
-use Rattle.age_file.specs.inner.Readers.{Start, start_at, start_after, Pulled, PullFails, ReaderView, reader_view}
+use Rattle.age_file.specs.inner.Readers.{Start, start_at, start_after, Pulled, PullFails, ReaderView}
 use Rattle.age_fault.specs.Faults.{HasFailed}
 use Rattle.age_file.specs.inner.Unread.{Unread}
 
@@ -31,6 +31,49 @@ prefix_trans x y z p q = (
   sym (append_assoc x p.0 q.0)
       ∙ (ap (λ (t : List ℕ). t ++ q.0) p.1 ∙ q.1),
 )
+
+-- a source that showed its bytes shows those that are left
+pub left_of : (before after : Supply) (bytes used : List ℕ)
+    → before.left ≡ Some bytes → Consumes before after used
+    → (rest : List ℕ) × (bytes ≡ used ++ rest) × (after.left ≡ Some rest)
+left_of before after bytes used is consumed =
+    left after.left (subst (λ (b : Option (List ℕ)). known.Consumes b after.left used) is
+    consumed.left) where
+      left : (after : Option (List ℕ)) → known.Consumes (Some bytes) after used
+          → (rest : List ℕ) × (bytes ≡ used ++ rest) × (after ≡ Some rest)
+      left None h = absurd h
+      left (Some rest) h = (rest, h, refl)
+
+pub none_left : (after : Supply) (rest : List ℕ) → after.left ≡ Some rest → IsAtEnd after
+    → rest ≡ []
+none_left after rest is ended = subst known.IsAtEnd is ended.1
+
+-- two texts that begin with as many bytes
+pub same_front : (a b x y : List ℕ) → length a ≡ length b → a ++ x ≡ b ++ y → (a ≡ b) × (x ≡ y)
+same_front a b x y len e = (
+  sym (take_at a x (length b) len) ∙ (ap (take (length b)) e ∙ take_at b y (length b) refl),
+  sym (drop_at a x (length b) len) ∙ (ap (drop (length b)) e ∙ drop_at b y (length b) refl),
+)
+
+-- the longer of two beginnings of the same bytes
+pub longer : (xs ys a b : List ℕ) → xs ++ a ≡ ys ++ b → length xs ≤ length ys
+    → (more : List ℕ) × (ys ≡ xs ++ more) × (a ≡ more ++ b)
+longer xs ys a b e le =
+    let n = length xs in
+    let parts : take n ys ++ drop n ys ≡ ys = take-append-drop n ys in
+    let all : xs ++ a ≡ take n ys ++ (drop n ys ++ b) =
+    e ∙ (ap (λ (t : List ℕ). t ++ b) (sym parts) ∙ append_assoc (take n ys) (drop n ys) b) in
+    let same = same_front xs (take n ys) a (drop n ys ++ b) (sym (length-take-le n ys le)) all in (
+      drop n ys,
+      sym parts ∙ ap (λ (t : List ℕ). t ++ drop n ys) (sym same.0),
+      same.1,
+    )
+
+-- what was read of a file, part by part
+pub regroup : (front nonce behind rest : List ℕ)
+    → ((front ++ nonce) ++ behind) ++ rest ≡ front ++ (nonce ++ (behind ++ rest))
+regroup front nonce behind rest =
+    append_assoc (front ++ nonce) behind rest ∙ append_assoc front nonce (behind ++ rest)
 
 -- ---- headers
 
@@ -67,15 +110,8 @@ fails_by_kind : (old new : SourceView) (kind : HeadKind) (fault : HeadFault)
     → StopsAtHeader old.supply new.supply
     → ReportsFault old.supply new.supply fault
     → HeadFails InHeader old new (fault_by_kind kind fault)
-fails_by_kind old new NotAge fault stops reported = reported
-fails_by_kind old new Armored fault stops reported = reported
-fails_by_kind old new BadStanzaLine fault stops reported = reported
-fails_by_kind old new BadBody fault stops reported = reported
-fails_by_kind old new BadEndLine fault stops reported = reported
-fails_by_kind old new NoStanza fault stops reported = reported
-fails_by_kind old new HeadTooLong fault stops reported = reported
-fails_by_kind old new HeadCut fault stops reported = reported
 fails_by_kind old new Memory fault stops reported = stops
+fails_by_kind old new other fault stops reported = reported
 
 -- what is reported of the bytes that were read is reported of all that the source had
 abbrev OfAll : Option (List ℕ) → HeadFault → Type 0
@@ -154,18 +190,18 @@ cut_pulled start now pulls held bytes none h =
     subst (λ (t : List ℕ). Pulled start now pulls t)
     (ap (λ (t : List ℕ). held ++ t) none ∙ append-nil held) h
 
--- a header was not read, since a pull gave nothing
-pub pull_fails : (old mid new : SourceView) (was now : Unread) (held : List ℕ) (fault : FileFault)
-    → mid.failed ≡ old.failed
-    → EndsInHeader held → Pulled (start_at old.supply) new.supply now.pulls held
-    → PullFails (reader_view mid was) (reader_view new now) fault → HeadFails InHeader old new fault
-pull_fails old mid new was now held Read same inside all f =
-    ((held, all.consumed, inside), subst (λ (m : ℕ). HasFailed m new.failed new.failing) same f)
-pull_fails old mid new was now held ReadNeverEnds same inside all f = (
-  (held, all.consumed, inside),
+-- no more came, and what came is sound
+pub pull_fails : (Sound : Supply → Supply → Type 0) (old : SourceView) (mid now : ReaderView) (held : List ℕ)
+    (fault : FileFault) → mid.source.failed ≡ old.failed → Sound old.supply now.source.supply
+    → Pulled (start_at old.supply) now.source.supply now.unread.pulls held
+    → PullFails mid now fault → HeadFails Sound old now.source fault
+pull_fails Sound old mid now held Read same sound all f =
+    (sound, subst (λ (m : ℕ). HasFailed m now.source.failed now.source.failing) same f)
+pull_fails Sound old mid now held ReadNeverEnds same sound all f = (
+  sound,
   (held, all.consumed, (omega (arith, all.each_gave, f.0), omega (arith, all.small, f.0))),
 )
-pull_fails old mid new was now held other same inside all f = absurd f
+pull_fails Sound old mid now held other same sound all f = absurd f
 
 -- no more came, after pulls none of which failed
 pub pull_fails_since : (old mid new : ReaderView) (fault : FileFault)

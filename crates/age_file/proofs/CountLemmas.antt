@@ -243,6 +243,17 @@ module _ (sealing : List ℕ → List ℕ → List ℕ) (opening : List ℕ → 
         whole = open_text base next len' (all ∙ sym m.texts);
       }
 
+  -- a tally that stays counts the same chunks of more text
+  chain_stays : (base : List ℕ) (s next : Segment) (more : List ℕ) (was now : Tally) → length base ≡ s.start * n
+      → released opening n next ≡ released opening n s ++ more → was.index ≡ at s → now.index ≡ was.index
+      → now.chain ≡ was.chain → CountsChunks keep opening n base s [] was
+      → now.chain ≡ chain_if keep (first_chunks n now.index (base ++ released opening n next))
+  chain_stays base s next more was now len e old index chain_same m =
+      chain_same ∙ (m.chain_is
+      ∙ (ap (λ (k : ℕ). chain_if keep (first_chunks n k (base ++ released opening n s))) old
+      ∙ (ap (chain_if keep) (sym (front_stays base s next more len e))
+      ∙ ap (λ (k : ℕ). chain_if keep (first_chunks n k (base ++ released opening n next))) (sym (index ∙ old)))))
+
   none_lent : (ts : List (List ℕ)) → length ts ≡ 0 → flat_map (λ (t : List ℕ). t) ts ≡ []
   none_lent [] z = refl
   none_lent (t ∷ ts) z = absurd (omega (arith, z))
@@ -290,12 +301,8 @@ module _ (sealing : List ℕ → List ℕ → List ℕ) (opening : List ℕ → 
             (let same : at next ≡ at s = omega (arith, le, grown) in
             let f = a.still (omega (arith, old, is, same)) in
             mark_all base next now len' timely' (f.0 ∙ (old ∙ sym same))
-            (f.1 ∙ (m.chain_is ∙ (ap (λ (k : ℕ). chain_if keep
-            (first_chunks n k (base ++ released opening n s))) old
-            ∙ (ap (chain_if keep) (sym (front_stays base s next (flat_map (λ (t : List ℕ). t) ts)
-            len (more_released s piece ts more)))
-            ∙ ap (λ (k : ℕ). chain_if keep (first_chunks n k (base ++ released opening n next)))
-            (sym (f.0 ∙ old)))))))
+            (chain_stays base s next (flat_map (λ (t : List ℕ). t) ts) was now len (more_released s piece ts more)
+            old f.0 f.1 m))
       ]
 
   -- a call that lent nothing
@@ -305,25 +312,14 @@ module _ (sealing : List ℕ → List ℕ → List ℕ) (opening : List ℕ → 
       → CountsChunks keep opening n base s [] was
       → CountsChunks keep opening n base (with_piece s piece) [] was
   mark_none base s piece was len timely timely' texts m =
-      let next = with_piece s piece in
-      let len' : length base ≡ next.start * n =
-      len ∙ ap (λ (k : ℕ). k * n) (sym (piece_start s piece)) in
-      let few : length {A = List ℕ} [] ≤ 1 = omega arith in
-      let more : IsMore s piece [] = record { texts = texts; few = few } in
+      let none : IsMore s piece [] = record { texts = texts; few = omega arith } in
       let old = mark_index base s was len m in
-      let grown = index_stays s piece timely in
-      let same : at next ≡ at s =
-      elim (cases_lt (at s) (at next)) [
-        | inl lt ↦ (let r = raised base s piece [] len timely more lt in absurd
-            (omega (arith, r.one)))
-        | inr le ↦ omega (arith, le, grown)
-      ] in
-      mark_all base next was len' timely' (old ∙ sym same)
-      (m.chain_is ∙ (ap (λ (k : ℕ). chain_if keep (first_chunks n k (base ++ released opening n s)))
-      old
-      ∙ (ap (chain_if keep) (sym (front_stays base s next [] len (more_released s piece [] more)))
-      ∙ ap (λ (k : ℕ). chain_if keep (first_chunks n k (base ++ released opening n next)))
-      (sym old))))
+      mark_step base s piece [] (at (with_piece s piece)) was was len timely timely' texts (omega arith) refl
+      (record {
+        further = λ lt. absurd (omega (arith, (raised base s piece [] len timely none (omega (arith, lt, old))).one));
+        still = λ le. (refl, refl);
+      })
+      m
 
   -- what is known of the text if it was not written
   cut_len : (base : List ℕ) (s next : Segment) (out unwritten : List ℕ)
@@ -423,10 +419,7 @@ module _ (sealing : List ℕ → List ℕ → List ℕ) (opening : List ℕ → 
             ] in
             index ∙ (old ∙ min_is (length text' - length unwritten) n (at s) j positive
             (omega (arith, left, whole)) grows side);
-        chain_is = chain_same ∙ (m.chain_is
-            ∙ (ap (λ (k : ℕ). chain_if keep (first_chunks n k text)) old
-            ∙ (ap (chain_if keep) (sym (front_stays base s next (out ++ unwritten) len e))
-            ∙ ap (λ (k : ℕ). chain_if keep (first_chunks n k text')) (sym (index ∙ old)))));
+        chain_is = chain_stays base s next (out ++ unwritten) was now len e old index chain_same m;
       }
 
   -- the end, of whose text this much was written
@@ -451,10 +444,7 @@ module _ (sealing : List ℕ → List ℕ → List ℕ) (opening : List ℕ → 
             ∙ same in
             index ∙ (old ∙ min_is (length text' - length unwritten) n (at s) j positive
             (omega (arith, left, c.within)) (omega (arith, still)) (inr still));
-        chain_is = chain_same ∙ (m.chain_is
-            ∙ (ap (λ (k : ℕ). chain_if keep (first_chunks n k text)) old
-            ∙ (ap (chain_if keep) (sym (front_stays base s next (out ++ unwritten) len e))
-            ∙ ap (λ (k : ℕ). chain_if keep (first_chunks n k text')) (sym (index ∙ old)))));
+        chain_is = chain_stays base s next (out ++ unwritten) was now len e old index chain_same m;
       }
 
   -- before any byte

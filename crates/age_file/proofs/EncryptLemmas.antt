@@ -15,8 +15,7 @@ use Rattle.age_io.specs.Io.{SourceView}
 use Rattle.age_file.specs.inner.Readers.{WriterView}
 use Rattle.age_file.specs.Runs.{Ports, ports, NoneFailed, WriteFailed}
 use Rattle.age_fault.specs.declared.fault.FileFault.{FileFault}
-use Rattle.age_fault.specs.declared.fault.FileFault.TheVariants.{Head, Key, NonceCut, Stream, BadPosition, OtherFile, ShortText, Read, Write, Memory}
-use Rattle.age_fault.specs.declared.fault.FileFault.TheVariants.{ReadNeverEnds, PositionForged, OldTextDiffers}
+use Rattle.age_fault.specs.declared.fault.FileFault.TheVariants.{Stream, Read, Write, Memory, ReadNeverEnds}
 use Rattle.age_io.proofs.TakenLemmas.{Appends-trans}
 
 mac_holds : (pass : List ℕ) (log : ℕ) (salt key : List ℕ)
@@ -125,15 +124,7 @@ module _ (s : SecretView) (front : List ℕ) (begins : BeginsFile s front) where
           ∙ read_failed,
     )
     why_stopped text out ReadNeverEnds f = (last_missing text out f.0, f.1, none_failed f.2)
-    why_stopped text out (Head fault) f = absurd f
-    why_stopped text out (Key fault) f = absurd f
-    why_stopped text out NonceCut f = absurd f
-    why_stopped text out BadPosition f = absurd f
-    why_stopped text out OtherFile f = absurd f
-    why_stopped text out ShortText f = absurd f
-    why_stopped text out Memory f = absurd f
-    why_stopped text out PositionForged f = absurd f
-    why_stopped text out OldTextDiffers f = absurd f
+    why_stopped text out other f = absurd f
 
     stopped : (fault : FileFault) → SealsFront (box s.key s.nonce) chunk_length mid new mid_written
         new_written fault → EncryptsFront s old new fault
@@ -159,18 +150,7 @@ module _ (s : SecretView) (front : List ℕ) (begins : BeginsFile s front) where
         → SealsFront (box s.key s.nonce) chunk_length mid new mid_written new_written fault
         → EncryptFails s old new fault
     sealing_stopped Memory a = absurd a.fails
-    sealing_stopped (Stream fault) a = stopped (Stream fault) a
-    sealing_stopped Read a = stopped Read a
-    sealing_stopped Write a = stopped Write a
-    sealing_stopped ReadNeverEnds a = stopped ReadNeverEnds a
-    sealing_stopped (Head fault) a = stopped (Head fault) a
-    sealing_stopped (Key fault) a = stopped (Key fault) a
-    sealing_stopped NonceCut a = stopped NonceCut a
-    sealing_stopped BadPosition a = stopped BadPosition a
-    sealing_stopped OtherFile a = stopped OtherFile a
-    sealing_stopped ShortText a = stopped ShortText a
-    sealing_stopped PositionForged a = stopped PositionForged a
-    sealing_stopped OldTextDiffers a = stopped OldTextDiffers a
+    sealing_stopped other a = stopped other a
 
     pub file_stopped : (result : Result Written FileFault)
         → IfErr result (SealsFront (box s.key s.nonce) chunk_length mid new mid_written new_written)

@@ -14,6 +14,7 @@ use Rattle.age_file.specs.Runs.{Ports, Run, segment_of, run_text, held}
 use Rattle.age_file.specs.Decrypts.{DecryptEnds, WritesText}
 use Rattle.age_file.specs.InARow.{GaveFile}
 use Rattle.age_file.specs.declared.decryption.Done.{Done}
+use Rattle.age_file.proofs.ByteLemmas.{left_of, none_left}
 use Rattle.age_file.proofs.WholePayloadLemmas.{whole_payload, is_payload_of}
 use Rattle.age_file.specs.declared.decryption.Stopped.{Stopped}
 
@@ -81,14 +82,6 @@ module _ (Allows : Header → List ℕ → Type 0) (old new : Ports) where
     after None wrote = absurd wrote
     after (Some all) wrote = ap Some wrote
 
-  all_came : (a b : Option (List ℕ)) (coming bytes : List ℕ) → a ≡ Some coming
-      → known.Consumes a b bytes → known.IsAtEnd b → coming ≡ bytes
-  all_came a b coming bytes is read ended =
-      after b (subst (λ (x : Option (List ℕ)). known.Consumes x b bytes) is read) ended where
-        after : (b : Option (List ℕ)) → known.Consumes (Some coming) b bytes → known.IsAtEnd b → coming ≡ bytes
-        after None read ended = absurd read
-        after (Some rest) read ended = read ∙ ap (λ (t : List ℕ). bytes ++ t) ended ∙ append-nil bytes
-
   pub done_is_file : (result : Result Done Stopped) (run : Option Run) (coming held : List ℕ)
       → IfOk result (λ done. IsSomeAnd run (DecryptEnds Allows old new done))
       → old.source.supply.left ≡ Some coming → old.sink.taken.contents ≡ Some held
@@ -99,8 +92,9 @@ module _ (Allows : Header → List ℕ → Type 0) (old new : Ports) where
   done_is_file (Ok done) (Some r) coming held d shown kept =
       let gave = gave_file done r d in
       let f = gave.1 in
-      let all : coming ≡ f.bytes = all_came old.source.supply.left new.source.supply.left coming f.bytes
-      shown f.read.left f.at_end.1 in (
+      let left = left_of old.source.supply new.source.supply coming f.bytes shown f.read in
+      let all : coming ≡ f.bytes = left.1 ∙ ap (λ (t : List ℕ). f.bytes ++ t)
+      (none_left new.source.supply left.0 left.2 f.at_end) ∙ append-nil f.bytes in (
         gave.0,
         f.header,
         f.key,

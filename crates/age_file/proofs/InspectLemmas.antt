@@ -1,20 +1,15 @@
 -- What a report of a header and a length says of all bytes.
-use Rattle.std.proofs.Common.{◌≡◌, ◌∙◌, ◌+◌, ◌-◌, ◌++◌, ℕ, List, length, Option, Some, None, arith, sym, ap, subst}
-use Rattle.std.specs.Io.KnownBytes as known
+use Rattle.std.proofs.Common.{◌≡◌, ◌∙◌, ◌++◌, ℕ, List, length, Some, arith, ap, subst}
 use Rattle.age_io.specs.Supply.{Supply}
 use Rattle.std.proofs.lemmas.List.{length-append, append_assoc}
+use Rattle.age_file.proofs.ByteLemmas.{left_of}
 use Rattle.age_file.specs.Reports.{InspectsFront, IsPlainOf, IsReport}
 use Rattle.age_file.specs.declared.report.Report.{Report}
-
--- what was consumed of known bytes begins them
-left_of : (bytes : List ℕ) (new : Option (List ℕ)) (read : List ℕ) → known.Consumes (Some bytes) new read → (left : List ℕ) × (bytes ≡ read ++ left)
-left_of bytes None read h = absurd h
-left_of bytes (Some left) read h = (left, h)
 
 pub whole_of : (size : ℕ) (old : Supply) (bytes : List ℕ) (new : Supply) (r : Report) → old.left ≡ Some bytes → size ≡ length bytes
     → InspectsFront size old new r → IsReport bytes r
 whole_of size old bytes new r is all f =
-    let rest = left_of bytes new.left (f.front ++ f.more) (subst (λ (o : Option (List ℕ)). known.Consumes o new.left (f.front ++ f.more)) is f.read.left) in
+    let rest = left_of old new bytes (f.front ++ f.more) is f.read in
     let parts = rest.1 ∙ append_assoc f.front f.more rest.0 in
     let left : r.rest ≡ length (f.more ++ rest.0) = omega (arith, f.rest_is, all, ap length parts, length-append f.front (f.more ++ rest.0)) in
     record {

@@ -121,15 +121,20 @@ module _ {B : Type 0} (opening : B → List ℕ → List ℕ → Option (List �
       → CountsChunks keep (opening old.key) n base s [] was
       → CountsChunks keep (opening old.key) n base (with_piece s fed) unwritten now
 
+  -- for each segment that the opener stood for, it stands for the one with more bytes, and lent these texts
+  abbrev StandsOn : OpenerView B → OpenerView B → List ℕ → Type 0
+  StandsOn old new fed = (s : Segment) → Stands opening n old s → Stands opening n new (with_piece s fed)
+
+  abbrev Lends : OpenerView B → List ℕ → List (List ℕ) → Type 0
+  Lends old fed ts = (s : Segment) → Stands opening n old s
+      → (outcome (opening old.key) n (with_piece s fed)).texts ≡ (outcome (opening old.key) n s).texts ++ ts
+
   -- what the opener lent of a piece was written whole, and counted
   pub counts_whole : (sealing : List ℕ → List ℕ → List ℕ) (old new : OpenerView B) (was now : Tally)
       (fed : List ℕ) (chunk : Option (Bor (List ℕ)))
       (index : ℕ)
       → IsChunkBox sealing (opening old.key) → new.key ≡ old.key → index ≡ new.index
-      → ((s : Segment) → Stands opening n old s → Stands opening n new (with_piece s fed))
-      → ((s : Segment) → Stands opening n old s
-      → (outcome (opening old.key) n (with_piece s fed)).texts
-      ≡ (outcome (opening old.key) n s).texts ++ chunk_texts chunk)
+      → StandsOn old new fed → Lends old fed (chunk_texts chunk)
       → AdvancesTally was.index was.chain index (link_if was.chain (chunk_bytes chunk)) now
       → IsMarkedOn old fed was now []
   counts_whole sealing old new was now fed chunk index valid key is stands texts a keep positive s
@@ -146,10 +151,7 @@ module _ {B : Type 0} (opening : B → List ℕ → List ℕ → Option (List �
   pub counts_refused : (sealing : List ℕ → List ℕ → List ℕ) (old new : OpenerView B) (was : Tally)
       (fed : List ℕ)
       → IsChunkBox sealing (opening old.key)
-      → ((s : Segment) → Stands opening n old s → Stands opening n new (with_piece s fed))
-      → ((s : Segment) → Stands opening n old s
-      → (outcome (opening old.key) n (with_piece s fed)).texts
-      ≡ (outcome (opening old.key) n s).texts ++ [])
+      → StandsOn old new fed → Lends old fed []
       → IsMarkedOn old fed was was []
   counts_refused sealing old new was fed valid stands texts keep positive s base len h m =
       mark_none sealing (opening old.key) valid n positive keep base s fed was len h.timely
@@ -160,10 +162,7 @@ module _ {B : Type 0} (opening : B → List ℕ → List ℕ → Option (List �
       (fed : List ℕ) (chunk : Option (Bor (List ℕ)))
       (out unwritten : List ℕ)
       → IsChunkBox sealing (opening old.key)
-      → ((s : Segment) → Stands opening n old s → Stands opening n new (with_piece s fed))
-      → ((s : Segment) → Stands opening n old s
-      → (outcome (opening old.key) n (with_piece s fed)).texts
-      ≡ (outcome (opening old.key) n s).texts ++ chunk_texts chunk)
+      → StandsOn old new fed → Lends old fed (chunk_texts chunk)
       → chunk_bytes chunk ≡ out ++ unwritten → 0 < length unwritten → now.index ≡ was.index
       → now.chain ≡ was.chain → IsMarkedOn old fed was now unwritten
   counts_cut sealing old new was now fed chunk out unwritten valid stands texts lent some index
@@ -176,11 +175,7 @@ module _ {B : Type 0} (opening : B → List ℕ → List ℕ → Option (List �
   pub fed_front : (old new : OpenerView B) (was now : WriterView) (piece : List ℕ) (taken : ℕ)
       (chunk : Option (Bor (List ℕ))) (out unwritten : List ℕ)
       → new.key ≡ old.key
-      → ((s : Segment) → Stands opening n old s
-      → Stands opening n new (with_piece s (take taken piece)))
-      → ((s : Segment) → Stands opening n old s
-      → (outcome (opening old.key) n (with_piece s (take taken piece))).texts
-      ≡ (outcome (opening old.key) n s).texts ++ chunk_texts chunk)
+      → StandsOn old new (take taken piece) → Lends old (take taken piece) (chunk_texts chunk)
       → chunk_bytes chunk ≡ out ++ unwritten → Appends was.sink.taken now.sink.taken out
       → now.sink.label ≡ was.sink.label → now.tally.written
       ≡ was.tally.written + length out

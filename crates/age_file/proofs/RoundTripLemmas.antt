@@ -1,7 +1,7 @@
 -- What was encrypted under a passphrase, decrypted with it.
 use Rattle.age_io.specs.Supply.{Supply}
 use Rattle.age_io.specs.Taken.{Appends}
-use Rattle.std.proofs.Common.{◌≡◌, ℕ, ◌≤◌, List, [], ◌++◌, Option, Some, None, sym, ap, subst, ◌∙◌}
+use Rattle.std.proofs.Common.{◌≡◌, ℕ, ◌≤◌, List, Option, Some}
 use Rattle.std.specs.Prelude.{Result, Ok, Err, MatchResult}
 use Rattle.age_stanza.specs.Laws.{OneHeader}
 use Rattle.age_chunk.specs.Payload.{chunk_count, chunk_length, chunk_limit}
@@ -15,7 +15,7 @@ use Rattle.age_file.specs.InARow.{DecryptAnswers, IsSecret, passphrase_identity,
 use Rattle.age_file.specs.declared.position.PositionPolicy.{PositionPolicy}
 use Rattle.age_file.specs.declared.decryption.Done.{Done}
 use Rattle.age_file.specs.declared.decryption.Stopped.{Stopped}
-use Rattle.age_file.proofs.UndamagedLemmas.{undamaged, undamaged_done}
+use Rattle.age_file.proofs.OneCallLemmas.{undamaged_decrypted}
 
 pub whole : PassphraseOpens → (s : SecretView) (max_log : ℕ) (text bytes : List ℕ) (coming : Supply)
     → coming.left ≡ Some bytes → IsSecret s
@@ -60,12 +60,10 @@ answered : (keep : PositionPolicy) → OneHeader
     → DecryptAnswers PassphraseIdentity IsPassphraseKey PassphraseRefuses keep w now last result run
     → MatchResult result (λ done. Appends now.sink.taken last.sink.taken text)
     (λ stopped. StopsOutside stopped.fault)
-answered keep one w text now last (Ok done) (Some r) u f =
-    (undamaged_done one (IsPassphraseKey w) (PassphraseRefuses w) now last done.written r text u f.0
-    f.1).0
-answered keep one w text now last (Ok done) None u f = absurd f
+answered keep one w text now last (Ok done) run u f =
+    (undamaged_decrypted one (IsPassphraseKey w) (PassphraseRefuses w) keep now last text (Ok done) run f tt u).0
 answered keep one w text now last (Err s) run u f =
-    undamaged keep one (IsPassphraseKey w) (PassphraseRefuses w) now last run s text u f
+    undamaged_decrypted one (IsPassphraseKey w) (PassphraseRefuses w) keep now last text (Err s) run tt f u
 
 pub there_and_back : OneHeader → PassphraseOpens → RoundTrip
 there_and_back one opens keep s max_log was became now last written e result run is within closed

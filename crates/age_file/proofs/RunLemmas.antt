@@ -1,5 +1,5 @@
 -- What a run wrote of a text, if what opens is the writer's; and its position.
-use Rattle.std.proofs.Common.{◌≡◌, ℕ, ◌*◌, ◌<◌, ◌≤◌, ◌/◌, min, List, ◌++◌, length, take, Option, Some, None, refl, sym, ap, subst, ◌∙◌, arith, append_assoc}
+use Rattle.std.proofs.Common.{◌≡◌, ℕ, ◌*◌, ◌<◌, ◌≤◌, ◌/◌, List, ◌++◌, length, take, sym, ap, subst, ◌∙◌, arith, append_assoc}
 use Rattle.std.specs.Simd.{first_chunks}
 use Rattle.std.proofs.lemmas.List.{length-append}
 use Rattle.std.proofs.Math.Nat.{le-div_iff_mul-le}
@@ -8,16 +8,11 @@ use Rattle.age_chunk.proofs.FirstChunkLemmas.{first_chunks-append}
 use Rattle.age_stream.specs.declared.step.Status.TheVariants.{Done}
 use Rattle.age_stream.specs.Headline.{IsPrefixOf}
 use Rattle.age_stream.proofs.LawLemmas.{released_is_written}
-use Rattle.age_keys.specs.Keys.{payload_key, position_key, box, unbox}
+use Rattle.age_keys.specs.Keys.{payload_key, box, unbox}
 use Rattle.age_keys.specs.inner.PayloadBox.{box_valid}
-use Rattle.age_file.specs.Bindings.{file_id, chain, position_tag}
-use Rattle.age_file.specs.inner.Bindings.{chain_if}
-use Rattle.age_file.specs.inner.Decrypts.{IsPositionAt, PositionAt}
-use Rattle.age_file.specs.Runs.{Run, IsFromStart, segment_of, run_outcome, run_text, held, IsTexts, CarriesText, IsAuthenticRun, IsPositionOf, GivesPosition}
+use Rattle.age_file.specs.Bindings.{chain}
+use Rattle.age_file.specs.Runs.{Run, IsFromStart, segment_of, run_outcome, run_text, held, IsTexts, CarriesText, IsAuthenticRun, IsPositionOf}
 use Rattle.age_file.specs.declared.position.Position.{Position}
-use Rattle.age_file.specs.declared.position.PositionPolicy.{PositionPolicy}
-use Rattle.age_file.specs.declared.position.PositionPolicy.TheVariants.{Kept, Dropped}
-use Rattle.age_file.specs.declared.start.Unlocked.{Unlocked}
 use Rattle.age_file.proofs.ByteLemmas.{prefix_trans}
 
 -- the text of a run, after its old text
@@ -69,31 +64,7 @@ from_start r from text few auth =
       authentic = auth;
     }
 
--- the run's tally counts what it wrote
-pub position_is : (r : Run) (unlocked : Unlocked) (index : ℕ) (p : Position) → r.first < chunk_limit
-    → r.file.key ≡ unlocked.key
-    → r.file.nonce ≡ unlocked.nonce → unlocked.id ≡ file_id r.file.header_bytes r.file.nonce
-    → IsPrefixOf r.out (run_text r)
-    → index ≡ min (length (held r) / chunk_length) (run_outcome r).index
-    → IsPositionAt unlocked index (chain (first_chunks chunk_length index (held r))) p
-    → IsPositionOf r p
-position_is r unlocked index p limit key nonce id begins is at =
-    let over : p.chain ≡ chain (first_chunks chunk_length p.index (held r)) =
-    at.chain_is ∙ ap (λ (k : ℕ). chain (first_chunks chunk_length k (held r))) (sym at.index_is) in
-    let least : p.index ≡ min (length (held r) / chunk_length) (run_outcome r).index =
-    at.index_is ∙ is in
-    record {
-      index = least;
-      own = at.file_id_is ∙ id;
-      chain_is = over;
-      tagged = at.tag_is
-          ∙ (ap (λ (k : List ℕ). position_tag (position_key k unlocked.nonce) p.index p.file_id
-          p.chain) (sym key)
-          ∙ ap (λ (k : List ℕ). position_tag (position_key r.file.key k) p.index p.file_id p.chain)
-          (sym nonce));
-    }
-
--- it carries the text of which the run is authentic
+-- its position carries the text of which the run is authentic
 pub position_carries : (r : Run) (p : Position) → r.first < chunk_limit → IsPrefixOf r.out (run_text r)
     → IsPositionOf r p → (text : List ℕ) → IsAuthenticRun r text → CarriesText text p
 position_carries r p limit begins at text auth =
@@ -105,39 +76,4 @@ position_carries r p limit begins at text auth =
       at.chain_is
           ∙ (sym (ap chain (first_chunks-append chunk_length p.index (held r) rest.0 within))
           ∙ ap (λ (t : List ℕ). chain (first_chunks chunk_length p.index t)) rest.1),
-    )
-
--- and it is handed out if it was kept
-pub position_given : (keep : PositionPolicy) (r : Run) (unlocked : Unlocked) (index : ℕ)
-    (position : Option Position) → r.first < chunk_limit
-    → r.file.key ≡ unlocked.key → r.file.nonce ≡ unlocked.nonce
-    → unlocked.id ≡ file_id r.file.header_bytes r.file.nonce
-    → IsPrefixOf r.out (run_text r)
-    → index ≡ min (length (held r) / chunk_length) (run_outcome r).index
-    → PositionAt unlocked index (chain_if keep (first_chunks chunk_length index (held r))) position
-    → GivesPosition keep (IsPositionOf r) position
-position_given Kept r unlocked index (Some p) limit key nonce id begins is at =
-    position_is r unlocked index p limit key nonce id begins is at
-position_given Kept r unlocked index None limit key nonce id begins is at = absurd at
-position_given Dropped r unlocked index position limit key nonce id begins is at = at
-
--- and it stands there whether it was kept or not
-pub position_due : (r : Run) (unlocked : Unlocked) (index : ℕ) → r.first < chunk_limit
-    → index < chunk_limit → r.file.key ≡ unlocked.key → r.file.nonce ≡ unlocked.nonce
-    → unlocked.id ≡ file_id r.file.header_bytes r.file.nonce
-    → IsPrefixOf r.out (run_text r)
-    → index ≡ min (length (held r) / chunk_length) (run_outcome r).index
-    → (at : Position) × IsPositionOf r at
-position_due r unlocked index limit within key nonce id begins is =
-    let links = chain (first_chunks chunk_length index (held r)) in
-    let at : Position = record {
-      index = index;
-      file_id = unlocked.id;
-      chain = links;
-      tag = position_tag (position_key unlocked.key unlocked.nonce) index unlocked.id links;
-      within = within;
-    } in (
-      at,
-      position_is r unlocked index at limit key nonce id begins is
-          (record { index_is = refl; file_id_is = refl; chain_is = refl; tag_is = refl }),
     )

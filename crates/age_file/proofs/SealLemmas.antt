@@ -17,8 +17,7 @@ use Rattle.age_fault.specs.Faults.{HasFailed}
 use Rattle.age_file.specs.inner.Readers.{WriterView}
 use Rattle.age_file.specs.inner.Seals.{front_of, IsTooLong, SealsSome, GoesOn, SealFails, HasRoom, Wrote}
 use Rattle.age_fault.specs.declared.fault.FileFault.{FileFault}
-use Rattle.age_fault.specs.declared.fault.FileFault.TheVariants.{Head, Key, NonceCut, Stream, BadPosition, OtherFile, ShortText, Read, Write, Memory}
-use Rattle.age_fault.specs.declared.fault.FileFault.TheVariants.{ReadNeverEnds, PositionForged, OldTextDiffers}
+use Rattle.age_fault.specs.declared.fault.FileFault.TheVariants.{Stream, Write}
 use Rattle.age_io.proofs.TakenLemmas.{Appends-trans}
 
 pub step_len_le : (m : ℕ) (held piece : List ℕ) → step_len m held piece ≤ length piece
@@ -166,17 +165,7 @@ module _ {B : Type 0} (sealing : B → List ℕ → List ℕ → List ℕ) (n : 
       (more, f.1, f.2 ∙ same)
   fails_then a b was mid now front rest Write same goes f =
       subst (λ (k : ℕ). HasFailed k now.sink.failed now.sink.failing) same f
-  fails_then a b was mid now front rest (Head fault) same goes f = absurd f
-  fails_then a b was mid now front rest (Key fault) same goes f = absurd f
-  fails_then a b was mid now front rest NonceCut same goes f = absurd f
-  fails_then a b was mid now front rest BadPosition same goes f = absurd f
-  fails_then a b was mid now front rest OtherFile same goes f = absurd f
-  fails_then a b was mid now front rest ShortText same goes f = absurd f
-  fails_then a b was mid now front rest Read same goes f = absurd f
-  fails_then a b was mid now front rest Memory same goes f = absurd f
-  fails_then a b was mid now front rest ReadNeverEnds same goes f = absurd f
-  fails_then a b was mid now front rest PositionForged same goes f = absurd f
-  fails_then a b was mid now front rest OldTextDiffers same goes f = absurd f
+  fails_then a b was mid now front rest other same goes f = absurd f
 
 -- ---- sizes
 

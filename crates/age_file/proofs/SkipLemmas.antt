@@ -2,11 +2,11 @@
 use Rattle.std.proofs.Common.{Ok, Err, false, suc, ◌≤◌, ◌≡◌, ℕ, ◌*◌, ◌<◌, List, [], ◌++◌, length, subst, ◌∙◌, arith, append-nil, refl}
 use Rattle.std.proofs.lemmas.List.{length-append}
 use Rattle.std.proofs.Math.Nat.{mul-le-mul_right}
-use Rattle.age_file.specs.inner.Readers.{PullFails, ReaderView}
-use Rattle.age_fault.specs.Faults.{HasFailed}
+use Rattle.age_file.specs.inner.Readers.{ReaderView}
 use Rattle.age_file.specs.inner.Copies.{Passes, Dries, SkipsBlock, SkipFails, EndsAfter}
 use Rattle.age_fault.specs.declared.fault.FileFault.{FileFault}
 use Rattle.age_fault.specs.declared.fault.FileFault.TheVariants.{Stream, Read, ReadNeverEnds}
+use Rattle.age_file.proofs.ByteLemmas.{pull_fails_since}
 use Rattle.age_file.proofs.StartLemmas.{uses_then}
 
 pub passes_then : (x y z : ReaderView) (p q : List ℕ) → Passes x y p → Passes y z q
@@ -21,18 +21,12 @@ pub passes_same : (x y z : ReaderView) (p : List ℕ) → Passes x y p → Passe
 passes_same x y z p f g = subst (λ (t : List ℕ). Passes x z t) (append-nil p)
     (passes_then x y z p [] f g)
 
-pull_fails : (x y z : ReaderView) (fault : FileFault) → y.source.failed ≡ x.source.failed
-    → PullFails y z fault → PullFails x z fault
-pull_fails x y z Read e h = subst (λ (m : ℕ). HasFailed m z.source.failed z.source.failing) e h
-pull_fails x y z ReadNeverEnds e h = (h.0, h.1 ∙ e)
-pull_fails x y z other e h = absurd h
-
 pub dries_then : (x y z : ReaderView) (p q : List ℕ) (fault : FileFault) → Passes x y p
     → Dries y z q fault → Dries x z (p ++ q) fault
 dries_then x y z p q fault f g = record {
   uses = uses_then x y z p q (p ++ q) refl f.uses g.uses;
   used = g.used;
-  why = pull_fails x y z fault f.unfailed g.why;
+  why = pull_fails_since x y z fault f.unfailed g.why;
 }
 
 -- if no byte came

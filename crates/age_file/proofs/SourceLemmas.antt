@@ -1,6 +1,6 @@
 -- A source's text, piece by piece, and what of its payload was written.
 use Rattle.std.proofs.Common.{◌*◌, refl, ◌≡◌, ℕ, ◌<◌, ◌≤◌, ◌/◌, sym, ap, subst, ◌∙◌, List, [], ◌∷◌, ◌++◌, length, append-nil, append_assoc, true, false, arith}
-use Rattle.std.specs.Prelude.{map}
+use Rattle.std.specs.Prelude.{map, Err}
 use Rattle.std.specs.List.{enumerate_from}
 use Rattle.std.specs.Simd.{first_chunks}
 use Rattle.std.proofs.lemmas.Grind.{flat_map-append}
@@ -13,10 +13,9 @@ use Rattle.age_io.specs.Io.{SourceView, SinkView}
 use Rattle.age_fault.specs.Faults.{HasFailed}
 use Rattle.age_file.specs.inner.Readers.{ReaderView, WriterView, PullFails}
 use Rattle.age_file.specs.Runs.{Ports, pull_room}
-use Rattle.age_file.specs.inner.Seals.{front_of, SealsSome, GoesOn, SealFails, SealingFails, Wrote}
+use Rattle.age_file.specs.inner.Seals.{front_of, SealsSome, GoesOn, SealFails, SealingFails, SealsFront, SealsSource, Wrote}
 use Rattle.age_fault.specs.declared.fault.FileFault.{FileFault}
-use Rattle.age_fault.specs.declared.fault.FileFault.TheVariants.{Head, Key, NonceCut, Stream, BadPosition, OtherFile, ShortText, Read, Write, Memory}
-use Rattle.age_fault.specs.declared.fault.FileFault.TheVariants.{ReadNeverEnds, PositionForged, OldTextDiffers}
+use Rattle.age_fault.specs.declared.fault.FileFault.TheVariants.{Stream, Read, Write, ReadNeverEnds}
 use Rattle.age_file.proofs.ByteLemmas.{prefix_trans}
 use Rattle.age_io.proofs.TakenLemmas.{Appends-trans}
 use Rattle.age_file.proofs.SealLemmas.{goes_then}
@@ -120,17 +119,7 @@ pull_fails sealing n old new text x z ReadNeverEnds same is kept gave small f = 
   (omega (arith, gave, f.0), omega (arith, small, f.0)),
   (ap (λ (s : SourceView). s.failed) is ∙ (f.1 ∙ same), kept),
 )
-pull_fails sealing n old new text x z (Head fault) same is kept gave small f = absurd f
-pull_fails sealing n old new text x z (Key fault) same is kept gave small f = absurd f
-pull_fails sealing n old new text x z NonceCut same is kept gave small f = absurd f
-pull_fails sealing n old new text x z (Stream fault) same is kept gave small f = absurd f
-pull_fails sealing n old new text x z BadPosition same is kept gave small f = absurd f
-pull_fails sealing n old new text x z OtherFile same is kept gave small f = absurd f
-pull_fails sealing n old new text x z ShortText same is kept gave small f = absurd f
-pull_fails sealing n old new text x z Write same is kept gave small f = absurd f
-pull_fails sealing n old new text x z Memory same is kept gave small f = absurd f
-pull_fails sealing n old new text x z PositionForged same is kept gave small f = absurd f
-pull_fails sealing n old new text x z OldTextDiffers same is kept gave small f = absurd f
+pull_fails sealing n old new text x z other same is kept gave small f = absurd f
 
 -- why a piece wasn't sealed
 pub seal_fails : {B : Type 0} (sealing : B → List ℕ → List ℕ → List ℕ) (n : ℕ) (a b : SealerView B)
@@ -147,26 +136,19 @@ seal_fails sealing n a b old new was now text piece out Write same is read goes 
       (subst (λ (s : SinkView). HasFailed was.sink.failed s.failed s.failing) (sym is) f),
   read,
 )
-seal_fails sealing n a b old new was now text piece out (Head fault) same is read goes fresh f =
-    absurd f
-seal_fails sealing n a b old new was now text piece out (Key fault) same is read goes fresh f =
-    absurd f
-seal_fails sealing n a b old new was now text piece out NonceCut same is read goes fresh f =
-    absurd f
-seal_fails sealing n a b old new was now text piece out BadPosition same is read goes fresh f =
-    absurd f
-seal_fails sealing n a b old new was now text piece out OtherFile same is read goes fresh f =
-    absurd f
-seal_fails sealing n a b old new was now text piece out ShortText same is read goes fresh f =
-    absurd f
-seal_fails sealing n a b old new was now text piece out Read same is read goes fresh f = absurd f
-seal_fails sealing n a b old new was now text piece out Memory same is read goes fresh f = absurd f
-seal_fails sealing n a b old new was now text piece out ReadNeverEnds same is read goes fresh f =
-    absurd f
-seal_fails sealing n a b old new was now text piece out PositionForged same is read goes fresh f =
-    absurd f
-seal_fails sealing n a b old new was now text piece out OldTextDiffers same is read goes fresh f =
-    absurd f
+seal_fails sealing n a b old new was now text piece out other same is read goes fresh f = absurd f
+
+-- a source wasn't sealed to its end, by the key that its sealer was made with
+pub sealing_failed : {B : Type 0} (sealing : B → List ℕ → List ℕ → List ℕ) (n : ℕ) (k key : B) (old new : Ports)
+    (was now : ℕ) (fault : FileFault) → k ≡ key → SealsFront (sealing k) n old new was now fault
+    → new.sink.label ≡ old.sink.label → SealsSource (sealing key) n old new was now (Err fault)
+sealing_failed {B} sealing n k key old new was now fault same front named = record {
+  done = tt;
+  counted = tt;
+  fails = subst (λ (c : B). SealsFront (sealing c) n old new was now fault) same front;
+  settled = tt;
+  named = named;
+}
 
 -- ---- the last block
 

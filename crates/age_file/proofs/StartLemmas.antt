@@ -8,7 +8,6 @@ use Rattle.age_io.specs.Io.{SourceView}
 use Rattle.age_stanza.specs.declared.header.Header.{Header}
 use Rattle.age_stanza.specs.Grammar.{HeadText}
 use Rattle.age_keys.specs.declared.fault.KeyFault.{KeyFault}
-use Rattle.age_keys.specs.declared.fault.KeyFault.TheVariants.{ScryptNotAlone, BadScrypt, WorkTooHigh, NoMatch, WrongKey, MacMismatch, BadX25519}
 use Rattle.age_keys.specs.declared.fault.KeyFault.TheVariants.{Memory as KeyMemory}
 use Rattle.age_keys.specs.Keys.{Opens, Refuses}
 use Rattle.age_file.specs.inner.Unread.{Unread}
@@ -16,7 +15,7 @@ use Rattle.age_file.specs.inner.Readers.{Start, start_at, ReaderView, reader_vie
 use Rattle.age_file.specs.Runs.{pull_room, InHeader, HeadFails, StopsAtHeader}
 use Rattle.age_fault.specs.Faults.{HasFailed}
 use Rattle.age_fault.specs.inner.Faults.{fault_of_key}
-use Rattle.age_file.specs.Decrypts.{StartFails}
+use Rattle.age_file.specs.Decrypts.{StartFails, InNonce}
 use Rattle.age_file.specs.inner.Copies.{Uses, UsesShort, NonceFails, ReadsNonce, StartsAt}
 use Rattle.age_file.specs.declared.start.Unlocked.{Unlocked}
 use Rattle.age_fault.specs.declared.fault.FileFault.{FileFault}
@@ -69,19 +68,7 @@ module _ (Allows : Header → List ℕ → Type 0) (Refused : Header → KeyFaul
       → Consumes a.supply b.supply (front ++ rest) → length rest ≤ pull_room
       → Refuses Allows Refused h fault → StartFails Allows Refused a b (fault_of_key fault)
   key_to_start a b h front rest KeyMemory stops text consumed few refuses = stops
-  key_to_start a b h front rest ScryptNotAlone stops text consumed few refuses =
-      (h, front, rest, text, consumed, λ e. cc, refuses, few)
-  key_to_start a b h front rest BadScrypt stops text consumed few refuses =
-      (h, front, rest, text, consumed, λ e. cc, refuses, few)
-  key_to_start a b h front rest WorkTooHigh stops text consumed few refuses =
-      (h, front, rest, text, consumed, λ e. cc, refuses, few)
-  key_to_start a b h front rest NoMatch stops text consumed few refuses =
-      (h, front, rest, text, consumed, λ e. cc, refuses, few)
-  key_to_start a b h front rest WrongKey stops text consumed few refuses =
-      (h, front, rest, text, consumed, λ e. cc, refuses, few)
-  key_to_start a b h front rest MacMismatch stops text consumed few refuses =
-      (h, front, rest, text, consumed, λ e. cc, refuses, few)
-  key_to_start a b h front rest BadX25519 stops text consumed few refuses =
+  key_to_start a b h front rest other stops text consumed few refuses =
       (h, front, rest, text, consumed, λ e. cc, refuses, few)
 
   -- what was pulled if a nonce fell short
@@ -93,45 +80,26 @@ module _ (Allows : Header → List ℕ → Type 0) (Refused : Header → KeyFaul
       (subst (λ (t : List ℕ). Pulled a z.source.supply z.unread.pulls t)
       (sym (append_assoc front u.0 z.unread.bytes)) (u.2 a front p))
 
+  in_nonce : (a : SourceView) (y z : ReaderView) (h : Header) (front key : List ℕ) → HeadText h front
+      → Opens Allows h key → Pulled (start_at a.supply) y.source.supply y.unread.pulls (front ++ y.unread.bytes)
+      → UsesShort y z → InNonce Allows a.supply z.source.supply
+  in_nonce a y z h front key text opens p u =
+      (h, front, key, u.0, text, opens, u.1, (short_pulled (start_at a.supply) y z front u p).consumed)
+
   nonce_to_start : (a : SourceView) (y z : ReaderView) (h : Header) (front key : List ℕ)
       (fault : FileFault) → y.source.failed ≡ a.failed
       → HeadText h front → Opens Allows h key
       → Pulled (start_at a.supply) y.source.supply y.unread.pulls (front ++ y.unread.bytes)
       → NonceFails y z fault → StartFails Allows Refused a z.source fault
-  nonce_to_start a y z h front key NonceCut e text opens p f = (
-    (
-      h,
-      front,
-      key,
-      f.0.0,
-      text,
-      opens,
-      f.0.1,
-      (short_pulled (start_at a.supply) y z front f.0 p).consumed,
-    ),
-    f.1,
-  )
+  nonce_to_start a y z h front key NonceCut e text opens p f = (in_nonce a y z h front key text opens p f.0, f.1)
   nonce_to_start a y z h front key Read e text opens p f = (
-    inr (
-      h,
-      front,
-      key,
-      f.0.0,
-      text,
-      opens,
-      f.0.1,
-      (short_pulled (start_at a.supply) y z front f.0 p).consumed,
-    ),
+    inr (in_nonce a y z h front key text opens p f.0),
     subst (λ (m : ℕ). HasFailed m z.source.failed z.source.failing) e f.1,
   )
   nonce_to_start a y z h front key ReadNeverEnds e text opens p f =
       let all = short_pulled (start_at a.supply) y z front f.0 p in (
-        inr (h, front, key, f.0.0, text, opens, f.0.1, all.consumed),
-        (
-          front ++ f.0.0,
-          all.consumed,
-          (omega (arith, all.each_gave, f.1), omega (arith, all.small, f.1)),
-        ),
+        inr (in_nonce a y z h front key text opens p f.0),
+        (front ++ f.0.0, all.consumed, (omega (arith, all.each_gave, f.1), omega (arith, all.small, f.1))),
       )
   nonce_to_start a y z h front key other e text opens p f = absurd f
 

@@ -1,9 +1,8 @@
 -- What can't stop the decryption of an age file that is undamaged.
-use Rattle.std.proofs.Common.{inl, inr, ◌≡◌, ℕ, ◌+◌, ◌*◌, ◌<◌, ◌≤◌, List, [], ◌++◌, length, take, drop, Option, Some, None, refl, sym, ap, subst, ◌∙◌, arith}
+use Rattle.std.proofs.Common.{inl, inr, ◌≡◌, ℕ, ◌+◌, ◌*◌, ◌<◌, ◌≤◌, List, [], ◌++◌, length, take, drop, Option, Some, refl, sym, ap, subst, ◌∙◌, arith}
 use Rattle.std.proofs.Common.{append-nil, append_assoc, Bool, true, false}
-use Rattle.std.proofs.lemmas.List.{length-append, drop_at, take_at, drop_all}
+use Rattle.std.proofs.lemmas.List.{length-append, drop_at, drop_all}
 use Rattle.age_io.specs.Taken.{Appends}
-use Rattle.std.specs.Io.KnownBytes as known
 use Rattle.age_io.specs.Supply.{Supply, Consumes, IsAtEnd}
 use Rattle.std.specs.Prelude.{IfSome}
 use Rattle.age_stanza.specs.declared.header.Header.{Header}
@@ -25,36 +24,11 @@ use Rattle.age_keys.specs.Keys.{IsMacOf, payload_key, Refuses, RefusesKey, box, 
 use Rattle.age_keys.specs.inner.PayloadBox.{box_valid}
 use Rattle.age_fault.specs.declared.fault.FileFault.{FileFault}
 use Rattle.age_fault.specs.declared.fault.FileFault.TheVariants.{Head, Key, NonceCut, Stream, Read, Write, Memory, ReadNeverEnds}
-use Rattle.age_file.specs.Runs.{Ports, IsHeadFault, NeverEnds, Run, IsFromStart, run_outcome, IsRun, PayloadFails, IsDone}
-use Rattle.age_file.specs.declared.position.PositionPolicy.{PositionPolicy}
-use Rattle.age_file.specs.Decrypts.{StartFails, DecryptStops, IsWhole, IsUndamagedFile, WritesText, StopsOutside}
+use Rattle.age_file.specs.Runs.{Ports, IsHeadFault, Run, run_outcome, IsRun, PayloadFails, IsDone}
+use Rattle.age_file.specs.Decrypts.{StartFails, IsWhole, WritesText, StopsOutside}
 use Rattle.age_file.specs.inner.Payloads.{segment}
-use Rattle.age_file.specs.declared.decryption.Stopped.{Stopped}
-use Rattle.age_file.proofs.ByteLemmas.{fault_of_all}
-use Rattle.age_file.proofs.RunLemmas.{none_before, writes_all}
-
--- a source that showed its bytes shows those that are left
-pub left_of : (before after : Supply) (bytes used : List ℕ)
-    → before.left ≡ Some bytes → Consumes before after used
-    → (rest : List ℕ) × (bytes ≡ used ++ rest) × (after.left ≡ Some rest)
-left_of before after bytes used is consumed =
-    left after.left (subst (λ (b : Option (List ℕ)). known.Consumes b after.left used) is
-    consumed.left) where
-      left : (after : Option (List ℕ)) → known.Consumes (Some bytes) after used
-          → (rest : List ℕ) × (bytes ≡ used ++ rest) × (after ≡ Some rest)
-      left None h = absurd h
-      left (Some rest) h = (rest, h, refl)
-
-pub none_left : (after : Supply) (rest : List ℕ) → after.left ≡ Some rest → IsAtEnd after
-    → rest ≡ []
-none_left after rest is ended = subst known.IsAtEnd is ended.1
-
--- two texts that begin with as many bytes
-pub same_front : (a b x y : List ℕ) → length a ≡ length b → a ++ x ≡ b ++ y → (a ≡ b) × (x ≡ y)
-same_front a b x y len e = (
-  sym (take_at a x (length b) len) ∙ (ap (take (length b)) e ∙ take_at b y (length b) refl),
-  sym (drop_at a x (length b) len) ∙ (ap (drop (length b)) e ∙ drop_at b y (length b) refl),
-)
+use Rattle.age_file.proofs.ByteLemmas.{fault_of_all, left_of, none_left, same_front, regroup}
+use Rattle.age_file.proofs.RunLemmas.{writes_all}
 
 -- a key whose MAC is the header's is refused only if memory runs out
 pub for_memory : (h : Header) (key : List ℕ) (fault : KeyFault) → IsMacOf h key → RefusesKey h key fault
@@ -176,9 +150,7 @@ module _ (one : OneHeader) (Allows : Header → List ℕ → Type 0) (Refused : 
       → front ≡ u.file.front
   front_is after h front nonce behind text_is consumed =
       let t = left_of coming after u.bytes ((front ++ nonce) ++ behind) u.all consumed in
-      let parts : u.bytes ≡ front ++ (nonce ++ (behind ++ t.0)) =
-      t.1 ∙ (append_assoc (front ++ nonce) behind t.0
-      ∙ append_assoc front nonce (behind ++ t.0)) in
+      let parts = t.1 ∙ regroup front nonce behind t.0 in
       (fronts h front (nonce ++ (behind ++ t.0)) text_is parts).front_is
 
   pub opened_as : (after : Supply) (h : Header) (front key nonce behind : List ℕ)
@@ -186,9 +158,7 @@ module _ (one : OneHeader) (Allows : Header → List ℕ → Type 0) (Refused : 
       → Consumes coming after ((front ++ nonce) ++ behind) → IsOpenedAs key nonce behind after
   opened_as after h front key nonce behind text_is allows size consumed =
       let t = left_of coming after u.bytes ((front ++ nonce) ++ behind) u.all consumed in
-      let parts : u.bytes ≡ front ++ (nonce ++ (behind ++ t.0)) =
-      t.1 ∙ (append_assoc (front ++ nonce) behind t.0
-      ∙ append_assoc front nonce (behind ++ t.0)) in
+      let parts = t.1 ∙ regroup front nonce behind t.0 in
       let same = fronts h front (nonce ++ (behind ++ t.0)) text_is parts in
       let both = same_front nonce u.nonce (behind ++ t.0)
       (payload (box u.key u.nonce) chunk_length text) (size ∙ sym u.file.size) same.rest_is in
@@ -231,12 +201,7 @@ module _ (one : OneHeader) (Allows : Header → List ℕ → Type 0) (Refused : 
         sym (drop_at passed (bytes ++ o.left) (k * block_length) size)
         ∙ ap (drop (k * block_length))
         (sym (append_assoc passed bytes o.left) ∙ o.payload_is) in
-        let here : (outcome (unbox u.key u.nonce) chunk_length (segment k bytes ended)).status
-        ≡ Failed fault =
-        subst (λ (x : List ℕ). (outcome (unbox x u.nonce) chunk_length
-        (segment k bytes ended)).status ≡ Failed fault) o.key_is
-        (subst (λ (x : List ℕ). (outcome (unbox key x) chunk_length (segment k bytes ended)).status
-        ≡ Failed fault) o.nonce_is failed) in
+        let here = rw (o.key_is, o.nonce_is) at failed in
         let stays = failed_stays (unbox u.key u.nonce) chunk_length k bytes o.left ended fault here
         (λ e. none_left after o.left o.left_is (at_end e)) in
         let clash : Done ≡ Failed fault =
@@ -309,14 +274,7 @@ pub authentic_as : (text : List ℕ) (k : ℕ) (key nonce own_key own_nonce byte
     (segment k all true)
     → IsAuthentic (box key nonce) (unbox key nonce) chunk_length text (segment k bytes ended)
 authentic_as text k key nonce own_key own_nonce bytes all ended keys nonces blocks ends a =
-    subst (λ (x : List ℕ). IsAuthentic (box x nonce) (unbox x nonce) chunk_length text
-    (segment k bytes ended)) (sym keys)
-    (subst (λ (x : List ℕ). IsAuthentic (box own_key x) (unbox own_key x) chunk_length text
-    (segment k bytes ended)) (sym nonces)
-    (subst (λ (x : List ℕ). IsAuthentic (box own_key own_nonce) (unbox own_key own_nonce)
-    chunk_length text (segment k x ended)) (sym blocks)
-    (subst (λ (e : Bool). IsAuthentic (box own_key own_nonce) (unbox own_key own_nonce) chunk_length
-    text (segment k all e)) (sym ends) a)))
+    rw (keys, nonces, blocks, ends) a
 
 -- a run of an undamaged file, from a chunk of its text
 module _ (one : OneHeader) (Allows : Header → List ℕ → Type 0) (Refused : Header → KeyFault
@@ -378,26 +336,3 @@ module _ (one : OneHeader) (Allows : Header → List ℕ → Type 0) (Refused : 
         is.count
             ∙ ap length whole,
       )
-
-pub undamaged : (keep : PositionPolicy) → OneHeader
-    → (Allows : Header → List ℕ → Type 0) (Refused : Header → KeyFault → Type 0) (old new : Ports)
-    (run : Option Run) (stopped : Stopped) (text : List ℕ)
-    → IsUndamagedFile Allows Refused old.source.supply text
-    → DecryptStops keep Allows Refused old new run stopped → StopsOutside stopped.fault
-undamaged keep one Allows Refused old new None stopped text u f =
-    start_undamaged one Allows Refused old.source new.source text u.whole stopped.fault f.1
-undamaged keep one Allows Refused old new (Some r) stopped text u f =
-    payload_undamaged one Allows Refused old new text u.whole u.closed stopped.written r
-    (omega (arith, f.0.zero))
-    (NeverEnds old.source.supply new.source.supply) stopped.fault f.1.is f.1.why
-
--- an undamaged file that was read to its end gave its text
-pub undamaged_done : OneHeader
-    → (Allows : Header → List ℕ → Type 0) (Refused : Header → KeyFault → Type 0) (old new : Ports)
-    (written : ℕ) (r : Run)
-    (text : List ℕ) → IsUndamagedFile Allows Refused old.source.supply text → IsFromStart r
-    → IsDone Allows old new written r
-    → WritesText old.sink.taken new.sink.taken written text
-undamaged_done one Allows Refused old new written r text u from d =
-    run_writes one Allows Refused old new text u.whole u.closed written r (omega (arith, from.zero))
-    (none_before r from text) d

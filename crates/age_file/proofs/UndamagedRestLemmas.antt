@@ -8,8 +8,7 @@ use Rattle.age_stanza.specs.declared.header.Header.{Header}
 use Rattle.age_stanza.specs.Laws.{OneHeader}
 use Rattle.age_chunk.proofs.FirstChunkLemmas.{first_chunks-append}
 use Rattle.age_keys.specs.declared.fault.KeyFault.{KeyFault}
-use Rattle.age_keys.specs.Keys.{position_key}
-use Rattle.age_file.specs.Bindings.{file_id, chain, position_tag}
+use Rattle.age_file.specs.Bindings.{chain}
 use Rattle.age_file.specs.Decrypts.{WritesText, StopsOutside}
 use Rattle.age_file.specs.Runs.{Run, Reads, IsDone, OpenedFile, HasId, HasTag}
 use Rattle.age_file.specs.Resumes.{ResumePorts, WritesOld, IsFrom, IsUndamagedRest, NeverEndTogether, BeforeOldFails, InOldFails, InSkippedFails}
@@ -18,10 +17,9 @@ use Rattle.age_file.specs.declared.decryption.Stopped.{Stopped}
 use Rattle.age_file.specs.declared.position.Position.{Position}
 use Rattle.age_file.specs.declared.position.PositionPolicy.{PositionPolicy}
 use Rattle.age_fault.specs.declared.fault.FileFault.{FileFault}
-use Rattle.age_fault.specs.declared.fault.FileFault.TheVariants.{Head, Key, NonceCut, Stream, OtherFile, ShortText, Read, Write, Memory, ReadNeverEnds}
-use Rattle.age_fault.specs.declared.fault.FileFault.TheVariants.{PositionForged, OldTextDiffers}
-use Rattle.age_file.proofs.UndamagedLemmas.{left_of, none_left, start_undamaged, front_is, opened_as, no_early_end, same_front, payload_undamaged, run_writes}
-use Rattle.age_file.proofs.UndamagedLemmas.{own_authentic, IsOpenedAs}
+use Rattle.age_fault.specs.declared.fault.FileFault.TheVariants.{Stream, OtherFile, ShortText, Read, Write, ReadNeverEnds, PositionForged, OldTextDiffers}
+use Rattle.age_file.proofs.ByteLemmas.{left_of, none_left, same_front}
+use Rattle.age_file.proofs.UndamagedLemmas.{start_undamaged, front_is, opened_as, no_early_end, payload_undamaged, run_writes, own_authentic, IsOpenedAs}
 use Rattle.age_chunk.specs.Payload.{chunk_length}
 
 module _ (one : OneHeader) (Allows : Header → List ℕ → Type 0) (Refused : Header → KeyFault
@@ -42,18 +40,13 @@ module _ (one : OneHeader) (Allows : Header → List ℕ → Type 0) (Refused : 
       let front = front_is one Allows Refused old.main.source.supply text u.whole
       new.main.source.supply f.header f.header_bytes f.nonce rest
       r.text r.read in
-      u.own ∙ (ap (λ (x : List ℕ). file_id x u.whole.nonce) (sym front)
-      ∙ ap (file_id f.header_bytes) (sym o.nonce_is))
+      cc (u.own, front, o.nonce_is)
 
   own_tag : (f : OpenedFile) (rest : List ℕ)
       → Reads Allows old.main.source.supply new.main.source.supply f rest → HasTag p f
   own_tag f rest r =
       let o = opened_of f rest r in
-      u.tagged
-      ∙ (ap (λ (x : List ℕ). position_tag (position_key x u.whole.nonce) p.index p.file_id p.chain)
-      (sym o.key_is)
-      ∙ ap (λ (x : List ℕ). position_tag (position_key f.key x) p.index p.file_id p.chain)
-      (sym o.nonce_is))
+      cc (u.tagged, o.key_is, o.nonce_is)
 
   -- the old text is long enough
   old_is_long : (written : ℕ) (copied : List ℕ) (w : WritesOld p old new written copied)
@@ -88,19 +81,9 @@ module _ (one : OneHeader) (Allows : Header → List ℕ → Type 0) (Refused : 
   -- the position is the file's, and was made under its key
   before_undamaged : (fault : FileFault) → BeforeOldFails Allows p old new Refused fault
       → StopsOutside fault
-  before_undamaged (Head x) f = start_undamaged one Allows Refused old.main.source new.main.source
-      text u.whole (Head x) f
-  before_undamaged (Key x) f = start_undamaged one Allows Refused old.main.source new.main.source
-      text u.whole (Key x) f
-  before_undamaged NonceCut f = start_undamaged one Allows Refused old.main.source new.main.source
-      text u.whole NonceCut f
   before_undamaged OtherFile f = absurd (f.2 (own_file f.0 f.1.0 f.1.2))
   before_undamaged PositionForged f = absurd (f.3 (own_tag f.0 f.1.0 f.1.2))
-  before_undamaged Read f = tt
-  before_undamaged Write f = tt
-  before_undamaged Memory f = tt
-  before_undamaged ReadNeverEnds f = tt
-  before_undamaged other f = absurd f
+  before_undamaged other f = start_undamaged one Allows Refused old.main.source new.main.source text u.whole other f
 
   -- the old text is long enough, and the text's
   old_undamaged : (written : ℕ) (copied : List ℕ) (w : WritesOld p old new written copied)

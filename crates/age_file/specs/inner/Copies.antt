@@ -170,33 +170,37 @@ ChunksGo n chunks old new was now out = (length out ≡ chunks * n) × Passes ol
     × (now.tally.index ≡ chunks)
     × (now.tally.chain ≡ chain_if Kept (first_chunks n chunks out))
 
-pub record Copies (Goes : List ℕ → Type 0) (size : ℕ) (old new : ReaderView) (was now : WriterView)
+-- these bytes were written, and it went on so or failed so
+pub record Copies (Goes : List ℕ → Type 0) (Fails : List ℕ → FileFault → Type 0) (was now : WriterView)
     (result : Result (Unit {0}) FileFault) : Type 0 where
   pub out : List ℕ
   pub wrote : Appends was.sink.taken now.sink.taken out
   pub named : now.sink.label ≡ was.sink.label
   pub count : now.tally.written ≡ was.tally.written + length out
-  pub answered : MatchResult result (λ _. Goes out)
-      (λ fault. (length out < size) × FailsInCopy old new was now out fault)
+  pub answered : MatchResult result (λ _. Goes out) (Fails out)
+
+-- fewer bytes than these were written
+abbrev pub ShortCopy : ℕ → ReaderView → ReaderView → WriterView → WriterView → List ℕ → FileFault → Type 0
+ShortCopy size old new was now out fault = (length out < size) × FailsInCopy old new was now out fault
 
 -- a chunk was copied
 abbrev pub CopiesChunk : ℕ → ReaderView → ReaderView → WriterView → WriterView
     → Result (Unit {0}) FileFault → Type 0
-CopiesChunk n old new was now result = Copies (ChunkGoes n old new was now) n old new was now result
+CopiesChunk n old new was now result = Copies (ChunkGoes n old new was now) (ShortCopy n old new was now)
+    was now result
 
 -- a number of chunks was copied
 abbrev pub CopiesAll : ℕ → ℕ → ReaderView → ReaderView → WriterView → WriterView
     → Result (Unit {0}) FileFault → Type 0
-CopiesAll n chunks old new was now result = Copies (ChunksGo n chunks old new was now) (chunks * n)
-    old new was now result
+CopiesAll n chunks old new was now result = Copies (ChunksGo n chunks old new was now)
+    (ShortCopy (chunks * n) old new was now) was now result
 
 -- why the old text was not copied, or is not the one whose chain this is
 abbrev pub TextFails : ℕ → ℕ → List ℕ → ReaderView → ReaderView → WriterView → WriterView
     → List ℕ → FileFault → Type 0
 TextFails n chunks links old new was now out OldTextDiffers = ChunksGo n chunks old new was now out
     × (now.tally.chain ≢ Some links)
-TextFails n chunks links old new was now out fault = (length out < chunks * n)
-    × FailsInCopy old new was now out fault
+TextFails n chunks links old new was now out fault = ShortCopy (chunks * n) old new was now out fault
 
 -- this many chunks were copied, which have this chain; it goes on if positions are kept
 abbrev pub TextGoes : PositionPolicy → ℕ → ℕ → List ℕ → ReaderView → ReaderView → WriterView
@@ -207,14 +211,10 @@ TextGoes keep n chunks links old new was now out = (length out ≡ chunks * n) �
     × (chain (first_chunks n chunks out) ≡ links)
 
 -- the old text was copied, and has this chain
-pub record CopiesText (keep : PositionPolicy) (n chunks : ℕ) (links : List ℕ) (old new : ReaderView)
-    (was now : WriterView) (result : Result (Unit {0}) FileFault) : Type 0 where
-  pub out : List ℕ
-  pub wrote : Appends was.sink.taken now.sink.taken out
-  pub named : now.sink.label ≡ was.sink.label
-  pub count : now.tally.written ≡ was.tally.written + length out
-  pub answered : MatchResult result (λ _. TextGoes keep n chunks links old new was now out)
-      (TextFails n chunks links old new was now out)
+abbrev pub CopiesText : PositionPolicy → ℕ → ℕ → List ℕ → ReaderView → ReaderView → WriterView → WriterView
+    → Result (Unit {0}) FileFault → Type 0
+CopiesText keep n chunks links old new was now result = Copies (TextGoes keep n chunks links old new was now)
+    (TextFails n chunks links old new was now) was now result
 
 -- the old text was copied, and its pulls are counted together with the file's
 pub record CopiesBefore (keep : PositionPolicy) (p : Position) (old new : SourceView)

@@ -1,4 +1,4 @@
-use Rattle.std.proofs.Common.{◌∙◌, refl, rules}
+use Rattle.std.proofs.Common.{◌∙◌, rules}
 use Rattle.std.specs.Prelude.{IfErr, IfSome}
 use Rattle.age_file.specs.Again.{IsFoundAgain}
 use Rattle.age_file.specs.inner.Readers.{view_of_reader, stage_of}
@@ -30,7 +30,6 @@ returns-clause-found g c = λ copied before.
     let skipped = c.in-Ok-skip_blocks.ensures.skipped in
     let s2 = stage_of g.S.Source.view g.O.Sink.view c.open_payload.new.reader
     c.open_payload.new.writer in
-    let o = c.open_payload.ensures.opened in
     read_last g.S.Source.view
     (λ x. IfErr c.open_payload.result (λ stopped. IfSome stopped.position
     (IsFoundAgain (g.U.Unlock.allows c.args.unlock.now) c.args.from.now copied
@@ -42,4 +41,4 @@ returns-clause-found g c = λ copied before.
     (view_of_reader g.S.Source.view c.skip_blocks.new.reader) c.in-Ok-start.ensures.found
     skipped.0 (skipped.1 ∙ search rules) skipped.2 (g.O.Sink.view c.args.writer.now)
     c.before-tally.result c.before-tally.ensures.written c.before-tally.ensures.index copied before
-    (c.before-tally.ensures.chain copied before) s2 o.run c.open_payload.result o.decrypts o.ended)
+    (c.before-tally.ensures.chain copied before) s2 c.open_payload.result c.open_payload.ensures.opened)

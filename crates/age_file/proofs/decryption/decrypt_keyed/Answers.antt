@@ -5,7 +5,7 @@ use Rattle.age_file.specs.Runs.{ports}
 use Rattle.age_file.specs.inner.Readers.{writer_view, stage, view_of_reader, stage_of}
 use Rattle.age_file.specs.Decrypts.{DecryptsKeyed}
 use Rattle.age_file.proofs.ReaderLemmas.{read_last, ports_last}
-use Rattle.age_file.proofs.DecryptLemmas.{decrypted, run_ended, stopped_early}
+use Rattle.age_file.proofs.DecryptLemmas.{run_ended, stopped_early}
 use Rattle.age_fault.specs.declared.fault.FileFault.TheVariants.{Memory}
 use Rattle.age_file.proofs.decryption.decrypt_keyed.Goals as goal
 
@@ -42,10 +42,6 @@ returns-clause-decrypts g c =
     let before = ports first (g.O.Sink.view c.args.writer.now) in
     let Allows = g.U.Unlock.allows c.args.unlock in
     let Refused = g.U.Unlock.refuses c.args.unlock in
-    let o = c.open_payload-result.ensures.opened in
-    let ran = decrypted c.args.positions Allows Refused first c.in-Ok-start_once.unlocked old new o.run
-    c.new-tally.ensures.written
-    c.new-tally.ensures.index c.new-tally.ensures.chain c.in-Ok-start_once.ensures.found o.decrypts in
     let given : c.in-Ok-start_once.unlocked.key ≡ c.new-2.result = search rules in
     ports_last g.S.Source.view g.O.Sink.view
     (λ p. DecryptsKeyed c.args.positions Allows Refused before p c.open_payload-result.result
@@ -54,9 +50,9 @@ returns-clause-decrypts g c =
     (search rules) (search rules)
     (subst (λ (k : List ℕ). DecryptsKeyed c.args.positions Allows Refused before
     (ports new.reader.source new.writer.sink) c.open_payload-result.result (Some k)) given
-    (run_ended c.args.positions Allows Refused first c.in-Ok-start_once.unlocked old
-    new o.run c.open_payload-result.result
-    c.in-Ok-start_once.ensures.found.unfailed o.decrypts.named o.decrypts.settled ran o.ended))
+    (run_ended c.args.positions Allows Refused first c.in-Ok-start_once.unlocked old new c.open_payload-result.result
+    c.new-tally.ensures.written c.new-tally.ensures.index c.new-tally.ensures.chain c.in-Ok-start_once.ensures.found
+    c.open_payload-result.ensures.opened))
 
 pub open_payload-result-requires-clause-room : goal.open_payload-result-requires-clause-room
 open_payload-result-requires-clause-room g c =

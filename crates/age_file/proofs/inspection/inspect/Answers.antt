@@ -1,37 +1,15 @@
-use Rattle.std.proofs.Common.{◌≡◌, ◌++◌, ◌∙◌, ℕ, List, refl, inl, inr, arith, rules}
+use Rattle.std.proofs.Common.{◌≡◌, ◌++◌, ◌∙◌, ℕ, List, refl, inl, inr, rules}
 use Rattle.std.proofs.lemmas.Result.{err_from_is_err_and}
 use Rattle.age_io.specs.Supply.{Consumes, IsAtEnd}
 use Rattle.age_stanza.specs.declared.header.Header.{Header}
 use Rattle.age_stanza.specs.Grammar.{HeadText}
 use Rattle.age_file.specs.Runs.{InHeader, NoHeadFault, StopsAtHeader, HeadFails}
-use Rattle.age_file.specs.inner.Readers.{start_at, Pulled, PullFails, RestFails, ReaderView, reader_view, view_of_reader}
+use Rattle.age_file.specs.inner.Readers.{start_at, Pulled, RestFails, ReaderView, view_of_reader}
 use Rattle.age_io.specs.Io.{SourceView}
-use Rattle.age_file.specs.inner.Unread.{Unread}
 use Rattle.age_fault.specs.declared.fault.FileFault.{FileFault}
-use Rattle.age_fault.specs.declared.fault.FileFault.TheVariants.{Read, ReadNeverEnds}
-use Rattle.age_file.proofs.ByteLemmas.{stops_unread, sound_too, pull_fails_since}
+use Rattle.age_file.proofs.ByteLemmas.{stops_unread, sound_too, pull_fails}
 use Rattle.age_file.proofs.ReaderLemmas.{read_last}
 use Rattle.age_file.proofs.inspection.inspect.Goals as goal
-
--- no more came of a source, whose bytes so far are sound
-no_more : (first : SourceView) (was : Unread) (now : ReaderView) (fault : FileFault)
-    (bytes : List ℕ) → NoHeadFault first.supply now.source.supply
-    → Pulled (start_at first.supply) now.source.supply now.unread.pulls bytes
-    → PullFails (reader_view first was) now fault
-    → HeadFails NoHeadFault first now.source fault
-no_more first was now Read bytes sound all why = (sound, why)
-no_more first was now ReadNeverEnds bytes sound all why = (
-  sound,
-  (
-    bytes,
-    all.consumed,
-    (
-      omega (arith, all.each_gave, why.0),
-      omega (arith, all.small, why.0),
-    ),
-  ),
-)
-no_more first was now other bytes sound all why = absurd why
 
 -- a rest that could not be read, after a header that was
 rest_to_head : (first : SourceView) (mid now : ReaderView) (header : Header) (front : List ℕ)
@@ -43,8 +21,7 @@ rest_to_head first mid now header front fault text same h f =
     let more = f.more (start_at first.supply) front h in
     let sound : NoHeadFault first.supply now.source.supply =
     (front ++ more.0, more.1.consumed, inr (header, front, more.0, text, refl)) in
-    no_more first mid.unread now fault (front ++ more.0) sound more.1
-    (pull_fails_since (reader_view first mid.unread) mid now fault same f.why)
+    pull_fails NoHeadFault first mid now (front ++ more.0) fault same sound more.1 f.why
 
 pub returns-in_err-intake-clause-fails : goal.returns-in_err-intake-clause-fails
 returns-in_err-intake-clause-fails g c =

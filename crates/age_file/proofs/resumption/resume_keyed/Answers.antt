@@ -1,6 +1,6 @@
-use Rattle.std.proofs.Common.{None, refl, rules, Err}
+use Rattle.std.proofs.Common.{None, refl, rules, Ok, Err}
 use Rattle.age_fault.specs.declared.fault.FileFault.TheVariants.{Memory}
-use Rattle.age_file.specs.inner.Readers.{reader_view, writer_view, stage, view_of_reader, view_of_writer, stage_of}
+use Rattle.age_file.specs.inner.Readers.{reader_view, writer_view, stage, view_of_writer, stage_of}
 use Rattle.age_file.specs.Runs.{ports}
 use Rattle.age_file.specs.Resumes.{resume_ports, ResumesKeyed}
 use Rattle.age_file.specs.declared.standing.Standing.TheVariants.{Before}
@@ -39,20 +39,16 @@ pub returns-in-Err-copy_before-clause-resumes : goal.returns-in-Err-copy_before-
 returns-in-Err-copy_before-clause-resumes g c =
     let first = writer_view (g.O.Sink.view c.args.writer.now) c.new-tally.result in
     let b = c.in-Err-copy_before.ensures.copied in
-    let f = c.in-Ok.ensures.found in
-    let x = reader_view (g.L.Source.view c.args.old_reader.now) b.first in
-    let z = reader_view (g.L.Source.view c.copy_before.new.source) b.last in
-    let s1 = stage (view_of_reader g.S.Source.view c.start_for.new.reader)
+    let s1 = stage (reader_view (g.S.Source.view c.start_for.new.reader.source.now) c.copy_before.new.intake)
     (view_of_writer g.O.Sink.view c.copy_before.new.writer) in
     let old = resume_ports (ports (g.S.Source.view c.args.reader.now)
     (g.O.Sink.view c.args.writer.now)) (g.L.Source.view c.args.old_reader.now) in
     let Allows = g.U.Unlock.allows c.args.unlock in
     let Refused = g.U.Unlock.refuses c.args.unlock in
-    let stops = copy_stopped c.args.positions Allows Refused c.args.position.now
-    (g.S.Source.view c.args.reader.now) c.in-Ok.unlocked
-    s1 c.start_for.new.reader.intake.now f.starts (f.own, f.tagged)
-    f.starts.unfailed first c.new-tally.ensures.written x z
-    b.none b.counted_on b.few c.in-Err-copy_before.fault b.copied in
+    let stops = copy_stopped c.args.positions Allows Refused c.args.position.now (g.S.Source.view c.args.reader.now)
+    c.in-Ok.unlocked s1 c.start_for.new.reader.intake.now c.in-Ok.ensures.found first c.new-tally.ensures.written
+    (g.L.Source.view c.args.old_reader.now) (g.L.Source.view c.copy_before.new.source)
+    (Err c.in-Err-copy_before.fault) b c.in-Err-copy_before.fault b.copied.answered in
     rw (c.nowhere-in-Err-copy_before.ensures, c.after.ensures) (ports_last g.S.Source.view g.O.Sink.view
     (λ p. ResumesKeyed c.args.positions Allows Refused c.args.position.now old
     (resume_ports p (g.L.Source.view c.copy_before.new.source))
@@ -68,44 +64,29 @@ pub resume_rest-requires : goal.resume_rest-requires
 resume_rest-requires g c =
     let first = writer_view (g.O.Sink.view c.args.writer.now) c.new-tally.result in
     let b = c.in-Ok-copy_before.ensures.copied in
-    let f = c.in-Ok.ensures.found in
-    let x = reader_view (g.L.Source.view c.args.old_reader.now) b.first in
-    let z = reader_view (g.L.Source.view c.copy_before.new.source) b.last in
-    let s1 = stage (reader_view (g.S.Source.view c.start_for.new.reader.source.now)
-    c.copy_before.new.intake)
+    let s1 = stage (reader_view (g.S.Source.view c.start_for.new.reader.source.now) c.copy_before.new.intake)
     (view_of_writer g.O.Sink.view c.copy_before.new.writer) in
-    place_after c.args.positions (g.U.Unlock.allows c.args.unlock)
-    (g.U.Unlock.refuses c.args.unlock) c.args.position.now
-    (g.S.Source.view c.args.reader.now) c.in-Ok.unlocked
-    s1 c.start_for.new.reader.intake.now f.starts (f.own, f.tagged)
-    f.starts.unfailed first c.new-tally.ensures.written x z
-    b.none b.counted_on b.few b.copied c.args.position.now.within b.kept b.counted
+    place_after c.args.positions (g.U.Unlock.allows c.args.unlock) (g.U.Unlock.refuses c.args.unlock)
+    c.args.position.now (g.S.Source.view c.args.reader.now) c.in-Ok.unlocked s1 c.start_for.new.reader.intake.now
+    c.in-Ok.ensures.found first c.new-tally.ensures.written (g.L.Source.view c.args.old_reader.now)
+    (g.L.Source.view c.copy_before.new.source) (Ok tt) b b.copied.answered
 
 pub returns-clause-resumes : goal.returns-clause-resumes
 returns-clause-resumes g c =
     let first = writer_view (g.O.Sink.view c.args.writer.now) c.new-tally.result in
     let b = c.in-Ok-copy_before.ensures.copied in
-    let f = c.in-Ok.ensures.found in
-    let x = reader_view (g.L.Source.view c.args.old_reader.now) b.first in
-    let z = reader_view (g.L.Source.view c.copy_before.new.source) b.last in
-    let s1 = stage (reader_view (g.S.Source.view c.start_for.new.reader.source.now)
-    c.copy_before.new.intake)
+    let s1 = stage (reader_view (g.S.Source.view c.start_for.new.reader.source.now) c.copy_before.new.intake)
     (view_of_writer g.O.Sink.view c.copy_before.new.writer) in
-    let s2 = stage_of g.S.Source.view g.O.Sink.view c.resume_rest.new.reader
-    c.resume_rest.new.writer in
+    let s2 = stage_of g.S.Source.view g.O.Sink.view c.resume_rest.new.reader c.resume_rest.new.writer in
     let old = resume_ports (ports (g.S.Source.view c.args.reader.now)
     (g.O.Sink.view c.args.writer.now)) (g.L.Source.view c.args.old_reader.now) in
     let Allows = g.U.Unlock.allows c.args.unlock in
     let Refused = g.U.Unlock.refuses c.args.unlock in
     ports_last g.S.Source.view g.O.Sink.view
     (λ p. ResumesKeyed c.args.positions Allows Refused c.args.position.now old
-    (resume_ports p (g.L.Source.view c.copy_before.new.source)) c.resume_rest.result.0
-    c.resume_rest.result.1)
-    _ c.resume_rest.new.reader.source.now _ c.resume_rest.new.writer.sink.now (search rules)
-    (search rules)
-    (rest_resumed c.args.positions Allows Refused c.args.position.now
-    (g.S.Source.view c.args.reader.now) c.in-Ok.unlocked
-    s1 c.start_for.new.reader.intake.now f.starts (f.own, f.tagged)
-    f.starts.unfailed first c.new-tally.ensures.written x z
-    b.none b.counted_on b.few b.copied c.args.position.now.within b.kept b.counted
+    (resume_ports p (g.L.Source.view c.copy_before.new.source)) c.resume_rest.result.0 c.resume_rest.result.1)
+    _ c.resume_rest.new.reader.source.now _ c.resume_rest.new.writer.sink.now (search rules) (search rules)
+    (rest_resumed c.args.positions Allows Refused c.args.position.now (g.S.Source.view c.args.reader.now)
+    c.in-Ok.unlocked s1 c.start_for.new.reader.intake.now c.in-Ok.ensures.found first c.new-tally.ensures.written
+    (g.L.Source.view c.args.old_reader.now) (g.L.Source.view c.copy_before.new.source) (Ok tt) b b.copied.answered
     s2 c.resume_rest.result.0 c.resume_rest.result.1 c.resume_rest.ensures.resumes)

@@ -8,12 +8,12 @@ use Rattle.age_file.specs.inner.Decrypts.{opens, seals}
 use Rattle.age_keys.specs.inner.PayloadBox.{box_valid}
 use Rattle.age_file.specs.inner.Readers.{start_at, reader_view, view_of_writer, Pulled}
 use Rattle.age_fault.specs.Faults.{HasFailed}
-use Rattle.age_file.specs.inner.Seals.{Wrote, front_of, SealingFails, SealsAll, SealsFront}
+use Rattle.age_file.specs.inner.Seals.{Wrote, front_of, SealingFails, SealsAll}
 use Rattle.age_file.specs.Runs.{ports}
 use Rattle.age_fault.specs.declared.fault.FileFault.{FileFault}
 use Rattle.age_file.proofs.ByteLemmas.{cut_pulled}
 use Rattle.age_file.proofs.SealLemmas.{front_small}
-use Rattle.age_file.proofs.SourceLemmas.{front_begins, no_front, piece_done, piece_cut, pull_fails, seal_fails, last_written, last_begins, last_whole}
+use Rattle.age_file.proofs.SourceLemmas.{sealing_failed, front_begins, no_front, piece_done, piece_cut, pull_fails, seal_fails, last_written, last_begins, last_whole}
 use Rattle.age_chunk.specs.Payload.{block_length, chunk_length}
 use Rattle.age_file.proofs.sealing.seal_all.Goals as goal
 
@@ -59,9 +59,8 @@ returns-in_err-refill-clause-sealed g c =
     let old = ports (g.S.Source.view c.args.reader.now.source.now)
     (g.O.Sink.view c.args.writer.now.sink.now) in
     let new = ports (g.S.Source.view c.refill.new.source) (g.O.Sink.view c.pulls.writer.sink.now) in
-    let front = subst (λ k. SealsFront (seals k) n old new c.args.writer.now.tally.written
-    c.pulls.writer.tally.written c.in_err-refill.field-0.0)
-    (ap (λ v. v.key) c.new-sealer.ensures) (record {
+    rw (p.1, p.2) (sealing_failed seals n c.new-sealer.result.key c.args.key.now old new c.args.writer.now.tally.written
+    c.pulls.writer.tally.written c.in_err-refill.field-0.0 (ap (λ v. v.key) c.new-sealer.ensures) (record {
       text = kept.text;
       out = front_of (seals c.new-sealer.result.key) n kept.text;
       moved = record {
@@ -76,14 +75,7 @@ returns-in_err-refill-clause-sealed g c =
           (reader_view (g.S.Source.view c.refill.new.source) c.refill.new.self)
           c.in_err-refill.field-0.0 kept.read_failed refl kept.write_failed
           (omega (arith, all.each_gave)) (omega (arith, all.small)) r.answered.2;
-    }) in
-    rw (p.1, p.2) (record {
-      done = tt;
-      counted = tt;
-      fails = front;
-      settled = tt;
-      named = kept.wrote.named;
-    })
+    }) (kept.wrote.named))
 
 pub seal_piece-requires : goal.seal_piece-requires
 seal_piece-requires g c =
@@ -126,10 +118,8 @@ returns-in_err-seal_piece-clause-sealed g c =
     let unwritten = piece_cut seals n c.new-sealer.result c.pulls.sealer c.seal_piece.new.sealer was
     mid now kept.text piece s.fed s.left s.unwritten
     kept.goes kept.fresh kept.wrote s.some positive in
-    let front = subst (λ k. SealsFront (seals k) n old new c.args.writer.now.tally.written
-    c.seal_piece.new.writer.tally.written
-    c.in_err-seal_piece.field-0.0)
-    (ap (λ v. v.key) c.new-sealer.ensures) (record {
+    rw (p.1, p.2) (sealing_failed seals n c.new-sealer.result.key c.args.key.now old new c.args.writer.now.tally.written
+    c.seal_piece.new.writer.tally.written c.in_err-seal_piece.field-0.0 (ap (λ v. v.key) c.new-sealer.ensures) (record {
       text = kept.text ++ piece;
       out = unwritten.0;
       moved = record {
@@ -142,14 +132,7 @@ returns-in_err-seal_piece-clause-sealed g c =
       fails = seal_fails seals n c.new-sealer.result c.pulls.sealer old new mid now kept.text piece
           unwritten.0 c.in_err-seal_piece.field-0.0
           kept.write_failed refl (r.answered.4 ∙ kept.read_failed) kept.goes kept.fresh s.answered;
-    }) in
-    rw (p.1, p.2) (record {
-      done = tt;
-      counted = tt;
-      fails = front;
-      settled = tt;
-      named = s.some.wrote.named ∙ kept.wrote.named;
-    })
+    }) (s.some.wrote.named ∙ kept.wrote.named))
 
 pub pulls-preserved : goal.pulls-preserved
 pulls-preserved g c =
@@ -228,9 +211,8 @@ returns-in_err-finish-clause-sealed g c =
     (g.O.Sink.view c.finish.new.writer.sink.now) in
     let out = last_written seals n a b was mid now kept.text kept.goes.key
     (kept.goes.holds [] kept.fresh) kept.wrote l.out l.unwritten l.wrote l.blocks in
-    let front = subst (λ k. SealsFront (seals k) n old new c.args.writer.now.tally.written
-    c.finish.new.writer.tally.written c.in_err-finish.field-0.0)
-    (ap (λ v. v.key) c.new-sealer.ensures) (record {
+    rw (p.1, p.2) (sealing_failed seals n c.new-sealer.result.key c.args.key.now old new c.args.writer.now.tally.written
+    c.finish.new.writer.tally.written c.in_err-finish.field-0.0 (ap (λ v. v.key) c.new-sealer.ensures) (record {
       text = kept.text;
       out = front_of (seals a.key) n kept.text ++ l.out;
       moved = record { read = all.consumed; wrote = out.bytes; count = out.count; small = small };
@@ -243,14 +225,7 @@ returns-in_err-finish-clause-sealed g c =
                 l.answered.1,
             r.answered.3 ∙ kept.read_failed,
           );
-    }) in
-    rw (p.1, p.2) (record {
-      done = tt;
-      counted = tt;
-      fails = front;
-      settled = tt;
-      named = out.named;
-    })
+    }) (out.named))
 
 pub returns-clause-sealed : goal.returns-clause-sealed
 returns-clause-sealed g c =

@@ -1,8 +1,8 @@
 use Rattle.std.proofs.Common.{◌++◌, ◌∙◌, refl, take, ap, length, arith}
 use Rattle.std.proofs.lemmas.List.{length-drop}
 use Rattle.std.proofs.lemmas.Result.{err_from_is_err_and}
-use Rattle.age_file.specs.Runs.{EndsInHeader}
-use Rattle.age_file.specs.inner.Readers.{start_at}
+use Rattle.age_file.specs.Runs.{EndsInHeader, InHeader}
+use Rattle.age_file.specs.inner.Readers.{start_at, reader_view, view_of_reader}
 use Rattle.age_file.proofs.ByteLemmas.{pull_fails, piece_fails, end_fails, stops_at, cut_pulled, head_pulled}
 use Rattle.age_file.proofs.head.HeadReader.read.Goals as goal
 
@@ -30,9 +30,9 @@ returns-in_err-refill-clause-fails g c =
     let all = cut_pulled (start_at old.supply) new.supply c.refill.new.self.pulls kept.held
     c.refill.new.self.bytes a.0
     (c.refill.ensures.refills.pulled (start_at old.supply) kept.held kept.pulled) in
-    rw (p.1, p.2) (pull_fails old (g.S.Source.view c.pieces.reader.source.now) new
-    c.pieces.reader.intake.now c.refill.new.self kept.held
-    c.in_err-refill.field-0.0 kept.unfailed kept.front.inside all a.2)
+    rw (p.1, p.2) (pull_fails InHeader old (view_of_reader g.S.Source.view c.pieces.reader)
+    (reader_view new c.refill.new.self) kept.held c.in_err-refill.field-0.0 kept.unfailed
+    (kept.held, all.consumed, kept.front.inside) all a.2)
 
 pub take-requires : goal.take-requires
 take-requires g c = (c.pieces.invariant.held, c.pieces.invariant.front)
