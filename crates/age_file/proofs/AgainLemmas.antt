@@ -24,8 +24,7 @@ use Rattle.age_file.specs.inner.Readers.{start_at, Pulled, ReaderView, Stage, st
 use Rattle.age_file.proofs.PayloadRunLemmas.{place_at, BeginsAt, run, is_run, given}
 
 -- how long the text before the chunk is
-pub size_before : (from : Option Position) (copied : List ℕ) → IsTextBefore from copied
-    → length copied ≡ first_of from * chunk_length
+pub size_before : (from : Option Position) (copied : List ℕ) → IsTextBefore from copied → length copied ≡ first_of from * chunk_length
 size_before None copied is = omega (arith, ap length is)
 size_before (Some p) copied is = is.size
 
@@ -40,10 +39,8 @@ that_took bytes = record {
 }
 
 found_by : (Allows : Header → List ℕ → Type 0) (from : Option Position) (copied : List ℕ)
-    (old new : SourceView) (r : Run) (written : ℕ) (position : Option Position)
-    → r.first ≡ first_of from → r.copied ≡ copied
-    → IsRun Allows (ports old (that_took [])) (ports new (that_took (held r))) written r
-    → GivesPosition Kept (IsPositionOf r) position
+    (old new : SourceView) (r : Run) (written : ℕ) (position : Option Position) → r.first ≡ first_of from → r.copied ≡ copied
+    → IsRun Allows (ports old (that_took [])) (ports new (that_took (held r))) written r → GivesPosition Kept (IsPositionOf r) position
     → IfSome position (IsFoundAgain Allows from copied old new written)
 found_by Allows from copied old new r written None first_is copied_is is here = absurd here
 found_by Allows from copied old new r written (Some p) first_is copied_is is here = record {
@@ -59,8 +56,7 @@ found_by Allows from copied old new r written (Some p) first_is copied_is is her
 -- the file was started, and the blocks before the chunk were passed over
 module _ (Allows : Header → List ℕ → Type 0) (from : Option Position) (a : SourceView)
     (unlocked : Unlocked) (s1 m : ReaderView) (s : StartsAt Allows a s1 unlocked)
-    (passed : List ℕ) (size : length passed ≡ first_of from * block_length)
-    (passes : Passes s1 m passed) (sink : SinkView) (t : Tally)
+    (passed : List ℕ) (size : length passed ≡ first_of from * block_length) (passes : Passes s1 m passed) (sink : SinkView) (t : Tally)
     (written : t.written ≡ first_of from * chunk_length) (index : t.index ≡ first_of from) where
   abbrev head : List ℕ
   head = s.front ++ unlocked.nonce
@@ -73,12 +69,10 @@ module _ (Allows : Header → List ℕ → Type 0) (from : Option Position) (a :
 
   -- there is room for what is after them
   pub place_after : HasPlace old
-  place_after =
-      place_at (start_at a.supply) head passed old t.index t.within (omega (arith, written, index)) after_blocks
+  place_after = place_at (start_at a.supply) head passed old t.index t.within (omega (arith, written, index)) after_blocks
 
   module _ (copied : List ℕ) (before : IsTextBefore from copied)
-      (chained : t.chain ≡ chain_if Kept (first_chunks chunk_length (first_of from) copied))
-      (s2 : Stage) where
+      (chained : t.chain ≡ chain_if Kept (first_chunks chunk_length (first_of from) copied)) (s2 : Stage) where
     begins : BeginsAt Kept (start_at a.supply) head old t.index copied passed
     begins = record {
       limit = t.within;
@@ -91,21 +85,17 @@ module _ (Allows : Header → List ℕ → Type 0) (from : Option Position) (a :
     }
 
     abbrev Found : Result Done Stopped → Type 0
-    Found result = IfErr result (λ stopped. IfSome stopped.position
-        (IsFoundAgain Allows from copied a s2.reader.source stopped.written))
+    Found result = IfErr result (λ stopped. IfSome stopped.position (IsFoundAgain Allows from copied a s2.reader.source stopped.written))
 
     -- the position of a stop
     pub found_again : (result : Result Done Stopped) → OpensPayload unlocked t.index old s2 result → Found result
     found_again result o = found o.run o.decrypts o.ended where
-      found : (end : Result (Unit {0}) FileFault)
-          → DecryptsPayload (opens (payload_key unlocked.key unlocked.nonce)) chunk_length t.index old s2 end
+      found : (end : Result (Unit {0}) FileFault) → DecryptsPayload (opens (payload_key unlocked.key unlocked.nonce)) chunk_length t.index old s2 end
           → EndsAs unlocked s2.writer.tally end result → Found result
       found (Ok u) q is = subst Found (sym is) tt
       found (Err fault) q (next, at, is) =
           let r = run Kept Allows a s1 unlocked s [] old t.index copied passed begins s2 (Err fault) q in
-          let took : Appends (that_took []).taken (that_took (held r)).taken (held r) =
-          record { bytes = refl; contents = tt } in
+          let took : Appends (that_took []).taken (that_took (held r)).taken (held r) = record { bytes = refl; contents = tt } in
           subst Found (sym is) (found_by Allows from copied a s2.reader.source r s2.writer.tally.written next index refl
-          (is_run Kept Allows a s1 unlocked s [] old t.index copied passed begins s2 (Err fault) q (that_took [])
-          (that_took (held r)) took)
+          (is_run Kept Allows a s1 unlocked s [] old t.index copied passed begins s2 (Err fault) q (that_took []) (that_took (held r)) took)
           (given Kept Allows a s1 unlocked s [] old t.index copied passed begins s2 (Err fault) q next at))

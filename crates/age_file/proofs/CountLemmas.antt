@@ -39,33 +39,25 @@ min_is x n i j positive low le (inr same) =
 -- no bytes
 pub no_piece : (s : Segment) → with_piece s [] ≡ s
 no_piece s = nothing s.start s.bytes s.ended s.late where
-  nothing : (start : ℕ) (bytes : List ℕ) (ended late : Bool)
-      → with_piece (record { start = start; bytes = bytes; ended = ended; late = late }) []
+  nothing : (start : ℕ) (bytes : List ℕ) (ended late : Bool) → with_piece (record { start = start; bytes = bytes; ended = ended; late = late }) []
       ≡ record {
         start = start;
         bytes = bytes;
         ended = ended;
         late = late;
       }
-  nothing start bytes true late =
-      ap (λ (l : Bool). record { start = start; bytes = bytes; ended = true; late = l })
-      (or-false late)
-  nothing start bytes false late =
-      ap (λ (b : List ℕ). record { start = start; bytes = b; ended = false; late = late })
-      (append-nil bytes)
+  nothing start bytes true late = ap (λ (l : Bool). record { start = start; bytes = bytes; ended = true; late = l }) (or-false late)
+  nothing start bytes false late = ap (λ (b : List ℕ). record { start = start; bytes = b; ended = false; late = late }) (append-nil bytes)
 
 pub piece_start : (s : Segment) (piece : List ℕ) → (with_piece s piece).start ≡ s.start
 piece_start s piece = start_of s.start s.bytes s.ended s.late where
-  start_of : (start : ℕ) (bytes : List ℕ) (ended late : Bool)
-      → (with_piece (record { start = start; bytes = bytes; ended = ended; late = late })
-      piece).start
-      ≡ start
+  start_of : (start : ℕ) (bytes : List ℕ) (ended late : Bool) → (with_piece (record { start = start; bytes = bytes; ended = ended; late = late })
+      piece).start ≡ start
   start_of start bytes true late = refl
   start_of start bytes false late = refl
 
 -- one link more
-pub chain_on : (chunks : List (List ℕ)) (chunk : List ℕ)
-    → chain (chunks ++ chunk ∷ []) ≡ link (chain chunks) chunk
+pub chain_on : (chunks : List (List ℕ)) (chunk : List ℕ) → chain (chunks ++ chunk ∷ []) ≡ link (chain chunks) chunk
 unfolding chain
 chain_on chunks chunk = fold-append link (replicate 32 0) chunks (chunk ∷ [])
 
@@ -74,8 +66,7 @@ pub chain_if_on : (keep : PositionPolicy) (chunks : List (List ℕ)) (chunk : Li
 chain_if_on Kept chunks chunk = ap Some (chain_on chunks chunk)
 chain_if_on Dropped chunks chunk = refl
 
-module _ (sealing : List ℕ → List ℕ → List ℕ) (opening : List ℕ → List ℕ → Option (List ℕ))
-    (valid : IsChunkBox sealing opening) (n : ℕ) (positive : 0
+module _ (sealing : List ℕ → List ℕ → List ℕ) (opening : List ℕ → List ℕ → Option (List ℕ)) (valid : IsChunkBox sealing opening) (n : ℕ) (positive : 0
     < n) (keep : PositionPolicy) where
   abbrev at : Segment → ℕ
   at s = (outcome opening n s).index
@@ -88,80 +79,67 @@ module _ (sealing : List ℕ → List ℕ → List ℕ) (opening : List ℕ → 
   index_stays s piece timely = (released_grows opening n s piece timely).1
 
   -- open segments have released whole chunks alone
-  open_text : (base : List ℕ) (s : Segment) → length base ≡ s.start * n
-      → counted_chunks opening n s ≡ (outcome opening n s).texts
+  open_text : (base : List ℕ) (s : Segment) → length base ≡ s.start * n → counted_chunks opening n s ≡ (outcome opening n s).texts
       → length (base ++ released opening n s) ≡ at s * n
   open_text base s len all =
       let c = chunks_are_counted sealing opening valid n base s len in
       let text = base ++ released opening n s in
-      let e : text ≡ take (at s * n) text =
-      ap (λ (ts : List (List ℕ)). base ++ flat_map (λ (t : List ℕ). t) ts) (sym all) ∙ c.join in
+      let e : text ≡ take (at s * n) text = ap (λ (ts : List (List ℕ)). base ++ flat_map (λ (t : List ℕ). t) ts) (sym all) ∙ c.join in
       omega (arith, ap length e, length-take (at s * n) text, c.within)
 
   -- how many texts were released, by the index
-  texts_len : (base : List ℕ) (s : Segment) → length base ≡ s.start * n
-      → at s ≤ s.start + length (outcome opening n s).texts
+  texts_len : (base : List ℕ) (s : Segment) → length base ≡ s.start * n → at s ≤ s.start + length (outcome opening n s).texts
   texts_len base s len =
       let c = chunks_are_counted sealing opening valid n base s len in
       omega (arith, c.count, length-take (at s - s.start) (outcome opening n s).texts)
 
   -- a segment is open, or more bytes leave its index
-  stays : (s : Segment) → IsTimely s
-      → ((outcome opening n s).status ≡ Open) ⊎ ((more : List ℕ) → (at (with_piece s more) ≡ at s)
+  stays : (s : Segment) → IsTimely s → ((outcome opening n s).status ≡ Open) ⊎ ((more : List ℕ) → (at (with_piece s more) ≡ at s)
       × ((outcome opening n (with_piece s more)).texts ≡ (outcome opening n s).texts))
   stays s timely = by_status (outcome opening n s).status refl where
     by_status : (status : Status) → (outcome opening n s).status ≡ status
         → ((outcome opening n s).status ≡ Open) ⊎ ((more : List ℕ) → (at (with_piece s more) ≡ at s)
         × ((outcome opening n (with_piece s more)).texts ≡ (outcome opening n s).texts))
     by_status Open e = inl e
-    by_status other e = inr (λ more. let after =
-        (closed_stays opening n s timely (λ o. cc)).0 more in (after.index, after.texts))
+    by_status other e = inr (λ more. let after = (closed_stays opening n s timely (λ o. cc)).0 more in (after.index, after.texts))
 
   -- all was written
-  pub mark_all : (base : List ℕ) (s : Segment) (p : Tally) → length base ≡ s.start * n → IsTimely s
-      → p.index ≡ at s → p.chain
-      ≡ chain_if keep (first_chunks n p.index (base ++ released opening n s))
-      → CountsChunks keep opening n base s [] p
+  pub mark_all : (base : List ℕ) (s : Segment) (p : Tally) → length base ≡ s.start * n → IsTimely s → p.index ≡ at s → p.chain
+      ≡ chain_if keep (first_chunks n p.index (base ++ released opening n s)) → CountsChunks keep opening n base s [] p
   mark_all base s p len timely index chain_is =
       let text = base ++ released opening n s in
       let c = chunks_are_counted sealing opening valid n base s len in
       let x : length text - 0 ≡ length text = omega arith in
       record {
         index = λ more.
-            let side : (length text < (at s + 1) * n) ⊎ (at (with_piece s more) ≡ at s) =
-            elim (stays s timely) [
+            let side : (length text < (at s + 1) * n) ⊎ (at (with_piece s more) ≡ at s) = elim (stays s timely) [
               | inl o ↦ (let e : (at s + 1) * n ≡ at s * n + n =
                   omega arith in inl (omega (arith, open_text base s len (c.all o), e, positive)))
               | inr same ↦ inr (same more).0
             ] in
-            index ∙ (min_is (length text) n (at s) (at (with_piece s more)) positive c.within
-            (index_stays s more timely) side
+            index ∙ (min_is (length text) n (at s) (at (with_piece s more)) positive c.within (index_stays s more timely) side
             ∙ ap (λ (k : ℕ). min (k / n) (at (with_piece s more))) (sym x));
         chain_is = chain_is;
       }
 
   -- the index is then the segment's
-  pub mark_index : (base : List ℕ) (s : Segment) (p : Tally) → length base ≡ s.start * n
-      → CountsChunks keep opening n base s [] p → p.index ≡ at s
+  pub mark_index : (base : List ℕ) (s : Segment) (p : Tally) → length base ≡ s.start * n → CountsChunks keep opening n base s [] p → p.index ≡ at s
   mark_index base s p len m =
       let text = base ++ released opening n s in
       let c = chunks_are_counted sealing opening valid n base s len in
       let x : length text - 0 ≡ length text = omega arith in
-      let e : p.index ≡ min (length text / n) (at s) =
-      m.index [] ∙ (ap (λ (t : Segment). min ((length text - 0) / n) (at t)) (no_piece s)
+      let e : p.index ≡ min (length text / n) (at s) = m.index [] ∙ (ap (λ (t : Segment). min ((length text - 0) / n) (at t)) (no_piece s)
       ∙ ap (λ (k : ℕ). min (k / n) (at s)) x) in
       let below : at s ≤ length text / n = (le-div_iff_mul-le positive).1 c.within in
       omega (arith, e, below)
 
   -- the chunks in front stay with more text
   front_stays : (base : List ℕ) (s next : Segment) (more : List ℕ) → length base ≡ s.start * n
-      → released opening n next ≡ released opening n s ++ more
-      → first_chunks n (at s) (base ++ released opening n next)
+      → released opening n next ≡ released opening n s ++ more → first_chunks n (at s) (base ++ released opening n next)
       ≡ first_chunks n (at s) (base ++ released opening n s)
   front_stays base s next more len e =
       let c = chunks_are_counted sealing opening valid n base s len in
-      ap (λ (t : List ℕ). first_chunks n (at s) (base ++ t)) e
-      ∙ (ap (first_chunks n (at s)) (sym (append_assoc base (released opening n s) more))
+      ap (λ (t : List ℕ). first_chunks n (at s) (base ++ t)) e ∙ (ap (first_chunks n (at s)) (sym (append_assoc base (released opening n s) more))
       ∙ first_chunks-append n (at s) (base ++ released opening n s) more c.within)
 
   -- texts of the piece that came
@@ -169,25 +147,20 @@ module _ (sealing : List ℕ → List ℕ → List ℕ) (opening : List ℕ → 
     texts : (outcome opening n (with_piece s piece)).texts ≡ (outcome opening n s).texts ++ ts
     few : length ts ≤ 1
 
-  more_released : (s : Segment) (piece : List ℕ) (ts : List (List ℕ)) → IsMore s piece ts
-      → released opening n (with_piece s piece)
+  more_released : (s : Segment) (piece : List ℕ) (ts : List (List ℕ)) → IsMore s piece ts → released opening n (with_piece s piece)
       ≡ released opening n s ++ flat_map (λ (t : List ℕ). t) ts
-  more_released s piece ts m = ap (flat_map (λ (t : List ℕ). t)) m.texts
-      ∙ flat_map-append (λ (t : List ℕ). t) (outcome opening n s).texts ts
+  more_released s piece ts m = ap (flat_map (λ (t : List ℕ). t)) m.texts ∙ flat_map-append (λ (t : List ℕ). t) (outcome opening n s).texts ts
 
   -- the index rose: by one, and the text that came is one chunk more
   record IsRaised (base : List ℕ) (s : Segment) (piece : List ℕ) (ts : List (List ℕ)) : Type 0 where
     by_one : at (with_piece s piece) ≡ at s + 1
     one : length ts ≡ 1
-    chunks : first_chunks n (at (with_piece s piece))
-        (base ++ released opening n (with_piece s piece))
+    chunks : first_chunks n (at (with_piece s piece)) (base ++ released opening n (with_piece s piece))
         ≡ first_chunks n (at s) (base ++ released opening n s) ++ ts
     whole : length (base ++ released opening n (with_piece s piece)) ≡ at (with_piece s piece) * n
 
-  raised : (base : List ℕ) (s : Segment) (piece : List ℕ) (ts : List (List ℕ))
-      → length base ≡ s.start * n → IsTimely s → IsMore s piece ts → at s
-      < at (with_piece s piece)
-      → IsRaised base s piece ts
+  raised : (base : List ℕ) (s : Segment) (piece : List ℕ) (ts : List (List ℕ)) → length base ≡ s.start * n → IsTimely s → IsMore s piece ts → at s
+      < at (with_piece s piece) → IsRaised base s piece ts
   raised base s piece ts len timely m lt =
       let next = with_piece s piece in
       let start : next.start ≡ s.start = piece_start s piece in
@@ -195,38 +168,28 @@ module _ (sealing : List ℕ → List ℕ → List ℕ) (opening : List ℕ → 
       let c = chunks_are_counted sealing opening valid n base s len in
       let c' = chunks_are_counted sealing opening valid n base next len' in
       let texts = (outcome opening n s).texts in
-      let o : (outcome opening n s).status ≡ Open =
-      elim (stays s timely) [
+      let o : (outcome opening n s).status ≡ Open = elim (stays s timely) [
         | inl o ↦ o
         | inr same ↦ absurd (omega (arith, lt, (same piece).0))
       ] in
-      let count : s.start + length texts ≡ at s =
-      ap (λ (xs : List (List ℕ)). s.start + length xs) (sym (c.all o)) ∙ c.count in
-      let size : length (outcome opening n next).texts ≡ length texts + length ts =
-      ap length m.texts ∙ length-append texts ts in
+      let count : s.start + length texts ≡ at s = ap (λ (xs : List (List ℕ)). s.start + length xs) (sym (c.all o)) ∙ c.count in
+      let size : length (outcome opening n next).texts ≡ length texts + length ts = ap length m.texts ∙ length-append texts ts in
       let most = texts_len base next len' in
       let by_one : at next ≡ at s + 1 = omega (arith, lt, most, start, size, count, m.few) in
       let one : length ts ≡ 1 = omega (arith, lt, most, start, size, count, m.few) in
-      let all : counted_chunks opening n next ≡ texts ++ ts = ap (take (at next - next.start)) m.texts
-      ∙ take_all (at next - next.start) (texts ++ ts)
+      let all : counted_chunks opening n next ≡ texts ++ ts = ap (take (at next - next.start)) m.texts ∙ take_all (at next - next.start) (texts ++ ts)
       (omega (arith, length-append texts ts, by_one, one, count, start)) in
       let base_chunks = first_chunks n s.start base in
-      let here : first_chunks n (at s) (base ++ released opening n s) ≡ base_chunks ++ texts =
-      c.chunks (at s) (omega arith)
-      ∙ (ap (λ (xs : List (List ℕ)). take (at s) (base_chunks ++ xs)) (c.all o)
-      ∙ take_all (at s) (base_chunks ++ texts)
-      (omega (
+      let here : first_chunks n (at s) (base ++ released opening n s) ≡ base_chunks ++ texts = c.chunks (at s) (omega arith)
+      ∙ (ap (λ (xs : List (List ℕ)). take (at s) (base_chunks ++ xs)) (c.all o) ∙ take_all (at s) (base_chunks ++ texts) (omega (
         arith,
         length-append base_chunks texts,
         length-first_chunks n s.start base,
         count,
       ))) in
-      let there : first_chunks n (at next) (base ++ released opening n next) ≡ base_chunks
-      ++ (texts ++ ts) =
-      c'.chunks (at next) (omega arith)
+      let there : first_chunks n (at next) (base ++ released opening n next) ≡ base_chunks ++ (texts ++ ts) = c'.chunks (at next) (omega arith)
       ∙ (ap (λ (xs : List (List ℕ)). take (at next) (first_chunks n next.start base ++ xs)) all
-      ∙ (ap (λ (k : ℕ). take (at next) (first_chunks n k base ++ (texts ++ ts))) start
-      ∙ take_all (at next) (base_chunks ++ (texts ++ ts)) (omega (
+      ∙ (ap (λ (k : ℕ). take (at next) (first_chunks n k base ++ (texts ++ ts))) start ∙ take_all (at next) (base_chunks ++ (texts ++ ts)) (omega (
         arith,
         length-append base_chunks (texts ++ ts),
         length-append texts ts,
@@ -238,8 +201,7 @@ module _ (sealing : List ℕ → List ℕ → List ℕ) (opening : List ℕ → 
       record {
         by_one = by_one;
         one = one;
-        chunks = there ∙ (sym (append_assoc base_chunks texts ts)
-            ∙ ap (λ (xs : List (List ℕ)). xs ++ ts) (sym here));
+        chunks = there ∙ (sym (append_assoc base_chunks texts ts) ∙ ap (λ (xs : List (List ℕ)). xs ++ ts) (sym here));
         whole = open_text base next len' (all ∙ sym m.texts);
       }
 
@@ -249,8 +211,7 @@ module _ (sealing : List ℕ → List ℕ → List ℕ) (opening : List ℕ → 
       → now.chain ≡ was.chain → CountsChunks keep opening n base s [] was
       → now.chain ≡ chain_if keep (first_chunks n now.index (base ++ released opening n next))
   chain_stays base s next more was now len e old index chain_same m =
-      chain_same ∙ (m.chain_is
-      ∙ (ap (λ (k : ℕ). chain_if keep (first_chunks n k (base ++ released opening n s))) old
+      chain_same ∙ (m.chain_is ∙ (ap (λ (k : ℕ). chain_if keep (first_chunks n k (base ++ released opening n s))) old
       ∙ (ap (chain_if keep) (sym (front_stays base s next more len e))
       ∙ ap (λ (k : ℕ). chain_if keep (first_chunks n k (base ++ released opening n next))) (sym (index ∙ old)))))
 
@@ -264,18 +225,14 @@ module _ (sealing : List ℕ → List ℕ → List ℕ) (opening : List ℕ → 
   one_text (t ∷ u ∷ us) e = absurd (omega (arith, e))
 
   -- a call that took bytes, and what it lent was written whole
-  pub mark_step : (base : List ℕ) (s : Segment) (piece : List ℕ) (ts : List (List ℕ)) (index : ℕ)
-      (was now : Tally) → length base ≡ s.start * n
-      → IsTimely s → IsTimely (with_piece s piece)
-      → (outcome opening n (with_piece s piece)).texts ≡ (outcome opening n s).texts ++ ts
+  pub mark_step : (base : List ℕ) (s : Segment) (piece : List ℕ) (ts : List (List ℕ)) (index : ℕ) (was now : Tally) → length base ≡ s.start * n
+      → IsTimely s → IsTimely (with_piece s piece) → (outcome opening n (with_piece s piece)).texts ≡ (outcome opening n s).texts ++ ts
       → length ts ≤ 1 → index ≡ at (with_piece s piece)
-      → AdvancesTally was.index was.chain index (link_if was.chain (flat_map (λ (t : List ℕ). t) ts)) now
-      → CountsChunks keep opening n base s [] was
+      → AdvancesTally was.index was.chain index (link_if was.chain (flat_map (λ (t : List ℕ). t) ts)) now → CountsChunks keep opening n base s [] was
       → CountsChunks keep opening n base (with_piece s piece) [] now
   mark_step base s piece ts index was now len timely timely' texts few is a m =
       let next = with_piece s piece in
-      let len' : length base ≡ next.start * n =
-      len ∙ ap (λ (k : ℕ). k * n) (sym (piece_start s piece)) in
+      let len' : length base ≡ next.start * n = len ∙ ap (λ (k : ℕ). k * n) (sym (piece_start s piece)) in
       let more : IsMore s piece ts = record { texts = texts; few = few } in
       let old = mark_index base s was len m in
       let grown = index_stays s piece timely in
@@ -286,46 +243,34 @@ module _ (sealing : List ℕ → List ℕ → List ℕ) (opening : List ℕ → 
             let chunk = flat_map (λ (t : List ℕ). t) ts in
             let e : first_chunks n (at next) (base ++ released opening n next)
             ≡ first_chunks n was.index (base ++ released opening n s) ++ chunk ∷ [] =
-            r.chunks ∙ (ap (λ (k : ℕ). first_chunks n k (base ++ released opening n s) ++ ts)
-            (sym old)
-            ∙ ap (λ (xs : List (List ℕ)). first_chunks n was.index (base ++ released opening n s)
-            ++ xs) (one_text ts r.one)) in
-            mark_all base next now len' timely' (f.0 ∙ is)
-            (f.1 ∙ (ap (λ (l : Option (List ℕ)). link_if l chunk) m.chain_is
-            ∙ (sym (chain_if_on keep (first_chunks n was.index (base ++ released opening n s))
-            chunk)
-            ∙ (ap (chain_if keep) (sym e) ∙ ap
-            (λ (k : ℕ). chain_if keep (first_chunks n k (base ++ released opening n next)))
-            (sym (f.0 ∙ is)))))))
+            r.chunks ∙ (ap (λ (k : ℕ). first_chunks n k (base ++ released opening n s) ++ ts) (sym old)
+            ∙ ap (λ (xs : List (List ℕ)). first_chunks n was.index (base ++ released opening n s) ++ xs) (one_text ts r.one)) in
+            mark_all base next now len' timely' (f.0 ∙ is) (f.1 ∙ (ap (λ (l : Option (List ℕ)). link_if l chunk) m.chain_is
+            ∙ (sym (chain_if_on keep (first_chunks n was.index (base ++ released opening n s)) chunk) ∙ (ap (chain_if keep) (sym e) ∙ ap
+            (λ (k : ℕ). chain_if keep (first_chunks n k (base ++ released opening n next))) (sym (f.0 ∙ is)))))))
         | inr le ↦
             (let same : at next ≡ at s = omega (arith, le, grown) in
             let f = a.still (omega (arith, old, is, same)) in
             mark_all base next now len' timely' (f.0 ∙ (old ∙ sym same))
-            (chain_stays base s next (flat_map (λ (t : List ℕ). t) ts) was now len (more_released s piece ts more)
-            old f.0 f.1 m))
+            (chain_stays base s next (flat_map (λ (t : List ℕ). t) ts) was now len (more_released s piece ts more) old f.0 f.1 m))
       ]
 
   -- a call that lent nothing
   pub mark_none : (base : List ℕ) (s : Segment) (piece : List ℕ) (was : Tally)
       → length base ≡ s.start * n → IsTimely s → IsTimely (with_piece s piece)
-      → (outcome opening n (with_piece s piece)).texts ≡ (outcome opening n s).texts ++ []
-      → CountsChunks keep opening n base s [] was
+      → (outcome opening n (with_piece s piece)).texts ≡ (outcome opening n s).texts ++ [] → CountsChunks keep opening n base s [] was
       → CountsChunks keep opening n base (with_piece s piece) [] was
   mark_none base s piece was len timely timely' texts m =
       let none : IsMore s piece [] = record { texts = texts; few = omega arith } in
       let old = mark_index base s was len m in
-      mark_step base s piece [] (at (with_piece s piece)) was was len timely timely' texts (omega arith) refl
-      (record {
+      mark_step base s piece [] (at (with_piece s piece)) was was len timely timely' texts (omega arith) refl (record {
         further = λ lt. absurd (omega (arith, (raised base s piece [] len timely none (omega (arith, lt, old))).one));
         still = λ le. (refl, refl);
-      })
-      m
+      }) m
 
   -- what is known of the text if it was not written
-  cut_len : (base : List ℕ) (s next : Segment) (out unwritten : List ℕ)
-      → released opening n next ≡ released opening n s ++ (out ++ unwritten)
-      → length (base ++ released opening n next) - length unwritten
-      ≡ length (base ++ released opening n s) + length out
+  cut_len : (base : List ℕ) (s next : Segment) (out unwritten : List ℕ) → released opening n next ≡ released opening n s ++ (out ++ unwritten)
+      → length (base ++ released opening n next) - length unwritten ≡ length (base ++ released opening n s) + length out
   cut_len base s next out unwritten e =
       omega (
         arith,
@@ -337,41 +282,29 @@ module _ (sealing : List ℕ → List ℕ → List ℕ) (opening : List ℕ → 
       )
 
   -- the same, and some of what it lent was not written
-  pub mark_cut : (base : List ℕ) (s : Segment) (piece : List ℕ) (ts : List (List ℕ))
-      (out unwritten : List ℕ) (was now : Tally) → length base
-      ≡ s.start * n → IsTimely s → IsTimely (with_piece s piece)
-      → (outcome opening n (with_piece s piece)).texts ≡ (outcome opening n s).texts ++ ts
-      → length ts ≤ 1 → flat_map (λ (t : List ℕ). t) ts ≡ out ++ unwritten
-      → 0 < length unwritten
-      → now.index ≡ was.index → now.chain ≡ was.chain
-      → CountsChunks keep opening n base s [] was
-      → CountsChunks keep opening n base (with_piece s piece) unwritten now
-  mark_cut base s piece ts out unwritten was now len timely timely' texts few parts some index
-      chain_same m =
+  pub mark_cut : (base : List ℕ) (s : Segment) (piece : List ℕ) (ts : List (List ℕ)) (out unwritten : List ℕ) (was now : Tally) → length base
+      ≡ s.start * n → IsTimely s → IsTimely (with_piece s piece) → (outcome opening n (with_piece s piece)).texts ≡ (outcome opening n s).texts ++ ts
+      → length ts ≤ 1 → flat_map (λ (t : List ℕ). t) ts ≡ out ++ unwritten → 0 < length unwritten → now.index ≡ was.index → now.chain ≡ was.chain
+      → CountsChunks keep opening n base s [] was → CountsChunks keep opening n base (with_piece s piece) unwritten now
+  mark_cut base s piece ts out unwritten was now len timely timely' texts few parts some index chain_same m =
       let next = with_piece s piece in
-      let len' : length base ≡ next.start * n =
-      len ∙ ap (λ (k : ℕ). k * n) (sym (piece_start s piece)) in
+      let len' : length base ≡ next.start * n = len ∙ ap (λ (k : ℕ). k * n) (sym (piece_start s piece)) in
       let more_is : IsMore s piece ts = record { texts = texts; few = few } in
       let old = mark_index base s was len m in
       let c = chunks_are_counted sealing opening valid n base s len in
       let c' = chunks_are_counted sealing opening valid n base next len' in
       let text = base ++ released opening n s in
       let text' = base ++ released opening n next in
-      let e = more_released s piece ts more_is ∙ ap (λ (t : List ℕ). released opening n s ++ t)
-      parts in
+      let e = more_released s piece ts more_is ∙ ap (λ (t : List ℕ). released opening n s ++ t) parts in
       let left = cut_len base s next out unwritten e in
-      let lent : 0 < length (flat_map (λ (t : List ℕ). t) ts) =
-      omega (arith, ap length parts, length-append out unwritten, some) in
-      let size : length (outcome opening n next).texts ≡ length (outcome opening n s).texts
-      + length ts = ap length texts
+      let lent : 0 < length (flat_map (λ (t : List ℕ). t) ts) = omega (arith, ap length parts, length-append out unwritten, some) in
+      let size : length (outcome opening n next).texts ≡ length (outcome opening n s).texts + length ts = ap length texts
       ∙ length-append (outcome opening n s).texts ts in
       -- it lent something, so it was open
       let o : (outcome opening n s).status ≡ Open =
       elim (stays s timely) [
         | inl o ↦ o
-        | inr same ↦ (let none = none_lent ts
-            (omega (arith, size, ap length (same piece).1)) in absurd
-            (omega (arith, lent, ap length none)))
+        | inr same ↦ (let none = none_lent ts (omega (arith, size, ap length (same piece).1)) in absurd (omega (arith, lent, ap length none)))
       ] in
       let start = piece_start s piece in
       let some_text : length ts ≡ 0 → ⊥ = λ z. let none =
@@ -383,17 +316,11 @@ module _ (sealing : List ℕ → List ℕ → List ℕ) (opening : List ℕ → 
       record {
         index = λ more.
             let j = at (with_piece next more) in
-            let grows : at s ≤ j = omega (
-              arith,
-              index_stays s piece timely,
-              index_stays next more timely',
-            ) in
-            let side : (length text' - length unwritten < (at s + 1) * n) ⊎ (j ≡ at s) =
-            elim (cases_lt (at s) (at next)) [
+            let grows : at s ≤ j = omega (arith, index_stays s piece timely, index_stays next more timely') in
+            let side : (length text' - length unwritten < (at s + 1) * n) ⊎ (j ≡ at s) = elim (cases_lt (at s) (at next)) [
               | inl lt ↦
                   (let r = raised base s piece ts len timely more_is lt in
-                  let all : length text' ≡ at s * n + n =
-                  r.whole ∙ (ap (λ (k : ℕ). k * n) r.by_one ∙ step) in
+                  let all : length text' ≡ at s * n + n = r.whole ∙ (ap (λ (k : ℕ). k * n) r.by_one ∙ step) in
                   inl (omega (
                     arith,
                     all,
@@ -411,21 +338,18 @@ module _ (sealing : List ℕ → List ℕ → List ℕ) (opening : List ℕ → 
                   elim (stays next timely') [
                     | inl o' ↦
                         (let count' : next.start + length (outcome opening n next).texts
-                        ≡ at next = ap (λ (xs : List (List ℕ)). next.start + length xs)
-                        (sym (c'.all o')) ∙ c'.count in
+                        ≡ at next = ap (λ (xs : List (List ℕ)). next.start + length xs) (sym (c'.all o')) ∙ c'.count in
                         absurd (some_text (omega (arith, count', count, size, same, start))))
                     | inr still ↦ inr ((still more).0 ∙ same)
                   ])
             ] in
-            index ∙ (old ∙ min_is (length text' - length unwritten) n (at s) j positive
-            (omega (arith, left, whole)) grows side);
+            index ∙ (old ∙ min_is (length text' - length unwritten) n (at s) j positive (omega (arith, left, whole)) grows side);
         chain_is = chain_stays base s next (out ++ unwritten) was now len e old index chain_same m;
       }
 
   -- the end, of whose text this much was written
   pub mark_end : (base : List ℕ) (s : Segment) (out unwritten : List ℕ) (was now : Tally)
-      → length base ≡ s.start * n → released opening n (with_end s)
-      ≡ released opening n s ++ (out ++ unwritten)
+      → length base ≡ s.start * n → released opening n (with_end s) ≡ released opening n s ++ (out ++ unwritten)
       → now.index ≡ was.index → now.chain ≡ was.chain → CountsChunks keep opening n base s [] was
       → CountsChunks keep opening n base (with_end s) unwritten now
   mark_end base s out unwritten was now len e index chain_same m =
@@ -440,37 +364,28 @@ module _ (sealing : List ℕ → List ℕ → List ℕ) (opening : List ℕ → 
       record {
         index = λ more.
             let j = at (with_piece next more) in
-            let still : j ≡ at s = ((closed_stays opening n next (λ u. cc) closes.0).0 more).index
-            ∙ same in
+            let still : j ≡ at s = ((closed_stays opening n next (λ u. cc) closes.0).0 more).index ∙ same in
             index ∙ (old ∙ min_is (length text' - length unwritten) n (at s) j positive
             (omega (arith, left, c.within)) (omega (arith, still)) (inr still));
         chain_is = chain_stays base s next (out ++ unwritten) was now len e old index chain_same m;
       }
 
   -- before any byte
-  pub mark_fresh : (base : List ℕ) (k : ℕ) (p : Tally) → length base ≡ k * n → p.index ≡ k
-      → p.chain ≡ chain_if keep (first_chunks n k base)
+  pub mark_fresh : (base : List ℕ) (k : ℕ) (p : Tally) → length base ≡ k * n → p.index ≡ k → p.chain ≡ chain_if keep (first_chunks n k base)
       → CountsChunks keep opening n base (fresh k) [] p
   mark_fresh base k p len index chain_is =
-      let none : released opening n (fresh k) ≡ [] =
-      ap (λ (o : Outcome). flat_map (λ (t : List ℕ). t) o.texts) (fresh_is_open opening n k) in
-      let same : base ≡ base ++ released opening n (fresh k) =
-      sym (ap (λ (t : List ℕ). base ++ t) none ∙ append-nil base) in
-      mark_all base (fresh k) p len (λ _. refl)
-      (index ∙ sym (ap (λ (o : Outcome). o.index) (fresh_is_open opening n k)))
+      let none : released opening n (fresh k) ≡ [] = ap (λ (o : Outcome). flat_map (λ (t : List ℕ). t) o.texts) (fresh_is_open opening n k) in
+      let same : base ≡ base ++ released opening n (fresh k) = sym (ap (λ (t : List ℕ). base ++ t) none ∙ append-nil base) in
+      mark_all base (fresh k) p len (λ _. refl) (index ∙ sym (ap (λ (o : Outcome). o.index) (fresh_is_open opening n k)))
       (chain_is ∙ (ap (λ (t : List ℕ). chain_if keep (first_chunks n k t)) same
-      ∙ ap (λ (i : ℕ). chain_if keep (first_chunks n i (base ++ released opening n (fresh k))))
-      (sym index)))
+      ∙ ap (λ (i : ℕ). chain_if keep (first_chunks n i (base ++ released opening n (fresh k)))) (sym index)))
 
   -- and at the end of a run, with bytes after it that were not fed
-  pub marked : (base : List ℕ) (s last : Segment) (more out unwritten : List ℕ) (p : Tally)
-      → with_piece s more ≡ last → released opening n s
-      ≡ out ++ unwritten → CountsChunks keep opening n base s unwritten p
-      → HasCounted keep opening n (base ++ out) last p
+  pub marked : (base : List ℕ) (s last : Segment) (more out unwritten : List ℕ) (p : Tally) → with_piece s more ≡ last → released opening n s
+      ≡ out ++ unwritten → CountsChunks keep opening n base s unwritten p → HasCounted keep opening n (base ++ out) last p
   marked base s last more out unwritten p is parts m =
       let text = base ++ out in
-      let left : length (base ++ released opening n s) - length unwritten ≡ length text =
-      omega (
+      let left : length (base ++ released opening n s) - length unwritten ≡ length text = omega (
         arith,
         length-append base (released opening n s),
         ap length parts,
@@ -478,15 +393,12 @@ module _ (sealing : List ℕ → List ℕ → List ℕ) (opening : List ℕ → 
         length-append base out,
       ) in
       let e : p.index ≡ min (length text / n) (at last) = m.index more
-      ∙ (ap (λ (t : Segment). min ((length (base ++ released opening n s) - length unwritten) / n)
-      (at t)) is
+      ∙ (ap (λ (t : Segment). min ((length (base ++ released opening n s) - length unwritten) / n) (at t)) is
       ∙ ap (λ (k : ℕ). min (k / n) (at last)) left) in
       let le : p.index ≤ length text / n = omega (arith, e) in
       let within : p.index * n ≤ length text = (le-div_iff_mul-le positive).0 le in
       record {
         index = e;
-        chain_is = m.chain_is ∙ ap (chain_if keep)
-            (ap (λ (t : List ℕ). first_chunks n p.index (base ++ t)) parts
-            ∙ (ap (first_chunks n p.index) (sym (append_assoc base out unwritten))
-            ∙ first_chunks-append n p.index text unwritten within));
+        chain_is = m.chain_is ∙ ap (chain_if keep) (ap (λ (t : List ℕ). first_chunks n p.index (base ++ t)) parts
+            ∙ (ap (first_chunks n p.index) (sym (append_assoc base out unwritten)) ∙ first_chunks-append n p.index text unwritten within));
       }

@@ -19,8 +19,7 @@ use Rattle.age_file.proofs.PayloadRunLemmas.{BeginsAt, run, due, ended}
 
 module _ (keep : PositionPolicy) (Allows : Header → List ℕ → Type 0) (Refused : Header → KeyFault → Type 0) where
   -- no payload came to be opened
-  pub stopped_early : (old new : Ports) (fault : FileFault) → new.sink ≡ old.sink
-      → StartFails Allows Refused old.source new.source fault
+  pub stopped_early : (old new : Ports) (fault : FileFault) → new.sink ≡ old.sink → StartFails Allows Refused old.source new.source fault
       → DecryptsKeyed keep Allows Refused old new (Err (record { fault = fault; written = 0; position = None })) None
   stopped_early old new fault same f = record {
     is = record {
@@ -56,15 +55,12 @@ module _ (keep : PositionPolicy) (Allows : Header → List ℕ → Type 0) (Refu
       ended keep Allows a old.reader unlocked s [] old 0 [] [] begins new o.run q
       (NeverEnds a.supply new.reader.source.supply) old.writer.sink q.wrote s.unfailed refl
       (λ bytes h full. (bytes, h.consumed, (omega (arith, h.each_gave, full), omega (arith, h.small, full))))
-      (λ e. DecryptsKeyed keep Allows Refused (ports a old.writer.sink) (ports_at new) e (Some unlocked.key))
-      (λ written d none settled. record {
+      (λ e. DecryptsKeyed keep Allows Refused (ports a old.writer.sink) (ports_at new) e (Some unlocked.key)) (λ written d none settled. record {
         is = record { run = Some r; done = (from, d, none); stopped = tt; settled = settled; named = q.named };
         found = refl;
         due = at;
-      })
-      (λ stop d. record {
+      }) (λ stop d. record {
         is = record { run = Some r; done = tt; stopped = (from, d); settled = tt; named = q.named };
         found = refl;
         due = at;
-      })
-      result o.ended
+      }) result o.ended

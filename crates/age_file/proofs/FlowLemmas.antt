@@ -19,20 +19,15 @@ use Rattle.age_fault.specs.declared.fault.FileFault.TheVariants.{Stream, Read, W
 use Rattle.age_file.proofs.ReleaseLemmas.{releases_none, releases_then}
 
 -- why it stopped, with what was left and not written
-abbrev pub FlowFails : {B : Type 0} → OpenerView B → Stage → Stage → List ℕ → List ℕ → FileFault
-    → Type 0
-FlowFails opener old new left unwritten (Stream fault) = (opener.status ≡ Failed fault)
-    × (left ≡ []) × (unwritten ≡ [])
+abbrev pub FlowFails : {B : Type 0} → OpenerView B → Stage → Stage → List ℕ → List ℕ → FileFault → Type 0
+FlowFails opener old new left unwritten (Stream fault) = (opener.status ≡ Failed fault) × (left ≡ []) × (unwritten ≡ [])
     × NoneFailed (ports_at old) (ports_at new)
 FlowFails opener old new left unwritten Write =
-    ((0 < length unwritten) ⊎ ((left ≡ []) × (opener.status ≡ Done)))
-    × WriteFailed (ports_at old) (ports_at new)
-FlowFails opener old new left unwritten Read = (left ≡ []) × (unwritten ≡ [])
-    × (has_failed opener.status ≡ false)
+    ((0 < length unwritten) ⊎ ((left ≡ []) × (opener.status ≡ Done))) × WriteFailed (ports_at old) (ports_at new)
+FlowFails opener old new left unwritten Read = (left ≡ []) × (unwritten ≡ []) × (has_failed opener.status ≡ false)
     × ReadFailed (ports_at old) (ports_at new)
 FlowFails opener old new left unwritten ReadNeverEnds = (left ≡ []) × (unwritten ≡ [])
-    × (has_failed opener.status ≡ false) × (new.reader.unread.pulls ≡ 2 ^ 63)
-    × NoneFailed (ports_at old) (ports_at new)
+    × (has_failed opener.status ≡ false) × (new.reader.unread.pulls ≡ 2 ^ 63) × NoneFailed (ports_at old) (ports_at new)
 FlowFails opener old new left unwritten other = ⊥
 
 module _ {B : Type 0} (opening : B → List ℕ → List ℕ → Option (List ℕ)) (n : ℕ) where
@@ -42,8 +37,7 @@ module _ {B : Type 0} (opening : B → List ℕ → List ℕ → Option (List �
     pub fresh : List ℕ
     pub parts : old.reader.unread.bytes ++ fresh ≡ fed ++ left
     pub releases : Releases opening n (λ s. with_piece s fed) a b old.writer new.writer unwritten
-    pub pulled : (start : Start) (bytes : List ℕ)
-        → Pulled start old.reader.source.supply old.reader.unread.pulls bytes
+    pub pulled : (start : Start) (bytes : List ℕ) → Pulled start old.reader.source.supply old.reader.unread.pulls bytes
         → Pulled start new.reader.source.supply new.reader.unread.pulls (bytes ++ fresh)
 
   -- all but what is unread was fed and written, and there is room for it: few bytes for the pulls
@@ -52,8 +46,7 @@ module _ {B : Type 0} (opening : B → List ℕ → List ℕ → Option (List �
     pub flows : Flows a b old new new.reader.unread.bytes []
     pub sound : has_failed b.status ≡ false
     pub same : NoneFailed (ports_at old) (ports_at new)
-    pub room : length b.held + new.writer.tally.written + length new.reader.unread.bytes ≤ 2 ^ 64
-        + pull_room * new.reader.unread.pulls
+    pub room : length b.held + new.writer.tally.written + length new.reader.unread.bytes ≤ 2 ^ 64 + pull_room * new.reader.unread.pulls
     pub most : new.reader.unread.pulls ≤ 2 ^ 63
 
   -- all that the source gave was fed, up to its end
@@ -70,10 +63,8 @@ module _ {B : Type 0} (opening : B → List ℕ → List ℕ → Option (List �
     pub flows : Flows a b old new left unwritten
     pub why : FlowFails b old new left unwritten fault
 
-  pub begins : (a : OpenerView B) (old : Stage)
-      → length a.held + old.writer.tally.written + length old.reader.unread.bytes
-      ≤ 2 ^ 64 + pull_room * old.reader.unread.pulls
-      → old.reader.unread.pulls ≤ 2 ^ 63 → has_failed a.status ≡ false → GoesOn a a old old
+  pub begins : (a : OpenerView B) (old : Stage) → length a.held + old.writer.tally.written + length old.reader.unread.bytes
+      ≤ 2 ^ 64 + pull_room * old.reader.unread.pulls → old.reader.unread.pulls ≤ 2 ^ 63 → has_failed a.status ≡ false → GoesOn a a old old
   begins a old room most sound =
       record {
         flows = record {
@@ -81,8 +72,7 @@ module _ {B : Type 0} (opening : B → List ℕ → List ℕ → Option (List �
           fresh = [];
           parts = append-nil old.reader.unread.bytes;
           releases = releases_none opening n a old.writer;
-          pulled = λ start bytes h. subst
-              (λ (t : List ℕ). Pulled start old.reader.source.supply old.reader.unread.pulls t)
+          pulled = λ start bytes h. subst (λ (t : List ℕ). Pulled start old.reader.source.supply old.reader.unread.pulls t)
               (sym (append-nil bytes)) h;
         };
         sound = sound;
@@ -91,69 +81,42 @@ module _ {B : Type 0} (opening : B → List ℕ → List ℕ → Option (List �
         most = most;
       }
 
-  module _ (a b c : OpenerView B) (old : Stage) (source : SourceView) (u v : Unread)
-      (was now : WriterView) (piece : List ℕ) (is : piece ≡ u.bytes)
-      (pulls : v.pulls ≡ u.pulls)
-      (p : GoesOn a b old (stage (reader_view source u) was)) where
+  module _ (a b c : OpenerView B) (old : Stage) (source : SourceView) (u v : Unread) (was now : WriterView) (piece : List ℕ) (is : piece ≡ u.bytes)
+      (pulls : v.pulls ≡ u.pulls) (p : GoesOn a b old (stage (reader_view source u) was)) where
     -- this much of the piece that was unread was fed
-    fed_on : (fed left unwritten : List ℕ) → piece ≡ fed ++ left
-        → Releases opening n (λ s. with_piece s fed) b c was now unwritten
+    fed_on : (fed left unwritten : List ℕ) → piece ≡ fed ++ left → Releases opening n (λ s. with_piece s fed) b c was now unwritten
         → Flows a c old (stage (reader_view source v) now) left unwritten
     fed_on fed left unwritten parts releases =
         let f = p.flows in
         record {
           fed = f.fed ++ fed;
           fresh = f.fresh;
-          parts = f.parts ∙ (ap (λ (t : List ℕ). f.fed ++ t) (sym is ∙ parts)
-              ∙ sym (append_assoc f.fed fed left));
-          releases = releases_then opening n f.fed fed a b c old.writer was now unwritten f.releases
-              releases;
-          pulled = λ start bytes h. subst
-              (λ (k : ℕ). Pulled start source.supply k (bytes ++ f.fresh)) (sym pulls)
-              (f.pulled start bytes h);
+          parts = f.parts ∙ (ap (λ (t : List ℕ). f.fed ++ t) (sym is ∙ parts) ∙ sym (append_assoc f.fed fed left));
+          releases = releases_then opening n f.fed fed a b c old.writer was now unwritten f.releases releases;
+          pulled = λ start bytes h. subst (λ (k : ℕ). Pulled start source.supply k (bytes ++ f.fresh)) (sym pulls) (f.pulled start bytes h);
         }
 
-    pub fed_all : v.bytes ≡ [] → FeedsPiece opening n b c was now piece (Ok tt)
-        → GoesOn a c old (stage (reader_view source v) now)
+    pub fed_all : v.bytes ≡ [] → FeedsPiece opening n b c was now piece (Ok tt) → GoesOn a c old (stage (reader_view source v) now)
     fed_all used f =
         let goes = f.answered.1 in
         let flows = fed_on f.fed f.left f.unwritten f.parts f.releases in
-        let whole = subst (λ (t : List ℕ). Flows a c old (stage (reader_view source v) now) f.left
-        t) goes.1 flows in
+        let whole = subst (λ (t : List ℕ). Flows a c old (stage (reader_view source v) now) f.left t) goes.1 flows in
         record {
-          flows = subst (λ (t : List ℕ). Flows a c old (stage (reader_view source v) now) t [])
-              (f.answered.0 ∙ sym used) whole;
+          flows = subst (λ (t : List ℕ). Flows a c old (stage (reader_view source v) now) t []) (f.answered.0 ∙ sym used) whole;
           sound = goes.3;
           same = (p.same.0, goes.2 ∙ p.same.1);
-          room = omega (
-            arith,
-            p.room,
-            goes.0,
-            pulls,
-            ap length used,
-            ap length is,
-            ap length f.parts,
-            length-append f.fed f.left,
-          );
+          room = omega (arith, p.room, goes.0, pulls, ap length used, ap length is, ap length f.parts, length-append f.fed f.left);
           most = omega (arith, p.most, pulls);
         }
 
-    feed_fails : (left unwritten : List ℕ) (fault : FileFault)
-        → FeedFails opening n c was now left unwritten fault
+    feed_fails : (left unwritten : List ℕ) (fault : FileFault) → FeedFails opening n c was now left unwritten fault
         → FlowFails c old (stage (reader_view source v) now) left unwritten fault
     feed_fails left unwritten (Stream f) h = (h.0, h.1, h.2, (p.same.0, h.3 ∙ p.same.1))
-    feed_fails left unwritten Write h = (
-      h.1,
-      (
-        subst (λ (k : ℕ). HasFailed k now.sink.failed now.sink.failing) p.same.1 h.0,
-        p.same.0,
-      ),
-    )
+    feed_fails left unwritten Write h = (h.1, (subst (λ (k : ℕ). HasFailed k now.sink.failed now.sink.failing) p.same.1 h.0, p.same.0))
     feed_fails left unwritten other h = absurd h
 
     -- the piece was refused, or the sink failed
-    pub feed_stops : (fault : FileFault) → FeedsPiece opening n b c was now piece (Err fault)
-        → Stops a c old (stage (reader_view source v) now) fault
+    pub feed_stops : (fault : FileFault) → FeedsPiece opening n b c was now piece (Err fault) → Stops a c old (stage (reader_view source v) now) fault
     feed_stops fault f =
         record {
           left = f.left;
@@ -165,20 +128,16 @@ module _ {B : Type 0} (opening : B → List ℕ → List ℕ → Option (List �
   -- if all was fed, the next piece is pulled
   module _ (a b : OpenerView B) (old : Stage) (x z : ReaderView) (now : WriterView)
       (used : x.unread.bytes ≡ []) (p : GoesOn a b old (stage x now)) where
-    pulled_on : (result : Result Bool FileFault) → Refills x z result
-        → Flows a b old (stage z now) z.unread.bytes []
+    pulled_on : (result : Result Bool FileFault) → Refills x z result → Flows a b old (stage z now) z.unread.bytes []
     pulled_on result r =
         let f = p.flows in
         record {
           fed = f.fed;
           fresh = f.fresh ++ z.unread.bytes;
-          parts = sym (append_assoc old.reader.unread.bytes f.fresh z.unread.bytes)
-              ∙ ap (λ (t : List ℕ). t ++ z.unread.bytes)
+          parts = sym (append_assoc old.reader.unread.bytes f.fresh z.unread.bytes) ∙ ap (λ (t : List ℕ). t ++ z.unread.bytes)
               (f.parts ∙ (ap (λ (t : List ℕ). f.fed ++ t) used ∙ append-nil f.fed));
           releases = f.releases;
-          pulled = λ start bytes h. subst
-              (λ (t : List ℕ). Pulled start z.source.supply z.unread.pulls t)
-              (append_assoc bytes f.fresh z.unread.bytes)
+          pulled = λ start bytes h. subst (λ (t : List ℕ). Pulled start z.source.supply z.unread.pulls t) (append_assoc bytes f.fresh z.unread.bytes)
               (r.pulled start (bytes ++ f.fresh) (f.pulled start bytes h));
         }
 
@@ -197,26 +156,18 @@ module _ {B : Type 0} (opening : B → List ℕ → List ℕ → Option (List �
     pulled_none r =
         let h = r.answered in
         record {
-          flows = subst (λ (t : List ℕ). Flows a b old (stage z now) t []) h.0
-              (pulled_on (Ok false) r);
+          flows = subst (λ (t : List ℕ). Flows a b old (stage z now) t []) h.0 (pulled_on (Ok false) r);
           same = (h.3 ∙ p.same.0, p.same.1);
           at_end = h.2;
           room = omega (arith, p.room, p.most);
         }
 
-    pull_fails : (fault : FileFault) → z.unread.bytes ≡ [] → PullFails x z fault
-        → FlowFails b old (stage z now) z.unread.bytes [] fault
-    pull_fails Read none h = (
-      none,
-      refl,
-      p.sound,
-      (subst (λ (k : ℕ). HasFailed k z.source.failed z.source.failing) p.same.0 h, p.same.1),
-    )
+    pull_fails : (fault : FileFault) → z.unread.bytes ≡ [] → PullFails x z fault → FlowFails b old (stage z now) z.unread.bytes [] fault
+    pull_fails Read none h = (none, refl, p.sound, (subst (λ (k : ℕ). HasFailed k z.source.failed z.source.failing) p.same.0 h, p.same.1))
     pull_fails ReadNeverEnds none h = (none, refl, p.sound, h.0, (h.1 ∙ p.same.0, p.same.1))
     pull_fails other none h = absurd h
 
-    pub pull_stops : (fault : FileFault) → Refills x z (Err fault)
-        → Stops a b old (stage z now) fault
+    pub pull_stops : (fault : FileFault) → Refills x z (Err fault) → Stops a b old (stage z now) fault
     pull_stops fault r =
         record {
           left = z.unread.bytes;

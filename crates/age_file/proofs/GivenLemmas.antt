@@ -19,13 +19,11 @@ use Rattle.age_file.proofs.WholePayloadLemmas.{whole_payload, is_payload_of}
 use Rattle.age_file.specs.declared.decryption.Stopped.{Stopped}
 
 module _ (Allows : Header → List ℕ → Type 0) (old new : Ports) where
-  gave_file : (done : Done) (r : Run) → DecryptEnds Allows old new done r
-      → (text : List ℕ) × GaveFile Allows old.source.supply new.source.supply text
+  gave_file : (done : Done) (r : Run) → DecryptEnds Allows old new done r → (text : List ℕ) × GaveFile Allows old.source.supply new.source.supply text
       × WritesText old.sink.taken new.sink.taken done.written text
   gave_file done r d =
       let is = d.1.is in
-      let whole : segment_of r ≡ whole_payload r.bytes =
-      ap (λ (i : ℕ). record { start = i; bytes = r.bytes; ended = r.ended; late = false }) d.0.zero
+      let whole : segment_of r ≡ whole_payload r.bytes = ap (λ (i : ℕ). record { start = i; bytes = r.bytes; ended = r.ended; late = false }) d.0.zero
       ∙ ap (λ e. record { start = 0; bytes = r.bytes; ended = e; late = false }) d.1.ended in
       let key = r.file.key in
       let nonce = r.file.nonce in
@@ -36,8 +34,7 @@ module _ (Allows : Header → List ℕ → Type 0) (old new : Ports) where
       ap (λ (s : Segment). (outcome opening chunk_length s).status) (sym whole) ∙ d.1.done in
       let payload_is : payload sealing chunk_length (run_text r) ≡ r.bytes =
       ap (λ (s : Segment). payload sealing chunk_length (released opening chunk_length s)) whole
-      ∙ is_payload_of sealing opening (box_valid (payload_key key nonce)) chunk_length (omega arith)
-      r.bytes done_is in
+      ∙ is_payload_of sealing opening (box_valid (payload_key key nonce)) chunk_length (omega arith) r.bytes done_is in
       let all : held r ≡ run_text r = ap (λ (t : List ℕ). t ++ r.out) d.0.none_copied ∙ d.1.whole in (
         run_text r,
         record {
@@ -45,9 +42,7 @@ module _ (Allows : Header → List ℕ → Type 0) (old new : Ports) where
           key = key;
           nonce = nonce;
           bytes = front ++ r.bytes;
-          read = subst
-              (λ (t : List ℕ). Consumes old.source.supply new.source.supply (front ++ (t ++ r.bytes)))
-              d.0.none_skipped is.reads.read;
+          read = subst (λ (t : List ℕ). Consumes old.source.supply new.source.supply (front ++ (t ++ r.bytes))) d.0.none_skipped is.reads.read;
           file = record {
             front = r.file.header_bytes;
             head = is.reads.text;
@@ -58,16 +53,11 @@ module _ (Allows : Header → List ℕ → Type 0) (old new : Ports) where
           opens = is.reads.opens;
           at_end = is.at_end d.1.ended;
         },
-        (
-          subst (λ (t : List ℕ). Appends old.sink.taken new.sink.taken t) all is.wrote,
-          is.count ∙ ap length all,
-        ),
+        (subst (λ (t : List ℕ). Appends old.sink.taken new.sink.taken t) all is.wrote, is.count ∙ ap length all),
       )
 
-  pub done_gave_file : (result : Result Done Stopped) (run : Option Run)
-      → IfOk result (λ done. IsSomeAnd run (DecryptEnds Allows old new done))
-      → IfOk result (λ done. (text : List ℕ)
-      × GaveFile Allows old.source.supply new.source.supply text
+  pub done_gave_file : (result : Result Done Stopped) (run : Option Run) → IfOk result (λ done. IsSomeAnd run (DecryptEnds Allows old new done))
+      → IfOk result (λ done. (text : List ℕ) × GaveFile Allows old.source.supply new.source.supply text
       × WritesText old.sink.taken new.sink.taken done.written text)
   done_gave_file (Ok done) (Some r) d = gave_file done r d
   done_gave_file (Ok done) None d = absurd d
@@ -75,8 +65,7 @@ module _ (Allows : Header → List ℕ → Type 0) (old new : Ports) where
 
   -- ---- over memory
 
-  held_after : (a b : Option (List ℕ)) (held text : List ℕ) → a ≡ Some held
-      → known.Appends a b text → b ≡ Some (held ++ text)
+  held_after : (a b : Option (List ℕ)) (held text : List ℕ) → a ≡ Some held → known.Appends a b text → b ≡ Some (held ++ text)
   held_after a b held text is wrote = after b (subst (λ (x : Option (List ℕ)). known.Appends x b text) is wrote) where
     after : (b : Option (List ℕ)) → known.Appends (Some held) b text → b ≡ Some (held ++ text)
     after None wrote = absurd wrote

@@ -36,17 +36,14 @@ opened Allows a b unlocked s = record {
 }
 
 -- there is room for what follows the blocks before this chunk
-pub place_at : (start : Start) (head passed : List ℕ) (m : Stage) (k : ℕ) → k < chunk_limit
-    → m.writer.tally.written ≡ k * chunk_length
-    → Pulled start m.reader.source.supply m.reader.unread.pulls (head ++ (passed ++ m.reader.unread.bytes))
-    → HasPlace m
+pub place_at : (start : Start) (head passed : List ℕ) (m : Stage) (k : ℕ) → k < chunk_limit → m.writer.tally.written ≡ k * chunk_length
+    → Pulled start m.reader.source.supply m.reader.unread.pulls (head ++ (passed ++ m.reader.unread.bytes)) → HasPlace m
 place_at start head passed m k limit written p =
     let unread = m.reader.unread.bytes in
     (omega (arith, p.small, limit, written, length-append head (passed ++ unread), length-append passed unread), p.most)
 
 -- a run begins with this chunk, after this text and these blocks; its tally counts the text
-pub record BeginsAt (keep : PositionPolicy) (start : Start) (head : List ℕ) (m : Stage) (k : ℕ)
-    (copied passed : List ℕ) : Type 0 where
+pub record BeginsAt (keep : PositionPolicy) (start : Start) (head : List ℕ) (m : Stage) (k : ℕ) (copied passed : List ℕ) : Type 0 where
   pub limit : k < chunk_limit
   pub copied_size : length copied ≡ k * chunk_length
   pub skipped_size : length passed ≡ k * block_length
@@ -56,11 +53,9 @@ pub record BeginsAt (keep : PositionPolicy) (start : Start) (head : List ℕ) (m
   pub chain_is : m.writer.tally.chain ≡ chain_if keep (first_chunks chunk_length k copied)
 
 module _ (keep : PositionPolicy) (Allows : Header → List ℕ → Type 0) (a : SourceView) (b : ReaderView)
-    (unlocked : Unlocked) (s : StartsAt Allows a b unlocked) (front : List ℕ) (m : Stage) (k : ℕ)
-    (copied passed : List ℕ)
+    (unlocked : Unlocked) (s : StartsAt Allows a b unlocked) (front : List ℕ) (m : Stage) (k : ℕ) (copied passed : List ℕ)
     (begins : BeginsAt keep (start_after front a.supply) (s.front ++ unlocked.nonce) m k copied passed) (s2 : Stage)
-    (end : Result (Unit {0}) FileFault)
-    (q : DecryptsPayload (opens (payload_key unlocked.key unlocked.nonce)) chunk_length k m s2 end) where
+    (end : Result (Unit {0}) FileFault) (q : DecryptsPayload (opens (payload_key unlocked.key unlocked.nonce)) chunk_length k m s2 end) where
   abbrev pub run : Run
   run = record {
     file = opened Allows a b unlocked s;
@@ -73,14 +68,12 @@ module _ (keep : PositionPolicy) (Allows : Header → List ℕ → Type 0) (a : 
   }
 
   -- all that was pulled, from the file's start
-  all_pulled : Pulled (start_after front a.supply) s2.reader.source.supply s2.reader.unread.pulls
-      ((s.front ++ unlocked.nonce) ++ (passed ++ q.bytes))
+  all_pulled : Pulled (start_after front a.supply) s2.reader.source.supply s2.reader.unread.pulls ((s.front ++ unlocked.nonce) ++ (passed ++ q.bytes))
   all_pulled =
       let head = s.front ++ unlocked.nonce in
       let unread = m.reader.unread.bytes in
       let start = start_after front a.supply in
-      subst (λ (t : List ℕ). Pulled start s2.reader.source.supply s2.reader.unread.pulls t)
-      (append_assoc head (passed ++ unread) q.fresh
+      subst (λ (t : List ℕ). Pulled start s2.reader.source.supply s2.reader.unread.pulls t) (append_assoc head (passed ++ unread) q.fresh
       ∙ ap (λ (t : List ℕ). head ++ t) (append_assoc passed unread q.fresh ∙ ap (λ (t : List ℕ). passed ++ t) q.parts))
       (q.pulled start (head ++ (passed ++ unread)) begins.pulled)
 
@@ -97,8 +90,7 @@ module _ (keep : PositionPolicy) (Allows : Header → List ℕ → Type 0) (a : 
   }
 
   -- the tally counts what was written
-  counted : HasCounted keep (unbox unlocked.key unlocked.nonce) chunk_length (copied ++ q.out) (segment_of run)
-      s2.writer.tally
+  counted : HasCounted keep (unbox unlocked.key unlocked.nonce) chunk_length (copied ++ q.out) (segment_of run) s2.writer.tally
   counted = q.counts keep copied begins.copied_size begins.index begins.chain_is
 
   abbrev chunks : List (List ℕ)
@@ -108,25 +100,21 @@ module _ (keep : PositionPolicy) (Allows : Header → List ℕ → Type 0) (a : 
   position_is p at = record {
     index = at.index_is ∙ counted.index;
     own = at.file_id_is ∙ s.id;
-    chain_is = at.chain_is
-        ∙ ap (λ (i : ℕ). chain (first_chunks chunk_length i (copied ++ q.out))) (sym at.index_is);
+    chain_is = at.chain_is ∙ ap (λ (i : ℕ). chain (first_chunks chunk_length i (copied ++ q.out))) (sym at.index_is);
     tagged = at.tag_is;
   }
 
-  given_if : (how : PositionPolicy) (position : Option Position)
-      → PositionAt unlocked s2.writer.tally.index (chain_if how chunks) position
+  given_if : (how : PositionPolicy) (position : Option Position) → PositionAt unlocked s2.writer.tally.index (chain_if how chunks) position
       → GivesPosition how (IsPositionOf run) position
   given_if Kept (Some p) at = position_is p at
   given_if Kept None at = absurd at
   given_if Dropped position at = at
 
   -- its position is the run's, if it is handed out
-  pub given : (position : Option Position)
-      → PositionAt unlocked s2.writer.tally.index s2.writer.tally.chain position
+  pub given : (position : Option Position) → PositionAt unlocked s2.writer.tally.index s2.writer.tally.chain position
       → GivesPosition keep (IsPositionOf run) position
   given position at =
-      given_if keep position (subst (λ (c : Option (List ℕ)). PositionAt unlocked s2.writer.tally.index c position)
-      counted.chain_is at)
+      given_if keep position (subst (λ (c : Option (List ℕ)). PositionAt unlocked s2.writer.tally.index c position) counted.chain_is at)
 
   -- and the run has one, whether it is handed out or not
   pub due : (p : Position) × IsPositionOf run p
@@ -144,52 +132,36 @@ module _ (keep : PositionPolicy) (Allows : Header → List ℕ → Type 0) (a : 
 
   -- since its sink was as in the first of these ports, and its source too
   module _ (never : Type 0) (sink : SinkView) (wrote : Appends sink.taken s2.writer.sink.taken (copied ++ q.out))
-      (read_failed : m.reader.source.failed ≡ a.failed) (write_failed : m.writer.sink.failed ≡ sink.failed)
-      (all : (bytes : List ℕ)
-      → Pulled (start_after front a.supply) s2.reader.source.supply s2.reader.unread.pulls bytes
-      → s2.reader.unread.pulls ≡ 2 ^ 63 → never) where
+      (read_failed : m.reader.source.failed ≡ a.failed) (write_failed : m.writer.sink.failed ≡ sink.failed) (all : (bytes : List ℕ)
+      → Pulled (start_after front a.supply) s2.reader.source.supply s2.reader.unread.pulls bytes → s2.reader.unread.pulls ≡ 2 ^ 63 → never) where
     abbrev old : Ports
     old = ports a sink
 
     abbrev new : Ports
     new = ports_at s2
 
-    fails : (fault : FileFault)
-        → SegmentFails (unbox unlocked.key unlocked.nonce) chunk_length m s2 (segment_of run) q.out fault
+    fails : (fault : FileFault) → SegmentFails (unbox unlocked.key unlocked.nonce) chunk_length m s2 (segment_of run) q.out fault
         → PayloadFails never old new run fault
     fails (Stream x) f = (f.1, f.0, (f.2.0 ∙ read_failed, f.2.1 ∙ write_failed))
-    fails Write f = (
-      f.0,
-      (
-        subst (λ (n : ℕ). HasFailed n s2.writer.sink.failed s2.writer.sink.failing) write_failed f.1.0,
-        f.1.1 ∙ read_failed,
-      ),
-    )
+    fails Write f = (f.0, (subst (λ (n : ℕ). HasFailed n s2.writer.sink.failed s2.writer.sink.failing) write_failed f.1.0, f.1.1 ∙ read_failed))
     fails Read f = (
       f.0,
       f.1,
-      (
-        subst (λ (n : ℕ). HasFailed n s2.reader.source.failed s2.reader.source.failing) read_failed f.2.0,
-        f.2.1 ∙ write_failed,
-      ),
+      (subst (λ (n : ℕ). HasFailed n s2.reader.source.failed s2.reader.source.failing) read_failed f.2.0, f.2.1 ∙ write_failed),
     )
     fails ReadNeverEnds f = (f.0, f.1, all _ all_pulled f.2)
     fails other f = absurd f
 
     -- what holds of each end of the run holds of its answer
-    module _ (P : Result Done Stopped → Type 0)
-        (done : (written : ℕ) → IsDone Allows old new written run → NoneFailed old new
+    module _ (P : Result Done Stopped → Type 0) (done : (written : ℕ) → IsDone Allows old new written run → NoneFailed old new
         → s2.writer.sink.settled ≡ true → P (Ok (record { written = written })))
         (stopped : (s : Stopped) → StopsInPayload keep Allows never old new s run → P (Err s)) where
-      ended_as : (how : Result (Unit {0}) FileFault) (result : Result Done Stopped)
-          → OnOk how (s2.writer.sink.settled ≡ true)
-          → MatchResult how
+      ended_as : (how : Result (Unit {0}) FileFault) (result : Result Done Stopped) → OnOk how (s2.writer.sink.settled ≡ true) → MatchResult how
           (λ _. SegmentDone (unbox unlocked.key unlocked.nonce) chunk_length m s2 (segment_of run) q.out)
           (SegmentFails (unbox unlocked.key unlocked.nonce) chunk_length m s2 (segment_of run) q.out)
           → EndsAs unlocked s2.writer.tally how result → P result
       ended_as (Ok u) result settled f is =
-          subst P (sym is) (done s2.writer.tally.written
-          (record { is = is_run sink s2.writer.sink wrote; whole = f.2; ended = f.0; done = f.1 })
+          subst P (sym is) (done s2.writer.tally.written (record { is = is_run sink s2.writer.sink wrote; whole = f.2; ended = f.0; done = f.1 })
           (f.3.0 ∙ read_failed, f.3.1 ∙ write_failed) settled)
       ended_as (Err fault) result settled f (next, at, is) =
           subst P (sym is) (stopped (record { fault = fault; written = s2.writer.tally.written; position = next })

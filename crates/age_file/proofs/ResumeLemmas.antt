@@ -45,36 +45,28 @@ take_prefix : (n : ℕ) (text : List ℕ) → IsPrefixOf (take n text) text
 take_prefix n text = (drop n text, take-append-drop n text)
 
 -- what was written of an old text is the beginning of the text that it is of
-old_of : (p : Position) (coming now : Supply) (pulled copied : List ℕ)
-    → Consumes coming now pulled → IsPrefixOf copied pulled → length copied
-    ≤ p.index * chunk_length
-    → (text : List ℕ) → BeginsWith p coming text → IsPrefixOf copied text
+old_of : (p : Position) (coming now : Supply) (pulled copied : List ℕ) → Consumes coming now pulled → IsPrefixOf copied pulled → length copied
+    ≤ p.index * chunk_length → (text : List ℕ) → BeginsWith p coming text → IsPrefixOf copied text
 old_of p coming now pulled copied read front le text b =
     let part = left_of coming now b.all pulled b.shown read in
     let size : length (take (p.index * chunk_length) text) ≡ p.index * chunk_length =
     omega (arith, length-take (p.index * chunk_length) text, b.within) in
     let before = prefix_trans copied pulled b.all front (part.0, sym part.1) in
-    let begins = longer copied (take (p.index * chunk_length) text) before.0 b.begins.0 (before.1 ∙ sym b.begins.1)
-    (omega (arith, size, le)) in
-    prefix_trans copied (take (p.index * chunk_length) text) text (begins.0, sym begins.1)
-    (take_prefix (p.index * chunk_length) text)
+    let begins = longer copied (take (p.index * chunk_length) text) before.0 b.begins.0 (before.1 ∙ sym b.begins.1) (omega (arith, size, le)) in
+    prefix_trans copied (take (p.index * chunk_length) text) text (begins.0, sym begins.1) (take_prefix (p.index * chunk_length) text)
 
 -- ---- a run that stopped in the old text, or before it
 
-module _ (keep : PositionPolicy) (Allows : Header → List ℕ → Type 0) (Refused : Header → KeyFault
-    → Type 0) (p : Position) where
+module _ (keep : PositionPolicy) (Allows : Header → List ℕ → Type 0) (Refused : Header → KeyFault → Type 0) (p : Position) where
   -- the file was opened, and no more than one pull gives was read after its nonce
   has_opened : (old new : ResumePorts) (u : Unread) (unlocked : Unlocked)
       (s : StartsAt Allows old.main.source (reader_view new.main.source u) unlocked)
       → HasOpened Allows p old new (opened Allows old.main.source (reader_view new.main.source u) unlocked s)
-  has_opened old new u unlocked s =
-      (u.bytes, s.few, record { text = s.text; opens = s.opens; size = s.size; read = s.pulled.consumed })
+  has_opened old new u unlocked s = (u.bytes, s.few, record { text = s.text; opens = s.opens; size = s.size; read = s.pulled.consumed })
 
   -- a call that came to no payload
-  stopped_with : (old new : ResumePorts) (stopped : Stopped) (standing : Standing)
-      → ResumeStops Allows p old new keep Refused None stopped
-      → StandsAt Allows p old new keep Refused None (Err stopped) standing
-      → new.main.sink.label ≡ old.main.sink.label
+  stopped_with : (old new : ResumePorts) (stopped : Stopped) (standing : Standing) → ResumeStops Allows p old new keep Refused None stopped
+      → StandsAt Allows p old new keep Refused None (Err stopped) standing → new.main.sink.label ≡ old.main.sink.label
       → ResumesKeyed keep Allows Refused p old new (Err stopped) standing
   stopped_with old new stopped standing stops stands named = record {
     is = record {
@@ -89,50 +81,39 @@ module _ (keep : PositionPolicy) (Allows : Header → List ℕ → Type 0) (Refu
   }
 
   -- before the old text
-  before_fails : (old new : ResumePorts) (fault : FileFault)
-      → StartFails Allows Refused old.main.source new.main.source fault
+  before_fails : (old new : ResumePorts) (fault : FileFault) → StartFails Allows Refused old.main.source new.main.source fault
       → BeforeOldFails Allows p old new Refused fault
   before_fails old new OtherFile f = absurd f
   before_fails old new PositionForged f = absurd f
   before_fails old new other f = f
 
   verdict_fails : (old new : ResumePorts) (u : Unread) (unlocked : Unlocked) (fault : FileFault)
-      → StartsAt Allows old.main.source (reader_view new.main.source u) unlocked
-      → PositionRefused p unlocked.id unlocked.key unlocked.nonce fault
+      → StartsAt Allows old.main.source (reader_view new.main.source u) unlocked → PositionRefused p unlocked.id unlocked.key unlocked.nonce fault
       → BeforeOldFails Allows p old new Refused fault
   verdict_fails old new u unlocked OtherFile s f = (_, has_opened old new u unlocked s, λ own. f (own ∙ sym s.id))
   verdict_fails old new u unlocked PositionForged s f = (_, has_opened old new u unlocked s, f.0 ∙ s.id, f.1)
   verdict_fails old new u unlocked other s f = absurd f
 
-  stopped_before : (old new : ResumePorts) (fault : FileFault)
-      → new.main.sink ≡ old.main.sink → new.old ≡ old.old
-      → BeforeOldFails Allows p old new Refused fault
-      → ResumesKeyed keep Allows Refused p old new
+  stopped_before : (old new : ResumePorts) (fault : FileFault) → new.main.sink ≡ old.main.sink → new.old ≡ old.old
+      → BeforeOldFails Allows p old new Refused fault → ResumesKeyed keep Allows Refused p old new
       (Err (record { fault = fault; written = 0; position = None })) Before
   stopped_before old new fault same text f =
       stopped_with old new (record { fault = fault; written = 0; position = None }) Before
       (inl (record { sink = same; written = refl; position = refl }, text, f))
-      (inl (record { sink = same; written = refl; position = refl }, text, f))
-      (ap (λ (s : SinkView). s.label) same)
+      (inl (record { sink = same; written = refl; position = refl }, text, f)) (ap (λ (s : SinkView). s.label) same)
 
   -- no payload came to be opened
-  pub stopped_early : (old new : ResumePorts) (fault : FileFault)
-      → new.main.sink ≡ old.main.sink → new.old ≡ old.old
-      → StartFails Allows Refused old.main.source new.main.source fault
-      → ResumesKeyed keep Allows Refused p old new
+  pub stopped_early : (old new : ResumePorts) (fault : FileFault) → new.main.sink ≡ old.main.sink → new.old ≡ old.old
+      → StartFails Allows Refused old.main.source new.main.source fault → ResumesKeyed keep Allows Refused p old new
       (Err (record { fault = fault; written = 0; position = None })) Before
-  stopped_early old new fault same text f =
-      stopped_before old new fault same text (before_fails old new fault f)
+  stopped_early old new fault same text f = stopped_before old new fault same text (before_fails old new fault f)
 
   -- or the position was refused
-  pub refused : (old new : ResumePorts) (u : Unread) (fault : FileFault)
-      → new.main.sink ≡ old.main.sink → new.old ≡ old.old
-      → StartForFails Allows Refused p old.main.source (reader_view new.main.source u) fault
-      → ResumesKeyed keep Allows Refused p old new
+  pub refused : (old new : ResumePorts) (u : Unread) (fault : FileFault) → new.main.sink ≡ old.main.sink → new.old ≡ old.old
+      → StartForFails Allows Refused p old.main.source (reader_view new.main.source u) fault → ResumesKeyed keep Allows Refused p old new
       (Err (record { fault = fault; written = 0; position = None })) Before
   refused old new u fault same text (inl f) = stopped_early old new fault same text f
-  refused old new u fault same text (inr f) =
-      stopped_before old new fault same text (verdict_fails old new u f.0 fault f.1 f.2)
+  refused old new u fault same text (inr f) = stopped_before old new fault same text (verdict_fails old new u f.0 fault f.1 f.2)
 
   -- the file was started, and the old text was copied, or a front of it; the pulls of both count together
   module _ (a : SourceView) (unlocked : Unlocked) (s1 : Stage) (u : Unread)
@@ -176,17 +157,14 @@ module _ (keep : PositionPolicy) (Allows : Header → List ℕ → Type 0) (Refu
     old_start = start_after started l.supply
 
     -- what was used of the old text, from its start
-    old_pulled : (used : List ℕ) → Uses x z used
-        → Pulled old_start l'.supply z.unread.pulls (used ++ z.unread.bytes)
+    old_pulled : (used : List ℕ) → Uses x z used → Pulled old_start l'.supply z.unread.pulls (used ++ z.unread.bytes)
     old_pulled used uses =
         let none = counted_on a.supply s1.reader.source.supply l.supply u.pulls started s.pulled in
         let fresh = subst (λ (k : ℕ). Pulled old_start l.supply k []) (sym cb.counted_on) none in
         uses old_start [] (subst (λ (t : List ℕ). Pulled old_start l.supply x.unread.pulls t) (sym cb.none) fresh)
 
-    old_dried : (used : List ℕ) → z.unread.bytes ≡ [] → Uses x z used
-        → Pulled old_start l'.supply z.unread.pulls used
-    old_dried used empty uses =
-        cut_pulled old_start l'.supply z.unread.pulls used z.unread.bytes empty (old_pulled used uses)
+    old_dried : (used : List ℕ) → z.unread.bytes ≡ [] → Uses x z used → Pulled old_start l'.supply z.unread.pulls used
+    old_dried used empty uses = cut_pulled old_start l'.supply z.unread.pulls used z.unread.bytes empty (old_pulled used uses)
 
     -- no more than these bytes of the old text was written
     writes_old : (m : ReaderView) (pulled : List ℕ) → length out ≤ p.index * chunk_length
@@ -205,8 +183,7 @@ module _ (keep : PositionPolicy) (Allows : Header → List ℕ → Type 0) (Refu
     -- the copy of the old text stopped
     stops_in_old : (fault : FileFault) (pulled : List ℕ) → length out ≤ p.index * chunk_length
         → Consumes l.supply l'.supply pulled → length pulled ≤ p.index * chunk_length + pull_room
-        → IsPrefixOf out pulled → InOldFails Allows p old (new s1.reader) pulled out fault
-        → StopsInOld Allows p old (new s1.reader) (stop fault None)
+        → IsPrefixOf out pulled → InOldFails Allows p old (new s1.reader) pulled out fault → StopsInOld Allows p old (new s1.reader) (stop fault None)
     unfolding writes_old
     stops_in_old fault pulled le read short front why = record {
       file = file;
@@ -221,22 +198,17 @@ module _ (keep : PositionPolicy) (Allows : Header → List ℕ → Type 0) (Refu
 
     -- all that the old text gave was written
     dried_in_old : (fault : FileFault) → z.unread.bytes ≡ [] → Uses x z out → length out < p.index * chunk_length
-        → InOldFails Allows p old (new s1.reader) out out fault
-        → StopsInOld Allows p old (new s1.reader) (stop fault None)
+        → InOldFails Allows p old (new s1.reader) out out fault → StopsInOld Allows p old (new s1.reader) (stop fault None)
     dried_in_old fault empty uses short why =
-        stops_in_old fault out (omega (arith, short)) (old_dried out empty uses).consumed (omega (arith, short))
-        ([], append-nil out) why
+        stops_in_old fault out (omega (arith, short)) (old_dried out empty uses).consumed (omega (arith, short)) ([], append-nil out) why
 
-    copy_fails : (fault : FileFault)
-        → TextFails chunk_length p.index p.chain x z first s1.writer out fault
+    copy_fails : (fault : FileFault) → TextFails chunk_length p.index p.chain x z first s1.writer out fault
         → StopsInOld Allows p old (new s1.reader) (stop fault None)
     copy_fails ShortText f = dried_in_old ShortText f.1.1 f.1.0.uses f.0 (f.0, (refl, f.1.2))
     copy_fails Write f =
         stops_in_old Write (f.1.0 ++ z.unread.bytes) (omega (arith, f.0)) (old_pulled f.1.0 f.1.1.uses).consumed
-        (omega (arith, f.0, f.1.4, cb.few, length-append f.1.0 z.unread.bytes)) f.1.2
-        (f.0, ((f.1.3, s.unfailed), f.1.1.unfailed))
-    copy_fails Read f =
-        dried_in_old Read f.1.0.used f.1.0.uses f.0 (f.0, (refl, (s.unfailed, f.1.1), f.1.0.why))
+        (omega (arith, f.0, f.1.4, cb.few, length-append f.1.0 z.unread.bytes)) f.1.2 (f.0, ((f.1.3, s.unfailed), f.1.1.unfailed))
+    copy_fails Read f = dried_in_old Read f.1.0.used f.1.0.uses f.0 (f.0, (refl, (s.unfailed, f.1.1), f.1.0.why))
     copy_fails ReadNeverEnds f =
         let all = old_dried out f.1.0.used f.1.0.uses in
         let both = length-append started out in
@@ -251,16 +223,13 @@ module _ (keep : PositionPolicy) (Allows : Header → List ℕ → Type 0) (Refu
     copy_fails OldTextDiffers f =
         let le : length out ≤ p.index * chunk_length = omega (arith, f.0.0) in
         stops_in_old OldTextDiffers (out ++ z.unread.bytes) le (old_pulled out f.0.1.uses).consumed
-        (omega (arith, le, cb.few, length-append out z.unread.bytes)) (z.unread.bytes, refl)
-        (f.0.0, λ e. f.1 (f.0.4 ∙ ap Some e))
+        (omega (arith, le, cb.few, length-append out z.unread.bytes)) (z.unread.bytes, refl) (f.0.0, λ e. f.1 (f.0.4 ∙ ap Some e))
     copy_fails other f = absurd f.1
 
-    pub copy_stopped : (fault : FileFault)
-        → TextFails chunk_length p.index p.chain x z first s1.writer out fault
+    pub copy_stopped : (fault : FileFault) → TextFails chunk_length p.index p.chain x z first s1.writer out fault
         → ResumesKeyed keep Allows Refused p old (new s1.reader) (Err (stop fault None)) Before
     copy_stopped fault f =
-        stopped_with old (new s1.reader) (stop fault None) Before (inr (inl (copy_fails fault f)))
-        (inr (copy_fails fault f)) cb.copied.named
+        stopped_with old (new s1.reader) (stop fault None) Before (inr (inl (copy_fails fault f))) (inr (copy_fails fault f)) cb.copied.named
 
     -- ---- a run that went on after the old text
 
@@ -281,8 +250,7 @@ module _ (keep : PositionPolicy) (Allows : Header → List ℕ → Type 0) (Refu
 
       again : Pulled start s1.reader.source.supply s1.reader.unread.pulls (head ++ s1.reader.unread.bytes)
       again =
-          let back = counted_back a.supply s1.reader.source.supply l.supply l'.supply u.pulls z.unread.pulls started
-          old_bytes s.pulled old_used in
+          let back = counted_back a.supply s1.reader.source.supply l.supply l'.supply u.pulls z.unread.pulls started old_bytes s.pulled old_used in
           subst (λ (k : ℕ). Pulled start s1.reader.source.supply k (head ++ s1.reader.unread.bytes)) (sym cb.counted)
           (subst (λ (t : List ℕ). Pulled start s1.reader.source.supply z.unread.pulls (head ++ t)) (sym cb.kept) back)
 
@@ -299,10 +267,8 @@ module _ (keep : PositionPolicy) (Allows : Header → List ℕ → Type 0) (Refu
 
       -- the run stopped in the blocks that are skipped
       stops_in_skipped : (m : ReaderView) (position : Option Position) (fault : FileFault) (skipped : List ℕ)
-          → GivesPosition keep (IsSame p) position → length skipped < p.index * block_length
-          → Consumes a.supply m.source.supply (head ++ skipped)
-          → InSkippedFails Allows p old (new m) skipped fault
-          → StopsInSkipped Allows p old (new m) keep (stop fault position)
+          → GivesPosition keep (IsSame p) position → length skipped < p.index * block_length → Consumes a.supply m.source.supply (head ++ skipped)
+          → InSkippedFails Allows p old (new m) skipped fault → StopsInSkipped Allows p old (new m) keep (stop fault position)
       stops_in_skipped m position fault skipped at short read why =
           let le : length out ≤ p.index * chunk_length = omega (arith, g.0) in
           record {
@@ -314,8 +280,7 @@ module _ (keep : PositionPolicy) (Allows : Header → List ℕ → Type 0) (Refu
             short = short;
             copied = out;
             old_text = old_text;
-            writes = writes_old m old_bytes le old_used.consumed
-                (omega (arith, le, cb.few, length-append out z.unread.bytes)) (z.unread.bytes, refl);
+            writes = writes_old m old_bytes le old_used.consumed (omega (arith, le, cb.few, length-append out z.unread.bytes)) (z.unread.bytes, refl);
             unfailed = g.1.unfailed;
             here = at;
             why = why;
@@ -333,8 +298,7 @@ module _ (keep : PositionPolicy) (Allows : Header → List ℕ → Type 0) (Refu
       skipped_fails m position (Stream fault) at f =
           let e = f.2 in
           let more : suc fault.chunk * block_length ≤ p.index * block_length = mul-le-mul_right block_length f.1 in
-          stops_in_skipped m position (Stream fault) e.bytes at (omega (arith, e.most, more))
-          (dried m e.bytes e.used e.passes.uses).consumed (
+          stops_in_skipped m position (Stream fault) e.bytes at (omega (arith, e.most, more)) (dried m e.bytes e.used e.passes.uses).consumed (
             f.0,
             omega (arith, e.least, e.most),
             e.at_end,
@@ -347,13 +311,11 @@ module _ (keep : PositionPolicy) (Allows : Header → List ℕ → Type 0) (Refu
           )
       skipped_fails m position ReadNeverEnds at f =
           let all = dried m f.0 f.2.used f.2.uses in
-          stops_in_skipped m position ReadNeverEnds f.0 at f.1 all.consumed
-          (never_end m s1.writer.sink (head ++ f.0) all f.2.why.0)
+          stops_in_skipped m position ReadNeverEnds f.0 at f.1 all.consumed (never_end m s1.writer.sink (head ++ f.0) all f.2.why.0)
       skipped_fails m position other at f = absurd f
 
       -- the position is that from which the run began, if nothing was decrypted
-      same_position : (next : Position)
-          → IsPositionAt unlocked s1.writer.tally.index (chain (first_chunks chunk_length p.index out)) next
+      same_position : (next : Position) → IsPositionAt unlocked s1.writer.tally.index (chain (first_chunks chunk_length p.index out)) next
           → IsSame p next
       same_position next h =
           let index : next.index ≡ p.index = h.index_is ∙ g.3 in
@@ -378,15 +340,13 @@ module _ (keep : PositionPolicy) (Allows : Header → List ℕ → Type 0) (Refu
           → EndsAs unlocked s1.writer.tally (Err fault) result → SkipFails block_length p.index s1.reader m fault
           → ResumesKeyed keep Allows Refused p old (new m) result Skipping
       skip_stopped m fault result (next, at, is) f =
-          let here = same_given keep next
-          (subst (λ (c : Option (List ℕ)). PositionAt unlocked s1.writer.tally.index c next) g.4 at) in
+          let here = same_given keep next (subst (λ (c : Option (List ℕ)). PositionAt unlocked s1.writer.tally.index c next) g.4 at) in
           let stops = skipped_fails m next fault here f in
           subst (λ (r : Result Done Stopped). ResumesKeyed keep Allows Refused p old (new m) r Skipping) (sym is)
           (stopped_with old (new m) (stop fault next) Skipping (inr (inr stops)) stops cb.copied.named)
 
       -- they were
-      module _ (m : ReaderView) (passed : List ℕ) (size : length passed ≡ p.index * block_length)
-          (passes : Passes s1.reader m passed) where
+      module _ (m : ReaderView) (passed : List ℕ) (size : length passed ≡ p.index * block_length) (passes : Passes s1.reader m passed) where
         abbrev before_rest : Stage
         before_rest = stage m s1.writer
 
@@ -403,8 +363,7 @@ module _ (keep : PositionPolicy) (Allows : Header → List ℕ → Type 0) (Refu
 
         -- there is room for what is after them
         pub place_after : HasPlace before_rest
-        place_after = place_at start head passed before_rest p.index p.within
-            (omega (arith, begins.written, begins.copied_size)) begins.pulled
+        place_after = place_at start head passed before_rest p.index p.within (omega (arith, begins.written, begins.copied_size)) begins.pulled
 
         -- the whole run
         rest_ended : (s2 : Stage) (result : Result Done Stopped) → OpensPayload unlocked p.index before_rest s2 result
@@ -424,8 +383,7 @@ module _ (keep : PositionPolicy) (Allows : Header → List ℕ → Type 0) (Refu
               few = cb.few;
             } in
             let named = q.named ∙ cb.copied.named in
-            let wrote = Appends-trans first.sink.taken s1.writer.sink.taken s2.writer.sink.taken out q.out
-            cb.copied.wrote q.wrote in
+            let wrote = Appends-trans first.sink.taken s1.writer.sink.taken s2.writer.sink.taken out q.out cb.copied.wrote q.wrote in
             ended keep Allows a here unlocked s old_bytes before_rest p.index out passed begins s2 o.run q
             (NeverEndTogether old (resume_ports (ports_at s2) l')) first.sink wrote (passes.unfailed ∙ s.unfailed) g.2
             (never_end s2.reader s2.writer.sink)
@@ -440,8 +398,7 @@ module _ (keep : PositionPolicy) (Allows : Header → List ℕ → Type 0) (Refu
               };
               stands = refl;
               due = at;
-            })
-            (λ stopped d. record {
+            }) (λ stopped d. record {
               is = record {
                 run = Some r;
                 done = tt;
@@ -451,18 +408,15 @@ module _ (keep : PositionPolicy) (Allows : Header → List ℕ → Type 0) (Refu
               };
               stands = refl;
               due = at;
-            })
-            result o.ended
+            }) result o.ended
 
       -- they were, or not
-      pub rest_resumed : (s2 : Stage) (result : Result Done Stopped) (standing : Standing)
-          → ResumesRest unlocked p.index s1 s2 result standing
+      pub rest_resumed : (s2 : Stage) (result : Result Done Stopped) (standing : Standing) → ResumesRest unlocked p.index s1 s2 result standing
           → ResumesKeyed keep Allows Refused p old (resume_ports (ports_at s2) l') result standing
       rest_resumed s2 result Before r = absurd r
       rest_resumed s2 result Skipping r =
           subst (λ (w : WriterView). ResumesKeyed keep Allows Refused p old
-          (resume_ports (ports s2.reader.source w.sink) l') result Skipping) (sym r.same)
-          (skip_stopped s2.reader r.fault result r.ended r.why)
+          (resume_ports (ports s2.reader.source w.sink) l') result Skipping) (sym r.same) (skip_stopped s2.reader r.fault result r.ended r.why)
       rest_resumed s2 result (InPayload key) (given, r) =
           subst (λ (k : List ℕ). ResumesKeyed keep Allows Refused p old (resume_ports (ports_at s2) l') result
           (InPayload k)) (sym given) (rest_ended r.now r.passed r.size r.passes s2 result r.opened)

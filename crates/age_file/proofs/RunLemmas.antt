@@ -16,16 +16,14 @@ use Rattle.age_file.specs.declared.position.Position.{Position}
 use Rattle.age_file.proofs.ByteLemmas.{prefix_trans}
 
 -- the text of a run, after its old text
-held_text : (r : Run) (text : List ℕ) → IsAuthenticRun r text → r.first < chunk_limit
-    → IsPrefixOf (r.copied ++ run_text r) text
+held_text : (r : Run) (text : List ℕ) → IsAuthenticRun r text → r.first < chunk_limit → IsPrefixOf (r.copied ++ run_text r) text
     × ((run_outcome r).status ≡ Done → r.copied ++ run_text r ≡ text)
 held_text r text auth limit =
     let seal = box r.file.key r.file.nonce in
     let open_box = unbox r.file.key r.file.nonce in
     let positive : 0 < chunk_length = omega arith in
     let valid = box_valid (payload_key r.file.key r.file.nonce) in
-    let o = released_is_written seal open_box valid chunk_length positive (segment_of r) text
-    auth.few limit auth.authentic in (
+    let o = released_is_written seal open_box valid chunk_length positive (segment_of r) text auth.few limit auth.authentic in (
       subst (λ (t : List ℕ). IsPrefixOf (t ++ run_text r) text) (sym auth.old_text) o.prefix,
       λ done. ap (λ (t : List ℕ). t ++ run_text r) auth.old_text ∙ o.done done,
     )
@@ -39,30 +37,20 @@ append_prefix x y z p = (p.0, append_assoc x y p.0 ∙ ap (λ (t : List ℕ). x 
 
 pub writes_of : (r : Run) → r.first < chunk_limit → IsPrefixOf r.out (run_text r) → WritesOf r
 writes_of r limit begins text auth =
-    prefix_trans (held r) (r.copied ++ run_text r) text
-    (append_prefix r.copied r.out (run_text r) begins) (held_text r text auth limit).0
+    prefix_trans (held r) (r.copied ++ run_text r) text (append_prefix r.copied r.out (run_text r) begins) (held_text r text auth limit).0
 
-pub writes_all : (r : Run) → r.first < chunk_limit → r.out ≡ run_text r
-    → (run_outcome r).status ≡ Done → (text : List ℕ) → IsAuthenticRun r text
+pub writes_all : (r : Run) → r.first < chunk_limit → r.out ≡ run_text r → (run_outcome r).status ≡ Done → (text : List ℕ) → IsAuthenticRun r text
     → held r ≡ text
-writes_all r limit whole done text auth = ap (λ (t : List ℕ). r.copied ++ t) whole
-    ∙ (held_text r text auth limit).1 done
+writes_all r limit whole done text auth = ap (λ (t : List ℕ). r.copied ++ t) whole ∙ (held_text r text auth limit).1 done
 
 -- before a file's first chunk there is no text
-pub none_before : (r : Run) → IsFromStart r → (text : List ℕ)
-    → r.copied ≡ take (r.first * chunk_length) text
+pub none_before : (r : Run) → IsFromStart r → (text : List ℕ) → r.copied ≡ take (r.first * chunk_length) text
 none_before r from text =
     let zero : r.first * chunk_length ≡ 0 = omega (arith, from.zero) in
     from.none_copied ∙ ap (λ (k : ℕ). take k text) (sym zero)
 
-pub from_start : (r : Run) → IsFromStart r → (text : List ℕ)
-    → chunk_count chunk_length text ≤ chunk_limit → IsTexts text r → IsAuthenticRun r text
-from_start r from text few auth =
-    record {
-      few = few;
-      old_text = none_before r from text;
-      authentic = auth;
-    }
+pub from_start : (r : Run) → IsFromStart r → (text : List ℕ) → chunk_count chunk_length text ≤ chunk_limit → IsTexts text r → IsAuthenticRun r text
+from_start r from text few auth = record { few = few; old_text = none_before r from text; authentic = auth }
 
 -- its position carries the text of which the run is authentic
 pub position_carries : (r : Run) (p : Position) → r.first < chunk_limit → IsPrefixOf r.out (run_text r)
@@ -73,7 +61,6 @@ position_carries r p limit begins at text auth =
     let le : p.index ≤ length (held r) / chunk_length = omega (arith, at.index) in
     let within : p.index * chunk_length ≤ length (held r) = (le-div_iff_mul-le positive).0 le in (
       omega (arith, within, ap length rest.1, length-append (held r) rest.0),
-      at.chain_is
-          ∙ (sym (ap chain (first_chunks-append chunk_length p.index (held r) rest.0 within))
+      at.chain_is ∙ (sym (ap chain (first_chunks-append chunk_length p.index (held r) rest.0 within))
           ∙ ap (λ (t : List ℕ). chain (first_chunks chunk_length p.index t)) rest.1),
     )

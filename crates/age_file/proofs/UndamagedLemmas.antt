@@ -31,41 +31,33 @@ use Rattle.age_file.proofs.ByteLemmas.{fault_of_all, left_of, none_left, same_fr
 use Rattle.age_file.proofs.RunLemmas.{writes_all}
 
 -- a key whose MAC is the header's is refused only if memory runs out
-pub for_memory : (h : Header) (key : List ℕ) (fault : KeyFault) → IsMacOf h key → RefusesKey h key fault
-    → fault ≡ KeyMemory
+pub for_memory : (h : Header) (key : List ℕ) (fault : KeyFault) → IsMacOf h key → RefusesKey h key fault → fault ≡ KeyMemory
 for_memory h key MacMismatch mac refused = absurd (refused mac)
 for_memory h key KeyMemory mac refused = refl
 for_memory h key other mac refused = absurd refused
 
 -- an end without bytes
-no_bytes : (op : List ℕ → List ℕ → Option (List ℕ)) (k : ℕ)
-    → (outcome op chunk_length (segment k [] true)).status
+no_bytes : (op : List ℕ → List ℕ → Option (List ℕ)) (k : ℕ) → (outcome op chunk_length (segment k [] true)).status
     ≡ Failed (record { kind = Truncated; chunk = k + 0 })
 unfolding outcome
 no_bytes op k = refl
 
 -- a segment that failed stays so with more bytes and an end
-failed_stays : (op : List ℕ → List ℕ → Option (List ℕ)) (n k : ℕ) (bytes more : List ℕ)
-    (ended : Bool) (fault : StreamFault)
+failed_stays : (op : List ℕ → List ℕ → Option (List ℕ)) (n k : ℕ) (bytes more : List ℕ) (ended : Bool) (fault : StreamFault)
     → (outcome op n (segment k bytes ended)).status ≡ Failed fault
-    → (ended ≡ true → more ≡ []) → (outcome op n (segment k (bytes ++ more) true)).status
-    ≡ Failed fault
+    → (ended ≡ true → more ≡ []) → (outcome op n (segment k (bytes ++ more) true)).status ≡ Failed fault
 failed_stays op n k bytes more true fault e none =
-    let same : bytes ≡ bytes ++ more =
-    sym (ap (λ (t : List ℕ). bytes ++ t) (none refl) ∙ append-nil bytes) in
+    let same : bytes ≡ bytes ++ more = sym (ap (λ (t : List ℕ). bytes ++ t) (none refl) ∙ append-nil bytes) in
     ap (λ (t : List ℕ). (outcome op n (segment k t true)).status) (sym same) ∙ e
 failed_stays op n k bytes more false fault e none =
     let s = segment k bytes false in
-    let shut : (outcome op n s).status ≡ Open → ⊥ = λ o. let clash : Open ≡ Failed fault =
-    sym o ∙ e in cc in
+    let shut : (outcome op n s).status ≡ Open → ⊥ = λ o. let clash : Open ≡ Failed fault = sym o ∙ e in cc in
     let later = ((closed_stays op n s (λ _. refl) shut).0 more).fault fault e in
     let fed = segment k (bytes ++ more) false in
-    let still : (outcome op n fed).status ≡ Open → ⊥ = λ o. let clash : Open ≡ Failed fault =
-    sym o ∙ later in cc in
+    let still : (outcome op n fed).status ≡ Open → ⊥ = λ o. let clash : Open ≡ Failed fault = sym o ∙ later in cc in
     (closed_stays op n fed (λ _. refl) still).1.fault fault later
 
-module _ (one : OneHeader) (Allows : Header → List ℕ → Type 0) (Refused : Header → KeyFault
-    → Type 0) (coming : Supply) (text : List ℕ)
+module _ (one : OneHeader) (Allows : Header → List ℕ → Type 0) (Refused : Header → KeyFault → Type 0) (coming : Supply) (text : List ℕ)
     (u : IsWhole Allows Refused coming text) where
   -- what was read of the header is the file's
   pub record IsFront (h : Header) (front behind : List ℕ) : Type 0 where
@@ -73,41 +65,32 @@ module _ (one : OneHeader) (Allows : Header → List ℕ → Type 0) (Refused : 
     pub front_is : front ≡ u.file.front
     pub rest_is : behind ≡ u.nonce ++ payload (box u.key u.nonce) chunk_length text
 
-  fronts : (h : Header) (front behind : List ℕ) → HeadText h front → u.bytes ≡ front ++ behind
-      → IsFront h front behind
+  fronts : (h : Header) (front behind : List ℕ) → HeadText h front → u.bytes ≡ front ++ behind → IsFront h front behind
   fronts h front behind text_is parts =
       let file = u.file in
-      let e : file.front ++ (u.nonce ++ payload (box u.key u.nonce) chunk_length text)
-      ≡ front ++ behind = sym (append_assoc file.front u.nonce
+      let e : file.front ++ (u.nonce ++ payload (box u.key u.nonce) chunk_length text) ≡ front ++ behind = sym (append_assoc file.front u.nonce
       (payload (box u.key u.nonce) chunk_length text)) ∙ (sym file.parts ∙ parts) in
-      let same = one u.header h file.front front
-      (u.nonce ++ payload (box u.key u.nonce) chunk_length text) behind file.head.spells
+      let same = one u.header h file.front front (u.nonce ++ payload (box u.key u.nonce) chunk_length text) behind file.head.spells
       text_is.spells e in
       record {
         header_is = sym same.0;
         front_is = sym same.1;
-        rest_is = sym (same_front file.front front
-            (u.nonce ++ payload (box u.key u.nonce) chunk_length text) behind (ap length same.1)
-            e).1;
+        rest_is = sym (same_front file.front front (u.nonce ++ payload (box u.key u.nonce) chunk_length text) behind (ap length same.1) e).1;
       }
 
   no_head_fault : (fault : HeadFault) → IfSome coming.left (λ (all : List ℕ). IsHeadFault all fault) → ⊥
   no_head_fault fault f =
-      let here : IsHeadFault u.bytes fault =
-      subst (λ (c : Option (List ℕ)). IfSome c (λ (all : List ℕ). IsHeadFault all fault))
-      u.all f in
+      let here : IsHeadFault u.bytes fault = subst (λ (c : Option (List ℕ)). IfSome c (λ (all : List ℕ). IsHeadFault all fault)) u.all f in
       let file = u.file in
       here.0 (
         u.header,
         file.front,
         u.nonce ++ payload (box u.key u.nonce) chunk_length text,
         file.head,
-        file.parts
-            ∙ append_assoc file.front u.nonce (payload (box u.key u.nonce) chunk_length text),
+        file.parts ∙ append_assoc file.front u.nonce (payload (box u.key u.nonce) chunk_length text),
       )
 
-  no_key_fault : (after : Supply) (h : Header) (front rest : List ℕ) (fault : KeyFault)
-      → HeadText h front → Consumes coming after (front ++ rest)
+  no_key_fault : (after : Supply) (h : Header) (front rest : List ℕ) (fault : KeyFault) → HeadText h front → Consumes coming after (front ++ rest)
       → (fault ≡ KeyMemory → ⊥) → Refuses Allows Refused h fault → ⊥
   no_key_fault after h front rest fault text_is consumed not refuses =
       let t = left_of coming after u.bytes (front ++ rest) u.all consumed in
@@ -115,12 +98,10 @@ module _ (one : OneHeader) (Allows : Header → List ℕ → Type 0) (Refused : 
       let r = subst (λ (x : Header). Refuses Allows Refused x fault) same.header_is refuses in
       elim (r.alone u.alone) [
         | inl refused ↦ not (u.never fault refused)
-        | inr found ↦ not (for_memory u.header found.0 fault
-            (subst (IsMacOf u.header) (sym (u.only found.0 found.1)) u.file.mac) found.2)
+        | inr found ↦ not (for_memory u.header found.0 fault (subst (IsMacOf u.header) (sym (u.only found.0 found.1)) u.file.mac) found.2)
       ]
 
-  no_nonce_cut : (after : Supply) (h : Header) (front short : List ℕ) → HeadText h front
-      → length short < 16 → Consumes coming after (front ++ short)
+  no_nonce_cut : (after : Supply) (h : Header) (front short : List ℕ) → HeadText h front → length short < 16 → Consumes coming after (front ++ short)
       → IsAtEnd after → ⊥
   no_nonce_cut after h front short text_is lt consumed ended =
       let t = left_of coming after u.bytes (front ++ short) u.all consumed in
@@ -145,23 +126,20 @@ module _ (one : OneHeader) (Allows : Header → List ℕ → Type 0) (Refused : 
     pub payload_is : behind ++ left ≡ payload (box u.key u.nonce) chunk_length text
 
   -- the file's front is that which was read
-  pub front_is : (after : Supply) (h : Header) (front nonce behind : List ℕ)
-      → HeadText h front → Consumes coming after ((front ++ nonce) ++ behind)
+  pub front_is : (after : Supply) (h : Header) (front nonce behind : List ℕ) → HeadText h front → Consumes coming after ((front ++ nonce) ++ behind)
       → front ≡ u.file.front
   front_is after h front nonce behind text_is consumed =
       let t = left_of coming after u.bytes ((front ++ nonce) ++ behind) u.all consumed in
       let parts = t.1 ∙ regroup front nonce behind t.0 in
       (fronts h front (nonce ++ (behind ++ t.0)) text_is parts).front_is
 
-  pub opened_as : (after : Supply) (h : Header) (front key nonce behind : List ℕ)
-      → HeadText h front → Allows h key → length nonce ≡ 16
+  pub opened_as : (after : Supply) (h : Header) (front key nonce behind : List ℕ) → HeadText h front → Allows h key → length nonce ≡ 16
       → Consumes coming after ((front ++ nonce) ++ behind) → IsOpenedAs key nonce behind after
   opened_as after h front key nonce behind text_is allows size consumed =
       let t = left_of coming after u.bytes ((front ++ nonce) ++ behind) u.all consumed in
       let parts = t.1 ∙ regroup front nonce behind t.0 in
       let same = fronts h front (nonce ++ (behind ++ t.0)) text_is parts in
-      let both = same_front nonce u.nonce (behind ++ t.0)
-      (payload (box u.key u.nonce) chunk_length text) (size ∙ sym u.file.size) same.rest_is in
+      let both = same_front nonce u.nonce (behind ++ t.0) (payload (box u.key u.nonce) chunk_length text) (size ∙ sym u.file.size) same.rest_is in
       record {
         key_is = u.only key (subst (λ (x : Header). Allows x key) same.header_is allows);
         nonce_is = both.0;
@@ -171,43 +149,32 @@ module _ (one : OneHeader) (Allows : Header → List ℕ → Type 0) (Refused : 
       }
 
   -- from a chunk of the text on, whose blocks are the writer's
-  module _ (k : ℕ) (below : k < chunk_count chunk_length text)
-      (authentic : IsAuthentic (box u.key u.nonce) (unbox u.key u.nonce) chunk_length text
-      (segment k (drop (k * block_length) (payload (box u.key u.nonce) chunk_length text))
-      true)) where
+  module _ (k : ℕ) (below : k < chunk_count chunk_length text) (authentic : IsAuthentic (box u.key u.nonce) (unbox u.key u.nonce) chunk_length text
+      (segment k (drop (k * block_length) (payload (box u.key u.nonce) chunk_length text)) true)) where
     -- the rest of the payload opens to its end
-    rest_done : (outcome (unbox u.key u.nonce) chunk_length
-        (segment k (drop (k * block_length) (payload (box u.key u.nonce) chunk_length text))
+    rest_done : (outcome (unbox u.key u.nonce) chunk_length (segment k (drop (k * block_length) (payload (box u.key u.nonce) chunk_length text))
         true)).status ≡ Done
     rest_done =
         let valid = box_valid (payload_key u.key u.nonce) in
         let positive : 0 < chunk_length = omega arith in
-        let s = segment k (drop (k * block_length) (payload (box u.key u.nonce) chunk_length text))
-        true in
+        let s = segment k (drop (k * block_length) (payload (box u.key u.nonce) chunk_length text)) true in
         let rest : IsRest (box u.key u.nonce) (unbox u.key u.nonce) chunk_length text s =
         record { below = below; bytes = refl; ended = refl; timely = refl } in
         ((released_is_written (box u.key u.nonce) (unbox u.key u.nonce) valid chunk_length positive
         s text u.few (omega (arith, below, u.few)) authentic).whole rest).1
 
-    pub no_stream_fault : (after : Supply) (key nonce passed bytes : List ℕ) (ended : Bool)
-        (fault : StreamFault)
-        → IsOpenedAs key nonce (passed ++ bytes) after → length passed ≡ k * block_length
-        → (ended ≡ true → IsAtEnd after)
-        → (outcome (unbox key nonce) chunk_length (segment k bytes ended)).status ≡ Failed fault
-        → ⊥
+    pub no_stream_fault : (after : Supply) (key nonce passed bytes : List ℕ) (ended : Bool) (fault : StreamFault)
+        → IsOpenedAs key nonce (passed ++ bytes) after → length passed ≡ k * block_length → (ended ≡ true → IsAtEnd after)
+        → (outcome (unbox key nonce) chunk_length (segment k bytes ended)).status ≡ Failed fault → ⊥
     no_stream_fault after key nonce passed bytes ended fault o size at_end failed =
         let all = payload (box u.key u.nonce) chunk_length text in
-        let rest : bytes ++ o.left ≡ drop (k * block_length) all =
-        sym (drop_at passed (bytes ++ o.left) (k * block_length) size)
-        ∙ ap (drop (k * block_length))
-        (sym (append_assoc passed bytes o.left) ∙ o.payload_is) in
+        let rest : bytes ++ o.left ≡ drop (k * block_length) all = sym (drop_at passed (bytes ++ o.left) (k * block_length) size)
+        ∙ ap (drop (k * block_length)) (sym (append_assoc passed bytes o.left) ∙ o.payload_is) in
         let here = rw (o.key_is, o.nonce_is) at failed in
         let stays = failed_stays (unbox u.key u.nonce) chunk_length k bytes o.left ended fault here
         (λ e. none_left after o.left o.left_is (at_end e)) in
-        let clash : Done ≡ Failed fault =
-        sym rest_done ∙ (ap (λ (x : List ℕ).
-        (outcome (unbox u.key u.nonce) chunk_length (segment k x true)).status) (sym rest)
-        ∙ stays) in
+        let clash : Done ≡ Failed fault = sym rest_done ∙ (ap (λ (x : List ℕ).
+        (outcome (unbox u.key u.nonce) chunk_length (segment k x true)).status) (sym rest) ∙ stays) in
         cc
 
     -- the blocks before that chunk are all there
@@ -223,27 +190,17 @@ module _ (one : OneHeader) (Allows : Header → List ℕ → Type 0) (Refused : 
           length-append passed o.left,
           ap length none,
         )) in
-        let clash : Done ≡ Failed (record { kind = Truncated; chunk = k + 0 }) =
-        sym rest_done ∙ (ap (λ (x : List ℕ).
-        (outcome (unbox u.key u.nonce) chunk_length (segment k x true)).status) nothing
-        ∙ no_bytes (unbox u.key u.nonce) k) in
+        let clash : Done ≡ Failed (record { kind = Truncated; chunk = k + 0 }) = sym rest_done ∙ (ap (λ (x : List ℕ).
+        (outcome (unbox u.key u.nonce) chunk_length (segment k x true)).status) nothing ∙ no_bytes (unbox u.key u.nonce) k) in
         cc
 
 -- no fault of what is before a payload
-module _ (one : OneHeader) (Allows : Header → List ℕ → Type 0) (Refused : Header → KeyFault
-    → Type 0) (before after : SourceView) (text : List ℕ)
+module _ (one : OneHeader) (Allows : Header → List ℕ → Type 0) (Refused : Header → KeyFault → Type 0) (before after : SourceView) (text : List ℕ)
     (u : IsWhole Allows Refused before.supply text) where
-  pub start_undamaged : (fault : FileFault) → StartFails Allows Refused before after fault
-      → StopsOutside fault
-  start_undamaged (Head x) f = absurd
-      (no_head_fault one Allows Refused before.supply text u x
-      (fault_of_all before.supply after.supply x f))
-  start_undamaged (Key x) f = absurd
-      (no_key_fault one Allows Refused before.supply text u after.supply f.0 f.1 f.2 x f.3 f.4
-      f.5 f.6)
-  start_undamaged NonceCut f = absurd
-      (no_nonce_cut one Allows Refused before.supply text u after.supply f.0.0 f.0.1 f.0.3
-      f.0.4 f.0.6 f.0.7 f.1)
+  pub start_undamaged : (fault : FileFault) → StartFails Allows Refused before after fault → StopsOutside fault
+  start_undamaged (Head x) f = absurd (no_head_fault one Allows Refused before.supply text u x (fault_of_all before.supply after.supply x f))
+  start_undamaged (Key x) f = absurd (no_key_fault one Allows Refused before.supply text u after.supply f.0 f.1 f.2 x f.3 f.4 f.5 f.6)
+  start_undamaged NonceCut f = absurd (no_nonce_cut one Allows Refused before.supply text u after.supply f.0.0 f.0.1 f.0.3 f.0.4 f.0.6 f.0.7 f.1)
   start_undamaged Read f = tt
   start_undamaged Write f = tt
   start_undamaged Memory f = tt
@@ -252,8 +209,7 @@ module _ (one : OneHeader) (Allows : Header → List ℕ → Type 0) (Refused : 
 
 -- the payload of a text from a chunk on, of which no block opens except as its writer sealed it
 pub own_authentic : (key nonce text : List ℕ) → chunk_count chunk_length text ≤ chunk_limit
-    → IsClosed (box key nonce) (unbox key nonce) chunk_length text → (k : ℕ)
-    → k < chunk_count chunk_length text
+    → IsClosed (box key nonce) (unbox key nonce) chunk_length text → (k : ℕ) → k < chunk_count chunk_length text
     → IsAuthentic (box key nonce) (unbox key nonce) chunk_length text
     (segment k (drop (k * block_length) (payload (box key nonce) chunk_length text)) true)
 own_authentic key nonce text few closed k below =
@@ -262,46 +218,33 @@ own_authentic key nonce text few closed k below =
       some = omega arith;
       few = few;
       closed = closed;
-    })
-    (segment k (drop (k * block_length) (payload (box key nonce) chunk_length text)) true)
+    }) (segment k (drop (k * block_length) (payload (box key nonce) chunk_length text)) true)
     (record { below = below; bytes = refl; ended = refl; timely = refl })
 
 -- the blocks of a segment are as authentic
-pub authentic_as : (text : List ℕ) (k : ℕ) (key nonce own_key own_nonce bytes all : List ℕ)
-    (ended : Bool) → key ≡ own_key → nonce ≡ own_nonce → bytes
-    ≡ all → ended ≡ true
-    → IsAuthentic (box own_key own_nonce) (unbox own_key own_nonce) chunk_length text
-    (segment k all true)
+pub authentic_as : (text : List ℕ) (k : ℕ) (key nonce own_key own_nonce bytes all : List ℕ) (ended : Bool) → key ≡ own_key → nonce ≡ own_nonce → bytes
+    ≡ all → ended ≡ true → IsAuthentic (box own_key own_nonce) (unbox own_key own_nonce) chunk_length text (segment k all true)
     → IsAuthentic (box key nonce) (unbox key nonce) chunk_length text (segment k bytes ended)
-authentic_as text k key nonce own_key own_nonce bytes all ended keys nonces blocks ends a =
-    rw (keys, nonces, blocks, ends) a
+authentic_as text k key nonce own_key own_nonce bytes all ended keys nonces blocks ends a = rw (keys, nonces, blocks, ends) a
 
 -- a run of an undamaged file, from a chunk of its text
-module _ (one : OneHeader) (Allows : Header → List ℕ → Type 0) (Refused : Header → KeyFault
-    → Type 0) (old new : Ports) (text : List ℕ)
-    (u : IsWhole Allows Refused old.source.supply text)
-    (closed : IsClosed (box u.key u.nonce) (unbox u.key u.nonce) chunk_length text)
-    (written : ℕ)
+module _ (one : OneHeader) (Allows : Header → List ℕ → Type 0) (Refused : Header → KeyFault → Type 0) (old new : Ports) (text : List ℕ)
+    (u : IsWhole Allows Refused old.source.supply text) (closed : IsClosed (box u.key u.nonce) (unbox u.key u.nonce) chunk_length text) (written : ℕ)
     (r : Run) (below : r.first < chunk_count chunk_length text) where
   abbrev rest : List ℕ
   rest = drop (r.first * block_length) (payload (box u.key u.nonce) chunk_length text)
 
-  run_opened : IsRun Allows old new written r
-      → IsOpenedAs one Allows Refused old.source.supply text u r.file.key r.file.nonce
+  run_opened : IsRun Allows old new written r → IsOpenedAs one Allows Refused old.source.supply text u r.file.key r.file.nonce
       (r.skipped ++ r.bytes) new.source.supply
   run_opened is =
-      opened_as one Allows Refused old.source.supply text u new.source.supply r.file.header
-      r.file.header_bytes r.file.key r.file.nonce
+      opened_as one Allows Refused old.source.supply text u new.source.supply r.file.header r.file.header_bytes r.file.key r.file.nonce
       (r.skipped ++ r.bytes) is.reads.text is.reads.opens.allowed is.reads.size is.reads.read
 
   -- opens to its end
-  pub run_opens : (fault : StreamFault) → IsRun Allows old new written r
-      → (run_outcome r).status ≡ Failed fault → ⊥
+  pub run_opens : (fault : StreamFault) → IsRun Allows old new written r → (run_outcome r).status ≡ Failed fault → ⊥
   run_opens fault is failed =
-      no_stream_fault one Allows Refused old.source.supply text u r.first below
-      (own_authentic u.key u.nonce text u.few closed r.first below)
-      new.source.supply r.file.key r.file.nonce r.skipped r.bytes r.ended fault (run_opened is)
-      is.skipped_size is.at_end failed
+      no_stream_fault one Allows Refused old.source.supply text u r.first below (own_authentic u.key u.nonce text u.few closed r.first below)
+      new.source.supply r.file.key r.file.nonce r.skipped r.bytes r.ended fault (run_opened is) is.skipped_size is.at_end failed
 
   -- so it has no fault
   pub payload_undamaged : (never : Type 0) (fault : FileFault) → IsRun Allows old new written r
@@ -319,20 +262,12 @@ module _ (one : OneHeader) (Allows : Header → List ℕ → Type 0) (Refused : 
       let is = d.is in
       let o = run_opened is in
       let none = none_left new.source.supply o.left o.left_is (is.at_end d.ended) in
-      let after : r.bytes ++ o.left ≡ rest =
-      sym (drop_at r.skipped (r.bytes ++ o.left) (r.first * block_length) is.skipped_size)
-      ∙ ap (drop (r.first * block_length))
-      (sym (append_assoc r.skipped r.bytes o.left) ∙ o.payload_is) in
-      let bytes_are : r.bytes ≡ rest = sym (append-nil r.bytes)
-      ∙ (ap (λ (t : List ℕ). r.bytes ++ t) (sym none) ∙ after) in
+      let after : r.bytes ++ o.left ≡ rest = sym (drop_at r.skipped (r.bytes ++ o.left) (r.first * block_length) is.skipped_size)
+      ∙ ap (drop (r.first * block_length)) (sym (append_assoc r.skipped r.bytes o.left) ∙ o.payload_is) in
+      let bytes_are : r.bytes ≡ rest = sym (append-nil r.bytes) ∙ (ap (λ (t : List ℕ). r.bytes ++ t) (sym none) ∙ after) in
       let own = own_authentic u.key u.nonce text u.few closed r.first below in
       let whole = writes_all r (omega (arith, below, u.few)) d.whole d.done text (record {
         few = u.few;
         old_text = old_text;
-        authentic = authentic_as text r.first r.file.key r.file.nonce u.key u.nonce r.bytes rest
-            r.ended o.key_is o.nonce_is bytes_are d.ended own;
-      }) in (
-        subst (λ (t : List ℕ). Appends old.sink.taken new.sink.taken t) whole is.wrote,
-        is.count
-            ∙ ap length whole,
-      )
+        authentic = authentic_as text r.first r.file.key r.file.nonce u.key u.nonce r.bytes rest r.ended o.key_is o.nonce_is bytes_are d.ended own;
+      }) in (subst (λ (t : List ℕ). Appends old.sink.taken new.sink.taken t) whole is.wrote, is.count ∙ ap length whole)

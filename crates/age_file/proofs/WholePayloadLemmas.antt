@@ -27,8 +27,7 @@ whole_payload bytes = record { start = 0; bytes = bytes; ended = true; late = fa
 
 -- ---- tests
 
-not_this : (t : Bool) (x y : Outcome) → (x.status ≡ Done → ⊥) → (cond t x y).status ≡ Done
-    → (t ≡ false) × (cond t x y ≡ y)
+not_this : (t : Bool) (x y : Outcome) → (x.status ≡ Done → ⊥) → (cond t x y).status ≡ Done → (t ≡ false) × (cond t x y ≡ y)
 not_this true x y never h = absurd (never h)
 not_this false x y never h = (refl, refl)
 
@@ -53,12 +52,10 @@ all_three false true false p q r h = cc
 all_three false false c p q r h = cc
 
 -- a last block that is only a tag has number 0
-tag_alone : (len z i : ℕ) → len < z → len ≡ tag_length
-    → (not (len == z) && (len == tag_length && nat_lt 0 i)) ≡ false → i ≡ 0
+tag_alone : (len z i : ℕ) → len < z → len ≡ tag_length → (not (len == z) && (len == tag_length && nat_lt 0 i)) ≡ false → i ≡ 0
 tag_alone len z i lt is h = elim (cases_lt 0 i) [
   | inl some ↦ absurd (all_three (len == z) (len == tag_length) (nat_lt 0 i)
-      (false_of (len == z) (λ e. let same : len ≡ z = eqb-true len z e in omega (arith, same, lt)))
-      (eq-eqb len tag_length is) (lt-ltb 0 i some) h)
+      (false_of (len == z) (λ e. let same : len ≡ z = eqb-true len z e in omega (arith, same, lt))) (eq-eqb len tag_length is) (lt-ltb 0 i some) h)
   | inr le ↦ omega (arith, le)
 ]
 
@@ -68,8 +65,7 @@ some_of (Some t) e = (t, refl)
 
 -- ---- the first blocks
 
-joined_front : (z c m : ℕ) (xs : List ℕ) → m ≤ c
-    → flat_map (λ (b : List ℕ). b) (take m (first_chunks z c xs)) ≡ take (m * z) xs
+joined_front : (z c m : ℕ) (xs : List ℕ) → m ≤ c → flat_map (λ (b : List ℕ). b) (take m (first_chunks z c xs)) ≡ take (m * z) xs
 joined_front z c zero xs h =
     let e : 0 ≡ 0 * z = omega arith in ap (λ (k : ℕ). take k xs) e
 joined_front z zero (suc m) xs h = absurd (omega (arith, h))
@@ -78,8 +74,7 @@ joined_front z (suc c) (suc m) xs h =
     ap (λ (t : List ℕ). take z xs ++ t) (joined_front z c m (drop z xs) (omega (arith, h)))
     ∙ (sym (take-add z (m * z) xs) ∙ ap (λ (k : ℕ). take k xs) e)
 
-module _ (sealing : List ℕ → List ℕ → List ℕ) (opening : List ℕ → List ℕ → Option (List ℕ))
-    (valid : IsChunkBox sealing opening) (n : ℕ) where
+module _ (sealing : List ℕ → List ℕ → List ℕ) (opening : List ℕ → List ℕ → Option (List ℕ)) (valid : IsChunkBox sealing opening) (n : ℕ) where
   abbrev seals : ℕ → List (List ℕ) → List ℕ
   seals i ts = block_bytes (map (pair sealing false) (enumerate_from i ts))
 
@@ -91,14 +86,11 @@ module _ (sealing : List ℕ → List ℕ → List ℕ) (opening : List ℕ → 
   before i None t e = e
   before i (Some x) t e = unless (Some x) t (nat_lt (i + 1) chunk_limit) e
 
-  sealed_then : (i : ℕ) (b : List ℕ) (bs ts : List (List ℕ)) (o : Option (List ℕ))
-      → ((t : List ℕ) → o ≡ Some t → sealing (nonce_bytes i false) t ≡ b)
-      → seals (i + 1) ts ≡ flat_map (λ (x : List ℕ). x) (take (length ts) bs)
-      → seals i (text_then opening o ts)
+  sealed_then : (i : ℕ) (b : List ℕ) (bs ts : List (List ℕ)) (o : Option (List ℕ)) → ((t : List ℕ) → o ≡ Some t → sealing (nonce_bytes i false) t ≡ b)
+      → seals (i + 1) ts ≡ flat_map (λ (x : List ℕ). x) (take (length ts) bs) → seals i (text_then opening o ts)
       ≡ flat_map (λ (x : List ℕ). x) (take (length (text_then opening o ts)) (b ∷ bs))
   sealed_then i b bs ts None f h = refl
-  sealed_then i b bs ts (Some t) f h =
-      ap (λ (x : List ℕ). x ++ seals (i + 1) ts) (f t refl) ∙ ap (λ (x : List ℕ). b ++ x) h
+  sealed_then i b bs ts (Some t) f h = ap (λ (x : List ℕ). x ++ seals (i + 1) ts) (f t refl) ∙ ap (λ (x : List ℕ). b ++ x) h
 
   -- the blocks in front are the sealings of their texts
   fronts : (i : ℕ) (blocks : List (List ℕ)) → seals i (front_texts opening i blocks)
@@ -106,34 +98,25 @@ module _ (sealing : List ℕ → List ℕ → List ℕ) (opening : List ℕ → 
   fronts i [] = refl
   fronts i (b ∷ bs) =
       sealed_then i b bs (front_texts opening (i + 1) bs) (text_before_last opening i b)
-      (λ t e. valid.only (nonce_bytes i false) t b (nonce_bytes-length i false)
-      (before i (opening (nonce_bytes i false) b) t e)) (fronts (i + 1) bs)
+      (λ t e. valid.only (nonce_bytes i false) t b (nonce_bytes-length i false) (before i (opening (nonce_bytes i false) b) t e)) (fronts (i + 1) bs)
 
-  few_then : (b : List ℕ) (bs ts : List (List ℕ)) (o : Option (List ℕ)) → length ts ≤ length bs
-      → length (text_then opening o ts) ≤ length (b ∷ bs)
+  few_then : (b : List ℕ) (bs ts : List (List ℕ)) (o : Option (List ℕ)) → length ts ≤ length bs → length (text_then opening o ts) ≤ length (b ∷ bs)
   few_then b bs ts None h = omega arith
   few_then b bs ts (Some t) h = omega (arith, h)
 
-  few_texts : (i : ℕ) (blocks : List (List ℕ))
-      → length (front_texts opening i blocks) ≤ length blocks
+  few_texts : (i : ℕ) (blocks : List (List ℕ)) → length (front_texts opening i blocks) ≤ length blocks
   few_texts i [] = omega arith
-  few_texts i (b ∷ bs) =
-      few_then b bs (front_texts opening (i + 1) bs) (text_before_last opening i b)
-      (few_texts (i + 1) bs)
+  few_texts i (b ∷ bs) = few_then b bs (front_texts opening (i + 1) bs) (text_before_last opening i b) (few_texts (i + 1) bs)
 
-  opened_len : (nonce block text : List ℕ) → length nonce ≡ 12 → length block ≡ n + tag_length
-      → opening nonce block ≡ Some text → length text ≡ n
-  opened_len nonce block text h len e =
-      omega (arith, valid.longer nonce text h, ap length (valid.only nonce text block h e), len)
+  opened_len : (nonce block text : List ℕ) → length nonce ≡ 12 → length block ≡ n + tag_length → opening nonce block ≡ Some text → length text ≡ n
+  opened_len nonce block text h len e = omega (arith, valid.longer nonce text h, ap length (valid.only nonce text block h e), len)
 
   full_then : (o : Option (List ℕ)) (rest : List (List ℕ)) → ((t : List ℕ) → o ≡ Some t → length t ≡ n)
-      → AllByRecursion (λ (t : List ℕ). length t ≡ n) rest
-      → AllByRecursion (λ (t : List ℕ). length t ≡ n) (text_then opening o rest)
+      → AllByRecursion (λ (t : List ℕ). length t ≡ n) rest → AllByRecursion (λ (t : List ℕ). length t ≡ n) (text_then opening o rest)
   full_then None rest f h = tt
   full_then (Some t) rest f h = (f t refl, h)
 
-  front_full : (blocks : List (List ℕ)) (i : ℕ)
-      → AllByRecursion (λ (b : List ℕ). length b ≡ n + tag_length) blocks
+  front_full : (blocks : List (List ℕ)) (i : ℕ) → AllByRecursion (λ (b : List ℕ). length b ≡ n + tag_length) blocks
       → AllByRecursion (λ (t : List ℕ). length t ≡ n) (front_texts opening i blocks)
   front_full [] i h = tt
   front_full (b ∷ bs) i h =
@@ -150,16 +133,14 @@ module _ (sealing : List ℕ → List ℕ → List ℕ) (opening : List ℕ → 
     not_empty : is_empty_last b ≡ false
     alone : b.followed ≡ false
 
-  same_texts : (b : Frontier) (t : Bool)
-      → (cond t (releases_last opening b Done) (releases_last opening b LastSeen)).texts
+  same_texts : (b : Frontier) (t : Bool) → (cond t (releases_last opening b Done) (releases_last opening b LastSeen)).texts
       ≡ b.texts ++ text_then opening (opening (nonce_bytes b.index true) b.block) []
   same_texts b true = refl
   same_texts b false = refl
 
   ends : (b : Frontier) → (verdict opening b).status ≡ Done → Ends b
   ends b done =
-      let y7 : Outcome = cond b.ended (releases_last opening b Done)
-      (releases_last opening b LastSeen) in
+      let y7 : Outcome = cond b.ended (releases_last opening b Done) (releases_last opening b LastSeen) in
       let y6 : Outcome = cond b.followed (releases_last opening b (failed Trailing b.index)) y7 in
       let y5 : Outcome = cond (is_damaged opening b) (stays b (failed ChunkDamaged b.index)) y6 in
       let y4 : Outcome = cond (is_too_many opening b) (stays b (failed TooManyChunks b.index)) y5 in
@@ -174,22 +155,17 @@ module _ (sealing : List ℕ → List ℕ → List ℕ) (opening : List ℕ → 
       let d3 : y3.status ≡ Done = ap (λ (o : Outcome). o.status) (sym a2.1) ∙ d2 in
       let a3 = not_this (is_empty_last b) (stays b (failed EmptyLast b.index)) y4 (λ h. cc) d3 in
       let d4 : y4.status ≡ Done = ap (λ (o : Outcome). o.status) (sym a3.1) ∙ d3 in
-      let a4 = not_this (is_too_many opening b) (stays b (failed TooManyChunks b.index)) y5 (λ h. cc)
-      d4 in
+      let a4 = not_this (is_too_many opening b) (stays b (failed TooManyChunks b.index)) y5 (λ h. cc) d4 in
       let d5 : y5.status ≡ Done = ap (λ (o : Outcome). o.status) (sym a4.1) ∙ d4 in
-      let a5 = not_this (is_damaged opening b) (stays b (failed ChunkDamaged b.index)) y6 (λ h. cc) d5
-      in
+      let a5 = not_this (is_damaged opening b) (stays b (failed ChunkDamaged b.index)) y6 (λ h. cc) d5 in
       let d6 : y6.status ≡ Done = ap (λ (o : Outcome). o.status) (sym a5.1) ∙ d5 in
-      let a6 = not_this b.followed (releases_last opening b (failed Trailing b.index)) y7 (λ h. cc) d6
-      in
+      let a6 = not_this b.followed (releases_last opening b (failed Trailing b.index)) y7 (λ h. cc) d6 in
       let found = some_of (opening (nonce_bytes b.index true) b.block) a5.0 in
-      let is : verdict opening b ≡ y7 =
-      a0.1 ∙ (a1.1 ∙ (a2.1 ∙ (a3.1 ∙ (a4.1 ∙ (a5.1 ∙ a6.1))))) in
+      let is : verdict opening b ≡ y7 = a0.1 ∙ (a1.1 ∙ (a2.1 ∙ (a3.1 ∙ (a4.1 ∙ (a5.1 ∙ a6.1))))) in
       record {
         text = found.0;
         opens = found.1;
-        texts_are = ap (λ (o : Outcome). o.texts) is
-            ∙ (same_texts b b.ended
+        texts_are = ap (λ (o : Outcome). o.texts) is ∙ (same_texts b b.ended
             ∙ ap (λ (o : Option (List ℕ)). b.texts ++ text_then opening o []) found.1);
         not_empty = a3.0;
         alone = a6.0;
@@ -214,8 +190,7 @@ module _ (sealing : List ℕ → List ℕ → List ℕ) (opening : List ℕ → 
     front = take (m * z) bytes
 
     within : m ≤ length bytes / z
-    within =
-        omega (arith, few_texts 0 (whole_blocks n bytes), length-first_chunks z (length bytes / z) bytes)
+    within = omega (arith, few_texts 0 (whole_blocks n bytes), length-first_chunks z (length bytes / z) bytes)
 
     full : AllByRecursion (λ (t : List ℕ). length t ≡ n) ts
     full =
@@ -228,21 +203,14 @@ module _ (sealing : List ℕ → List ℕ → List ℕ) (opening : List ℕ → 
 
     module _ (e : Ends b) where
       last_block : sealing (nonce_bytes b.index true) e.text ≡ b.block
-      last_block =
-          valid.only (nonce_bytes b.index true) e.text b.block (nonce_bytes-length b.index true) e.opens
+      last_block = valid.only (nonce_bytes b.index true) e.text b.block (nonce_bytes-length b.index true) e.opens
 
       size : length e.text + tag_length ≡ length b.block
-      size = omega (
-        arith,
-        valid.longer (nonce_bytes b.index true) e.text (nonce_bytes-length b.index true),
-        ap length last_block,
-      )
+      size = omega (arith, valid.longer (nonce_bytes b.index true) e.text (nonce_bytes-length b.index true), ap length last_block)
 
       block_is : b.block ≡ drop (m * z) bytes
       block_is =
-          let most : length bytes ≤ (m + 1) * z =
-          not_less ((m + 1) * z) (length bytes)
-          (or_false (nat_lt ((m + 1) * z) (length bytes)) e.alone) in
+          let most : length bytes ≤ (m + 1) * z = not_less ((m + 1) * z) (length bytes) (or_false (nat_lt ((m + 1) * z) (length bytes)) e.alone) in
           let more : (m + 1) * z ≡ m * z + z = omega arith in
           take_all z (drop (m * z) bytes) (omega (arith, most, more, length-drop (m * z) bytes))
 
@@ -273,36 +241,25 @@ module _ (sealing : List ℕ → List ℕ → List ℕ) (opening : List ℕ → 
           let text = joined ++ e.text in
           let q = last_index n text in
           let len = flat_full n ts full in
-          let q_is : q ≡ m =
-          ap (λ (k : ℕ). k / n) index_of
-          ∙ div-mul-add m n (length e.text - 1) (omega (arith, short, positive)) in
+          let q_is : q ≡ m = ap (λ (k : ℕ). k / n) index_of ∙ div-mul-add m n (length e.text - 1) (omega (arith, short, positive)) in
           let index : q ≡ b.index = omega (arith, q_is) in
-          let last_is : last_chunk n text ≡ e.text =
-          ap (λ (k : ℕ). drop (k * n) text) q_is ∙ drop_at joined e.text (m * n) len in
-          let chunks_are : first_chunks n q text ≡ ts =
-          ap (λ (k : ℕ). first_chunks n k text) q_is ∙ first_chunks-full n ts e.text full in
+          let last_is : last_chunk n text ≡ e.text = ap (λ (k : ℕ). drop (k * n) text) q_is ∙ drop_at joined e.text (m * n) len in
+          let chunks_are : first_chunks n q text ≡ ts = ap (λ (k : ℕ). first_chunks n k text) q_is ∙ first_chunks-full n ts e.text full in
           let before_last = block_bytes (sealed_before_last sealing n text) in
           let last = sealing (nonce_bytes q true) (last_chunk n text) in
           let parts : payload sealing n text ≡ before_last ++ last =
-          flat_map-append (λ (p : List ℕ × List ℕ). p.1) (sealed_before_last sealing n text)
-          (pair sealing true (q, last_chunk n text) ∷ [])
+          flat_map-append (λ (p : List ℕ × List ℕ). p.1) (sealed_before_last sealing n text) (pair sealing true (q, last_chunk n text) ∷ [])
           ∙ ap (λ (x : List ℕ). before_last ++ x) (append-nil last) in
           let front_same : before_last ≡ front = ap (seals 0) chunks_are ∙ front_is in
-          let last_same : last ≡ drop (m * z) bytes =
-          ap (λ (k : ℕ). sealing (nonce_bytes k true) (last_chunk n text)) index
+          let last_same : last ≡ drop (m * z) bytes = ap (λ (k : ℕ). sealing (nonce_bytes k true) (last_chunk n text)) index
           ∙ (ap (sealing (nonce_bytes b.index true)) last_is ∙ (last_block ∙ block_is)) in
-          parts
-          ∙ (ap (λ (x : List ℕ). x ++ last) front_same
-          ∙ (ap (λ (x : List ℕ). front ++ x) last_same ∙ take-append-drop (m * z) bytes))
+          parts ∙ (ap (λ (x : List ℕ). x ++ last) front_same ∙ (ap (λ (x : List ℕ). front ++ x) last_same ∙ take-append-drop (m * z) bytes))
 
-    pub is_payload_of : (outcome opening n (whole_payload bytes)).status ≡ Done
-        → payload sealing n (released opening n (whole_payload bytes)) ≡ bytes
+    pub is_payload_of : (outcome opening n (whole_payload bytes)).status ≡ Done → payload sealing n (released opening n (whole_payload bytes)) ≡ bytes
     unfolding outcome
     is_payload_of done =
         let e = ends b done in
-        let text_is : released opening n (whole_payload bytes)
-        ≡ flat_map (λ (t : List ℕ). t) ts ++ e.text =
-        ap (flat_map (λ (t : List ℕ). t)) e.texts_are
-        ∙ (flat_map-append (λ (t : List ℕ). t) ts (e.text ∷ [])
+        let text_is : released opening n (whole_payload bytes) ≡ flat_map (λ (t : List ℕ). t) ts ++ e.text =
+        ap (flat_map (λ (t : List ℕ). t)) e.texts_are ∙ (flat_map-append (λ (t : List ℕ). t) ts (e.text ∷ [])
         ∙ ap (λ (x : List ℕ). flat_map (λ (t : List ℕ). t) ts ++ x) (append-nil e.text)) in
         ap (payload sealing n) text_is ∙ is_payload e

@@ -18,26 +18,19 @@ returns-in-Err-skip_blocks-clause-found g c = λ copied before. rw c.early-in-Er
 pub open_payload-requires-clause-room : goal.open_payload-requires-clause-room
 open_payload-requires-clause-room g c =
     let skipped = c.in-Ok-skip_blocks.ensures.skipped in
-    place_after (g.U.Unlock.allows c.args.unlock.now) c.args.from.now
-    (g.S.Source.view c.args.reader.now) c.in-Ok-start.unlocked
-    (view_of_reader g.S.Source.view c.start.new.reader)
-    (view_of_reader g.S.Source.view c.skip_blocks.new.reader) c.in-Ok-start.ensures.found
+    place_after (g.U.Unlock.allows c.args.unlock.now) c.args.from.now (g.S.Source.view c.args.reader.now) c.in-Ok-start.unlocked
+    (view_of_reader g.S.Source.view c.start.new.reader) (view_of_reader g.S.Source.view c.skip_blocks.new.reader) c.in-Ok-start.ensures.found
     skipped.0 (skipped.1 ∙ search rules) skipped.2 (g.O.Sink.view c.args.writer.now)
     c.before-tally.result c.before-tally.ensures.written c.before-tally.ensures.index
 
 pub returns-clause-found : goal.returns-clause-found
 returns-clause-found g c = λ copied before.
     let skipped = c.in-Ok-skip_blocks.ensures.skipped in
-    let s2 = stage_of g.S.Source.view g.O.Sink.view c.open_payload.new.reader
-    c.open_payload.new.writer in
-    read_last g.S.Source.view
-    (λ x. IfErr c.open_payload.result (λ stopped. IfSome stopped.position
-    (IsFoundAgain (g.U.Unlock.allows c.args.unlock.now) c.args.from.now copied
-    (g.S.Source.view c.args.reader.now) x stopped.written)))
-    _ c.open_payload.new.reader.source.now (search rules)
-    (found_again (g.U.Unlock.allows c.args.unlock.now) c.args.from.now
-    (g.S.Source.view c.args.reader.now) c.in-Ok-start.unlocked
-    (view_of_reader g.S.Source.view c.start.new.reader)
+    let s2 = stage_of g.S.Source.view g.O.Sink.view c.open_payload.new.reader c.open_payload.new.writer in
+    read_last g.S.Source.view (λ x. IfErr c.open_payload.result (λ stopped. IfSome stopped.position
+    (IsFoundAgain (g.U.Unlock.allows c.args.unlock.now) c.args.from.now copied (g.S.Source.view c.args.reader.now) x stopped.written)))
+    _ c.open_payload.new.reader.source.now (search rules) (found_again (g.U.Unlock.allows c.args.unlock.now) c.args.from.now
+    (g.S.Source.view c.args.reader.now) c.in-Ok-start.unlocked (view_of_reader g.S.Source.view c.start.new.reader)
     (view_of_reader g.S.Source.view c.skip_blocks.new.reader) c.in-Ok-start.ensures.found
     skipped.0 (skipped.1 ∙ search rules) skipped.2 (g.O.Sink.view c.args.writer.now)
     c.before-tally.result c.before-tally.ensures.written c.before-tally.ensures.index copied before

@@ -29,12 +29,10 @@ parts-init g c =
       index = refl;
       chain = refl;
       hashed = λ links kept_is.
-          let start : Holds256 c.update.new.self c.in-Some.chain =
-          c.update.ensures [] c.new-digest.ensures in
+          let start : Holds256 c.update.new.self c.in-Some.chain = c.update.ensures [] c.new-digest.ensures in
           let both : Some c.in-Some.chain ≡ Some links = sym c.in-Some.is ∙ kept_is in
           let same : c.in-Some.chain ≡ links = cc in
-          subst (λ (t : List ℕ). Holds256 c.update.new.self t) (same ∙ sym (append-nil links))
-          start;
+          subst (λ (t : List ℕ). Holds256 c.update.new.self t) (same ∙ sym (append-nil links)) start;
     }
 
 pub returns-then-not-branch-clause-copied : goal.returns-then-not-branch-clause-copied
@@ -44,8 +42,7 @@ returns-then-not-branch-clause-copied g c =
     let old = view_of_reader g.S.Source.view c.args.reader.now in
     let mid = view_of_reader g.S.Source.view c.parts.reader in
     let new = view_of_reader g.S.Source.view c.has_bytes.new.reader in
-    let passes = passes_same old mid new kept.copied kept.passes
-    (record { uses = c.has_bytes.ensures.uses; unfailed = r.2 }) in
+    let passes = passes_same old mid new kept.copied kept.passes (record { uses = c.has_bytes.ensures.uses; unfailed = r.2 }) in
     record {
       out = kept.copied;
       wrote = kept.wrote;
@@ -64,8 +61,7 @@ returns-in_err-has_bytes-clause-copied g c =
     let new = view_of_reader g.S.Source.view c.has_bytes.new.reader in
     let was = view_of_writer g.O.Sink.view c.args.writer.now in
     let now = view_of_writer g.O.Sink.view c.parts.writer in
-    let dries = dries_same old mid new kept.copied c.in_err-has_bytes.field-0.0 kept.passes
-    (record {
+    let dries = dries_same old mid new kept.copied c.in_err-has_bytes.field-0.0 kept.passes (record {
       uses = c.has_bytes.ensures.uses;
       used = a.0;
       why = a.1;
@@ -77,29 +73,25 @@ returns-in_err-has_bytes-clause-copied g c =
       count = kept.count;
       answered = rw (p.1, p.2) (
         omega (arith, kept.size, c.parts-test.true),
-        copy_dry old new was now kept.copied c.in_err-has_bytes.field-0.0 dries
-            kept.failures,
+        copy_dry old new was now kept.copied c.in_err-has_bytes.field-0.0 dries kept.failures,
       );
     }
 
 pub returns-in_err-write_all-clause-copied : goal.returns-in_err-write_all-clause-copied
 returns-in_err-write_all-clause-copied g c =
-    let p = err_from_is_err_and c.from_residual-in_err-write_all.result
-    c.from_residual-in_err-write_all.ensures.1 in
+    let p = err_from_is_err_and c.from_residual-in_err-write_all.result c.from_residual-in_err-write_all.ensures.1 in
     let kept = c.parts.invariant in
     let r = rw c.if-not-branch.false at c.in_ok-has_bytes.ensures.answers in
     let put = c.in_err-write_all.ensures.writes in
     let old = view_of_reader g.S.Source.view c.args.reader.now in
     let mid = view_of_reader g.S.Source.view c.parts.reader in
     let new = view_of_reader g.S.Source.view c.has_bytes.new.reader in
-    let used = passes_same old mid new kept.copied kept.passes
-    (record { uses = c.has_bytes.ensures.uses; unfailed = r.1 }) in
+    let used = passes_same old mid new kept.copied kept.passes (record { uses = c.has_bytes.ensures.uses; unfailed = r.1 }) in
     let n = c.min-n.result in
     let bytes = c.bytes-in-parts.result.now in
     record {
       out = kept.copied ++ put.out;
-      wrote = Appends-trans (g.O.Sink.view c.args.writer.now.sink.now).taken
-          (g.O.Sink.view c.parts.writer.sink.now).taken
+      wrote = Appends-trans (g.O.Sink.view c.args.writer.now.sink.now).taken (g.O.Sink.view c.parts.writer.sink.now).taken
           (g.O.Sink.view c.write_all.new.sink).taken kept.copied put.out kept.wrote put.wrote;
       named = c.in_err-write_all.ensures.named ∙ kept.named;
       count = omega (arith, kept.count, put.count, length-append kept.copied put.out);
@@ -117,11 +109,9 @@ returns-in_err-write_all-clause-copied g c =
         (
           kept.copied,
           used,
-          subst (λ (t : List ℕ). IsPrefixOf (kept.copied ++ put.out) (kept.copied ++ t))
-              c.bytes-in-parts.ensures.bytes
+          subst (λ (t : List ℕ). IsPrefixOf (kept.copied ++ put.out) (kept.copied ++ t)) c.bytes-in-parts.ensures.bytes
               (front_written kept.copied put.out put.unwritten bytes n put.parts),
-          subst (λ (m : ℕ). HasFailed m (g.O.Sink.view c.write_all.new.sink).failed
-              (g.O.Sink.view c.write_all.new.sink).failing)
+          subst (λ (m : ℕ). HasFailed m (g.O.Sink.view c.write_all.new.sink).failed (g.O.Sink.view c.write_all.new.sink).failing)
               kept.failures put.answered,
           omega (arith, length-append kept.copied put.out),
         ),
@@ -135,23 +125,17 @@ parts-preserved g c =
     let old = view_of_reader g.S.Source.view c.args.reader.now in
     let mid = view_of_reader g.S.Source.view c.parts.reader in
     let there = view_of_reader g.S.Source.view c.has_bytes.new.reader in
-    let new = reader_view (g.S.Source.view c.has_bytes.new.reader.source.now)
-    c.use_front.new.self in
+    let new = reader_view (g.S.Source.view c.has_bytes.new.reader.source.now) c.use_front.new.self in
     let n = c.min-n.result in
     let bytes = c.bytes-in-parts.result.now in
     let put = c.in_ok-write_all.ensures.writes in
-    let whole : put.out ≡ take n bytes =
-    all_out (take n bytes) put.out put.unwritten put.parts put.answered.0 in
+    let whole : put.out ≡ take n bytes = all_out (take n bytes) put.out put.unwritten put.parts put.answered.0 in
     let wrote = subst (λ (t : List ℕ). Appends (g.O.Sink.view c.parts.writer.sink.now).taken
     (g.O.Sink.view c.write_all.new.sink).taken t) whole put.wrote in
-    let front = uses_front (g.S.Source.view c.has_bytes.new.reader.source.now)
-    c.has_bytes.new.reader.intake.now c.use_front.new.self bytes n
+    let front = uses_front (g.S.Source.view c.has_bytes.new.reader.source.now) c.has_bytes.new.reader.intake.now c.use_front.new.self bytes n
     c.use_front.ensures.pulls c.bytes-in-parts.ensures.bytes c.use_front.ensures.bytes in
     record {
-      same_reader = (
-        c.in_ok-has_bytes.ensures.same.0 ∙ kept.same_reader.0,
-        c.in_ok-has_bytes.ensures.same.1 ∙ kept.same_reader.1,
-      );
+      same_reader = (c.in_ok-has_bytes.ensures.same.0 ∙ kept.same_reader.0, c.in_ok-has_bytes.ensures.same.1 ∙ kept.same_reader.1);
       same_writer = kept.same_writer;
       copied = kept.copied ++ take n bytes;
       size = omega (
@@ -163,26 +147,16 @@ parts-preserved g c =
         ap length c.bytes.ensures.bytes,
         ap length c.bytes-in-parts.ensures.bytes,
       );
-      passes = passes_then old there new kept.copied (take n bytes)
-          (passes_same old mid there kept.copied kept.passes
-          (record { uses = c.has_bytes.ensures.uses; unfailed = r.1 }))
-          (record { uses = front; unfailed = refl });
-      wrote = Appends-trans (g.O.Sink.view c.args.writer.now.sink.now).taken
-          (g.O.Sink.view c.parts.writer.sink.now).taken
+      passes = passes_then old there new kept.copied (take n bytes) (passes_same old mid there kept.copied kept.passes
+          (record { uses = c.has_bytes.ensures.uses; unfailed = r.1 })) (record { uses = front; unfailed = refl });
+      wrote = Appends-trans (g.O.Sink.view c.args.writer.now.sink.now).taken (g.O.Sink.view c.parts.writer.sink.now).taken
           (g.O.Sink.view c.write_all.new.sink).taken kept.copied (take n bytes) kept.wrote wrote;
       failures = put.answered.1 ∙ kept.failures;
       named = c.in_ok-write_all.ensures.named ∙ kept.named;
-      count = omega (
-        arith,
-        kept.count,
-        put.count,
-        ap length whole,
-        length-append kept.copied (take n bytes),
-      );
+      count = omega (arith, kept.count, put.count, ap length whole, length-append kept.copied (take n bytes));
       index = kept.index;
       chain = kept.chain;
-      hashed = λ links kept_is. subst (λ (t : List ℕ). Holds256 c.update-in-parts.new.self t)
-          (append_assoc links kept.copied (take n bytes))
+      hashed = λ links kept_is. subst (λ (t : List ℕ). Holds256 c.update-in-parts.new.self t) (append_assoc links kept.copied (take n bytes))
           (c.update-in-parts.ensures (links ++ kept.copied) (kept.hashed links kept_is));
     }
 
@@ -201,8 +175,7 @@ returns-clause-copied g c =
         kept.passes,
         kept.failures,
         omega (arith, further.0, kept.index),
-        further.1 ∙ (ap Some (c.finalize.ensures (c.in-Some.chain ++ kept.copied)
-            (kept.hashed c.in-Some.chain c.in-Some.is))
+        further.1 ∙ (ap Some (c.finalize.ensures (c.in-Some.chain ++ kept.copied) (kept.hashed c.in-Some.chain c.in-Some.is))
             ∙ ap (λ (l : Option (List ℕ)). link_if l kept.copied) (sym c.in-Some.is)),
       );
     }

@@ -13,17 +13,14 @@ invariant-parts g l = record {
   same_writer : SameWriter l.fn.writer l.writer;
   copied : List ℕ;
   size : length copied + l.left ≡ chunk_length;
-  passes : Passes (view_of_reader g.S.Source.view l.fn.reader)
-      (view_of_reader g.S.Source.view l.reader) copied;
-  wrote : Appends (g.O.Sink.view l.fn.writer.sink.now).taken (g.O.Sink.view l.writer.sink.now).taken
-      copied;
+  passes : Passes (view_of_reader g.S.Source.view l.fn.reader) (view_of_reader g.S.Source.view l.reader) copied;
+  wrote : Appends (g.O.Sink.view l.fn.writer.sink.now).taken (g.O.Sink.view l.writer.sink.now).taken copied;
   failures : (g.O.Sink.view l.writer.sink.now).failed ≡ (g.O.Sink.view l.fn.writer.sink.now).failed;
   named : (g.O.Sink.view l.writer.sink.now).label ≡ (g.O.Sink.view l.fn.writer.sink.now).label;
   count : l.writer.tally.written ≡ l.fn.writer.tally.written + length copied;
   index : l.writer.tally.index ≡ l.fn.writer.tally.index;
   chain : l.writer.tally.chain ≡ l.fn.writer.tally.chain;
-  hashed : (links : List ℕ) → l.fn.writer.tally.chain ≡ Some links
-      → Holds256 l.digest (links ++ copied);
+  hashed : (links : List ℕ) → l.fn.writer.tally.chain ≡ Some links → Holds256 l.digest (links ++ copied);
 }
 
 abbrev pub decreases-parts : goal.decreases-parts

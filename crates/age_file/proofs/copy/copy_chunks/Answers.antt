@@ -32,8 +32,7 @@ returns-in_err-copy_chunk-clause-copied g c =
     let between = view_of_writer g.O.Sink.view c.loop-copied.writer in
     let now = view_of_writer g.O.Sink.view c.copy_chunk.new.writer in
     rw (p.1, p.2) (chunk_failed chunk_length c.args.chunks c.loop-copied._copied old mid new was
-    between now kept.out c.in_err-copy_chunk.field-0.0 kept.size
-    (omega arith) kept.passes kept.wrote kept.named kept.failures
+    between now kept.out c.in_err-copy_chunk.field-0.0 kept.size (omega arith) kept.passes kept.wrote kept.named kept.failures
     (omega (arith, kept.count, c.requires.fresh.0)) c.in_err-copy_chunk.ensures.copied)
 
 pub loop-copied-init : goal.loop-copied-init
@@ -61,24 +60,18 @@ loop-copied-preserved g c =
     let mid = view_of_reader g.S.Source.view c.loop-copied.reader in
     let new = view_of_reader g.S.Source.view c.copy_chunk.new.reader in
     let next : suc i ≡ i + 1 = omega arith in
-    let links : c.copy_chunk.new.writer.tally.chain
-    ≡ chain_if Kept (first_chunks chunk_length (i + 1) (kept.out ++ step.out)) =
+    let links : c.copy_chunk.new.writer.tally.chain ≡ chain_if Kept (first_chunks chunk_length (i + 1) (kept.out ++ step.out)) =
     goes.4 ∙ ap (λ (xs : Option (List ℕ)). link_if xs step.out) kept.chain_is
     ∙ ap Some (sym (chain_more chunk_length i kept.out step.out kept.size goes.0))
     ∙ ap (λ (k : ℕ). chain_if Kept (first_chunks chunk_length k (kept.out ++ step.out))) next in
     record {
-      same_reader = (
-        c.in_ok-copy_chunk.ensures.same_reader.0 ∙ kept.same_reader.0,
-        c.in_ok-copy_chunk.ensures.same_reader.1 ∙ kept.same_reader.1,
-      );
+      same_reader = (c.in_ok-copy_chunk.ensures.same_reader.0 ∙ kept.same_reader.0, c.in_ok-copy_chunk.ensures.same_reader.1 ∙ kept.same_reader.1);
       same_writer = c.in_ok-copy_chunk.ensures.same_writer ∙ kept.same_writer;
       out = kept.out ++ step.out;
       size = omega (arith, kept.size, goes.0, length-append kept.out step.out);
       passes = passes_then old mid new kept.out step.out kept.passes goes.1;
-      wrote = Appends-trans (g.O.Sink.view c.args.writer.now.sink.now).taken
-          (g.O.Sink.view c.loop-copied.writer.sink.now).taken
-          (g.O.Sink.view c.copy_chunk.new.writer.sink.now).taken kept.out step.out kept.wrote
-          step.wrote;
+      wrote = Appends-trans (g.O.Sink.view c.args.writer.now.sink.now).taken (g.O.Sink.view c.loop-copied.writer.sink.now).taken
+          (g.O.Sink.view c.copy_chunk.new.writer.sink.now).taken kept.out step.out kept.wrote step.wrote;
       failures = goes.2 ∙ kept.failures;
       named = step.named ∙ kept.named;
       count = omega (arith, kept.count, step.count, length-append kept.out step.out);

@@ -15,10 +15,8 @@ invariant-loop-copied g l = record {
   same_writer : SameWriter l.fn.writer l.writer;
   out : List ℕ;
   size : length out ≡ l._copied * chunk_length;
-  passes : Passes (view_of_reader g.S.Source.view l.fn.reader)
-      (view_of_reader g.S.Source.view l.reader) out;
-  wrote : Appends (g.O.Sink.view l.fn.writer.sink.now).taken (g.O.Sink.view l.writer.sink.now).taken
-      out;
+  passes : Passes (view_of_reader g.S.Source.view l.fn.reader) (view_of_reader g.S.Source.view l.reader) out;
+  wrote : Appends (g.O.Sink.view l.fn.writer.sink.now).taken (g.O.Sink.view l.writer.sink.now).taken out;
   failures : (g.O.Sink.view l.writer.sink.now).failed ≡ (g.O.Sink.view l.fn.writer.sink.now).failed;
   named : (g.O.Sink.view l.writer.sink.now).label ≡ (g.O.Sink.view l.fn.writer.sink.now).label;
   count : l.writer.tally.written ≡ length out;

@@ -14,10 +14,8 @@ returns-clause-counts g c =
       counts = λ start used h. (
         kept.passed,
         kept.count_is,
-        (cut_pulled start now c.refill.new.self.pulls (used ++ kept.passed) c.refill.new.self.bytes
-            r.0
-            (c.refill.ensures.refills.pulled start (used ++ kept.passed)
-            (kept.pulled start used h))).consumed,
+        (cut_pulled start now c.refill.new.self.pulls (used ++ kept.passed) c.refill.new.self.bytes r.0
+            (c.refill.ensures.refills.pulled start (used ++ kept.passed) (kept.pulled start used h))).consumed,
       );
       at_end = r.2;
       small = omega (arith, kept.small, kept.most);
@@ -36,11 +34,8 @@ pulls-preserved g c =
       count_is = omega (arith, kept.count_is, length-append kept.passed fresh);
       small = omega (arith, kept.small, c.bytes-in-pulls.ensures.most, same, r.answered.3);
       most = omega (arith, same, r.answered.2);
-      pulled = λ start used h.
-          rest_pulled start _ c.refill.new.self.pulls c.use_all-in-pulls.new.self.pulls used
-          kept.passed fresh same
-          (rw (← c.bytes-in-pulls.ensures.bytes)
-          at (r.pulled start (used ++ kept.passed) (kept.pulled start used h)));
+      pulled = λ start used h. rest_pulled start _ c.refill.new.self.pulls c.use_all-in-pulls.new.self.pulls used kept.passed fresh same
+          (rw (← c.bytes-in-pulls.ensures.bytes) at (r.pulled start (used ++ kept.passed) (kept.pulled start used h)));
       unread = c.use_all-in-pulls.ensures.bytes;
       unfailed = r.answered.4 ∙ kept.unfailed;
     }
@@ -57,8 +52,7 @@ returns-in_err-refill-clause-fails g c =
     let fails : RestFails old new c.in_err-refill.field-0.0 = record {
       more = λ start used h. (
         kept.passed,
-        cut_pulled start source.supply c.refill.new.self.pulls (used ++ kept.passed)
-            c.refill.new.self.bytes a.0
+        cut_pulled start source.supply c.refill.new.self.pulls (used ++ kept.passed) c.refill.new.self.bytes a.0
             (c.refill.ensures.refills.pulled start (used ++ kept.passed) (kept.pulled start used h)),
       );
       why = pull_fails_since old mid new c.in_err-refill.field-0.0 kept.unfailed a.2;

@@ -11,14 +11,10 @@ invariant-pulls g l = record {
   count_is : l.count ≡ length passed;
   small : l.count ≤ pull_room * (l.reader.intake.now.pulls + 1);
   most : l.reader.intake.now.pulls ≤ 2 ^ 63;
-  pulled : (start : Start) (used : List ℕ)
-      → Pulled start (g.S.Source.view l.fn.reader.source.now).supply l.fn.reader.intake.now.pulls
-      (used ++ l.fn.reader.intake.now.bytes)
-      → Pulled start (g.S.Source.view l.reader.source.now).supply l.reader.intake.now.pulls
-      (used ++ passed);
+  pulled : (start : Start) (used : List ℕ) → Pulled start (g.S.Source.view l.fn.reader.source.now).supply l.fn.reader.intake.now.pulls
+      (used ++ l.fn.reader.intake.now.bytes) → Pulled start (g.S.Source.view l.reader.source.now).supply l.reader.intake.now.pulls (used ++ passed);
   unread : l.reader.intake.now.bytes ≡ [];
-  unfailed : (g.S.Source.view l.reader.source.now).failed
-      ≡ (g.S.Source.view l.fn.reader.source.now).failed;
+  unfailed : (g.S.Source.view l.reader.source.now).failed ≡ (g.S.Source.view l.fn.reader.source.now).failed;
 }
 
 abbrev pub decreases-pulls : goal.decreases-pulls

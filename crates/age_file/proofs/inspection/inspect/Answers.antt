@@ -12,15 +12,12 @@ use Rattle.age_file.proofs.ReaderLemmas.{read_last}
 use Rattle.age_file.proofs.inspection.inspect.Goals as goal
 
 -- a rest that could not be read, after a header that was
-rest_to_head : (first : SourceView) (mid now : ReaderView) (header : Header) (front : List ℕ)
-    (fault : FileFault) → HeadText header front
-    → mid.source.failed ≡ first.failed
-    → Pulled (start_at first.supply) mid.source.supply mid.unread.pulls (front ++ mid.unread.bytes)
+rest_to_head : (first : SourceView) (mid now : ReaderView) (header : Header) (front : List ℕ) (fault : FileFault) → HeadText header front
+    → mid.source.failed ≡ first.failed → Pulled (start_at first.supply) mid.source.supply mid.unread.pulls (front ++ mid.unread.bytes)
     → RestFails mid now fault → HeadFails NoHeadFault first now.source fault
 rest_to_head first mid now header front fault text same h f =
     let more = f.more (start_at first.supply) front h in
-    let sound : NoHeadFault first.supply now.source.supply =
-    (front ++ more.0, more.1.consumed, inr (header, front, more.0, text, refl)) in
+    let sound : NoHeadFault first.supply now.source.supply = (front ++ more.0, more.1.consumed, inr (header, front, more.0, text, refl)) in
     pull_fails NoHeadFault first mid now (front ++ more.0) fault same sound more.1 f.why
 
 pub returns-in_err-intake-clause-fails : goal.returns-in_err-intake-clause-fails
@@ -30,46 +27,35 @@ returns-in_err-intake-clause-fails g c =
 
 pub returns-in_err-head-clause-fails : goal.returns-in_err-head-clause-fails
 returns-in_err-head-clause-fails g c =
-    let p = err_from_is_err_and c.from_residual-in_err-head.result
-    c.from_residual-in_err-head.ensures.1 in
+    let p = err_from_is_err_and c.from_residual-in_err-head.result c.from_residual-in_err-head.ensures.1 in
     let first = g.S.Source.view c.args.source.now in
-    let fails = sound_too InHeader NoHeadFault first
-    (g.S.Source.view c.read_head.new.reader.source.now) c.in_err-head.field-0.0
+    let fails = sound_too InHeader NoHeadFault first (g.S.Source.view c.read_head.new.reader.source.now) c.in_err-head.field-0.0
     (λ h. (h.0, h.1, inl h.2)) c.in_err-head.ensures.fails in
-    rw (p.1, p.2) (read_last g.S.Source.view
-    (λ v. HeadFails NoHeadFault first v c.in_err-head.field-0.0) _
-    c.read_head.new.reader.source.now
+    rw (p.1, p.2) (read_last g.S.Source.view (λ v. HeadFails NoHeadFault first v c.in_err-head.field-0.0) _ c.read_head.new.reader.source.now
     (search rules) fails)
 
 pub returns-in_err-stanzas-clause-fails : goal.returns-in_err-stanzas-clause-fails
 returns-in_err-stanzas-clause-fails g c =
-    let p = err_from_is_err_and c.from_residual-in_err-stanzas.result
-    c.from_residual-in_err-stanzas.ensures.1 in
+    let p = err_from_is_err_and c.from_residual-in_err-stanzas.result c.from_residual-in_err-stanzas.ensures.1 in
     let first = g.S.Source.view c.args.source.now in
-    rw (p.1, p.2) (read_last g.S.Source.view (λ v. StopsAtHeader first.supply v.supply) _
-    c.read_head.new.reader.source.now (search rules)
+    rw (p.1, p.2) (read_last g.S.Source.view (λ v. StopsAtHeader first.supply v.supply) _ c.read_head.new.reader.source.now (search rules)
     c.in_ok-head.ensures.found.last)
 
 pub returns-clause-unfailed : goal.returns-clause-unfailed
 returns-clause-unfailed g c =
-    read_last g.S.Source.view (λ v. v.failed ≡ (g.S.Source.view c.args.source.now).failed) _
-    c.count_rest.new.reader.source.now (search rules)
+    read_last g.S.Source.view (λ v. v.failed ≡ (g.S.Source.view c.args.source.now).failed) _ c.count_rest.new.reader.source.now (search rules)
     (c.in_ok-rest.ensures.counts.unfailed ∙ c.in_ok-head.ensures.found.unfailed)
 
 pub returns-in_err-rest-clause-fails : goal.returns-in_err-rest-clause-fails
 returns-in_err-rest-clause-fails g c =
-    let p = err_from_is_err_and c.from_residual-in_err-rest.result
-    c.from_residual-in_err-rest.ensures.1 in
+    let p = err_from_is_err_and c.from_residual-in_err-rest.result c.from_residual-in_err-rest.ensures.1 in
     let head = c.in_ok-head.ensures.found in
     let first = g.S.Source.view c.args.source.now in
     let mid = view_of_reader g.S.Source.view c.read_head.new.reader in
     let last = view_of_reader g.S.Source.view c.count_rest.new.reader in
-    let fails = rest_to_head first mid last c.in_ok-head.head.header head.front
-    c.in_err-rest.field-0.0 head.text head.unfailed head.pulled
+    let fails = rest_to_head first mid last c.in_ok-head.head.header head.front c.in_err-rest.field-0.0 head.text head.unfailed head.pulled
     c.in_err-rest.ensures.fails in
-    rw (p.1, p.2) (read_last g.S.Source.view
-    (λ v. HeadFails NoHeadFault first v c.in_err-rest.field-0.0) _
-    c.count_rest.new.reader.source.now
+    rw (p.1, p.2) (read_last g.S.Source.view (λ v. HeadFails NoHeadFault first v c.in_err-rest.field-0.0) _ c.count_rest.new.reader.source.now
     (search rules) fails)
 
 pub returns-clause-ok : goal.returns-clause-ok
@@ -79,11 +65,9 @@ returns-clause-ok g c =
     let counted = c.in_ok-rest.ensures.counts.counts (start_at first.supply) head.front head.pulled in
     let reports = rw c.in_ok-stanzas.was at c.reports_of.ensures in (
       head.front ++ counted.0,
-      read_last g.S.Source.view (λ v. Consumes first.supply v.supply
-          (head.front ++ counted.0)) _ c.count_rest.new.reader.source.now (search rules)
+      read_last g.S.Source.view (λ v. Consumes first.supply v.supply (head.front ++ counted.0)) _ c.count_rest.new.reader.source.now (search rules)
           counted.2,
-      read_last g.S.Source.view (λ v. IsAtEnd v.supply) _ c.count_rest.new.reader.source.now
-          (search rules) c.in_ok-rest.ensures.counts.at_end,
+      read_last g.S.Source.view (λ v. IsAtEnd v.supply) _ c.count_rest.new.reader.source.now (search rules) c.in_ok-rest.ensures.counts.at_end,
       record {
         h = c.in_ok-head.head.header;
         front = head.front;

@@ -14,27 +14,21 @@ returns-in_err-intake-clause-fails g c =
 
 pub returns-in_err-head-clause-fails : goal.returns-in_err-head-clause-fails
 returns-in_err-head-clause-fails g c =
-    let p = err_from_is_err_and c.from_residual-in_err-head.result
-    c.from_residual-in_err-head.ensures.1 in
+    let p = err_from_is_err_and c.from_residual-in_err-head.result c.from_residual-in_err-head.ensures.1 in
     let first = g.S.Source.view c.args.source.now in
-    rw (p.1, p.2) (read_last g.S.Source.view
-    (λ v. HeadFails InHeader first v c.in_err-head.field-0.0) _
-    c.read_head.new.reader.source.now
+    rw (p.1, p.2) (read_last g.S.Source.view (λ v. HeadFails InHeader first v c.in_err-head.field-0.0) _ c.read_head.new.reader.source.now
     (search rules) c.in_err-head.ensures.fails)
 
 pub returns-in_err-stanzas-clause-fails : goal.returns-in_err-stanzas-clause-fails
 returns-in_err-stanzas-clause-fails g c =
-    let p = err_from_is_err_and c.from_residual-in_err-stanzas.result
-    c.from_residual-in_err-stanzas.ensures.1 in
+    let p = err_from_is_err_and c.from_residual-in_err-stanzas.result c.from_residual-in_err-stanzas.ensures.1 in
     let first = g.S.Source.view c.args.source.now in
-    rw (p.1, p.2) (read_last g.S.Source.view (λ v. StopsAtHeader first.supply v.supply) _
-    c.read_head.new.reader.source.now (search rules)
+    rw (p.1, p.2) (read_last g.S.Source.view (λ v. StopsAtHeader first.supply v.supply) _ c.read_head.new.reader.source.now (search rules)
     c.in_ok-head.ensures.found.last)
 
 pub returns-clause-unfailed : goal.returns-clause-unfailed
 returns-clause-unfailed g c =
-    read_last g.S.Source.view (λ v. v.failed ≡ (g.S.Source.view c.args.source.now).failed) _
-    c.read_head.new.reader.source.now (search rules)
+    read_last g.S.Source.view (λ v. v.failed ≡ (g.S.Source.view c.args.source.now).failed) _ c.read_head.new.reader.source.now (search rules)
     c.in_ok-head.ensures.found.unfailed
 
 pub returns-clause-ok : goal.returns-clause-ok
@@ -48,8 +42,7 @@ returns-clause-ok g c =
       more = c.read_head.new.reader.intake.now.bytes;
       text = head.text;
       read = read_last g.S.Source.view (λ v. Consumes first.supply v.supply
-          (head.front ++ c.read_head.new.reader.intake.now.bytes)) _ c.read_head.new.reader.source.now
-          (search rules) head.pulled.consumed;
+          (head.front ++ c.read_head.new.reader.intake.now.bytes)) _ c.read_head.new.reader.source.now (search rules) head.pulled.consumed;
       few = head.few;
       header_is = head.len_is;
       stanzas_are = reports;

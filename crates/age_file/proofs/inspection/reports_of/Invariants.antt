@@ -4,8 +4,7 @@ use Rattle.age_file.proofs.inspection.reports_of.Given as goal
 
 -- the reports so far, and those on the stanzas that are left, which stand last first
 abbrev pub invariant-stanzas : goal.invariant-stanzas
-invariant-stanzas l = map stanza_report (reverse l.initial.left.items) ≡ l.reports
-    ++ map stanza_report (reverse l.left.items)
+invariant-stanzas l = map stanza_report (reverse l.initial.left.items) ≡ l.reports ++ map stanza_report (reverse l.left.items)
 
 abbrev pub decreases-stanzas : goal.decreases-stanzas
 decreases-stanzas l = vec_len l.left

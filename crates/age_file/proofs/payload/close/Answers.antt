@@ -25,8 +25,7 @@ returns-in_err-text-clause-closed g c =
         text = c.in_err-text.ensures.ends.text;
         counts = λ keep positive s base len h m. mark_end (seals c.args.opener.now.key)
             (opens c.args.opener.now.key) (box_valid c.args.opener.now.key)
-            chunk_length positive keep base s [] [] _ _ len (c.in_err-text.ensures.ends.text s h)
-            refl refl m;
+            chunk_length positive keep base s [] [] _ _ len (c.in_err-text.ensures.ends.text s h) refl refl m;
       };
       answered = rw (p.1, p.2) (after.fault, refl, refl, refl);
     }
@@ -44,18 +43,13 @@ returns-clause-closed g c =
         named = c.write_all.ensures.named;
         count = put.count;
         stands = after.stands;
-        text = λ s h. c.in_ok-text.ensures.ends.text s h
-            ∙ ap (λ (t : List ℕ). released (opens c.args.opener.now.key) chunk_length s ++ t)
-            put.parts;
+        text = λ s h. c.in_ok-text.ensures.ends.text s h ∙ ap (λ (t : List ℕ). released (opens c.args.opener.now.key) chunk_length s ++ t) put.parts;
         counts = λ keep positive s base len h m.
-            let more = c.in_ok-text.ensures.ends.text s h
-            ∙ ap (λ (t : List ℕ). released (opens c.args.opener.now.key) chunk_length s ++ t)
+            let more = c.in_ok-text.ensures.ends.text s h ∙ ap (λ (t : List ℕ). released (opens c.args.opener.now.key) chunk_length s ++ t)
             put.parts in
             mark_end (seals c.args.opener.now.key) (opens c.args.opener.now.key)
-            (box_valid c.args.opener.now.key) chunk_length positive keep base s put.out
-            put.unwritten _ _ len more refl refl m;
+            (box_valid c.args.opener.now.key) chunk_length positive keep base s put.out put.unwritten _ _ len more refl refl m;
       };
-      answered = answer_as c.write_all.result put.answered c.write_all.ensures.fault
-          (λ _ all. (after.done, all.0, all.1))
+      answered = answer_as c.write_all.result put.answered c.write_all.ensures.fault (λ _ all. (after.done, all.0, all.1))
           (λ _ is failed. rw is (failed, inr (refl, after.done)));
     }

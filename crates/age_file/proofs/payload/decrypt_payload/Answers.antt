@@ -16,10 +16,8 @@ turns-init g c =
       same_reader = (refl, refl);
       metered = λ from began. began;
       same_writer = refl;
-      goes = begins opens chunk_length c.at-opener.result old
-          (omega (arith, ap (λ o. length o.held) c.at-opener.ensures.view, c.requires.room.0))
-          c.requires.room.1
-          (ap (λ o. has_failed o.status) c.at-opener.ensures.view);
+      goes = begins opens chunk_length c.at-opener.result old (omega (arith, ap (λ o. length o.held) c.at-opener.ensures.view, c.requires.room.0))
+          c.requires.room.1 (ap (λ o. has_failed o.status) c.at-opener.ensures.view);
     }
 
 pub returns-in_err-feed_piece-clause-decrypts : goal.returns-in_err-feed_piece-clause-decrypts
@@ -32,19 +30,15 @@ returns-in_err-feed_piece-clause-decrypts g c =
     let new = stage_of g.S.Source.view g.O.Sink.view c.turns.reader c.feed_piece.new.writer in
     let fault = c.in_err-feed_piece.field-0.0 in
     let unread = c.turns.reader.intake.now in
-    let stops = feed_stops opens chunk_length a c.turns.opener b old
-    (g.S.Source.view c.turns.reader.source.now) unread unread
-    (view_of_writer g.O.Sink.view c.turns.writer) new.writer c.bytes.result.now
-    c.bytes.ensures.bytes refl c.turns.invariant.goes fault
+    let stops = feed_stops opens chunk_length a c.turns.opener b old (g.S.Source.view c.turns.reader.source.now) unread unread
+    (view_of_writer g.O.Sink.view c.turns.writer) new.writer c.bytes.result.now c.bytes.ensures.bytes refl c.turns.invariant.goes fault
     c.in_err-feed_piece.ensures.fed in
     rw (p.1, p.2) (pour_stopped seals opens box_valid chunk_length positive c.args.key.now
-    c.args.index a b old new fault (ap (λ o. o.key) c.at-opener.ensures.view)
-    c.at-opener.ensures.stands stops)
+    c.args.index a b old new fault (ap (λ o. o.key) c.at-opener.ensures.view) c.at-opener.ensures.stands stops)
 
 pub returns-in_err-refill-clause-decrypts : goal.returns-in_err-refill-clause-decrypts
 returns-in_err-refill-clause-decrypts g c =
-    let p = err_from_is_err_and c.from_residual-in_err-refill.result
-    c.from_residual-in_err-refill.ensures.1 in
+    let p = err_from_is_err_and c.from_residual-in_err-refill.result c.from_residual-in_err-refill.ensures.1 in
     let positive : 0 < chunk_length = omega arith in
     let a = c.at-opener.result in
     let b = c.feed_piece.new.opener in
@@ -53,15 +47,12 @@ returns-in_err-refill-clause-decrypts g c =
     let now = view_of_writer g.O.Sink.view c.feed_piece.new.writer in
     let z = reader_view (g.S.Source.view c.refill.new.source) c.refill.new.self in
     let fault = c.in_err-refill.field-0.0 in
-    let goes = fed_all opens chunk_length a c.turns.opener b old source c.turns.reader.intake.now
-    c.use_all.new.self
-    (view_of_writer g.O.Sink.view c.turns.writer) now c.bytes.result.now c.bytes.ensures.bytes
-    c.use_all.ensures.pulls c.turns.invariant.goes
+    let goes = fed_all opens chunk_length a c.turns.opener b old source c.turns.reader.intake.now c.use_all.new.self
+    (view_of_writer g.O.Sink.view c.turns.writer) now c.bytes.result.now c.bytes.ensures.bytes c.use_all.ensures.pulls c.turns.invariant.goes
     c.use_all.ensures.bytes c.in_ok-feed_piece.ensures.fed in
     let stops = pull_stops opens chunk_length a b old (reader_view source c.use_all.new.self) z now
     c.use_all.ensures.bytes goes fault c.in_err-refill.ensures.refills in
-    rw (p.1, p.2) (pour_stopped seals opens box_valid chunk_length positive c.args.key.now
-    c.args.index a b old (stage z now) fault
+    rw (p.1, p.2) (pour_stopped seals opens box_valid chunk_length positive c.args.key.now c.args.index a b old (stage z now) fault
     (ap (λ o. o.key) c.at-opener.ensures.view) c.at-opener.ensures.stands stops)
 
 pub turns-preserved : goal.turns-preserved
@@ -72,17 +63,14 @@ turns-preserved g c =
     let source = g.S.Source.view c.turns.reader.source.now in
     let now = view_of_writer g.O.Sink.view c.feed_piece.new.writer in
     let z = reader_view (g.S.Source.view c.refill.new.source) c.refill.new.self in
-    let goes = fed_all opens chunk_length a c.turns.opener b old source c.turns.reader.intake.now
-    c.use_all.new.self
-    (view_of_writer g.O.Sink.view c.turns.writer) now c.bytes.result.now c.bytes.ensures.bytes
-    c.use_all.ensures.pulls c.turns.invariant.goes
+    let goes = fed_all opens chunk_length a c.turns.opener b old source c.turns.reader.intake.now c.use_all.new.self
+    (view_of_writer g.O.Sink.view c.turns.writer) now c.bytes.result.now c.bytes.ensures.bytes c.use_all.ensures.pulls c.turns.invariant.goes
     c.use_all.ensures.bytes c.in_ok-feed_piece.ensures.fed in
     record {
       same_reader = c.turns.invariant.same_reader;
       metered = λ from began. c.in_ok-refill.ensures.metered from (c.turns.invariant.metered from began);
       same_writer = c.in_ok-feed_piece.ensures.same ∙ c.turns.invariant.same_writer;
-      goes = pulled_more opens chunk_length a b old (reader_view source c.use_all.new.self) z now
-          c.use_all.ensures.bytes goes
+      goes = pulled_more opens chunk_length a b old (reader_view source c.use_all.new.self) z now c.use_all.ensures.bytes goes
           (rw c.if-not-branch.false at c.in_ok-refill.ensures.refills);
     }
 
@@ -95,16 +83,11 @@ returns-clause-decrypts g c =
     let source = g.S.Source.view c.turns.reader.source.now in
     let now = view_of_writer g.O.Sink.view c.feed_piece.new.writer in
     let z = reader_view (g.S.Source.view c.refill.new.source) c.refill.new.self in
-    let goes = fed_all opens chunk_length a c.turns.opener b old source c.turns.reader.intake.now
-    c.use_all.new.self
-    (view_of_writer g.O.Sink.view c.turns.writer) now c.bytes.result.now c.bytes.ensures.bytes
-    c.use_all.ensures.pulls c.turns.invariant.goes
+    let goes = fed_all opens chunk_length a c.turns.opener b old source c.turns.reader.intake.now c.use_all.new.self
+    (view_of_writer g.O.Sink.view c.turns.writer) now c.bytes.result.now c.bytes.ensures.bytes c.use_all.ensures.pulls c.turns.invariant.goes
     c.use_all.ensures.bytes c.in_ok-feed_piece.ensures.fed in
-    let ends = pulled_none opens chunk_length a b old (reader_view source c.use_all.new.self) z now
-    c.use_all.ensures.bytes goes
+    let ends = pulled_none opens chunk_length a b old (reader_view source c.use_all.new.self) z now c.use_all.ensures.bytes goes
     (rw c.if-not-branch.true at c.in_ok-refill.ensures.refills) in
-    pour_ended seals opens box_valid chunk_length positive c.args.key.now c.args.index a b
-    c.finish.new.opener old (stage z now)
-    (view_of_writer g.O.Sink.view c.finish.new.writer) c.finish.result
-    (ap (λ o. o.key) c.at-opener.ensures.view) c.at-opener.ensures.stands ends
+    pour_ended seals opens box_valid chunk_length positive c.args.key.now c.args.index a b c.finish.new.opener old (stage z now)
+    (view_of_writer g.O.Sink.view c.finish.new.writer) c.finish.result (ap (λ o. o.key) c.at-opener.ensures.view) c.at-opener.ensures.stands ends
     c.finish.ensures.closed c.finish.ensures.settled

@@ -29,11 +29,9 @@ returns-in_err-step-clause-fed g c =
         named = refl;
         count = omega arith;
         stands = after.stands;
-        text = λ s h. more_text (opens key) chunk_length s (with_piece s piece) [] []
-            (c.in_err-step.ensures.feeds.texts s h) refl;
+        text = λ s h. more_text (opens key) chunk_length s (with_piece s piece) [] [] (c.in_err-step.ensures.feeds.texts s h) refl;
         counts = counts_refused opens chunk_length (seals key) c.args.opener.now
-            c.feed.follows.lender-at-none c.args.writer.now.tally piece (box_valid key)
-            after.stands c.in_err-step.ensures.feeds.texts;
+            c.feed.follows.lender-at-none c.args.writer.now.tally piece (box_valid key) after.stands c.in_err-step.ensures.feeds.texts;
       };
       answered = rw (p.1, p.2) (after.fault, refl, refl, refl);
     }
@@ -56,20 +54,16 @@ returns-in_default-clause-fed g c =
       unwritten = [];
       parts = sym (take-append-drop step.taken piece);
       releases = fed_front opens chunk_length c.args.opener.now new was was piece step.taken None []
-          [] after.key after.stands texts refl (Appends-nil _) refl
-          (omega arith)
-          (counts_refused opens chunk_length (seals key) c.args.opener.now new
+          [] after.key after.stands texts refl (Appends-nil _) refl (omega arith) (counts_refused opens chunk_length (seals key) c.args.opener.now new
           c.args.writer.now.tally (take step.taken piece) (box_valid key) after.stands texts);
       answered = goes_front opens chunk_length c.args.opener.now new was was piece step.taken None
-          [] [] (omega (arith, ok.taken)) (omega (arith, held)) refl (omega arith) refl refl
-          after.unfailed;
+          [] [] (omega (arith, ok.taken)) (omega (arith, held)) refl (omega arith) refl refl after.unfailed;
     }
 
 -- the sink failed
 pub returns-in_err-write_all-clause-fed : goal.returns-in_err-write_all-clause-fed
 returns-in_err-write_all-clause-fed g c =
-    let p = err_from_is_err_and c.from_residual-in_err-write_all.result
-    c.from_residual-in_err-write_all.ensures.1 in
+    let p = err_from_is_err_and c.from_residual-in_err-write_all.result c.from_residual-in_err-write_all.ensures.1 in
     let after = rw c.in_ok-step.was at c.feed.follows.holds-at-none in
     let ok = c.in_ok-step.ensures.feeds in
     let put = c.in_err-write_all.ensures.writes in
@@ -85,8 +79,7 @@ returns-in_err-write_all-clause-fed g c =
       unwritten = put.unwritten;
       parts = sym (take-append-drop step.taken piece);
       releases = fed_front opens chunk_length c.args.opener.now c.feed.follows.lender-at-none was _
-          piece step.taken chunk put.out put.unwritten after.key
-          after.stands texts put.parts put.wrote c.in_err-write_all.ensures.named put.count
+          piece step.taken chunk put.out put.unwritten after.key after.stands texts put.parts put.wrote c.in_err-write_all.ensures.named put.count
           (counts_cut opens chunk_length (seals key) c.args.opener.now c.feed.follows.lender-at-none
           c.args.writer.now.tally _ (take step.taken piece) chunk
           put.out put.unwritten (box_valid key) after.stands texts put.parts put.stopped refl refl);
@@ -115,14 +108,10 @@ returns-clause-fed g c =
       unwritten = [];
       parts = sym (take-append-drop step.taken piece);
       releases = fed_front opens chunk_length c.args.opener.now c.feed.follows.lender-at-none was
-          now piece step.taken chunk put.out [] after.key after.stands
-          texts whole put.wrote c.in_ok-write_all.ensures.named count
-          (counts_whole opens chunk_length (seals key) c.args.opener.now
-          c.feed.follows.lender-at-none c.args.writer.now.tally c.count.new.self
-          (take step.taken piece) chunk step.index (box_valid key) after.key after.index
-          after.stands texts c.count.ensures.counted);
+          now piece step.taken chunk put.out [] after.key after.stands texts whole put.wrote c.in_ok-write_all.ensures.named count
+          (counts_whole opens chunk_length (seals key) c.args.opener.now c.feed.follows.lender-at-none c.args.writer.now.tally c.count.new.self
+          (take step.taken piece) chunk step.index (box_valid key) after.key after.index after.stands texts c.count.ensures.counted);
       answered = goes_front opens chunk_length c.args.opener.now c.feed.follows.lender-at-none was
           now piece step.taken chunk put.out [] (omega (arith, ok.taken))
-          (omega (arith, lent.0, lent.1, ap length lent.2)) whole count none put.answered.1
-          after.unfailed;
+          (omega (arith, lent.0, lent.1, ap length lent.2)) whole count none put.answered.1 after.unfailed;
     }

@@ -15,11 +15,9 @@ on piece fed left at n parts count =
     let front : take n (drop at piece) ≡ fed = ap (take n) rest ∙ take_at fed left n (sym count) in
     ap (λ (t : List ℕ). take at piece ++ t) (sym front) ∙ sym (take-add at n piece)
 
-all_of : (piece fed left : List ℕ) (at : ℕ) → take (length piece - at) (drop at piece) ≡ fed ++ left
-    → piece ≡ (take at piece ++ fed) ++ left
+all_of : (piece fed left : List ℕ) (at : ℕ) → take (length piece - at) (drop at piece) ≡ fed ++ left → piece ≡ (take at piece ++ fed) ++ left
 all_of piece fed left at parts =
-    sym (take-append-drop at piece)
-    ∙ (ap (λ (t : List ℕ). take at piece ++ t) (sym (take_rest piece at) ∙ parts)
+    sym (take-append-drop at piece) ∙ (ap (λ (t : List ℕ). take at piece ++ t) (sym (take_rest piece at) ∙ parts)
     ∙ sym (append_assoc (take at piece) fed left))
 
 pub loop-at-init : goal.loop-at-init
@@ -38,14 +36,10 @@ loop-at-preserved g c =
     let fed = c.in_ok-at.ensures.fed in
     let piece = c.args.piece.now in
     let at = c.loop-at.at in
-    let both = both_then opens chunk_length (take at piece) fed.fed
-    (take (at + c.in_ok-at.field-0) piece) c.args.opener.now c.loop-at.opener
-    c.feed_once.new.opener
-    (view_of_writer g.O.Sink.view c.args.writer.now)
-    (view_of_writer g.O.Sink.view c.loop-at.writer)
+    let both = both_then opens chunk_length (take at piece) fed.fed (take (at + c.in_ok-at.field-0) piece) c.args.opener.now c.loop-at.opener
+    c.feed_once.new.opener (view_of_writer g.O.Sink.view c.args.writer.now) (view_of_writer g.O.Sink.view c.loop-at.writer)
     (view_of_writer g.O.Sink.view c.feed_once.new.writer) fed.unwritten
-    (on piece fed.fed fed.left at c.in_ok-at.field-0 fed.parts fed.answered.0) kept.releases
-    kept.goes fed.releases fed.answered.1 in
+    (on piece fed.fed fed.left at c.in_ok-at.field-0 fed.parts fed.answered.0) kept.releases kept.goes fed.releases fed.answered.1 in
     record {
       same = c.in_ok-at.ensures.same ∙ kept.same;
       within = omega (
@@ -78,11 +72,9 @@ returns-in_err-at g c =
         unwritten = fed.unwritten;
         parts = all_of piece fed.fed fed.left at fed.parts;
         releases = releases_then opens chunk_length (take at piece) fed.fed c.args.opener.now
-            c.loop-at.opener c.feed_once.new.opener was mid now fed.unwritten
-            kept.releases fed.releases;
+            c.loop-at.opener c.feed_once.new.opener was mid now fed.unwritten kept.releases fed.releases;
         answered = rw (p.1, p.2) (fails_then opens chunk_length (take at piece) c.args.opener.now
-            c.loop-at.opener c.feed_once.new.opener was mid now fed.left
-            fed.unwritten c.in_err-at.field-0.0 kept.goes fed.answered);
+            c.loop-at.opener c.feed_once.new.opener was mid now fed.left fed.unwritten c.in_err-at.field-0.0 kept.goes fed.answered);
       };
       same = c.in_err-at.ensures.same ∙ kept.same;
     }

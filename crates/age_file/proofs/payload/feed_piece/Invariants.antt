@@ -13,8 +13,7 @@ invariant-loop-at g l =
     record {
       same : SameWriter l.fn.writer l.writer;
       within : l.at ≤ length l.piece;
-      releases : Releases opens chunk_length (λ s. with_piece s (take l.at l.piece)) l.fn.opener
-          l.opener was now [];
+      releases : Releases opens chunk_length (λ s. with_piece s (take l.at l.piece)) l.fn.opener l.opener was now [];
       goes : FeedGoes opens chunk_length l.fn.opener l.opener was now (take l.at l.piece) [];
     }
 

@@ -6,18 +6,15 @@ use Rattle.age_file.proofs.position_text.digest_of.Goals as goal
 pub returns-in-Ok-clause-some : goal.returns-in-Ok-clause-some
 returns-in-Ok-clause-some c =
     let fits : IsBytes c.args.field.now = λ i. omega (arith, c.type_inv.field i) in
-    digest_read c.args.field.now fits c.copy_from_slice.new.self c.decode_slice_unchecked.new.output
-    c.in-Ok.len (omega (arith, c.requires))
+    digest_read c.args.field.now fits c.copy_from_slice.new.self c.decode_slice_unchecked.new.output c.in-Ok.len (omega (arith, c.requires))
     c.if-field-ne32.false c.copy_from_slice.ensures.after c.in-Ok.ensures.ok.0
 
 pub returns-in_default-clause-none : goal.returns-in_default-clause-none
 returns-in_default-clause-none c = λ bytes digest e.
     let ok = c.in-Ok.ensures.ok in
-    digest_short c.args.field.now bytes c.decode_slice_unchecked.new.output c.in-Ok.len
-    c.if-len-eq32.false
+    digest_short c.args.field.now bytes c.decode_slice_unchecked.new.output c.in-Ok.len c.if-len-eq32.false
     (omega (arith, ok.2, c.decode_slice_unchecked.auto.output)) ok.0 digest e
 
 pub returns-in_default-2-clause-none : goal.returns-in_default-2-clause-none
-returns-in_default-2-clause-none c = λ bytes digest e.
-    digest_none c.args.field.now bytes c.in_default.field-0
+returns-in_default-2-clause-none c = λ bytes digest e. digest_none c.args.field.now bytes c.in_default.field-0
     (rw c.in_default.is at c.decode_slice_unchecked.ensures.err) digest e

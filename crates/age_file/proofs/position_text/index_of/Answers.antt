@@ -5,5 +5,4 @@ use Rattle.age_file.proofs.position_text.index_of.Goals as goal
 pub returns-clause-some : goal.returns-clause-some
 returns-clause-some c =
     index_read c.number_of.result c.args.front.now (codes "age-position/v2 ")
-    (same_unless (take 16 c.args.front.now) c.as_slice.result.now c.if-ne.ensures
-    ∙ c.as_slice.ensures) c.number_of.ensures.some
+    (same_unless (take 16 c.args.front.now) c.as_slice.result.now c.if-ne.ensures ∙ c.as_slice.ensures) c.number_of.ensures.some

@@ -9,22 +9,18 @@ returns-in_err-digest_of-clause-none c = rw c.from_residual.ensures (λ id links
 
 pub returns-in_err-digest_of-2-clause-none : goal.returns-in_err-digest_of-2-clause-none
 returns-in_err-digest_of-2-clause-none c =
-    rw c.from_residual-in_err-digest_of-2.ensures (λ id links tag d1 d2 d3 e.
-    c.in_err-digest_of-2.ensures.none links d2
+    rw c.from_residual-in_err-digest_of-2.ensures (λ id links tag d1 d2 d3 e. c.in_err-digest_of-2.ensures.none links d2
     (second_field c.args.fields.now id links tag d1 d2 d3 e))
 
 pub returns-in_err-digest_of-3-clause-none : goal.returns-in_err-digest_of-3-clause-none
 returns-in_err-digest_of-3-clause-none c =
-    rw c.from_residual-in_err-digest_of-3.ensures (λ id links tag d1 d2 d3 e.
-    c.in_err-digest_of-3.ensures.none tag d3
+    rw c.from_residual-in_err-digest_of-3.ensures (λ id links tag d1 d2 d3 e. c.in_err-digest_of-3.ensures.none tag d3
     (third_field c.args.fields.now id links tag d1 d2 d3 e))
 
 pub returns-clause-fields : goal.returns-clause-fields
 returns-clause-fields c =
-    fields_are c.args.fields.now c.in_ok-digest_of.field-0 c.in_ok-digest_of-2.field-0
-    c.in_ok-digest_of-3.field-0 c.requires.size
-    c.in_ok-digest_of.ensures.some c.in_ok-digest_of-2.ensures.some c.in_ok-digest_of-3.ensures.some
-    c.if-fields-ne10.false
+    fields_are c.args.fields.now c.in_ok-digest_of.field-0 c.in_ok-digest_of-2.field-0 c.in_ok-digest_of-3.field-0 c.requires.size
+    c.in_ok-digest_of.ensures.some c.in_ok-digest_of-2.ensures.some c.in_ok-digest_of-3.ensures.some c.if-fields-ne10.false
 
 pub slice_bounds-digest_of-end : goal.slice_bounds-digest_of-end
 slice_bounds-digest_of-end c = omega (arith, length-take 44 c.args.fields.now, c.requires.size)

@@ -4,5 +4,4 @@ use Rattle.age_file.proofs.position_text.text_of.Given as goal
 
 -- the parts so far
 abbrev pub invariant-loop-part : goal.invariant-loop-part
-invariant-loop-part l = l.text.items
-    ≡ concat (map (λ part. part.now) (take l.part-index l.part-items))
+invariant-loop-part l = l.text.items ≡ concat (map (λ part. part.now) (take l.part-index l.part-items))

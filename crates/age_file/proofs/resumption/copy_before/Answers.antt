@@ -6,12 +6,9 @@ use Rattle.age_file.proofs.resumption.copy_before.Goals as goal
 
 pub returns-clause-copied : goal.returns-clause-copied
 returns-clause-copied g c =
-    read_last g.L.Source.view (λ v. CopiesBefore c.args.positions c.args.position.now
-    (g.L.Source.view c.args.source.now) v c.args.intake.now
-    c.count_on-2.new.self (view_of_writer g.O.Sink.view c.args.writer.now)
-    (view_of_writer g.O.Sink.view c.copy_old-copied.new.writer)
-    c.copy_old-copied.result) _ c.copy_old-copied.new.reader.source.now (search rules)
-    (record {
+    read_last g.L.Source.view (λ v. CopiesBefore c.args.positions c.args.position.now (g.L.Source.view c.args.source.now) v c.args.intake.now
+    c.count_on-2.new.self (view_of_writer g.O.Sink.view c.args.writer.now) (view_of_writer g.O.Sink.view c.copy_old-copied.new.writer)
+    c.copy_old-copied.result) _ c.copy_old-copied.new.reader.source.now (search rules) (record {
       first = c.count_on.new.self;
       none = c.count_on.ensures.bytes ∙ c.requires.unread;
       counted_on = c.count_on.ensures.pulls;

@@ -16,12 +16,9 @@ returns-in_err-copy_chunks-clause-copied g c =
       wrote = f.wrote;
       named = f.named;
       count = f.count;
-      answered = rw (p.1, p.2) (text_fails chunk_length c.args.position.now.index
-          c.args.position.now.chain
-          (view_of_reader g.L.Source.view c.args.reader.now)
-          (view_of_reader g.L.Source.view c.copy_chunks.new.reader)
-          (view_of_writer g.O.Sink.view c.args.writer.now)
-          (view_of_writer g.O.Sink.view c.copy_chunks.new.writer) f.out
+      answered = rw (p.1, p.2) (text_fails chunk_length c.args.position.now.index c.args.position.now.chain
+          (view_of_reader g.L.Source.view c.args.reader.now) (view_of_reader g.L.Source.view c.copy_chunks.new.reader)
+          (view_of_writer g.O.Sink.view c.args.writer.now) (view_of_writer g.O.Sink.view c.copy_chunks.new.writer) f.out
           c.in_err-copy_chunks.field-0.0 f.answered);
     }
 
@@ -40,8 +37,7 @@ pub returns-clause-copied : goal.returns-clause-copied
 returns-clause-copied g c =
     let f = c.in_ok-copy_chunks.ensures.copied in
     let chunks = first_chunks chunk_length c.args.position.now.index f.out in
-    let links : c.copy_chunks.new.writer.tally.chain ≡ Some c.args.position.now.chain =
-    search rules in
+    let links : c.copy_chunks.new.writer.tally.chain ≡ Some c.args.position.now.chain = search rules in
     let both : Some (chain chunks) ≡ Some c.args.position.now.chain = sym f.answered.4 ∙ links in
     let same : chain chunks ≡ c.args.position.now.chain = cc in
     record {
@@ -49,12 +45,5 @@ returns-clause-copied g c =
       wrote = f.wrote;
       named = f.named;
       count = c.keep.ensures.written ∙ f.count;
-      answered = (
-        f.answered.0,
-        f.answered.1,
-        f.answered.2,
-        c.keep.ensures.index ∙ f.answered.3,
-        c.keep.ensures.chain chunks f.answered.4,
-        same,
-      );
+      answered = (f.answered.0, f.answered.1, f.answered.2, c.keep.ensures.index ∙ f.answered.3, c.keep.ensures.chain chunks f.answered.4, same);
     }

@@ -11,8 +11,7 @@ use Rattle.age_file.proofs.resumption.resume_keyed.Goals as goal
 
 pub returns-in_default-clause-resumes : goal.returns-in_default-clause-resumes
 returns-in_default-clause-resumes g c =
-    let old = resume_ports (ports (g.S.Source.view c.args.reader.now)
-    (g.O.Sink.view c.args.writer.now)) (g.L.Source.view c.args.old_reader.now) in
+    let old = resume_ports (ports (g.S.Source.view c.args.reader.now) (g.O.Sink.view c.args.writer.now)) (g.L.Source.view c.args.old_reader.now) in
     let Allows = g.U.Unlock.allows c.args.unlock in
     let Refused = g.U.Unlock.refuses c.args.unlock in
     rw (c.nowhere.ensures, c.early.ensures) (stopped_early c.args.positions Allows Refused c.args.position.now
@@ -20,8 +19,7 @@ returns-in_default-clause-resumes g c =
 
 pub returns-in-Err-clause-resumes : goal.returns-in-Err-clause-resumes
 returns-in-Err-clause-resumes g c =
-    let old = resume_ports (ports (g.S.Source.view c.args.reader.now)
-    (g.O.Sink.view c.args.writer.now)) (g.L.Source.view c.args.old_reader.now) in
+    let old = resume_ports (ports (g.S.Source.view c.args.reader.now) (g.O.Sink.view c.args.writer.now)) (g.L.Source.view c.args.old_reader.now) in
     let new = resume_ports (ports (g.S.Source.view c.start_for.new.reader.source.now)
     (g.O.Sink.view c.args.writer.now)) (g.L.Source.view c.args.old_reader.now) in
     let Allows = g.U.Unlock.allows c.args.unlock in
@@ -29,10 +27,8 @@ returns-in-Err-clause-resumes g c =
     let early = refused c.args.positions Allows Refused c.args.position.now old
     new c.start_for.new.reader.intake.now c.in-Err.fault refl refl c.in-Err.ensures.fails in
     rw (c.nowhere-in-Err.ensures, c.early-in-Err.ensures) (read_last g.S.Source.view
-    (λ v. ResumesKeyed c.args.positions Allows Refused c.args.position.now old
-    (resume_ports (ports v (g.O.Sink.view c.args.writer.now))
-    (g.L.Source.view c.args.old_reader.now))
-    (Err (record { fault = c.in-Err.fault; written = 0; position = None })) Before) _
+    (λ v. ResumesKeyed c.args.positions Allows Refused c.args.position.now old (resume_ports (ports v (g.O.Sink.view c.args.writer.now))
+    (g.L.Source.view c.args.old_reader.now)) (Err (record { fault = c.in-Err.fault; written = 0; position = None })) Before) _
     c.start_for.new.reader.source.now (search rules) early)
 
 pub returns-in-Err-copy_before-clause-resumes : goal.returns-in-Err-copy_before-clause-resumes
@@ -41,8 +37,7 @@ returns-in-Err-copy_before-clause-resumes g c =
     let b = c.in-Err-copy_before.ensures.copied in
     let s1 = stage (reader_view (g.S.Source.view c.start_for.new.reader.source.now) c.copy_before.new.intake)
     (view_of_writer g.O.Sink.view c.copy_before.new.writer) in
-    let old = resume_ports (ports (g.S.Source.view c.args.reader.now)
-    (g.O.Sink.view c.args.writer.now)) (g.L.Source.view c.args.old_reader.now) in
+    let old = resume_ports (ports (g.S.Source.view c.args.reader.now) (g.O.Sink.view c.args.writer.now)) (g.L.Source.view c.args.old_reader.now) in
     let Allows = g.U.Unlock.allows c.args.unlock in
     let Refused = g.U.Unlock.refuses c.args.unlock in
     let stops = copy_stopped c.args.positions Allows Refused c.args.position.now (g.S.Source.view c.args.reader.now)
@@ -50,15 +45,12 @@ returns-in-Err-copy_before-clause-resumes g c =
     (g.L.Source.view c.args.old_reader.now) (g.L.Source.view c.copy_before.new.source)
     (Err c.in-Err-copy_before.fault) b c.in-Err-copy_before.fault b.copied.answered in
     rw (c.nowhere-in-Err-copy_before.ensures, c.after.ensures) (ports_last g.S.Source.view g.O.Sink.view
-    (λ p. ResumesKeyed c.args.positions Allows Refused c.args.position.now old
-    (resume_ports p (g.L.Source.view c.copy_before.new.source))
+    (λ p. ResumesKeyed c.args.positions Allows Refused c.args.position.now old (resume_ports p (g.L.Source.view c.copy_before.new.source))
     (Err (record {
       fault = c.in-Err-copy_before.fault;
       written = c.copy_before.new.writer.tally.written;
       position = None;
-    })) Before)
-    _ c.start_for.new.reader.source.now _ c.copy_before.new.writer.sink.now (search rules)
-    (search rules) stops)
+    })) Before) _ c.start_for.new.reader.source.now _ c.copy_before.new.writer.sink.now (search rules) (search rules) stops)
 
 pub resume_rest-requires : goal.resume_rest-requires
 resume_rest-requires g c =
@@ -78,12 +70,10 @@ returns-clause-resumes g c =
     let s1 = stage (reader_view (g.S.Source.view c.start_for.new.reader.source.now) c.copy_before.new.intake)
     (view_of_writer g.O.Sink.view c.copy_before.new.writer) in
     let s2 = stage_of g.S.Source.view g.O.Sink.view c.resume_rest.new.reader c.resume_rest.new.writer in
-    let old = resume_ports (ports (g.S.Source.view c.args.reader.now)
-    (g.O.Sink.view c.args.writer.now)) (g.L.Source.view c.args.old_reader.now) in
+    let old = resume_ports (ports (g.S.Source.view c.args.reader.now) (g.O.Sink.view c.args.writer.now)) (g.L.Source.view c.args.old_reader.now) in
     let Allows = g.U.Unlock.allows c.args.unlock in
     let Refused = g.U.Unlock.refuses c.args.unlock in
-    ports_last g.S.Source.view g.O.Sink.view
-    (λ p. ResumesKeyed c.args.positions Allows Refused c.args.position.now old
+    ports_last g.S.Source.view g.O.Sink.view (λ p. ResumesKeyed c.args.positions Allows Refused c.args.position.now old
     (resume_ports p (g.L.Source.view c.copy_before.new.source)) c.resume_rest.result.0 c.resume_rest.result.1)
     _ c.resume_rest.new.reader.source.now _ c.resume_rest.new.writer.sink.now (search rules) (search rules)
     (rest_resumed c.args.positions Allows Refused c.args.position.now (g.S.Source.view c.args.reader.now)

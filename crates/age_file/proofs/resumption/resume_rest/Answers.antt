@@ -14,8 +14,7 @@ returns-in-Err-clause-resumes g c =
 pub open_payload-result-requires-clause-room : goal.open_payload-result-requires-clause-room
 open_payload-result-requires-clause-room g c =
     let skipped = c.in-Ok.ensures.skipped in
-    c.requires (view_of_reader g.S.Source.view c.skip_blocks.new.reader) skipped.0 skipped.1
-    skipped.2
+    c.requires (view_of_reader g.S.Source.view c.skip_blocks.new.reader) skipped.0 skipped.1 skipped.2
 
 pub returns-clause-resumes : goal.returns-clause-resumes
 returns-clause-resumes g c =

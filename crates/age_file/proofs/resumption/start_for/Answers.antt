@@ -9,13 +9,8 @@ returns-in_err-unlocked-clause-fails g c =
 
 pub returns-in_err-verify-clause-fails : goal.returns-in_err-verify-clause-fails
 returns-in_err-verify-clause-fails g c =
-    let p = err_from_is_err_and c.from_residual-in_err-verify.result
-    c.from_residual-in_err-verify.ensures.1 in
-    rw (p.1, p.2) (inr (
-      c.in_ok-unlocked.unlocked,
-      c.in_ok-unlocked.ensures.found,
-      c.in_err-verify.ensures,
-    ))
+    let p = err_from_is_err_and c.from_residual-in_err-verify.result c.from_residual-in_err-verify.ensures.1 in
+    rw (p.1, p.2) (inr (c.in_ok-unlocked.unlocked, c.in_ok-unlocked.ensures.found, c.in_err-verify.ensures))
 
 pub returns-clause-found : goal.returns-clause-found
 returns-clause-found g c = record {

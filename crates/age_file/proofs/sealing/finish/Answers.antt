@@ -17,13 +17,8 @@ returns-clause-sealed g c =
         named = flushed.named ∙ last.wrote.named;
       };
       blocks = last.blocks;
-      answered = answer_as c.flush_all.result flushed.counted flushed.fault
-          (λ _ same. (last.answered.0, same ∙ last.answered.1))
-          (λ _ is more. (
-            is,
-            (
-              more.0 ∙ ap (λ (k : ℕ). min (k + 1) (2 ^ 64 - 1)) last.answered.1,
-              more.1,
-            ),
-          ));
+      answered = answer_as c.flush_all.result flushed.counted flushed.fault (λ _ same. (last.answered.0, same ∙ last.answered.1)) (λ _ is more. (
+        is,
+        (more.0 ∙ ap (λ (k : ℕ). min (k + 1) (2 ^ 64 - 1)) last.answered.1, more.1),
+      ));
     }

@@ -13,7 +13,8 @@ use Rattle.age_file.specs.Runs.{ports}
 use Rattle.age_fault.specs.declared.fault.FileFault.{FileFault}
 use Rattle.age_file.proofs.ByteLemmas.{cut_pulled}
 use Rattle.age_file.proofs.SealLemmas.{front_small}
-use Rattle.age_file.proofs.SourceLemmas.{sealing_failed, front_begins, no_front, piece_done, piece_cut, pull_fails, seal_fails, last_written, last_begins, last_whole}
+use Rattle.age_file.proofs.SourceLemmas.{sealing_failed, front_begins, no_front, piece_done, piece_cut, pull_fails, seal_fails, last_written}
+use Rattle.age_file.proofs.SourceLemmas.{last_begins, last_whole}
 use Rattle.age_chunk.specs.Payload.{block_length, chunk_length}
 use Rattle.age_file.proofs.sealing.seal_all.Goals as goal
 
@@ -39,12 +40,10 @@ pulls-init g c =
       plain_is = refl;
       goes = record {
         key = refl;
-        feeding = rw c.new-sealer.ensures
-            (record { unfinished = refl; sound = refl });
+        feeding = rw c.new-sealer.ensures (record { unfinished = refl; sound = refl });
         holds = λ text h. rw (append-nil text) h;
       };
-      wrote = subst (λ (t : List ℕ). Wrote now now t) (sym none)
-          (record { bytes = Appends-nil now.sink.taken; count = omega arith; named = refl });
+      wrote = subst (λ (t : List ℕ). Wrote now now t) (sym none) (record { bytes = Appends-nil now.sink.taken; count = omega arith; named = refl });
       read_failed = refl;
       write_failed = refl;
     }
@@ -56,8 +55,7 @@ returns-in_err-refill-clause-sealed g c =
     let r = c.in_err-refill.ensures.refills in
     let all = cut_pulled _ _ _ kept.text _ r.answered.0 (r.pulled _ kept.text kept.pulled) in
     let n : ℕ = chunk_length in
-    let old = ports (g.S.Source.view c.args.reader.now.source.now)
-    (g.O.Sink.view c.args.writer.now.sink.now) in
+    let old = ports (g.S.Source.view c.args.reader.now.source.now) (g.O.Sink.view c.args.writer.now.sink.now) in
     let new = ports (g.S.Source.view c.refill.new.source) (g.O.Sink.view c.pulls.writer.sink.now) in
     rw (p.1, p.2) (sealing_failed seals n c.new-sealer.result.key c.args.key.now old new c.args.writer.now.tally.written
     c.pulls.writer.tally.written c.in_err-refill.field-0.0 (ap (λ v. v.key) c.new-sealer.ensures) (record {
@@ -72,8 +70,7 @@ returns-in_err-refill-clause-sealed g c =
       prefix = front_begins (seals c.new-sealer.result.key) n kept.text;
       fails = pull_fails (seals c.new-sealer.result.key) n old new kept.text
           (reader_view (g.S.Source.view c.pulls.reader.source.now) c.pulls.reader.intake.now)
-          (reader_view (g.S.Source.view c.refill.new.source) c.refill.new.self)
-          c.in_err-refill.field-0.0 kept.read_failed refl kept.write_failed
+          (reader_view (g.S.Source.view c.refill.new.source) c.refill.new.self) c.in_err-refill.field-0.0 kept.read_failed refl kept.write_failed
           (omega (arith, all.each_gave)) (omega (arith, all.small)) r.answered.2;
     }) (kept.wrote.named))
 
@@ -83,8 +80,7 @@ seal_piece-requires g c =
     let text = kept.text in
     let n : ℕ = chunk_length in
     let pulled = kept.pulled in
-    let blocks : front_of (seals c.new-sealer.result.key) n text
-    ≡ front_of (seals c.pulls.sealer.key) n text =
+    let blocks : front_of (seals c.new-sealer.result.key) n text ≡ front_of (seals c.pulls.sealer.key) n text =
     ap (λ k. front_of (seals k) n text) (sym kept.goes.key) in
     record {
       feeding = kept.goes.feeding;
@@ -98,8 +94,7 @@ seal_piece-requires g c =
 
 pub returns-in_err-seal_piece-clause-sealed : goal.returns-in_err-seal_piece-clause-sealed
 returns-in_err-seal_piece-clause-sealed g c =
-    let p = err_from_is_err_and c.from_residual-in_err-seal_piece.result
-    c.from_residual-in_err-seal_piece.ensures.1 in
+    let p = err_from_is_err_and c.from_residual-in_err-seal_piece.result c.from_residual-in_err-seal_piece.ensures.1 in
     let kept = c.pulls.invariant in
     let r = rw c.if-branch.true at c.in_ok-refill.ensures.refills in
     let s = c.in_err-seal_piece.ensures.sealed in
@@ -109,14 +104,10 @@ returns-in_err-seal_piece-clause-sealed g c =
     let was = view_of_writer g.O.Sink.view c.args.writer.now in
     let mid = view_of_writer g.O.Sink.view c.pulls.writer in
     let now = view_of_writer g.O.Sink.view c.seal_piece.new.writer in
-    let old = ports (g.S.Source.view c.args.reader.now.source.now)
-    (g.O.Sink.view c.args.writer.now.sink.now) in
-    let new = ports (g.S.Source.view c.refill.new.source)
-    (g.O.Sink.view c.seal_piece.new.writer.sink.now) in
-    let all = rw (← c.bytes.ensures.bytes)
-    at (r.pulled (start_at old.source.supply) kept.text kept.pulled) in
-    let unwritten = piece_cut seals n c.new-sealer.result c.pulls.sealer c.seal_piece.new.sealer was
-    mid now kept.text piece s.fed s.left s.unwritten
+    let old = ports (g.S.Source.view c.args.reader.now.source.now) (g.O.Sink.view c.args.writer.now.sink.now) in
+    let new = ports (g.S.Source.view c.refill.new.source) (g.O.Sink.view c.seal_piece.new.writer.sink.now) in
+    let all = rw (← c.bytes.ensures.bytes) at (r.pulled (start_at old.source.supply) kept.text kept.pulled) in
+    let unwritten = piece_cut seals n c.new-sealer.result c.pulls.sealer c.seal_piece.new.sealer was mid now kept.text piece s.fed s.left s.unwritten
     kept.goes kept.fresh kept.wrote s.some positive in
     rw (p.1, p.2) (sealing_failed seals n c.new-sealer.result.key c.args.key.now old new c.args.writer.now.tally.written
     c.seal_piece.new.writer.tally.written c.in_err-seal_piece.field-0.0 (ap (λ v. v.key) c.new-sealer.ensures) (record {
@@ -129,8 +120,7 @@ returns-in_err-seal_piece-clause-sealed g c =
         small = omega (arith, all.small, all.most);
       };
       prefix = unwritten.2;
-      fails = seal_fails seals n c.new-sealer.result c.pulls.sealer old new mid now kept.text piece
-          unwritten.0 c.in_err-seal_piece.field-0.0
+      fails = seal_fails seals n c.new-sealer.result c.pulls.sealer old new mid now kept.text piece unwritten.0 c.in_err-seal_piece.field-0.0
           kept.write_failed refl (r.answered.4 ∙ kept.read_failed) kept.goes kept.fresh s.answered;
     }) (s.some.wrote.named ∙ kept.wrote.named))
 
@@ -145,12 +135,9 @@ pulls-preserved g c =
     let was = view_of_writer g.O.Sink.view c.args.writer.now in
     let mid = view_of_writer g.O.Sink.view c.pulls.writer in
     let now = view_of_writer g.O.Sink.view c.seal_piece.new.writer in
-    let all = rw (← c.bytes.ensures.bytes)
-    at (r.pulled (start_at (g.S.Source.view c.args.reader.now.source.now).supply) kept.text
-    kept.pulled) in
+    let all = rw (← c.bytes.ensures.bytes) at (r.pulled (start_at (g.S.Source.view c.args.reader.now.source.now).supply) kept.text kept.pulled) in
     let done = piece_done seals n c.new-sealer.result c.pulls.sealer c.seal_piece.new.sealer was mid
-    now kept.text piece s.fed s.left s.unwritten kept.goes
-    kept.fresh kept.wrote s.some positive s.answered.0 s.answered.1 s.answered.3 in
+    now kept.text piece s.fed s.left s.unwritten kept.goes kept.fresh kept.wrote s.some positive s.answered.0 s.answered.1 s.answered.3 in
     record {
       feeding = kept.feeding;
       fresh = kept.fresh;
@@ -159,8 +146,7 @@ pulls-preserved g c =
       same_writer = c.in_ok-seal_piece.ensures.same_writer ∙ kept.same_writer;
       text = kept.text ++ piece;
       pulled = subst (λ (k : ℕ). Pulled (start_at (g.S.Source.view c.args.reader.now.source.now).supply)
-          (g.S.Source.view c.refill.new.source).supply k
-          (kept.text ++ piece)) (sym c.use_all.ensures.pulls) all;
+          (g.S.Source.view c.refill.new.source).supply k (kept.text ++ piece)) (sym c.use_all.ensures.pulls) all;
       unread = c.use_all.ensures.bytes;
       plain_is = omega (
         arith,
@@ -185,15 +171,11 @@ finish-requires g c =
     let fits = front_small (seals key) (opens key) (box_valid key) n kept.text (omega arith) in
     let product : length kept.text * block_length ≤ 2 ^ 80 * block_length =
     mul-le (length kept.text) block_length (2 ^ 80) block_length small (omega arith) in
-    record {
-      feeding = kept.goes.feeding;
-      room = omega (arith, c.requires.room, kept.wrote.count, fits, product);
-    }
+    record { feeding = kept.goes.feeding; room = omega (arith, c.requires.room, kept.wrote.count, fits, product) }
 
 pub returns-in_err-finish-clause-sealed : goal.returns-in_err-finish-clause-sealed
 returns-in_err-finish-clause-sealed g c =
-    let p = err_from_is_err_and c.from_residual-in_err-finish.result
-    c.from_residual-in_err-finish.ensures.1 in
+    let p = err_from_is_err_and c.from_residual-in_err-finish.result c.from_residual-in_err-finish.ensures.1 in
     let kept = c.pulls.invariant in
     let r = rw c.if-branch.false at c.in_ok-refill.ensures.refills in
     let all = cut_pulled _ _ _ kept.text _ r.answered.0 (r.pulled _ kept.text kept.pulled) in
@@ -205,10 +187,8 @@ returns-in_err-finish-clause-sealed g c =
     let was = view_of_writer g.O.Sink.view c.args.writer.now in
     let mid = view_of_writer g.O.Sink.view c.pulls.writer in
     let now = view_of_writer g.O.Sink.view c.finish.new.writer in
-    let old = ports (g.S.Source.view c.args.reader.now.source.now)
-    (g.O.Sink.view c.args.writer.now.sink.now) in
-    let new = ports (g.S.Source.view c.refill.new.source)
-    (g.O.Sink.view c.finish.new.writer.sink.now) in
+    let old = ports (g.S.Source.view c.args.reader.now.source.now) (g.O.Sink.view c.args.writer.now.sink.now) in
+    let new = ports (g.S.Source.view c.refill.new.source) (g.O.Sink.view c.finish.new.writer.sink.now) in
     let out = last_written seals n a b was mid now kept.text kept.goes.key
     (kept.goes.holds [] kept.fresh) kept.wrote l.out l.unwritten l.wrote l.blocks in
     rw (p.1, p.2) (sealing_failed seals n c.new-sealer.result.key c.args.key.now old new c.args.writer.now.tally.written
@@ -218,11 +198,9 @@ returns-in_err-finish-clause-sealed g c =
       moved = record { read = all.consumed; wrote = out.bytes; count = out.count; small = small };
       prefix = last_begins seals n a b was mid now kept.text kept.goes.key
           (kept.goes.holds [] kept.fresh) kept.wrote l.out l.unwritten l.wrote l.blocks;
-      fails = subst (λ (f : FileFault). SealingFails (seals a.key) n old new kept.text
-          (front_of (seals a.key) n kept.text ++ l.out) f)
+      fails = subst (λ (f : FileFault). SealingFails (seals a.key) n old new kept.text (front_of (seals a.key) n kept.text ++ l.out) f)
           (sym l.answered.0) (
-            subst (λ (k : ℕ). HasFailed k new.sink.failed new.sink.failing) kept.write_failed
-                l.answered.1,
+            subst (λ (k : ℕ). HasFailed k new.sink.failed new.sink.failing) kept.write_failed l.answered.1,
             r.answered.3 ∙ kept.read_failed,
           );
     }) (out.named))
@@ -240,15 +218,11 @@ returns-clause-sealed g c =
     let was = view_of_writer g.O.Sink.view c.args.writer.now in
     let mid = view_of_writer g.O.Sink.view c.pulls.writer in
     let now = view_of_writer g.O.Sink.view c.finish.new.writer in
-    let old = ports (g.S.Source.view c.args.reader.now.source.now)
-    (g.O.Sink.view c.args.writer.now.sink.now) in
-    let new = ports (g.S.Source.view c.refill.new.source)
-    (g.O.Sink.view c.finish.new.writer.sink.now) in
-    let out = last_whole seals n a b was mid now kept.text kept.goes.key
-    (kept.goes.holds [] kept.fresh) kept.wrote l.out l.unwritten l.wrote l.blocks
+    let old = ports (g.S.Source.view c.args.reader.now.source.now) (g.O.Sink.view c.args.writer.now.sink.now) in
+    let new = ports (g.S.Source.view c.refill.new.source) (g.O.Sink.view c.finish.new.writer.sink.now) in
+    let out = last_whole seals n a b was mid now kept.text kept.goes.key (kept.goes.holds [] kept.fresh) kept.wrote l.out l.unwritten l.wrote l.blocks
     l.answered.0 in
-    let all_sealed = subst (λ k. SealsAll (seals k) n old new c.args.writer.now.tally.written
-    c.finish.new.writer.tally.written c.pulls.plain)
+    let all_sealed = subst (λ k. SealsAll (seals k) n old new c.args.writer.now.tally.written c.finish.new.writer.tally.written c.pulls.plain)
     (ap (λ v. v.key) c.new-sealer.ensures) (record {
       text = kept.text;
       few = omega (arith, l.limit, (kept.goes.holds [] kept.fresh).index);

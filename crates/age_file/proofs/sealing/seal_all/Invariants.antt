@@ -22,10 +22,8 @@ invariant-pulls g l = record {
   goes : GoesOn seals chunk_length l.initial.sealer l.sealer text;
   wrote : Wrote (view_of_writer g.O.Sink.view l.fn.writer) (view_of_writer g.O.Sink.view l.writer)
       (front_of (seals l.initial.sealer.key) chunk_length text);
-  read_failed : (g.S.Source.view l.reader.source.now).failed
-      ≡ (g.S.Source.view l.fn.reader.source.now).failed;
-  write_failed : (g.O.Sink.view l.writer.sink.now).failed
-      ≡ (g.O.Sink.view l.fn.writer.sink.now).failed;
+  read_failed : (g.S.Source.view l.reader.source.now).failed ≡ (g.S.Source.view l.fn.reader.source.now).failed;
+  write_failed : (g.O.Sink.view l.writer.sink.now).failed ≡ (g.O.Sink.view l.fn.writer.sink.now).failed;
 }
 
 abbrev pub decreases-pulls : goal.decreases-pulls

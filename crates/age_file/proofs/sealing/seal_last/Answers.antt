@@ -14,8 +14,6 @@ returns-clause-sealed g c =
       limit = c.in_ok-block.ensures.finishes.limit;
       wrote = record { bytes = put.wrote; count = put.count; named = c.write_all.ensures.named };
       blocks = λ text h. c.in_ok-block.ensures.finishes.chunk text h
-          ∙ ap (λ (t : List ℕ). front_of (seals c.args.sealer.now.key) chunk_length text ++ t)
-          put.parts;
-      answered = answer_as c.write_all.result put.answered c.write_all.ensures.fault (λ _ all. all)
-          (λ _ is risen. (is, risen));
+          ∙ ap (λ (t : List ℕ). front_of (seals c.args.sealer.now.key) chunk_length text ++ t) put.parts;
+      answered = answer_as c.write_all.result put.answered c.write_all.ensures.fault (λ _ all. all) (λ _ is risen. (is, risen));
     }

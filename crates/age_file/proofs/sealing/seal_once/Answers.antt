@@ -25,14 +25,9 @@ returns-in_err-step-clause-sealed g c =
         out = [];
         parts = refl;
         wrote = record { bytes = Appends-nil _; count = omega arith; named = refl };
-        blocks = λ text h. ap (front_of (seals key) n) (append-nil text)
-            ∙ sym (append-nil (front_of (seals key) n text));
+        blocks = λ text h. ap (front_of (seals key) n) (append-nil text) ∙ sym (append-nil (front_of (seals key) n text));
       };
-      answered = rw (p.1, p.2) (
-        too_long n c.args.sealer.now c.args.piece.now (omega arith) limit,
-        refused.1 ∙ ap too_many limit.index,
-        refl,
-      );
+      answered = rw (p.1, p.2) (too_long n c.args.sealer.now c.args.piece.now (omega arith) limit, refused.1 ∙ ap too_many limit.index, refl);
     }
 
 pub returns-in_ok-write_all-clause-sealed : goal.returns-in_ok-write_all-clause-sealed
@@ -44,35 +39,24 @@ returns-in_ok-write_all-clause-sealed g c =
     let piece = c.args.piece.now in
     let held = c.args.sealer.now.held in
     let n : ℕ = chunk_length in
-    let is : chunk_bytes step.chunk ≡ put.out ++ put.unwritten =
-    ap (λ o. chunk_bytes o) c.in-Some.is ∙ put.parts in
+    let is : chunk_bytes step.chunk ≡ put.out ++ put.unwritten = ap (λ o. chunk_bytes o) c.in-Some.is ∙ put.parts in
     record {
       fed = take step.taken piece;
       left = drop step.taken piece;
       unwritten = put.unwritten;
-      some = some_sealed seals n c.args.sealer.now _ _ _ piece step.taken step.chunk put.out
-          put.unwritten is (record {
-            bytes = put.wrote;
-            count = put.count;
-            named = c.in_ok-write_all.ensures.named;
-          })
-          ok.chunk;
+      some = some_sealed seals n c.args.sealer.now _ _ _ piece step.taken step.chunk put.out put.unwritten is (record {
+        bytes = put.wrote;
+        count = put.count;
+        named = c.in_ok-write_all.ensures.named;
+      }) ok.chunk;
       answered = (
-        omega (
-          arith,
-          ok.taken,
-          step_len_le n held piece,
-          length-take c.in_ok-step.step.taken c.args.piece.now,
-        ),
+        omega (arith, ok.taken, step_len_le n held piece, length-take c.in_ok-step.step.taken c.args.piece.now),
         λ more. omega (arith, ok.taken, step_len_some n held piece more),
         put.answered.0,
         put.answered.1,
         record {
           key = after.key;
-          feeding = record {
-            unfinished = after.unfinished;
-            sound = after.unfailed;
-          };
+          feeding = record { unfinished = after.unfinished; sound = after.unfailed };
           holds = after.holds;
         },
       );
@@ -94,21 +78,13 @@ returns-in_default-clause-sealed g c =
       some = some_sealed seals n c.args.sealer.now _ _ _ piece step.taken step.chunk [] [] is
           (record { bytes = Appends-nil _; count = omega arith; named = refl }) ok.chunk;
       answered = (
-        omega (
-          arith,
-          ok.taken,
-          step_len_le n held piece,
-          length-take c.in_ok-step.step.taken c.args.piece.now,
-        ),
+        omega (arith, ok.taken, step_len_le n held piece, length-take c.in_ok-step.step.taken c.args.piece.now),
         λ more. omega (arith, ok.taken, step_len_some n held piece more),
         refl,
         refl,
         record {
           key = after.key;
-          feeding = record {
-            unfinished = after.unfinished;
-            sound = after.unfailed;
-          };
+          feeding = record { unfinished = after.unfinished; sound = after.unfailed };
           holds = after.holds;
         },
       );
@@ -116,25 +92,21 @@ returns-in_default-clause-sealed g c =
 
 pub returns-in_err-write_all-clause-sealed : goal.returns-in_err-write_all-clause-sealed
 returns-in_err-write_all-clause-sealed g c =
-    let p = err_from_is_err_and c.from_residual-in_err-write_all.result
-    c.from_residual-in_err-write_all.ensures.1 in
+    let p = err_from_is_err_and c.from_residual-in_err-write_all.result c.from_residual-in_err-write_all.ensures.1 in
     let ok = c.in_ok-step.ensures.takes in
     let put = c.in_err-write_all.ensures.writes in
     let step = c.in_ok-step.step in
     let piece = c.args.piece.now in
     let n : ℕ = chunk_length in
-    let is : chunk_bytes step.chunk ≡ put.out ++ put.unwritten =
-    ap (λ o. chunk_bytes o) c.in-Some.is ∙ put.parts in
+    let is : chunk_bytes step.chunk ≡ put.out ++ put.unwritten = ap (λ o. chunk_bytes o) c.in-Some.is ∙ put.parts in
     record {
       fed = take step.taken piece;
       left = drop step.taken piece;
       unwritten = put.unwritten;
-      some = some_sealed seals n c.args.sealer.now _ _ _ piece step.taken step.chunk put.out
-          put.unwritten is (record {
-            bytes = put.wrote;
-            count = put.count;
-            named = c.in_err-write_all.ensures.named;
-          })
-          ok.chunk;
+      some = some_sealed seals n c.args.sealer.now _ _ _ piece step.taken step.chunk put.out put.unwritten is (record {
+        bytes = put.wrote;
+        count = put.count;
+        named = c.in_err-write_all.ensures.named;
+      }) ok.chunk;
       answered = rw (p.1, p.2, c.in_err-write_all.ensures.fault) put.answered;
     }

@@ -21,14 +21,9 @@ loop-at-init g c =
         out = [];
         parts = refl;
         wrote = record { bytes = Appends-nil _; count = omega arith; named = refl };
-        blocks = λ text h. ap (front_of (seals key) n) (append-nil text)
-            ∙ sym (append-nil (front_of (seals key) n text));
+        blocks = λ text h. ap (front_of (seals key) n) (append-nil text) ∙ sym (append-nil (front_of (seals key) n text));
       };
-      goes = record {
-        key = refl;
-        feeding = c.requires.feeding;
-        holds = λ text h. rw (append-nil text) h;
-      };
+      goes = record { key = refl; feeding = c.requires.feeding; holds = λ text h. rw (append-nil text) h };
       failures = refl;
     }
 
@@ -39,8 +34,7 @@ seal_once-requires g c =
     record {
       feeding = kept.goes.feeding;
       room = room_left seals (opens key) chunk_length c.args.sealer.now c.loop-at.sealer _ _
-          c.args.piece.now c.loop-at.at (box_valid key) (omega arith)
-          c.requires.room kept.some;
+          c.args.piece.now c.loop-at.at (box_valid key) (omega arith) c.requires.room kept.some;
     }
 
 pub loop-at-preserved : goal.loop-at-preserved
@@ -56,14 +50,11 @@ loop-at-preserved g c =
     let a = c.args.sealer.now in
     let b = c.loop-at.sealer in
     let d = c.seal_once.new.sealer in
-    let same : take at piece ++ s.fed ≡ take (at + c.in_ok-at.field-0) piece =
-    fed_is seals n piece at c.in_ok-at.field-0 s.fed s.left s.some.parts
+    let same : take at piece ++ s.fed ≡ take (at + c.in_ok-at.field-0) piece = fed_is seals n piece at c.in_ok-at.field-0 s.fed s.left s.some.parts
     s.answered.0 in
     let whole : SealsSome seals n a d was now piece (take at piece ++ s.fed) s.left [] =
-    subst (λ (t : List ℕ). SealsSome seals n a d was now piece (take at piece ++ s.fed) s.left t)
-    s.answered.2
-    (next_some seals n a b d was mid now piece at s.fed s.left s.unwritten kept.some kept.goes
-    s.some) in
+    subst (λ (t : List ℕ). SealsSome seals n a d was now piece (take at piece ++ s.fed) s.left t) s.answered.2
+    (next_some seals n a b d was mid now piece at s.fed s.left s.unwritten kept.some kept.goes s.some) in
     record {
       same_writer = c.in_ok-at.ensures.same_writer ∙ kept.same_writer;
       within = omega (
@@ -75,11 +66,9 @@ loop-at-preserved g c =
         ap length (take_rest c.args.piece.now c.loop-at.at),
         kept.within,
       );
-      some = subst (λ (t : List ℕ). SealsSome seals n a d was now t t [] []) same
-          (fed_alone seals n a d was now piece (take at piece ++ s.fed) s.left
+      some = subst (λ (t : List ℕ). SealsSome seals n a d was now t t [] []) same (fed_alone seals n a d was now piece (take at piece ++ s.fed) s.left
           [] whole);
-      goes = subst (λ (t : List ℕ). GoesOn seals n a d t) same
-          (goes_then seals n a b d (take at piece) s.fed kept.goes s.answered.4);
+      goes = subst (λ (t : List ℕ). GoesOn seals n a d t) same (goes_then seals n a b d (take at piece) s.fed kept.goes s.answered.4);
       failures = s.answered.3 ∙ kept.failures;
     }
 
@@ -97,20 +86,15 @@ returns-in_err-at-clause-sealed g c =
     let a = c.args.sealer.now in
     let b = c.loop-at.sealer in
     let d = c.seal_once.new.sealer in
-    let whole : take at piece ++ take (length piece - at) (drop at piece) ≡ piece =
-    ap (λ (t : List ℕ). take at piece ++ t) (take_rest piece at)
+    let whole : take at piece ++ take (length piece - at) (drop at piece) ≡ piece = ap (λ (t : List ℕ). take at piece ++ t) (take_rest piece at)
     ∙ take-append-drop at piece in
     record {
       fed = take at piece ++ s.fed;
       left = s.left;
       unwritten = s.unwritten;
-      some = next_some seals n a b d was mid now piece at s.fed s.left s.unwritten kept.some
-          kept.goes s.some;
-      answered = rw (p.1, p.2) (subst
-          (λ (t : List ℕ). SealFails seals n a was now t c.in_err-at.field-0.0) whole
-          (fails_then seals n a b was mid now (take at piece)
-          (take (length piece - at) (drop at piece)) c.in_err-at.field-0.0 kept.failures
-          kept.goes
+      some = next_some seals n a b d was mid now piece at s.fed s.left s.unwritten kept.some kept.goes s.some;
+      answered = rw (p.1, p.2) (subst (λ (t : List ℕ). SealFails seals n a was now t c.in_err-at.field-0.0) whole
+          (fails_then seals n a b was mid now (take at piece) (take (length piece - at) (drop at piece)) c.in_err-at.field-0.0 kept.failures kept.goes
           s.answered));
     }
 
@@ -127,7 +111,6 @@ returns-clause-sealed g c =
       fed = take at piece;
       left = [];
       unwritten = [];
-      some = subst (λ (t : List ℕ). SealsSome seals n c.args.sealer.now c.loop-at.sealer was now t
-          (take at piece) [] []) all kept.some;
+      some = subst (λ (t : List ℕ). SealsSome seals n c.args.sealer.now c.loop-at.sealer was now t (take at piece) [] []) all kept.some;
       answered = (refl, refl, kept.failures, kept.goes);
     }

@@ -10,8 +10,7 @@ invariant-parts g l = record {
   metered : KeepsMeter g.S.Source.metered l.fn.reader l.reader;
   passed : List ℕ;
   size : length passed + l.left ≡ block_length;
-  passes : Passes (view_of_reader g.S.Source.view l.fn.reader)
-      (view_of_reader g.S.Source.view l.reader) passed;
+  passes : Passes (view_of_reader g.S.Source.view l.fn.reader) (view_of_reader g.S.Source.view l.reader) passed;
 }
 
 abbrev pub decreases-parts : goal.decreases-parts

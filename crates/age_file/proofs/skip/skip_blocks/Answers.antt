@@ -15,8 +15,7 @@ returns-then-not-branch-clause-skipped g c =
     let new = view_of_reader g.S.Source.view c.skip_block.new.reader in (
       refl,
       omega arith,
-      ends_after block_length c.loop-block.block old mid new kept.passed kept.size
-          kept.passes r,
+      ends_after block_length c.loop-block.block old mid new kept.passed kept.size kept.passes r,
     )
 
 pub returns-in_err-skip_block-clause-skipped : goal.returns-in_err-skip_block-clause-skipped
@@ -27,8 +26,7 @@ returns-in_err-skip_block-clause-skipped g c =
     let mid = view_of_reader g.S.Source.view c.loop-block.reader in
     let new = view_of_reader g.S.Source.view c.skip_block.new.reader in
     rw (p.1, p.2) (pass_fails block_length c.args.blocks c.loop-block.block old mid new kept.passed
-    c.in_err-skip_block.field-0.0 kept.size (omega arith)
-    kept.passes c.in_err-skip_block.ensures.skipped)
+    c.in_err-skip_block.field-0.0 kept.size (omega arith) kept.passes c.in_err-skip_block.ensures.skipped)
 
 pub loop-block-preserved : goal.loop-block-preserved
 loop-block-preserved g c =
@@ -38,11 +36,7 @@ loop-block-preserved g c =
     let mid = view_of_reader g.S.Source.view c.loop-block.reader in
     let new = view_of_reader g.S.Source.view c.skip_block.new.reader in
     record {
-      same = (
-        c.in_ok-skip_block.ensures.same.0 ∙ kept.same.0,
-        c.in_ok-skip_block.ensures.same.1
-            ∙ kept.same.1,
-      );
+      same = (c.in_ok-skip_block.ensures.same.0 ∙ kept.same.0, c.in_ok-skip_block.ensures.same.1 ∙ kept.same.1);
       metered = λ from began. c.in_ok-skip_block.ensures.metered from (kept.metered from began);
       passed = kept.passed ++ r.0;
       size = omega (arith, kept.size, r.1, length-append kept.passed r.0);

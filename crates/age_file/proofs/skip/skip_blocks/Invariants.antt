@@ -10,6 +10,5 @@ invariant-loop-block g l = record {
   metered : KeepsMeter g.S.Source.metered l.fn.reader l.reader;
   passed : List ℕ;
   size : length passed ≡ l.block * block_length;
-  passes : Passes (view_of_reader g.S.Source.view l.fn.reader)
-      (view_of_reader g.S.Source.view l.reader) passed;
+  passes : Passes (view_of_reader g.S.Source.view l.fn.reader) (view_of_reader g.S.Source.view l.reader) passed;
 }

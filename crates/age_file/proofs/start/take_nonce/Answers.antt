@@ -32,8 +32,7 @@ returns-in_err-has_bytes-clause-fails g c =
     let mid = view_of_reader g.S.Source.view c.parts.reader in
     let new = view_of_reader g.S.Source.view c.has_bytes.new.reader in
     let few = length-take c.parts.have c.parts.nonce in
-    rw (p.1, p.2) (nonce_fails old mid new (take c.parts.have c.parts.nonce)
-    c.in_err-has_bytes.field-0.0 (omega (arith, few)) kept.unfailed kept.uses
+    rw (p.1, p.2) (nonce_fails old mid new (take c.parts.have c.parts.nonce) c.in_err-has_bytes.field-0.0 (omega (arith, few)) kept.unfailed kept.uses
     c.has_bytes.ensures.uses a.0 a.1)
 
 pub parts-preserved : goal.parts-preserved
@@ -48,28 +47,16 @@ parts-preserved g c =
     let mid = view_of_reader g.S.Source.view c.parts.reader in
     let there = view_of_reader g.S.Source.view c.has_bytes.new.reader in
     let new = reader_view source c.use_front.new.self in
-    let front = uses_front source c.has_bytes.new.reader.intake.now c.use_front.new.self piece n
-    c.use_front.ensures.pulls c.bytes.ensures.bytes
+    let front = uses_front source c.has_bytes.new.reader.intake.now c.use_front.new.self piece n c.use_front.ensures.pulls c.bytes.ensures.bytes
     c.use_front.ensures.bytes in
     record {
-      same = (
-        c.in_ok-has_bytes.ensures.same.0 ∙ kept.same.0,
-        c.in_ok-has_bytes.ensures.same.1
-            ∙ kept.same.1,
-      );
+      same = (c.in_ok-has_bytes.ensures.same.0 ∙ kept.same.0, c.in_ok-has_bytes.ensures.same.1 ∙ kept.same.1);
       metered = λ from began. c.in_ok-has_bytes.ensures.metered from (kept.metered from began);
       most = omega (arith, kept.most, c.copy_some-n.ensures.count);
-      few = omega (
-        arith,
-        r.2,
-        ap length c.use_front.ensures.bytes,
-        length-drop n c.has_bytes.new.reader.intake.now.bytes,
-      );
+      few = omega (arith, r.2, ap length c.use_front.ensures.bytes, length-drop n c.has_bytes.new.reader.intake.now.bytes);
       room = c.copy_some-n.array_long;
-      uses = uses_then old there new short (take n piece)
-          (take (c.parts.have + n) c.copy_some-n.new.into) (sym c.copy_some-n.ensures.bytes)
-          (uses_then old mid there short [] short (append-nil short) kept.uses
-          c.has_bytes.ensures.uses) front;
+      uses = uses_then old there new short (take n piece) (take (c.parts.have + n) c.copy_some-n.new.into) (sym c.copy_some-n.ensures.bytes)
+          (uses_then old mid there short [] short (append-nil short) kept.uses c.has_bytes.ensures.uses) front;
       unfailed = r.1 ∙ kept.unfailed;
     }
 
@@ -78,10 +65,5 @@ returns-clause-found g c =
     let kept = c.parts.invariant in
     let old = view_of_reader g.S.Source.view c.args.reader.now in
     let new = view_of_reader g.S.Source.view c.parts.reader in
-    let whole : take c.parts.have c.parts.nonce ≡ c.parts.nonce =
-    take_all c.parts.have c.parts.nonce (omega (arith, kept.room)) in
-    record {
-      uses = subst (λ (t : List ℕ). Uses old new t) whole kept.uses;
-      few = kept.few;
-      unfailed = kept.unfailed;
-    }
+    let whole : take c.parts.have c.parts.nonce ≡ c.parts.nonce = take_all c.parts.have c.parts.nonce (omega (arith, kept.room)) in
+    record { uses = subst (λ (t : List ℕ). Uses old new t) whole kept.uses; few = kept.few; unfailed = kept.unfailed }

@@ -11,10 +11,8 @@ invariant-parts g l = record {
   most : l.have ≤ 16;
   few : length l.reader.intake.now.bytes ≤ pull_room;
   room : length l.nonce ≡ 16;
-  uses : Uses (view_of_reader g.S.Source.view l.fn.reader) (view_of_reader g.S.Source.view l.reader)
-      (take l.have l.nonce);
-  unfailed : (g.S.Source.view l.reader.source.now).failed
-      ≡ (g.S.Source.view l.fn.reader.source.now).failed;
+  uses : Uses (view_of_reader g.S.Source.view l.fn.reader) (view_of_reader g.S.Source.view l.reader) (take l.have l.nonce);
+  unfailed : (g.S.Source.view l.reader.source.now).failed ≡ (g.S.Source.view l.fn.reader.source.now).failed;
 }
 
 abbrev pub decreases-parts : goal.decreases-parts

@@ -13,11 +13,9 @@ returns-clause-fails g c =
     let new = g.S.Source.view c.refill.new.source in
     let r = rw c.if-branch.false at c.in_ok-refill.ensures.refills.answered in
     let cuts = rw kept.front.parser_is at c.end.ensures in
-    let all = cut_pulled (start_at old.supply) new.supply c.refill.new.self.pulls kept.held
-    c.refill.new.self.bytes r.0
+    let all = cut_pulled (start_at old.supply) new.supply c.refill.new.self.pulls kept.held c.refill.new.self.bytes r.0
     (c.refill.ensures.refills.pulled (start_at old.supply) kept.held kept.pulled) in
-    let inside : EndsInHeader kept.held =
-    record { no_header = cuts.2; no_fault = cuts.3; short = kept.front.inside.short } in
+    let inside : EndsInHeader kept.held = record { no_header = cuts.2; no_fault = cuts.3; short = kept.front.inside.short } in
     rw c.from.ensures (end_fails old new kept.held c.end.result all.consumed r.2 (inside, cuts.0))
 
 pub returns-in_err-refill-clause-fails : goal.returns-in_err-refill-clause-fails
@@ -27,29 +25,24 @@ returns-in_err-refill-clause-fails g c =
     let old = g.S.Source.view c.args.reader.now.source.now in
     let new = g.S.Source.view c.refill.new.source in
     let a = c.in_err-refill.ensures.refills.answered in
-    let all = cut_pulled (start_at old.supply) new.supply c.refill.new.self.pulls kept.held
-    c.refill.new.self.bytes a.0
+    let all = cut_pulled (start_at old.supply) new.supply c.refill.new.self.pulls kept.held c.refill.new.self.bytes a.0
     (c.refill.ensures.refills.pulled (start_at old.supply) kept.held kept.pulled) in
     rw (p.1, p.2) (pull_fails InHeader old (view_of_reader g.S.Source.view c.pieces.reader)
-    (reader_view new c.refill.new.self) kept.held c.in_err-refill.field-0.0 kept.unfailed
-    (kept.held, all.consumed, kept.front.inside) all a.2)
+    (reader_view new c.refill.new.self) kept.held c.in_err-refill.field-0.0 kept.unfailed (kept.held, all.consumed, kept.front.inside) all a.2)
 
 pub take-requires : goal.take-requires
 take-requires g c = (c.pieces.invariant.held, c.pieces.invariant.front)
 
 pub returns-in_err-header-clause-fails : goal.returns-in_err-header-clause-fails
 returns-in_err-header-clause-fails g c =
-    let p = err_from_is_err_and c.from_residual-in_err-header.result
-    c.from_residual-in_err-header.ensures.1 in
+    let p = err_from_is_err_and c.from_residual-in_err-header.result c.from_residual-in_err-header.ensures.1 in
     let kept = c.pieces.invariant in
     let old = g.S.Source.view c.args.reader.now.source.now in
     let new = g.S.Source.view c.refill.new.source in
     let r = rw c.if-branch.true at c.in_ok-refill.ensures.refills.answered in
     let all = c.refill.ensures.refills.pulled (start_at old.supply) kept.held kept.pulled in
-    let stops = stops_at old.supply new.supply kept.held c.refill.new.self.bytes r.1
-    kept.front.inside all.consumed in
-    rw (p.1, p.2) (piece_fails old new kept.held c.refill.new.self.bytes c.in_err-header.field-0.0
-    stops all.consumed
+    let stops = stops_at old.supply new.supply kept.held c.refill.new.self.bytes r.1 kept.front.inside all.consumed in
+    rw (p.1, p.2) (piece_fails old new kept.held c.refill.new.self.bytes c.in_err-header.field-0.0 stops all.consumed
     (c.in_err-header.ensures kept.held kept.front))
 
 pub returns-in-Some-clause-found : goal.returns-in-Some-clause-found
@@ -69,8 +62,7 @@ returns-in-Some-clause-found g c =
       few = omega (arith, r.1, ap length ends.rest, length-drop ends.taken c.refill.new.self.bytes);
       pulled = head_pulled (start_at old.supply) new.supply c.refill.new.self c.take.new.intake kept.held
           bytes ends.taken ends.pulls refl ends.rest all;
-      last = stops_at old.supply new.supply kept.held bytes r.1 kept.front.inside
-          all.consumed;
+      last = stops_at old.supply new.supply kept.held bytes r.1 kept.front.inside all.consumed;
       unfailed = r.4 ∙ kept.unfailed;
     }
 

@@ -11,8 +11,7 @@ invariant-pieces g l = record {
   pulled : Pulled (start_at (g.S.Source.view l.fn.reader.source.now).supply)
       (g.S.Source.view l.reader.source.now).supply l.reader.intake.now.pulls held;
   unread : l.reader.intake.now.bytes ≡ [];
-  unfailed : (g.S.Source.view l.reader.source.now).failed
-      ≡ (g.S.Source.view l.fn.reader.source.now).failed;
+  unfailed : (g.S.Source.view l.reader.source.now).failed ≡ (g.S.Source.view l.fn.reader.source.now).failed;
 }
 
 abbrev pub decreases-pieces : goal.decreases-pieces

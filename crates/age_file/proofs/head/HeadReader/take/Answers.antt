@@ -29,13 +29,7 @@ returns-in-Ready c =
     record {
       taken = n;
       text = feeds.2;
-      len_is = omega (
-        arith,
-        f.len_is,
-        feeds.1,
-        length-append held (take n bytes),
-        length-take n bytes,
-      );
+      len_is = omega (arith, f.len_is, feeds.1, length-append held (take n bytes), length-take n bytes);
       hashed = rw is at (c.update-in-Ready.ensures held f.hashed);
       rest = c.use_front.ensures.bytes;
       pulls = c.use_front.ensures.pulls;

@@ -7,10 +7,8 @@ use Rattle.age_file.specs.Runs.{pull_room}
 use Rattle.age_file.proofs.intake.Intake.refill.Goals as goal
 
 -- the pulls go on with a piece, or stay if it is empty
-goes_on : (start : Start) (old new : Supply) (pulls now : ℕ) (bytes piece : List ℕ)
-    → Consumes old new piece → now ≤ pulls + length piece
-    → length piece + pull_room * pulls ≤ pull_room * now → now ≤ 2 ^ 63
-    → Pulled start old pulls bytes → Pulled start new now (bytes ++ piece)
+goes_on : (start : Start) (old new : Supply) (pulls now : ℕ) (bytes piece : List ℕ) → Consumes old new piece → now ≤ pulls + length piece
+    → length piece + pull_room * pulls ≤ pull_room * now → now ≤ 2 ^ 63 → Pulled start old pulls bytes → Pulled start new now (bytes ++ piece)
 goes_on start old new pulls now bytes piece read gave small most p = record {
   consumed = Consumes-trans start.source old new bytes piece p.consumed read;
   each_gave = omega (arith, p.each_gave, length-append bytes piece);
@@ -28,8 +26,7 @@ returns-in-Err-clause-refills g c =
     record {
       answered = (refl {a = []}, same, search rules);
       pulled = λ start bytes p. goes_on start old new c.args.self.now.pulls pulls bytes []
-          (Consumes-kept old old new [] (Consumes-nil old) c.in-Err.ensures.bytes) (omega arith)
-          (omega arith) most p;
+          (Consumes-kept old old new [] (Consumes-nil old) c.in-Err.ensures.bytes) (omega arith) (omega arith) most p;
     }
 
 pub returns-in-Ok-eq0-clause-refills : goal.returns-in-Ok-eq0-clause-refills
@@ -44,14 +41,8 @@ returns-in-Ok-eq0-clause-refills g c =
       answered = (
         refl {a = []},
         same,
-        read.1 refl (omega (
-          arith,
-          c.pull.auto.into,
-          ap length c.as_mut_slice.ensures.value,
-          c.self.invariant,
-        )),
+        read.1 refl (omega (arith, c.pull.auto.into, ap length c.as_mut_slice.ensures.value, c.self.invariant)),
         c.in-Ok-eq0.ensures.counted,
       );
-      pulled = λ start bytes p. goes_on start old new c.args.self.now.pulls pulls bytes [] read.0
-          (omega arith) (omega arith) most p;
+      pulled = λ start bytes p. goes_on start old new c.args.self.now.pulls pulls bytes [] read.0 (omega arith) (omega arith) most p;
     }

@@ -2,21 +2,17 @@ use Rattle.age_file.proofs.PositionTextLemmas.{long_enough, words_front, words_b
 use Rattle.age_file.proofs.position.Position.read.Goals as goal
 
 pub returns-in_default-clause-refused : goal.returns-in_default-clause-refused
-returns-in_default-clause-refused c =
-    λ p d1 d2 d3 e. c.in_default.ensures (long_enough c.args.text.now p d1 d2 d3 e)
+returns-in_default-clause-refused c = λ p d1 d2 d3 e. c.in_default.ensures (long_enough c.args.text.now p d1 d2 d3 e)
 
 pub returns-in_default-index_of-clause-refused : goal.returns-in_default-index_of-clause-refused
-returns-in_default-index_of-clause-refused c = λ p d1 d2 d3 e.
-    c.in_default-index_of.ensures.none p.index p.within
+returns-in_default-index_of-clause-refused c = λ p d1 d2 d3 e. c.in_default-index_of.ensures.none p.index p.within
     (words_front c.args.text.now p d1 d2 d3 e c.in-Some.at c.in-Some.ensures.1)
 
 pub returns-in-Some-position_of-clause-read : goal.returns-in-Some-position_of-clause-read
 returns-in-Some-position_of-clause-read c =
-    words_of c.args.text.now c.in-Some.at c.in-Some-index_of.index c.in-Some-position_of.position
-    c.in-Some-index_of.ensures.some
+    words_of c.args.text.now c.in-Some.at c.in-Some-index_of.index c.in-Some-position_of.position c.in-Some-index_of.ensures.some
     c.in-Some-position_of.ensures.index c.in-Some-position_of.ensures.fields
 
 pub returns-in-None-clause-refused : goal.returns-in-None-clause-refused
-returns-in-None-clause-refused c = λ p d1 d2 d3 e.
-    c.in-None.ensures.none p.file_id p.chain p.tag d1 d2 d3
+returns-in-None-clause-refused c = λ p d1 d2 d3 e. c.in-None.ensures.none p.file_id p.chain p.tag d1 d2 d3
     (words_back c.args.text.now p d1 d2 d3 e c.in-Some.at c.in-Some.ensures.1)
