@@ -28,7 +28,11 @@ def passphrase_of(words: argparse.Namespace, again: bool = False) -> bytes:
     """The passphrase in the file of --pass, but one newline at its end, or one that is asked for."""
     if words.passphrase is not None:
         with open(words.passphrase, "rb") as file:
-            return secret(file.read().removesuffix(b"\n"))
+            held = file.read().removesuffix(b"\n")
+        try:
+            return secret(held)
+        except ValueError as fault:
+            raise ValueError(f"{words.passphrase}: {fault}") from None
     given = asked("passphrase: ")
     if again and asked("the same again: ") != given:
         raise ValueError("the passphrases differ")
@@ -197,7 +201,7 @@ def words_of() -> argparse.Namespace:
     top.add_argument("--version", action="version", version=f"agefile {agefile.__version__}")
     commands = top.add_subparsers(required=True, metavar="COMMAND")
     for call, what in (
-        (encrypt, "encrypt IN to OUT under a passphrase or for recipients"), (decrypt, "decrypt IN to OUT"), (test, "decrypt IN to nowhere"),
+        (encrypt, "encrypt IN to OUT under a passphrase or for recipients"), (decrypt, "decrypt IN to OUT"), (test, "decrypt IN, and write nothing"),
         (salvage, "write what still opens of IN, which was damaged or cut, to OUT, with zeros for what doesn't, and say what is lost"),
     ):
         command = commands.add_parser(call.__name__, help=what, description=what)
@@ -218,7 +222,7 @@ def words_of() -> argparse.Namespace:
         if call is not test:
             command.add_argument("output", metavar="OUT")
     what = "write the 64 bytes that age_tool's --shared takes, by which a key in KEYFILE opens IN"
-    command = commands.add_parser("shared", help=what, description=f"{what}, to standard output".capitalize() + ".")
+    command = commands.add_parser("shared", help=what, description=f"{what}, to standard output")
     command.set_defaults(call=shared)
     command.add_argument("keys", metavar="KEYFILE", help="a file of age-keygen")
     command.add_argument("input", metavar="IN")

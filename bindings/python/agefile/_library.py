@@ -65,7 +65,7 @@ _MEANINGS = {
     12: "the file isn't for this kind of key", 13: "the passphrase or key doesn't open the file",
     14: "the header was altered, or the file key is another file's", 15: "an X25519 stanza is malformed, or the shared secret is zero",
     17: "the file is damaged or was cut here, or something was appended", 19: "the file was cut off here or altered: its last chunk is empty",
-    **dict.fromkeys((8, 16, MORE), "the file ends in its header or right after it"), **dict.fromkeys((18, 20), "the file was cut"),
+    **dict.fromkeys((8, 16, MORE), "the file ends in its header or right after it, or isn't an age file"), **dict.fromkeys((18, 20), "the file was cut"),
     21: "something was appended to the file", 22: "the file has too many chunks", 28: "there isn't enough memory for the work factor",
     MISUSED: "a call of the library was misused",
 }
