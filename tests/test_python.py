@@ -340,6 +340,14 @@ class PythonTest(BindingsCase):
         run = self.command("decrypt", "--pass", "pw", "-", "-", given=data[:-1])
         said = f"agefile: {agefile.Damaged(17, 2)}\nagefile: OUT has the first {2 * CHUNK} bytes of the text\n".encode()
         self.see("-m agefile", (run.returncode, run.stdout, run.stderr) == (1, text[:2 * CHUNK], said), run.stderr)
+        self.write("first.age", data[:-len(text) - 3 * 16] + b"*" + data[1 - len(text) - 3 * 16:])
+        run = self.command("decrypt", "--pass", "pw", "first.age", "back")
+        self.see("a damaged first chunk leaves OUT", run.returncode == 1 and b"17" in run.stderr and self.read("back") == text, run.stderr)
+        for words in (("encrypt", "--log", "1", "plain"), ("decrypt", "made.age"), ("salvage", "made.age")):
+            run = self.command(words[0], "--pass", "pw", "--no-clobber", *words[1:], "back")
+            self.see(f"{words[0]} --no-clobber", run.returncode == 1 and b"File exists" in run.stderr and self.read("back") == text, run.stderr)
+        run = self.command("decrypt", "--pass", "pw", "--no-clobber", "made.age", "new")
+        self.see("decrypt --no-clobber to a new file", run.returncode == 0 and self.read("new") == text, run.stderr)
         for words in (("decrypt", "made.age", "-"), ("decrypt", "-", "-"), ("test", "-"), ("encrypt", "plain", "none.age")):
             for given in (b"", data, b"pw\npw\n"):
                 run = self.command(*words, input=given, start_new_session=True)
@@ -450,6 +458,8 @@ class PythonTest(BindingsCase):
         self.see("salvage to standard output", (run.returncode, run.stdout) == (1, want), run.stderr)
         run = self.command("salvage", "--pass", "pw", "-", "out", given=bytes(data[:begin + 100]))
         self.see("salvage from standard input, nothing opens", run.returncode == 1 and b"no chunk opens" in run.stderr, run.stderr)
+        run = self.command("salvage", "--pass", "pw", "damaged.age", "/dev/null")
+        self.see("salvage to what isn't a regular file", (run.returncode, run.stderr) == (1, lost), run.stderr)
         key = shutil.copy(AGE / "key.txt", self.path("key.txt"))
         run = self.command("salvage", "--identity", key, AGE / "one.age", "out")
         self.see("salvage by a key", run.returncode == 0 and self.path("out").read_bytes() == b"hello, recipient\n", run.stderr)

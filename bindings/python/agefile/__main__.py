@@ -16,7 +16,7 @@ import agefile
 from agefile import _keys, _library
 from agefile._arguments import WORK_MAX, secret
 from agefile._recipients import beginning_of
-from agefile._source import some
+from agefile._source import reach_disk, some
 
 FACTORS = range(1, WORK_MAX + 1)
 
@@ -60,8 +60,12 @@ def source(name: str) -> Any:
 
 
 def see_apart(words: argparse.Namespace) -> None:
-    """Refuses to write to a file that is read: IN, or the file of --pass, --identity or --recipients-file."""
-    if words.output == "-" or not os.path.exists(words.output):
+    """Refuses to write to a file that is read: IN, or the file of --pass, --identity or --recipients-file. With --no-clobber, to any."""
+    if words.output == "-":
+        return
+    if words.no_clobber and os.path.lexists(words.output):
+        raise FileExistsError(errno.EEXIST, os.strerror(errno.EEXIST), words.output)
+    if not os.path.exists(words.output):
         return
     out = os.stat(words.output)
     for name in (words.input, words.passphrase, getattr(words, "keys", None), *getattr(words, "files", [])):
@@ -74,13 +78,13 @@ def see_apart(words: argparse.Namespace) -> None:
 @contextlib.contextmanager
 def sink(words: argparse.Namespace) -> Iterator[Any]:
     """What is written to, which has reached the disk at the end."""
-    held: Any = contextlib.nullcontext(sys.stdout.buffer) if words.output == "-" else open(words.output, "wb")
+    how = "xb" if words.no_clobber else "wb"
+    held: Any = contextlib.nullcontext(sys.stdout.buffer) if words.output == "-" else open(words.output, how)
     try:
         with held as out:
             yield out
             out.flush()
-            if stat.S_ISREG(os.fstat(out.fileno()).st_mode):
-                os.fsync(out.fileno())
+            reach_disk(out)
     except OSError as fault:
         if fault.errno in FULL and fault.filename is None:
             fault.filename = words.output
@@ -113,10 +117,14 @@ def decrypt(words: argparse.Namespace) -> None:
     see_apart(words)
     count = 0
     try:
-        with source(words.input) as under, opened(under, words) as file, sink(words) as out:
-            while piece := file.read1(_library.CHUNK):  # a chunk at a time, so that what comes before a fault is written
-                out.write(piece)
-                count += len(piece)
+        with source(words.input) as under, opened(under, words) as file:
+            # A chunk at a time, so that what comes before a fault is written. If the first is damaged, OUT stays as it was.
+            piece = file.read1(_library.CHUNK)
+            with sink(words) as out:
+                while piece:
+                    out.write(piece)
+                    count += len(piece)
+                    piece = file.read1(_library.CHUNK)
     except agefile.AgeError as fault:
         if count > 0:
             fault.args += (f"OUT has the first {count} bytes of the text",)
@@ -220,6 +228,7 @@ def words_of() -> argparse.Namespace:
             command.add_argument("--max-log", type=int, default=22, choices=FACTORS, metavar="N", help="the greatest work factor to accept (22)")
         command.add_argument("input", metavar="IN")
         if call is not test:
+            command.add_argument("--no-clobber", action="store_true", help="refuse an OUT that is there")
             command.add_argument("output", metavar="OUT")
     what = "write the 64 bytes that age_tool's --shared takes, by which a key in KEYFILE opens IN"
     command = commands.add_parser("shared", help=what, description=f"{what}, to standard output")

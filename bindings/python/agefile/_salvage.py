@@ -9,7 +9,7 @@ from typing import Any, Callable, Iterable, NamedTuple
 from . import _rooms
 from ._library import BLOCK, CHUNK, C, ReaderState, fault_of
 from ._reader import header_of, opening_of
-from ._source import can_seek, filled
+from ._source import can_seek, filled, reach_disk
 
 LAST_SEEN = 2  # the reader's state after the last block, if that is whole
 TAG = 16
@@ -55,7 +55,7 @@ class _Out:
     def close(self) -> None:
         if self._owned and self._file is not None:
             self._file.flush()
-            os.fsync(self._file.fileno())
+            reach_disk(self._file)
             self._file.close()
 
 

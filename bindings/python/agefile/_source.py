@@ -1,9 +1,17 @@
-"""Bytes of a file that may not block: None isn't its end."""
+"""Bytes of a file that may not block: None isn't its end. And when a file's bytes are on the disk."""
 from __future__ import annotations
 
 import errno
+import os
 import select
+import stat
 from typing import Any
+
+
+def reach_disk(file: Any) -> None:
+    """Waits until what was written to a file has reached the disk, if it is a regular one."""
+    if stat.S_ISREG(os.fstat(file.fileno()).st_mode):
+        os.fsync(file.fileno())
 
 
 def wait(file: Any, event: int = select.POLLIN) -> None:
