@@ -33,9 +33,9 @@ def plain_of(length):
     return random.Random(length).randbytes(length)
 
 
-def flipped(data, at):
+def flipped(data, at, bits=1):
     held = bytearray(data)
-    held[at] ^= 1
+    held[at] ^= bits
     return bytes(held)
 
 

@@ -12,6 +12,7 @@ import time
 from tests.case import SECONDS, needs, twice
 from tests.files import NOBODY, OTHER_RUN, PLAIN, WRITE, Feeding, FilesCase
 from tests.files import as_nobody, chunk_fault, reason, unsaved, unwritten
+from tests.test_runs import feed
 from tools import shim
 
 USED = "this run uses the file"
@@ -128,6 +129,13 @@ class SavingTest(FilesCase):
         failing = {"FSYNC": errno.EIO, "ONLY": "out"}
         self.expect(1, chunk_fault(2), "decrypt --pass pass --save saved cut out", "no wait went well", failing)
         self.see("no wait went well: from the start", self.is_position("saved", 0))
+        self.remove("saved")
+        source, thread = feed(self.read("cut"), 4096)
+        words = "decrypt --pass pass --save saved /dev/stdin out"
+        self.expect(1, chunk_fault(2) + WRITE, words, "no wait went well, and IN is a pipe", failing, stdin=source)
+        os.close(source)
+        thread.join()
+        self.see("no wait went well, and IN is a pipe: no position", not self.is_there("saved"))
         self.expect(1, chunk_fault(2), "decrypt --no-sync --pass pass --save saved cut out", "no wait is asked for", failing)
         self.see("no wait is asked for: all that was written", self.is_position("saved", 2))
         self.write("plain", bytes(40 << 20))

@@ -4,7 +4,8 @@
  *
  * FSYNC, FTRUNCATE, FLOCK, RENAME, LINK, SEEK (to a place in a file), REREAD (a read after that) and WRITE (from write number AT on):
  * these fail with that error. ONLY says of which kind of file FSYNC fails: d, f or b; or 1, standard output alone, or out, the file of
- * that name. FROM: it fails from that call on. Each call number EVERY of read and write is interrupted.
+ * that name. FROM: it fails from that call on. Each call number EVERY of read and write is interrupted. READ: read number AT of a pipe
+ * fails with that error, and no other.
  *
  * SWAP: `folder` leads to `other` before that write to a place in a file. PIPED: before that open of `saved` to be written a pipe takes
  * its place. GONE: `out` is removed before it is opened to be written. TRIGGER names a file that gets a 1 before the first sync. SYNCED names one that gets a line for each file that is synced.
@@ -175,9 +176,15 @@ off_t lseek(int fd, off_t to, int from) {
     return NEXT(lseek)(fd, to, from);
 }
 off_t lseek64(int fd, off_t to, int from) { return lseek(fd, to, from); }
+static int is_refused_read(int fd) {
+    static long piped;
+    struct stat it;
+    return getenv("READ") && fstat(fd, &it) == 0 && S_ISFIFO(it.st_mode) && ++piped == number("AT") && fails("READ");
+}
 ssize_t read(int fd, void *into, size_t size) {
     static long count;
     if (fd == sought && fails("REREAD")) return -1;
+    if (is_refused_read(fd)) return -1;
     return is_interrupted(&count) ? -1 : NEXT(read)(fd, into, size);
 }
 
