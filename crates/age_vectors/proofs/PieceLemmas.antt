@@ -8,7 +8,7 @@ use Rattle.age_stanza.specs.declared.fault.HeadFault.{HeadFault}
 use Rattle.age_stanza.specs.Grammar.{HeadText}
 use Rattle.age_stanza.specs.Parsing.{HasHeader, IsFault, Parsing, reading, complete, FeedsParser, Cuts}
 use Rattle.age_stanza.proofs.AnyPiecesLemmas.{more_fault}
-use Rattle.age_vectors.specs.Header.{IsReported}
+use Rattle.age_vectors.specs.Rows.{IsReported}
 
 -- the parser was fed a front of the bytes, and this is left
 pub record Reads (parser : Parsing) (rest bytes : List ℕ) : Type 0 where

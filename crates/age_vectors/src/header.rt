@@ -1,10 +1,10 @@
 // Headers of the C2SP page's grammar, whole and in single bytes.
 ghost use Rattle.std.specs.Prelude.{◌<◌, IsTrue, IfOk, IfErr, take};
 ghost use Rattle.age_stanza.specs.Grammar.{HeadText};
-ghost use Rattle.age_vectors.specs.Header.{IsReported, Accepts, RefusesHeader};
-ghost use Rattle.age_vectors.specs.HeaderRows.{AcceptedRows, FirstLineRows, ArgumentRows, LineRows};
+ghost use Rattle.age_vectors.specs.Rows.{IsReported, Accepts, RefusesHeader, AcceptedRows};
+ghost use Rattle.age_vectors.specs.Rows.{FirstLineRows, ArgumentRows, LineRows};
 
-use age_stanza::{HEAD_MAX, HeadFault, HeadParser, HeadStep, Header};
+use age_stanza::{HEAD_MAX, HeadFault, HeadParser, HeadStep, Header, encode_head, is_header};
 use std::alloc::{AllocError, Global};
 
 /// A body that is empty, and a MAC of zeros.
@@ -47,7 +47,13 @@ const NO_STANZA: &[u8; 70] =
     b"age-encryption.org/v1\n--- AAAAAAAAAAAAAAAAAAAAAAAAAAAAAAAAAAAAAAAAAAA\n";
 
 /// An argument line up to its first argument.
-const ARGUMENT_START: &[u8; 25] = b"age-encryption.org/v1\n-> ";
+pub(crate) const ARGUMENT_START: &[u8; 25] = b"age-encryption.org/v1\n-> ";
+
+const VERSION: &[u8; 22] = b"age-encryption.org/v1\n";
+
+const END_LINE: &[u8; 48] = b"--- AAAAAAAAAAAAAAAAAAAAAAAAAAAAAAAAAAAAAAAAAAA\n";
+
+const STANZA: &[u8; 6] = b"-> x\n\n";
 
 /// What follows the argument, 50 bytes.
 const ARGUMENT_END: &[u8; 50] = b"\n\n--- AAAAAAAAAAAAAAAAAAAAAAAAAAAAAAAAAAAAAAAAAAA\n";
@@ -103,6 +109,15 @@ fn is_of_zeros(header: &Header, zeros: usize) -> bool {
         && body.iter().all(|byte| *byte == 0)
 }
 
+/// Whether a header is written as the first `size` of these bytes.
+fn is_written(alloc: Global, header: &Header, bytes: &[u8], size: usize) -> bool {
+    is_header(header)
+        && match encode_head(alloc, header) {
+            Ok(text) => text.len() == size && bytes.starts_with(text.as_slice()),
+            Err(_fault) => false,
+        }
+}
+
 fn accepts_in(alloc: Global, bytes: &[u8], step: usize, size: usize, zeros: usize, last: u8) -> bool
     requires { 0 < step }
     ensures { IsTrue result → Accepts bytes.now size }
@@ -112,7 +127,10 @@ fn accepts_in(alloc: Global, bytes: &[u8], step: usize, size: usize, zeros: usiz
     };
     let mut mac = [0; 32];
     mac[31] = last;
-    taken == size && header.mac == mac && is_of_zeros(&header, zeros)
+    if !is_of_zeros(&header, zeros) || !is_written(alloc, &header, bytes, size) {
+        return false;
+    }
+    taken == size && header.mac == mac
 }
 
 /// Whether a header of `size` bytes stands in front, with one stanza of the argument `x` and this
@@ -199,30 +217,66 @@ fn cut_rows(alloc: Global) -> bool {
     })
 }
 
-/// Headers at the limit of their length.
-fn limit_rows(alloc: Global) -> Result<bool, AllocError> {
-    let mut long = Vec::from_slice(alloc, ARGUMENT_START)?;
-    long.resize(ARGUMENT_START.len() + 1_048_501, b'x')?;
-    let mut longer = Vec::from_slice(alloc, long.as_slice())?;
-    longer.push(b'x')?;
-    long.extend_from_slice(ARGUMENT_END)?;
-    longer.extend_from_slice(ARGUMENT_END)?;
-    let mut letters = Vec::new(alloc);
-    letters.resize(HEAD_MAX, b'x')?;
-    let mut body = Vec::from_slice(alloc, BODY_START)?;
-    for _ in 0..16_132 {
-        body.extend_from_slice(BODY_LINE)?;
+/// The smallest header and a byte, in pieces of each length: nothing after it is taken.
+fn piece_rows(alloc: Global) -> bool {
+    (1..78).all(|step| accepts_in(alloc, SMALLEST_AND_ONE, step, 76, 0, 0))
+}
+
+/// A front, a piece again and again, and an end.
+pub(crate) fn repeated(
+    alloc: Global,
+    front: &[u8],
+    piece: &[u8],
+    count: usize,
+    end: &[u8],
+) -> Result<Vec<u8>, AllocError> {
+    let mut text = Vec::from_slice(alloc, front)?;
+    for _ in 0..count {
+        text.extend_from_slice(piece)?;
     }
-    body.truncate(HEAD_MAX);
-    let mut shorter = Vec::from_slice(alloc, body.as_slice())?;
-    shorter.truncate(HEAD_MAX - 1);
-    Ok(
-        accepts_long(alloc, long.as_slice())
-            && refuses(alloc, longer.as_slice(), 7, 4)
-            && refuses(alloc, letters.as_slice(), 7, 1)
-            && refuses(alloc, body.as_slice(), 7, 16_134)
-            && refuses(alloc, shorter.as_slice(), 8, 16_134),
-    )
+    text.extend_from_slice(end)?;
+    Ok(text)
+}
+
+/// The text of some stanzas in a header with a MAC of zeros.
+pub(crate) fn around(alloc: Global, stanzas: &[u8]) -> Result<Vec<u8>, AllocError> {
+    repeated(alloc, VERSION, stanzas, 1, END_LINE)
+}
+
+/// Whether a text of an argument of this many letters stands for a header of the greatest length, or
+/// is refused.
+fn argument_row(alloc: Global, letters: usize, is_accepted: bool) -> bool {
+    match repeated(alloc, ARGUMENT_START, b"x", letters, ARGUMENT_END) {
+        Ok(text) if is_accepted => accepts_long(alloc, text.as_slice()),
+        Ok(text) => refuses(alloc, text.as_slice(), 7, 4),
+        Err(_) => false,
+    }
+}
+
+/// Whether the first `len` bytes of a front and a piece again and again are refused so.
+fn refuses_long(
+    alloc: Global,
+    front: &[u8],
+    piece: &[u8],
+    len: usize,
+    number: u8,
+    line: u64,
+) -> bool {
+    let count = (len / piece.len().max(1)).saturating_add(1);
+    match repeated(alloc, front, piece, count, b"") {
+        Ok(text) => refuses(alloc, &text.as_slice()[..len.min(text.len())], number, line),
+        Err(_) => false,
+    }
+}
+
+/// Headers at the limit of their length.
+fn limit_rows(alloc: Global) -> bool {
+    argument_row(alloc, 1_048_501, true)
+        && argument_row(alloc, 1_048_502, false)
+        && refuses_long(alloc, b"", b"x", HEAD_MAX, 7, 1)
+        && refuses_long(alloc, BODY_START, BODY_LINE, HEAD_MAX, 7, 16_134)
+        && refuses_long(alloc, BODY_START, BODY_LINE, HEAD_MAX - 1, 8, 16_134)
+        && refuses_long(alloc, VERSION, STANZA, 1_020_022, 8, 340_002)
 }
 
 /// The rows of the grammar and of its faults, of cut headers, and of headers at the limit of their
@@ -233,7 +287,7 @@ pub fn header_rows(alloc: Global) -> bool
     ensures arguments { IsTrue result → ArgumentRows }
     ensures lines { IsTrue result → LineRows }
 {
-    if !cut_rows(alloc) || !matches!(&limit_rows(alloc), Ok(true)) {
+    if !cut_rows(alloc) || !piece_rows(alloc) || !limit_rows(alloc) {
         return false;
     }
     if !accepted_rows(alloc) {

@@ -1,16 +1,14 @@
 // What passphrases and known keys find in headers. The header was made by Python: hashlib's scrypt,
 // HMAC over its SHA-256, and RFC 8439 in plain whole numbers.
-ghost use Rattle.std.specs.Prelude.{◌<◌, IsTrue, IfOk, codes};
+ghost use Rattle.std.specs.Prelude.{IsTrue, IfOk, codes};
 ghost use Rattle.age_stanza.specs.Grammar.{HeadText};
 ghost use Rattle.age_keys.specs.Keys.{Opens};
 ghost use Rattle.age_keys.specs.Scrypt.{scrypt_head};
-ghost use Rattle.age_vectors.specs.Keys.{OpensIn};
+ghost use Rattle.age_vectors.specs.Rows.{OpensIn};
 
-use crate::header::parsed;
+use crate::header::{ARGUMENT_START, around, parsed, repeated};
 use age_keys::{FileKey, KnownKey, Passphrase, Steps, Unlock, open_header, scrypt_header};
-use age_stanza::{
-    Argument, Arguments, Bytes, HEAD_MAX, Header, Stanza, Stanzas, encode_head, is_header,
-};
+use age_stanza::{HEAD_MAX, Header, encode_head, is_header};
 use std::alloc::{AllocError, Global};
 
 const SALT: [u8; 16] = [
@@ -29,6 +27,16 @@ const WRITTEN: [u8; 149] = *b"age-encryption.org/v1\n-> scrypt EBESExQVFhcYGRobH
 const AT_TEN: &[u8; 150] = b"age-encryption.org/v1\n-> scrypt EBESExQVFhcYGRobHB0eHw 10\n\
         Qh59WLlLxJRIkowFnzt99qkc7x6EgdHELDUQmvHY874\n\
         --- 2qY5AgJS48JZMvxeEOs4EKHsGHn1+dq7Rvg3gLXzgBM\n";
+
+/// The header at work factor 1, with the last byte of its MAC inverted.
+const OTHER_MAC: &[u8; 149] = b"age-encryption.org/v1\n-> scrypt EBESExQVFhcYGRobHB0eHw 1\n\
+        1z3f/yTFiUXDwVbiU/TZ2AupEaKH6mWRdiP4zJo1RGw\n\
+        --- j2RWCWPgvXImsyfN390ggNwin5ht9nxij7u+aGwWgjQ\n";
+
+/// The same, with the last byte of its body inverted.
+const OTHER_BODY: &[u8; 149] = b"age-encryption.org/v1\n-> scrypt EBESExQVFhcYGRobHB0eHw 1\n\
+        1z3f/yTFiUXDwVbiU/TZ2AupEaKH6mWRdiP4zJo1RJM\n\
+        --- j2RWCWPgvXImsyfN390ggNwin5ht9nxij7u+aGwWgss\n";
 
 /// A header with a work factor of one more than the greatest limit.
 const AT_23: &[u8; 150] = b"age-encryption.org/v1\n-> scrypt AAAAAAAAAAAAAAAAAAAAAA 23\n\
@@ -96,6 +104,8 @@ fn passphrase_rows(alloc: Global) -> bool {
     by_passphrase(alloc, &WRITTEN, b"kudebafon", 1) == Ok(FILE_KEY)
         && by_passphrase(alloc, &WRITTEN, b"kudebafon", 22) == Ok(FILE_KEY)
         && by_passphrase(alloc, &WRITTEN, b"Kudebafon", 1) == Err(13)
+        && by_passphrase(alloc, OTHER_MAC, b"kudebafon", 1) == Err(14)
+        && by_passphrase(alloc, OTHER_BODY, b"kudebafon", 1) == Err(13)
         && by_passphrase(alloc, AT_TEN, b"kudebafon", 10) == Ok(FILE_KEY)
         && by_passphrase(alloc, AT_TEN, b"kudebafon", 9) == Err(11)
         && by_passphrase(alloc, AT_23, b"kudebafon", 22) == Err(11)
@@ -114,134 +124,87 @@ fn known_key_rows(alloc: Global) -> bool {
         && KnownKey::read("000102030405060708090A0b0c0d0e0").is_none()
 }
 
-/// The text of some stanzas in a header with a MAC of zeros.
-pub(crate) fn around(alloc: Global, stanzas: &[u8]) -> Result<Vec<u8>, AllocError> {
-    let mut text = Vec::from_slice(alloc, b"age-encryption.org/v1\n")?;
-    text.extend_from_slice(stanzas)?;
-    text.extend_from_slice(b"--- AAAAAAAAAAAAAAAAAAAAAAAAAAAAAAAAAAAAAAAAAAA\n")?;
-    Ok(text)
-}
+/// The arguments of a stanza with a body of 32 zero bytes, and the number with which the passphrase
+/// `x` with the limit 11 refuses it.
+const STANZAS: [(&[u8], u8); 15] = [
+    (b"x", 12),
+    (b"scrypt AAAAAAAAAAAAAAAAAAAAAA", 10),
+    (b"scrypt AAAAAAAAAAAAAAAAAAAAAA 1 1", 10),
+    (b"scrypt AAAAAAAAAAAAAAAAAAAAA 1", 10),
+    (b"scrypt AAAAAAAAAAAAAAAAAAAAAAA 1", 10),
+    (b"scrypt AAAAAAAAAAAAAAAAAAAAAB 1", 10),
+    (b"scrypt AAAAAAAAAAAAAAAAAAAAA= 1", 10),
+    (b"scrypt AAAAAAAAAAAAAAAAAAAAAA 018", 10),
+    (b"scrypt AAAAAAAAAAAAAAAAAAAAAA 0", 10),
+    (b"scrypt AAAAAAAAAAAAAAAAAAAAAA +1", 10),
+    (b"scrypt AAAAAAAAAAAAAAAAAAAAAA 1x", 10),
+    (b"scrypt AAAAAAAAAAAAAAAAAAAAAA 12", 11),
+    (b"scrypt AAAAAAAAAAAAAAAAAAAAAA 23", 11),
+    (b"scrypt AAAAAAAAAAAAAAAAAAAAAA 4294967297", 11),
+    (b"scrypt AAAAAAAAAAAAAAAAAAAAAA 1", 13),
+];
 
-/// Whether a passphrase with the limit 11 refuses these stanzas with this number.
-fn refuses(alloc: Global, stanzas: &[u8], number: u8) -> bool {
-    match around(alloc, stanzas) {
+/// What follows these arguments: the body, and a MAC of zeros.
+const BODY_AND_MAC: &[u8] = b"\nAAAAAAAAAAAAAAAAAAAAAAAAAAAAAAAAAAAAAAAAAAA\n\
+        --- AAAAAAAAAAAAAAAAAAAAAAAAAAAAAAAAAAAAAAAAAAA\n";
+
+/// Other stanzas, the first with a body of 31 bytes, and their numbers.
+const OTHERS: [(&[u8], u8); 4] = [
+    (
+        b"-> scrypt AAAAAAAAAAAAAAAAAAAAAA 1\nAAAAAAAAAAAAAAAAAAAAAAAAAAAAAAAAAAAAAAAAAA\n",
+        10,
+    ),
+    (
+        b"-> scrypt AAAAAAAAAAAAAAAAAAAAAA 1\n\n-> scrypt AAAAAAAAAAAAAAAAAAAAAA 1\n\n",
+        9,
+    ),
+    (b"-> scrypt\n\n-> X25519\n\n", 9),
+    (b"-> X25519\n\n-> x scrypt\n\n", 12),
+];
+
+/// Whether the header of a text that was made is refused with this number.
+fn is_refused(alloc: Global, made: &Result<Vec<u8>, AllocError>, number: u8) -> bool {
+    match made {
         Ok(text) => by_passphrase(alloc, text.as_slice(), b"x", 11) == Err(number),
         Err(_) => false,
     }
 }
 
-/// Whether one stanza of these arguments, with a body of 32 zero bytes, is refused with this
-/// number.
-fn refuses_one(alloc: Global, arguments: &[u8], number: u8) -> Result<bool, AllocError> {
-    let mut stanza = Vec::from_slice(alloc, b"-> ")?;
-    stanza.extend_from_slice(arguments)?;
-    stanza.extend_from_slice(b"\nAAAAAAAAAAAAAAAAAAAAAAAAAAAAAAAAAAAAAAAAAAA\n")?;
-    Ok(refuses(alloc, stanza.as_slice(), number))
-}
-
-/// Stanzas of another number of arguments, or with another salt.
-fn salt_rows(alloc: Global) -> Result<bool, AllocError> {
-    Ok(
-        refuses_one(alloc, b"x", 12)?
-            && refuses_one(alloc, b"scrypt AAAAAAAAAAAAAAAAAAAAAA", 10)?
-            && refuses_one(alloc, b"scrypt AAAAAAAAAAAAAAAAAAAAAA 1 1", 10)?
-            && refuses_one(alloc, b"scrypt AAAAAAAAAAAAAAAAAAAAA 1", 10)?
-            && refuses_one(alloc, b"scrypt AAAAAAAAAAAAAAAAAAAAAAA 1", 10)?
-            && refuses_one(alloc, b"scrypt AAAAAAAAAAAAAAAAAAAAAB 1", 10)?
-            && refuses_one(alloc, b"scrypt AAAAAAAAAAAAAAAAAAAAA= 1", 10)?,
-    )
-}
-
-/// Work factors.
-fn work_factor_rows(alloc: Global) -> Result<bool, AllocError> {
-    let mut long = Vec::from_slice(alloc, b"scrypt AAAAAAAAAAAAAAAAAAAAAA ")?;
-    long.resize(long.len() + 400, b'9')?;
-    Ok(
-        refuses_one(alloc, b"scrypt AAAAAAAAAAAAAAAAAAAAAA 018", 10)?
-            && refuses_one(alloc, b"scrypt AAAAAAAAAAAAAAAAAAAAAA 0", 10)?
-            && refuses_one(alloc, b"scrypt AAAAAAAAAAAAAAAAAAAAAA +1", 10)?
-            && refuses_one(alloc, b"scrypt AAAAAAAAAAAAAAAAAAAAAA 1x", 10)?
-            && refuses_one(alloc, b"scrypt AAAAAAAAAAAAAAAAAAAAAA 12", 11)?
-            && refuses_one(alloc, b"scrypt AAAAAAAAAAAAAAAAAAAAAA 23", 11)?
-            && refuses_one(alloc, b"scrypt AAAAAAAAAAAAAAAAAAAAAA 4294967297", 11)?
-            && refuses_one(alloc, b"scrypt AAAAAAAAAAAAAAAAAAAAAA 1", 13)?
-            && refuses_one(alloc, long.as_slice(), 11)?,
-    )
-}
-
-/// A body of 31 bytes, and scrypt stanzas together with others.
 fn stanza_rows(alloc: Global) -> bool {
-    refuses(
-        alloc,
-        b"-> scrypt AAAAAAAAAAAAAAAAAAAAAA 1\nAAAAAAAAAAAAAAAAAAAAAAAAAAAAAAAAAAAAAAAAAA\n",
-        10,
-    ) && refuses(
-        alloc,
-        b"-> scrypt AAAAAAAAAAAAAAAAAAAAAA 1\n\n-> scrypt AAAAAAAAAAAAAAAAAAAAAA 1\n\n",
-        9,
-    ) && refuses(alloc, b"-> scrypt\n\n-> X25519\n\n", 9)
-        && refuses(alloc, b"-> X25519\n\n-> x scrypt\n\n", 12)
-}
-
-/// A header with another body in its one stanza.
-fn with_body(
-    alloc: Global,
-    stanza: &Stanza,
-    body: &[u8],
-    mac: [u8; 32],
-) -> Result<Header, AllocError> {
-    let mut args = Arguments::new(alloc);
-    for argument in stanza.args.as_slice() {
-        args.push(Argument::from_slice(alloc, argument.as_slice())?)?;
+    for (arguments, number) in STANZAS {
+        let made = repeated(alloc, ARGUMENT_START, arguments, 1, BODY_AND_MAC);
+        if !is_refused(alloc, &made, number) {
+            return false;
+        }
     }
-    let mut stanzas = Stanzas::new(alloc);
-    stanzas.push(Stanza {
-        args,
-        body: Bytes::from_vec(body.to_vec(alloc)?),
-    })?;
-    Ok(Header { stanzas, mac })
+    true
 }
 
-/// Whether a header is refused for its MAC, if the MAC has one bit inverted, and for its body, if
-/// the body has.
-fn is_noticed(alloc: Global, bit: usize) -> Result<bool, AllocError>
-    requires { bit < 256 }
-{
-    let Some(passphrase) = Passphrase::new(b"kudebafon", 1) else {
-        return Ok(false);
-    };
-    let Ok((_taken, mut header)) = parsed(alloc, &WRITTEN, HEAD_MAX) else {
-        return Ok(false);
-    };
-    let [stanza] = header.stanzas.as_slice() else {
-        return Ok(false);
-    };
-    let mut body = stanza.body.as_slice().to_vec(alloc)?;
-    let Some(byte) = body.get_mut(bit / 8) else {
-        return Ok(false);
-    };
-    *byte ^= 1 << (bit % 8);
-    let other = with_body(alloc, stanza, body.as_slice(), header.mac)?;
-    header.mac[bit / 8] ^= 1 << (bit % 8);
-    Ok(
-        answer(alloc, &header, &passphrase) == Err(14)
-            && answer(alloc, &other, &passphrase) == Err(13),
-    )
+fn other_rows(alloc: Global) -> bool {
+    for (stanzas, number) in OTHERS {
+        if !is_refused(alloc, &around(alloc, stanzas), number) {
+            return false;
+        }
+    }
+    true
 }
 
-/// The rows of passphrases and known keys: a header that Python made, opened and written; each
-/// shape that is refused, with its number; each bit of the MAC and of the body inverted. False also
-/// if memory is refused. True says that the definition gives Python's header.
+/// A work factor of 400 digits.
+fn long_row(alloc: Global) -> bool {
+    let front = b"age-encryption.org/v1\n-> scrypt AAAAAAAAAAAAAAAAAAAAAA ";
+    is_refused(alloc, &repeated(alloc, front, b"9", 400, BODY_AND_MAC), 11)
+}
+
+/// The rows of passphrases and known keys: a header that Python made, opened and written, and with
+/// another MAC and body; each shape that is refused, with its number. False also if memory is
+/// refused. True says that the definition gives Python's header.
 pub fn key_rows(alloc: Global) -> bool
     ensures { IsTrue result → HeadText (scrypt_head (codes "kudebafon") 1 SALT FILE_KEY) WRITTEN }
 {
-    if !passphrase_rows(alloc) || !known_key_rows(alloc) || !stanza_rows(alloc) {
+    if !passphrase_rows(alloc) || !known_key_rows(alloc) {
         return false;
     }
-    if !matches!(&salt_rows(alloc), Ok(true)) || !matches!(&work_factor_rows(alloc), Ok(true)) {
-        return false;
-    }
-    if !(0..256).all(|bit| matches!(&is_noticed(alloc, bit), Ok(true))) {
+    if !stanza_rows(alloc) || !other_rows(alloc) || !long_row(alloc) {
         return false;
     }
     writes_python_s_header(alloc)

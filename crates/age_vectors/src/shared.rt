@@ -1,9 +1,10 @@
 // What a shared secret finds in the X25519 stanzas of headers, which Python made.
 ghost use Rattle.std.specs.Prelude.{IsTrue};
 ghost use Rattle.age_keys.specs.X25519.{IsSharedKey};
-ghost use Rattle.age_vectors.specs.Keys.{OpensIn};
+ghost use Rattle.age_vectors.specs.Rows.{OpensIn};
 
-use crate::keys::{FILE_KEY, around, is_opened, opened};
+use crate::header::around;
+use crate::keys::{FILE_KEY, is_opened, opened};
 use age_keys::SharedSecret;
 use std::alloc::Global;
 
