@@ -30,16 +30,16 @@ class AllocationsTest(Case):
         self.assertGreater(turn, 1)
 
     def test_parser_and_encoders(self):
-        self.refuse("age_tests", "header::refused_memory")
+        self.refuse("age_tests", "refusals::a_header")
 
     def test_scrypt(self):
-        self.refuse("age_primitive_tests", "scrypt::reports_a_refusal")
+        self.refuse("age_primitive_tests", "a_refusal_is_reported")
 
     def test_replay(self):
-        self.refuse("age_tests", "payload::a_refused_growth_changes_nothing")
+        self.refuse("age_tests", "refusals::a_replay")
 
     def test_drill(self):
-        self.refuse("age_tests", "payload::reports_a_refused_drill")
+        self.refuse("age_tests", "refusals::a_drill")
 
     def test_keys(self):
-        self.refuse("age_tests", "keys::a_refusal_is_reported")
+        self.refuse("age_tests", "refusals::a_key")

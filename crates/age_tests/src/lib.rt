@@ -1,4 +1,6 @@
-//! Tests of the larger library crates, through what they make public, and of the vectors.
+//! Tests of the larger library crates that no run of the program can be: of the vectors, of the
+//! examples, of readers and writers that fail, and of what a refusal of memory leaves. The others are
+//! in `tests/`, over the program and the C library.
 //!
 //! They have a crate of their own, since a crate with tests is proved twice.
 #![tactic(auto)]

@@ -1,9 +1,4 @@
-mod engines;
 mod examples;
-mod header;
-mod inspection;
-mod keys;
-mod memory;
-mod payload;
-mod sizes;
+mod refusals;
+mod streams;
 mod vectors;

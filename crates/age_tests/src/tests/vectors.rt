@@ -1,9 +1,12 @@
-//! Each function of the vectors once, and the worked examples that no contract speaks of.
+//! Each function of the vectors once, and how faults of the libraries are shown.
 
+use age_stanza::{HeadFault, HeadKind};
+use age_stream::{CHUNK_LIMIT, SealFault, StreamFault, StreamKind};
 use age_vectors::{
     delivery_rows, header_rows, hostile_rows, key_rows, rfc_aead, rfc_chacha, rfc_hkdf, rfc_hmac,
     rfc_pbkdf2, rfc_poly1305, rfc_scrypt, shared_rows, stop_rows,
 };
+use std::alloc::Global;
 
 #[test]
 fn rfc_8439(rt: HostRuntime) {
@@ -52,4 +55,27 @@ fn hostile_bytes(rt: HostRuntime) {
 #[test]
 fn every_failure_in_turn(rt: HostRuntime) {
     assert!(rt; stop_rows(rt.alloc()));
+}
+
+fn are_shown(alloc: Global, bad_line: &HeadFault, refused: &SealFault) -> bool {
+    match format!(in alloc; "{bad_line}, {refused}, {}", SealFault::Memory) {
+        Ok(text) => {
+            text.as_str()
+                == "bad stanza line at line 3, too many chunks at chunk 281474976710655, out of memory"
+        }
+        Err(_) => false,
+    }
+}
+
+#[test]
+fn texts_of_faults(rt: HostRuntime) {
+    let bad_line = HeadFault {
+        kind: HeadKind::BadStanzaLine,
+        line: 3,
+    };
+    let refused = SealFault::Stream(StreamFault {
+        kind: StreamKind::TooManyChunks,
+        chunk: CHUNK_LIMIT - 1,
+    });
+    assert!(rt; are_shown(rt.alloc(), &bad_line, &refused));
 }
