@@ -141,6 +141,84 @@ fn shows_at_most_101_lines(rt: HostRuntime) -> Result<(), Fail> {
 const HEADER: &[u8] =
     b"age-encryption.org/v1\n-> x\n\n--- AAAAAAAAAAAAAAAAAAAAAAAAAAAAAAAAAAAAAAAAAAA\n";
 
+fn put(alloc: Global, files: &mut MemFiles, name: &str, bytes: &[u8]) -> bool {
+    match bytes.to_vec(alloc) {
+        Ok(copy) => files.put(alloc, name, copy).is_ok(),
+        Err(_) => false,
+    }
+}
+
+/// Whether a run over files in memory ends with this status.
+fn ends(alloc: Global, files: &mut MemFiles, words: &[&str], wanted: u8) -> bool {
+    let (Ok(mut output), Ok(mut faults)) = (
+        MemSink::new(alloc, 100, 100, None),
+        MemSink::new(alloc, 100, 100, None),
+    ) else {
+        return false;
+    };
+    let status = run(
+        alloc,
+        words,
+        files,
+        &mut MemSource::new(Vec::new(alloc), 1, None),
+        &mut output,
+        &mut faults,
+        &mut None::<ProgressLine<MemSink>>,
+    );
+    status == wanted
+}
+
+fn encrypts(alloc: Global, files: &mut MemFiles) -> bool {
+    let words = [
+        "encrypt", "--pass", "PASS", "--log", "1", "--random", "RANDOM", "IN", "FILE",
+    ];
+    put(alloc, files, "PASS", b"correct horse\n")
+        && put(
+            alloc,
+            files,
+            "RANDOM",
+            b"the file key...!the scrypt salt!the payload nonc",
+        )
+        && put(alloc, files, "IN", b"hello")
+        && ends(alloc, files, &words, 0)
+}
+
+fn decrypts(alloc: Global, files: &mut MemFiles, wanted: u8) -> bool {
+    let words = [
+        "decrypt", "--pass", "PASS", "--save", "POSITION", "FILE", "BACK",
+    ];
+    ends(alloc, files, &words, wanted)
+}
+
+fn without_last_byte(alloc: Global, files: &MemFiles) -> Option<Vec<u8>> {
+    files.get("FILE")?.get(..185)?.to_vec(alloc).ok()
+}
+
+fn is_cut(alloc: Global, files: &mut MemFiles) -> bool {
+    match without_last_byte(alloc, files) {
+        Some(front) => files.put(alloc, "FILE", front).is_ok(),
+        None => false,
+    }
+}
+
+/// Whether a text is encrypted and decrypted; and a stop saves its position, unless OUT is refused.
+fn are_served(alloc: Global, files: &mut MemFiles) -> bool {
+    encrypts(alloc, files)
+        && decrypts(alloc, files, 0)
+        && files.get("BACK") == Some(b"hello".as_slice())
+        && files.get("POSITION").is_none()
+        && is_cut(alloc, files)
+        && decrypts(alloc, files, 1)
+        && matches!(files.get("POSITION"), Some(text) if text.starts_with(b"age-position/v2 0 "))
+        && files.refuse(alloc, "BACK").is_ok()
+        && decrypts(alloc, files, 1)
+}
+
+#[test]
+fn files_in_memory(rt: HostRuntime) {
+    assert!(rt; are_served(rt.alloc(), &mut MemFiles::new(rt.alloc(), 300)));
+}
+
 /// The status of a run without words, whose output fails at this call.
 fn status_of(alloc: Global, fail_call: u64) -> Result<u8, Fail> {
     let mut input = MemSource::new(HEADER.to_vec(alloc)?, 100, None);
