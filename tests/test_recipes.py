@@ -96,7 +96,8 @@ class RecipesTest(Case):
     def restores_with(self, program):
         text = self.make_archive("photos.tar.age")
         [typed] = [it for _, script in blocks("sh") for it in script.splitlines() if it.startswith(f"{program} ")]
-        status = terminal.run(["env", "-C", str(self.path("work")), *typed.split()], "to type")
+        # (with a pinentry rage wouldn't ask at the terminal)
+        status = terminal.run(["env", "-C", str(self.path("work")), *typed.split()], "to type", {"PINENTRY_PROGRAM": ""})
         self.see(f"restored with {program}", status == 0 and self.read("work/photos.tar") == text, status)
 
     @needs("age")
