@@ -421,6 +421,28 @@ class PythonFilesTest(BindingsCase):
             found = [raised(OSError, file.close), raised(ValueError, file.close), raised(ValueError, file.close)]
             self.see(f"close() of a file that isn't whole, {mode}", found == [True] * 3 and file.closed, found)
 
+    def test_interrupted_writers(self):
+        """An exception at each place where Python lets a signal's handler run, in each call of a writer, and then another call: the file is
+        whole or refused by every reader, as that call says, and what it was opened on is closed."""
+        text, path, package = plain_of(100_000), self.path("interrupted.age"), str(bindings.PYTHON / "agefile")
+        calls = {"write": lambda file: file.write(text[70_000:]), "close": lambda file: file.close(), "abandon": lambda file: file.abandon()}
+        for what, call in calls.items():
+            for after in ("abandon", "close"):
+                turn, wrong = 0, []
+                while turn < 400:
+                    file = agefile.open(path, "wb", passphrase="pw", work=1)
+                    file.write(text[:70_000])
+                    if not interrupted_at(turn, package, lambda: call(file)):
+                        file.abandon()
+                        break
+                    under, was_open = file._file, not file.closed
+                    says_whole = not raised(ValueError, getattr(file, after)) and after == "close" and was_open
+                    is_whole = by_python(path.read_bytes(), passphrase="pw") == ((0, None), text[:70_000])
+                    if says_whole and not is_whole or what != "close" and is_whole != says_whole or not under.closed:
+                        wrong.append((turn, says_whole, is_whole, under.closed))
+                    turn += 1
+                self.see(f"{after} after {what}: {turn} interruptions", wrong == [] and turn > 3, wrong[:5])
+
     def test_copies(self):
         """Open files are neither copied nor pickled, and a forked child can't touch its parent's file."""
         text, path = plain_of(100_000), self.path("forked.age")

@@ -169,6 +169,7 @@ class AgeWriter(Buffered):
 
     def _finish(self) -> None:
         if self._unfinished:
+            self._leave()
             raise ValueError("close() failed or was interrupted before: the file isn't whole, for all that is known")
         if self.closed:
             return
@@ -189,17 +190,21 @@ class AgeWriter(Buffered):
     def _leave(self) -> None:
         if self.closed:
             return
-        wipe(self._stream)
-        self._stream = None
+        self._failed = True  # an exception of a signal's handler may come anywhere below: then nothing is sealed any more
+        if self._stream is not None:
+            wipe(self._stream)
+            self._stream = None
         self._forget_gathered()
         try:
             if self._forks == _forks:
                 self._pass_on()
         finally:
-            self._over = True  # so that flush(), which close() of the base calls, does no more
-            super().close()
-            if self._owned:
-                self._file.close()
+            try:
+                if self._owned:
+                    self._file.close()
+            finally:
+                self._over = True  # so that flush(), which close() of the base calls, does no more
+                super().close()
 
     def __exit__(self, kind: type[BaseException] | None, value: BaseException | None, trace: TracebackType | None) -> None:
         if kind is None:
