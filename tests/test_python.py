@@ -435,6 +435,29 @@ class PythonTest(BindingsCase):
         want = text[:CHUNK] + bytes(CHUNK) + text[2 * CHUNK:]
         self.see("a disk that can't be read at a place", self.saved(Rotten(data)) == (want, [(CHUNK, 2 * CHUNK)], True, False))
 
+    def test_salvage_into(self):
+        """What is saved is never written over the file that is read, and a sink has to say how much it took."""
+        path, linked = self.path("rotten.age"), self.path("linked.age")
+        data = self.sealed(random.Random(4).randbytes(200_000))
+        path.write_bytes(flipped(data, len(data) - 70_000))
+        os.link(path, linked)
+        for out in (path, linked, str(path)):
+            refused = raised(ValueError, agefile.salvage, path, out, file_key=KEY)
+            self.see(f"a file that is saved into itself, {type(out).__name__}", refused and path.stat().st_size == len(data))
+
+        class Sink:
+            """Takes all, and says something else."""
+
+            def __init__(self, said):
+                self.said = said
+
+            def write(self, _):
+                return self.said
+
+        for said, kind in ((None, BlockingIOError), (1 << 20, OSError), (-1, OSError)):
+            with limited(20):
+                self.see(f"a sink that says {said}", raised(kind, agefile.salvage, io.BytesIO(data), Sink(said), file_key=KEY))
+
     def test_salvage_command(self):
         """What `python3 -m agefile salvage` says, and when OUT stays as it was."""
         text = random.Random(3).randbytes(200_000)

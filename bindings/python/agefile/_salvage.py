@@ -9,7 +9,7 @@ from typing import Any, Callable, Iterable, NamedTuple
 from . import _rooms
 from ._library import BLOCK, CHUNK, C, ReaderState, fault_of
 from ._reader import header_of, opening_of
-from ._source import can_seek, filled, reach_disk
+from ._source import can_seek, filled, put, reach_disk
 
 LAST_SEEN = 2  # the reader's state after the last block, if that is whole
 TAG = 16
@@ -48,9 +48,7 @@ class _Out:
 
     def _write(self, text: bytes) -> None:
         self._size += len(text)
-        while text:
-            assert self._file is not None
-            text = text[self._file.write(text):]
+        put(self._file, text)
 
     def close(self) -> None:
         if self._owned and self._file is not None:
@@ -97,6 +95,16 @@ def _opened(state: ReaderState, room: _rooms.Room, number: int, have: int) -> by
     return bytes(room.text.view[:room.count.value])
 
 
+def _see_apart(file: Any, out: Any) -> None:
+    """Refuses to write over the file that is read."""
+    try:
+        one = isinstance(out, (str, bytes, os.PathLike)) and os.path.samestat(os.fstat(file.fileno()), os.stat(out))
+    except (AttributeError, OSError):  # it has no descriptor, or there is no such file yet
+        return
+    if one:
+        raise ValueError("file and out are one file")
+
+
 def salvage(file: Any, out: Any, *, passphrase: str | bytes | None = None, file_key: bytes | None = None,
             shared: tuple[bytes, bytes] | None = None, identity: str | Iterable[str] | None = None, max_work: int = 22,
             progress: Callable[[int], None] | None = None) -> Salvage:
@@ -107,6 +115,7 @@ def salvage(file: Any, out: Any, *, passphrase: str | bytes | None = None, file_
     under = builtins.open(file, "rb", buffering=0) if isinstance(file, (str, bytes, os.PathLike)) else file
     to, room = _Out(out), _rooms.taken()
     try:
+        _see_apart(under, out)
         state = ReaderState()
         blocks = _Blocks(under, header_of(under, opened, file_key is not None, state))
         return _saved(blocks, state, room, to, progress or (lambda _: None))

@@ -1,4 +1,4 @@
-"""Bytes of a file that may not block: None isn't its end. And when a file's bytes are on the disk."""
+"""Bytes of a file, and into one, that may not block: None isn't its end. And when they are on the disk."""
 from __future__ import annotations
 
 import errno
@@ -58,6 +58,17 @@ def some_into(file: Any, room: memoryview) -> int:
     if not 0 <= count <= len(room):
         raise OSError(f"the file's readinto() returned {count}, and was given room for {len(room)}")
     return int(count)
+
+
+def put(file: Any, out: bytes) -> None:
+    """Writes all of these bytes."""
+    while out:
+        if (count := file.write(out)) is None:  # the file doesn't block, and took nothing
+            wait(file, select.POLLOUT)
+        elif 0 <= count <= len(out):
+            out = out[count:]
+        else:
+            raise OSError(f"the file's write() returned {count}, and was given {len(out)} bytes")
 
 
 def filled(file: Any, room: memoryview, have: int = 0) -> int:

@@ -3,7 +3,6 @@ from __future__ import annotations
 
 import ctypes
 import os
-import select
 import warnings
 from types import TracebackType
 from typing import Any, NoReturn
@@ -13,7 +12,7 @@ from ._arguments import secret, work_factor
 from ._calls import Inside, OneCall
 from ._library import CHUNK, SEAL_FRONT, Bytes, C, WriteStreamState, fault_of, wipe
 from ._reader import Buffered
-from ._source import wait
+from ._source import put
 
 Begun = tuple[WriteStreamState, bytes]
 
@@ -56,17 +55,8 @@ class AgeWriter(Buffered):
         self._failed = False
         self._unfinished = False  # whether close() failed
         self._over = False
-        self._write(front)
+        put(self._file, front)
         self._begun = True
-
-    def _write(self, out: bytes) -> None:
-        while out:
-            if (count := self._file.write(out)) is None:  # the file doesn't block, and took nothing
-                wait(self._file, select.POLLOUT)
-            elif 0 <= count <= len(out):
-                out = out[count:]
-            else:
-                raise OSError(f"the file's write() returned {count}, and was given {len(out)} bytes")
 
     def _change(self) -> None:
         """Begins what changes the file: until it is done, and if an exception ends it, the file can't be finished."""
@@ -84,7 +74,7 @@ class AgeWriter(Buffered):
             out = bytes(room.block.view[:room.count.value])
         finally:
             _rooms.given_back(room)
-        self._write(out)
+        put(self._file, out)
 
     def _see_open(self) -> None:
         if self._forks != _forks:
