@@ -23,7 +23,7 @@ class AgeFile(AgeReader):
         self._rest = bytearray()
         self._size = self._last = 0
         self._until = 0  # the number after the last block that a call needs
-        self._ahead: tuple[int, int, memoryview] | None = None  # the first block that was read ahead, the one after them, and their bytes
+        self._ahead: tuple[int, int, Bytes, int] | None = None  # the first block that was read ahead, the one after them, their bytes
         if not self._can_seek:
             raise io.UnsupportedOperation("random_access needs a file that can be sought in")
         self._measure()
@@ -45,33 +45,41 @@ class AgeFile(AgeReader):
         self._size = self._last * CHUNK + len(self._text_of(self._last))
 
     def _text_of(self, number: int) -> bytes:
-        """The text of a chunk, as the last one if it is that."""
-        self._fault = OSError(LOST)
+        """The text of a chunk."""
         room = _rooms.taken()
         try:
-            have = self._read_block(number, room)
-            self._to_chunk(number)
-            ended = self._opened(room, have)
-            text = bytes(room.text.view[:room.count.value])
-            if number == self._last and not ended:
-                self._opened(room, 0)
+            count = self._open_chunk(number, room)
+            return bytes(room.text.view[:count])
         finally:
             _rooms.given_back(room)
-        self._fault = None
-        return text
 
-    def _read_block(self, number: int, room: _rooms.Room) -> int:
-        """Reads a block, or what there is of it, into a room. If the call needs the next ones too, they are read with it."""
-        if self._ahead is None or not self._ahead[0] <= number < self._ahead[1]:
+    def _open_chunk(self, number: int, room: _rooms.Room, out: memoryview | None = None) -> int:
+        """Opens a chunk, as the last one if it is that, into a room or another one: how long its text is."""
+        self._fault = OSError(LOST)
+        block, have = self._read_block(number, room)
+        self._to_chunk(number)
+        ended = self._opened(room, have, out, block)
+        count = room.count.value
+        if number == self._last and not ended:
+            self._opened(room, 0)
+        self._fault = None
+        return count
+
+    def _read_block(self, number: int, room: _rooms.Room) -> tuple[Any, int]:
+        """Reads a block, or what there is of it: where it lies, and how long it is. If the call needs the next ones too, they are read with
+        it."""
+        ahead = self._ahead
+        if ahead is None or not ahead[0] <= number < ahead[1]:
             count = min(self._until - number, MOST)
             if count <= 1:
-                return filled(self._from(number), room.block.view)
-            held = Bytes(count * BLOCK)
-            self._ahead = number, number + count, held.view[:filled(self._from(number), held.view)]
-        at = (number - self._ahead[0]) * BLOCK
-        piece = self._ahead[2][at:at + BLOCK]
-        room.block.view[:len(piece)] = piece
-        return len(piece)
+                return room.block.place, filled(self._from(number), room.block.view)
+            held = Bytes(count * BLOCK) if ahead is None else ahead[2]  # (a call needs fewer and fewer)
+            self._ahead = None
+            have = filled(self._from(number), held.view[:count * BLOCK])
+            self._ahead = ahead = number, number + count, held, have
+        first, _, held, have = ahead
+        at = (number - first) * BLOCK
+        return ctypes.addressof(held.place) + at, max(0, min(BLOCK, have - at))
 
     def _from(self, number: int) -> Any:
         """The file, at a block."""
@@ -99,11 +107,13 @@ class AgeFile(AgeReader):
         return place % CHUNK == 0 and place < self._size
 
     def _next_into(self, out: memoryview) -> int:
-        number = self._place() // CHUNK
-        text = self._text_of(number)
-        out[:len(text)] = text
-        self._stand(number * CHUNK + len(text))
-        return len(text)
+        number, room = self._place() // CHUNK, _rooms.taken()
+        try:
+            count = self._open_chunk(number, room, out)
+        finally:
+            _rooms.given_back(room)
+        self._stand(number * CHUNK + count)
+        return count
 
     def _find(self, place: int) -> None:
         """Opens the chunk of that place, and stands there."""

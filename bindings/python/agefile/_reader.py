@@ -161,12 +161,12 @@ class AgeReader(Buffered):
         self._before, self._len, self._chunk, self._next_at, self._ended, self._fault = end, 0, chunk, end, ended, None
         return count
 
-    def _opened(self, room: _rooms.Room, have: int, out: memoryview | None = None) -> bool:
-        """Opens a block of a room, or what is left at the end, into the room or another one: whether it is the end."""
+    def _opened(self, room: _rooms.Room, have: int, out: memoryview | None = None, block: Any = None) -> bool:
+        """Opens a block, or what is left at the end, of a room or another place, into the room or another one: whether it is the end."""
         ended = have < BLOCK
         call = C.age_c_end if ended else C.age_c_block
         place = room.text.place if out is None else WholeChunk.from_buffer(out)
-        answer = call(self._state, room.block.place, have, place, CHUNK, room.count)
+        answer = call(self._state, room.block.place if block is None else block, have, place, CHUNK, room.count)
         if answer != 0:
             self._fault = fault_of(answer, self._state.fault_chunk if answer in PLACED else None)
             raise again(self._fault)
@@ -237,10 +237,14 @@ class AgeReader(Buffered):
         piece = self._chunk.read(size)
         if len(piece) == size:
             return piece
-        got = io.BytesIO()  # (one that grows is quicker than pieces that are joined)
-        got.write(piece)
-        while (left := size - got.tell()) and self._has_more():
-            got.write(self._chunk.read(left if size > 0 else -1))
+        got, room = io.BytesIO(), _rooms.taken()  # (one that grows is quicker than pieces that are joined)
+        try:
+            got.write(piece)
+            view = room.text.view
+            while (left := size - got.tell()) and (count := self._some_into(view if size < 0 else view[:left])):
+                got.write(view[:count])
+        finally:
+            _rooms.given_back(room)
         return got.getvalue()
 
     def read1(self, size: int = -1, /) -> bytes:
