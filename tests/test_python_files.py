@@ -443,6 +443,31 @@ class PythonFilesTest(BindingsCase):
                     turn += 1
                 self.see(f"{after} after {what}: {turn} interruptions", wrong == [] and turn > 3, wrong[:5])
 
+    def test_interrupted_text(self):
+        """In text mode an exception in a call doesn't lose what earlier ones wrote, or the file can't be finished."""
+        kept, package = "a" * 5_000, str(bindings.PYTHON / "agefile")
+        for what, call in {"write": lambda file: file.write("b" * 5_000), "flush": lambda file: file.flush()}.items():
+            turn, wrong = 0, []
+            while turn < 400:
+                out = io.BytesIO()
+                file = agefile.open(out, "wt", passphrase="pw", work=1)
+                file.write(kept)
+                if not interrupted_at(turn, package, lambda: call(file)):
+                    break
+                says_whole = not raised(ValueError, lambda: (file.write("c"), file.close()))
+                file.buffer.abandon()
+                fault, got = by_python(out.getvalue(), passphrase="pw")
+                if (fault == (0, None)) != says_whole or says_whole and not got.startswith(kept.encode()):
+                    wrong.append((turn, says_whole, fault, got[:3]))
+                turn += 1
+            file.close()
+            self.see(f"{what}: {turn} interruptions", wrong == [] and turn > 3, wrong[:5])
+        file = agefile.open(out := io.BytesIO(), "wt", passphrase="pw", work=1, encoding="ascii")
+        file.write(kept)
+        self.see("what can't be written", raised(UnicodeError, file.write, "\u2013") and raised(TypeError, file.write, b"c"))
+        file.close()
+        self.see("a file after that", by_python(out.getvalue(), passphrase="pw") == ((0, None), kept.encode()))
+
     def test_copies(self):
         """Open files are neither copied nor pickled, and a forked child can't touch its parent's file."""
         text, path = plain_of(100_000), self.path("forked.age")

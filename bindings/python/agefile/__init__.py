@@ -56,6 +56,7 @@ instance, stay in memory.
 from __future__ import annotations
 
 import builtins
+import contextlib
 import io
 import os
 from types import TracebackType
@@ -98,12 +99,40 @@ class Sink(Protocol):
 
 
 class _Text(io.TextIOWrapper):
-    """Text that an exception abandons, too."""
+    """Text that an exception abandons, too. When one comes out of a write, the base has lost what it held, of earlier writes too."""
+
+    def write(self, text: str, /) -> int:
+        try:
+            return super().write(text)
+        except (TypeError, UnicodeError):  # of this text alone
+            raise
+        except BaseException:
+            self._spoil()
+            raise
+
+    def flush(self) -> None:
+        try:
+            super().flush()
+        except BaseException:
+            self._spoil()
+            raise
+
+    def _spoil(self) -> None:
+        if isinstance(self.buffer, AgeWriter):
+            self.buffer.spoil()
 
     def close(self) -> None:
+        under = self.buffer
+        try:
+            if isinstance(under, AgeWriter) and not under.closed:
+                self.flush()
+        except BaseException:
+            with contextlib.suppress(ValueError):  # which says that the file isn't whole
+                super().close()
+            raise
         super().close()
-        if isinstance(self.buffer, AgeWriter):
-            self.buffer.close()  # which says so each time if the file isn't whole
+        if isinstance(under, AgeWriter):
+            under.close()  # which says so each time if the file isn't whole
 
     def __exit__(self, kind: type[BaseException] | None, value: BaseException | None, trace: TracebackType | None) -> None:
         if kind is not None and isinstance(self.buffer, AgeWriter):

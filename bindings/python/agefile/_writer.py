@@ -173,6 +173,10 @@ class AgeWriter(Buffered):
             self._leave()
         self._unfinished = False
 
+    def spoil(self) -> None:
+        """Part of the text is lost: the file can't be finished."""
+        self._failed = True
+
     def abandon(self) -> None:
         """Closes without the last chunk."""
         self._calls.make(self._leave)
