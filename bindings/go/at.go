@@ -53,8 +53,7 @@ func (f *File) GoString() string { return f.String() }
 func (f *File) Format(state fmt.State, _ rune) { io.WriteString(state, f.String()) }
 
 // OpenAt opens the header of a file of this many bytes, and its last chunk, which proves the length
-// of the text: a size that is a few bytes too great changes nothing, and any other wrong one is an
-// error.
+// of the text: a wrong size is an error, or changes nothing if it is a few bytes too great.
 func OpenAt(file io.ReaderAt, size int64, key Key) (*File, error) {
 	head, err := Open(io.NewSectionReader(file, 0, size), key)
 	if err != nil {
