@@ -48,7 +48,7 @@
  * since two would seal two texts under one nonce). Each holds the file key, and a stream that
  * writes holds text too: overwrite it when you are done, by explicit_bzero (a compiler may leave
  * out a memset). The library keeps no pointer and no state. Only age_c_open_.. (which never means
- * age_c_open_at), age_c_header, age_c_stanza and age_c_seal_passphrase allocate, by malloc and
+ * age_c_open_at), age_c_header, age_c_stanzas and age_c_seal_passphrase allocate, by malloc and
  * realloc, and free all of it before they return: with a passphrase of work factor N, some KiB more
  * than 2^N KiB, and for the header up to about 28 bytes for each of its bytes while realloc copies.
  * A call uses less than 100 KiB of stack.
@@ -56,12 +56,13 @@
  * NOT PROMISED. Constant time, and that no trace of keys and passphrases is left: the library
  * overwrites neither its stack nor the memory that it frees, such as scrypt's table.
  *
- * POINTERS. A uint8_t pointer points to at least as many bytes as the length after it says, and may
- * be null if that is 0; no other pointer may be null. An output buffer must not overlap any other
- * argument, nor may a reader, a writer, a stream or a number that a call writes. Bytes may stand at
- * any address; these objects are aligned as their types are. While you use a reader, a writer or a
- * stream, only the library modifies it, except `held` of a stream, which you set to 0. During a
- * call nothing else may modify the bytes that it was given. The library can't check this.
+ * POINTERS. A pointer to bytes or stanzas points to at least as many as the length after it says,
+ * and may be null if that is 0; no other pointer may be null. An output buffer must not overlap any
+ * other argument, nor may a reader, a writer, a stream, a stanza or a number that a call writes.
+ * Bytes may stand at any address; these objects are aligned as their types are. While you use a
+ * reader, a writer or a stream, only the library modifies it, except `held` of a stream, which you
+ * set to 0. During a call nothing else may modify the bytes that it was given. The library can't
+ * check this.
  *
  * THREADS, SIGNALS, FORK. Any number of calls may run at the same time, on different readers,
  * writers and streams. The library takes no lock, and calls nothing but malloc, realloc, free,
@@ -82,12 +83,12 @@
  * age_c_open_at, if not misused, end both: the reader goes on as one just begun, at that chunk.
  *
  * MISUSE. A call but age_c_may_open and age_c_size returns AGE_C_MISUSED if, and only if, a length,
- * a work factor or a number of a chunk or stanza isn't as its comment says, or it goes on with a
- * reader, writer or stream that can't be used: `chunk` of a reader or writer is 2^48 or more, a
- * reader's `state` is none of those listed below, or a writer's isn't 1; or a stream's `held` is
- * AGE_C_BLOCK or more; or that of one that writes is more than AGE_C_CHUNK, or 0 though its
- * writer's `chunk` isn't. This is looked at before anything else, but a stanza's number after the
- * header was read.
+ * a work factor or the number of a chunk isn't as its comment says, or it goes on with a reader,
+ * writer or stream that can't be used: `chunk` of a reader or writer is 2^48 or more, a reader's
+ * `state` is none of those listed below, or a writer's isn't 1; or a stream's `held` is AGE_C_BLOCK
+ * or more; or that of one that writes is more than AGE_C_CHUNK, or 0 though its writer's `chunk`
+ * isn't. This is looked at before anything else, but the room for stanzas after the header was
+ * read.
  *
  * The library is for x86-64 Linux: glibc 2.14 or later, or musl, and a processor with the
  * instructions of x86-64-v2. Link libage_c.so, or libage_c.a, which needs the C library alone.
@@ -194,14 +195,24 @@ AGE_C_MUST_CHECK
 uint32_t age_c_header(const uint8_t *front, size_t front_len, size_t *header_len, size_t *stanzas,
                       uint32_t *work);
 
-/* Stanza number `index` of that header, from 0 and less than *stanzas. Its type and the other
- * arguments are the *args_len bytes at front + *args_at, with one space between two of them. The
- * bytes of its body, which its base64 spells, are the first *written of `out`, which has room for
- * front_len bytes or more. Each call reads the whole header again: so don't look at all stanzas of
- * a hostile header, which may have 174,000. (Since 1.2.0.) */
+/* Where a stanza of a header stands. Its type and the other arguments are the args_len bytes at
+ * front + args_at, with one space between two of them. The bytes of its body, which its base64
+ * spells, are the body_len bytes at out + body_at. */
+typedef struct age_c_stanza {
+    size_t args_at;
+    size_t args_len;
+    size_t body_at;
+    size_t body_len;
+} age_c_stanza;
+
+/* All stanzas of that header in their order, by reading it once: they are the first *count of
+ * `stanzas`, which has room for as many as age_c_header tells or more. The bytes of their bodies are
+ * the first *written of `out`, which has room for front_len bytes or more. A hostile header may have
+ * 174,000 stanzas. (Since 1.2.0.) */
 AGE_C_MUST_CHECK
-uint32_t age_c_stanza(const uint8_t *front, size_t front_len, size_t index, size_t *args_at,
-                      size_t *args_len, uint8_t *out, size_t out_len, size_t *written);
+uint32_t age_c_stanzas(const uint8_t *front, size_t front_len, age_c_stanza *stanzas,
+                       size_t stanzas_len, size_t *count, uint8_t *out, size_t out_len,
+                       size_t *written);
 
 /* ---- reading ---- */
 

@@ -1,4 +1,5 @@
 """Tries the keys of age-keygen in the Python module: files that it reads by them, and files that it writes for their recipients."""
+import contextlib
 import io
 import os
 import random
@@ -108,23 +109,26 @@ class KeysTest(BindingsCase):
 
     @needs("age", "age-keygen")
     def test_many_recipients(self):
-        """A header of many recipients is opened for the last of them, in time that is linear in its length."""
+        """A header of 10,001 recipients is opened for the last of them, in time that is linear in its length."""
         keys = [subprocess.run(["age-keygen"], capture_output=True, text=True, check=True).stdout for _ in range(2)]
         one, other = (next(word for word in it.split() if word.startswith("age1")) for it in keys)
-        self.path("many").write_text(f"{other}\n" * 700 + f"{one}\n")
+        self.path("many").write_text(f"{other}\n" * 10_000 + f"{one}\n")
         data = subprocess.run(["age", "-R", self.path("many")], input=b"text", capture_output=True, check=True).stdout
-        looked, kept = [0], agefile._library.C.age_c_open_shared
+        looked, kept = [0], {it: getattr(agefile._library.C, it) for it in ("age_c_open_shared", "age_c_header", "age_c_stanzas")}
 
-        def counted(front, length, *words):
-            looked[0] += length
-            return kept(front, length, *words)
+        def counted(call):
+            def called(front, length, *words):
+                looked[0] += length
+                return call(front, length, *words)
 
-        agefile._library.C.age_c_open_shared = counted
-        try:
-            fault = fault_of(lambda: self.see("the last of 701 recipients", agefile.open(io.BytesIO(data), identity=keys[0]).read() == b"text"))
-        finally:
-            agefile._library.C.age_c_open_shared = kept
-        self.see(f"{looked[0]} bytes of a header of {len(data)} are looked at", fault is None and looked[0] < 5 * len(data), fault)
+            return called
+
+        with contextlib.ExitStack() as stack:
+            for name, call in kept.items():
+                stack.enter_context(unittest.mock.patch.object(agefile._library.C, name, counted(call)))
+            got = agefile.open(io.BytesIO(data), identity=keys[0]).read()
+        self.see(f"{looked[0]} bytes of a header of {len(data)} are looked at", got == b"text" and looked[0] < 7 * len(data))
+        self.see("its stanzas", [it.type for it in agefile.inspect(io.BytesIO(data)).stanzas] == ["X25519"] * 10_001)
 
     @needs("age", "age-keygen")
     def test_files_of_age(self):

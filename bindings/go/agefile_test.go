@@ -87,7 +87,7 @@ func TestSharedSecret(t *testing.T) {
 		t.Fatal(err)
 	}
 	stanza := header.Stanzas[0]
-	if header.Count != 1 || header.Work != 0 || stanza.Type != "X25519" || len(stanza.Body) != 32 ||
+	if len(header.Stanzas) != 1 || header.Work != 0 || stanza.Type != "X25519" || len(stanza.Body) != 32 ||
 		stanza.Args[0] != "Y4OC5dPKQNGTlZbR6ZAEl/zzlXpPdeDUc++aVmZwUho" {
 		t.Errorf("%+v", header)
 	}
@@ -111,7 +111,7 @@ func TestReadHeader(t *testing.T) {
 		t.Fatal(err)
 	}
 	stanza := header.Stanzas[0]
-	if header.Work != 1 || header.Count != 1 || len(header.Stanzas) != 1 || stanza.Type != "scrypt" ||
+	if header.Work != 1 || len(header.Stanzas) != 1 || stanza.Type != "scrypt" ||
 		len(stanza.Args) != 2 || stanza.Args[1] != "1" || len(stanza.Body) != 32 {
 		t.Errorf("%+v", header)
 	}
@@ -131,17 +131,19 @@ func TestReadHeader(t *testing.T) {
 		t.Fatal(err)
 	}
 	if stanza := header.Stanzas[299]; header.Len != len(many) || header.Work != 0 ||
-		header.Count != 300 || len(header.Stanzas) != 300 || stanza.Type != "a" ||
+		len(header.Stanzas) != 300 || stanza.Type != "a" ||
 		strings.Join(stanza.Args, ",") != "bc,!~" || string(stanza.Body) != "\x01\x02\x03" {
-		t.Errorf("%d %d %d %+v", header.Len, header.Work, header.Count, stanza)
+		t.Errorf("%d %d %d %+v", header.Len, header.Work, len(header.Stanzas), stanza)
 	}
 	if whole, err := io.ReadAll(file); err != nil || string(whole) != many {
 		t.Errorf("%d bytes, %v", len(whole), err)
 	}
 
+	// (each stanza by reading the whole header would take minutes)
+	begin := time.Now()
 	header, _, err = ReadHeader(strings.NewReader(of(20000)))
-	if err != nil || header.Count != 20000 || len(header.Stanzas) != 53 {
-		t.Error(header.Count, len(header.Stanzas), err)
+	if took := time.Since(begin); err != nil || len(header.Stanzas) != 20000 || took > 20*time.Second {
+		t.Error(len(header.Stanzas), took, err)
 	}
 	for data, number := range map[string]uint32{
 		many[:len(many)-1]: NumberHeaderOrNonceCut, of(0): NumberNoStanza, "not age\n": NumberNotAge,

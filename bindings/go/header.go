@@ -11,17 +11,12 @@ import (
 	"strings"
 )
 
-// mostRead is how many bytes of headers are read for the stanzas of one: each is found by reading
-// all of it, and a hostile header has 174,000.
-const mostRead = 16 << 20
-
 // A Header is what the header of a file says, before anything is opened. Nobody has confirmed it:
 // whoever can change the file can change it.
 type Header struct {
 	Len     int      // how many bytes it has
 	Work    uint32   // the work factor that it demands of a passphrase; 0 if none opens the file
-	Count   int      // how many stanzas it has
-	Stanzas []Stanza // all of them, of some 400 recipients or fewer; else only the first
+	Stanzas []Stanza // a hostile header has up to 174,000
 }
 
 // A Stanza is what one recipient, or a passphrase, finds the file key in.
@@ -47,23 +42,24 @@ func (h *Header) look(front []byte) C.uint32_t {
 	var size, count C.size_t
 	var work C.uint32_t
 	answer := C.age_c_header(place(front), length(front), &size, &count, &work)
-	h.Len, h.Work, h.Count = int(size), uint32(work), int(count)
-	for index := 0; answer == 0 && index < h.Count && index*h.Len < mostRead; index++ {
-		answer = h.lookAt(front[:size], C.size_t(index))
+	if answer != 0 {
+		return answer
 	}
-	return answer
+	h.Len, h.Work = int(size), uint32(work)
+	return h.lookAtStanzas(front[:size], count)
 }
 
-// lookAt adds a stanza.
-func (h *Header) lookAt(front []byte, index C.size_t) C.uint32_t {
-	var at, size, written C.size_t
-	body := make([]byte, len(front))
-	answer := C.age_c_stanza(place(front), length(front), index, &at, &size, place(body),
-		length(body), &written)
-	if answer == 0 {
-		words := strings.Split(string(front[at:at+size]), " ")
-		body = append([]byte(nil), body[:written]...)
-		h.Stanzas = append(h.Stanzas, Stanza{Type: words[0], Args: words[1:], Body: body})
+// lookAtStanzas takes the stanzas of a header that has so many.
+func (h *Header) lookAtStanzas(front []byte, count C.size_t) C.uint32_t {
+	var written C.size_t
+	places, bodies := make([]C.age_c_stanza, count), make([]byte, len(front))
+	answer := C.age_c_stanzas(place(front), length(front), &places[0], count, &count,
+		place(bodies), length(bodies), &written)
+	h.Stanzas = make([]Stanza, count)
+	for i, it := range places[:count] {
+		words := strings.Split(string(front[it.args_at:it.args_at+it.args_len]), " ")
+		body := bodies[it.body_at : it.body_at+it.body_len : it.body_at+it.body_len]
+		h.Stanzas[i] = Stanza{Type: words[0], Args: words[1:], Body: body}
 	}
 	return answer
 }

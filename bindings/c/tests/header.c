@@ -1,12 +1,15 @@
-/* Looks at headers that are made here of known stanzas, at each of their cuts, and at faulty ones, by age_c_header and age_c_stanza. */
+/* Looks at headers that are made here of known stanzas, at each of their cuts, at faulty ones, and at one of many stanzas, by age_c_header
+ * and age_c_stanzas. */
 #include "age_c.h"
 
 #include <stdio.h>
 #include <stdlib.h>
 #include <string.h>
+#include <time.h>
 
 #define SALT "AAAAAAAAAAAAAAAAAAAAAA"
 #define SHARE "Y4OC5dPKQNGTlZbR6ZAEl/zzlXpPdeDUc++aVmZwUho"
+#define MANY ((size_t)20000)
 
 struct stanza {
     const char *args;
@@ -14,7 +17,9 @@ struct stanza {
 };
 
 static int failed;
-static uint8_t front[1 << 16], out[1 << 16];
+static uint8_t front[AGE_C_FRONT_MAX], out[AGE_C_FRONT_MAX];
+static age_c_stanza places[MANY];
+static const size_t looked = 16 * sizeof *places; /* bytes of them, more than the small headers have */
 static size_t len;
 
 static void see(int holds, const char *what) {
@@ -49,33 +54,52 @@ static void make(const struct stanza *stanzas, size_t count) {
 }
 
 /* what a call answers about the first `have` bytes, which told nothing */
-static uint32_t refused(size_t have, size_t index) {
-    size_t header_len = 77, count = 77, at = 77, args_len = 77, written = 77;
+static uint32_t refused(size_t have) {
+    size_t header_len = 77, count = 77, told = 77, written = 77;
     uint32_t work = 77, answer = age_c_header(have ? front : NULL, have, &header_len, &count, &work);
     see(answer != 0 && header_len == 0 && count == 0 && work == 0, "a refusal tells nothing");
-    see(age_c_stanza(have ? front : NULL, have, index, &at, &args_len, out, sizeof out, &written) == answer && at == 0 && args_len == 0
-            && written == 0, "a stanza is refused as the header is");
+    see(age_c_stanzas(have ? front : NULL, have, places, MANY, &told, out, sizeof out, &written) == answer && told == 0 && written == 0,
+        "the stanzas are refused as the header is");
     return answer;
 }
 
+static void is_stanza(const struct stanza *stanza, const age_c_stanza *it) {
+    see(it->args_len == strlen(stanza->args) && memcmp(front + it->args_at, stanza->args, it->args_len) == 0, "its arguments");
+    see(memcmp(front + it->args_at - 3, "-> ", 3) == 0 && front[it->args_at + it->args_len] == '\n', "where they stand");
+    see(it->body_len == stanza->body_len, "how long its body is");
+    for (size_t i = 0; i < it->body_len; i++) see(out[it->body_at + i] == (i + 1) % 256, "its body");
+}
+
+/* what an answer of 255 leaves: `room` bytes, and places */
+static void is_misused(size_t more, size_t most, size_t room) {
+    size_t told = 77, written = 77;
+    memset(places, 99, looked);
+    memset(out, 99, room);
+    see(age_c_stanzas(front, more, places, most, &told, out, room, &written) == AGE_C_MISUSED && told == 0 && written == 0, "too little room");
+    for (size_t i = 0; i < looked; i++) see(((uint8_t *)places)[i] == 99, "no place is told");
+    for (size_t i = 0; i < room; i++) see(out[i] == 99, "no body is told");
+}
+
 static void is_told(const struct stanza *stanzas, size_t count, uint32_t work) {
-    size_t header_len = 77, told = 77, at = 77, args_len = 77, written = 77, more = len;
+    size_t header_len = 77, told = 77, written = 77, more = len, bodies = 0;
     uint32_t told_work = 77;
     make(stanzas, count);
+    for (size_t i = 0; i < count; i++) bodies += stanzas[i].body_len;
     for (more = len; more < len + 20; more += 19) {
         see(age_c_header(front, more, &header_len, &told, &told_work) == 0 && header_len == len && told == count, "a header is told");
         if (told_work != work) printf("%s: work %u, not %u\n", stanzas[0].args, told_work, work), failed = 1;
-        for (size_t i = 0; i < count; i++) {
-            memset(out, 99, sizeof out);
-            see(age_c_stanza(front, more, i, &at, &args_len, out, more, &written) == 0, "a stanza is told");
-            see(args_len == strlen(stanzas[i].args) && memcmp(front + at, stanzas[i].args, args_len) == 0, "its arguments");
-            see(memcmp(front + at - 3, "-> ", 3) == 0 && front[at + args_len] == '\n', "where they stand");
-            see(written == stanzas[i].body_len, "how long its body is");
-            for (size_t j = 0; j < sizeof out; j++) see(out[j] == (j < written ? (j + 1) % 256 : 99), "its body");
+        for (size_t most = count; most < count + 2; most++) {
+            memset(places, 99, looked);
+            memset(out, 99, more);
+            see(age_c_stanzas(front, more, places, most, &told, out, more, &written) == 0 && told == count, "all stanzas are told");
+            for (size_t i = 0; i < count; i++) is_stanza(&stanzas[i], &places[i]);
+            for (size_t i = count * sizeof *places; i < looked; i++) see(((uint8_t *)places)[i] == 99, "a place past the last");
+            see(written == bodies, "how long all bodies are");
+            for (size_t i = written; i < more; i++) see(out[i] == 99, "a byte past the bodies");
         }
-        see(age_c_stanza(front, more, count, &at, &args_len, out, more, &written) == AGE_C_MISUSED && at == 0, "past the last");
-        see(age_c_stanza(front, more, SIZE_MAX, &at, &args_len, out, more, &written) == AGE_C_MISUSED, "past all");
-        see(age_c_stanza(front, more, 0, &at, &args_len, out, more - 1, &written) == AGE_C_MISUSED && written == 0, "too little room");
+        is_misused(more, count - 1, more);
+        is_misused(more, 0, more);
+        is_misused(more, count, more - 1);
     }
 }
 
@@ -95,6 +119,20 @@ static void work_factors(void) {
     is_told(two, 2, 0);
 }
 
+/* A header of many stanzas is told in a moment: to read the whole header for each of them would take minutes. */
+static void many(void) {
+    static struct stanza stanzas[MANY];
+    static const struct stanza kinds[] = {{"a", 3}, {"b c", 0}, {"d", 48}};
+    size_t told = 77, written = 77;
+    clock_t begin;
+    for (size_t i = 0; i < MANY; i++) stanzas[i] = kinds[i % 3];
+    make(stanzas, MANY);
+    begin = clock();
+    see(age_c_stanzas(front, len, places, MANY, &told, out, len, &written) == 0 && told == MANY, "many stanzas are told");
+    see(clock() - begin < 20 * CLOCKS_PER_SEC, "they are told in a moment");
+    for (size_t i = 0; i < MANY; i++) is_stanza(&stanzas[i], &places[i]);
+}
+
 int main(void) {
     static const struct stanza all[] = {
         {"X25519 " SHARE, 32}, {"a", 0}, {"!~ -> --- ~", 1}, {"p256tag AAAA BBBB", 47}, {"b", 48}, {"c d e f g h i j k", 49}, {"d", 96},
@@ -102,16 +140,17 @@ int main(void) {
     };
     work_factors();
     for (size_t count = 1; count <= sizeof all / sizeof *all; count++) is_told(all, count, 0);
-    for (size_t have = 0; have < len; have++) see(refused(have, have % 9) == AGE_C_MORE, "a header that is cut");
+    for (size_t have = 0; have < len; have++) see(refused(have) == AGE_C_MORE, "a header that is cut");
     make(all, 1);
     front[len - 2] = 'B'; /* a bit that the base64 leaves unused */
-    see(refused(len, 0) == AGE_C_BAD_END_LINE, "an end line that is faulty");
+    see(refused(len) == AGE_C_BAD_END_LINE, "an end line that is faulty");
     make(all, 0);
-    see(refused(len, 0) == AGE_C_NO_STANZA, "no stanza");
+    see(refused(len) == AGE_C_NO_STANZA, "no stanza");
     make(&(const struct stanza){"a  b", 0}, 1);
-    see(refused(len, 0) == AGE_C_BAD_STANZA_LINE, "two spaces");
+    see(refused(len) == AGE_C_BAD_STANZA_LINE, "two spaces");
     front[0] = 'b';
-    see(refused(len, 0) == AGE_C_NOT_AGE, "no age file");
+    see(refused(len) == AGE_C_NOT_AGE, "no age file");
+    many();
     printf("%s\n", failed ? "failed" : "passed");
     return failed;
 }

@@ -132,8 +132,8 @@ static int opens(void) {
         right = answer == AGE_C_MORE && at == 0 && count == 0 && work == 0;
         break;
     case 5:
-        answer = age_c_stanza(front, front_len, number, &at, &count, out, room, &written);
-        right = answer == (room < front_len ? AGE_C_MISUSED : AGE_C_MORE) && at == 0 && count == 0 && written == 0 && is_untouched(out, room);
+        answer = age_c_stanzas(front, front_len, NULL, 0, &count, out, room, &written);
+        right = answer == (room < front_len ? AGE_C_MISUSED : AGE_C_MORE) && count == 0 && written == 0 && is_untouched(out, room);
         break;
     case 0:
         answer = age_c_open_passphrase(front, front_len, a, a_len, number, &reader);

@@ -44,6 +44,7 @@ static size_t len;
 static const uint8_t key[16] = {7, 7, 7, 7, 7, 7, 7, 7, 7, 7, 7, 7, 7, 7, 7, 7}, pass[2] = {'p', 'w'}, noise[48] = {1, 2, 3};
 static age_c_reader reader;
 static age_c_writer writer;
+static age_c_stanza places[2];
 static size_t written, at, size;
 static uint32_t work;
 
@@ -52,11 +53,12 @@ static uint32_t call(int which) {
     memset(&reader, 9, sizeof reader);
     memset(&writer, 9, sizeof writer);
     memset(out, 9, sizeof out);
+    memset(places, 9, sizeof places);
     switch (which) {
     case 0: return age_c_open_passphrase(file, len, pass, sizeof pass, 22, &reader);
     case 1: return age_c_open_key(file, len, key, sizeof key, &reader);
     case 2: return age_c_header(file, len, &at, &size, &work);
-    case 3: return age_c_stanza(file, sizeof out, 0, &at, &size, out, sizeof out, &written);
+    case 3: return age_c_stanzas(file, sizeof out, places, 2, &size, out, sizeof out, &written);
     default: return age_c_seal_passphrase(pass, sizeof pass, 1, noise, sizeof noise, out, sizeof out, &written, &writer);
     }
 }
@@ -68,7 +70,7 @@ static int is_untouched(const void *at, size_t size) {
 }
 
 int main(int argc, char **argv) {
-    static const char *const names[] = {"open_passphrase", "open_key", "header", "stanza", "seal_passphrase"};
+    static const char *const names[] = {"open_passphrase", "open_key", "header", "stanzas", "seal_passphrase"};
     FILE *in = argc == 2 ? fopen(argv[1], "rb") : NULL;
     int passed = 0, failed = 0;
     if (in == NULL) return 2;
@@ -82,7 +84,7 @@ int main(int argc, char **argv) {
             for (refused_at = 1; refused_at <= all; refused_at++) {
                 uint32_t answer = call(which);
                 if (answer != 28 || live != 0 || !is_untouched(&reader, sizeof reader) || !is_untouched(&writer, sizeof writer)
-                    || !is_untouched(out, sizeof out)) {
+                    || !is_untouched(out, sizeof out) || !is_untouched(places, sizeof places)) {
                     printf("%s: allocation %ld of %ld: answer %u, %ld live\n", names[which], refused_at, all, answer, live);
                     right = 0;
                 }

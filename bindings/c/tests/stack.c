@@ -16,7 +16,8 @@
 #define CALLS 15
 
 static uint8_t file[AGE_C_FRONT_MAX], big[AGE_C_FRONT_MAX], out[AGE_C_BLOCK], key[32], noise[48];
-static size_t len, written, taken, args_len;
+static age_c_stanza places[9];
+static size_t len, written, taken;
 static uint32_t work;
 static age_c_reader reader;
 static age_c_writer writer;
@@ -41,7 +42,7 @@ static void *call(void *which) {
     case 10: answer = age_c_may_open(file, len, 1); break;
     case 11: answer = age_c_open_at(&reader, 3, file, 400, out, sizeof out, &written); break;
     case 12: answer = age_c_header(file, len, &written, &taken, &work); break;
-    case 13: answer = age_c_stanza(file, len, 0, &taken, &args_len, big, sizeof big, &written); break;
+    case 13: answer = age_c_stanzas(file, len, places, 9, &taken, big, sizeof big, &written); break;
     default: answer = age_c_finish(&stream, out, sizeof out, &written); break;
     }
     return NULL;

@@ -3,13 +3,13 @@ from __future__ import annotations
 
 import builtins
 import os
-import re
 from typing import Any, NamedTuple
 
 from ._arguments import KEY
 from ._library import Bytes, C, ReaderState
 from ._reader import header_of
 from ._source import can_seek
+from ._stanzas import told_of
 
 MAC_MISMATCH = 14
 
@@ -49,8 +49,6 @@ def _parsed(front: Any, _: ReaderState) -> int:
 
 def _inspected(front: bytes) -> Inspection:
     """The same of the bytes that a file with a well-formed header begins with."""
-    end = front.index(b"\n", front.index(b"\n---") + 1) + 1
-    lines = [it.decode().split(" ") for it in re.findall(rb"^-> (.*)$", front[:end], re.M)]
-    logs = [it[2] for it in lines if it[0] == "scrypt" and len(it) == 3]
-    work = int(logs[0]) if logs and re.fullmatch("[1-9][0-9]?", logs[0]) else None
-    return Inspection([Stanza(it[0], it[1:]) for it in lines], work, end)
+    told = told_of(front)
+    words = [args.decode().split(" ") for args, _ in told.stanzas]
+    return Inspection([Stanza(it[0], it[1:]) for it in words], told.work or None, told.size)

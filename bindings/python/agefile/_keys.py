@@ -4,12 +4,12 @@ from __future__ import annotations
 
 import base64
 import os
-import re
 import subprocess
 from collections.abc import Callable, Iterable, Iterator
 from typing import Tuple
 
 from ._library import Bytes, C, Opened, ReaderState
+from ._stanzas import base64_of, told_of
 
 Pair = Tuple[bytes, bytes]  # a shared secret, and the recipient that it is for
 
@@ -17,7 +17,7 @@ WRONG_KEY = 13
 NOTHING = bytes([1]) * 32, bytes(32)
 NINE = bytes([9]) + bytes(31)  # the point whose X25519 with a secret is the recipient, or the share
 LETTERS = "qpzry9x8gf2tvdw0s3jn54khce6mua7l"
-STANZA = re.compile(rb"^-> X25519 ([A-Za-z0-9+/]{43})\n[A-Za-z0-9+/]{43}$", re.M)
+KIND = b"X25519 "  # what the arguments of a stanza for a key begin with; the share follows
 
 
 def bech32_decoded(text: str) -> tuple[str, bytes]:
@@ -136,8 +136,8 @@ def by_openssl(secret: bytes, point: bytes) -> bytes:
 
 def _pairs(identities: Iterable[str], front: bytes) -> Iterator[tuple[Pair, bytes]]:
     """The shared secret and the recipient of each X25519 stanza of a header, for each key, and a header of that stanza alone."""
-    found = [(base64.b64decode(it[1] + b"="), b"age-encryption.org/v1\n%b\n--- %b\n%b" % (it[0], b"A" * 43, bytes(16)))
-             for it in STANZA.finditer(front.partition(b"\n---")[0])]
+    found = [(base64.b64decode(args[len(KIND):] + b"="), b"age-encryption.org/v1\n-> %b\n%b\n--- %b\n%b" % (args, base64_of(body), b"A" * 43, bytes(16)))
+             for args, body in told_of(front).stanzas if args.startswith(KIND)]
     for identity in identities:
         exchanged = x25519_of(secret_of(identity))
         recipient = exchanged(NINE)

@@ -81,6 +81,11 @@ def again(fault: Exception) -> Exception:
     return type(fault)(*fault.args)
 
 
+class StanzaPlace(ctypes.Structure):
+    """age_c_stanza of age_c.h."""
+    _fields_ = [(it, ctypes.c_size_t) for it in ("args_at", "args_len", "body_at", "body_len")]
+
+
 class ReaderState(ctypes.Structure):
     """age_c_reader of age_c.h."""
     _fields_ = [
@@ -132,6 +137,8 @@ def _library() -> ctypes.CDLL:
     write_stream = ctypes.POINTER(WriteStreamState)
     functions: dict[str, list[Any]] = {
         "age_c_version": [],
+        "age_c_header": given + [count, count, ctypes.POINTER(number)],
+        "age_c_stanzas": given + [ctypes.POINTER(StanzaPlace), size, count] + given + [count],
         "age_c_open_passphrase": given + given + [number, reader],
         "age_c_open_key": given + given + [reader],
         "age_c_open_shared": given + given + given + [reader],

@@ -3,7 +3,6 @@ and the header (https://c2sp.org/age). The proved library reads the header back 
 what is left to trust is which share and which secret X25519 gives."""
 from __future__ import annotations
 
-import base64
 import hmac
 import os
 from collections.abc import Iterable
@@ -11,6 +10,7 @@ from collections.abc import Iterable
 from ._arguments import work_factor
 from ._keys import NINE, Pair, bech32_decoded, by_shared, lines_of, x25519_of
 from ._library import FRONT_MAX, Bytes, C, ReaderState, fault_of
+from ._stanzas import base64_of
 from ._writer import Begun, begun
 
 LENGTH = 62  # of a recipient
@@ -66,11 +66,6 @@ def stanza_of(point: bytes, file_key: bytes) -> tuple[bytes, Pair]:
 def hkdf(secret: bytes, salt: bytes, info: bytes) -> bytes:
     """32 bytes of HKDF-SHA256 (RFC 5869)."""
     return hmac.digest(hmac.digest(salt, secret, "sha256"), info + b"\1", "sha256")
-
-
-def base64_of(held: bytes) -> bytes:
-    """The base64 of 32 bytes, without padding: less than a line of 64."""
-    return base64.b64encode(held).rstrip(b"=")
 
 
 def front_of(stanzas: Iterable[bytes], file_key: bytes, nonce: bytes) -> bytes:

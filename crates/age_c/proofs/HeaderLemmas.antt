@@ -1,11 +1,11 @@
 -- What is told of a header and its stanzas.
-use Rattle.std.proofs.Common.{◌≡◌, ℕ, ◌+◌, ◌-◌, ◌<◌, ◌≤◌, List, [], ◌∷◌, ◌++◌, length, get_or, take, drop, min, Option, Some, None, refl, sym, ap, ◌∙◌, arith}
+use Rattle.std.proofs.Common.{◌≡◌, ℕ, ◌+◌, ◌-◌, ◌<◌, ◌≤◌, List, [], ◌∷◌, ◌++◌, length, take, drop, min, Option, Some, None, refl, sym, ap, ◌∙◌, arith}
 use Rattle.std.specs.Prelude.{codes, IfSome, IfNone}
 use Rattle.std.specs.Option.{unwrap_or}
 use Rattle.std.specs.List.{flat_map, AllByRecursion}
-use Rattle.std.proofs.lemmas.List.{append_assoc, drop_at, drop_more, length-append, length-take, take_at, take-append-drop}
+use Rattle.std.proofs.lemmas.List.{append_assoc, drop_at, length-append, take_at, take-append-drop}
 use Rattle.std.proofs.lemmas.List.Concat.{flat_map-append}
-use Rattle.age_stanza.specs.Grammar.{IsStanza, argument_line, end_line, head_text, header_limit, in_lines, line, stanza_text, version}
+use Rattle.age_stanza.specs.Grammar.{IsStanza, argument_line, end_line, head_text, in_lines, line, stanza_text, version}
 use Rattle.age_stanza.specs.Parsing.{stanzas_text}
 use Rattle.age_stanza.specs.Text.{base64_text}
 use Rattle.age_stanza.specs.declared.header.Header.{Header}
@@ -60,11 +60,6 @@ body_within body =
 
 -- ---- where a stanza stands
 
-pub parts_at : (ss : List Stanza) (i : ℕ) (s : Stanza) → i < length ss → s ≡ get_or ss i s → ss ≡ take i ss ++ s ∷ drop (i + 1) ss
-parts_at ss i s lt is =
-    sym (take-append-drop i ss)
-    ∙ ap (λ (t : List Stanza). take i ss ++ t) (drop_more ss i s lt ∙ ap (λ (t : Stanza). t ∷ drop (i + 1) ss) (sym is))
-
 -- a header's text: what is before a stanza, its text, and what follows
 pub head_parts : (h : Header) (before after : List Stanza) (s : Stanza) → h.stanzas ≡ before ++ s ∷ after
     → head_text h ≡ stanzas_text before ++ (stanza_text s ++ (flat_map stanza_text after ++ line (end_line h.mac)))
@@ -84,9 +79,6 @@ spaced_is : (args : List (List ℕ)) → 0 < length args → spaced args ≡ 32 
 spaced_is [] some = absurd (omega arith)
 spaced_is (a ∷ args) some = refl
 
-pub some_spaced : (args : List (List ℕ)) → 0 < length args → 1 ≤ length (spaced args)
-some_spaced args some = omega (arith, ap length (spaced_is args some))
-
 -- a stanza's text begins with its mark and they follow
 marked : (args : List (List ℕ)) (w lines more : List ℕ) → spaced args ≡ 32 ∷ w
     → (line (argument_line args) ++ lines) ++ more ≡ codes "-> " ++ (w ++ ((10 ∷ lines) ++ more))
@@ -105,42 +97,14 @@ args_there front lines letters rest at e is = (
   omega (arith, ap length e, length-append lines (letters ++ rest), length-append letters rest),
 )
 
--- a stanza of a header that the bytes begin with, and how long it is
-pub record IsWithin (front : List ℕ) (h : Header) (index : ℕ) (s : Stanza) : Type 0 where
-  pub some : 0 < length s.args
-  pub limit : length (stanzas_text (take index h.stanzas)) + length (stanza_text s) ≤ header_limit
-  pub fits : length (stanzas_text (take index h.stanzas)) + length (stanza_text s) ≤ length front
-
-pub is_within : (front : List ℕ) (h : Header) (len index : ℕ) (s : Stanza) → HasHead front h len
-    → index < length h.stanzas → s ≡ get_or h.stanzas index s → IsWithin front h index s
-is_within front h len index s has lt is =
-    let before : List Stanza = take index h.stanzas in
-    let after : List Stanza = drop (index + 1) h.stanzas in
-    let parts = parts_at h.stanzas index s lt is in
-    let rest : List ℕ = flat_map stanza_text after ++ line (end_line h.mac) in
-    let size : length (take len front) ≡ length (stanzas_text before) + (length (stanza_text s) + length rest) =
-    ap length (has.text.spells.bytes_are ∙ head_parts h before after s parts)
-    ∙ (length-append (stanzas_text before) (stanza_text s ++ rest)
-    ∙ ap (λ (n : ℕ). length (stanzas_text before) + n) (length-append (stanza_text s) rest)) in
-    let limit = has.text.within in
-    let all = length-take len front in
-    let valid : AllByRecursion IsStanza (before ++ s ∷ after) = rw (← parts) has.text.spells.valid.stanzas in
-    record {
-      some = (All-back IsStanza before (s ∷ after) valid).0.some_argument;
-      limit = omega arith;
-      fits = omega arith;
-    }
-
 -- what is told of it
-pub has_stanza : (front : List ℕ) (h : Header) (len index : ℕ) (s : Stanza) (args_at args_len : ℕ) (body : List ℕ) → HasHead front h len
-    → index < length h.stanzas → s ≡ get_or h.stanzas index s
-    → args_at ≡ length (stanzas_text (take index h.stanzas)) + 3 → args_len ≡ length (spaced s.args) - 1 → body ≡ s.body
-    → HasStanza front h index args_at args_len body
-has_stanza front h len index s args_at args_len body has lt is at_is len_is body_is =
-    let before : List Stanza = take index h.stanzas in
-    let after : List Stanza = drop (index + 1) h.stanzas in
-    let parts = parts_at h.stanzas index s lt is in
-    let spaces = spaced_is s.args (is_within front h len index s has lt is).some in
+pub has_stanza : (front : List ℕ) (h : Header) (len : ℕ) (before after : List Stanza) (s : Stanza) (args_at args_len : ℕ) (body : List ℕ)
+    → HasHead front h len → h.stanzas ≡ before ++ s ∷ after
+    → args_at ≡ length (stanzas_text before) + 3 → args_len ≡ length (spaced s.args) - 1 → body ≡ s.body
+    → HasStanza front h (length before) args_at args_len body
+has_stanza front h len before after s args_at args_len body has parts at_is len_is body_is =
+    let valid : AllByRecursion IsStanza (before ++ s ∷ after) = rw (← parts) has.text.spells.valid.stanzas in
+    let spaces = spaced_is s.args (All-back IsStanza before (s ∷ after) valid).0.some_argument in
     let rest : List ℕ = flat_map stanza_text after ++ line (end_line h.mac) in
     let behind : List ℕ = (10 ∷ in_lines (base64_text s.body)) ++ (rest ++ drop len front) in
     let text : front ≡ (stanzas_text before ++ codes "-> ") ++ (letters s.args ++ behind) =
@@ -160,7 +124,7 @@ has_stanza front h len index s args_at args_len body has lt is at_is len_is body
       stanza = s;
       after = after;
       parts = parts;
-      index_is = omega (arith, length-take index h.stanzas);
+      index_is = refl;
       at = at_is;
       args = ap (λ (n : ℕ). 32 ∷ take n (drop args_at front)) length_is ∙ ap (λ (t : List ℕ). 32 ∷ t) there.0 ∙ sym spaces;
       within = omega (arith, length_is, there.1);

@@ -10,4 +10,5 @@ pub mod FrontLemmas
 pub mod FrontSizeLemmas
 pub mod SeekLemmas
 pub mod HeaderLemmas
+pub mod StanzaPlaceLemmas
 pub mod UndamagedOpeningLemmas

@@ -47,11 +47,11 @@ answer_of state = if nat_le 17 state && nat_le state 22 then state else 0
 -- ---- Which number a call answers with, what it says of the call, and what a file's length says of its
 -- text.
 
--- this many bytes were put at the front of a slice, whose bytes were `before`, and are `after`
-pub record PutsFront (count : ℕ) (before after : List ℕ) : Type 0 where
+-- this many bytes or places were put at the front of a slice, which was `before`, and is `after`
+pub record PutsFront {Item : Type 0} (count : ℕ) (before after : List Item) : Type 0 where
   -- they fit
   pub most : count ≤ length after
-  -- the bytes after them are as they were
+  -- what is after them is as it was
   pub rest : drop count after ≡ drop count before
 
 -- what the answer of a call means that was given a reader or writer, which was `old` and is `new`,

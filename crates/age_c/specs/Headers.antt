@@ -7,6 +7,7 @@ use Rattle.age_stanza.specs.declared.header.Stanza.{Stanza}
 use Rattle.age_keys.specs.Scrypt.{OnlyScrypt}
 use Rattle.age_c.specs.Calls.{misused}
 use Rattle.age_c.specs.Readers.{HasHead, HasNoHead, start_fault_number}
+use Rattle.age_c.specs.declared.stanza_place.StanzaPlace.{StanzaPlace}
 use Rattle.age_c.specs.declared.start.StartFault.{StartFault}
 
 -- the answer is that of no header: more bytes are needed, or it is faulty, or took too much memory
@@ -47,14 +48,34 @@ pub record HasStanza (front : List ℕ) (header : Header) (index args_at args_le
   pub within : args_at + args_len ≤ length front
   pub body_is : body ≡ stanza.body
 
--- what an answer tells of a stanza. `room` is that for the body's bytes
-pub record TellsStanza (front : List ℕ) (index room answer args_at args_len : ℕ)
-    (body : List ℕ) : Type 0 where
+-- ---- All stanzas.
+
+-- the bodies of stanzas, one after the other
+abbrev pub bodies_of : List Stanza → List ℕ
+bodies_of stanzas = flat_map (λ (s : Stanza). s.body) stanzas
+
+-- the places are those of the header's stanzas, of all of them in their order, and `bodies` are the
+-- bytes of their bodies
+pub record HasStanzas (front : List ℕ) (header : Header) (places : List StanzaPlace) (bodies : List ℕ)
+    : Type 0 where
+  pub all : length places ≡ length header.stanzas
+  pub bodies_are : bodies ≡ bodies_of header.stanzas
+  -- the place of an index is that of the stanza of this index, and its body is within the bodies
+  pub each : (before : List StanzaPlace) (it : StanzaPlace) (after : List StanzaPlace)
+      → places ≡ before ++ it ∷ after
+      → HasStanza front header (length before) it.args_at it.args_len
+      (take it.body_len (drop it.body_at bodies))
+      × (it.body_at + it.body_len ≤ length bodies)
+
+-- what an answer tells of a header's stanzas. `most` is the room for their places, and `room` that
+-- for the bytes of their bodies
+pub record TellsStanzas (front : List ℕ) (most room answer : ℕ) (places : List StanzaPlace)
+    (bodies : List ℕ) : Type 0 where
   pub told : answer ≡ 0 → (header : Header) × (len : ℕ) × HasHead front header len
-      × HasStanza front header index args_at args_len body
+      × HasStanzas front header places bodies
   pub room_is : room < length front → answer ≡ misused
-  -- 255 says that there is less room than bytes, or that the header has no such stanza
+  -- 255 says that there is less room than bytes, or than stanzas
   pub misused_is : answer ≡ misused → (room < length front)
-      ⊎ ((header : Header) × (len : ℕ) × HasHead front header len × (length header.stanzas ≤ index))
+      ⊎ ((header : Header) × (len : ℕ) × HasHead front header len × (most < length header.stanzas))
   pub refused : answer ≢ 0 → answer ≢ misused → IsHeadRefusal front answer
-  pub nothing : answer ≢ 0 → (args_at ≡ 0) × (args_len ≡ 0) × (body ≡ [])
+  pub nothing : answer ≢ 0 → (places ≡ []) × (bodies ≡ [])

@@ -3,3 +3,4 @@ pub mod Holding
 pub mod Counts
 pub mod Keys
 pub mod Sealing
+pub mod StanzaPlaces

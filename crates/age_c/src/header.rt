@@ -2,12 +2,12 @@
 
 ghost use Rattle.std.specs.Prelude.{length, take};
 ghost use Rattle.age_c.specs.Calls.{PutsFront};
-ghost use Rattle.age_c.specs.Headers.{TellsHeader, TellsStanza};
+ghost use Rattle.age_c.specs.Headers.{TellsHeader, TellsStanzas};
 
 use crate::MISUSED;
-use crate::blocks::put;
+use crate::stanza_place::StanzaPlace;
+use crate::stanzas::{put_bodies, put_places};
 use crate::start::head_of;
-use crate::text_len::{args_len as spaced_len, stanzas_len};
 use crate::work::work_of;
 use std::alloc::Global;
 
@@ -38,25 +38,24 @@ pub extern "C" fn age_c_header(
     }
 }
 
-/// Where the arguments of a stanza stand in `front`, with one space between two of them, by its
-/// index in the header that `front` begins with. The bytes of its body are put into `out`, which
-/// has room for as many bytes as `front` has or more.
+/// Tells of all stanzas of the header that `front` begins with where they stand: the first `count`
+/// of `places` say where their arguments do in `front`, and their bodies in `out`, which has room
+/// for as many bytes as `front` has or more. There is room for all places, or none is told.
 #[unsafe(no_mangle)]
-pub extern "C" fn age_c_stanza(
+pub extern "C" fn age_c_stanzas(
     alloc: Global,
     front: &[u8],
-    index: usize,
-    args_at: &mut usize,
-    args_len: &mut usize,
+    places: &mut [StanzaPlace],
+    count: &mut usize,
     out: &mut [u8],
     written: &mut usize,
 ) -> u32
-    ensures tells { TellsStanza front.now index (length out.old) result args_at.new args_len.new
-        (take written.new out.new) }
+    ensures tells { TellsStanzas front.now (length places.old) (length out.old) result
+        (take count.new places.new) (take written.new out.new) }
+    ensures placed { PutsFront count.new places.old places.new }
     ensures put { PutsFront written.new out.old out.new }
 {
-    *args_at = 0;
-    *args_len = 0;
+    *count = 0;
     *written = 0;
     if out.len() < front.len() {
         return MISUSED;
@@ -66,13 +65,11 @@ pub extern "C" fn age_c_stanza(
         Err(fault) => return fault.number(),
     };
     let stanzas = head.header.stanzas.as_slice();
-    if index >= stanzas.len() {
+    if places.len() < stanzas.len() {
         return MISUSED;
     }
-    let stanza = &stanzas[index];
-    let mark_len = 3;
-    *args_at = stanzas_len(&stanzas[..index]) + mark_len;
-    *args_len = spaced_len(stanza.args.as_slice()) - 1;
-    *written = put(stanza.body.as_slice(), out);
+    put_places(stanzas, places);
+    *count = stanzas.len();
+    *written = put_bodies(stanzas, out);
     0
 }

@@ -25,6 +25,8 @@ mod seal;
 mod sealing;
 mod seek;
 mod size;
+mod stanza_place;
+mod stanzas;
 mod start;
 mod stream;
 mod text_len;
@@ -35,7 +37,7 @@ mod writer;
 pub use again::age_c_may_open;
 pub use feed::{age_c_feed, age_c_finish};
 pub use feed_text::{age_c_feed_text, age_c_finish_text};
-pub use header::{age_c_header, age_c_stanza};
+pub use header::{age_c_header, age_c_stanzas};
 pub use laws::{
     answers_are_calls, answers_are_feed_calls, answers_are_text_calls, calls_are_written,
     feeds_are_written, openings_are_parts, parts_are_written, pieces_read_back, texts_are_files,
@@ -48,6 +50,7 @@ pub use reader::Reader;
 pub use seal::age_c_seal_passphrase;
 pub use seek::age_c_seek;
 pub use size::age_c_size;
+pub use stanza_place::StanzaPlace;
 pub use stream::Stream;
 pub use write_stream::WriteStream;
 pub use writer::Writer;

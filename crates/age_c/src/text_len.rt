@@ -3,7 +3,6 @@
 ghost use Rattle.std.specs.Prelude.{◌≡◌, ◌≤◌, ◌∷◌, length};
 ghost use Rattle.std.specs.List.{flat_map};
 ghost use Rattle.age_stanza.specs.Grammar.{header_limit, in_lines, stanza_text};
-ghost use Rattle.age_stanza.specs.Parsing.{stanzas_text};
 ghost use Rattle.age_stanza.specs.Text.{base64_text};
 
 use age_stanza::{Argument, Stanza};
@@ -30,22 +29,10 @@ fn body_len(body: &[u8]) -> usize
 }
 
 /// How many bytes a stanza takes.
-fn stanza_len(stanza: &Stanza) -> usize
+pub(crate) fn stanza_len(stanza: &Stanza) -> usize
     requires { length (stanza_text stanza.now) ≤ header_limit }
     ensures { result ≡ length (stanza_text stanza.now) }
 {
     let mark_and_line_end = 3;
     mark_and_line_end + args_len(stanza.args.as_slice()) + body_len(stanza.body.as_slice())
-}
-
-/// How many bytes the version line and these stanzas take.
-pub(crate) fn stanzas_len(stanzas: &[Stanza]) -> usize
-    requires { length (stanzas_text stanzas.now) ≤ header_limit }
-    ensures { result ≡ length (stanzas_text stanzas.now) }
-{
-    let mut len = 22;
-    for stanza in stanzas {
-        len += stanza_len(stanza);
-    }
-    len
 }

@@ -17,6 +17,18 @@ pub const AGE_C_MORE: u32 = 254;
 /// The call was misused.
 pub const AGE_C_MISUSED: u32 = 255;
 
+/// Where a stanza of a header stands: `age_c_stanza`.
+#[repr(C)]
+#[derive(Clone, Copy, Default)]
+pub struct AgeCStanza {
+    /// Offset of its arguments in the bytes of the file.
+    pub args_at: usize,
+    pub args_len: usize,
+    /// Offset of its body in what was written.
+    pub body_at: usize,
+    pub body_len: usize,
+}
+
 /// Where a file is being read: `age_c_reader`.
 #[repr(C)]
 #[derive(Clone, Default)]
@@ -103,12 +115,12 @@ extern "C" {
         stanzas: *mut usize,
         work: *mut u32,
     ) -> u32;
-    pub fn age_c_stanza(
+    pub fn age_c_stanzas(
         front: *const u8,
         front_len: usize,
-        index: usize,
-        args_at: *mut usize,
-        args_len: *mut usize,
+        stanzas: *mut AgeCStanza,
+        stanzas_len: usize,
+        count: *mut usize,
         out: *mut u8,
         out_len: usize,
         written: *mut usize,

@@ -2,12 +2,8 @@
 
 use crate::reader::read_front;
 use crate::AgeError;
-use age_c_sys::{age_c_header, age_c_stanza};
+use age_c_sys::{age_c_header, age_c_stanzas, AgeCStanza};
 use std::io::{self, Chain, Cursor, Read};
-
-/// How many bytes of headers are read for the stanzas of one: each is found by reading all of it,
-/// and a hostile header has 174,000.
-const MOST_READ: usize = 16 << 20;
 
 /// What the header of a file says, before anything is opened. Nobody has confirmed it: whoever can
 /// change the file can change it.
@@ -18,9 +14,7 @@ pub struct Header {
     pub len: usize,
     /// The work factor that it demands of a passphrase; 0 if no passphrase opens the file.
     pub work: u32,
-    /// How many stanzas it has.
-    pub count: usize,
-    /// The stanzas: all of them, of some 400 recipients or fewer; else only the first.
+    /// Its stanzas, of which a hostile header has up to 174,000.
     pub stanzas: Vec<Stanza>,
 }
 
@@ -65,44 +59,51 @@ impl Header {
 
     /// Takes what the header says that these bytes begin with.
     fn look(&mut self, front: &[u8]) -> u32 {
-        let (at, len) = (front.as_ptr(), front.len());
+        let (at, len, mut count) = (front.as_ptr(), front.len(), 0);
         // SAFETY: the slice is as long as it says, and not null; nothing overlaps.
-        let mut answer =
-            unsafe { age_c_header(at, len, &mut self.len, &mut self.count, &mut self.work) };
-        let mut index = 0;
-        while answer == 0 && index < self.count && index * self.len < MOST_READ {
-            answer = self.look_at(&front[..self.len], index);
-            index += 1;
+        let answer = unsafe { age_c_header(at, len, &mut self.len, &mut count, &mut self.work) };
+        if answer != 0 {
+            return answer;
         }
-        answer
+        self.look_at_stanzas(&front[..self.len], count)
     }
 
-    /// Adds a stanza.
-    fn look_at(&mut self, front: &[u8], index: usize) -> u32 {
-        let (mut args_at, mut args_len, mut written) = (0, 0, 0);
-        let mut body = vec![0; front.len()];
+    /// Takes the stanzas of a header that has so many.
+    fn look_at_stanzas(&mut self, front: &[u8], count: usize) -> u32 {
+        let mut places = vec![AgeCStanza::default(); count];
+        let mut bodies = vec![0; front.len()];
+        let (mut told, mut written) = (0, 0);
         // SAFETY: each slice is as long as it says, and none is null; nothing overlaps.
         let answer = unsafe {
-            age_c_stanza(
+            age_c_stanzas(
                 front.as_ptr(),
                 front.len(),
-                index,
-                &mut args_at,
-                &mut args_len,
-                body.as_mut_ptr(),
-                body.len(),
+                places.as_mut_ptr(),
+                places.len(),
+                &mut told,
+                bodies.as_mut_ptr(),
+                bodies.len(),
                 &mut written,
             )
         };
-        if answer == 0 {
-            let line = String::from_utf8_lossy(&front[args_at..args_at + args_len]);
-            let mut words = line.split(' ').map(String::from);
-            self.stanzas.push(Stanza {
-                kind: words.next().unwrap_or_default(),
-                args: words.collect(),
-                body: body[..written].to_vec(),
-            });
-        }
+        let places = &places[..told];
+        self.stanzas = places
+            .iter()
+            .map(|it| Stanza::at(it, front, &bodies))
+            .collect();
         answer
+    }
+}
+
+impl Stanza {
+    /// The stanza that stands there.
+    fn at(it: &AgeCStanza, front: &[u8], bodies: &[u8]) -> Stanza {
+        let line = String::from_utf8_lossy(&front[it.args_at..it.args_at + it.args_len]);
+        let mut words = line.split(' ').map(String::from);
+        Stanza {
+            kind: words.next().unwrap_or_default(),
+            args: words.collect(),
+            body: bodies[it.body_at..it.body_at + it.body_len].to_vec(),
+        }
     }
 }

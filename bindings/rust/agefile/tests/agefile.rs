@@ -86,7 +86,7 @@ fn reads_a_file_for_an_x25519_key() {
     let recipient = bytes_of("ebaa24287c1e692527056fc5ea4806639e8c56c9257e953b6dc556e8be34d20f");
     let (header, _) = Header::read(&data[..]).unwrap();
     let stanza = &header.stanzas[0];
-    assert_eq!((header.count, header.work), (1, 0));
+    assert_eq!((header.stanzas.len(), header.work), (1, 0));
     assert_eq!((stanza.kind.as_str(), stanza.body.len()), ("X25519", 32));
     assert_eq!(stanza.args, ["Y4OC5dPKQNGTlZbR6ZAEl/zzlXpPdeDUc++aVmZwUho"]);
     let opened = |secret: &[u8]| {
@@ -104,7 +104,7 @@ fn reads_a_file_for_an_x25519_key() {
 fn says_what_a_header_says() {
     let data = sealed(b"a text");
     let (header, file) = Header::read(&data[..]).unwrap();
-    assert_eq!((header.work, header.count), (1, 1));
+    assert_eq!((header.work, header.stanzas.len()), (1, 1));
     let stanza = &header.stanzas[0];
     assert_eq!(
         (stanza.kind.as_str(), stanza.args[1].as_str()),
@@ -127,7 +127,7 @@ fn says_what_a_header_says() {
     // (the source gives a byte at a time, and no nonce follows)
     let (header, mut file) = Header::read(Bytewise(data.as_bytes())).unwrap();
     assert_eq!((header.len, header.work), (data.len(), 0));
-    assert_eq!((header.count, header.stanzas.len()), (300, 300));
+    assert_eq!(header.stanzas.len(), 300);
     let stanza = &header.stanzas[299];
     assert_eq!(
         (stanza.kind.as_str(), &stanza.body[..]),
@@ -144,8 +144,11 @@ fn says_what_a_header_says() {
     };
     assert_eq!(number(&data[..data.len() - 1]), 254);
     assert_eq!(number(&of(0)), 6);
+    // (each stanza by reading the whole header would take minutes)
+    let begin = std::time::Instant::now();
     let (header, _) = Header::read(of(20_000).as_bytes()).unwrap();
-    assert_eq!((header.count, header.stanzas.len()), (20_000, 53));
+    assert_eq!(header.stanzas.len(), 20_000);
+    assert!(begin.elapsed().as_secs() < 20);
     assert_eq!(number("not age\n"), 1);
 }
 

@@ -1,0 +1,33 @@
+use Rattle.std.proofs.Common.{ℕ, ◌+◌, ◌++◌, length, set, take, drop, ap, ap₂, ◌∙◌, arith}
+use Rattle.std.proofs.lemmas.List.{drop-set-lt}
+use Rattle.age_stanza.proofs.TextLengthLemmas.{stanza_within}
+use Rattle.age_c.specs.inner.StanzaPlaces.{places_from}
+use Rattle.age_c.proofs.HeaderLemmas.{body_within, length-stanza}
+use Rattle.age_c.proofs.StanzaPlaceLemmas.{place_next, stanzas_next}
+use Rattle.age_c.proofs.stanzas.put_places.Goals as goal
+
+pub overflow_add-body_at : goal.overflow_add-body_at
+overflow_add-body_at c =
+    let s = c.index-stanzas-index.result in
+    let parts = stanza_within c.args.stanzas.now c.loop-index.index s (omega arith) c.index-stanzas-index.is in
+    let whole = length-stanza s in
+    let body = body_within s.body in
+    omega (arith, c.loop-index.invariant.text, c.loop-index.invariant.bodies)
+
+pub loop-index-preserved : goal.loop-index-preserved
+loop-index-preserved c =
+    let s = c.index-stanzas-index.result in
+    let i = c.loop-index.index in
+    let parts = stanzas_next c.args.stanzas.now i s (omega arith) c.index-stanzas-index.is in
+    let whole = length-stanza s in
+    let body = body_within s.body in
+    let was = c.loop-index.invariant in
+    record {
+      text = omega (arith, was.text, parts);
+      bodies = omega (arith, was.bodies);
+      told = ap₂ (λ (n m : ℕ). take (i + 1) (set c.loop-index.places i c.place_of.result)
+          ++ places_from (c.loop-index.at + n) (c.loop-index.body_at + m) (drop (i + 1) c.args.stanzas.now)) c.stanza_len-at.ensures c.len-body_at.ensures
+          ∙ place_next c.loop-index.places _ c.args.stanzas.now i c.loop-index.at c.loop-index.body_at s _ (omega arith) c.index-stanzas-index.is
+          (omega arith) (ap (set c.loop-index.places i) c.place_of.ensures) was.told;
+      after = drop-set-lt (length c.args.stanzas.now) c.loop-index.places i c.place_of.result (omega arith) ∙ was.after;
+    }
