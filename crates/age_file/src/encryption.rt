@@ -67,7 +67,7 @@ fn write_front<O: Sink>(
 /// than 2^64 bytes. What was written by then is a prefix of the age file of what was read. After 26
 /// and 29 its last block is missing, so it is never a whole file of a shorter text.
 ///
-/// `age_tests/src/tests/engines/full_sink.rt` encrypts and resumes over memory.
+/// `age_vectors/src/stops.rt` encrypts, decrypts and resumes over memory.
 pub fn encrypt<S: Source, O: Sink>(
     alloc: Global,
     secret: &Secret<'_>,
