@@ -22,7 +22,10 @@ fn hint_of_header(number: u8) -> Option<&'static str> {
              grep -v '^-----' f.asc | tr -d '\\r' | base64 -d > f.age",
         ),
         3 | 4 | 5 | 6 => Some("the header is damaged: fetch the file again"),
-        7 => Some("age programs don't write such headers: check where the file comes from"),
+        7 => Some(
+            "but for thousands of recipients, age programs don't write such headers: \
+             check where the file comes from",
+        ),
         8 => Some("the file was cut off: fetch all of it"),
         _ => None,
     }
