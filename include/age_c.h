@@ -38,9 +38,9 @@
  * 17 the block with the number `fault_chunk`, or the nonce, isn't the writer's; the text before it,
  * from the last seek on, has been written by earlier calls. A file that was cut inside a block,
  * with more than 16 bytes of it left, as nearly every long file that was cut, ends with 17 too:
- * nobody can tell it from a damaged one. What a writer wrote, from age_c_seal_passphrase to an
- * age_c_finish_text that returned 0, is the age file of the text. The pieces into which a payload
- * or a text was cut change nothing of this.
+ * nobody can tell it from a damaged one. What a writer wrote, from age_c_seal_passphrase or
+ * age_c_seal_key to an age_c_finish_text that returned 0, is the age file of the text. The pieces
+ * into which a payload or a text was cut change nothing of this.
  *
  * OWNERSHIP. A reader or writer is 64 bytes of plain numbers, and a stream of either holds one
  * block or chunk besides, in the caller's memory: there is nothing to free, and it may be copied (a
@@ -48,10 +48,10 @@
  * since two would seal two texts under one nonce). Each holds the file key, and a stream that
  * writes holds text too: overwrite it when you are done, by explicit_bzero (a compiler may leave
  * out a memset). The library keeps no pointer and no state. Only age_c_open_.. (which never means
- * age_c_open_at), age_c_header, age_c_stanzas and age_c_seal_passphrase allocate, by malloc and
- * realloc, and free all of it before they return: with a passphrase of work factor N, some KiB more
- * than 2^N KiB, and for the header up to about 28 bytes for each of its bytes while realloc copies.
- * A call uses less than 100 KiB of stack.
+ * age_c_open_at), age_c_header, age_c_stanzas and age_c_seal_.. allocate, by malloc and realloc,
+ * and free all of it before they return: with a passphrase of work factor N, some KiB more than 2^N
+ * KiB, and for the header up to about 28 bytes for each of its bytes while realloc copies. A call
+ * uses less than 100 KiB of stack.
  *
  * NOT PROMISED. Constant time, and that no trace of keys and passphrases is left: the library
  * overwrites neither its stack nor the memory that it frees, such as scrypt's table.
@@ -142,7 +142,7 @@ extern "C" {
 /* With this many bytes of a file, an age_c_open_.. never returns AGE_C_MORE: a header has at most
  * 1,048,576 bytes, and the nonce 16. */
 #define AGE_C_FRONT_MAX 1048592u
-#define AGE_C_SEAL_FRONT 256u /* room that age_c_seal_passphrase asks for */
+#define AGE_C_SEAL_FRONT 256u /* room that age_c_seal_.. ask for */
 #define AGE_C_PASS_MAX 65536u /* bytes of a passphrase; at least 1 */
 #define AGE_C_WORK_MAX 22u    /* the greatest work factor; at least 1 */
 
@@ -321,6 +321,18 @@ uint32_t age_c_seal_passphrase(const uint8_t *pass, size_t pass_len, uint32_t wo
                                const uint8_t *random, size_t random_len, uint8_t *out,
                                size_t out_len, size_t *written, age_c_writer *writer);
 
+/* Begins a file whose file key you have wrapped, as for X25519 recipients. `stanzas` is the lines of
+ * the header between its first and its last line: "-> X25519 SHARE", the lines of the body, and so
+ * on, each ended by LF. `random` is 32 bytes, new ones for each file: the file key that the stanzas
+ * wrap, and the payload's nonce. `out` has room for stanzas_len + AGE_C_SEAL_FRONT bytes or more;
+ * *written of them begin the file. Lines that no header has, which may be too many, are refused with
+ * AGE_C_BAD_STANZA_LINE, and a scrypt stanza beside another one with AGE_C_SCRYPT_NOT_ALONE. (Since
+ * 1.2.0.) */
+AGE_C_MUST_CHECK
+uint32_t age_c_seal_key(const uint8_t *stanzas, size_t stanzas_len, const uint8_t *random,
+                        size_t random_len, uint8_t *out, size_t out_len, size_t *written,
+                        age_c_writer *writer);
+
 /* A writer that takes its text in pieces of any length. Set `held` to 0, as `= {0}` does, and begin
  * the file with &stream->writer. Of its copies only one may go on. */
 typedef struct age_c_write_stream {
@@ -338,8 +350,8 @@ AGE_C_MUST_CHECK
 uint32_t age_c_feed_text(age_c_write_stream *stream, const uint8_t *piece, size_t piece_len,
                          size_t *taken, uint8_t *out, size_t out_len, size_t *written);
 
-/* The text ended: seals the last chunk. `out` as above. What was written since
- * age_c_seal_passphrase is then the file. */
+/* The text ended: seals the last chunk. `out` as above. What was written since age_c_seal_.. is then
+ * the file. */
 AGE_C_MUST_CHECK
 uint32_t age_c_finish_text(age_c_write_stream *stream, uint8_t *out, size_t out_len,
                            size_t *written);

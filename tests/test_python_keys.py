@@ -219,8 +219,7 @@ class KeysTest(BindingsCase):
         public = re.search(r"age1\w+", (AGE / "key.txt").read_text())[0]
         made, path = agefile._recipients, self.path("kept")
         path.write_bytes(b"kept")
-        cases = {"hkdf": lambda *_: bytes(32), "base64_of": lambda it: b"A" * 43, "front_of": lambda *words: kept(*words)[:-20] + bytes(20)}
-        kept = made.front_of
+        cases = {"hkdf": lambda *_: bytes(32), "base64_of": lambda it: b"A" * 43}
         for name, wrong in cases.items():
             with unittest.mock.patch.object(made, name, wrong):
                 fault = fault_of(agefile.open, path, "wb", recipient=public)

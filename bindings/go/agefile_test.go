@@ -95,8 +95,38 @@ func TestSharedSecret(t *testing.T) {
 	if err != nil {
 		t.Fatal(err)
 	}
+	key := make([]byte, 16)
+	for i := range key {
+		key[i] = byte(reader.stream.reader.file_key[i])
+	}
 	if text, err := io.ReadAll(reader); err != nil || string(text) != "hello, recipient\n" {
 		t.Errorf("%q, %v", text, err)
+	}
+	// (the header that age wrote, before another text)
+	stanzas := data[22 : header.Len-48]
+	again := bytes.Buffer{}
+	w, err := CreateKey(&again, key, stanzas)
+	if err != nil {
+		t.Fatal(err)
+	}
+	if _, err := io.WriteString(w, "again"); err != nil || w.Close() != nil {
+		t.Error(err)
+	}
+	if !bytes.Equal(again.Bytes()[:header.Len], data[:header.Len]) {
+		t.Errorf("%q", again.Bytes()[:header.Len])
+	}
+	if reader, err := Open(&again, SharedSecret(secret, recipient)); err != nil {
+		t.Error(err)
+	} else if text, err := io.ReadAll(reader); err != nil || string(text) != "again" {
+		t.Errorf("%q, %v", text, err)
+	}
+	for number, words := range map[uint32][2][]byte{
+		NumberMisused: {key[:15], stanzas}, NumberBadStanzaLine: {key, stanzas[1:]},
+	} {
+		var fault *Fault
+		if _, err := CreateKey(&again, words[0], words[1]); !errors.As(err, &fault) || fault.Number != number {
+			t.Error(number, err)
+		}
 	}
 	secret[0] ^= 1
 	if _, err := Open(bytes.NewReader(data), SharedSecret(secret, recipient)); !errors.Is(err, ErrWrongKey) {

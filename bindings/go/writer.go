@@ -29,22 +29,46 @@ var errClosed = errors.New("agefile: the file is closed")
 // Create begins an age file under a passphrase. The work factor, 1 to MaxWork, says what a reader
 // has to spend: 2^work KiB of memory. 18 is usual.
 func Create(out io.Writer, passphrase []byte, factor int) (*Writer, error) {
+	front := make([]byte, C.AGE_C_SEAL_FRONT)
+	return begin(out, nil, 48, front, func(w *Writer, random []byte, n *C.size_t) C.uint32_t {
+		return C.age_c_seal_passphrase(place(passphrase), length(passphrase), work(factor),
+			place(random), length(random), place(front), length(front), n, &w.stream.writer)
+	})
+}
+
+// CreateKey begins an age file by its file key, 16 random bytes that are new for each file. The
+// caller has wrapped it: stanzas is the lines of the header between its first and its last, as
+// "-> X25519 SHARE" and those of the body, each ended by a newline.
+func CreateKey(out io.Writer, fileKey, stanzas []byte) (*Writer, error) {
+	if len(fileKey) != 16 {
+		return nil, &Fault{Number: NumberMisused, Chunk: -1}
+	}
+	front := make([]byte, len(stanzas)+C.AGE_C_SEAL_FRONT)
+	return begin(out, fileKey, 32, front, func(w *Writer, random []byte, n *C.size_t) C.uint32_t {
+		return C.age_c_seal_key(place(stanzas), length(stanzas), place(random), length(random),
+			place(front), length(front), n, &w.stream.writer)
+	})
+}
+
+// begin makes a writer by a call that puts what begins the file into front. It is given so many
+// random bytes, the first of which are the key.
+func begin(out io.Writer, key []byte, size int, front []byte,
+	call func(w *Writer, random []byte, n *C.size_t) C.uint32_t) (*Writer, error) {
 	w := &Writer{out: out, block: make([]byte, C.AGE_C_BLOCK)}
-	random := make([]byte, 48)
+	random := make([]byte, size)
 	if _, err := rand.Read(random); err != nil {
 		return nil, err
 	}
+	copy(random, key)
 	var written C.size_t
-	answer := C.age_c_seal_passphrase(place(passphrase), length(passphrase), work(factor),
-		place(random), length(random), place(w.block), length(w.block), &written,
-		&w.stream.writer)
+	answer := call(w, random, &written)
 	for i := range random { // the first 16 are the file key
 		random[i] = 0
 	}
 	if answer != 0 {
 		return nil, &Fault{Number: uint32(answer), Chunk: -1}
 	}
-	return w, w.put(int(written))
+	return w, w.put(front[:written])
 }
 
 // String hides the key and the text.
@@ -56,10 +80,10 @@ func (w *Writer) GoString() string { return w.String() }
 // Format hides the key and the text in every verb.
 func (w *Writer) Format(state fmt.State, _ rune) { io.WriteString(state, w.String()) }
 
-// put passes on the first n bytes of the block.
-func (w *Writer) put(n int) error {
-	done, err := w.out.Write(w.block[:n])
-	if err == nil && done < n {
+// put passes on bytes.
+func (w *Writer) put(sealed []byte) error {
+	done, err := w.out.Write(sealed)
+	if err == nil && done < len(sealed) {
 		err = io.ErrShortWrite
 	}
 	w.err = err
@@ -75,7 +99,7 @@ func (w *Writer) wrote(answer C.uint32_t, written C.size_t) error {
 	if written == 0 {
 		return nil
 	}
-	return w.put(int(written))
+	return w.put(w.block[:written])
 }
 
 // Write implements io.Writer. After an error the file can't be finished.

@@ -126,7 +126,11 @@ static int opens(void) {
     int right = 0;
     size_t at = 77, count = 77;
     uint32_t work = 77;
-    switch (next() % 6) {
+    switch (next() % 7) {
+    case 6:
+        answer = age_c_seal_key(front, front_len, a, a_len, out, room, &written, &writer);
+        right = answer == (a_len != 32 || room < front_len + 256 ? AGE_C_MISUSED : AGE_C_BAD_STANZA_LINE) && written == 0 && is_untouched(out, room);
+        break;
     case 4:
         answer = age_c_header(front, front_len, &at, &count, &work);
         right = answer == AGE_C_MORE && at == 0 && count == 0 && work == 0;

@@ -39,7 +39,7 @@ void rattle_dealloc(void *at) {
     free(at);
 }
 
-static uint8_t file[AGE_C_FRONT_MAX], out[AGE_C_SEAL_FRONT];
+static uint8_t file[AGE_C_FRONT_MAX], out[AGE_C_SEAL_FRONT + 6];
 static size_t len;
 static const uint8_t key[16] = {7, 7, 7, 7, 7, 7, 7, 7, 7, 7, 7, 7, 7, 7, 7, 7}, pass[2] = {'p', 'w'}, noise[48] = {1, 2, 3};
 static age_c_reader reader;
@@ -59,6 +59,7 @@ static uint32_t call(int which) {
     case 1: return age_c_open_key(file, len, key, sizeof key, &reader);
     case 2: return age_c_header(file, len, &at, &size, &work);
     case 3: return age_c_stanzas(file, sizeof out, places, 2, &size, out, sizeof out, &written);
+    case 4: return age_c_seal_key((const uint8_t *)"-> a\n\n", 6, noise, 32, out, sizeof out, &written, &writer);
     default: return age_c_seal_passphrase(pass, sizeof pass, 1, noise, sizeof noise, out, sizeof out, &written, &writer);
     }
 }
@@ -70,13 +71,13 @@ static int is_untouched(const void *at, size_t size) {
 }
 
 int main(int argc, char **argv) {
-    static const char *const names[] = {"open_passphrase", "open_key", "header", "stanzas", "seal_passphrase"};
+    static const char *const names[] = {"open_passphrase", "open_key", "header", "stanzas", "seal_key", "seal_passphrase"};
     FILE *in = argc == 2 ? fopen(argv[1], "rb") : NULL;
     int passed = 0, failed = 0;
     if (in == NULL) return 2;
     len = fread(file, 1, sizeof file, in);
     fclose(in);
-    for (int which = 0; which < 5; which++) {
+    for (int which = 0; which < 6; which++) {
         refused_at = 0;
         int right = call(which) == 0 && live == 0;
         long all = count;

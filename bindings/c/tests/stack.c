@@ -13,7 +13,7 @@
 
 #define ROOM ((size_t)1 << 20)
 #define MOST ((size_t)100 << 10)
-#define CALLS 15
+#define CALLS 16
 
 static uint8_t file[AGE_C_FRONT_MAX], big[AGE_C_FRONT_MAX], out[AGE_C_BLOCK], key[32], noise[48];
 static age_c_stanza places[9];
@@ -43,6 +43,7 @@ static void *call(void *which) {
     case 11: answer = age_c_open_at(&reader, 3, file, 400, out, sizeof out, &written); break;
     case 12: answer = age_c_header(file, len, &written, &taken, &work); break;
     case 13: answer = age_c_stanzas(file, len, places, 9, &taken, big, sizeof big, &written); break;
+    case 14: answer = age_c_seal_key((const uint8_t *)"-> a\n\n", 6, noise, 32, out, sizeof out, &written, &writer); break;
     default: answer = age_c_finish(&stream, out, sizeof out, &written); break;
     }
     return NULL;

@@ -1,6 +1,6 @@
 """Files for recipients, whose keys age-keygen makes. What is here is outside the proof: it decodes the recipients and makes their stanzas
-and the header (https://c2sp.org/age). The proved library reads the header back before any of it is written, each stanza by its secret: so
-what is left to trust is which share and which secret X25519 gives."""
+(https://c2sp.org/age). The proved library opens each stanza by its secret before any of them is written: so what is left to trust is which
+share and which secret X25519 gives."""
 from __future__ import annotations
 
 import hmac
@@ -9,11 +9,12 @@ from collections.abc import Iterable
 
 from ._arguments import work_factor
 from ._keys import NINE, Pair, bech32_decoded, by_shared, lines_of, x25519_of
-from ._library import FRONT_MAX, Bytes, C, ReaderState, fault_of
+from ._library import FRONT_MAX, C, ReaderState, fault_of
 from ._stanzas import base64_of
-from ._writer import Begun, begun
+from ._writer import Begun, begun, begun_under
 
 LENGTH = 62  # of a recipient
+STANZAS_MAX = FRONT_MAX - 16 - 70  # bytes of all stanzas: the rest of a header has 70, and the nonce 16
 
 
 def beginning_of(passphrase: str | bytes | None, recipient: str | Iterable[str] | None, work: int) -> Begun:
@@ -22,8 +23,8 @@ def beginning_of(passphrase: str | bytes | None, recipient: str | Iterable[str] 
         raise TypeError("give one of passphrase and recipient")
     if passphrase is None and recipient is None:
         raise ValueError("a file is written under a passphrase, or for a recipient")
-    work_factor("work", work)
-    return begun(passphrase, work) if recipient is None else begun_for(recipient)
+    log = work_factor("work", work)
+    return begun_under(passphrase, log) if recipient is None else begun_for(recipient)
 
 
 def points_of(recipient: str | Iterable[str]) -> list[bytes]:
@@ -68,26 +69,15 @@ def hkdf(secret: bytes, salt: bytes, info: bytes) -> bytes:
     return hmac.digest(hmac.digest(salt, secret, "sha256"), info + b"\1", "sha256")
 
 
-def front_of(stanzas: Iterable[bytes], file_key: bytes, nonce: bytes) -> bytes:
-    """What stands before the payload: the header, whose MAC the file key gives, and the nonce."""
-    text = b"age-encryption.org/v1\n%b---" % b"".join(stanzas)
-    mac = hmac.digest(hkdf(file_key, b"", b"header"), text, "sha256")
-    return b"%b %b\n%b" % (text, base64_of(mac), nonce)
-
-
 def begun_for(recipient: str | Iterable[str]) -> Begun:
     """A stream for these recipients, and what stands before the payload."""
-    points, random = points_of(recipient), os.urandom(48)
-    file_key, nonce = random[:16], random[32:]
-    # the library begins a stream under a passphrase alone: of that one only the stream is used, which has this file key and this nonce
-    stream, _ = begun(b"unused", 1, random)
-    made = [stanza_of(it, file_key) for it in points]
-    front = front_of([stanza for stanza, _ in made], file_key, nonce)
-    if len(front) > FRONT_MAX:
-        raise ValueError(f"{len(points):,} recipients are too many: a header has at most {FRONT_MAX - 16:,} bytes")
-    answers = [by_shared(pair, front_of([stanza], file_key, nonce), ReaderState()) for stanza, pair in made]
-    answers.append(C.age_c_open_key(*Bytes(front).given, *Bytes(file_key).given, ReaderState()))
-    for answer in answers:
-        if answer != 0:
+    points, random = points_of(recipient), os.urandom(32)  # the file key and the nonce
+    made = [stanza_of(it, random[:16]) for it in points]
+    stanzas = b"".join(stanza for stanza, _ in made)
+    if len(stanzas) > STANZAS_MAX:
+        raise ValueError(f"{len(points):,} recipients are too many: their stanzas have at most {STANZAS_MAX:,} bytes")
+    for stanza, pair in made:
+        _, alone = begun(C.age_c_seal_key, stanza, random)
+        if (answer := by_shared(pair, alone, ReaderState())) != 0:
             raise fault_of(answer)
-    return stream, front
+    return begun(C.age_c_seal_key, stanzas, random)

@@ -8,7 +8,7 @@ from types import TracebackType
 from typing import Any, NoReturn
 
 from . import _rooms
-from ._arguments import secret, work_factor
+from ._arguments import secret
 from ._calls import Inside, OneCall
 from ._library import CHUNK, SEAL_FRONT, Bytes, C, WriteStreamState, fault_of, wipe
 from ._reader import Buffered
@@ -29,16 +29,20 @@ def _forked() -> None:
 os.register_at_fork(after_in_child=_forked)
 
 
-def begun(passphrase: Any, work: Any, random: bytes | None = None) -> Begun:
-    """A stream, and what stands before the payload. `random` is the file key, the salt and the nonce."""
-    log = work_factor("work", work)
-    stream, out, written = WriteStreamState(), Bytes(SEAL_FRONT), ctypes.c_size_t()
-    held, taken = Bytes(secret(passphrase)), Bytes(random or os.urandom(48))
-    answer = C.age_c_seal_passphrase(*held.given, log, *taken.given, *out.given, written, stream.writer)
+def begun(call: Any, given: bytes, random: bytes, *work: int) -> Begun:
+    """A stream, and what stands before the payload, by a call that begins a file with these random bytes."""
+    stream, out, written = WriteStreamState(), Bytes(len(given) + SEAL_FRONT), ctypes.c_size_t()
+    held, taken = Bytes(given), Bytes(random)
+    answer = call(*held.given, *work, *taken.given, *out.given, written, stream.writer)
     wipe(held.place, taken.place)
     if answer != 0:
         raise fault_of(answer)
     return stream, bytes(out.view[:written.value])
+
+
+def begun_under(passphrase: Any, work: int) -> Begun:
+    """The same under a passphrase."""
+    return begun(C.age_c_seal_passphrase, secret(passphrase), os.urandom(48), work)
 
 
 class AgeWriter(Buffered):

@@ -7,12 +7,13 @@ use Rattle.std.proofs.lemmas.Fmt.{length-decimal-le}
 use Rattle.std.proofs.lemmas.List.{length-append}
 use Rattle.age_stanza.specs.declared.header.Header.{Header}
 use Rattle.age_stanza.specs.Text.{base64_text}
-use Rattle.age_stanza.specs.Grammar.{line, in_lines, stanza_text, head_text, HeadText}
+use Rattle.age_stanza.specs.Grammar.{line, in_lines, stanza_text, head_text}
 use Rattle.age_stanza.proofs.TextLengthLemmas.{length-body, length-head}
 use Rattle.age_stanza.proofs.TextLemmas.{length-text}
 use Rattle.age_cipher.proofs.SealingLemmas.{length-sealing}
 use Rattle.age_keys.specs.Keys.{wrapped_key}
 use Rattle.age_keys.specs.Scrypt.{wrap_key, scrypt_stanza, scrypt_head}
+use Rattle.age_c.specs.Writers.{IsFileFront}
 
 three_arguments : (a b c body : List ℕ)
     → length (stanza_text (record { args = a ∷ b ∷ c ∷ []; body = body }))
@@ -58,9 +59,9 @@ head_size pass salt key work size key_size few mac =
       stanza,
     )
 
-pub front_size : (pass : List ℕ) (work : ℕ) (key salt nonce front : List ℕ)
-    → HeadText (scrypt_head pass work salt key) front → length salt ≡ 16
-    → length key ≡ 16 → length nonce ≡ 16 → work ≤ 22 → length (front ++ nonce) ≤ 256
-front_size pass work key salt nonce front text size key_size nonce_size few =
-    let head = head_size pass salt key work size key_size few text.spells.valid.mac_length in
-    omega (arith, length-append front nonce, nonce_size, ap length text.spells.bytes_are, head)
+pub front_size : (pass : List ℕ) (work : ℕ) (key salt nonce bytes : List ℕ)
+    → IsFileFront (scrypt_head pass work salt key) nonce bytes → length salt ≡ 16
+    → length key ≡ 16 → work ≤ 22 → length bytes ≤ 256
+front_size pass work key salt nonce bytes it size key_size few =
+    let head = head_size pass salt key work size key_size few it.head.spells.valid.mac_length in
+    omega (arith, ap length it.parts, length-append it.front nonce, it.size, ap length it.head.spells.bytes_are, head)

@@ -8,6 +8,7 @@ pub mod WriteStreamLemmas
 pub mod StreamCallLemmas
 pub mod FrontLemmas
 pub mod FrontSizeLemmas
+pub mod KeyHeadLemmas
 pub mod SeekLemmas
 pub mod HeaderLemmas
 pub mod StanzaPlaceLemmas

@@ -201,17 +201,17 @@ answers_are_feed_calls old new piece before after answer taken written = (
 -- ---- the round trip
 
 pub pieces_read_back : PiecesReadBack
-pieces_read_back pass work random front w texts last writes s at empty key nonce calls are given closed =
+pieces_read_back header key nonce front w texts last writes s at empty has_key has_nonce calls are given closed =
     let text = text_taken texts in
-    let few = few_chunks pass work random front w texts last writes in
+    let few = few_chunks header key nonce front w texts last writes in
     let right = feeds_are_written s 0 at empty (omega arith) calls are text few in
     let written : payload (box s.reader.file_key s.reader.nonce) chunk_length text
     ≡ bytes_written texts ++ last.bytes =
     ap (λ (k : List ℕ). payload (box k s.reader.nonce) chunk_length text)
-    (key ∙ sym writes.begins.key)
+    (has_key ∙ sym writes.begins.has_key)
     ∙ (ap (λ (n : List ℕ). payload (box w.writer.file_key n) chunk_length text)
-    (nonce ∙ sym writes.begins.nonce)
-    ∙ payload_written pass work random front w texts last writes) in
+    (has_nonce ∙ sym writes.begins.has_nonce)
+    ∙ payload_written header key nonce front w texts last writes) in
     right.whole closed (omega arith) (given ∙ ap (λ (b : List ℕ). record {
       start = 0;
       bytes = b;

@@ -6,17 +6,18 @@ use Rattle.std.proofs.lemmas.List.{append_assoc, append-nil, take_all}
 use Rattle.std.proofs.lemmas.Bool.{false≢true}
 use Rattle.std.proofs.lemmas.Bool.Decides.{eqb_tells}
 use Rattle.age_chunk.specs.Payload.{block_bytes, chunk_count, chunk_length, chunk_limit, pair, payload}
+use Rattle.age_stanza.specs.declared.header.Header.{Header}
 use Rattle.age_keys.specs.Keys.{box}
 use Rattle.age_c.specs.declared.writer.Writer.{Writer}
 use Rattle.age_c.specs.declared.write_stream.WriteStream.{WriteStream}
 use Rattle.age_c.specs.Calls.{misused}
-use Rattle.age_c.specs.Writers.{HasSealed, SameKeys, blocks_of, key_in}
+use Rattle.age_c.specs.Writers.{HasSealed, SameKeys, blocks_of}
 use Rattle.age_c.specs.inner.Sealing.{SealsChunk, SealsLast}
-use Rattle.age_c.specs.Writers.{salt_in, FeedsText, FinishesText, HasTaken, TakesText, held_chunk}
+use Rattle.age_c.specs.Writers.{FeedsText, FinishesText, HasTaken, TakesText, held_chunk}
 use Rattle.age_c.specs.Streams.{AnswersAreTextCalls, AreTextCalls, IsTextCallOn, TextCall, TextsAreFiles, WritesFile, bytes_written, stream_after, text_taken}
 use Rattle.age_c.specs.inner.Holding.{HoldsText}
 use Rattle.age_c.specs.inner.Keys.{key_of_writer as key_of, seals}
-use Rattle.age_c.proofs.WriterLemmas.{idle_or_did, key_same, mac_holds, none_yet, not_end, same_front}
+use Rattle.age_c.proofs.WriterLemmas.{idle_or_did, key_same, none_yet, not_end, same_front}
 
 -- more text changes no block that was written
 blocks_front : (w : Writer) (chunks more : List ℕ) → HasSealed w chunks
@@ -195,8 +196,8 @@ nothing_taken s h empty = record {
   some = λ _. omega (arith, h.whole);
 }
 
-module _ (pass : List ℕ) (work : ℕ) (random front : List ℕ) (s : WriteStream) (calls : List TextCall)
-    (last : TextCall) (it : WritesFile pass work random front s calls last) where
+module _ (header : Header) (key nonce front : List ℕ) (s : WriteStream) (calls : List TextCall)
+    (last : TextCall) (it : WritesFile header key nonce front s calls last) where
   after : After s [] (text_taken calls) (bytes_written calls) (stream_after s calls)
   after = all_calls calls s [] (nothing_taken s it.begins.start it.empty) it.are
 
@@ -216,19 +217,19 @@ module _ (pass : List ℕ) (work : ℕ) (random front : List ℕ) (s : WriteStre
   few_chunks = ends.few (text_taken calls) after.taken
 
 pub texts_are_files : TextsAreFiles
-texts_are_files pass work random front s calls last it =
+texts_are_files header key nonce front s calls last it =
     let begins = it.begins in
     let text = text_taken calls in (
       record {
         front = begins.front.front;
         head = begins.front.head;
-        mac = mac_holds pass work (salt_in random) (key_in random);
+        mac = begins.mac;
         size = begins.front.size;
         parts = ap₂ (λ (a b : List ℕ). a ++ b) begins.front.parts
-            (sym (payload_written pass work random front s calls last it)
-            ∙ ap₂ (λ (k n : List ℕ). payload (box k n) chunk_length text) begins.key begins.nonce);
+            (sym (payload_written header key nonce front s calls last it)
+            ∙ ap₂ (λ (k n : List ℕ). payload (box k n) chunk_length text) begins.has_key begins.has_nonce);
       },
-      few_chunks pass work random front s calls last it,
+      few_chunks header key nonce front s calls last it,
     )
 
 -- ---- answers are calls

@@ -3,6 +3,7 @@
 use Rattle.std.specs.Prelude.{◌≡◌, ◌≢◌, ℕ, ◌<◌, ◌≤◌, List, [], ◌++◌, length, take, ◌⊎◌, Bool, true, false}
 use Rattle.std.specs.Prelude.{◌∷◌, map}
 use Rattle.age_chunk.specs.Payload.{block_length, chunk_length, chunk_limit, chunk_count}
+use Rattle.age_stanza.specs.declared.header.Header.{Header}
 use Rattle.age_stream.specs.Segment.{with_end, with_piece, Segment, fresh}
 use Rattle.age_stream.specs.declared.step.Status.TheVariants.{Open}
 use Rattle.age_c.specs.Calls.{answer_of, Answers, misused}
@@ -11,10 +12,9 @@ use Rattle.age_c.specs.Readers.{after_call, segment_from, texts_of, AllAnswer, I
 use Rattle.age_c.specs.declared.stream.Stream.{Stream}
 use Rattle.std.specs.List.{flat_map}
 use Rattle.age_keys.specs.Keys.{box, unbox, FileOf}
-use Rattle.age_keys.specs.Scrypt.{scrypt_head}
 use Rattle.age_stream.specs.Laws.{IsClosed}
 use Rattle.age_c.specs.declared.write_stream.WriteStream.{WriteStream}
-use Rattle.age_c.specs.Writers.{BeginsFileFrom, WritesOrRefuses, key_in, nonce_in, salt_in}
+use Rattle.age_c.specs.Writers.{IsBegun, WritesOrRefuses}
 use Rattle.age_c.specs.Writers.{FeedsText, FinishesText, IsTextCall, RefusesText, TakesText}
 
 -- ---- A stream that reads: what its numbers and bytes stand for, and what one call does to it.
@@ -170,24 +170,24 @@ text_taken calls = flat_map (λ (c : TextCall). c.text) calls
 abbrev pub bytes_written : List TextCall → List ℕ
 bytes_written calls = flat_map (λ (c : TextCall). c.bytes) calls
 
--- a file that was written in pieces: `age_c_seal_passphrase` wrote what stands before the payload,
--- the stream held nothing, and any calls were made on it, and then an end that answered 0
-pub record WritesFile (pass : List ℕ) (work : ℕ) (random front : List ℕ) (s : WriteStream)
+-- a file that was written in pieces: `age_c_seal_passphrase` or `age_c_seal_key` wrote what stands
+-- before the payload, the stream held nothing, and any calls were made on it, and then an end that
+-- answered 0
+pub record WritesFile (header : Header) (key nonce front : List ℕ) (s : WriteStream)
     (calls : List TextCall) (last : TextCall) : Type 0 where
-  pub begins : BeginsFileFrom pass work random front s.writer
+  pub begins : IsBegun header key nonce front s.writer
   pub empty : s.held ≡ 0
   pub are : AreTextCalls s calls
   pub is_call : IsTextCallOn (stream_after s calls) last
   pub is_end : last.is_end ≡ true
   pub zero : last.answer ≡ 0
 
--- all of it is the age file of the text that the calls took, under the passphrase, the work factor
--- and the random bytes; and the text has as few chunks as the law of readers asks for
+-- all of it is the age file of the text that the calls took, with the header, the file key and the
+-- nonce that it was begun with; and the text has as few chunks as the law of readers asks for
 abbrev pub TextsAreFiles : Type 0
-TextsAreFiles = (pass : List ℕ) (work : ℕ) (random front : List ℕ) (s : WriteStream)
-    (calls : List TextCall) (last : TextCall) → WritesFile pass work random front s calls last
-    → FileOf (scrypt_head pass work (salt_in random) (key_in random)) (key_in random)
-    (nonce_in random) (text_taken calls) (front ++ (bytes_written calls ++ last.bytes))
+TextsAreFiles = (header : Header) (key nonce front : List ℕ) (s : WriteStream)
+    (calls : List TextCall) (last : TextCall) → WritesFile header key nonce front s calls last
+    → FileOf header key nonce (text_taken calls) (front ++ (bytes_written calls ++ last.bytes))
     × (chunk_count chunk_length (text_taken calls) ≤ chunk_limit)
 
 -- a call as its caller sees it
@@ -217,10 +217,10 @@ AnswersAreTextCalls = (old new : WriteStream) (piece before after : List ℕ) (a
 -- payload in any pieces, and then its end, gives the text, and 0 each time; unless a full last block
 -- opens as one before the last too
 abbrev pub PiecesReadBack : Type 0
-PiecesReadBack = (pass : List ℕ) (work : ℕ) (random front : List ℕ) (w : WriteStream)
-    (texts : List TextCall) (last : TextCall) → WritesFile pass work random front w texts last
-    → (s : Stream) → IsAt s.reader (fresh 0) → s.held ≡ 0 → s.reader.file_key ≡ key_in random
-    → s.reader.nonce ≡ nonce_in random → (calls : List FeedCall) → AreFeedCalls s calls
+PiecesReadBack = (header : Header) (key nonce front : List ℕ) (w : WriteStream)
+    (texts : List TextCall) (last : TextCall) → WritesFile header key nonce front w texts last
+    → (s : Stream) → IsAt s.reader (fresh 0) → s.held ≡ 0 → s.reader.file_key ≡ key
+    → s.reader.nonce ≡ nonce → (calls : List FeedCall) → AreFeedCalls s calls
     → segment_from (fresh 0) (reader_calls calls) ≡ record {
       start = 0;
       bytes = bytes_written texts ++ last.bytes;

@@ -1,11 +1,12 @@
 -- A writer of a text in pieces: how it begins a file, and what one call does.
-use Rattle.std.specs.Prelude.{◌≡◌, ◌≢◌, ℕ, ◌+◌, ◌*◌, ◌<◌, ◌≤◌, false, List, [], ◌++◌, length, take, drop, map}
-use Rattle.std.specs.List.{enumerate_from}
+use Rattle.std.specs.Prelude.{◌≡◌, ◌≢◌, ℕ, ◌+◌, ◌*◌, ◌<◌, ◌≤◌, false, List, [], ◌++◌, length, take, drop, map, ◌⊎◌}
+use Rattle.std.specs.List.{enumerate_from, flat_map}
 use Rattle.std.specs.Simd.{first_chunks}
-use Rattle.age_stanza.specs.Grammar.{HeadText}
+use Rattle.age_stanza.specs.Grammar.{HeadText, HasText, stanza_text}
+use Rattle.age_stanza.specs.declared.header.Header.{Header}
 use Rattle.age_chunk.specs.Payload.{chunk_limit, chunk_length, block_length, chunk_count, pair, block_bytes}
 use Rattle.age_chunk.specs.Payload.{payload}
-use Rattle.age_keys.specs.Keys.{box}
+use Rattle.age_keys.specs.Keys.{box, IsMacOf, IsScryptNotAlone}
 use Rattle.age_keys.specs.Scrypt.{IsAllowed, scrypt_head}
 use Rattle.age_c.specs.declared.writer.Writer.{Writer}
 use Rattle.age_c.specs.declared.write_stream.WriteStream.{WriteStream}
@@ -46,20 +47,26 @@ abbrev pub nonce_in : List ℕ → List ℕ
 nonce_in random = take 16 (drop 32 random)
 
 -- the bytes are what stands before the payload: the header's text and the payload's nonce
-pub record IsFileFront (pass : List ℕ) (work : ℕ) (key salt nonce bytes : List ℕ) : Type 0 where
+pub record IsFileFront (header : Header) (nonce bytes : List ℕ) : Type 0 where
   pub front : List ℕ
-  pub head : HeadText (scrypt_head pass work salt key) front
+  pub head : HeadText header front
   pub parts : bytes ≡ front ++ nonce
   pub size : length nonce ≡ 16
 
--- the bytes are what stands before the payload, made with these random bytes, and the writer was
--- given no text
-pub record BeginsFileFrom (pass : List ℕ) (work : ℕ) (random bytes : List ℕ) (w : Writer)
-    : Type 0 where
-  pub front : IsFileFront pass work (key_in random) (salt_in random) (nonce_in random) bytes
-  pub key : w.file_key ≡ key_in random
-  pub nonce : w.nonce ≡ nonce_in random
+-- the bytes are what stands before the payload of a file with this header, whose MAC was made under
+-- the file key, and the writer was given no text
+pub record IsBegun (header : Header) (key nonce bytes : List ℕ) (w : Writer) : Type 0 where
+  pub front : IsFileFront header nonce bytes
+  pub mac : IsMacOf header key
+  pub has_key : w.file_key ≡ key
+  pub has_nonce : w.nonce ≡ nonce
   pub start : HasSealed w []
+
+-- a file was begun under a passphrase, with these random bytes
+abbrev pub BeginsFileFrom : List ℕ → ℕ → List ℕ → List ℕ → Writer → Type 0
+BeginsFileFrom pass work random bytes w =
+    IsBegun (scrypt_head pass work (salt_in random) (key_in random)) (key_in random)
+    (nonce_in random) bytes w
 
 -- a call that isn't misused has a passphrase and a work factor within the limits, 48 random bytes,
 -- and room for what stands before the payload
@@ -67,6 +74,30 @@ pub record IsStartCall (pass : List ℕ) (work : ℕ) (random out : List ℕ) : 
   pub allowed : IsAllowed pass work
   pub bytes : length random ≡ 48
   pub room : 256 ≤ length out
+
+-- the lines are the text of the header's stanzas
+pub record HasLines (lines : List ℕ) (header : Header) : Type 0 where
+  pub text : HasText header
+  pub lines_are : lines ≡ flat_map stanza_text header.stanzas
+
+-- a file was begun by its file key, which whoever made the lines wrapped in them, and the payload's
+-- nonce, 16 random bytes each
+abbrev pub BeginsFileWith : List ℕ → List ℕ → List ℕ → Writer → Type 0
+BeginsFileWith lines random bytes w = (header : Header) × HasLines lines header
+    × (¬ IsScryptNotAlone header)
+    × IsBegun header (take 16 random) (drop 16 random) bytes w
+
+-- why no file is begun: memory is refused, a scrypt stanza stands beside another, or the lines are
+-- those of no header
+abbrev pub RefusesLines : List ℕ → ℕ → Type 0
+RefusesLines lines answer = (answer ≡ 28)
+    ⊎ ((answer ≡ 9) × (header : Header) × HasLines lines header × IsScryptNotAlone header)
+    ⊎ ((answer ≡ 3) × ((header : Header) → ¬ HasLines lines header))
+
+-- a call that isn't misused has 32 random bytes, and room for what stands before the payload
+pub record IsKeyCall (lines random out : List ℕ) : Type 0 where
+  pub bytes : length random ≡ 32
+  pub room : length lines + 256 ≤ length out
 
 -- ---- What one call does to a writer.
 

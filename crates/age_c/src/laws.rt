@@ -52,7 +52,8 @@ pub fn feeds_are_written()
     ensures { FeedsAreWritten }
 {}
 
-/// What [`age_c_seal_passphrase`](crate::age_c_seal_passphrase), then any calls of
+/// What [`age_c_seal_passphrase`](crate::age_c_seal_passphrase) or
+/// [`age_c_seal_key`](crate::age_c_seal_key), then any calls of
 /// [`age_c_feed_text`](crate::age_c_feed_text), and then one of
 /// [`age_c_finish_text`](crate::age_c_finish_text) that answers 0 write is the age file of the text
 /// that they took.

@@ -3,7 +3,7 @@
 //!
 //! A header is opened by a passphrase, a file key or a shared secret, and then a [`Reader`] takes
 //! the blocks of the payload one after the other. A [`Writer`] begins with the header of a
-//! passphrase, and then seals chunk after chunk.
+//! passphrase, or of a file key and given stanzas, and then seals chunk after chunk.
 //!
 //! Each function may be called with any numbers in a reader or writer, and with slices of any
 //! length. What doesn't fit is answered with [`MISUSED`], and then nothing is changed.
@@ -22,6 +22,7 @@ mod open_at;
 mod read;
 mod reader;
 mod seal;
+mod seal_key;
 mod sealing;
 mod seek;
 mod size;
@@ -48,6 +49,7 @@ pub use open_at::age_c_open_at;
 pub use read::{age_c_block, age_c_end};
 pub use reader::Reader;
 pub use seal::age_c_seal_passphrase;
+pub use seal_key::age_c_seal_key;
 pub use seek::age_c_seek;
 pub use size::age_c_size;
 pub use stanza_place::StanzaPlace;

@@ -6,14 +6,14 @@ ghost use Rattle.age_c.specs.Writers.{CanSeal, IsStartCall, WritesOrRefuses, Beg
 
 use crate::MISUSED;
 use crate::blocks::put;
-use crate::sealing::{front_of, seal_last, seal_next, writer_of};
+use crate::sealing::{passphrase_front, writer_of};
 use crate::writer::Writer;
-use age_chunk::{BLOCK_LEN, CHUNK_LEN, CHUNK_LIMIT};
+use age_chunk::CHUNK_LIMIT;
 use age_keys::{FileRandom, Passphrase, RANDOM_LEN};
 use std::alloc::Global;
 
-/// How much room a call asks for what stands before the payload.
-const FRONT: usize = 256;
+/// How much room a call asks for what stands before the payload, but for given stanzas.
+pub(crate) const FRONT: usize = 256;
 
 /// The number of a file that would have more chunks than a payload.
 pub(crate) const TOO_MANY_CHUNKS: u32 = 22;
@@ -28,6 +28,7 @@ pub(crate) fn can_be_used(writer: &Writer) -> bool
 /// Begins a file under a passphrase of 1 to 65,536 bytes, with a work factor of 1 to 22, and puts
 /// its header and the payload's nonce into `out`, which has room for 256 bytes or more. `random` is
 /// 48 new random bytes: the file key, the stanza's salt and the payload's nonce.
+#[tactic(auto, using(crate::proofs::WriterLemmas::mac_holds))]
 #[unsafe(no_mangle)]
 pub extern "C" fn age_c_seal_passphrase(
     alloc: Global,
@@ -50,10 +51,10 @@ pub extern "C" fn age_c_seal_passphrase(
         return MISUSED;
     }
     let random = FileRandom::of(random);
-    match front_of(alloc, &random, pass, work) {
+    match passphrase_front(alloc, &random, pass, work) {
         Ok(front) => {
             *written = put(front.as_slice(), out);
-            *writer = writer_of(&random);
+            *writer = writer_of(&random.file_key, &random.payload_nonce);
             0
         }
         Err(fault) => fault.number(),

@@ -3,7 +3,8 @@
 ghost use Rattle.std.specs.Prelude.{◌≡◌, ◌+◌, ◌<◌, ◌≤◌, [], length, take, drop, IfOk, IfErr};
 ghost use Rattle.age_cipher.specs.Aead.{sealing as sealing_with};
 ghost use Rattle.age_chunk.specs.Payload.{chunk_limit, nonce_bytes, chunk_length};
-ghost use Rattle.age_keys.specs.Scrypt.{IsAllowed};
+ghost use Rattle.age_stanza.specs.Grammar.{HasText};
+ghost use Rattle.age_keys.specs.Scrypt.{IsAllowed, scrypt_head};
 ghost use Rattle.age_c.specs.Readers.{start_fault_number};
 ghost use Rattle.age_c.specs.Calls.{PutsFront};
 ghost use Rattle.age_c.specs.Writers.{IsFileFront};
@@ -15,18 +16,18 @@ use crate::start::StartFault;
 use crate::writer::Writer;
 use age_chunk::{ChunkBox, TAG_LEN, nonce_of};
 use age_keys::{FileKey, FileRandom, KeyFault, PayloadKey, payload_key, scrypt_header};
-use age_stanza::encode_head;
+use age_stanza::{Header, encode_head};
 use std::alloc::Global;
 
 /// A writer that was given no text.
-pub(crate) fn writer_of(random: &FileRandom) -> Writer
-    ensures key { result.file_key ≡ random.now.file_key }
-    ensures nonce { result.nonce ≡ random.now.payload_nonce }
+pub(crate) fn writer_of(file_key: &[u8; 16], nonce: &[u8; 16]) -> Writer
+    ensures key { result.file_key ≡ file_key.now }
+    ensures nonce { result.nonce ≡ nonce.now }
     ensures start { (result.chunk ≡ 0) × (result.state ≡ 1) }
 {
     Writer {
-        file_key: random.file_key,
-        nonce: random.payload_nonce,
+        file_key: *file_key,
+        nonce: *nonce,
         chunk: 0,
         state: 1,
         unused: [0; 5],
@@ -37,28 +38,41 @@ pub(crate) fn writer_of(random: &FileRandom) -> Writer
 /// memory is refused.
 pub(crate) fn front_of(
     alloc: Global,
+    header: &Header,
+    nonce: &[u8; 16],
+) -> Result<Vec<u8>, StartFault>
+    requires { HasText header.now }
+    ensures front { IfOk result (λ front. IsFileFront header.now nonce.now front.items) }
+    ensures memory { IfErr result (λ fault. start_fault_number fault ≡ 28) }
+{
+    let mut front = match encode_head(alloc, header) {
+        Ok(front) => front,
+        Err(fault) => return Err(StartFault::Head(fault)),
+    };
+    match front.extend_from_slice(nonce) {
+        Ok(()) => Ok(front),
+        Err(_) => Err(StartFault::Key(KeyFault::Memory)),
+    }
+}
+
+/// What stands before the payload of a file under a passphrase. It fails only if memory is refused.
+pub(crate) fn passphrase_front(
+    alloc: Global,
     random: &FileRandom,
     pass: &[u8],
     work: u32,
 ) -> Result<Vec<u8>, StartFault>
     requires { IsAllowed pass.now work }
-    ensures front { IfOk result (λ front. IsFileFront pass.now work random.now.file_key
-        random.now.salt random.now.payload_nonce front.items) }
+    ensures front { IfOk result (λ front. IsFileFront
+        (scrypt_head pass.now work random.now.salt random.now.file_key) random.now.payload_nonce
+        front.items) }
     ensures size { IfOk result (λ front. length front.items ≤ 256) }
     ensures memory { IfErr result (λ fault. start_fault_number fault ≡ 28) }
 {
     let key = FileKey::new(random.file_key);
-    let header = match scrypt_header(alloc, pass, work, &random.salt, &key) {
-        Ok(header) => header,
-        Err(fault) => return Err(StartFault::Key(fault)),
-    };
-    let mut front = match encode_head(alloc, &header) {
-        Ok(front) => front,
-        Err(fault) => return Err(StartFault::Head(fault)),
-    };
-    match front.extend_from_slice(&random.payload_nonce) {
-        Ok(()) => Ok(front),
-        Err(_) => Err(StartFault::Key(KeyFault::Memory)),
+    match scrypt_header(alloc, pass, work, &random.salt, &key) {
+        Ok(header) => front_of(alloc, &header, &random.payload_nonce),
+        Err(fault) => Err(StartFault::Key(fault)),
     }
 }
 

@@ -11,7 +11,7 @@ ghost use Rattle.age_c.specs.Headers.{IsWork};
 use age_stanza::{Header, Stanza, read_base64};
 
 /// Whether a stanza is of type `scrypt`.
-fn is_scrypt(stanza: &Stanza) -> bool
+pub(crate) fn is_scrypt(stanza: &Stanza) -> bool
     ensures { result ≡ is_scrypt stanza.now }
 {
     match stanza.args.as_slice() {

@@ -8,7 +8,7 @@ pub const AGE_C_CHUNK: usize = 65_536;
 pub const AGE_C_BLOCK: usize = 65_552;
 /// With so many bytes of a file, a header is complete or refused.
 pub const AGE_C_FRONT_MAX: usize = 1_048_592;
-/// Room that [`age_c_seal_passphrase`] asks for.
+/// Room that [`age_c_seal_passphrase`] asks for, and [`age_c_seal_key`] beside its stanzas.
 pub const AGE_C_SEAL_FRONT: usize = 256;
 /// The greatest work factor.
 pub const AGE_C_WORK_MAX: u32 = 22;
@@ -201,6 +201,16 @@ extern "C" {
         pass: *const u8,
         pass_len: usize,
         work: u32,
+        random: *const u8,
+        random_len: usize,
+        out: *mut u8,
+        out_len: usize,
+        written: *mut usize,
+        writer: *mut AgeCWriter,
+    ) -> u32;
+    pub fn age_c_seal_key(
+        stanzas: *const u8,
+        stanzas_len: usize,
         random: *const u8,
         random_len: usize,
         out: *mut u8,

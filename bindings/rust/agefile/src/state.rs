@@ -18,7 +18,7 @@ pub(crate) unsafe trait Plain {}
 unsafe impl Plain for age_c_sys::AgeCReader {}
 unsafe impl Plain for age_c_sys::AgeCStream {}
 unsafe impl Plain for age_c_sys::AgeCWriteStream {}
-unsafe impl Plain for [u8; 48] {}
+unsafe impl<const N: usize> Plain for [u8; N] {}
 
 impl<T: Plain> State<T> {
     pub(crate) fn new(value: T) -> State<T> {

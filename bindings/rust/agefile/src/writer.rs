@@ -3,7 +3,8 @@
 use crate::state::State;
 use crate::AgeError;
 use age_c_sys::{
-    age_c_feed_text, age_c_finish_text, age_c_seal_passphrase, AgeCWriteStream, AGE_C_BLOCK,
+    age_c_feed_text, age_c_finish_text, age_c_seal_key, age_c_seal_passphrase, AgeCWriteStream,
+    AgeCWriter, AGE_C_BLOCK, AGE_C_SEAL_FRONT,
 };
 use std::fmt;
 use std::fs::File;
@@ -51,9 +52,9 @@ impl Failure {
     }
 }
 
-/// Bytes of the system's random generator: the file key, the salt and the nonce.
-fn random() -> io::Result<State<[u8; 48]>> {
-    let mut bytes = State::new([0; 48]);
+/// Bytes of the system's random generator.
+fn random<const N: usize>() -> io::Result<State<[u8; N]>> {
+    let mut bytes = State::new([0; N]);
     File::open("/dev/urandom")?.read_exact(&mut *bytes)?;
     Ok(bytes)
 }
@@ -61,32 +62,70 @@ fn random() -> io::Result<State<[u8; 48]>> {
 impl<W: Write> AgeWriter<W> {
     /// Begins a file under a passphrase. The work factor, 1 to 22, says what a reader has to spend:
     /// 2^work KiB of memory. 18 is usual.
-    pub fn create(mut out: W, passphrase: &[u8], work: u32) -> io::Result<AgeWriter<W>> {
+    pub fn create(out: W, passphrase: &[u8], work: u32) -> io::Result<AgeWriter<W>> {
+        // the file key, the salt and the nonce
+        let random = random::<48>()?;
+        let mut front = [0; AGE_C_SEAL_FRONT];
+        AgeWriter::begin(out, &mut front, |front, written, writer| {
+            // SAFETY: each slice is as long as it says, and none is null; nothing overlaps.
+            unsafe {
+                age_c_seal_passphrase(
+                    passphrase.as_ptr(),
+                    passphrase.len(),
+                    work,
+                    random.as_ptr(),
+                    random.len(),
+                    front.as_mut_ptr(),
+                    front.len(),
+                    written,
+                    writer,
+                )
+            }
+        })
+    }
+
+    /// Begins a file by its file key, random bytes that are new for each file. The caller has
+    /// wrapped it: `stanzas` is the lines of the header between its first and its last, as
+    /// `-> X25519 SHARE` and those of the body, each ended by a newline.
+    pub fn create_by_key(out: W, file_key: &[u8; 16], stanzas: &[u8]) -> io::Result<AgeWriter<W>> {
+        // the file key and the nonce
+        let mut random = random::<32>()?;
+        random[..16].copy_from_slice(file_key);
+        let mut front = vec![0; stanzas.len() + AGE_C_SEAL_FRONT];
+        AgeWriter::begin(out, &mut front, |front, written, writer| {
+            // SAFETY: as above.
+            unsafe {
+                age_c_seal_key(
+                    stanzas.as_ptr(),
+                    stanzas.len(),
+                    random.as_ptr(),
+                    random.len(),
+                    front.as_mut_ptr(),
+                    front.len(),
+                    written,
+                    writer,
+                )
+            }
+        })
+    }
+
+    /// Begins a file by a call that puts what stands before the payload into `front`.
+    fn begin(
+        mut out: W,
+        front: &mut [u8],
+        call: impl FnOnce(&mut [u8], &mut usize, &mut AgeCWriter) -> u32,
+    ) -> io::Result<AgeWriter<W>> {
         let mut stream = State::<AgeCWriteStream>::default();
-        let mut block = vec![0; AGE_C_BLOCK];
-        let (random, mut written) = (random()?, 0);
-        // SAFETY: each slice is as long as it says, and none is null; nothing overlaps.
-        let answer = unsafe {
-            age_c_seal_passphrase(
-                passphrase.as_ptr(),
-                passphrase.len(),
-                work,
-                random.as_ptr(),
-                random.len(),
-                block.as_mut_ptr(),
-                block.len(),
-                &mut written,
-                &mut stream.writer,
-            )
-        };
+        let mut written = 0;
+        let answer = call(front, &mut written, &mut stream.writer);
         if answer != 0 {
             return Err(AgeError::of_header(answer, false).into());
         }
-        out.write_all(&block[..written])?;
+        out.write_all(&front[..written])?;
         Ok(AgeWriter {
             out,
             stream,
-            block,
+            block: vec![0; AGE_C_BLOCK],
             failed: None,
         })
     }

@@ -101,6 +101,25 @@ fn reads_a_file_for_an_x25519_key() {
 }
 
 #[test]
+fn writes_by_a_file_key() {
+    let by_key = |stanzas: &str| {
+        let mut file = AgeWriter::create_by_key(Vec::new(), &[7; 16], stanzas.as_bytes())?;
+        file.write_all(b"a text")?;
+        file.finish()
+    };
+    let stanzas = "-> a bc\nAQID\n-> d\n\n";
+    let file = by_key(stanzas).unwrap();
+    assert!(file.starts_with(format!("age-encryption.org/v1\n{stanzas}--- ").as_bytes()));
+    assert_eq!(text_in(&file, Key::FileKey(&[7; 16])).unwrap(), b"a text");
+    let other = by_key(stanzas).unwrap();
+    assert_ne!(file[file.len() - 38..], other[other.len() - 38..]); // nonce and payload
+    for (stanzas, number) in [("", 3), ("-> a\n", 3), ("-> a\n\n-> scrypt\n\n", 9)] {
+        let fault = AgeError::of(&by_key(stanzas).unwrap_err()).unwrap();
+        assert_eq!(fault.number, number);
+    }
+}
+
+#[test]
 fn says_what_a_header_says() {
     let data = sealed(b"a text");
     let (header, file) = Header::read(&data[..]).unwrap();

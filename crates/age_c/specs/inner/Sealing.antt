@@ -1,9 +1,11 @@
 -- What the parts of a call do to a writer. Private: no public contract cites this module.
-use Rattle.std.specs.Prelude.{◌≡◌, ℕ, ◌+◌, ◌≤◌, List, ◌++◌, length}
+use Rattle.std.specs.Prelude.{◌≡◌, ℕ, ◌+◌, ◌≤◌, List, ◌++◌, length, replicate}
 use Rattle.age_chunk.specs.Payload.{chunk_limit, chunk_length, block_length, chunk_count, payload}
 use Rattle.age_chunk.specs.ChunkBoxes.{tag_length}
-use Rattle.age_keys.specs.Keys.{box}
-use Rattle.age_c.specs.Writers.{CanSeal, HasSealed, SameKeys, blocks_of}
+use Rattle.age_keys.specs.Keys.{box, IsMacOf, IsScryptNotAlone}
+use Rattle.age_c.specs.Writers.{CanSeal, HasLines, HasSealed, IsFileFront, SameKeys, blocks_of}
+use Rattle.age_stanza.specs.Grammar.{end_line, line, version}
+use Rattle.age_stanza.specs.declared.header.Header.{Header}
 use Rattle.age_c.specs.declared.writer.Writer.{Writer}
 
 -- the chunk was sealed as one before the last, and one more may follow
@@ -40,3 +42,16 @@ pub record IsLastCall (w : Writer) (rest out : List ℕ) : Type 0 where
   pub short : length rest ≤ chunk_length
   pub some : length rest ≡ 0 → w.chunk ≡ 0
   pub room : length rest + tag_length ≤ length out
+
+-- the text of a header whose stanzas have these lines, with a MAC of zeros
+abbrev pub zero_text : List ℕ → List ℕ
+zero_text lines = line version ++ (lines ++ line (end_line (replicate 32 0)))
+
+-- the bytes are what stands before the payload of a file whose stanzas have these lines, and whose
+-- header's MAC was made under the key
+pub record HasKeyFront (lines key nonce bytes : List ℕ) : Type 0 where
+  pub header : Header
+  pub has : HasLines lines header
+  pub alone : ¬ IsScryptNotAlone header
+  pub mac : IsMacOf header key
+  pub front : IsFileFront header nonce bytes

@@ -1,0 +1,10 @@
+use Rattle.std.proofs.Common.{ap₂, ◌∙◌, append-nil}
+use Rattle.age_kdf.specs.Derivation.{hmac}
+use Rattle.age_keys.specs.Keys.{header_mac}
+use Rattle.age_c.proofs.seal_key.mac_of.Goals as goal
+
+pub returns-clause-mac : goal.returns-clause-mac
+unfolding header_mac
+returns-clause-mac c =
+    c.hmac.ensures
+    ∙ ap₂ hmac c.hkdf32-secret.ensures (append-nil c.as_slice.result.now ∙ (c.as_slice.ensures.value ∙ c.in-Ok.ensures.text))

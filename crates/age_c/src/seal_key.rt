@@ -1,0 +1,169 @@
+//! The function by which C begins a file whose key it has wrapped itself.
+
+ghost use Rattle.std.specs.Prelude.{◌≡◌, ◌<◌, ◌≤◌, ◌+◌, ℕ, length, take, drop, slice_index, IfOk, IfErr};
+ghost use Rattle.age_stanza.specs.Grammar.{HasText};
+ghost use Rattle.age_stanza.specs.Parsing.{memory_fault};
+ghost use Rattle.std.specs.List.{list_any};
+ghost use Rattle.age_keys.specs.Keys.{IsScryptNotAlone, header_mac, is_scrypt, scrypt_not_alone};
+ghost use Rattle.age_c.specs.Calls.{Answers};
+ghost use Rattle.age_c.specs.Writers.{BeginsFileWith, HasLines, IsKeyCall, RefusesLines, WritesOrRefuses};
+ghost use Rattle.age_c.specs.inner.Sealing.{HasKeyFront, zero_text};
+
+use crate::MISUSED;
+use crate::blocks::put;
+use crate::seal::FRONT;
+use crate::sealing::{front_of, writer_of};
+use crate::start::head_of;
+use crate::work::is_scrypt;
+use crate::writer::Writer;
+use age_stanza::{HeadFault, Header, Stanza, mac_text, one_header};
+use std::alloc::{AllocError, Global};
+
+/// The number of a fault: lines that no header has.
+const BAD_STANZA_LINE: u32 = 3;
+
+/// The number of a fault: a scrypt stanza beside another stanza.
+const SCRYPT_NOT_ALONE: u32 = 9;
+
+/// The number of a fault: there isn't enough memory.
+const MEMORY: u32 = 28;
+
+/// How many random bytes a file is made of: the file key and the payload's nonce.
+const RANDOM_LEN: usize = 32;
+
+/// The version line of a header.
+const VERSION_LINE: &[u8; 22] = b"age-encryption.org/v1\n";
+
+/// An end line, with a MAC of zeros.
+const END_LINE: &[u8; 48] = b"--- AAAAAAAAAAAAAAAAAAAAAAAAAAAAAAAAAAAAAAAAAAA\n";
+
+/// The text of a header whose stanzas have these lines, with a MAC of zeros.
+fn zero_text(alloc: Global, lines: &[u8]) -> Result<Vec<u8>, AllocError>
+    ensures { IfOk result (λ text. text.items ≡ zero_text lines.now) }
+{
+    let mut text = Vec::from_slice(alloc, VERSION_LINE)?;
+    text.extend_from_slice(lines)?;
+    text.extend_from_slice(END_LINE)?;
+    Ok(text)
+}
+
+/// Whether some stanza is of type `scrypt`.
+fn has_scrypt(stanzas: &[Stanza]) -> bool
+    ensures { result ≡ list_any is_scrypt stanzas.now }
+{
+    stanzas.iter().any(is_scrypt)
+}
+
+/// Whether a scrypt stanza stands beside another stanza, so that every reader refuses the header.
+fn scrypt_not_alone(header: &Header) -> bool
+    ensures { result ≡ scrypt_not_alone header.now }
+{
+    let stanzas = header.stanzas.as_slice();
+    stanzas.len() > 1 && has_scrypt(stanzas)
+}
+
+/// The header whose stanzas have these lines, with a MAC of zeros; or else the answer.
+fn header_of(alloc: Global, lines: &[u8]) -> Result<Header, u32>
+    ensures header { IfOk result (HasLines lines.now) }
+    ensures alone { IfOk result (λ header. ¬ IsScryptNotAlone header) }
+    ensures refused { IfErr result (RefusesLines lines.now) }
+{
+    one_header();
+    let Ok(text) = zero_text(alloc, lines) else {
+        return Err(MEMORY);
+    };
+    let head = match head_of(alloc, text.as_slice()) {
+        Ok(head) => head,
+        Err(fault) if fault.number() == MEMORY => return Err(MEMORY),
+        Err(_) => return Err(BAD_STANZA_LINE),
+    };
+    if head.len < text.len() {
+        return Err(BAD_STANZA_LINE);
+    }
+    if scrypt_not_alone(&head.header) {
+        return Err(SCRYPT_NOT_ALONE);
+    }
+    Ok(head.header)
+}
+
+/// The MAC of a header under a file key. It fails only if memory is refused.
+fn mac_of(alloc: Global, header: &Header, key: &[u8; 16]) -> Result<[u8; 32], HeadFault>
+    requires { HasText header.now }
+    ensures mac { IfOk result (λ mac. mac ≡ header_mac key.now header.now) }
+    ensures bytes { IfOk result (λ mac. (i : ℕ) → slice_index mac i < 256) }
+    ensures memory { IfErr result (λ fault. fault ≡ memory_fault) }
+{
+    let text = match mac_text(alloc, header) {
+        Ok(text) => text,
+        Err(fault) => return Err(fault),
+    };
+    let secret = age_kdf::hkdf32(key, &[], b"header");
+    Ok(age_kdf::hmac(&secret, &[text.as_slice()]))
+}
+
+/// What stands before the payload of a file with these lines of stanzas; or else the answer.
+fn key_front(alloc: Global, lines: &[u8], key: &[u8; 16], nonce: &[u8; 16]) -> Result<Vec<u8>, u32>
+    ensures front { IfOk result (λ front. HasKeyFront lines.now key.now nonce.now front.items) }
+    ensures size { IfOk result (λ front. length front.items ≤ length lines.now + 256) }
+    ensures refused { IfErr result (RefusesLines lines.now) }
+{
+    let mut header = match header_of(alloc, lines) {
+        Ok(header) => header,
+        Err(answer) => return Err(answer),
+    };
+    let Ok(mac) = mac_of(alloc, &header, key) else {
+        return Err(MEMORY);
+    };
+    header.mac = mac;
+    match front_of(alloc, &header, nonce) {
+        Ok(front) => Ok(front),
+        Err(fault) => Err(fault.number()),
+    }
+}
+
+/// The file key and the payload's nonce.
+fn parts_of(random: &[u8; RANDOM_LEN]) -> ([u8; 16], [u8; 16])
+    ensures key { result.0 ≡ take 16 random.now }
+    ensures nonce { result.1 ≡ drop 16 random.now }
+{
+    let (mut key, mut nonce) = ([0; 16], [0; 16]);
+    key.copy_from_slice(&random[..16]);
+    nonce.copy_from_slice(&random[16..]);
+    (key, nonce)
+}
+
+/// Begins a file whose file key the caller has wrapped. `stanzas` is the lines of its header between
+/// the first and the last, and `random` 32 new random bytes: the file key and the payload's nonce.
+/// The header and the nonce are put into `out`, which has room for 256 bytes more than `stanzas`
+/// has, or more. Lines that no header has are refused with 3, and a scrypt stanza beside another
+/// with 9.
+#[unsafe(no_mangle)]
+pub extern "C" fn age_c_seal_key(
+    alloc: Global,
+    stanzas: &[u8],
+    random: &[u8],
+    out: &mut [u8],
+    written: &mut usize,
+    writer: &mut Writer,
+) -> u32
+    ensures { Answers (IsKeyCall stanzas.now random.now out.old)
+        (WritesOrRefuses (BeginsFileWith stanzas.now random.now) (RefusesLines stanzas.now) writer.old)
+        writer.old writer.new result written.new out.old out.new }
+{
+    *written = 0;
+    let Some(random) = random.as_array::<RANDOM_LEN>() else {
+        return MISUSED;
+    };
+    if out.len() < stanzas.len() + FRONT {
+        return MISUSED;
+    }
+    let (key, nonce) = parts_of(random);
+    match key_front(alloc, stanzas, &key, &nonce) {
+        Ok(front) => {
+            *written = put(front.as_slice(), out);
+            *writer = writer_of(&key, &nonce);
+            0
+        }
+        Err(answer) => answer,
+    }
+}
