@@ -434,13 +434,14 @@ class LanguagesTest(ProgramsCase):
         self.see_copy("C", text)
         # (from here on with little work)
         self.write("horse", b"correct horse")
-        self.write("in", text)
-        self.tool(*"encrypt --pass horse --log 1 --no-sync in notes.age".split(), check=True)
-        for place in (0, 70_000, 131_072, 199_999, 200_000):
+        for length, place in ((131_072, 131_072), (131_072, 131_071), *((200_000, it) for it in (0, 70_000, 131_072, 199_999, 200_000))):
+            text = plain_of(length)
+            self.write("in", text)
+            self.tool(*"encrypt --pass horse --log 1 --no-sync in notes.age".split(), check=True)
             self.path("sample.c").write_text(sample_of("c").replace("pass_len, 18,", "pass_len, 1,").replace("from, 13,", f"from, {place},"))
             self.succeed("C", self.room, {}, words)
             run = subprocess.run([self.path("sample-c")], cwd=self.room, input=b"", capture_output=True)
-            self.see(f"the sample in C from {place}", (run.returncode, run.stdout) == (0, text[place:]), run.stderr)
+            self.see(f"the sample in C from {place} of {length}", (run.returncode, run.stdout) == (0, text[place:]), run.stderr)
             self.see_copy("C", b"")
         self.path("notes.age").write_bytes(self.read("notes.age")[:-1])
         run = subprocess.run([self.path("sample-c")], cwd=self.room, input=b"", capture_output=True)

@@ -140,11 +140,14 @@ impl<W: Write> AgeWriter<W> {
         self.out
     }
 
+    /// Fails if an earlier call did.
+    fn see_whole(&self) -> io::Result<()> {
+        self.failed.as_ref().map_or(Ok(()), |it| Err(it.again()))
+    }
+
     /// Makes a call, and passes on what it wrote. If that fails, the file can't be finished.
     fn write_by(&mut self, call: impl FnOnce(&mut Self, &mut usize) -> u32) -> io::Result<()> {
-        if let Some(failure) = &self.failed {
-            return Err(failure.again());
-        }
+        self.see_whole()?;
         self.failed = Some(Failure::InCall);
         let mut written = 0;
         let answer = call(self, &mut written);
@@ -204,6 +207,7 @@ impl<W: Write> Write for AgeWriter<W> {
 
     /// Passes on what is sealed; a chunk that isn't full stays.
     fn flush(&mut self) -> io::Result<()> {
+        self.see_whole()?;
         self.out.flush()
     }
 }

@@ -491,7 +491,11 @@ fn a_file_that_failed_is_not_finished() {
         writer.write_all(&text_of(200_000)).unwrap_err().kind(),
         ErrorKind::WriteZero
     );
-    for later in [writer.write_all(b"x"), writer.finish().map(|_| ())] {
+    for later in [
+        writer.write_all(b"x"),
+        writer.flush(),
+        writer.finish().map(|_| ()),
+    ] {
         let error = later.unwrap_err();
         assert_eq!(error.kind(), ErrorKind::WriteZero);
         let cause = "because an earlier write failed: failed to write whole buffer";
