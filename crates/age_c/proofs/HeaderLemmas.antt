@@ -1,7 +1,6 @@
 -- What is told of a header and its stanzas.
-use Rattle.std.proofs.Common.{◌≡◌, ℕ, ◌+◌, ◌-◌, ◌<◌, ◌≤◌, List, [], ◌∷◌, ◌++◌, length, take, drop, min, Option, Some, None, refl, sym, ap, ◌∙◌, arith}
-use Rattle.std.specs.Prelude.{codes, IfSome, IfNone}
-use Rattle.std.specs.Option.{unwrap_or}
+use Rattle.std.proofs.Common.{◌≡◌, ℕ, ◌+◌, ◌-◌, ◌<◌, ◌≤◌, List, [], ◌∷◌, ◌++◌, length, take, drop, min, refl, sym, ap, ◌∙◌, arith}
+use Rattle.std.specs.Prelude.{codes}
 use Rattle.std.specs.List.{flat_map, AllByRecursion}
 use Rattle.std.proofs.lemmas.List.{append_assoc, drop_at, length-append, take_at, take-append-drop}
 use Rattle.std.proofs.lemmas.List.Concat.{flat_map-append}
@@ -20,25 +19,25 @@ use Rattle.age_c.specs.Readers.{HasHead}
 -- ---- the work factor
 
 -- what was read of the only stanza is the header's work factor
-pub work_from : (h : Header) (s : Stanza) (found : Option ℕ) (work : ℕ) → h.stanzas ≡ s ∷ [] → work ≡ unwrap_or found 0
-    → IfSome found (λ n. (salt : List ℕ) × (log : ℕ) × (body : List ℕ) × (n ≡ min log 4294967295) × IsScryptStanza s salt log body)
-    → IfNone found ((salt : List ℕ) (log : ℕ) (body : List ℕ) → ¬ IsScryptStanza s salt log body)
-    → IsWork h work
-work_from h s None work one is read none = record {
-  some = λ other. absurd (other is);
+pub work_from : (h : Header) (s : Stanza) (salt body : List ℕ) (log work : ℕ) → h.stanzas ≡ s ∷ [] → work ≡ min log 4294967295
+    → IsScryptStanza s salt log body → IsWork h work
+work_from h s salt body log work one is valid =
+    let least = work_factor_some valid.characters valid.work_factor in
+    let log_is = valid.log_is in
+    record {
+      some = λ _. (record { stanza = s; alone = one; salt = salt; log = log; body = body; valid = valid }, is);
+      none = λ zero _. absurd (omega (arith, zero, is));
+    }
+
+-- a stanza that isn't valid has none
+pub no_work : (h : Header) (s : Stanza) → h.stanzas ≡ s ∷ []
+    → ((salt : List ℕ) (log : ℕ) (body : List ℕ) → IsScryptStanza s salt log body → ⊥) → IsWork h 0
+no_work h s one none = record {
+  some = λ other. absurd (other refl);
   none = λ _ only.
       let same : only.stanza ≡ s = cc (only.alone, one) in
       none only.salt only.log only.body (rw same at only.valid);
 }
-work_from h s (Some n) work one is read none =
-    let valid = read.4 in
-    let least = work_factor_some valid.characters valid.work_factor in
-    let log_is = valid.log_is in
-    let number_is = read.3 in
-    record {
-      some = λ _. (record { stanza = s; alone = one; salt = read.0; log = read.1; body = read.2; valid = valid }, is ∙ read.3);
-      none = λ zero _. absurd (omega arith);
-    }
 
 -- ---- how long texts are
 

@@ -1,10 +1,7 @@
 //! The function by which C begins a file whose key it has wrapped itself.
 
-ghost use Rattle.std.specs.Prelude.{◌≡◌, ◌<◌, ◌≤◌, ◌+◌, ℕ, length, take, drop, slice_index, IfOk, IfErr};
-ghost use Rattle.age_stanza.specs.Grammar.{HasText};
-ghost use Rattle.age_stanza.specs.Parsing.{memory_fault};
-ghost use Rattle.std.specs.List.{list_any};
-ghost use Rattle.age_keys.specs.Keys.{IsScryptNotAlone, header_mac, is_scrypt, scrypt_not_alone};
+ghost use Rattle.std.specs.Prelude.{◌≡◌, ◌≤◌, ◌+◌, length, take, drop, IfOk, IfErr};
+ghost use Rattle.age_keys.specs.Keys.{IsScryptNotAlone};
 ghost use Rattle.age_c.specs.Calls.{Answers};
 ghost use Rattle.age_c.specs.Writers.{BeginsFileWith, HasLines, IsKeyCall, RefusesLines, WritesOrRefuses};
 ghost use Rattle.age_c.specs.inner.Sealing.{HasKeyFront, zero_text};
@@ -14,9 +11,9 @@ use crate::blocks::put;
 use crate::seal::FRONT;
 use crate::sealing::{front_of, writer_of};
 use crate::start::head_of;
-use crate::work::is_scrypt;
 use crate::writer::Writer;
-use age_stanza::{HeadFault, Header, Stanza, mac_text, one_header};
+use age_keys::{FileKey, mac_of, scrypt_not_alone};
+use age_stanza::{Header, one_header};
 use std::alloc::{AllocError, Global};
 
 /// The number of a fault: lines that no header has.
@@ -47,21 +44,6 @@ fn zero_text(alloc: Global, lines: &[u8]) -> Result<Vec<u8>, AllocError>
     Ok(text)
 }
 
-/// Whether some stanza is of type `scrypt`.
-fn has_scrypt(stanzas: &[Stanza]) -> bool
-    ensures { result ≡ list_any is_scrypt stanzas.now }
-{
-    stanzas.iter().any(is_scrypt)
-}
-
-/// Whether a scrypt stanza stands beside another stanza, so that every reader refuses the header.
-fn scrypt_not_alone(header: &Header) -> bool
-    ensures { result ≡ scrypt_not_alone header.now }
-{
-    let stanzas = header.stanzas.as_slice();
-    stanzas.len() > 1 && has_scrypt(stanzas)
-}
-
 /// The header whose stanzas have these lines, with a MAC of zeros; or else the answer.
 fn header_of(alloc: Global, lines: &[u8]) -> Result<Header, u32>
     ensures header { IfOk result (HasLines lines.now) }
@@ -86,21 +68,6 @@ fn header_of(alloc: Global, lines: &[u8]) -> Result<Header, u32>
     Ok(head.header)
 }
 
-/// The MAC of a header under a file key. It fails only if memory is refused.
-fn mac_of(alloc: Global, header: &Header, key: &[u8; 16]) -> Result<[u8; 32], HeadFault>
-    requires { HasText header.now }
-    ensures mac { IfOk result (λ mac. mac ≡ header_mac key.now header.now) }
-    ensures bytes { IfOk result (λ mac. (i : ℕ) → slice_index mac i < 256) }
-    ensures memory { IfErr result (λ fault. fault ≡ memory_fault) }
-{
-    let text = match mac_text(alloc, header) {
-        Ok(text) => text,
-        Err(fault) => return Err(fault),
-    };
-    let secret = age_kdf::hkdf32(key, &[], b"header");
-    Ok(age_kdf::hmac(&secret, &[text.as_slice()]))
-}
-
 /// What stands before the payload of a file with these lines of stanzas; or else the answer.
 fn key_front(alloc: Global, lines: &[u8], key: &[u8; 16], nonce: &[u8; 16]) -> Result<Vec<u8>, u32>
     ensures front { IfOk result (λ front. HasKeyFront lines.now key.now nonce.now front.items) }
@@ -111,7 +78,7 @@ fn key_front(alloc: Global, lines: &[u8], key: &[u8; 16], nonce: &[u8; 16]) -> R
         Ok(header) => header,
         Err(answer) => return Err(answer),
     };
-    let Ok(mac) = mac_of(alloc, &header, key) else {
+    let Ok(mac) = mac_of(alloc, &header, &FileKey::new(*key)) else {
         return Err(MEMORY);
     };
     header.mac = mac;

@@ -41,16 +41,17 @@ pub(crate) fn has_scrypt(stanzas: &[Stanza]) -> bool
 
 /// Whether a scrypt stanza stands beside another stanza, which is refused: whoever decrypts with a
 /// passphrase assumes that the file's author knew it, but whoever can open another stanza can make
-/// the MAC too.
-pub(crate) fn scrypt_not_alone(header: &Header) -> bool
+/// the MAC too (<https://c2sp.org/age#scrypt-recipient-stanza>).
+pub fn scrypt_not_alone(header: &Header) -> bool
     ensures { result ≡ scrypt_not_alone header.now }
 {
     let stanzas = header.stanzas.as_slice();
     stanzas.len() > 1 && has_scrypt(stanzas)
 }
 
-/// The MAC of a header under a file key. The only fault is a refusal of memory.
-pub(crate) fn mac_of(alloc: Global, header: &Header, key: &FileKey) -> Result<[u8; 32], KeyFault>
+/// The MAC of a header under a file key (<https://c2sp.org/age#header-mac>). It requires
+/// [`is_header`](age_stanza::is_header). The only fault is a refusal of memory.
+pub fn mac_of(alloc: Global, header: &Header, key: &FileKey) -> Result<[u8; 32], KeyFault>
     requires { HasText header.now }
     ensures mac { IfOk result (λ mac. mac ≡ header_mac key.now header.now) }
     ensures bytes { IfOk result IsBytes }

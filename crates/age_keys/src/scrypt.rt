@@ -81,17 +81,19 @@ fn number_of(characters: &[u8]) -> u32
 /// A scrypt stanza (<https://c2sp.org/age#scrypt-recipient-stanza>): `-> scrypt SALT LOG` and a
 /// body.
 #[derive(Clone, Copy)]
-pub(crate) struct ScryptStanza {
+pub struct ScryptStanza {
+    /// The salt.
     pub salt: [u8; 16],
     /// The work factor, or the greatest `u32` if it is above that.
     pub log: u32,
+    /// The body, in which the file key is wrapped.
     pub body: [u8; 32],
 }
 
 impl ScryptStanza {
     /// Reads a stanza of type `scrypt`; `None` if it isn't valid. The body's length is checked
     /// before it is opened, so that no body opens under many passphrases.
-    pub(crate) fn read(stanza: &Stanza) -> Option<ScryptStanza>
+    pub fn read(stanza: &Stanza) -> Option<ScryptStanza>
         ensures read { IfSome result (λ read. (log : ℕ) × (read.log ≡ min log 4294967295)
             × IsScryptStanza stanza.now read.salt log read.body) }
         ensures none { IfNone result ((salt : List ℕ) (log : ℕ) (body : List ℕ)

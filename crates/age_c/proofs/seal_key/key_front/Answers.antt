@@ -1,4 +1,5 @@
-use Rattle.std.proofs.Common.{arith}
+use Rattle.std.proofs.Common.{List, ℕ, ap, ◌∙◌, arith}
+use Rattle.age_keys.specs.Keys.{header_mac}
 use Rattle.age_stanza.specs.declared.header.Header.{Header}
 use Rattle.age_c.proofs.KeyHeadLemmas.{key_front_size, mac_made, with_mac}
 use Rattle.age_c.proofs.seal_key.key_front.Goals as goal
@@ -16,7 +17,7 @@ returns-in-Ok-front_of-clause-front c =
       header = signed;
       has = with_mac c.args.lines.now mac h c.in-Ok.ensures.header (omega arith) c.in-Ok-mac_of.ensures.bytes;
       alone = c.in-Ok.ensures.alone;
-      mac = mac_made c.args.key.now mac h c.in-Ok-mac_of.ensures.mac;
+      mac = mac_made c.args.key.now mac h (c.in-Ok-mac_of.ensures.mac ∙ ap (λ (k : List ℕ). header_mac k h) c.new.ensures);
       front = c.in-Ok-front_of.ensures.front;
     }
 
