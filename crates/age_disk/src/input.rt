@@ -4,9 +4,8 @@ ghost use Rattle.std.specs.Prelude.{◌≡◌, [], None, false, IfOk};
 ghost use Rattle.std.specs.Io.{ReadsAtMost};
 
 use crate::names::{FileId, Resolved, Stream, is_on_disk, is_random, resolve};
-use crate::retry::{TRIES, is_to_retry, too_many_tries};
 use age_io::{Failed, Failures, Source, Tape};
-use age_machine::above_streams;
+use age_machine::{TRIES, above_streams, is_to_retry, too_many_tries};
 use std::alloc::Global;
 use std::fs::{File, Metadata};
 use std::io::{self, Read, Seek, SeekFrom};

@@ -9,7 +9,6 @@ mod names;
 mod output;
 mod paths;
 mod prepare;
-mod retry;
 mod saving;
 mod sync;
 

@@ -1,86 +1,91 @@
 //! A file of the machine that is written.
 
-ghost use Rattle.std.specs.Prelude.{◌≡◌, [], None, true, false, IfOk};
+ghost use Rattle.std.specs.Prelude.{◌≡◌, [], ◌∷◌, None, true, false, IfOk, string_bytes};
 ghost use Rattle.std.specs.Io.{WritesAtMost};
+ghost use Rattle.age_machine.specs.Calls.{Opened};
+ghost use Rattle.age_machine.specs.Numbers.{number_of};
 
-use crate::lock::{lock, remove_own};
+use crate::lock::lock;
 use crate::names::{FileId, Resolved, Stream, resolve};
-use crate::paths::{OUTPUT_MODE, make_output, open_to_write};
-use crate::retry::{TRIES, is_to_retry, too_many_tries};
-use crate::sync::{Witness, close_stream, sync_file, sync_folder, sync_folder_if_readable};
+use crate::sync::{Witness, close_stream, sync_file};
 use age_io::{Durability, Failed, Failures, Sink, Tape};
-use age_machine::above_streams;
-use age_machine::calls::{close, cut};
+use age_machine::calls::close;
+use age_machine::{
+    HostFile, HostMachine, Machine, Opening, Out, TRIES, is_to_retry, too_many_tries,
+};
 use std::alloc::Global;
 use std::fs::File;
 use std::io::{self, IsTerminal, Write};
 use std::marker::Model;
 use std::mem;
-use std::os::unix::fs::MetadataExt;
-use std::path::PathBuf;
 use std::rt::{HostRuntime, Stderr, Stdout};
-
-/// A file that was opened to be written.
-#[derive(Drop)]
-struct OutFile {
-    file: File,
-    // The path that led to it, if one did.
-    path: Option<PathBuf>,
-    // Opening made it: then each write goes to its end, so nobody can leave a hole in it.
-    is_made: bool,
-    // It had a name when it was opened.
-    is_named: bool,
-    // What it held is still there, beyond the bytes that were written.
-    is_stale: bool,
-    written: u64,
-    // How much was written when it was last seen to be as it should.
-    seen: u64,
-    // Its length is how much was written, as long as nobody else changes it. Files that the system
-    // makes up, as in /proc, have another.
-    has_length: bool,
-}
 
 /// Where its bytes go.
 #[derive(Drop)]
 enum Target {
-    /// A file that was opened.
-    File(OutFile),
-    /// Standard output, from where it stands.
-    Output(Stdout),
+    /// A regular file that was opened.
+    File(Out<HostMachine>),
+    /// A pipe or a device that was opened.
+    Device(File),
+    /// Standard output, from where it stands, and what its disk is waited for by.
+    Output(Stdout, Witness),
     /// Standard error, from where it stands.
-    Faults(Stderr),
+    Faults(Stderr, Witness),
+}
+
+/// Writes, and tries again if the machine says to.
+fn write_to<W: Write>(rt: &HostRuntime, to: &mut W, from: &[u8]) -> io::Result<usize>
+    ensures { WritesAtMost result from.now }
+{
+    for _ in 0..TRIES {
+        match to.write(from) {
+            Err(error) if is_to_retry(rt, &error) => {}
+            written => return written,
+        }
+    }
+    Err(too_many_tries())
 }
 
 impl Target {
-    /// Writes, and tries again if the machine says to.
     fn write(&mut self, rt: &HostRuntime, from: &[u8]) -> io::Result<usize>
         ensures { WritesAtMost result from.now }
     {
-        for _ in 0..TRIES {
-            match self.write_once(from) {
-                Err(error) if is_to_retry(rt, &error) => {}
-                written => return written,
-            }
-        }
-        Err(too_many_tries())
-    }
-
-    fn write_once(&mut self, from: &[u8]) -> io::Result<usize>
-        ensures { WritesAtMost result from.now }
-    {
         match self {
-            Target::File(out) => out.write(from),
-            Target::Output(output) => output.write(from),
-            Target::Faults(faults) => faults.write(from),
+            Target::File(out) => out.put(from),
+            Target::Device(file) => write_to(rt, file, from),
+            Target::Output(output, _) => write_to(rt, output, from),
+            Target::Faults(faults, _) => write_to(rt, faults, from),
         }
     }
 
-    /// Closes it.
+    /// Waits until what was written has reached the disk.
+    fn reach_disk(&mut self) -> io::Result<()> {
+        match self {
+            Target::File(out) => out.reach(),
+            Target::Device(file) => sync_file(file),
+            Target::Output(_, witness) | Target::Faults(_, witness) => witness.sync(),
+        }
+    }
+
+    /// Ends what was written, and closes it, in either case. The end of a regular file waits for the
+    /// disk itself.
+    fn end(mut self, rt: &HostRuntime, lost: Option<io::Error>, to: Durability) -> io::Result<()> {
+        let reached = match (&self, to, lost) {
+            (Target::File(_), _, _) | (_, Durability::Buffered, _) => Ok(()),
+            (_, _, Some(error)) => Err(error),
+            _ => self.reach_disk(),
+        };
+        let closed = self.close(rt, to);
+        reached?;
+        closed
+    }
+
     fn close(self, rt: &HostRuntime, durability: Durability) -> io::Result<()> {
         match self {
-            Target::File(out) => out.close(rt, durability),
-            Target::Output(_) => close_stream(rt, Stream::Output),
-            Target::Faults(_) => close_stream(rt, Stream::Faults),
+            Target::File(out) => out.end(durability).end,
+            Target::Device(file) => close(rt, file),
+            Target::Output(..) => close_stream(rt, Stream::Output),
+            Target::Faults(..) => close_stream(rt, Stream::Faults),
         }
     }
 }
@@ -92,8 +97,6 @@ impl Target {
 pub struct HostOut {
     rt: HostRuntime,
     target: Target,
-    // Of a stream: what its disk is waited for by.
-    witness: Witness,
     // Which file it is, if that is known.
     id: Option<FileId>,
     failures: Failures,
@@ -117,215 +120,6 @@ impl Model for HostOut {
     ghost view = { λ s. ((s.failures.count, s.failures.last), s.took) };
 }
 
-/// Whether a file is a regular one.
-fn is_regular(file: &File) -> io::Result<bool> {
-    Ok(file.metadata()?.is_file())
-}
-
-/// What another program has done to a file that is being written.
-#[derive(Clone, Copy)]
-enum Harm {
-    /// It has removed its last name.
-    Removed,
-    /// It has changed its length.
-    Length,
-}
-
-/// How many bytes may be written before a file is looked at again: one that opening made can't get
-/// a hole, and is looked at less often.
-const SIGHT_OF_FOUND: u64 = 1 << 24;
-
-const SIGHT_OF_MADE: u64 = 1 << 30;
-
-impl OutFile {
-    /// Opens a file without emptying it, or makes it if there is none.
-    fn open(rt: &HostRuntime, name: &str, path: PathBuf) -> io::Result<OutFile> {
-        match open_to_write(rt, name, OUTPUT_MODE)? {
-            Some(file) => OutFile::of_found(above_streams(file)?, Some(path)),
-            None => OutFile::make(rt, path),
-        }
-    }
-
-    /// A file that was there; what is written replaces what it holds.
-    fn of_found(file: File, path: Option<PathBuf>) -> io::Result<OutFile> {
-        let is_named = file.metadata()?.nlink() > 0;
-        Ok(OutFile {
-            file,
-            path,
-            is_made: false,
-            is_named,
-            is_stale: true,
-            written: 0,
-            seen: 0,
-            has_length: true,
-        })
-    }
-
-    /// Makes a file at a path that holds neither a file nor a link.
-    fn make(rt: &HostRuntime, path: PathBuf) -> io::Result<OutFile> {
-        let file = make_output(rt, path.as_str())?;
-        Ok(OutFile {
-            file,
-            path: Some(path),
-            is_made: true,
-            is_named: true,
-            is_stale: false,
-            written: 0,
-            seen: 0,
-            has_length: true,
-        })
-    }
-
-    /// Cuts off what a regular file held beyond the bytes that were written.
-    fn cut(&mut self) -> io::Result<()> {
-        if self.is_stale {
-            cut_file(&self.file, self.written)?;
-            self.is_stale = false;
-        }
-        Ok(())
-    }
-
-    /// The first bytes are written before the rest is cut off, so that a first write that fails
-    /// changes nothing. If they can't be cut off, the bytes count as written, and what comes next
-    /// tries again and fails.
-    fn write(&mut self, from: &[u8]) -> io::Result<usize>
-        ensures { WritesAtMost result from.now }
-    {
-        if self.written > 0 {
-            self.cut()?;
-        }
-        let is_first = self.written == 0;
-        let n = self.file.write(from)?;
-        self.written = self.written.saturating_add(n as u64);
-        if self.written > 0 {
-            let _ = self.cut();
-        }
-        if is_first {
-            self.see_length();
-        }
-        Ok(n)
-    }
-
-    /// Sees whether it is as long as the first bytes that were written.
-    fn see_length(&mut self) {
-        if let Ok(own) = self.file.metadata()
-            && !self.is_stale
-        {
-            self.has_length = own.len() == self.written;
-        }
-    }
-
-    /// Whether it is to be looked at before more is written.
-    fn is_out_of_sight(&self) -> bool {
-        let most = if self.is_made {
-            SIGHT_OF_MADE
-        } else {
-            SIGHT_OF_FOUND
-        };
-        self.written.saturating_sub(self.seen) >= most
-    }
-
-    /// What another program has done to it meanwhile. While more is to be written it may be longer:
-    /// somebody else may append to it, which is seen at its end.
-    fn harm(&self, is_over: bool) -> io::Result<Option<Harm>> {
-        let own = self.file.metadata()?;
-        let is_right = own.len() == self.written || (!is_over && own.len() > self.written);
-        if !own.is_file() {
-            Ok(None)
-        } else if self.is_named && own.nlink() == 0 {
-            Ok(Some(Harm::Removed))
-        } else if self.has_length && !is_right {
-            Ok(Some(Harm::Length))
-        } else {
-            Ok(None)
-        }
-    }
-
-    /// How many of the bytes that were written it can hold, by its length.
-    fn room(&self) -> u64 {
-        match self.file.metadata() {
-            Ok(own) if !own.is_file() || !self.has_length => u64::MAX,
-            Ok(own) if self.is_named && own.nlink() == 0 => 0,
-            Ok(own) => own.len(),
-            Err(_) => 0,
-        }
-    }
-
-    /// Whether it still holds what it held, or nothing if it was made.
-    fn is_untouched(&self) -> bool {
-        match self.file.metadata() {
-            Ok(there) if !self.is_stale => there.len() == 0,
-            _ => self.is_stale && self.written == 0,
-        }
-    }
-
-    /// Takes it for this run alone. Fails if another run has it, or if its name leads to it no
-    /// longer, as when another run that had made it has removed it.
-    fn claim(&self, rt: &HostRuntime, name: &str) -> io::Result<()> {
-        lock(&self.file)?;
-        if is_regular(&self.file)? && FileId::at(rt, name) != FileId::of(&self.file.metadata()?) {
-            return Err(io::Error::from(io::ErrorKind::NotFound));
-        }
-        Ok(())
-    }
-
-    /// Closes it, and waits until its name has reached the disk. Where another program made the
-    /// name, that is done if its folder can be read.
-    fn close(self, rt: &HostRuntime, durability: Durability) -> io::Result<()> {
-        let is_named = self.is_named && is_regular(&self.file)?;
-        let OutFile {
-            file,
-            path,
-            is_made,
-            ..
-        } = self;
-        close(rt, file)?;
-        match path {
-            Some(path) if is_named && durability == Durability::Synced => {
-                sync_name(rt, &path, is_made)
-            }
-            _ => Ok(()),
-        }
-    }
-
-    /// Whether it is empty.
-    fn is_empty(&self) -> bool {
-        match self.file.metadata() {
-            Ok(own) => own.len() == 0,
-            Err(_) => false,
-        }
-    }
-
-    /// Removes it, if opening made it, this run alone has it, and it is still empty.
-    fn remove_made(&self, rt: &HostRuntime, durability: Durability) {
-        if let Some(path) = &self.path
-            && self.is_made
-            && self.is_empty()
-            && remove_own(rt, &self.file, path.as_str())
-            && durability == Durability::Synced
-        {
-            let _ = sync_folder(rt, path);
-        }
-    }
-}
-
-/// Waits until the name of an output has reached the disk.
-fn sync_name(rt: &HostRuntime, path: &PathBuf, is_made: bool) -> io::Result<()> {
-    if is_made {
-        sync_folder(rt, path)
-    } else {
-        sync_folder_if_readable(rt, path)
-    }
-}
-
-/// Cuts off what a regular file holds after this many bytes.
-fn cut_file(file: &File, len: u64) -> io::Result<()> {
-    if is_regular(file)? {
-        cut(file, len)?;
-    }
-    Ok(())
-}
-
 /// How many bytes are written at least, and at most, between two waits for the disk. In between,
 /// they grow with what was written: so a stop seldom loses more than half of it.
 const WAIT_FIRST: u64 = 1 << 24;
@@ -344,7 +138,6 @@ impl HostOut {
         HostOut {
             rt: *rt,
             target,
-            witness: Witness::none(),
             id,
             failures: Failures::none(),
             error: io::Error::from(io::ErrorKind::Other),
@@ -372,7 +165,7 @@ impl HostOut {
     pub fn faults(rt: &HostRuntime) -> HostOut
         ensures { result ≡ ((0, false), []) }
     {
-        HostOut::new(rt, Target::Faults(rt.stderr()), None)
+        HostOut::new(rt, Target::Faults(rt.stderr(), Witness::none()), None)
     }
 
     /// Opens what a name stands for without emptying it, or makes a file if there is none. Nothing
@@ -387,7 +180,7 @@ impl HostOut {
         ensures { IfOk result (λ out. out ≡ ((0, false), [])) }
     {
         let mut out = match resolve(alloc, rt, name)? {
-            Resolved::Path(path) => HostOut::of_file(rt, OutFile::open(rt, name, path)?)?,
+            Resolved::Path(path) => HostOut::open_at(alloc, rt, name, path.as_str())?,
             Resolved::Stream(stream) => HostOut::of_stream(rt, stream)?,
         };
         out.durability = durability;
@@ -403,22 +196,79 @@ impl HostOut {
     ) -> io::Result<HostOut>
         ensures { IfOk result (λ out. out ≡ ((0, false), [])) }
     {
-        let path = PathBuf::from_str(alloc, name)?;
-        let mut out = HostOut::of_file(rt, OutFile::make(rt, path)?)?;
+        let mut out = HostOut::make_by(alloc, HostMachine::new(rt), rt, name)?;
         out.durability = durability;
         Ok(out)
     }
 
-    fn of_file(rt: &HostRuntime, out: OutFile) -> io::Result<HostOut>
+    /// Opens the file at the end of a name's links, or makes it if there is none.
+    fn open_at(alloc: Global, rt: &HostRuntime, name: &str, path: &str) -> io::Result<HostOut>
         ensures { IfOk result (λ out. out ≡ ((0, false), [])) }
     {
-        let id = FileId::of(&out.file.metadata()?);
+        let own = String::from_str(alloc, path)?;
+        let mut machine = HostMachine::new(rt);
+        match machine.open(name, own.as_str())? {
+            Some(file) => HostOut::of_opened(rt, machine, file, own, true),
+            None => HostOut::make_by(alloc, machine, rt, path),
+        }
+    }
+
+    /// Makes a file at a path that holds neither a file nor a link.
+    fn make_by(
+        alloc: Global,
+        machine: HostMachine,
+        rt: &HostRuntime,
+        path: &str,
+    ) -> io::Result<HostOut>
+        requires { (machine.calls ≡ []) × (machine.failed ≡ 0) }
+        ensures { IfOk result (λ out. out ≡ ((0, false), [])) }
+    {
+        let mut machine = machine;
+        let own = String::from_str(alloc, path)?;
+        let file = machine.make_output(own.as_str())?;
+        let id = FileId::of(&file.file().metadata()?);
+        let opening = Opening {
+            is_made: true,
+            is_named: true,
+            is_waited: true,
+        };
+        let out = Out::new(machine, file, own, opening);
         Ok(HostOut::new(rt, Target::File(out), id))
     }
 
-    /// A file that is open to be written; what is written replaces what it holds.
-    pub fn over(rt: &HostRuntime, file: File) -> io::Result<HostOut> {
-        HostOut::of_file(rt, OutFile::of_found(file, None)?)
+    /// What was opened to be written; what is written to a regular file replaces what it holds.
+    fn of_opened(
+        rt: &HostRuntime,
+        machine: HostMachine,
+        file: HostFile,
+        path: String,
+        is_waited: bool,
+    ) -> io::Result<HostOut>
+        requires unfailed { machine.failed ≡ 0 }
+        requires opened { machine.calls ≡ Opened (string_bytes path) (number_of file.node) ∷ [] }
+        ensures { IfOk result (λ out. out ≡ ((0, false), [])) }
+    {
+        let sight = machine.look(&file)?;
+        let id = FileId::of(&file.file().metadata()?);
+        if !sight.is_regular {
+            return Ok(HostOut::new(rt, Target::Device(file.into_file()), id));
+        }
+        let opening = Opening {
+            is_made: false,
+            is_named: sight.is_named,
+            is_waited: is_waited && sight.is_named,
+        };
+        let out = Out::new(machine, file, path, opening);
+        Ok(HostOut::new(rt, Target::File(out), id))
+    }
+
+    /// A file that is open to be written, to which a path leads, unless it is a device. Its name
+    /// isn't waited for.
+    pub fn over(alloc: Global, rt: &HostRuntime, file: File, path: &str) -> io::Result<HostOut> {
+        let own = String::from_str(alloc, path)?;
+        let mut machine = HostMachine::new(rt);
+        let file = machine.adopt(file, own.as_str())?;
+        HostOut::of_opened(rt, machine, file, own, false)
     }
 
     /// A stream that can be written, from where it stands.
@@ -428,21 +278,24 @@ impl HostOut {
         stream.check(rt)?;
         let target = match stream {
             Stream::Input => return Err(io::Error::from(io::ErrorKind::Unsupported)),
-            Stream::Output => Target::Output(rt.stdout()),
-            Stream::Faults => Target::Faults(rt.stderr()),
+            Stream::Output => Target::Output(rt.stdout(), Witness::of(rt, stream)),
+            Stream::Faults => Target::Faults(rt.stderr(), Witness::of(rt, stream)),
         };
         let id = FileId::of_open_stream(rt, stream)?;
-        let mut out = HostOut::new(rt, target, id);
-        out.witness = Witness::of(rt, stream);
-        Ok(out)
+        Ok(HostOut::new(rt, target, id))
     }
 
-    /// Takes a file for this run alone, so that no two runs write to one.
+    /// Takes a regular file for this run alone, so that no two runs write to one. Fails if another
+    /// run has it, or if its name leads to it no longer, as when another run that had made it has
+    /// removed it.
     pub fn claim(&self, rt: &HostRuntime, name: &str) -> io::Result<()> {
-        match &self.target {
-            Target::File(out) => out.claim(rt, name),
-            _ => Ok(()),
+        if let Target::File(out) = &self.target {
+            lock(out.file().file())?;
+            if FileId::at(rt, name) != self.id {
+                return Err(io::Error::from(io::ErrorKind::NotFound));
+            }
         }
+        Ok(())
     }
 
     /// Which file it is, if that is known.
@@ -453,7 +306,7 @@ impl HostOut {
     /// Whether it is standard error, or the file to which that leads.
     pub fn is_for_faults(&self, rt: &HostRuntime) -> bool {
         match &self.target {
-            Target::Faults(_) => true,
+            Target::Faults(..) => true,
             _ => { self.id.is_some() && self.id == FileId::of_stream(rt, Stream::Faults) }
         }
     }
@@ -461,9 +314,10 @@ impl HostOut {
     /// Whether it is a terminal.
     pub fn is_terminal(&self) -> bool {
         match &self.target {
-            Target::File(out) => out.file.is_terminal(),
-            Target::Output(output) => output.is_terminal(),
-            Target::Faults(faults) => faults.is_terminal(),
+            Target::File(_) => false,
+            Target::Device(file) => file.is_terminal(),
+            Target::Output(output, _) => output.is_terminal(),
+            Target::Faults(faults, _) => faults.is_terminal(),
         }
     }
 
@@ -471,25 +325,10 @@ impl HostOut {
         ensures bound { WritesAtMost result from.now }
         ensures counted { self.new ≡ self.old }
     {
-        self.look()?;
         self.wait()?;
         let n = self.target.write(&self.rt, from)?;
         self.taken = self.taken.saturating_add(n as u64);
         Ok(n)
-    }
-
-    /// Fails if another program has harmed it, if it is time to look.
-    fn look(&mut self) -> io::Result<()>
-        ensures { self.new ≡ self.old }
-    {
-        if let Target::File(out) = &mut self.target
-            && out.is_out_of_sight()
-        {
-            out.seen = out.written;
-            let harm = out.harm(false)?;
-            return self.unless_harmed(harm);
-        }
-        Ok(())
     }
 
     /// Waits for the disk, if it is time to.
@@ -509,30 +348,12 @@ impl HostOut {
         if let Some(error) = self.lost {
             return Err(error);
         }
-        let reached = match &self.target {
-            Target::File(out) => sync_file(&out.file),
-            _ => self.witness.sync(),
-        };
+        let reached = self.target.reach_disk();
         match reached {
             Ok(()) => self.settled = self.taken,
             Err(error) => self.lost = Some(error),
         }
         reached
-    }
-
-    /// The failure that harm is. A file system that takes bytes before there is room for them, as
-    /// NFS does, says only at a wait why the file is too short.
-    fn unless_harmed(&mut self, harm: Option<Harm>) -> io::Result<()>
-        ensures { self.new ≡ self.old }
-    {
-        match harm {
-            None => Ok(()),
-            Some(Harm::Removed) => Err(io::Error::other("it was removed meanwhile")),
-            Some(Harm::Length) => {
-                self.reach_disk()?;
-                Err(io::Error::other("another program changed its length"))
-            }
-        }
     }
 
     /// How many of the bytes that it took are there for certain: on the disk, if they are to be and
@@ -541,7 +362,9 @@ impl HostOut {
         ensures { self.new ≡ self.old }
     {
         let held = match durability {
-            Durability::Synced if self.reach_disk().is_err() => self.settled,
+            Durability::Synced if self.taken > self.settled && self.reach_disk().is_err() => {
+                self.settled
+            }
             _ => self.taken,
         };
         match &self.target {
@@ -554,44 +377,27 @@ impl HostOut {
     fn has_only_failed(&self) -> bool {
         match &self.target {
             Target::File(out) => self.failures.count > 0 && out.is_untouched(),
+            Target::Device(_) => self.failures.count > 0,
             _ => false,
         }
     }
 
-    /// Ends what was written: cuts off what is beyond it, waits for the disk, and fails if another
-    /// program has harmed the file.
-    fn finish(&mut self, durability: Durability) -> io::Result<()> {
-        if let Target::File(out) = &mut self.target {
-            out.cut()?;
-        }
-        if durability == Durability::Synced {
-            self.reach_disk()?;
-        }
-        if let Target::File(out) = &self.target {
-            let harm = out.harm(true)?;
-            return self.unless_harmed(harm);
-        }
-        Ok(())
-    }
-
     /// Ends it with what was written, and closes it, in either case. If each put failed, it is as
     /// it was before it was opened.
-    pub fn close(mut self, rt: &HostRuntime, durability: Durability) -> io::Result<()> {
+    pub fn close(self, rt: &HostRuntime, durability: Durability) -> io::Result<()> {
         if self.has_only_failed() {
             self.discard(rt, durability);
             return Ok(());
         }
-        let finished = self.finish(durability);
-        let closed = self.target.close(rt, durability);
-        finished?;
-        closed
+        let HostOut { target, lost, .. } = self;
+        target.end(rt, lost, durability)
     }
 
     /// Ends it if nothing was written, as it was before it was opened.
-    pub fn discard(self, rt: &HostRuntime, durability: Durability) {
+    pub fn discard(self, _rt: &HostRuntime, durability: Durability) {
         let HostOut { target, .. } = self;
         if let Target::File(out) = target {
-            out.remove_made(rt, durability);
+            let _ = out.discard(durability);
         }
     }
 }

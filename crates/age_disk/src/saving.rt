@@ -3,14 +3,14 @@
 use crate::lock::{lock, remove_own};
 use crate::names::{Resolved, is_on_disk};
 use crate::output::HostOut;
-use crate::paths::{make_file, open_at_once, open_to_write};
+use crate::paths::{make_file, open_at_once};
 use crate::prepare::Prepared;
 use crate::sync::sync_folder;
 use age_fault::write_all;
 use age_io::Durability;
 use age_machine::{
-    HostMachine, Node, POSITION_MODE, Spot, Unplaced, found_at, made_meanwhile, replace_by_kept,
-    replace_by_new,
+    HostMachine, Node, POSITION_MODE, Spot, Unplaced, found_at, made_meanwhile, open_to_write,
+    replace_by_kept, replace_by_new,
 };
 use std::alloc::Global;
 use std::fs::{self, File, Metadata};
@@ -73,6 +73,7 @@ fn fill_directly(
 
 /// Makes a file of these bytes at a path where there is none.
 fn make_directly(
+    alloc: Global,
     rt: &HostRuntime,
     path: &PathBuf,
     bytes: &[u8],
@@ -80,7 +81,7 @@ fn make_directly(
 ) -> io::Result<()> {
     let file = make_file(rt, path.as_str())?;
     lock(&file)?;
-    let out = HostOut::over(rt, file.try_clone()?)?;
+    let out = HostOut::over(alloc, rt, file.try_clone()?, path.as_str())?;
     if let Err(error) = fill_directly(rt, out, bytes, durability) {
         remove_own(rt, &file, path.as_str());
         return Err(error);
@@ -125,7 +126,7 @@ fn make_at(
 ) -> io::Result<()> {
     match replace_beside(alloc, rt, prepared, path, to, bytes, durability) {
         Ok(()) => Ok(()),
-        Err(Unplaced::NotBeside) => make_directly(rt, path, bytes, durability),
+        Err(Unplaced::NotBeside) => make_directly(alloc, rt, path, bytes, durability),
         Err(Unplaced::Failed(error)) => Err(error),
         Err(Unplaced::Memory) => Err(io::Error::from(io::ErrorKind::OutOfMemory)),
     }
@@ -168,7 +169,8 @@ fn replace_found(
             Err(Unplaced::Memory) => return Err(io::Error::from(io::ErrorKind::OutOfMemory)),
         }
     }
-    fill_directly(rt, HostOut::over(rt, file)?, bytes, durability)
+    let out = HostOut::over(alloc, rt, file, path.as_str())?;
+    fill_directly(rt, out, bytes, durability)
 }
 
 /// Puts a file of these bytes where a path led, without following a link that has come there. What
@@ -204,7 +206,8 @@ pub fn replace(
 ) -> io::Result<()> {
     if let Some((name, device)) = prepared.device() {
         let file = open_device(rt, name, device)?;
-        return fill_directly(rt, HostOut::over(rt, file)?, bytes, durability);
+        let out = HostOut::over(alloc, rt, file, name)?;
+        return fill_directly(rt, out, bytes, durability);
     }
     match prepared.resolved() {
         Resolved::Stream(stream) => {

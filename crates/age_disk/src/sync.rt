@@ -28,23 +28,6 @@ pub(crate) fn sync_folder(rt: &HostRuntime, path: &PathBuf) -> io::Result<()> {
     sync(&File::open(rt, folder_of(path.as_str()))?)
 }
 
-/// The same for a name that another program made: nothing is waited for if the folder can't be
-/// read.
-pub(crate) fn sync_folder_if_readable(rt: &HostRuntime, path: &PathBuf) -> io::Result<()> {
-    match File::open(rt, folder_of(path.as_str())) {
-        Ok(folder) => sync(&folder),
-        Err(error) if is_out_of_reach(&error) => Ok(()),
-        Err(error) => Err(error),
-    }
-}
-
-fn is_out_of_reach(error: &io::Error) -> bool {
-    matches!(
-        error.kind(),
-        io::ErrorKind::PermissionDenied | io::ErrorKind::NotFound
-    )
-}
-
 /// A second descriptor of the file to which a stream leads, by which the disk is waited for: the kit
 /// can't wait by the one that was inherited. It is opened before anything is written, since the
 /// system reports a failed write to each descriptor that was open then, and to no later one.

@@ -4,11 +4,11 @@ use Rattle.std.proofs.Common.{refl, sym, ◌∙◌, ap, subst}
 use Rattle.std.specs.Prelude.{bytes_eq, if◌then◌else◌}
 use Rattle.std.proofs.lemmas.Bool.{false_from_ne_true, eq-eqb, ne_eqb}
 use Rattle.std.proofs.lemmas.Slice.Eq.{bytes_eq-Decides}
-use Rattle.age_machine.specs.Calls.{FileCall, Made, Wrote, Cut, Broke, Measured, Synced, Unwaited}
+use Rattle.age_machine.specs.Calls.{FileCall, Made, Opened, Wrote, Cut, Broke, Measured, Synced, Unwaited, IsOf}
 use Rattle.age_machine.specs.Calls.{Missing, Linked, Renamed, Removed, SyncedNames, UnwaitedNames}
 use Rattle.age_machine.specs.Disk.{Disk, at_path, for_file, changed, after_call}
 use Rattle.age_machine.specs.Disk.{IsAmong, MayLead, MayLeaveFile, MayLeave}
-use Rattle.age_machine.specs.inner.Steps.{IsOf, Has}
+use Rattle.age_machine.specs.inner.Steps.{Has}
 
 -- ---- Values at one path, or for one file.
 
@@ -94,6 +94,7 @@ apart_of n path (Synced m) disk of =
 apart_of n path (Measured m len) disk of = apart_same n path disk
 apart_of n path (Unwaited m) disk of = apart_same n path disk
 apart_of n path (Made p m) disk of = absurd of
+apart_of n path (Opened p m) disk of = absurd of
 apart_of n path (Missing p) disk of = absurd of
 apart_of n path (Linked from to) disk of = absurd of
 apart_of n path (Renamed from to) disk of = absurd of

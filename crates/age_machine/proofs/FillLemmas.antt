@@ -4,10 +4,10 @@ use Rattle.std.proofs.Common.{drop, not, refl, sym, ◌∙◌, ap, subst, arith,
 use Rattle.std.proofs.Common.{length-append, length-drop, take-add}
 use Rattle.std.specs.Prelude.{replicate}
 use Rattle.std.proofs.lemmas.List.{append-nil, take_at, drop_at, take_all, drop-drop, length-take-le}
-use Rattle.age_machine.specs.Calls.{FileCall, Wrote, Cut, Measured, Synced, Unwaited, Waited}
+use Rattle.age_machine.specs.Calls.{FileCall, Wrote, Cut, Measured, Synced, Unwaited, Waited, IsOf}
 use Rattle.age_machine.specs.Disk.{sized, written, after_call, after_calls}
 use Rattle.age_machine.specs.Saves.{AllAnswered}
-use Rattle.age_machine.specs.inner.Steps.{IsOf, AllOf, IsAbout, StaysSound, WritesOver, CutsOff, Fills}
+use Rattle.age_machine.specs.inner.Steps.{AllOf, IsAbout, StaysSound, WritesOver, CutsOff, Fills}
 use Rattle.age_machine.proofs.DiskLemmas.{file_same}
 
 -- ---- Calls about one file.
@@ -63,7 +63,7 @@ sound_waited n old new (inr unwaited) disk =
 none_missing : (n : ℕ) → n ≡ 0 → replicate {A = ℕ} n 0 ≡ []
 none_missing n is = ap (λ (k : ℕ). replicate {A = ℕ} k 0) is
 
-sized_within : (len : ℕ) (bytes : List ℕ) → len ≤ length bytes → sized len bytes ≡ take len bytes
+pub sized_within : (len : ℕ) (bytes : List ℕ) → len ≤ length bytes → sized len bytes ≡ take len bytes
 sized_within len bytes within =
     ap (λ (l : List ℕ). take len bytes ++ l) (none_missing (len - length bytes) (omega arith))
     ∙ append-nil (take len bytes)

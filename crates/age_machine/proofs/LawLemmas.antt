@@ -2,11 +2,11 @@
 use Rattle.std.proofs.Common.{◌≡◌, ◌⊎◌, inl, inr, ⊎_elim, ℕ, ◌+◌, List, [], ◌∷◌, ◌++◌, Option, Some, None}
 use Rattle.std.proofs.Common.{true, false, length, refl, sym, ◌∙◌, ap, subst, arith}
 use Rattle.std.proofs.lemmas.List.{append-nil, drop_all}
-use Rattle.age_machine.specs.Calls.{FileCall, Made, Wrote, Synced, Linked, Renamed, Removed}
+use Rattle.age_machine.specs.Calls.{FileCall, Made, Opened, Wrote, Cut, Synced, Linked, Renamed, Removed}
 use Rattle.age_machine.specs.Calls.{SyncedNames}
 use Rattle.age_machine.specs.Disk.{Disk, at_path, written, after_call, after_calls, IsAmong, MayLead, MayLeave}
 use Rattle.age_machine.specs.Saves.{AllAnswered, AtEachMoment, SavesWhole, IsSafe}
-use Rattle.age_machine.specs.Laws.{filled, renamed, linked, bare}
+use Rattle.age_machine.specs.Laws.{filled, renamed, linked, bare, bare_but, overwritten, put_out}
 use Rattle.age_machine.proofs.DiskLemmas.{path_same, path_other, file_same, file_renamed, file_linked}
 use Rattle.age_machine.proofs.SaveLemmas.{throughout_last}
 
@@ -30,7 +30,7 @@ module _ (n : ℕ) (from path bytes : List ℕ) (apart : from ≡ path → ⊥) 
   nowhere (inr none) = none
 
   answered : AllAnswered path (filled n from bytes) bare
-  answered = (ap length held, (tt, (nowhere, tt)))
+  answered = (ap length held, (tt, ((refl, nowhere), tt)))
 
   there : wrote.file from ≡ Some n
   there = path_same from (Some n) bare.file
@@ -112,3 +112,47 @@ module _ (n : ℕ) (from path bytes : List ℕ) (apart : from ≡ path → ⊥) 
       second =
           path_other from path None (after_call (Linked from path) wrote).file apart
           ∙ file_linked n from path wrote apart there
+
+-- ---- A file that is written in place.
+
+module _ (n : ℕ) (path bytes : List ℕ) where
+  nowhere_bare : MayLead bare path (Some n) → ⊥
+  nowhere_bare (inl is) = cc
+  nowhere_bare (inr none) = none
+
+  there_already : (bare_but path n).file path ≡ Some n
+  there_already = path_same path (Some n) bare.file
+
+  pub outs_answered : AllAnswered path (overwritten n path bytes) (bare_but path n)
+      × AllAnswered path (put_out n path bytes) bare
+  outs_answered = (
+    (tt, (tt, (tt, (tt, ((there_already, refl), tt))))),
+    (tt, (tt, (tt, ((refl, nowhere_bare), tt)))),
+  )
+
+  other : Some (0 ∷ bytes) ≡ Some bytes → ⊥
+  other same = let same_list : (0 ∷ bytes) ≡ bytes = cc in omega (arith, ap length same_list)
+
+  torn_out : (disk : Disk) → disk.file path ≡ Some n → disk.is_kept n ≡ false
+      → MayLeave disk path (Some (0 ∷ bytes))
+  torn_out disk leads unkept =
+      (Some n, inl (sym leads), (0 ∷ bytes, refl, λ kept. absurd (differ (sym unkept ∙ kept))))
+    where
+      differ : false ≡ true → ⊥
+      differ same = cc
+
+  pub unsynced : IsSafe path bytes (SyncedNames path ∷ Wrote n 0 bytes ∷ Made path n ∷ []) → ⊥
+  unsynced safe =
+      let made : Disk = after_call (Made path n) bare in
+      other (safe bare (tt, (tt, ((refl, nowhere_bare), tt))) (Some (0 ∷ bytes))
+      (torn_out (after_calls (SyncedNames path ∷ Wrote n 0 bytes ∷ Made path n ∷ []) bare)
+      (path_same path (Some n) bare.file) (file_same n false made.is_kept)))
+
+  pub cut_last : IsSafe path bytes
+      (SyncedNames path ∷ Cut n (length bytes) ∷ Synced n ∷ Wrote n 0 bytes ∷ Opened path n ∷ []) → ⊥
+  cut_last safe =
+      let synced : Disk = after_calls (Synced n ∷ Wrote n 0 bytes ∷ Opened path n ∷ []) (bare_but path n) in
+      other (safe (bare_but path n) (tt, (tt, (tt, (tt, ((there_already, refl), tt)))))
+      (Some (0 ∷ bytes))
+      (torn_out (after_calls (SyncedNames path ∷ Cut n (length bytes) ∷ Synced n ∷ Wrote n 0 bytes
+      ∷ Opened path n ∷ []) (bare_but path n)) there_already (file_same n false synced.is_kept)))

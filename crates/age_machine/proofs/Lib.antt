@@ -1,5 +1,6 @@
 pub mod DiskLemmas
 pub mod FillLemmas
 pub mod LawLemmas
+pub mod OutLemmas
 pub mod PutLemmas
 pub mod SaveLemmas

@@ -4,13 +4,13 @@ use Rattle.std.proofs.Common.{◌<◌, false, length, refl, sym, ◌∙◌, ap, 
 use Rattle.std.proofs.Common.{append_assoc, length-append}
 use Rattle.std.specs.Prelude.{Contains}
 use Rattle.std.proofs.lemmas.List.Elements.{Contains-append_left, Contains-append_right}
-use Rattle.age_machine.specs.Calls.{FileCall, Made, Wrote, Cut, Broke, Measured, Synced, Unwaited}
+use Rattle.age_machine.specs.Calls.{FileCall, Made, Opened, Wrote, Cut, Broke, Measured, Synced, Unwaited, IsOf}
 use Rattle.age_machine.specs.Calls.{Missing, Linked, Renamed, Removed, SyncedNames, UnwaitedNames}
 use Rattle.age_machine.specs.Disk.{Disk, after_call, after_calls, MayLeave}
 use Rattle.age_machine.specs.Saves.{AllAnswered, AtEachMoment, Throughout, SavesWhole, SparesFile, IsLonger}
 use Rattle.age_machine.specs.Saves.{IsWithin, AllWithin, Touches}
 use Rattle.age_machine.specs.Beside.{HasBeside, IsBeside, IsSound}
-use Rattle.age_machine.specs.inner.Steps.{IsOf, AllOf, IsAbout}
+use Rattle.age_machine.specs.inner.Steps.{AllOf, IsAbout}
 use Rattle.age_machine.proofs.DiskLemmas.{path_same, file_same, apart_made}
 use Rattle.age_machine.proofs.DiskLemmas.{apart_of, led, leaves_apart}
 
@@ -146,6 +146,7 @@ contains_later call other calls held = Contains-append_right (call ∷ []) calls
 within_more : (path : List ℕ) (call : FileCall) (first second : List FileCall) → IsWithin path second call
     → IsWithin path (second ++ first) call
 within_more path (Made p n) first second within = within
+within_more path (Opened p n) first second within = absurd within
 within_more path (Wrote n at part) first second within =
     (within.0, Contains-append_left second first _ within.1)
 within_more path (Cut n len) first second within =
@@ -218,6 +219,7 @@ within_of path from n (Synced m) since of made =
 within_of path from n (Unwaited m) since of made =
     (from, subst (λ (k : ℕ). Contains since (Made from k)) (sym of) made)
 within_of path from n (Made p m) since of made = absurd of
+within_of path from n (Opened p m) since of made = absurd of
 within_of path from n (Missing p) since of made = absurd of
 within_of path from n (Linked p q) since of made = absurd of
 within_of path from n (Renamed p q) since of made = absurd of
@@ -276,14 +278,14 @@ module _ (path from : List ℕ) (n : ℕ) (old : List FileCall) where
             saves_quietly path bytes old (Made from n) old (saves_none path bytes old)
             (λ disk answers. leaves_apart n path (after_calls old disk)
             (after_call (Made from n) (after_calls old disk))
-            (apart_made n path from (after_calls old disk) longer.2) answers.0);
+            (apart_made n path from (after_calls old disk) longer.2) answers.0.1);
         spares =
             spares_quietly path old (Made from n) old (spares_none path old) (λ disk answers m is.
             (apart_made n path from (after_calls old disk) longer.2).file ∙ is);
         file = λ disk answers. path_same from (Some n) (after_calls old disk).file;
         elsewhere = λ disk answers may.
             let apart = apart_made n path from (after_calls old disk) longer.2 in
-            answers.0 (led _ _ _ _ (Some n) apart.file apart.before may);
+            answers.0.1 (led _ _ _ _ (Some n) apart.file apart.before may);
       }
 
 pub sound_made : (from : List ℕ) (n : ℕ) (old new : List FileCall) → new ≡ Made from n ∷ old

@@ -1,4 +1,4 @@
--- The calls of the system by which a file is put in another's place.
+-- The calls of the system by which a file is written, or put in another's place.
 use Rattle.std.specs.Prelude.{◌≡◌, ◌⊎◌, ℕ, List, ◌∷◌}
 
 -- a call that succeeded, or that may have done something although it failed, or what a call showed;
@@ -6,6 +6,8 @@ use Rattle.std.specs.Prelude.{◌≡◌, ◌⊎◌, ℕ, List, ◌∷◌}
 pub data FileCall : Type 0 where
   -- an empty file was made at a path
   Made : List ℕ → ℕ → FileCall
+  -- the file at a path was opened
+  Opened : List ℕ → ℕ → FileCall
   -- bytes were written to a file, from this place on
   Wrote : ℕ → ℕ → List ℕ → FileCall
   -- a file was cut off after so many bytes
@@ -28,6 +30,16 @@ pub data FileCall : Type 0 where
   -- the names in the folder of a path have reached the disk; the system can't wait for them
   SyncedNames : List ℕ → FileCall
   UnwaitedNames : List ℕ → FileCall
+
+-- this call is about what this file holds
+abbrev pub IsOf : ℕ → FileCall → Type 0
+IsOf n (Wrote m at part) = m ≡ n
+IsOf n (Cut m len) = m ≡ n
+IsOf n (Broke m) = m ≡ n
+IsOf n (Measured m len) = m ≡ n
+IsOf n (Synced m) = m ≡ n
+IsOf n (Unwaited m) = m ≡ n
+IsOf n call = ⊥
 
 -- this call was made, or none
 abbrev pub MayHave : FileCall → List FileCall → List FileCall → Type 0

@@ -2,7 +2,7 @@
 use Rattle.std.specs.Prelude.{◌≡◌, ◌⊎◌, ℕ, ◌+◌, ◌-◌, List, [], ◌∷◌, ◌++◌, length, take, drop, replicate}
 use Rattle.std.specs.Prelude.{Option, Some, None, Bool, true, false, not, bytes_eq, nat_eq}
 use Rattle.std.specs.Prelude.{if◌then◌else◌}
-use Rattle.age_machine.specs.Calls.{FileCall, Made, Wrote, Cut, Broke, Measured, Synced, Unwaited}
+use Rattle.age_machine.specs.Calls.{FileCall, Made, Opened, Wrote, Cut, Broke, Measured, Synced, Unwaited}
 use Rattle.age_machine.specs.Calls.{Missing, Linked, Renamed, Removed, SyncedNames, UnwaitedNames}
 
 -- ---- A disk.
@@ -58,6 +58,7 @@ after_call (Made path n) disk = leading path (Some n) (record disk {
   is_kept = for_file n true disk.is_kept;
   is_lost = for_file n false disk.is_lost;
 })
+after_call (Opened path n) disk = disk
 after_call (Wrote n at part) disk = changed n (written at part (disk.bytes n)) disk
 after_call (Cut n len) disk = changed n (sized len (disk.bytes n)) disk
 after_call (Broke n) disk = record disk {

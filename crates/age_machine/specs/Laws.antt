@@ -1,8 +1,9 @@
--- What may become of a file that is put to a path with a call less, or with two in another order.
+-- What may become of a file that is put to a path, or written in place, with a call less, or with two
+-- in another order.
 use Rattle.std.specs.Prelude.{◌≢◌, ℕ, List, [], ◌∷◌, length, Some, None, true, false}
-use Rattle.age_machine.specs.Calls.{FileCall, Made, Wrote, Measured, Synced, Linked, Renamed, Removed}
-use Rattle.age_machine.specs.Calls.{SyncedNames}
-use Rattle.age_machine.specs.Disk.{Disk, after_calls, MayLeave}
+use Rattle.age_machine.specs.Calls.{FileCall, Made, Opened, Wrote, Cut, Measured, Synced, Linked, Renamed}
+use Rattle.age_machine.specs.Calls.{Removed, SyncedNames}
+use Rattle.age_machine.specs.Disk.{Disk, at_path, after_calls, MayLeave}
 use Rattle.age_machine.specs.Saves.{AllAnswered, SavesWhole, IsSafe}
 
 -- the calls of a replacement, the newest first
@@ -46,3 +47,31 @@ TornIfRenamedFirst = (n : ℕ) (from path bytes : List ℕ) → from ≢ path
 abbrev pub LostIfNamesUnwaited : Type 0
 LostIfNamesUnwaited = (n : ℕ) (from path bytes : List ℕ) → from ≢ path
     → IsSafe path bytes (Renamed from path ∷ Synced n ∷ filled n from bytes) → ⊥
+
+-- ---- A file that is written in place.
+
+-- an empty file is at a path
+abbrev pub bare_but : List ℕ → ℕ → Disk
+bare_but path n = record bare { file = at_path path (Some n) bare.file }
+
+-- the calls of an output that was there, and of one that is made, the newest first
+abbrev pub overwritten : ℕ → List ℕ → List ℕ → List FileCall
+overwritten n path bytes =
+    SyncedNames path ∷ Synced n ∷ Cut n (length bytes) ∷ Wrote n 0 bytes ∷ Opened path n ∷ []
+
+abbrev pub put_out : ℕ → List ℕ → List ℕ → List FileCall
+put_out n path bytes = SyncedNames path ∷ Synced n ∷ Wrote n 0 bytes ∷ Made path n ∷ []
+
+abbrev pub OutsAreAnswered : Type 0
+OutsAreAnswered = (n : ℕ) (path bytes : List ℕ)
+    → AllAnswered path (overwritten n path bytes) (bare_but path n)
+    × AllAnswered path (put_out n path bytes) bare
+
+abbrev pub TornIfUnsynced : Type 0
+TornIfUnsynced = (n : ℕ) (path bytes : List ℕ)
+    → IsSafe path bytes (SyncedNames path ∷ Wrote n 0 bytes ∷ Made path n ∷ []) → ⊥
+
+abbrev pub TornIfCutLast : Type 0
+TornIfCutLast = (n : ℕ) (path bytes : List ℕ)
+    → IsSafe path bytes
+    (SyncedNames path ∷ Cut n (length bytes) ∷ Synced n ∷ Wrote n 0 bytes ∷ Opened path n ∷ []) → ⊥

@@ -1,7 +1,9 @@
 pub mod Beside
 pub mod Calls
 pub mod Disk
+pub mod Held
 pub mod Laws
 pub mod Numbers
+pub mod Outs
 pub mod Saves
 pub mod inner

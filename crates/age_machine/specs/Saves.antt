@@ -1,13 +1,15 @@
 -- What it means that a file is put to a path at once, whatever fails and whenever the power is cut.
-use Rattle.std.specs.Prelude.{◌≡◌, ◌≢◌, ◌⊎◌, ℕ, List, [], ◌∷◌, ◌++◌, length, Option, Some, None, Contains}
-use Rattle.age_machine.specs.Calls.{FileCall, Made, Wrote, Cut, Broke, Measured, Synced, Unwaited}
+use Rattle.std.specs.Prelude.{◌≡◌, ◌≢◌, ◌⊎◌, ℕ, List, [], ◌∷◌, ◌++◌, length, Option, Some, None, Contains, false}
+use Rattle.age_machine.specs.Calls.{FileCall, Made, Opened, Wrote, Cut, Broke, Measured, Synced, Unwaited}
 use Rattle.age_machine.specs.Calls.{Missing, Linked, Renamed, Removed, SyncedNames, UnwaitedNames}
 use Rattle.age_machine.specs.Disk.{Disk, after_calls, MayLead, MayLeave}
 
 -- A disk on which this call is the next one answers as one that can be waited for. A file that is
--- made is a new one, to which the path may not lead; a link is made only where nothing is.
+-- made is a new one, to which the path may not lead, and comes where nothing is, as a link does. One
+-- that is opened is the one at its path, and no call about it has failed.
 abbrev pub IsAnswered : List ℕ → FileCall → Disk → Type 0
-IsAnswered path (Made p n) disk = MayLead disk path (Some n) → ⊥
+IsAnswered path (Made p n) disk = (disk.file p ≡ None) × (MayLead disk path (Some n) → ⊥)
+IsAnswered path (Opened p n) disk = (disk.file p ≡ Some n) × (disk.is_lost n ≡ false)
 IsAnswered path (Measured n len) disk = length (disk.bytes n) ≡ len
 IsAnswered path (Missing p) disk = disk.file p ≡ None
 IsAnswered path (Linked from to) disk = disk.file to ≡ None
@@ -65,6 +67,7 @@ IsLonger path p = (more : List ℕ) × (p ≡ path ++ more) × (p ≢ path)
 -- After these calls, this one is about the path, a longer one beside it, or a file that they made.
 abbrev pub IsWithin : List ℕ → List FileCall → FileCall → Type 0
 IsWithin path calls (Made p n) = IsLonger path p
+IsWithin path calls (Opened p n) = ⊥
 IsWithin path calls (Wrote n at part) = HasMade n calls
 IsWithin path calls (Cut n len) = HasMade n calls
 IsWithin path calls (Broke n) = HasMade n calls

@@ -4,7 +4,7 @@
 ghost use Rattle.std.specs.Io.{WritesAtMost};
 
 use std::fs::{self, File};
-use std::io;
+use std::io::{self, Write};
 use std::os::unix::fs::{FileExt, OpenOptionsExt};
 use std::rt::HostRuntime;
 use std_io::io::last_error;
@@ -43,11 +43,18 @@ pub fn cut(file: &File, len: u64) -> io::Result<()> {
     file.set_len(len)
 }
 
-/// Writes some bytes to a file, from a place on, without moving where it stands.
+/// Writes some bytes to a file, from a place on, without moving where it stands. A file without
+/// places, as one that the system makes up, gets them where it stands.
 pub fn write_at(file: &File, bytes: &[u8], at: u64) -> io::Result<usize>
     ensures { WritesAtMost result bytes.now }
 {
-    file.write_at(bytes, at)
+    match file.write_at(bytes, at) {
+        Err(error) if error.kind() == io::ErrorKind::NotSeekable => {
+            let mut same = file.try_clone()?;
+            same.write(bytes)
+        }
+        written => written,
+    }
 }
 
 /// Makes a file that wasn't there, at a path that is no link.

@@ -1,23 +1,28 @@
 //! The machine's calls, each of which is noted: what no proof sees.
 
-ghost use Rattle.std.specs.Prelude.{◌≡◌, ◌+◌, ◌<◌, ◌∷◌, length, IfOk};
+ghost use Rattle.std.specs.Prelude.{◌≡◌, ◌+◌, ◌<◌, [], ◌∷◌, length, IfOk, OnOk, OnErr};
 ghost use Rattle.std.specs.Io.{WritesAtMost};
-ghost use Rattle.age_machine.specs.Calls.{Broke};
+ghost use Rattle.age_machine.specs.Calls.{Made, Opened, Broke, SyncedNames, UnwaitedNames, Waited};
 ghost use Rattle.age_machine.specs.Numbers.{number_of};
 
 use crate::calls;
 use crate::folder::{Folder, check_same, folder_of};
-use crate::machine::Machine;
+use crate::machine::{Machine, Shape, Sight};
 use crate::node::{Node, found_at, is_at};
 use crate::notes::{Calls, Failed, Word};
-use std::fs::File;
+use crate::retry::{TRIES, is_to_retry, too_many_tries};
+use std::fs::{self, File};
 use std::io;
 use std::os::fd::AsRawFd;
+use std::os::unix::fs::MetadataExt;
 use std::rt::HostRuntime;
 
 /// Who may do what with a new position: its owner alone, since it holds digests of the plaintext,
 /// against which guesses can be tried.
 pub const POSITION_MODE: u32 = 0o600;
+
+/// Who may do what with a new output, if the umask allows it.
+const OUTPUT_MODE: u32 = 0o666;
 
 /// The highest descriptor of a standard stream.
 const STREAM_MAX: i32 = 2;
@@ -32,13 +37,17 @@ pub fn above_streams(file: File) -> io::Result<File> {
     }
 }
 
-/// A file that was made at a path, above the standard streams; it is removed if that fails.
+/// A file that was made at a path, above the standard streams; it is removed if that fails, unless
+/// by then another file is there.
 pub fn kept_above(rt: &HostRuntime, made: File, path: &str) -> io::Result<File> {
-    let file = above_streams(made);
-    if file.is_err() {
+    if made.as_raw_fd() > STREAM_MAX {
+        return Ok(made);
+    }
+    let moved = made.try_clone();
+    if moved.is_err() && is_at(rt, &made, path) {
         let _ = calls::remove(rt, path);
     }
-    file
+    moved
 }
 
 /// Waits until a file has reached the disk; `false` if the machine has no way to wait here. A file
@@ -59,6 +68,60 @@ fn sync_folder(rt: &HostRuntime, path: &str) -> io::Result<bool> {
     sync(&File::open(rt, folder_of(path))?)
 }
 
+/// Opens a file to be written without emptying it; `None` if there is none. It is opened as if it
+/// might have to be made (`O_CREAT`), since only then the system refuses somebody else's file or
+/// pipe in a sticky folder, if it protects these. One that is removed just before that is made with
+/// this mode.
+pub fn open_to_write(rt: &HostRuntime, name: &str, mode: u32) -> io::Result<Option<File>> {
+    match fs::metadata(rt, name) {
+        Ok(_) => Ok(Some(calls::open_or_make(rt, name, false, mode)?)),
+        Err(error) if error.kind() == io::ErrorKind::NotFound => Ok(None),
+        Err(error) => Err(error),
+    }
+}
+
+/// Whether a folder can't be read, as far as the error says.
+fn is_out_of_reach(error: &io::Error) -> bool {
+    matches!(
+        error.kind(),
+        io::ErrorKind::PermissionDenied | io::ErrorKind::NotFound
+    )
+}
+
+/// The same, where the machine also has no way to if the folder can't be read.
+fn sync_readable_folder(rt: &HostRuntime, path: &str) -> io::Result<bool> {
+    match File::open(rt, folder_of(path)) {
+        Ok(folder) => sync(&folder),
+        Err(error) if is_out_of_reach(&error) => Ok(false),
+        Err(error) => Err(error),
+    }
+}
+
+/// What a file is now.
+fn sight_of(file: &File) -> io::Result<Sight> {
+    let now = file.metadata()?;
+    Ok(Sight {
+        is_regular: now.is_file(),
+        is_named: now.nlink() > 0,
+        len: now.len(),
+    })
+}
+
+/// Fails if another program has removed a file or changed its length. A file system that takes bytes
+/// before there is room for them, as NFS does, says only at a wait why a file is too short.
+fn check(file: &File, shape: &Shape) -> io::Result<()> {
+    let now = sight_of(file)?;
+    let is_right = now.len == shape.len || (shape.may_be_longer && now.len > shape.len);
+    if shape.is_named && !now.is_named {
+        Err(io::Error::other("it was removed meanwhile"))
+    } else if shape.has_length && !is_right {
+        sync(file)?;
+        Err(io::Error::other("another program changed its length"))
+    } else {
+        Ok(())
+    }
+}
+
 /// Closes a second descriptor of a file.
 fn close_copy(rt: &HostRuntime, file: &File) -> io::Result<()> {
     calls::close(rt, file.try_clone()?)
@@ -77,18 +140,16 @@ pub struct HostFile {
 }
 
 impl HostFile {
-    /// Makes a file for a position, at a path where there is neither a file nor a link.
-    fn make(rt: &HostRuntime, path: &str) -> io::Result<HostFile> {
-        let file = kept_above(rt, calls::make(rt, path, POSITION_MODE)?, path)?;
-        match file.metadata() {
-            Ok(metadata) => Ok(HostFile {
-                file,
-                node: Node::of(&metadata),
-            }),
-            Err(error) => {
-                let _ = calls::remove(rt, path);
-                Err(error)
-            }
+    fn of(file: File) -> io::Result<HostFile> {
+        let node = Node::of(&file.metadata()?);
+        Ok(HostFile { file, node })
+    }
+
+    /// Opens a file to be written without emptying it; `None` if there is none.
+    fn open(rt: &HostRuntime, name: &str) -> io::Result<Option<HostFile>> {
+        match open_to_write(rt, name, OUTPUT_MODE)? {
+            Some(file) => Ok(Some(HostFile::of(above_streams(file)?)?)),
+            None => Ok(None),
         }
     }
 
@@ -96,6 +157,21 @@ impl HostFile {
     pub fn file(&self) -> &File {
         &self.file
     }
+
+    /// The same, to be kept.
+    pub fn into_file(self) -> File {
+        let HostFile { file, .. } = self;
+        file
+    }
+}
+
+/// A file that was made at a path, if it was; it is removed if it can't be used.
+fn made_file(rt: &HostRuntime, made: io::Result<File>, path: &str) -> io::Result<HostFile> {
+    let file = HostFile::of(kept_above(rt, made?, path)?);
+    if file.is_err() {
+        let _ = calls::remove(rt, path);
+    }
+    file
 }
 
 /// What is reported of a write that took nothing.
@@ -103,25 +179,22 @@ fn no_byte() -> io::Error {
     io::Error::new(io::ErrorKind::WriteZero, "failed to write whole buffer")
 }
 
-/// How many times a write is tried that is interrupted.
-const TRIES: u64 = u64::MAX;
-
-/// Writes some bytes to a file, from a place on, and tries again if that is interrupted.
-fn write_at(file: &File, at: u64, bytes: &[u8]) -> io::Result<usize>
+/// Writes some bytes to a file, from a place on, and tries again if the machine says to.
+fn write_at(rt: &HostRuntime, file: &File, at: u64, bytes: &[u8]) -> io::Result<usize>
     ensures bound { WritesAtMost result bytes.now }
     ensures some { IfOk result (λ n. 0 < length bytes.now → 0 < n) }
 {
     for _ in 0..TRIES {
         match calls::write_at(file, bytes, at) {
             Ok(0) if !bytes.is_empty() => return Err(no_byte()),
-            Err(error) if error.kind() == io::ErrorKind::Interrupted => {}
+            Err(error) if is_to_retry(rt, &error) => {}
             written => return written,
         }
     }
-    Err(io::Error::from(io::ErrorKind::TimedOut))
+    Err(too_many_tries())
 }
 
-/// The machine, and which of its calls were made for one replacement.
+/// The machine, and which of its calls were made for one file.
 #[derive(Drop)]
 pub struct HostMachine {
     rt: HostRuntime,
@@ -131,7 +204,9 @@ pub struct HostMachine {
 
 impl HostMachine {
     /// The machine before the first call.
-    pub fn new(rt: &HostRuntime) -> HostMachine {
+    pub fn new(rt: &HostRuntime) -> HostMachine
+        ensures { (result.calls ≡ []) × (result.failed ≡ 0) }
+    {
         HostMachine {
             rt: *rt,
             calls: Calls::new(),
@@ -147,6 +222,60 @@ impl HostMachine {
             rt: self.rt,
             calls: self.calls.again(),
             failed: Failed::new(),
+        }
+    }
+
+    /// Takes a file that is open to be written, to which a path leads.
+    pub fn adopt(&mut self, file: File, path: &str) -> io::Result<HostFile>
+        ensures ok { IfOk result (λ f. self.new.calls
+            ≡ Opened path.now (number_of f.node) ∷ self.old.calls) }
+        ensures counted { OnOk result (self.new.failed ≡ self.old.failed) }
+        ensures failing { OnErr result (self.old.failed < self.new.failed) }
+    {
+        match HostFile::of(file) {
+            Ok(file) => {
+                self.calls.note(&Word::Opened(path, file.node));
+                Ok(file)
+            }
+            Err(error) => Err(self.fail(error)),
+        }
+    }
+
+    /// Notes that a file was made at a path.
+    fn note_made(&mut self, path: &str, made: io::Result<File>) -> io::Result<HostFile>
+        ensures ok { IfOk result (λ f. self.new.calls
+            ≡ Made path.now (number_of f.node) ∷ self.old.calls) }
+        ensures err { OnErr result (self.new.calls ≡ self.old.calls) }
+        ensures counted { OnOk result (self.new.failed ≡ self.old.failed) }
+        ensures failing { OnErr result (self.old.failed < self.new.failed) }
+    {
+        match made_file(&self.rt, made, path) {
+            Ok(file) => {
+                self.calls.note(&Word::Made(path, file.node));
+                Ok(file)
+            }
+            Err(error) => Err(self.fail(error)),
+        }
+    }
+
+    /// Notes a wait for the names in the folder of a path.
+    fn note_names(&mut self, path: &str, synced: io::Result<bool>) -> io::Result<()>
+        ensures ok { OnOk result (Waited (SyncedNames path.now) (UnwaitedNames path.now)
+            self.old.calls self.new.calls) }
+        ensures err { OnErr result (self.new.calls ≡ self.old.calls) }
+        ensures counted { OnOk result (self.new.failed ≡ self.old.failed) }
+        ensures failing { OnErr result (self.old.failed < self.new.failed) }
+    {
+        match synced {
+            Ok(true) => {
+                self.calls.note(&Word::SyncedNames(path));
+                Ok(())
+            }
+            Ok(false) => {
+                self.calls.note(&Word::UnwaitedNames(path));
+                Ok(())
+            }
+            Err(error) => Err(self.fail(error)),
         }
     }
 
@@ -181,17 +310,43 @@ impl Machine for HostMachine {
     ghost number = { λ f. number_of f.node };
 
     fn make(&mut self, path: &str) -> io::Result<HostFile> {
-        match HostFile::make(&self.rt, path) {
-            Ok(made) => {
-                self.calls.note(&Word::Made(path, made.node));
-                Ok(made)
+        let made = calls::make(&self.rt, path, POSITION_MODE);
+        self.note_made(path, made)
+    }
+
+    fn make_output(&mut self, path: &str) -> io::Result<HostFile> {
+        let made = calls::make_to_append(&self.rt, path, OUTPUT_MODE);
+        self.note_made(path, made)
+    }
+
+    fn open(&mut self, name: &str, path: &str) -> io::Result<Option<HostFile>> {
+        match HostFile::open(&self.rt, name) {
+            Ok(Some(file)) => {
+                self.calls.note(&Word::Opened(path, file.node));
+                Ok(Some(file))
             }
+            Ok(None) => Ok(None),
             Err(error) => Err(self.fail(error)),
         }
     }
 
+    fn look(&self, file: &HostFile) -> io::Result<Sight> {
+        sight_of(&file.file)
+    }
+
+    fn check(&mut self, file: &HostFile, shape: &Shape) -> io::Result<()> {
+        match check(&file.file, shape) {
+            Ok(()) => Ok(()),
+            Err(error) => Err(self.fail(error)),
+        }
+    }
+
+    fn is_alone(&self, file: &HostFile) -> bool {
+        matches!(file.file.try_lock(), Ok(()))
+    }
+
     fn write(&mut self, file: &HostFile, at: u64, bytes: &[u8]) -> io::Result<usize> {
-        match write_at(&file.file, at, bytes) {
+        match write_at(&self.rt, &file.file, at, bytes) {
             Ok(n) => {
                 self.calls.note(&Word::Wrote(file.node, at, &bytes[..n]));
                 Ok(n)
@@ -243,17 +398,13 @@ impl Machine for HostMachine {
     }
 
     fn sync_names(&mut self, path: &str) -> io::Result<()> {
-        match sync_folder(&self.rt, path) {
-            Ok(true) => {
-                self.calls.note(&Word::SyncedNames(path));
-                Ok(())
-            }
-            Ok(false) => {
-                self.calls.note(&Word::UnwaitedNames(path));
-                Ok(())
-            }
-            Err(error) => Err(self.fail(error)),
-        }
+        let synced = sync_folder(&self.rt, path);
+        self.note_names(path, synced)
+    }
+
+    fn sync_readable_names(&mut self, path: &str) -> io::Result<()> {
+        let synced = sync_readable_folder(&self.rt, path);
+        self.note_names(path, synced)
     }
 
     fn check_folder(&mut self, folder: Option<&Folder>, path: &str) -> io::Result<()> {

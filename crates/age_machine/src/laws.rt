@@ -1,7 +1,9 @@
-//! Laws of disks: that the calls of a replacement can be answered, and what none may leave out.
+//! Laws of disks: that the calls of a replacement and of an output can be answered, and what none may
+//! leave out.
 
 ghost use Rattle.age_machine.specs.Laws.{WaitsAreAnswered, TornIfUnwaited, TornIfRenamedFirst};
-ghost use Rattle.age_machine.specs.Laws.{LostIfNamesUnwaited};
+ghost use Rattle.age_machine.specs.Laws.{LostIfNamesUnwaited, OutsAreAnswered, TornIfUnsynced};
+ghost use Rattle.age_machine.specs.Laws.{TornIfCutLast};
 
 /// There is a disk that answers the calls of a replacement, by a link or by a rename, and on which a
 /// power cut may leave the new file.
@@ -22,4 +24,19 @@ pub fn torn_if_renamed_first()
 /// A file whose name wasn't waited for may be lost.
 pub fn lost_if_names_unwaited()
     ensures { LostIfNamesUnwaited }
+{}
+
+/// There are disks that answer the calls of an output, whether it was there or is made.
+pub fn outs_are_answered()
+    ensures { OutsAreAnswered }
+{}
+
+/// An output that wasn't waited for may be torn.
+pub fn torn_if_unsynced()
+    ensures { TornIfUnsynced }
+{}
+
+/// An output that is cut off after it was waited for may be torn.
+pub fn torn_if_cut_last()
+    ensures { TornIfCutLast }
 {}

@@ -1,5 +1,5 @@
-//! The calls of the system by which a file is put in another's place, one by one, and what puts it
-//! there with them.
+//! The calls of the system by which a file is written, or put in another's place, one by one, and
+//! what does that with them.
 //!
 //! A [`Machine`] makes the calls, and its contracts see nothing but which ones it made, in order,
 //! and how many have failed. What they leave on a disk, also if the power is cut between two of
@@ -15,14 +15,21 @@ mod laws;
 mod machine;
 mod node;
 mod notes;
+mod out;
 mod replacing;
+mod retry;
 
 pub use beside::{Beside, Unplaced, prepare_beside};
 pub use folder::{Folder, check_same, folder_of};
-pub use host::{HostFile, HostMachine, POSITION_MODE, above_streams, kept_above, sync};
-pub use laws::{
-    lost_if_names_unwaited, torn_if_renamed_first, torn_if_unwaited, waits_are_answered,
+pub use host::{
+    HostFile, HostMachine, POSITION_MODE, above_streams, kept_above, open_to_write, sync,
 };
-pub use machine::Machine;
+pub use laws::{
+    lost_if_names_unwaited, outs_are_answered, torn_if_cut_last, torn_if_renamed_first,
+    torn_if_unsynced, torn_if_unwaited, waits_are_answered,
+};
+pub use machine::{Machine, Shape, Sight};
 pub use node::{Node, found_at, is_at};
+pub use out::{Ended, Opening, Out};
 pub use replacing::{Spot, made_meanwhile, replace_by_kept, replace_by_new};
+pub use retry::{TRIES, is_to_retry, too_many_tries};

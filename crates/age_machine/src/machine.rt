@@ -1,12 +1,32 @@
-//! The calls of the system by which a file is put in another's place.
+//! The calls of the system by which a file is written, or put in another's place.
 
 ghost use Rattle.std.specs.Prelude.{◌≡◌, ◌≤◌, ◌<◌, ℕ, List, ◌∷◌, take, length, true, false, IfOk};
-ghost use Rattle.std.specs.Prelude.{OnOk, OnErr};
-ghost use Rattle.age_machine.specs.Calls.{FileCall, Made, Wrote, Cut, Broke, Measured, Synced};
+ghost use Rattle.std.specs.Prelude.{OnOk, OnErr, MatchOption};
+ghost use Rattle.age_machine.specs.Calls.{FileCall, Made, Opened, Wrote, Cut, Broke, Measured, Synced};
 ghost use Rattle.age_machine.specs.Calls.{Unwaited, Missing, Linked, Renamed, Removed};
 ghost use Rattle.age_machine.specs.Calls.{SyncedNames, UnwaitedNames, MayHave, Waited};
 
 use std::io;
+
+/// What a file is now.
+#[derive(Clone, Copy)]
+pub struct Sight {
+    pub is_regular: bool,
+    /// It has a name.
+    pub is_named: bool,
+    pub len: u64,
+}
+
+/// What a file is to look like, unless another program has harmed it.
+#[derive(Clone, Copy)]
+pub struct Shape {
+    pub len: u64,
+    /// Or it has more bytes.
+    pub may_be_longer: bool,
+    /// Its length says how much was written to it.
+    pub has_length: bool,
+    pub is_named: bool,
+}
 
 /// A system that makes the calls.
 ///
@@ -35,6 +55,35 @@ pub trait Machine {
         ensures err { OnErr result (calls self.new ≡ calls self.old) }
         ensures counted { OnOk result (failed self.new ≡ failed self.old) }
         ensures failing { OnErr result (failed self.old < failed self.new) };
+
+    /// Makes an empty output, like `make`. Each write to it goes to its end.
+    fn make_output(&mut self, path: &str) -> io::Result<Self::File>
+        ensures ok { IfOk result
+            (λ f. calls self.new ≡ Made path.now (number f) ∷ calls self.old) }
+        ensures err { OnErr result (calls self.new ≡ calls self.old) }
+        ensures counted { OnOk result (failed self.new ≡ failed self.old) }
+        ensures failing { OnErr result (failed self.old < failed self.new) };
+
+    /// Opens what a name leads to, without emptying it; `None` if that is nothing. The path is that
+    /// at the end of the name's links.
+    fn open(&mut self, name: &str, path: &str) -> io::Result<Option<Self::File>>
+        ensures ok { IfOk result (λ found. MatchOption found (calls self.new ≡ calls self.old)
+            (λ f. calls self.new ≡ Opened path.now (number f) ∷ calls self.old)) }
+        ensures err { OnErr result (calls self.new ≡ calls self.old) }
+        ensures counted { OnOk result (failed self.new ≡ failed self.old) }
+        ensures failing { OnErr result (failed self.old < failed self.new) };
+
+    /// What a file is now.
+    fn look(&self, file: &Self::File) -> io::Result<Sight>;
+
+    /// Fails if a file doesn't look as it is to.
+    fn check(&mut self, file: &Self::File, shape: &Shape) -> io::Result<()>
+        ensures same { calls self.new ≡ calls self.old }
+        ensures counted { OnOk result (failed self.new ≡ failed self.old) }
+        ensures failing { OnErr result (failed self.old < failed self.new) };
+
+    /// Whether this run alone has a file. It is taken for this run then.
+    fn is_alone(&self, file: &Self::File) -> bool;
 
     /// Writes some of these bytes to a file, from a place on.
     fn write(&mut self, file: &Self::File, at: u64, bytes: &[u8]) -> io::Result<usize>
@@ -79,6 +128,15 @@ pub trait Machine {
 
     /// Waits until the names in the folder of a path have reached the disk, if the system can.
     fn sync_names(&mut self, path: &str) -> io::Result<()>
+        ensures ok { OnOk result (Waited (SyncedNames path.now) (UnwaitedNames path.now)
+            (calls self.old) (calls self.new)) }
+        ensures err { OnErr result (calls self.new ≡ calls self.old) }
+        ensures counted { OnOk result (failed self.new ≡ failed self.old) }
+        ensures failing { OnErr result (failed self.old < failed self.new) };
+
+    /// The same for a name that another program made: the system can't wait if the folder can't be
+    /// read.
+    fn sync_readable_names(&mut self, path: &str) -> io::Result<()>
         ensures ok { OnOk result (Waited (SyncedNames path.now) (UnwaitedNames path.now)
             (calls self.old) (calls self.new)) }
         ensures err { OnErr result (calls self.new ≡ calls self.old) }

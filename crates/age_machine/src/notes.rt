@@ -13,6 +13,7 @@ use std::marker::Model;
 #[derive(Clone, Copy)]
 pub(crate) enum Word<'a> {
     Made(&'a str, Node),
+    Opened(&'a str, Node),
     Wrote(Node, u64, &'a [u8]),
     Cut(Node, u64),
     Broke(Node),

@@ -178,7 +178,11 @@ fn put<M: Machine>(
 }
 
 /// Waits until the names in the folder of a path have reached the disk, if they are to.
-fn settle_names<M: Machine>(machine: &mut M, path: &str, durability: Durability) -> io::Result<()>
+pub(crate) fn settle_names<M: Machine>(
+    machine: &mut M,
+    path: &str,
+    durability: Durability,
+) -> io::Result<()>
     ensures ok { OnOk result (durability ≡ wait.Synced → Waited (SyncedNames path.now)
         (UnwaitedNames path.now) (M.calls machine.old) (M.calls machine.new)) }
     ensures either { (M.calls machine.new ≡ M.calls machine.old) ⊎ Waited (SyncedNames path.now)

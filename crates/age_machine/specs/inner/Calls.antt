@@ -2,7 +2,7 @@
 use Rattle.std.specs.Prelude.{◌≡◌, ◌⊎◌, ℕ, List, refl}
 use Rattle.std.specs.Coded.{Coded, coded_ℕ, coded_list, coded⊎, coded×, code_by}
 use mathlib.Core.Logic.{inl, inr}
-use Rattle.age_machine.specs.Calls.{FileCall, Made, Wrote, Cut, Broke, Measured, Synced, Unwaited}
+use Rattle.age_machine.specs.Calls.{FileCall, Made, Opened, Wrote, Cut, Broke, Measured, Synced, Unwaited}
 use Rattle.age_machine.specs.Calls.{Missing, Linked, Renamed, Removed, SyncedNames, UnwaitedNames}
 use Rattle.age_machine.specs.Numbers.{number_of}
 use Rattle.age_machine.specs.declared.notes.Word.{Word}
@@ -11,6 +11,7 @@ use Rattle.age_machine.specs.declared.notes.Word.TheVariants as word
 -- the call that a word says
 abbrev pub file_call_of : Word → FileCall
 file_call_of (word.Made path node) = Made path.now (number_of node)
+file_call_of (word.Opened path node) = Opened path.now (number_of node)
 file_call_of (word.Wrote node at bytes) = Wrote (number_of node) at bytes.now
 file_call_of (word.Cut node len) = Cut (number_of node) len
 file_call_of (word.Broke node) = Broke (number_of node)
@@ -32,7 +33,7 @@ abbrev FileParts : Type 0
 FileParts = (Text × ℕ) ⊎ ((ℕ × (ℕ × Text)) ⊎ ((ℕ × ℕ) ⊎ (ℕ ⊎ ((ℕ × ℕ) ⊎ (ℕ ⊎ ℕ)))))
 
 abbrev NameParts : Type 0
-NameParts = Text ⊎ ((Text × Text) ⊎ ((Text × Text) ⊎ (Text ⊎ (Text ⊎ Text))))
+NameParts = Text ⊎ ((Text × Text) ⊎ ((Text × Text) ⊎ (Text ⊎ (Text ⊎ (Text ⊎ (Text × ℕ))))))
 
 abbrev parts_of : FileCall → FileParts ⊎ NameParts
 parts_of (Made path n) = inl (inl (path, n))
@@ -47,7 +48,8 @@ parts_of (Linked from to) = inr (inr (inl (from, to)))
 parts_of (Renamed from to) = inr (inr (inr (inl (from, to))))
 parts_of (Removed path) = inr (inr (inr (inr (inl path))))
 parts_of (SyncedNames path) = inr (inr (inr (inr (inr (inl path)))))
-parts_of (UnwaitedNames path) = inr (inr (inr (inr (inr (inr path)))))
+parts_of (UnwaitedNames path) = inr (inr (inr (inr (inr (inr (inl path))))))
+parts_of (Opened path n) = inr (inr (inr (inr (inr (inr (inr (path, n)))))))
 
 abbrev from_parts : FileParts ⊎ NameParts → FileCall
 from_parts (inl (inl made)) = Made made.0 made.1
@@ -62,7 +64,8 @@ from_parts (inr (inr (inl linked))) = Linked linked.0 linked.1
 from_parts (inr (inr (inr (inl renamed)))) = Renamed renamed.0 renamed.1
 from_parts (inr (inr (inr (inr (inl path))))) = Removed path
 from_parts (inr (inr (inr (inr (inr (inl path)))))) = SyncedNames path
-from_parts (inr (inr (inr (inr (inr (inr path)))))) = UnwaitedNames path
+from_parts (inr (inr (inr (inr (inr (inr (inl path))))))) = UnwaitedNames path
+from_parts (inr (inr (inr (inr (inr (inr (inr opened))))))) = Opened opened.0 opened.1
 
 pub from_parts-parts_of : (call : FileCall) → from_parts (parts_of call) ≡ call
 from_parts-parts_of (Made path n) = refl
@@ -78,6 +81,7 @@ from_parts-parts_of (Renamed from to) = refl
 from_parts-parts_of (Removed path) = refl
 from_parts-parts_of (SyncedNames path) = refl
 from_parts-parts_of (UnwaitedNames path) = refl
+from_parts-parts_of (Opened path n) = refl
 
 abbrev coded_text : Coded (List ℕ)
 coded_text = coded_list coded_ℕ
@@ -88,5 +92,6 @@ coded_call = code_by (FileParts ⊎ NameParts)
     (coded⊎ (coded× coded_ℕ coded_ℕ) (coded⊎ coded_ℕ (coded⊎ (coded× coded_ℕ coded_ℕ)
     (coded⊎ coded_ℕ coded_ℕ))))))
     (coded⊎ coded_text (coded⊎ (coded× coded_text coded_text)
-    (coded⊎ (coded× coded_text coded_text) (coded⊎ coded_text (coded⊎ coded_text coded_text))))))
+    (coded⊎ (coded× coded_text coded_text) (coded⊎ coded_text (coded⊎ coded_text (coded⊎ coded_text
+    (coded× coded_text coded_ℕ))))))))
     parts_of from_parts from_parts-parts_of

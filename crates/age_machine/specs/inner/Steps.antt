@@ -1,24 +1,16 @@
 -- What the steps of a replacement do. Private: no public contract cites this module.
-use Rattle.std.specs.Prelude.{◌≡◌, ◌≢◌, ℕ, List, [], ◌∷◌, ◌++◌, take, drop, true, false, Some}
+use Rattle.std.specs.Prelude.{◌≡◌, ◌≢◌, ◌⊎◌, ℕ, List, [], ◌∷◌, ◌++◌, take, drop, true, false, Some}
 use Rattle.age_io.specs.declared.durability.Durability.{Durability}
 use Rattle.age_io.specs.declared.durability.Durability.TheVariants as wait
-use Rattle.age_machine.specs.Calls.{FileCall, Wrote, Cut, Broke, Measured, Synced, Unwaited}
+use Rattle.age_machine.specs.Calls.{FileCall, Removed, SyncedNames, UnwaitedNames, IsOf, MayHave, Waited}
 use Rattle.age_machine.specs.Disk.{Disk, after_calls}
 use Rattle.age_machine.specs.Saves.{AllAnswered, SavesWhole, SparesFile}
 use Rattle.age_machine.specs.Beside.{HasBeside}
+use Rattle.age_machine.specs.Outs.{AllOn}
 use Rattle.age_machine.specs.declared.replacing.Spot.{Spot}
 use Rattle.age_machine.specs.declared.replacing.Spot.TheVariants as spot
 
--- this call is about what this file holds; each of these is
-abbrev pub IsOf : ℕ → FileCall → Type 0
-IsOf n (Wrote m at part) = m ≡ n
-IsOf n (Cut m len) = m ≡ n
-IsOf n (Broke m) = m ≡ n
-IsOf n (Measured m len) = m ≡ n
-IsOf n (Synced m) = m ≡ n
-IsOf n (Unwaited m) = m ≡ n
-IsOf n call = ⊥
-
+-- each of these calls is about what this file holds
 abbrev pub AllOf : ℕ → List FileCall → Type 0
 AllOf n [] = Unit {0}
 AllOf n (call ∷ calls) = IsOf n call × AllOf n calls
@@ -55,6 +47,18 @@ pub record Has (n : ℕ) (text : List ℕ) (disk : Disk) : Type 0 where
 pub record Fills (n : ℕ) (bytes : List ℕ) (old new : List FileCall) : Type 0 where
   pub on : (path : List ℕ) (disk : Disk) → AllAnswered path new disk
       → (after_calls old disk).is_lost n ≡ false → Has n bytes (after_calls new disk)
+
+-- ---- A file that is written in place.
+
+-- all calls stay about one path and one file
+abbrev pub StaysOn : List ℕ → ℕ → List FileCall → List FileCall → Type 0
+StaysOn path n old new = AllOn path n old → AllOn path n new
+
+-- what is at a path is removed, and its name waited for, or not
+pub record RemovesAt (path : List ℕ) (old new : List FileCall) : Type 0 where
+  pub mid : List FileCall
+  pub removed : MayHave (Removed path) old mid
+  pub named : (new ≡ mid) ⊎ Waited (SyncedNames path) (UnwaitedNames path) mid new
 
 -- ---- From a file that was filled to one that is at its path.
 

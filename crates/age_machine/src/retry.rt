@@ -7,7 +7,7 @@ use std::time::Duration;
 
 /// How many times a read or a write is tried at most. A non-blocking descriptor that isn't ready
 /// may have to be waited for as long as a blocking one.
-pub(crate) const TRIES: u64 = u64::MAX;
+pub const TRIES: u64 = u64::MAX;
 
 /// How many milliseconds pass before a descriptor that wasn't ready is tried again.
 const PAUSE: u64 = 1;
@@ -15,7 +15,7 @@ const PAUSE: u64 = 1;
 /// Whether a read or a write that failed is to be tried again: it was interrupted, or its
 /// descriptor is non-blocking and isn't ready. Another program that shares the descriptor may have
 /// made it so. Then this waits a moment first.
-pub(crate) fn is_to_retry(rt: &HostRuntime, error: &io::Error) -> bool {
+pub fn is_to_retry(rt: &HostRuntime, error: &io::Error) -> bool {
     match error.kind() {
         io::ErrorKind::Interrupted => true,
         io::ErrorKind::WouldBlock => {
@@ -27,6 +27,6 @@ pub(crate) fn is_to_retry(rt: &HostRuntime, error: &io::Error) -> bool {
 }
 
 /// What is reported when no try is left.
-pub(crate) fn too_many_tries() -> io::Error {
+pub fn too_many_tries() -> io::Error {
     io::Error::from(io::ErrorKind::TimedOut)
 }

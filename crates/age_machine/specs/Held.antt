@@ -1,0 +1,28 @@
+-- What holds of a file that is written in place, between the calls of its methods.
+use Rattle.std.specs.Prelude.{◌≡◌, ℕ, List, [], ◌∷◌, length, take, Bool, false, Some}
+use Rattle.age_machine.specs.Calls.{FileCall}
+use Rattle.age_machine.specs.Disk.{Disk, after_calls}
+use Rattle.age_machine.specs.Saves.{AllAnswered}
+use Rattle.age_machine.specs.Outs.{OutFile, opening_of, text_of, has_changed, AllOn}
+
+-- it begins with what was written, on a disk
+pub record HasWritten (path : List ℕ) (n : ℕ) (is_stale : Bool) (text : List ℕ) (disk : Disk)
+    : Type 0 where
+  pub file : disk.file path ≡ Some n
+  pub front : take (length text) (disk.bytes n) ≡ text
+  -- nothing stands beyond that, unless what it held is still there
+  pub whole : is_stale ≡ false → disk.bytes n ≡ text
+  pub is_lost : disk.is_lost n ≡ false
+
+abbrev pub IsBegun : List ℕ → ℕ → Bool → List ℕ → List FileCall → Type 0
+IsBegun path n is_stale text calls = (disk : Disk) → AllAnswered path calls disk
+    → HasWritten path n is_stale text (after_calls calls disk)
+
+-- what holds between the calls of its methods
+pub record IsOut (file : OutFile) (is_stale : Bool) (count failed : ℕ) (calls : List FileCall)
+    : Type 0 where
+  pub on : AllOn file.path file.number calls
+  pub written : length (text_of calls) ≡ count
+  pub same : text_of calls ≡ [] → has_changed calls ≡ false
+  pub fresh : failed ≡ 0 → text_of calls ≡ [] → calls ≡ opening_of file ∷ []
+  pub begun : failed ≡ 0 → IsBegun file.path file.number is_stale (text_of calls) calls

@@ -1,0 +1,485 @@
+//! A regular file that is written in place.
+
+ghost use Rattle.std.specs.Prelude.{◌≡◌, ◌⊎◌, ◌≤◌, ◌<◌, ◌+◌, ◌^◌, ◌∷◌, ◌++◌, [], ℕ, List, length, take, string_bytes};
+ghost use Rattle.std.specs.Prelude.{true, false, is_some, IfOk, OnOk, OnErr};
+ghost use Rattle.std.specs.Io.{WritesAtMost};
+ghost use Rattle.age_io.specs.declared.durability.Durability.TheVariants as wait;
+ghost use Rattle.age_machine.specs.Calls.{SyncedNames, UnwaitedNames, Waited};
+ghost use Rattle.age_machine.specs.Saves.{SavesWhole, IsSafe};
+ghost use Rattle.age_machine.specs.Outs.{opening_of, text_of, has_changed, AllOn};
+ghost use Rattle.age_machine.specs.Held.{IsBegun};
+ghost use Rattle.age_machine.specs.inner.Steps.{IsInPlace, StaysOn, RemovesAt};
+
+use crate::beside::settle;
+use crate::machine::{Machine, Shape};
+use crate::replacing::settle_names;
+use age_io::Durability;
+use std::io;
+use std::marker::Model;
+
+/// How many bytes may be written before a file is looked at again. Each write to one that opening made
+/// goes to its end, so that cutting it off leaves no hole: it is looked at less often.
+const SIGHT_OF_FOUND: u64 = 1 << 24;
+
+const SIGHT_OF_MADE: u64 = 1 << 30;
+
+/// How a file was opened.
+#[derive(Clone, Copy)]
+pub struct Opening {
+    /// Opening made it.
+    pub is_made: bool,
+    /// It had a name then.
+    pub is_named: bool,
+    /// That name is waited for at the end.
+    pub is_waited: bool,
+}
+
+/// A regular file that is written in place, from its beginning on, by a machine of its own.
+#[derive(Drop)]
+pub struct Out<M: Machine> {
+    machine: M,
+    file: M::File,
+    // Where it is, at the end of all links.
+    path: String,
+    opening: Opening,
+    // What it held is still there, beyond the bytes that were written.
+    is_stale: bool,
+    written: u64,
+    // How much was written when it was last seen to be as it should.
+    seen: u64,
+    // Its length is how much was written, as long as nobody else changes it. Files that the system
+    // makes up, as in /proc, have another.
+    has_length: bool,
+    // Why what it holds can't be relied on: the wait for the disk has failed, or the cut, or another
+    // program has harmed it. The system says so once: a later wait proves nothing.
+    lost: Option<io::Error>,
+}
+
+/// What became of a file that was written in place and ended.
+#[derive(Drop)]
+pub struct Ended<M> {
+    pub end: io::Result<()>,
+    pub path: String,
+    /// The machine after all calls.
+    pub machine: M,
+}
+
+impl<M: Machine> Model for Out<M> {
+    ghost use Rattle.std.specs.Prelude.{◌≡◌, ◌<◌, ℕ, true, string_bytes, is_some};
+    ghost use Rattle.age_machine.specs.Outs.{OutView};
+    ghost use Rattle.age_machine.specs.Held.{IsOut};
+
+    ghost Value = { OutView };
+
+    ghost view = { λ o. record {
+      file = record {
+        path = string_bytes o.path;
+        number = M.number o.file;
+        is_made = o.opening.is_made;
+        is_waited = o.opening.is_waited;
+      };
+      calls = M.calls o.machine;
+      failed = M.failed o.machine;
+      is_lost = is_some o.lost;
+    } };
+
+    ghost invariant = { λ o. IsOut (record {
+      path = string_bytes o.path;
+      number = M.number o.file;
+      is_made = o.opening.is_made;
+      is_waited = o.opening.is_waited;
+    }) o.is_stale o.written (M.failed o.machine) (M.calls o.machine) };
+}
+
+/// Cuts off what a file held beyond the bytes that were written.
+fn cut_stale<M: Machine>(
+    machine: &mut M,
+    file: &M::File,
+    is_stale: bool,
+    written: u64,
+) -> io::Result<()>
+    ensures on { (path : List ℕ) → StaysOn path (M.number file.now) (M.calls machine.old)
+        (M.calls machine.new) }
+    ensures cut { OnOk result ((path text : List ℕ) → length text ≡ written
+        → IsBegun path (M.number file.now) is_stale text (M.calls machine.old)
+        → IsBegun path (M.number file.now) false text (M.calls machine.new)) }
+    ensures text { text_of (M.calls machine.new) ≡ text_of (M.calls machine.old) }
+    ensures counted { OnOk result (M.failed machine.new ≡ M.failed machine.old) }
+    ensures caused { OnErr result (M.failed machine.old < M.failed machine.new) }
+{
+    if !is_stale {
+        return Ok(());
+    }
+    machine.cut(file, written)?;
+    Ok(())
+}
+
+/// Ends what was written to a file: cuts off what is beyond it, and waits for the disk. Fails if
+/// another program has harmed the file.
+fn finish<M: Machine>(
+    machine: &mut M,
+    file: &M::File,
+    is_stale: bool,
+    lost: Option<io::Error>,
+    shape: &Shape,
+    durability: Durability,
+) -> io::Result<()>
+    ensures on { (path : List ℕ) → StaysOn path (M.number file.now) (M.calls machine.old)
+        (M.calls machine.new) }
+    ensures finished { OnOk result (durability ≡ wait.Synced → (path text : List ℕ)
+        → length text ≡ shape.now.len
+        → IsBegun path (M.number file.now) is_stale text (M.calls machine.old)
+        → IsInPlace path (M.number file.now) text (M.calls machine.new)) }
+    ensures sure { OnOk result (is_some lost ≡ false) }
+    ensures counted { M.failed machine.old ≤ M.failed machine.new }
+    ensures caused { OnErr result ((is_some lost ≡ true)
+        ⊎ (M.failed machine.old < M.failed machine.new)) }
+{
+    if let Some(error) = lost {
+        return Err(error);
+    }
+    cut_stale(machine, file, is_stale, shape.len)?;
+    settle(machine, file, durability)?;
+    machine.check(file, shape)?;
+    Ok(())
+}
+
+/// Waits until the name of a file has reached the disk, if it is to. Where another program made the
+/// name, that is done if its folder can be read.
+fn settle_name<M: Machine>(
+    machine: &mut M,
+    path: &str,
+    opening: Opening,
+    durability: Durability,
+) -> io::Result<()>
+    ensures ok { OnOk result (durability ≡ wait.Synced → opening.is_waited ≡ true
+        → Waited (SyncedNames path.now) (UnwaitedNames path.now) (M.calls machine.old)
+        (M.calls machine.new)) }
+    ensures either { (M.calls machine.new ≡ M.calls machine.old) ⊎ Waited (SyncedNames path.now)
+        (UnwaitedNames path.now) (M.calls machine.old) (M.calls machine.new) }
+    ensures counted { M.failed machine.old ≤ M.failed machine.new }
+    ensures caused { OnErr result (M.failed machine.old < M.failed machine.new) }
+{
+    if !opening.is_waited {
+        return Ok(());
+    }
+    if opening.is_made {
+        return settle_names(machine, path, durability);
+    }
+    match durability {
+        Durability::Synced => {
+            machine.sync_readable_names(path)?;
+            Ok(())
+        }
+        Durability::Buffered => Ok(()),
+    }
+}
+
+/// Closes a file, and waits for its name.
+fn close_named<M: Machine>(
+    machine: &mut M,
+    file: &M::File,
+    path: &str,
+    opening: Opening,
+    durability: Durability,
+) -> io::Result<()>
+    ensures on { StaysOn path.now (M.number file.now) (M.calls machine.old) (M.calls machine.new) }
+    ensures named { OnOk result (durability ≡ wait.Synced → opening.is_waited ≡ true
+        → Waited (SyncedNames path.now) (UnwaitedNames path.now) (M.calls machine.old)
+        (M.calls machine.new)) }
+    ensures counted { M.failed machine.old ≤ M.failed machine.new }
+    ensures caused { OnErr result (M.failed machine.old < M.failed machine.new) }
+{
+    machine.close(file)?;
+    settle_name(machine, path, opening, durability)?;
+    Ok(())
+}
+
+/// Removes a file that opening made, if this run alone has it, and it is still empty.
+fn take_back<M: Machine>(
+    machine: &mut M,
+    file: &M::File,
+    path: &str,
+    opening: Opening,
+    durability: Durability,
+)
+    ensures removed { RemovesAt path.now (M.calls machine.old) (M.calls machine.new) }
+    ensures there { opening.is_made ≡ false → M.calls machine.new ≡ M.calls machine.old }
+{
+    if !opening.is_made || !is_as_long(machine, file, 0) || !machine.is_alone(file) {
+        return;
+    }
+    machine.remove(file, path);
+    let _ = settle_names(machine, path, durability);
+}
+
+/// How many bytes may be written before a file is looked at again.
+fn sight_of(opening: Opening) -> u64 {
+    if opening.is_made {
+        SIGHT_OF_MADE
+    } else {
+        SIGHT_OF_FOUND
+    }
+}
+
+/// Whether a file has this many bytes, as far as that is known.
+fn is_as_long<M: Machine>(machine: &M, file: &M::File, len: u64) -> bool {
+    match machine.look(file) {
+        Ok(now) => now.len == len,
+        Err(_) => false,
+    }
+}
+
+impl<M: Machine + Drop> Out<M> {
+    /// A file that was opened to be written; what is written replaces what it holds.
+    pub fn new(machine: M, file: M::File, path: String, opening: Opening) -> Out<M>
+        requires unfailed { M.failed machine ≡ 0 }
+        requires opened { M.calls machine ≡ opening_of (record {
+          path = string_bytes path;
+          number = M.number file;
+          is_made = opening.is_made;
+          is_waited = opening.is_waited;
+        }) ∷ [] }
+        ensures { result ≡ record {
+          file = record {
+            path = string_bytes path;
+            number = M.number file;
+            is_made = opening.is_made;
+            is_waited = opening.is_waited;
+          };
+          calls = M.calls machine;
+          failed = 0;
+          is_lost = false;
+        } }
+    {
+        Out {
+            machine,
+            file,
+            path,
+            opening,
+            is_stale: !opening.is_made,
+            written: 0,
+            seen: 0,
+            has_length: true,
+            lost: None,
+        }
+    }
+
+    /// The file itself.
+    pub fn file(&self) -> &M::File {
+        &self.file
+    }
+
+    /// Fails if it can't be relied on, or if another program has harmed it, if it is time to look.
+    /// While more is to be written it may be longer: somebody else may append to it, which is seen at
+    /// its end.
+    fn look(&mut self) -> io::Result<()>
+        ensures same { (self.new.file ≡ self.old.file) × (self.new.calls ≡ self.old.calls) }
+        ensures sound { OnOk result ((self.new.failed ≡ self.old.failed)
+            × (self.new.is_lost ≡ self.old.is_lost)) }
+        ensures caused { OnErr result ((self.old.is_lost ≡ true)
+            ⊎ (self.old.failed < self.new.failed)) }
+        ensures counted { self.old.failed ≤ self.new.failed }
+    {
+        if let Some(error) = self.lost {
+            return Err(error);
+        }
+        let most = sight_of(self.opening);
+        if self.written.saturating_sub(self.seen) < most {
+            return Ok(());
+        }
+        self.seen = self.written;
+        let shape = Shape {
+            len: self.written,
+            may_be_longer: true,
+            has_length: self.has_length,
+            is_named: self.opening.is_named,
+        };
+        match self.machine.check(&self.file, &shape) {
+            Ok(()) => Ok(()),
+            Err(error) => {
+                self.lost = Some(error);
+                Err(error)
+            }
+        }
+    }
+
+    /// The first bytes are written before the rest is cut off, so that a first write that fails
+    /// changes nothing. If that can't be cut off, the bytes count as written, and what comes next
+    /// fails.
+    fn cut_first(&mut self, is_first: bool)
+        requires { 0 < length (text_of self.old.calls) }
+        ensures file { self.new.file ≡ self.old.file }
+        ensures text { text_of self.new.calls ≡ text_of self.old.calls }
+        ensures sound { self.new.is_lost ≡ false → (self.new.failed ≡ self.old.failed)
+            × (self.old.is_lost ≡ false) }
+        ensures counted { self.old.failed ≤ self.new.failed }
+    {
+        if !is_first {
+            return;
+        }
+        match cut_stale(&mut self.machine, &self.file, self.is_stale, self.written) {
+            Ok(()) => {
+                self.is_stale = false;
+                self.has_length = is_as_long(&self.machine, &self.file, self.written);
+            }
+            Err(error) => self.lost = Some(error),
+        }
+    }
+
+    /// Writes some bytes behind those that were written.
+    fn write(&mut self, from: &[u8]) -> io::Result<usize>
+        requires { 0 < length from.now }
+        ensures bound { IfOk result (λ n. (n ≤ length from.now) × (0 < n)) }
+        ensures file { self.new.file ≡ self.old.file }
+        ensures taken { IfOk result (λ n. text_of self.new.calls
+            ≡ text_of self.old.calls ++ take n from.now) }
+        ensures kept { OnErr result (text_of self.new.calls ≡ text_of self.old.calls) }
+        ensures sound { OnOk result (self.new.is_lost ≡ false
+            → (self.new.failed ≡ self.old.failed) × (self.old.is_lost ≡ false)) }
+        ensures caused { OnErr result ((self.old.failed < self.new.failed)
+            ⊎ (2 ^ 64 ≤ length (text_of self.old.calls) + length from.now)) }
+        ensures counted { self.old.failed ≤ self.new.failed }
+    {
+        if from.len() as u64 > u64::MAX - self.written {
+            return Err(io::Error::from(io::ErrorKind::FileTooLarge));
+        }
+        let n = self.machine.write(&self.file, self.written, from)?;
+        let is_first = self.written == 0;
+        self.written += n as u64;
+        self.cut_first(is_first);
+        Ok(n)
+    }
+
+    /// Takes some bytes.
+    pub fn put(&mut self, from: &[u8]) -> io::Result<usize>
+        ensures bound { WritesAtMost result from.now }
+        ensures some { IfOk result (λ n. 0 < length from.now → 0 < n) }
+        ensures file { self.new.file ≡ self.old.file }
+        ensures taken { IfOk result (λ n. text_of self.new.calls
+            ≡ text_of self.old.calls ++ take n from.now) }
+        ensures kept { OnErr result (text_of self.new.calls ≡ text_of self.old.calls) }
+        ensures sound { OnOk result (self.new.is_lost ≡ false
+            → (self.new.failed ≡ self.old.failed) × (self.old.is_lost ≡ false)) }
+        ensures caused { OnErr result ((self.old.is_lost ≡ true)
+            ⊎ ((self.old.failed < self.new.failed)
+            ⊎ (2 ^ 64 ≤ length (text_of self.old.calls) + length from.now))) }
+    {
+        if from.is_empty() {
+            return Ok(0);
+        }
+        self.look()?;
+        self.write(from)
+    }
+
+    /// Waits until what was written has reached the disk. Fails for good once that has failed. What
+    /// was written before a cut that failed can still reach it.
+    pub fn reach(&mut self) -> io::Result<()>
+        ensures file { self.new.file ≡ self.old.file }
+        ensures text { text_of self.new.calls ≡ text_of self.old.calls }
+        ensures sound { self.new.is_lost ≡ false → (self.new.failed ≡ self.old.failed)
+            × (self.old.is_lost ≡ false) }
+        ensures caused { OnErr result ((self.old.is_lost ≡ true)
+            ⊎ (self.old.failed < self.new.failed)) }
+    {
+        if self.written == 0 {
+            return Ok(());
+        }
+        if let Some(error) = self.lost
+            && !self.is_stale
+        {
+            return Err(error);
+        }
+        match self.machine.sync(&self.file) {
+            Ok(()) => Ok(()),
+            Err(error) => {
+                self.lost = Some(error);
+                Err(error)
+            }
+        }
+    }
+
+    /// How many of the bytes that were written it can hold, by its length.
+    pub fn room(&self) -> u64 {
+        match self.machine.look(&self.file) {
+            Ok(_) if !self.has_length => u64::MAX,
+            Ok(now) if self.opening.is_named && !now.is_named => 0,
+            Ok(now) => now.len,
+            Err(_) => 0,
+        }
+    }
+
+    /// Whether it still holds what it held, or nothing if it was made.
+    pub fn is_untouched(&self) -> bool {
+        if self.is_stale {
+            self.written == 0
+        } else {
+            is_as_long(&self.machine, &self.file, 0)
+        }
+    }
+
+    /// Ends it with what was written, and closes it, in either case.
+    pub fn end(self, durability: Durability) -> Ended<M>
+        ensures safe { durability ≡ wait.Synced → self.file.is_waited ≡ true → self.failed ≡ 0
+            → OnOk result.end
+            (IsSafe self.file.path (text_of self.calls) (M.calls result.machine)) }
+        ensures path { string_bytes result.path ≡ self.file.path }
+        ensures sure { OnOk result.end (self.is_lost ≡ false) }
+        ensures touches { AllOn self.file.path self.file.number (M.calls result.machine) }
+        ensures caused { OnErr result.end ((self.is_lost ≡ true)
+            ⊎ (self.failed < M.failed result.machine)) }
+    {
+        let Out {
+            mut machine,
+            file,
+            path,
+            opening,
+            is_stale,
+            written,
+            has_length,
+            lost,
+            ..
+        } = self;
+        let shape = Shape {
+            len: written,
+            may_be_longer: false,
+            has_length,
+            is_named: opening.is_named,
+        };
+        let finished = finish(&mut machine, &file, is_stale, lost, &shape, durability);
+        let closed = close_named(&mut machine, &file, path.as_str(), opening, durability);
+        match finished {
+            Ok(()) => Ended {
+                end: closed,
+                path,
+                machine,
+            },
+            Err(error) => Ended {
+                end: Err(error),
+                path,
+                machine,
+            },
+        }
+    }
+
+    /// Ends it if nothing was written, as it was before it was opened. One that opening made is
+    /// removed, if this run alone has it, and it is still empty.
+    pub fn discard(self, durability: Durability) -> M
+        ensures kept { self.failed ≡ 0 → text_of self.calls ≡ []
+            → SavesWhole self.file.path [] [] (M.calls result) }
+        ensures there { self.file.is_made ≡ false → M.calls result ≡ self.calls }
+        ensures untouched { self.file.is_made ≡ false → text_of self.calls ≡ []
+            → has_changed (M.calls result) ≡ false }
+        ensures touches { AllOn self.file.path self.file.number (M.calls result) }
+    {
+        let Out {
+            mut machine,
+            file,
+            path,
+            opening,
+            ..
+        } = self;
+        take_back(&mut machine, &file, path.as_str(), opening, durability);
+        machine
+    }
+}
