@@ -448,6 +448,17 @@ class DiskTest(FilesCase):
             self.see("a file that can't be read is synced", paths == ["new"], paths)
             self.expect(1, unsynced("/dev/stdout", errno.EIO), words, "its sync fails", {"FSYNC": errno.EIO}, stdout=new, **as_nobody())
 
+    @needs(root=True)
+    def test_unopened(self):
+        """Standard output may be a file that can't be opened once more: it has all of the text, and it isn't known to be on the disk."""
+        self.write("plain", bytes(17 << 20))
+        self.expect(0, b"", "encrypt --pass pass --log 4 plain age")
+        self.write("new", b"", 0o600)
+        with open(self.path("new"), "wb") as new:
+            words = "decrypt --pass pass age /dev/stdout"
+            self.expect(1, unsynced("/dev/stdout", errno.EACCES), words, "a stream to a file of another user's", stdout=new, **as_nobody())
+        self.see("a stream to a file of another user's: whole", self.read("new") == bytes(17 << 20))
+
     def test_unreadable(self):
         """The name of a new OUT can't be synced in a folder that can't be read."""
         folder = self.path("folder")

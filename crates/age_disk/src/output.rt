@@ -67,6 +67,14 @@ impl Target {
         }
     }
 
+    /// Whether the disk can be waited for. If it can't, that is said at the end, once all is written.
+    fn can_reach_disk(&self) -> bool {
+        match self {
+            Target::File(_) | Target::Device(_) => true,
+            Target::Output(_, witness) | Target::Faults(_, witness) => !witness.is_missing(),
+        }
+    }
+
     /// Ends what was written, and closes it, in either case. The end of a regular file waits for the
     /// disk itself.
     fn end(mut self, rt: &HostRuntime, lost: Option<io::Error>, to: Durability) -> io::Result<()> {
@@ -183,7 +191,9 @@ impl HostOut {
             Resolved::Path(path) => HostOut::open_at(alloc, rt, name, path.as_str())?,
             Resolved::Stream(stream) => HostOut::of_stream(rt, stream)?,
         };
-        out.durability = durability;
+        if out.target.can_reach_disk() {
+            out.durability = durability;
+        }
         Ok(out)
     }
 

@@ -49,8 +49,16 @@ impl Witness {
         }
     }
 
+    /// Whether the file couldn't be opened, as one of another user's.
+    pub(crate) fn is_missing(&self) -> bool {
+        match &self.0 {
+            Some(Err(_)) => true,
+            _ => false,
+        }
+    }
+
     /// Waits until what went to the stream has reached the disk. Fails if the file couldn't be
-    /// opened, as one of another user's.
+    /// opened.
     pub(crate) fn sync(&self) -> io::Result<()> {
         match &self.0 {
             Some(Ok(file)) => sync(file),
