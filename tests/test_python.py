@@ -487,27 +487,6 @@ class PythonTest(BindingsCase):
         run = self.command("salvage", "--identity", key, AGE / "one.age", "out")
         self.see("salvage by a key", run.returncode == 0 and self.path("out").read_bytes() == b"hello, recipient\n", run.stderr)
 
-    def test_files_that_are_read(self):
-        """No file that is named to be read is written to, not by another name of it either."""
-        self.write("plain", b"plain text")
-        self.command("encrypt", "--pass", "pw", "--log", "1", "plain", "made.age")
-        shutil.copy(AGE / "key.txt", self.path("key.txt"))
-        shutil.copy(AGE / "one.age", self.path("one.age"))
-        for name in ("pw", "key.txt", "made.age", "one.age"):
-            os.link(self.path(name), self.path(f"{name}-linked"))
-            self.path(f"{name}-symbolic").symlink_to(name)
-        kept = {name: self.path(name).read_bytes() for name in ("pw", "key.txt", "made.age", "one.age", "plain")}
-        for words in (("encrypt", "--pass", "pw", "plain"), ("decrypt", "--pass", "pw", "made.age"), ("decrypt", "--identity", "key.txt", "one.age"),
-                      ("salvage", "--identity", "key.txt", "one.age"), ("salvage", "--pass", "pw", "made.age")):
-            for out in [name + more for name in words[2:] for more in ("", "-linked", "-symbolic")]:
-                if self.is_there(out):
-                    run = self.command(*words, out)
-                    self.see(f"{' '.join(words)} {out}", run.returncode == 1 and b"one file" in run.stderr, run.returncode, run.stderr)
-        self.see("what was read is as it was", kept == {name: self.path(name).read_bytes() for name in kept})
-        with open(self.path("plain"), "rb") as file:
-            run = self.command("encrypt", "--pass", "pw", "-", "plain", stdin=file)
-        self.see("standard input is OUT", run.returncode == 1 and self.path("plain").read_bytes() == b"plain text", run.stderr)
-
     @needs("dpkg-deb")
     def test_upgrade(self):
         """A package that is unpacked over an earlier one is what Python runs, also where the module's files are as long as they were."""
