@@ -11,11 +11,11 @@ mod beside;
 pub mod calls;
 mod folder;
 mod host;
+mod in_place;
 mod laws;
 mod machine;
 mod node;
 mod notes;
-mod out;
 mod replacing;
 mod retry;
 
@@ -24,12 +24,12 @@ pub use folder::{Folder, check_same, folder_of};
 pub use host::{
     HostFile, HostMachine, POSITION_MODE, above_streams, kept_above, open_to_write, sync,
 };
+pub use in_place::{Ended, Opening, Out};
 pub use laws::{
     lost_if_names_unwaited, outs_are_answered, torn_if_cut_last, torn_if_renamed_first,
     torn_if_unsynced, torn_if_unwaited, waits_are_answered,
 };
 pub use machine::{Machine, Shape, Sight};
 pub use node::{Node, found_at, is_at};
-pub use out::{Ended, Opening, Out};
 pub use replacing::{Spot, made_meanwhile, replace_by_kept, replace_by_new};
 pub use retry::{TRIES, is_to_retry, too_many_tries};

@@ -1,0 +1,21 @@
+use Rattle.std.proofs.Common.{◌<◌, false, length, ap, arith, ◌∙◌, sym}
+use Rattle.age_machine.specs.Outs.{text_of}
+use Rattle.age_machine.proofs.OutLemmas.{out_after}
+use Rattle.age_machine.proofs.in_place.Out.cut_first.Goals as goal
+
+pub invariant_of-self : goal.invariant_of-self
+invariant_of-self g c =
+    let out = c.self.invariant in
+    let some : 0 < c.self.inside.written =
+    omega (arith, c.requires, ap (λ v. length (text_of v.calls)) c.self.view_is, out.written) in
+    out_after _ _ _ _ _ out false _ _ some (c.cut_stale.ensures.on _) c.cut_stale.ensures.text
+    (λ sound. c.in-Ok.ensures.cut _ _ out.written
+    (out.begun (sym c.in-Ok.ensures.counted ∙ sound)))
+
+pub invariant_of-self-in-Err : goal.invariant_of-self-in-Err
+invariant_of-self-in-Err g c =
+    let out = c.self.invariant in
+    let some : 0 < c.self.inside.written =
+    omega (arith, c.requires, ap (λ v. length (text_of v.calls)) c.self.view_is, out.written) in
+    out_after _ _ _ _ _ out _ _ _ some (c.cut_stale.ensures.on _) c.cut_stale.ensures.text
+    (λ sound. absurd (omega (arith, sound, c.in-Err.ensures)))
