@@ -43,19 +43,22 @@ def some_header(rnd):
 
 def read(front):
     """The length of the header that some bytes begin with, and its stanzas, by the C library; or its fault's number, and nothing."""
-    library = bindings.module()._library.C
-    size, count, work = ctypes.c_size_t(), ctypes.c_size_t(), ctypes.c_uint32()
-    answer = library.age_c_header(front, ctypes.c_size_t(len(front)), ctypes.byref(size), ctypes.byref(count), ctypes.byref(work))
-    return (size.value, [stanza(library, front, it) for it in range(count.value)]) if answer == 0 else (answer, None)
+    library = bindings.module()._library
+    size, count, work, written = ctypes.c_size_t(), ctypes.c_size_t(), ctypes.c_uint32(), ctypes.c_size_t()
+    most = ctypes.c_size_t(len(front))
+    answer = library.C.age_c_header(front, most, ctypes.byref(size), ctypes.byref(count), ctypes.byref(work))
+    if answer != 0:
+        return answer, None
+    places, bodies = (library.StanzaPlace * count.value)(), ctypes.create_string_buffer(len(front))
+    told = ctypes.byref(count), bodies, most, ctypes.byref(written)
+    assert library.C.age_c_stanzas(front, most, places, ctypes.c_size_t(len(places)), *told) == 0
+    return size.value, [stanza(front, bodies.raw[: written.value], it) for it in places[: count.value]]
 
 
-def stanza(library, front, index):
-    """The arguments and the body of a stanza of the header that some bytes begin with, by the C library."""
-    at, length, written, most = ctypes.c_size_t(), ctypes.c_size_t(), ctypes.c_size_t(), ctypes.c_size_t(len(front))
-    out = ctypes.create_string_buffer(len(front))
-    numbers = ctypes.byref(at), ctypes.byref(length), out, most, ctypes.byref(written)
-    assert library.age_c_stanza(front, most, ctypes.c_size_t(index), *numbers) == 0
-    return front[at.value : at.value + length.value].split(b" "), out.raw[: written.value]
+def stanza(front, bodies, place):
+    """The arguments and the body of the stanza that stands there."""
+    arguments = front[place.args_at : place.args_at + place.args_len]
+    return arguments.split(b" "), bodies[place.body_at : place.body_at + place.body_len]
 
 
 class HeadersTest(BindingsCase):
