@@ -50,7 +50,7 @@
  * out a memset). The library keeps no pointer and no state. Only age_c_open_.. (which never means
  * age_c_open_at), age_c_header, age_c_stanzas and age_c_seal_.. allocate, by malloc and realloc,
  * and free all of it before they return: with a passphrase of work factor N, some KiB more than 2^N
- * KiB, and for the header up to about 28 bytes for each of its bytes while realloc copies. A call
+ * KiB, and for the header up to about 30 bytes for each of its bytes while realloc copies. A call
  * uses less than 100 KiB of stack.
  *
  * NOT PROMISED. Constant time, and that no trace of keys and passphrases is left: the library
