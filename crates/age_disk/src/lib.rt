@@ -15,6 +15,6 @@ mod sync;
 pub use age_machine::{Node, found_at};
 pub use input::HostIn;
 pub use names::{FileId, Resolved, Stream, StreamId};
-pub use output::HostOut;
+pub use output::{Ended, HostOut};
 pub use prepare::Prepared;
 pub use saving::replace;

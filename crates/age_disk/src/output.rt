@@ -1,9 +1,15 @@
 //! A file of the machine that is written.
 
-ghost use Rattle.std.specs.Prelude.{◌≡◌, [], ◌∷◌, None, true, false, IfOk, string_bytes};
+ghost use Rattle.std.specs.Prelude.{◌≡◌, ◌≤◌, ◌<◌, [], ◌∷◌, ◌++◌, None, Some, true, false, length, is_ok};
+ghost use Rattle.std.specs.Prelude.{IfOk, OnOk, OnErr, IfSome, MatchOption, string_bytes};
+ghost use Rattle.age_io.specs.declared.durability.Durability.TheVariants as wait;
 ghost use Rattle.std.specs.Io.{WritesAtMost};
 ghost use Rattle.age_machine.specs.Calls.{Opened};
 ghost use Rattle.age_machine.specs.Numbers.{number_of};
+ghost use Rattle.age_machine.specs.Saves.{IsSafe};
+ghost use Rattle.age_disk.specs.Outputs.{IsNew};
+ghost use Rattle.age_disk.specs.Targets.{regular_of, IsTaking};
+ghost use Rattle.age_disk.specs.inner.Puts.{part_of, TargetPuts};
 
 use crate::lock::lock;
 use crate::names::{FileId, Resolved, Stream, resolve};
@@ -17,7 +23,6 @@ use std::alloc::Global;
 use std::fs::File;
 use std::io::{self, IsTerminal, Write};
 use std::marker::Model;
-use std::mem;
 use std::rt::{HostRuntime, Stderr, Stdout};
 
 /// Where its bytes go.
@@ -48,7 +53,9 @@ fn write_to<W: Write>(rt: &HostRuntime, to: &mut W, from: &[u8]) -> io::Result<u
 
 impl Target {
     fn write(&mut self, rt: &HostRuntime, from: &[u8]) -> io::Result<usize>
-        ensures { WritesAtMost result from.now }
+        ensures bound { WritesAtMost result from.now }
+        ensures goes { TargetPuts (regular_of self.old) (regular_of self.new) (is_ok result)
+            (part_of result from.now) }
     {
         match self {
             Target::File(out) => out.put(from),
@@ -59,11 +66,14 @@ impl Target {
     }
 
     /// Waits until what was written has reached the disk.
-    fn reach_disk(&mut self) -> io::Result<()> {
+    fn reach_disk(&mut self) -> io::Result<()>
+        ensures { TargetPuts (regular_of self.old) (regular_of self.new) true [] }
+    {
         match self {
             Target::File(out) => out.reach(),
             Target::Device(file) => sync_file(file),
-            Target::Output(_, witness) | Target::Faults(_, witness) => witness.sync(),
+            Target::Output(_, witness) => witness.sync(),
+            Target::Faults(_, witness) => witness.sync(),
         }
     }
 
@@ -74,26 +84,140 @@ impl Target {
             Target::Output(_, witness) | Target::Faults(_, witness) => !witness.is_missing(),
         }
     }
+}
 
-    /// Ends what was written, and closes it, in either case. The end of a regular file waits for the
-    /// disk itself.
-    fn end(mut self, rt: &HostRuntime, lost: Option<io::Error>, to: Durability) -> io::Result<()> {
-        let reached = match (&self, to, lost) {
-            (Target::File(_), _, _) | (_, Durability::Buffered, _) => Ok(()),
-            (_, _, Some(error)) => Err(error),
-            _ => self.reach_disk(),
-        };
-        let closed = self.close(rt, to);
-        reached?;
-        closed
+/// How much a file took, and when the disk is waited for.
+#[derive(Clone, Copy)]
+struct Pace {
+    // How many bytes it took, and how many of them were there when the disk was last waited for.
+    taken: u64,
+    settled: u64,
+    // Whether the disk is waited for as it is written.
+    durability: Durability,
+    // How a wait for the disk failed. The system says so once: a later wait proves nothing.
+    lost: Option<io::Error>,
+}
+
+impl Pace {
+    /// Before anything is written.
+    fn new() -> Pace {
+        Pace {
+            taken: 0,
+            settled: 0,
+            durability: Durability::Buffered,
+            lost: None,
+        }
     }
 
-    fn close(self, rt: &HostRuntime, durability: Durability) -> io::Result<()> {
-        match self {
-            Target::File(out) => out.end(durability).end,
-            Target::Device(file) => close(rt, file),
-            Target::Output(..) => close_stream(rt, Stream::Output),
-            Target::Faults(..) => close_stream(rt, Stream::Faults),
+    /// Waits until what was written has reached the disk. Fails for good once that has failed.
+    fn reach_disk(&mut self, target: &mut Target) -> io::Result<()>
+        ensures { TargetPuts (regular_of target.old) (regular_of target.new) true [] }
+    {
+        if let Some(error) = self.lost {
+            return Err(error);
+        }
+        match target.reach_disk() {
+            Ok(()) => {
+                self.settled = self.taken;
+                Ok(())
+            }
+            Err(error) => {
+                self.lost = Some(error);
+                Err(error)
+            }
+        }
+    }
+
+    /// Waits for the disk before more is written, if it is time to.
+    fn wait(&mut self, target: &mut Target) -> io::Result<()>
+        ensures { TargetPuts (regular_of target.old) (regular_of target.new) true [] }
+    {
+        if self.durability == Durability::Buffered || !is_wait_due(self.taken, self.settled) {
+            return Ok(());
+        }
+        self.reach_disk(target)
+    }
+}
+
+/// Writes to a target, after the disk was waited for.
+fn write_paced(
+    rt: &HostRuntime,
+    target: &mut Target,
+    pace: &mut Pace,
+    from: &[u8],
+) -> io::Result<usize>
+    ensures bound { WritesAtMost result from.now }
+    ensures goes { TargetPuts (regular_of target.old) (regular_of target.new) (is_ok result)
+        (part_of result from.now) }
+{
+    pace.wait(target)?;
+    let n = target.write(rt, from)?;
+    pace.taken = pace.taken.saturating_add(n as u64);
+    Ok(n)
+}
+
+/// Keeps what a put took, or why it took nothing.
+fn note_put(
+    took: &mut Tape,
+    error: &mut io::Error,
+    put: io::Result<usize>,
+    from: &[u8],
+) -> Result<usize, Failed>
+    requires { WritesAtMost put from.now }
+    ensures took { took.new ≡ took.old ++ part_of put from.now }
+    ensures bound { IfOk result (λ n. (n ≤ length from.now) × (0 < length from.now → 0 < n)) }
+    ensures ok { IfOk result (λ n. put ≡ Ok n) }
+    ensures err { OnErr result (part_of put from.now ≡ []) }
+{
+    match put {
+        Ok(n) if n > 0 || from.is_empty() => {
+            took.note(&from[..n]);
+            Ok(n)
+        }
+        other => {
+            *error = error_of(other);
+            Err(Failed)
+        }
+    }
+}
+
+/// What was written to a file that was ended, for contracts alone, and whether it is for certain all
+/// that its path leads to.
+#[derive(Drop)]
+pub struct Ended {
+    took: Tape,
+    // Of a regular file that has reached the disk under its name.
+    path: Option<String>,
+    machine: HostMachine,
+}
+
+impl Model for Ended {
+    ghost use Rattle.std.specs.Prelude.{IfSome, string_bytes, option_map};
+    ghost use Rattle.age_machine.specs.Saves.{IsSafe};
+    ghost use Rattle.age_disk.specs.Outputs.{EndedView};
+
+    ghost Value = { EndedView };
+
+    ghost view = { λ e. record {
+      took = e.took;
+      path = option_map string_bytes e.path;
+      calls = e.machine.calls;
+    } };
+
+    ghost invariant = { λ e. IfSome (option_map string_bytes e.path)
+        (λ p. IsSafe p e.took e.machine.calls) };
+}
+
+impl Ended {
+    /// The path at which a power cut leaves exactly what was written, if that is known.
+    pub fn path(&self) -> Option<&str>
+        ensures is { MatchOption result (self.now.path ≡ None)
+            (λ p. self.now.path ≡ Some p.now) }
+        ensures safe { IfSome self.now.path (λ p. IsSafe p self.now.took self.now.calls) }
+    {
+        match &self.path {
+            Some(path) => Some(path.as_str()),
+            None => None,
         }
     }
 }
@@ -110,22 +234,26 @@ pub struct HostOut {
     failures: Failures,
     // What the machine answered to the last put that failed.
     error: io::Error,
-    // How many bytes it took, and how many of them were there when the disk was last waited for.
-    taken: u64,
-    settled: u64,
-    // Whether the disk is waited for as it is written.
-    durability: Durability,
-    // How a wait for the disk failed. The system says so once: a later wait proves nothing.
-    lost: Option<io::Error>,
+    pace: Pace,
     took: Tape,
 }
 
 impl Model for HostOut {
-    ghost use Rattle.std.specs.Prelude.{ℕ, Bool, List};
+    ghost use Rattle.age_disk.specs.Outputs.{OutputView};
+    ghost use Rattle.std.specs.Prelude.{option_map};
+    ghost use Rattle.age_machine.specs.Outs.{OutView};
+    ghost use Rattle.age_disk.specs.Targets.{regular_of, IsTaking};
 
-    ghost Value = { (ℕ × Bool) × List ℕ };
+    ghost Value = { OutputView };
 
-    ghost view = { λ s. ((s.failures.count, s.failures.last), s.took) };
+    ghost view = { λ s. record {
+      failed = s.failures.count;
+      failing = s.failures.last;
+      took = s.took;
+      file = option_map (λ (o : OutView). o.file) (regular_of s.target);
+    } };
+
+    ghost invariant = { λ s. IsTaking (regular_of s.target) s.failures.count s.took };
 }
 
 /// How many bytes are written at least, and at most, between two waits for the disk. In between,
@@ -139,9 +267,79 @@ fn is_wait_due(taken: u64, settled: u64) -> bool {
     taken.saturating_sub(settled) >= settled.min(WAIT_MOST).max(WAIT_FIRST)
 }
 
+/// What is known of nothing but what was taken.
+fn unknown(took: Tape, machine: HostMachine) -> Ended
+    ensures { result.took ≡ took }
+{
+    Ended {
+        took,
+        path: None,
+        machine,
+    }
+}
+
+/// Whether all that a file took is for certain at its path after this end.
+fn is_certain(end: &io::Result<()>, is_waited: bool, failed: u64, durability: Durability) -> bool
+    ensures certain { result ≡ true → (is_ok end.now ≡ true) × ((is_waited ≡ true)
+        × ((failed ≡ 0) × (durability ≡ wait.Synced))) }
+    ensures known { OnOk end.now (is_waited ≡ true → failed ≡ 0 → durability ≡ wait.Synced
+        → result ≡ true) }
+{
+    end.is_ok() && is_waited && failed == 0 && durability == Durability::Synced
+}
+
+/// Ends a regular file, and closes it.
+fn end_file(
+    out: Out<HostMachine>,
+    took: Tape,
+    failed: u64,
+    durability: Durability,
+) -> (Ended, io::Result<()>)
+    requires { IsTaking (Some out) failed took }
+    ensures took { result.0.took ≡ took }
+    ensures safe { durability ≡ wait.Synced → failed ≡ 0 → OnOk result.1
+        (out.file.is_waited ≡ true → result.0.path ≡ Some out.file.path) }
+{
+    let is_waited = out.is_waited();
+    let age_machine::Ended { end, path, machine } = out.end(durability);
+    if !is_certain(&end, is_waited, failed, durability) {
+        return (unknown(took, machine), end);
+    }
+    let ended = Ended {
+        took,
+        path: Some(path),
+        machine,
+    };
+    (ended, end)
+}
+
+/// Ends a device or a stream, and closes it, in either case.
+fn end_stream(
+    rt: &HostRuntime,
+    target: Target,
+    pace: Pace,
+    durability: Durability,
+) -> io::Result<()> {
+    let mut target = target;
+    let mut pace = pace;
+    let reached = match durability {
+        Durability::Synced => pace.reach_disk(&mut target),
+        Durability::Buffered => Ok(()),
+    };
+    let closed = match target {
+        Target::File(_) => Ok(()),
+        Target::Device(file) => close(rt, file),
+        Target::Output(..) => close_stream(rt, Stream::Output),
+        Target::Faults(..) => close_stream(rt, Stream::Faults),
+    };
+    reached?;
+    closed
+}
+
 impl HostOut {
     fn new(rt: &HostRuntime, target: Target, id: Option<FileId>) -> HostOut
-        ensures { result ≡ ((0, false), []) }
+        requires { IsTaking (regular_of target) 0 [] }
+        ensures { IsNew result }
     {
         HostOut {
             rt: *rt,
@@ -149,10 +347,7 @@ impl HostOut {
             id,
             failures: Failures::none(),
             error: io::Error::from(io::ErrorKind::Other),
-            taken: 0,
-            settled: 0,
-            durability: Durability::Buffered,
-            lost: None,
+            pace: Pace::new(),
             took: Tape::new(),
         }
     }
@@ -162,16 +357,9 @@ impl HostOut {
         self.error
     }
 
-    /// Hands over the tape of the bytes that it took, for contracts alone; it has a new one then.
-    pub fn hand_over(&mut self) -> Tape
-        ensures { result ≡ self.old.1 }
-    {
-        mem::replace(&mut self.took, Tape::new())
-    }
-
     /// Standard error, for the lines of faults. Puts fail if the program was started without it.
     pub fn faults(rt: &HostRuntime) -> HostOut
-        ensures { result ≡ ((0, false), []) }
+        ensures { IsNew result }
     {
         HostOut::new(rt, Target::Faults(rt.stderr(), Witness::none()), None)
     }
@@ -185,14 +373,14 @@ impl HostOut {
         name: &str,
         durability: Durability,
     ) -> io::Result<HostOut>
-        ensures { IfOk result (λ out. out ≡ ((0, false), [])) }
+        ensures { IfOk result IsNew }
     {
         let mut out = match resolve(alloc, rt, name)? {
             Resolved::Path(path) => HostOut::open_at(alloc, rt, name, path.as_str())?,
             Resolved::Stream(stream) => HostOut::of_stream(rt, stream)?,
         };
         if out.target.can_reach_disk() {
-            out.durability = durability;
+            out.pace.durability = durability;
         }
         Ok(out)
     }
@@ -204,16 +392,16 @@ impl HostOut {
         name: &str,
         durability: Durability,
     ) -> io::Result<HostOut>
-        ensures { IfOk result (λ out. out ≡ ((0, false), [])) }
+        ensures { IfOk result IsNew }
     {
         let mut out = HostOut::make_by(alloc, HostMachine::new(rt), rt, name)?;
-        out.durability = durability;
+        out.pace.durability = durability;
         Ok(out)
     }
 
     /// Opens the file at the end of a name's links, or makes it if there is none.
     fn open_at(alloc: Global, rt: &HostRuntime, name: &str, path: &str) -> io::Result<HostOut>
-        ensures { IfOk result (λ out. out ≡ ((0, false), [])) }
+        ensures { IfOk result IsNew }
     {
         let own = String::from_str(alloc, path)?;
         let mut machine = HostMachine::new(rt);
@@ -231,7 +419,7 @@ impl HostOut {
         path: &str,
     ) -> io::Result<HostOut>
         requires { (machine.calls ≡ []) × (machine.failed ≡ 0) }
-        ensures { IfOk result (λ out. out ≡ ((0, false), [])) }
+        ensures { IfOk result IsNew }
     {
         let mut machine = machine;
         let own = String::from_str(alloc, path)?;
@@ -256,7 +444,7 @@ impl HostOut {
     ) -> io::Result<HostOut>
         requires unfailed { machine.failed ≡ 0 }
         requires opened { machine.calls ≡ Opened (string_bytes path) (number_of file.node) ∷ [] }
-        ensures { IfOk result (λ out. out ≡ ((0, false), [])) }
+        ensures { IfOk result IsNew }
     {
         let sight = machine.look(&file)?;
         let id = FileId::of(&file.file().metadata()?);
@@ -283,7 +471,7 @@ impl HostOut {
 
     /// A stream that can be written, from where it stands.
     pub fn of_stream(rt: &HostRuntime, stream: Stream) -> io::Result<HostOut>
-        ensures { IfOk result (λ out. out ≡ ((0, false), [])) }
+        ensures { IfOk result IsNew }
     {
         stream.check(rt)?;
         let target = match stream {
@@ -331,51 +519,16 @@ impl HostOut {
         }
     }
 
-    fn write(&mut self, from: &[u8]) -> io::Result<usize>
-        ensures bound { WritesAtMost result from.now }
-        ensures counted { self.new ≡ self.old }
-    {
-        self.wait()?;
-        let n = self.target.write(&self.rt, from)?;
-        self.taken = self.taken.saturating_add(n as u64);
-        Ok(n)
-    }
-
-    /// Waits for the disk, if it is time to.
-    fn wait(&mut self) -> io::Result<()>
-        ensures { self.new ≡ self.old }
-    {
-        if self.durability == Durability::Synced && is_wait_due(self.taken, self.settled) {
-            self.reach_disk()?;
-        }
-        Ok(())
-    }
-
-    /// Waits until what was written has reached the disk. Fails for good once that has failed.
-    fn reach_disk(&mut self) -> io::Result<()>
-        ensures { self.new ≡ self.old }
-    {
-        if let Some(error) = self.lost {
-            return Err(error);
-        }
-        let reached = self.target.reach_disk();
-        match reached {
-            Ok(()) => self.settled = self.taken,
-            Err(error) => self.lost = Some(error),
-        }
-        reached
-    }
-
     /// How many of the bytes that it took are there for certain: on the disk, if they are to be and
     /// the machine can wait for that. A file that was cut off or removed has fewer.
     pub fn settle(&mut self, _rt: &HostRuntime, durability: Durability) -> u64
         ensures { self.new ≡ self.old }
     {
         let held = match durability {
-            Durability::Synced if self.taken > self.settled && self.reach_disk().is_err() => {
-                self.settled
-            }
-            _ => self.taken,
+            Durability::Synced
+                if self.pace.taken > self.pace.settled
+                    && self.pace.reach_disk(&mut self.target).is_err() => { self.pace.settled }
+            _ => self.pace.taken,
         };
         match &self.target {
             Target::File(out) => held.min(out.room()),
@@ -384,7 +537,9 @@ impl HostOut {
     }
 
     /// Whether puts were tried, and none took a byte.
-    fn has_only_failed(&self) -> bool {
+    fn has_only_failed(&self) -> bool
+        ensures { result ≡ true → 0 < self.now.failed }
+    {
         match &self.target {
             Target::File(out) => self.failures.count > 0 && out.is_untouched(),
             Target::Device(_) => self.failures.count > 0,
@@ -394,13 +549,34 @@ impl HostOut {
 
     /// Ends it with what was written, and closes it, in either case. If each put failed, it is as
     /// it was before it was opened.
-    pub fn close(self, rt: &HostRuntime, durability: Durability) -> io::Result<()> {
-        if self.has_only_failed() {
-            self.discard(rt, durability);
-            return Ok(());
+    pub fn close(self, rt: &HostRuntime, durability: Durability) -> (Ended, io::Result<()>)
+        ensures took { result.0.took ≡ self.took }
+        ensures safe { durability ≡ wait.Synced → self.failed ≡ 0 → OnOk result.1
+            (IfSome self.file (λ f. f.is_waited ≡ true → result.0.path ≡ Some f.path)) }
+    {
+        let has_only_failed = self.has_only_failed();
+        let HostOut {
+            target,
+            failures,
+            pace,
+            took,
+            ..
+        } = self;
+        match target {
+            Target::File(out) if has_only_failed => {
+                let machine = out.discard(durability);
+                (unknown(took, machine), Ok(()))
+            }
+            Target::File(out) => end_file(out, took, failures.count, durability),
+            other => {
+                let ended = if has_only_failed {
+                    Ok(())
+                } else {
+                    end_stream(rt, other, pace, durability)
+                };
+                (unknown(took, HostMachine::new(rt)), ended)
+            }
         }
-        let HostOut { target, lost, .. } = self;
-        target.end(rt, lost, durability)
     }
 
     /// Ends it if nothing was written, as it was before it was opened.
@@ -422,24 +598,16 @@ fn error_of(put: io::Result<usize>) -> io::Error {
 
 impl Sink for HostOut {
     ghost view = { λ s. record {
-      taken = record { bytes = s.1; contents = None };
-      failed = s.0.0;
-      failing = s.0.1;
+      taken = record { bytes = s.took; contents = None };
+      failed = s.failed;
+      failing = s.failing;
       label = [];
       settled = true;
     } };
 
     fn put(&mut self, from: &[u8]) -> Result<usize, Failed> {
-        let taken = match self.write(from) {
-            Ok(n) if n > 0 || from.is_empty() => {
-                self.took.note(&from[..n]);
-                Ok(n)
-            }
-            other => {
-                self.error = error_of(other);
-                Err(Failed)
-            }
-        };
+        let put = write_paced(&self.rt, &mut self.target, &mut self.pace, from);
+        let taken = note_put(&mut self.took, &mut self.error, put, from);
         self.failures.note(taken)
     }
 

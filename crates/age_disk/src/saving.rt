@@ -64,7 +64,8 @@ fn fill_directly(
     let mut written = 0;
     let put = write_all(&mut out, bytes, &mut written);
     let error = out.error();
-    out.close(rt, durability)?;
+    let (_, ended) = out.close(rt, durability);
+    ended?;
     match put {
         Ok(()) => Ok(()),
         Err(_) => Err(error),

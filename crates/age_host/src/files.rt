@@ -1,16 +1,18 @@
 //! The machine's files.
 
 ghost use Rattle.std.specs.Prelude.{◌≡◌, [], true, false, None, Some, Err, IfOk, IfErr, IsErr, Contains};
+ghost use Rattle.std.specs.Prelude.{MatchOption, option_map};
 ghost use Rattle.age_fault.specs.declared.fault.FileFault.TheVariants.{Read, Write, Memory};
 ghost use Rattle.age_fileset.specs.FileSet.{IsMemoryOr, OpenFails};
 ghost use Rattle.age_fileset.specs.declared.files.OpenFault.TheVariants.{SameFile};
 ghost use Rattle.age_disk.specs.declared.names.FileId.{FileId};
+ghost use Rattle.age_disk.specs.Outputs.{EndedView};
 
 use crate::watched::{WatchedIn, WatchedOut};
-use age_disk::{FileId, HostIn, HostOut, Prepared, Stream, StreamId, found_at, replace};
+use age_disk::{Ended, FileId, HostIn, HostOut, Prepared, Stream, StreamId, found_at, replace};
 use age_fault::FileFault;
 use age_fileset::{FileSet, Log, OpenFault};
-use age_io::{Durability, Tape};
+use age_io::Durability;
 use age_messages::{Action, Failures, announce_rereading, announce_sync};
 use std::alloc::{AllocError, Global};
 use std::io;
@@ -30,8 +32,8 @@ pub struct HostFiles<'r, 'w> {
     streams: Vec<StreamId>,
     prepared: Vec<Prepared>,
     log: Log,
-    // What the sink had taken of the file that was ended last, if it was closed.
-    closed: Option<Tape>,
+    // What became of the file that was ended last, if it was closed.
+    closed: Option<Ended>,
     failures: &'r Failures<'w>,
     // Whether the disk is waited for while the run goes on. This goes by the words alone: what is
     // waited for at the end is said by each call.
@@ -51,6 +53,13 @@ impl<'r, 'w> HostFiles<'r, 'w> {
             failures,
             durability: durability_of(failures),
         }
+    }
+
+    /// What became of the file that was ended last, if it was closed.
+    pub fn closed(&self) -> Option<&Ended>
+        ensures { MatchOption result (self.now.closed ≡ None) (λ e. self.now.closed ≡ Some e.now) }
+    {
+        self.closed.as_ref()
     }
 
     /// Keeps a stream that is to be opened, before that is tried: it may wait forever.
@@ -395,7 +404,7 @@ impl<'r, 'w> FileSet for HostFiles<'r, 'w> {
     ghost view = { λ f. record {
       entries = λ _. None;
       events = f.log;
-      closed = f.closed;
+      closed = option_map (λ (e : EndedView). e.took) f.closed;
     } };
 
     /// Two paths of one file are the same too, so that no link destroys what is read.
@@ -502,18 +511,15 @@ impl<'r, 'w> FileSet for HostFiles<'r, 'w> {
         out.settle(self.rt, durability)
     }
 
-    fn close(
-        &mut self,
-        mut out: WatchedOut<'r, 'w>,
-        durability: Durability,
-    ) -> Result<(), FileFault> {
+    fn close(&mut self, out: WatchedOut<'r, 'w>, durability: Durability) -> Result<(), FileFault> {
         self.log.closed(durability);
-        self.closed = Some(out.hand_over());
         // (what has no id is on no disk)
         if durability == Durability::Synced && out.id().is_some() {
             announce_sync(self.rt, self.failures);
         }
-        match out.close(self.rt, durability) {
+        let (ended, closed) = out.close(self.rt, durability);
+        self.closed = Some(ended);
+        match closed {
             Ok(()) => Ok(()),
             Err(_) => Err(FileFault::Write),
         }

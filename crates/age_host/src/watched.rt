@@ -1,9 +1,10 @@
 //! Files and streams whose failures are kept.
 
-ghost use Rattle.std.specs.Prelude.{◌≡◌, [], None, true};
+ghost use Rattle.std.specs.Prelude.{◌≡◌, [], None, Some, true, OnOk, IfSome};
+ghost use Rattle.age_io.specs.declared.durability.Durability.TheVariants as wait;
 
-use age_disk::{FileId, HostIn, HostOut, Prepared};
-use age_io::{Durability, Failed, Sink, Source, Tape};
+use age_disk::{Ended, FileId, HostIn, HostOut, Prepared};
+use age_io::{Durability, Failed, Sink, Source};
 use age_messages::{Action, Failures};
 use std::io::{self, Read, Write};
 use std::rt::HostRuntime;
@@ -124,13 +125,6 @@ impl<'r, 'w> WatchedOut<'r, 'w> {
         self.sink.id()
     }
 
-    /// Hands over the tape of the bytes that it took, for contracts alone.
-    pub(crate) fn hand_over(&mut self) -> Tape
-        ensures { result ≡ self.old.sink.1 }
-    {
-        self.sink.hand_over()
-    }
-
     /// Keeps its name, and the name of the file that was prepared, if this is the same file.
     pub(crate) fn note_same(&self, other: Option<&Prepared>) {
         match other {
@@ -170,17 +164,21 @@ impl<'r, 'w> WatchedOut<'r, 'w> {
     }
 
     /// Ends it with what was written.
-    pub(crate) fn close(self, rt: &HostRuntime, durability: Durability) -> io::Result<()> {
+    pub(crate) fn close(self, rt: &HostRuntime, durability: Durability) -> (Ended, io::Result<()>)
+        ensures took { result.0.took ≡ self.sink.took }
+        ensures safe { durability ≡ wait.Synced → self.sink.failed ≡ 0 → OnOk result.1
+            (IfSome self.sink.file (λ f. f.is_waited ≡ true → result.0.path ≡ Some f.path)) }
+    {
         let WatchedOut {
             sink,
             name,
             failures,
         } = self;
-        let closed = sink.close(rt, durability);
+        let (ended, closed) = sink.close(rt, durability);
         if let Err(error) = closed {
             failures.note(closing(durability), name, error);
         }
-        closed
+        (ended, closed)
     }
 
     /// Ends it if nothing was written.
@@ -199,9 +197,9 @@ fn closing(durability: Durability) -> Action {
 
 impl<'r, 'w> Sink for WatchedOut<'r, 'w> {
     ghost view = { λ s. record {
-      taken = record { bytes = s.sink.1; contents = None };
-      failed = s.sink.0.0;
-      failing = s.sink.0.1;
+      taken = record { bytes = s.sink.took; contents = None };
+      failed = s.sink.failed;
+      failing = s.sink.failing;
       label = [];
       settled = true;
     } };

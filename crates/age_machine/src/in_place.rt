@@ -265,6 +265,13 @@ impl<M: Machine + Drop> Out<M> {
         }
     }
 
+    /// Whether its name is waited for at the end.
+    pub fn is_waited(&self) -> bool
+        ensures { result ≡ self.now.file.is_waited }
+    {
+        self.opening.is_waited
+    }
+
     /// The file itself.
     pub fn file(&self) -> &M::File {
         &self.file

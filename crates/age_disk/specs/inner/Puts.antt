@@ -1,0 +1,23 @@
+-- What a put does to a file that is written. Private: no public contract cites this module.
+use Rattle.std.specs.Prelude.{◌≡◌, ℕ, List, [], ◌++◌, take, Bool, true, false, Option, Some, None}
+use Rattle.std.specs.Prelude.{Result, Ok, Err}
+use Rattle.age_machine.specs.Outs.{OutView, text_of}
+
+-- what a put took of these bytes
+abbrev pub part_of : {E : Type 0} → Result ℕ E → List ℕ → List ℕ
+part_of (Ok n) from = take n from
+part_of (Err e) from = []
+
+-- a part was written to it, and no call has failed unless that has
+pub record PutsPart (old new : OutView) (is_ok : Bool) (part : List ℕ) : Type 0 where
+  pub file : new.file ≡ old.file
+  pub text : text_of new.calls ≡ text_of old.calls ++ part
+  pub sound : is_ok ≡ true → new.is_lost ≡ false
+      → (new.failed ≡ old.failed) × (old.is_lost ≡ false)
+
+-- the same of a regular file, if it is one
+abbrev pub TargetPuts : Option OutView → Option OutView → Bool → List ℕ → Type 0
+TargetPuts None None is_ok part = Unit {0}
+TargetPuts None (Some new) is_ok part = ⊥
+TargetPuts (Some old) None is_ok part = ⊥
+TargetPuts (Some old) (Some new) is_ok part = PutsPart old new is_ok part
