@@ -165,9 +165,9 @@ impl<'r, 'w> WatchedOut<'r, 'w> {
 
     /// Ends it with what was written.
     pub(crate) fn close(self, rt: &HostRuntime, durability: Durability) -> (Ended, io::Result<()>)
-        ensures took { result.0.took ≡ self.sink.took }
-        ensures safe { durability ≡ wait.Synced → self.sink.failed ≡ 0 → OnOk result.1
-            (IfSome self.sink.file (λ f. f.is_waited ≡ true → result.0.path ≡ Some f.path)) }
+        ensures took { result.0.took ≡ self.entry.sink.took }
+        ensures safe { durability ≡ wait.Synced → self.entry.sink.failed ≡ 0 → OnOk result.1
+            (IfSome self.entry.sink.file (λ f. f.is_waited ≡ true → result.0.path ≡ Some f.path)) }
     {
         let WatchedOut {
             sink,
