@@ -1,5 +1,6 @@
 -- A writer of a text in pieces: how it begins a file, and what one call does.
-use Rattle.std.specs.Prelude.{◌≡◌, ◌≢◌, ℕ, ◌+◌, ◌*◌, ◌<◌, ◌≤◌, false, List, [], ◌++◌, length, take, drop, map, ◌⊎◌}
+use Rattle.std.specs.Prelude.{◌≡◌, ◌≢◌, ◌⊎◌, ℕ, ◌+◌, ◌*◌, ◌<◌, ◌≤◌, false, List, [], ◌++◌, length}
+use Rattle.std.specs.Prelude.{take, drop, map}
 use Rattle.std.specs.List.{enumerate_from, flat_map}
 use Rattle.std.specs.Simd.{first_chunks}
 use Rattle.age_stanza.specs.Grammar.{HeadText, HasText, stanza_text}

@@ -1,5 +1,6 @@
 -- What it means that a file is put to a path at once, whatever fails and whenever the power is cut.
-use Rattle.std.specs.Prelude.{◌≡◌, ◌≢◌, ◌⊎◌, ℕ, List, [], ◌∷◌, ◌++◌, length, Option, Some, None, Contains, false}
+use Rattle.std.specs.Prelude.{◌≡◌, ◌≢◌, ◌⊎◌, ℕ, List, [], ◌∷◌, ◌++◌, length, Option, Some, None, false}
+use Rattle.std.specs.Prelude.{Contains}
 use Rattle.age_machine.specs.Calls.{FileCall, Made, Opened, Wrote, Cut, Broke, Measured, Synced, Unwaited}
 use Rattle.age_machine.specs.Calls.{Missing, Linked, Renamed, Removed, SyncedNames, UnwaitedNames}
 use Rattle.age_machine.specs.Disk.{Disk, after_calls, MayLead, MayLeave}
