@@ -23,40 +23,28 @@ about_more n call old new later about are of = record {
   all = (of, about.all);
 }
 
-all_append : (n : ℕ) (first second : List FileCall) → AllOf n first → AllOf n second
-    → AllOf n (second ++ first)
+all_append : (n : ℕ) (first second : List FileCall) → AllOf n first → AllOf n second → AllOf n (second ++ first)
 all_append n first [] before after_call = before
-all_append n first (call ∷ second) before after_call =
-    (after_call.0, all_append n first second before after_call.1)
+all_append n first (call ∷ second) before after_call = (after_call.0, all_append n first second before after_call.1)
 
-pub about_then : (n : ℕ) (old mid new : List FileCall) → IsAbout n old mid → IsAbout n mid new
-    → IsAbout n old new
+pub about_then : (n : ℕ) (old mid new : List FileCall) → IsAbout n old mid → IsAbout n mid new → IsAbout n old new
 about_then n old mid new first second = record {
   since = second.since ++ first.since;
   are =
-      second.are ∙ (ap (λ (l : List FileCall). second.since ++ l) first.are
-      ∙ sym (append_assoc second.since first.since old));
+      second.are ∙ (ap (λ (l : List FileCall). second.since ++ l) first.are ∙ sym (append_assoc second.since first.since old));
   all = all_append n first.since second.since first.all second.all;
 }
 
-pub about_same : (n : ℕ) (old mid new : List FileCall) → IsAbout n old mid → new ≡ mid
-    → IsAbout n old new
-about_same n old mid new about same =
-    subst (λ (l : List FileCall). IsAbout n old l) (sym same) about
+pub about_same : (n : ℕ) (old mid new : List FileCall) → IsAbout n old mid → new ≡ mid → IsAbout n old new
+about_same n old mid new about same = subst (λ (l : List FileCall). IsAbout n old l) (sym same) about
 
-pub about_waited : (n : ℕ) (old new : List FileCall) → Waited (Synced n) (Unwaited n) old new
-    → IsAbout n old new
-about_waited n old new (inl synced) =
-    about_more n (Synced n) old old new (about_none n old) synced refl
-about_waited n old new (inr unwaited) =
-    about_more n (Unwaited n) old old new (about_none n old) unwaited refl
+pub about_waited : (n : ℕ) (old new : List FileCall) → Waited (Synced n) (Unwaited n) old new → IsAbout n old new
+about_waited n old new (inl synced) = about_more n (Synced n) old old new (about_none n old) synced refl
+about_waited n old new (inr unwaited) = about_more n (Unwaited n) old old new (about_none n old) unwaited refl
 
-pub sound_waited : (n : ℕ) (old new : List FileCall) → Waited (Synced n) (Unwaited n) old new
-    → StaysSound n old new
-sound_waited n old new (inl synced) disk =
-    ap (λ (l : List FileCall). (after_calls l disk).is_lost n) synced
-sound_waited n old new (inr unwaited) disk =
-    ap (λ (l : List FileCall). (after_calls l disk).is_lost n) unwaited
+pub sound_waited : (n : ℕ) (old new : List FileCall) → Waited (Synced n) (Unwaited n) old new → StaysSound n old new
+sound_waited n old new (inl synced) disk = ap (λ (l : List FileCall). (after_calls l disk).is_lost n) synced
+sound_waited n old new (inr unwaited) disk = ap (λ (l : List FileCall). (after_calls l disk).is_lost n) unwaited
 
 -- ---- What is written.
 
@@ -65,12 +53,10 @@ none_missing n is = ap (λ (k : ℕ). replicate {A = ℕ} k 0) is
 
 pub sized_within : (len : ℕ) (bytes : List ℕ) → len ≤ length bytes → sized len bytes ≡ take len bytes
 sized_within len bytes within =
-    ap (λ (l : List ℕ). take len bytes ++ l) (none_missing (len - length bytes) (omega arith))
-    ∙ append-nil (take len bytes)
+    ap (λ (l : List ℕ). take len bytes ++ l) (none_missing (len - length bytes) (omega arith)) ∙ append-nil (take len bytes)
 
 over : (at m : ℕ) (bytes held : List ℕ) → at ≤ length bytes → m ≤ length bytes - at
-    → written at (take m (drop at bytes)) (take at bytes ++ drop at held)
-    ≡ take (at + m) bytes ++ drop (at + m) held
+    → written at (take m (drop at bytes)) (take at bytes ++ drop at held) ≡ take (at + m) bytes ++ drop (at + m) held
 over at m bytes held begun within =
     let front = take at bytes in let part = take m (drop at bytes) in
     let all = front ++ drop at held in
@@ -81,8 +67,7 @@ over at m bytes held begun within =
     let rest : drop (at + length part) all ≡ drop (at + m) held =
     ap (λ (k : ℕ). drop (at + k) all) short ∙ (sym (drop-drop m at all)
     ∙ (ap (λ (l : List ℕ). drop m l) (drop_at front (drop at held) at long) ∙ drop-drop m at held)) in
-    ap (λ (l : List ℕ). (l ++ part) ++ drop (at + length part) all) first
-    ∙ (ap (λ (l : List ℕ). (front ++ part) ++ l) rest
+    ap (λ (l : List ℕ). (l ++ part) ++ drop (at + length part) all) first ∙ (ap (λ (l : List ℕ). (front ++ part) ++ l) rest
     ∙ ap (λ (l : List ℕ). l ++ drop (at + m) held) (sym (take-add at m bytes)))
 
 pub writes_none : (n : ℕ) (bytes : List ℕ) (old : List FileCall) → WritesOver n 0 bytes old old
@@ -94,22 +79,18 @@ pub writes_more : (n at m : ℕ) (bytes : List ℕ) (old new later : List FileCa
 writes_more n at m bytes old new later begun within writes is =
     subst (λ (l : List FileCall). WritesOver n (at + m) bytes old l) (sym is) (record {
       sound = writes.sound;
-      bytes = λ disk.
-          file_same n _ (after_calls new disk).bytes
-          ∙ (ap (λ (l : List ℕ). written at (take m (drop at bytes)) l) (writes.bytes disk)
+      bytes = λ disk. file_same n _ (after_calls new disk).bytes ∙ (ap (λ (l : List ℕ). written at (take m (drop at bytes)) l) (writes.bytes disk)
           ∙ over at m bytes ((after_calls old disk).bytes n) begun within);
     })
 
 -- ---- It is cut off.
 
 -- nothing stands beyond
-pub cuts_short : (n len shown : ℕ) (old new : List FileCall) → shown ≤ len
-    → new ≡ Measured n shown ∷ old → CutsOff n len old new
+pub cuts_short : (n len shown : ℕ) (old new : List FileCall) → shown ≤ len → new ≡ Measured n shown ∷ old → CutsOff n len old new
 cuts_short n len shown old new within is =
     subst (λ (l : List FileCall). CutsOff n len old l) (sym is) (record {
       sound = λ disk. refl;
-      bytes = λ path disk answers.
-          sym (take_all len ((after_calls old disk).bytes n) (omega (arith, answers.0)));
+      bytes = λ path disk answers. sym (take_all len ((after_calls old disk).bytes n) (omega (arith, answers.0)));
     })
 
 pub cuts_off : (n len shown : ℕ) (old seen new : List FileCall) → len < shown
@@ -118,18 +99,15 @@ cuts_off n len shown old seen new beyond saw is =
     subst (λ (l : List FileCall). CutsOff n len old l) (sym (is ∙ ap (λ (l : List FileCall). Cut n len ∷ l) saw))
     (record {
       sound = λ disk. refl;
-      bytes = λ path disk answers.
-          file_same n _ (after_calls old disk).bytes
+      bytes = λ path disk answers. file_same n _ (after_calls old disk).bytes
           ∙ sized_within len ((after_calls old disk).bytes n) (omega (arith, answers.1.0));
     })
 
 -- ---- It reaches the disk.
 
-whole : (bytes held : List ℕ) → take (length bytes) (take (length bytes) bytes
-    ++ drop (length bytes) held) ≡ bytes
+whole : (bytes held : List ℕ) → take (length bytes) (take (length bytes) bytes ++ drop (length bytes) held) ≡ bytes
 whole bytes held =
-    ap (λ (l : List ℕ). take (length bytes) (l ++ drop (length bytes) held))
-    (take_all (length bytes) bytes (omega arith))
+    ap (λ (l : List ℕ). take (length bytes) (l ++ drop (length bytes) held)) (take_all (length bytes) bytes (omega arith))
     ∙ take_at bytes (drop (length bytes) held) (length bytes) refl
 
 pub fills_waited : (n : ℕ) (bytes : List ℕ) (old wrote cut waited : List FileCall)
@@ -139,20 +117,15 @@ fills_waited n bytes old wrote cut waited writes cuts (inl synced) =
     subst (λ (l : List FileCall). Fills n bytes old l) (sym synced) (record {
       on = λ path disk answers sound. record {
         bytes =
-            cuts.bytes path disk answers.1
-            ∙ (ap (λ (l : List ℕ). take (length bytes) l) (writes.bytes disk)
+            cuts.bytes path disk answers.1 ∙ (ap (λ (l : List ℕ). take (length bytes) l) (writes.bytes disk)
             ∙ whole bytes ((after_calls old disk).bytes n));
         is_kept =
-            file_same n _ (after_calls cut disk).is_kept
-            ∙ ap not (cuts.sound disk ∙ (writes.sound disk ∙ sound));
+            file_same n _ (after_calls cut disk).is_kept ∙ ap not (cuts.sound disk ∙ (writes.sound disk ∙ sound));
       };
     })
 fills_waited n bytes old wrote cut waited writes cuts (inr unwaited) = record {
-  on = λ path disk answers sound.
-      absurd (subst (λ (l : List FileCall). AllAnswered path l disk) unwaited answers).0;
+  on = λ path disk answers sound. absurd (subst (λ (l : List FileCall). AllAnswered path l disk) unwaited answers).0;
 }
 
-pub fills_same : (n : ℕ) (bytes : List ℕ) (old mid new : List FileCall) → Fills n bytes old mid
-    → new ≡ mid → Fills n bytes old new
-fills_same n bytes old mid new fills same =
-    subst (λ (l : List FileCall). Fills n bytes old l) (sym same) fills
+pub fills_same : (n : ℕ) (bytes : List ℕ) (old mid new : List FileCall) → Fills n bytes old mid → new ≡ mid → Fills n bytes old new
+fills_same n bytes old mid new fills same = subst (λ (l : List FileCall). Fills n bytes old l) (sym same) fills

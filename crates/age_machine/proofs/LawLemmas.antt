@@ -3,11 +3,12 @@ use Rattle.std.proofs.Common.{◌≡◌, ◌⊎◌, inl, inr, ⊎_elim, ℕ, ◌
 use Rattle.std.proofs.Common.{true, false, length, refl, sym, ◌∙◌, ap, subst, arith}
 use Rattle.std.proofs.lemmas.List.{append-nil, drop_all}
 use Rattle.age_machine.specs.Calls.{FileCall, Made, Opened, Wrote, Cut, Synced, Linked, Renamed, Removed}
-use Rattle.age_machine.specs.Calls.{SyncedNames}
+use Rattle.age_machine.specs.Calls.{SyncedNames, Locked}
 use Rattle.age_machine.specs.Disk.{Disk, at_path, written, after_call, after_calls, IsAmong, MayLead, MayLeave}
 use Rattle.age_machine.specs.Saves.{AllAnswered, AtEachMoment, SavesWhole, IsSafe}
-use Rattle.age_machine.specs.Laws.{filled, renamed, linked, bare, bare_but, overwritten, put_out}
+use Rattle.age_machine.specs.Laws.{filled, renamed, linked, bare, bare_but, overwritten, put_out, HasOneLock}
 use Rattle.age_machine.proofs.DiskLemmas.{path_same, path_other, file_same, file_renamed, file_linked}
+use Rattle.age_machine.proofs.LockLemmas.{opened_beside}
 use Rattle.age_machine.proofs.SaveLemmas.{throughout_last}
 
 module _ (n : ℕ) (from path bytes : List ℕ) (apart : from ≡ path → ⊥) where
@@ -20,10 +21,8 @@ module _ (n : ℕ) (from path bytes : List ℕ) (apart : from ≡ path → ⊥) 
 
   held : wrote.bytes n ≡ bytes
   held =
-      file_same n (written 0 bytes (begun.bytes n)) begun.bytes
-      ∙ (ap (λ (l : List ℕ). written 0 bytes l) (file_same n [] bare.bytes)
-      ∙ (ap (λ (l : List ℕ). bytes ++ l) (drop_all (0 + length bytes) [] (omega arith))
-      ∙ append-nil bytes))
+      file_same n (written 0 bytes (begun.bytes n)) begun.bytes ∙ (ap (λ (l : List ℕ). written 0 bytes l) (file_same n [] bare.bytes)
+      ∙ (ap (λ (l : List ℕ). bytes ++ l) (drop_all (0 + length bytes) [] (omega arith)) ∙ append-nil bytes))
 
   nowhere : MayLead bare path (Some n) → ⊥
   nowhere (inl is) = cc
@@ -45,13 +44,11 @@ module _ (n : ℕ) (from path bytes : List ℕ) (apart : from ≡ path → ⊥) 
   garbage same = let same_list : (0 ∷ bytes) ≡ bytes = cc in omega (arith, ap length same_list)
 
   -- what is there before it was waited for
-  torn : (disk : Disk) → disk.file path ≡ Some n → disk.is_kept n ≡ false
-      → MayLeave disk path (Some (0 ∷ bytes))
+  torn : (disk : Disk) → disk.file path ≡ Some n → disk.is_kept n ≡ false → MayLeave disk path (Some (0 ∷ bytes))
   torn disk leads unkept =
-      (Some n, inl (sym leads), (0 ∷ bytes, refl, λ kept. absurd (differ (sym unkept ∙ kept))))
-    where
-      differ : false ≡ true → ⊥
-      differ same = cc
+      (Some n, inl (sym leads), (0 ∷ bytes, refl, λ kept. absurd (differ (sym unkept ∙ kept)))) where
+        differ : false ≡ true → ⊥
+        differ same = cc
 
   never : (MayLeave (after_calls [] bare) path (Some (0 ∷ bytes)) → ⊥)
   never (None, may, is) = cc
@@ -60,58 +57,45 @@ module _ (n : ℕ) (from path bytes : List ℕ) (apart : from ≡ path → ⊥) 
 
   pub unwaited : SavesWhole path bytes [] (SyncedNames path ∷ Renamed from path ∷ filled n from bytes) → ⊥
   unwaited saves =
-      ⊎_elim never garbage
-      (throughout_last path _ [] (SyncedNames path ∷ Renamed from path ∷ filled n from bytes) saves
-      bare (tt, (tt, answered)) (Some (0 ∷ bytes))
-      (torn (after_call (SyncedNames path) (after_call (Renamed from path) wrote)) at_once
+      ⊎_elim never garbage (throughout_last path _ [] (SyncedNames path ∷ Renamed from path ∷ filled n from bytes) saves
+      bare (tt, (tt, answered)) (Some (0 ∷ bytes)) (torn (after_call (SyncedNames path) (after_call (Renamed from path) wrote)) at_once
       (file_same n false begun.is_kept)))
 
-  pub renamed_first : SavesWhole path bytes []
-      (SyncedNames path ∷ Synced n ∷ Renamed from path ∷ filled n from bytes) → ⊥
+  pub renamed_first : SavesWhole path bytes [] (SyncedNames path ∷ Synced n ∷ Renamed from path ∷ filled n from bytes) → ⊥
   renamed_first saves =
       let all : saves.since ≡ SyncedNames path ∷ Synced n ∷ Renamed from path ∷ filled n from bytes =
       sym (append-nil saves.since) ∙ sym saves.are in
-      let each = subst (λ (l : List FileCall). AtEachMoment (λ calls. (left : Option (List ℕ))
-      → MayLeave (after_calls calls bare) path left
-      → MayLeave (after_calls [] bare) path left ⊎ (left ≡ Some bytes)) l []) all
-      (saves.each bare (tt, (tt, (tt, answered)))) in
-      ⊎_elim never garbage (each.1.1.0 (Some (0 ∷ bytes))
-      (torn (after_call (Renamed from path) wrote) at_once (file_same n false begun.is_kept)))
+      let each = subst (λ (l : List FileCall). AtEachMoment (λ calls. (left : Option (List ℕ)) → MayLeave (after_calls calls bare) path left
+      → MayLeave (after_calls [] bare) path left ⊎ (left ≡ Some bytes)) l []) all (saves.each bare (tt, (tt, (tt, answered)))) in
+      ⊎_elim never garbage (each.1.1.0 (Some (0 ∷ bytes)) (torn (after_call (Renamed from path) wrote) at_once (file_same n false begun.is_kept)))
 
   pub names_unwaited : IsSafe path bytes (Renamed from path ∷ Synced n ∷ filled n from bytes) → ⊥
   names_unwaited safe =
-      nothing (safe bare (tt, (tt, answered)) None (None, inr (old (sym before)), refl))
-    where
-      synced : Disk
-      synced = after_call (Synced n) wrote
+      nothing (safe bare (tt, (tt, answered)) None (None, inr (old (sym before)), refl)) where
+        synced : Disk
+        synced = after_call (Synced n) wrote
 
-      before : (after_call (Renamed from path) synced).before path
-          ≡ synced.file path ∷ synced.before path
-      before =
-          path_other from path (at_path path (synced.file from) synced.file from
-          ∷ at_path path (synced.file path ∷ synced.before path) synced.before from)
-          (at_path path (synced.file path ∷ synced.before path) synced.before) apart
-          ∙ path_same path (synced.file path ∷ synced.before path) synced.before
+        before : (after_call (Renamed from path) synced).before path ≡ synced.file path ∷ synced.before path
+        before =
+            path_other from path (at_path path (synced.file from) synced.file from
+            ∷ at_path path (synced.file path ∷ synced.before path) synced.before from)
+            (at_path path (synced.file path ∷ synced.before path) synced.before) apart
+            ∙ path_same path (synced.file path ∷ synced.before path) synced.before
 
-      old : {l : List (Option ℕ)} → synced.file path ∷ synced.before path ≡ l → IsAmong None l
-      old same = subst (λ (l : List (Option ℕ)). IsAmong None l) same (inl (sym free))
+        old : {l : List (Option ℕ)} → synced.file path ∷ synced.before path ≡ l → IsAmong None l
+        old same = subst (λ (l : List (Option ℕ)). IsAmong None l) same (inl (sym free))
 
-      nothing : None ≡ Some bytes → ⊥
-      nothing same = cc
+        nothing : None ≡ Some bytes → ⊥
+        nothing same = cc
 
-  pub both_answered : (AllAnswered path (renamed n from path bytes) bare
-      × MayLeave (after_calls (renamed n from path bytes) bare) path (Some bytes))
-      × (AllAnswered path (linked n from path bytes) bare
-      × MayLeave (after_calls (linked n from path bytes) bare) path (Some bytes))
+  pub both_answered : (AllAnswered path (renamed n from path bytes) bare × MayLeave (after_calls (renamed n from path bytes) bare) path (Some bytes))
+      × (AllAnswered path (linked n from path bytes) bare × MayLeave (after_calls (linked n from path bytes) bare) path (Some bytes))
   both_answered = (
     ((tt, (tt, (tt, answered))), (Some n, inl (sym at_once), (bytes, refl, λ kept. sym held))),
     ((tt, (tt, (free, (tt, answered)))), (Some n, inl (sym second), (bytes, refl, λ kept. sym held))),
-  )
-    where
-      second : (after_call (Removed from) (after_call (Linked from path) wrote)).file path ≡ Some n
-      second =
-          path_other from path None (after_call (Linked from path) wrote).file apart
-          ∙ file_linked n from path wrote apart there
+  ) where
+    second : (after_call (Removed from) (after_call (Linked from path) wrote)).file path ≡ Some n
+    second = path_other from path None (after_call (Linked from path) wrote).file apart ∙ file_linked n from path wrote apart there
 
 -- ---- A file that is written in place.
 
@@ -123,36 +107,38 @@ module _ (n : ℕ) (path bytes : List ℕ) where
   there_already : (bare_but path n).file path ≡ Some n
   there_already = path_same path (Some n) bare.file
 
-  pub outs_answered : AllAnswered path (overwritten n path bytes) (bare_but path n)
-      × AllAnswered path (put_out n path bytes) bare
+  pub outs_answered : (AllAnswered path (overwritten n path bytes) (bare_but path n) × HasOneLock n (overwritten n path bytes) (Opened path n ∷ []))
+      × (AllAnswered path (put_out n path bytes) bare × HasOneLock n (put_out n path bytes) (Opened path n ∷ []))
   outs_answered = (
-    (tt, (tt, (tt, (tt, ((there_already, refl), tt))))),
-    (tt, (tt, (tt, ((refl, nowhere_bare), tt)))),
+    (
+      (tt, (tt, (tt, (tt, (tt, ((there_already, refl), tt)))))),
+      opened_beside n path (overwritten n path bytes) (4, omega arith, refl),
+    ),
+    (
+      (tt, (tt, (tt, (tt, ((refl, nowhere_bare), tt))))),
+      opened_beside n path (put_out n path bytes) (3, omega arith, refl),
+    ),
   )
 
   other : Some (0 ∷ bytes) ≡ Some bytes → ⊥
   other same = let same_list : (0 ∷ bytes) ≡ bytes = cc in omega (arith, ap length same_list)
 
-  torn_out : (disk : Disk) → disk.file path ≡ Some n → disk.is_kept n ≡ false
-      → MayLeave disk path (Some (0 ∷ bytes))
+  torn_out : (disk : Disk) → disk.file path ≡ Some n → disk.is_kept n ≡ false → MayLeave disk path (Some (0 ∷ bytes))
   torn_out disk leads unkept =
-      (Some n, inl (sym leads), (0 ∷ bytes, refl, λ kept. absurd (differ (sym unkept ∙ kept))))
-    where
-      differ : false ≡ true → ⊥
-      differ same = cc
+      (Some n, inl (sym leads), (0 ∷ bytes, refl, λ kept. absurd (differ (sym unkept ∙ kept)))) where
+        differ : false ≡ true → ⊥
+        differ same = cc
 
-  pub unsynced : IsSafe path bytes (SyncedNames path ∷ Wrote n 0 bytes ∷ Made path n ∷ []) → ⊥
+  pub unsynced : IsSafe path bytes (SyncedNames path ∷ Wrote n 0 bytes ∷ Locked n ∷ Made path n ∷ []) → ⊥
   unsynced safe =
       let made : Disk = after_call (Made path n) bare in
-      other (safe bare (tt, (tt, ((refl, nowhere_bare), tt))) (Some (0 ∷ bytes))
-      (torn_out (after_calls (SyncedNames path ∷ Wrote n 0 bytes ∷ Made path n ∷ []) bare)
+      other (safe bare (tt, (tt, (tt, ((refl, nowhere_bare), tt)))) (Some (0 ∷ bytes))
+      (torn_out (after_calls (SyncedNames path ∷ Wrote n 0 bytes ∷ Locked n ∷ Made path n ∷ []) bare)
       (path_same path (Some n) bare.file) (file_same n false made.is_kept)))
 
-  pub cut_last : IsSafe path bytes
-      (SyncedNames path ∷ Cut n (length bytes) ∷ Synced n ∷ Wrote n 0 bytes ∷ Opened path n ∷ []) → ⊥
+  pub cut_last : IsSafe path bytes (SyncedNames path ∷ Cut n (length bytes) ∷ Synced n ∷ Wrote n 0 bytes ∷ Locked n ∷ Opened path n ∷ []) → ⊥
   cut_last safe =
-      let synced : Disk = after_calls (Synced n ∷ Wrote n 0 bytes ∷ Opened path n ∷ []) (bare_but path n) in
-      other (safe (bare_but path n) (tt, (tt, (tt, (tt, ((there_already, refl), tt)))))
-      (Some (0 ∷ bytes))
+      let synced : Disk = after_calls (Synced n ∷ Wrote n 0 bytes ∷ Locked n ∷ Opened path n ∷ []) (bare_but path n) in
+      other (safe (bare_but path n) (tt, (tt, (tt, (tt, (tt, ((there_already, refl), tt)))))) (Some (0 ∷ bytes))
       (torn_out (after_calls (SyncedNames path ∷ Cut n (length bytes) ∷ Synced n ∷ Wrote n 0 bytes
-      ∷ Opened path n ∷ []) (bare_but path n)) there_already (file_same n false synced.is_kept)))
+      ∷ Locked n ∷ Opened path n ∷ []) (bare_but path n)) there_already (file_same n false synced.is_kept)))

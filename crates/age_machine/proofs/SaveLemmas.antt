@@ -4,8 +4,8 @@ use Rattle.std.proofs.Common.{◌<◌, false, length, refl, sym, ◌∙◌, ap, 
 use Rattle.std.proofs.Common.{append_assoc, length-append}
 use Rattle.std.specs.Prelude.{Contains}
 use Rattle.std.proofs.lemmas.List.Elements.{Contains-append_left, Contains-append_right}
-use Rattle.age_machine.specs.Calls.{FileCall, Made, Opened, Wrote, Cut, Broke, Measured, Synced, Unwaited, IsOf}
-use Rattle.age_machine.specs.Calls.{Missing, Linked, Renamed, Removed, SyncedNames, UnwaitedNames}
+use Rattle.age_machine.specs.Calls.{FileCall, Made, Wrote, Cut, Broke, Measured, Synced, Unwaited, IsOf}
+use Rattle.age_machine.specs.Calls.{Locked, Unlockable, Linked, Renamed, Removed}
 use Rattle.age_machine.specs.Disk.{Disk, after_call, after_calls, MayLeave}
 use Rattle.age_machine.specs.Saves.{AllAnswered, AtEachMoment, Throughout, SavesWhole, SparesFile, IsLonger}
 use Rattle.age_machine.specs.Saves.{IsWithin, AllWithin, Touches}
@@ -21,8 +21,7 @@ module _ (path : List ℕ) (P : Disk → List FileCall → Type 0) (old : List F
   throughout_none here = record { since = []; are = refl; each = λ disk answers. here disk }
 
   pub throughout_more : (call : FileCall) (calls : List FileCall) → Throughout path P old calls
-      → ((disk : Disk) → AllAnswered path (call ∷ calls) disk → P disk (call ∷ calls))
-      → Throughout path P old (call ∷ calls)
+      → ((disk : Disk) → AllAnswered path (call ∷ calls) disk → P disk (call ∷ calls)) → Throughout path P old (call ∷ calls)
   throughout_more call calls before here = record {
     since = call ∷ before.since;
     are = ap (λ (l : List FileCall). call ∷ l) before.are;
@@ -32,49 +31,37 @@ module _ (path : List ℕ) (P : Disk → List FileCall → Type 0) (old : List F
     );
   }
 
-  at_last : (Q : List FileCall → Type 0) (since : List FileCall) → AtEachMoment Q since old
-      → Q (since ++ old)
+  at_last : (Q : List FileCall → Type 0) (since : List FileCall) → AtEachMoment Q since old → Q (since ++ old)
   at_last Q [] each = each
   at_last Q (call ∷ since) each = each.0
 
-  pub throughout_last : (calls : List FileCall) → Throughout path P old calls → (disk : Disk)
-      → AllAnswered path calls disk → P disk calls
-  throughout_last calls all disk answers =
-      subst (λ (l : List FileCall). P disk l) (sym all.are)
-      (at_last (P disk) all.since (all.each disk answers))
+  pub throughout_last : (calls : List FileCall) → Throughout path P old calls → (disk : Disk) → AllAnswered path calls disk → P disk calls
+  throughout_last calls all disk answers = subst (λ (l : List FileCall). P disk l) (sym all.are) (at_last (P disk) all.since (all.each disk answers))
 
-answers_then : (path : List ℕ) (since old : List FileCall) (disk : Disk)
-    → AllAnswered path (since ++ old) disk → AllAnswered path old disk
+answers_then : (path : List ℕ) (since old : List FileCall) (disk : Disk) → AllAnswered path (since ++ old) disk → AllAnswered path old disk
 answers_then path [] old disk answers = answers
 answers_then path (call ∷ since) old disk answers = answers_then path since old disk answers.1
 
 each_then : (P Q : List FileCall → Type 0) (second first old : List FileCall) → AtEachMoment P first old
-    → AtEachMoment Q second (first ++ old) → ((calls : List FileCall) → Q calls → P calls)
-    → AtEachMoment P (second ++ first) old
+    → AtEachMoment Q second (first ++ old) → ((calls : List FileCall) → Q calls → P calls) → AtEachMoment P (second ++ first) old
 each_then P Q [] first old before after_call carry = before
 each_then P Q (call ∷ second) first old before after_call carry = (
-  subst (λ (l : List FileCall). P (call ∷ l)) (sym (append_assoc second first old))
-      (carry (call ∷ (second ++ (first ++ old))) after_call.0),
+  subst (λ (l : List FileCall). P (call ∷ l)) (sym (append_assoc second first old)) (carry (call ∷ (second ++ (first ++ old))) after_call.0),
   each_then P Q second first old before after_call.1 carry,
 )
 
 -- what holds since a later moment carries over to an earlier one
 throughout_then : (path : List ℕ) (P Q : Disk → List FileCall → Type 0) (old mid new : List FileCall)
-    → Throughout path P old mid → Throughout path Q mid new
-    → ((disk : Disk) → P disk mid → (calls : List FileCall) → Q disk calls → P disk calls)
+    → Throughout path P old mid → Throughout path Q mid new → ((disk : Disk) → P disk mid → (calls : List FileCall) → Q disk calls → P disk calls)
     → Throughout path P old new
 throughout_then path P Q old mid new first second carry = record {
   since = second.since ++ first.since;
   are =
-      second.are ∙ (ap (λ (l : List FileCall). second.since ++ l) first.are
-      ∙ sym (append_assoc second.since first.since old));
-  each = λ disk answers.
-      let were : AllAnswered path mid disk =
-      answers_then path second.since mid disk
-      (subst (λ (l : List FileCall). AllAnswered path l disk) second.are answers) in
+      second.are ∙ (ap (λ (l : List FileCall). second.since ++ l) first.are ∙ sym (append_assoc second.since first.since old));
+  each = λ disk answers. let were : AllAnswered path mid disk =
+      answers_then path second.since mid disk (subst (λ (l : List FileCall). AllAnswered path l disk) second.are answers) in
       each_then (P disk) (Q disk) second.since first.since old (first.each disk were)
-      (subst (λ (l : List FileCall). AtEachMoment (Q disk) second.since l) first.are
-      (second.each disk answers))
+      (subst (λ (l : List FileCall). AtEachMoment (Q disk) second.since l) first.are (second.each disk answers))
       (carry disk (throughout_last path P old mid first disk were));
 }
 
@@ -90,43 +77,32 @@ saves_then path bytes old mid new first second =
     ⊎_elim (λ was. before left was) (λ is. inr is) (keeps left leaves))
 
 -- after a call that lets the path lead nowhere else
-pub saves_quietly : (path bytes : List ℕ) (old : List FileCall) (call : FileCall) (calls : List FileCall)
-    → SavesWhole path bytes old calls
+pub saves_quietly : (path bytes : List ℕ) (old : List FileCall) (call : FileCall) (calls : List FileCall) → SavesWhole path bytes old calls
     → ((disk : Disk) → AllAnswered path (call ∷ calls) disk → (left : Option (List ℕ))
-    → MayLeave (after_calls (call ∷ calls) disk) path left → MayLeave (after_calls calls disk) path left)
-    → SavesWhole path bytes old (call ∷ calls)
+    → MayLeave (after_calls (call ∷ calls) disk) path left → MayLeave (after_calls calls disk) path left) → SavesWhole path bytes old (call ∷ calls)
 saves_quietly path bytes old call calls saves quiet =
     throughout_more path _ old call calls saves (λ disk answers left leaves.
     throughout_last path _ old calls saves disk answers.1 left (quiet disk answers left leaves))
 
 -- or to these bytes
-pub saves_loudly : (path bytes : List ℕ) (old : List FileCall) (call : FileCall) (calls : List FileCall)
-    → SavesWhole path bytes old calls
-    → ((disk : Disk) → AllAnswered path (call ∷ calls) disk → (left : Option (List ℕ))
-    → MayLeave (after_calls (call ∷ calls) disk) path left
-    → MayLeave (after_calls calls disk) path left ⊎ (left ≡ Some bytes))
-    → SavesWhole path bytes old (call ∷ calls)
+pub saves_loudly : (path bytes : List ℕ) (old : List FileCall) (call : FileCall) (calls : List FileCall) → SavesWhole path bytes old calls
+    → ((disk : Disk) → AllAnswered path (call ∷ calls) disk → (left : Option (List ℕ)) → MayLeave (after_calls (call ∷ calls) disk) path left
+    → MayLeave (after_calls calls disk) path left ⊎ (left ≡ Some bytes)) → SavesWhole path bytes old (call ∷ calls)
 saves_loudly path bytes old call calls saves loud =
     throughout_more path _ old call calls saves (λ disk answers left leaves.
-    ⊎_elim (λ was. throughout_last path _ old calls saves disk answers.1 left was) (λ is. inr is)
-    (loud disk answers left leaves))
+    ⊎_elim (λ was. throughout_last path _ old calls saves disk answers.1 left was) (λ is. inr is) (loud disk answers left leaves))
 
 -- ---- What stays at the path.
 
 pub spares_none : (path : List ℕ) (old : List FileCall) → SparesFile path old old
 spares_none path old = throughout_none path _ old (λ disk n is. is)
 
-pub spares_then : (path : List ℕ) (old mid new : List FileCall) → SparesFile path old mid
-    → SparesFile path mid new → SparesFile path old new
-spares_then path old mid new first second =
-    throughout_then path _ _ old mid new first second
-    (λ disk before calls keeps n is. keeps n (before n is))
+pub spares_then : (path : List ℕ) (old mid new : List FileCall) → SparesFile path old mid → SparesFile path mid new → SparesFile path old new
+spares_then path old mid new first second = throughout_then path _ _ old mid new first second (λ disk before calls keeps n is. keeps n (before n is))
 
-pub spares_quietly : (path : List ℕ) (old : List FileCall) (call : FileCall) (calls : List FileCall)
-    → SparesFile path old calls
+pub spares_quietly : (path : List ℕ) (old : List FileCall) (call : FileCall) (calls : List FileCall) → SparesFile path old calls
     → ((disk : Disk) → AllAnswered path (call ∷ calls) disk → (n : ℕ)
-    → (after_calls calls disk).file path ≡ Some n → (after_calls (call ∷ calls) disk).file path ≡ Some n)
-    → SparesFile path old (call ∷ calls)
+    → (after_calls calls disk).file path ≡ Some n → (after_calls (call ∷ calls) disk).file path ≡ Some n) → SparesFile path old (call ∷ calls)
 spares_quietly path old call calls spares quiet =
     throughout_more path _ old call calls spares (λ disk answers n is.
     quiet disk answers n (throughout_last path _ old calls spares disk answers.1 n is))
@@ -136,65 +112,46 @@ spares_quietly path old call calls spares quiet =
 pub touches_none : (path : List ℕ) (old : List FileCall) → Touches path old old
 touches_none path old = record { since = []; are = refl; within = tt }
 
-contains_first : (call : FileCall) (calls : List FileCall) → Contains (call ∷ calls) call
+pub contains_first : (call : FileCall) (calls : List FileCall) → Contains (call ∷ calls) call
 contains_first call calls = Contains-append_left (call ∷ []) calls call (0, omega arith, refl)
 
-pub contains_later : (call other : FileCall) (calls : List FileCall) → Contains calls other
-    → Contains (call ∷ calls) other
+pub contains_later : (call other : FileCall) (calls : List FileCall) → Contains calls other → Contains (call ∷ calls) other
 contains_later call other calls held = Contains-append_right (call ∷ []) calls other held
 
-within_more : (path : List ℕ) (call : FileCall) (first second : List FileCall) → IsWithin path second call
-    → IsWithin path (second ++ first) call
-within_more path (Made p n) first second within = within
-within_more path (Opened p n) first second within = absurd within
-within_more path (Wrote n at part) first second within =
-    (within.0, Contains-append_left second first _ within.1)
-within_more path (Cut n len) first second within =
-    (within.0, Contains-append_left second first _ within.1)
-within_more path (Broke n) first second within =
-    (within.0, Contains-append_left second first _ within.1)
-within_more path (Measured n len) first second within =
-    (within.0, Contains-append_left second first _ within.1)
-within_more path (Synced n) first second within =
-    (within.0, Contains-append_left second first _ within.1)
-within_more path (Unwaited n) first second within =
-    (within.0, Contains-append_left second first _ within.1)
-within_more path (Missing p) first second within = within
-within_more path (Linked from to) first second within =
-    ((within.0.0, Contains-append_left second first _ within.0.1), within.1)
-within_more path (Renamed from to) first second within =
-    ((within.0.0, Contains-append_left second first _ within.0.1), within.1)
-within_more path (Removed p) first second within =
-    (within.0, Contains-append_left second first _ within.1)
-within_more path (SyncedNames p) first second within = within
-within_more path (UnwaitedNames p) first second within = within
+within_more : (path : List ℕ) (call : FileCall) (first second : List FileCall) → IsWithin path second call → IsWithin path (second ++ first) call
+within_more path (Wrote n at part) first second within = (within.0, Contains-append_left second first _ within.1)
+within_more path (Cut n len) first second within = (within.0, Contains-append_left second first _ within.1)
+within_more path (Broke n) first second within = (within.0, Contains-append_left second first _ within.1)
+within_more path (Measured n len) first second within = (within.0, Contains-append_left second first _ within.1)
+within_more path (Synced n) first second within = (within.0, Contains-append_left second first _ within.1)
+within_more path (Unwaited n) first second within = (within.0, Contains-append_left second first _ within.1)
+within_more path (Locked n) first second within = (within.0, Contains-append_left second first _ within.1)
+within_more path (Unlockable n) first second within = (within.0, Contains-append_left second first _ within.1)
+within_more path (Linked from to) first second within = ((within.0.0, Contains-append_left second first _ within.0.1), within.1)
+within_more path (Renamed from to) first second within = ((within.0.0, Contains-append_left second first _ within.0.1), within.1)
+within_more path (Removed p) first second within = (within.0, Contains-append_left second first _ within.1)
+within_more path call first second within = within
 
-all_within : (path : List ℕ) (first second : List FileCall) → AllWithin path first
-    → AllWithin path second → AllWithin path (second ++ first)
+all_within : (path : List ℕ) (first second : List FileCall) → AllWithin path first → AllWithin path second → AllWithin path (second ++ first)
 all_within path first [] before after_call = before
 all_within path first (call ∷ second) before after_call =
     (within_more path call first second after_call.0, all_within path first second before after_call.1)
 
-pub touches_then : (path : List ℕ) (old mid new : List FileCall) → Touches path old mid
-    → Touches path mid new → Touches path old new
+pub touches_then : (path : List ℕ) (old mid new : List FileCall) → Touches path old mid → Touches path mid new → Touches path old new
 touches_then path old mid new first second = record {
   since = second.since ++ first.since;
   are =
-      second.are ∙ (ap (λ (l : List FileCall). second.since ++ l) first.are
-      ∙ sym (append_assoc second.since first.since old));
+      second.are ∙ (ap (λ (l : List FileCall). second.since ++ l) first.are ∙ sym (append_assoc second.since first.since old));
   within = all_within path first.since second.since first.within second.within;
 }
 
 -- ---- A file beside the path.
 
 pub no_longer : (a b c : List ℕ) → c ≡ a ++ b → 0 < length b → c ≡ a → ⊥
-no_longer a b c joined some same =
-    omega (arith, length-append a b, ap length joined, ap length same)
+no_longer a b c joined some same = omega (arith, length-append a b, ap length joined, ap length same)
 
-pub has_more : (path from : List ℕ) (n : ℕ) (old : List FileCall) (call : FileCall) (calls : List FileCall)
-    → HasBeside path from n old calls
-    → ((since : List FileCall) → Contains since (Made from n) → IsWithin path since call)
-    → HasBeside path from n old (call ∷ calls)
+pub has_more : (path from : List ℕ) (n : ℕ) (old : List FileCall) (call : FileCall) (calls : List FileCall) → HasBeside path from n old calls
+    → ((since : List FileCall) → Contains since (Made from n) → IsWithin path since call) → HasBeside path from n old (call ∷ calls)
 has_more path from n old call calls has within = record {
   touches = record {
     since = call ∷ has.touches.since;
@@ -206,104 +163,73 @@ has_more path from n old call calls has within = record {
 
 within_of : (path from : List ℕ) (n : ℕ) (call : FileCall) (since : List FileCall) → IsOf n call
     → Contains since (Made from n) → IsWithin path since call
-within_of path from n (Wrote m at part) since of made =
-    (from, subst (λ (k : ℕ). Contains since (Made from k)) (sym of) made)
-within_of path from n (Cut m len) since of made =
-    (from, subst (λ (k : ℕ). Contains since (Made from k)) (sym of) made)
-within_of path from n (Broke m) since of made =
-    (from, subst (λ (k : ℕ). Contains since (Made from k)) (sym of) made)
-within_of path from n (Measured m len) since of made =
-    (from, subst (λ (k : ℕ). Contains since (Made from k)) (sym of) made)
-within_of path from n (Synced m) since of made =
-    (from, subst (λ (k : ℕ). Contains since (Made from k)) (sym of) made)
-within_of path from n (Unwaited m) since of made =
-    (from, subst (λ (k : ℕ). Contains since (Made from k)) (sym of) made)
-within_of path from n (Made p m) since of made = absurd of
-within_of path from n (Opened p m) since of made = absurd of
-within_of path from n (Missing p) since of made = absurd of
-within_of path from n (Linked p q) since of made = absurd of
-within_of path from n (Renamed p q) since of made = absurd of
-within_of path from n (Removed p) since of made = absurd of
-within_of path from n (SyncedNames p) since of made = absurd of
-within_of path from n (UnwaitedNames p) since of made = absurd of
+within_of path from n (Wrote m at part) since of made = (from, subst (λ (k : ℕ). Contains since (Made from k)) (sym of) made)
+within_of path from n (Cut m len) since of made = (from, subst (λ (k : ℕ). Contains since (Made from k)) (sym of) made)
+within_of path from n (Broke m) since of made = (from, subst (λ (k : ℕ). Contains since (Made from k)) (sym of) made)
+within_of path from n (Measured m len) since of made = (from, subst (λ (k : ℕ). Contains since (Made from k)) (sym of) made)
+within_of path from n (Synced m) since of made = (from, subst (λ (k : ℕ). Contains since (Made from k)) (sym of) made)
+within_of path from n (Unwaited m) since of made = (from, subst (λ (k : ℕ). Contains since (Made from k)) (sym of) made)
+within_of path from n (Locked m) since of made = (from, subst (λ (k : ℕ). Contains since (Made from k)) (sym of) made)
+within_of path from n (Unlockable m) since of made = (from, subst (λ (k : ℕ). Contains since (Made from k)) (sym of) made)
+within_of path from n call since of made = absurd of
 
 module _ (path from : List ℕ) (n : ℕ) (old : List FileCall) where
-  beside_of : (call : FileCall) (calls : List FileCall) → IsOf n call → IsBeside path from n old calls
-      → IsBeside path from n old (call ∷ calls)
+  beside_of : (call : FileCall) (calls : List FileCall) → IsOf n call → IsBeside path from n old calls → IsBeside path from n old (call ∷ calls)
   beside_of call calls of beside = record {
     has =
-        has_more path from n old call calls beside.has
-        (λ since made. within_of path from n call since of made);
+        has_more path from n old call calls beside.has (λ since made. within_of path from n call since of made);
     apart = beside.apart;
-    saves = λ bytes.
-        saves_quietly path bytes old call calls (beside.saves bytes) (λ disk answers.
+    saves = λ bytes. saves_quietly path bytes old call calls (beside.saves bytes) (λ disk answers.
         leaves_apart n path (after_calls calls disk) (after_call call (after_calls calls disk))
         (apart_of n path call (after_calls calls disk) of) (beside.elsewhere disk answers.1));
     spares =
-        spares_quietly path old call calls beside.spares (λ disk answers m is.
-        (apart_of n path call (after_calls calls disk) of).file ∙ is);
-    file = λ disk answers.
-        (apart_of n from call (after_calls calls disk) of).file ∙ beside.file disk answers.1;
-    elsewhere = λ disk answers may.
-        let apart = apart_of n path call (after_calls calls disk) of in
+        spares_quietly path old call calls beside.spares (λ disk answers m is. (apart_of n path call (after_calls calls disk) of).file ∙ is);
+    file = λ disk answers. (apart_of n from call (after_calls calls disk) of).file ∙ beside.file disk answers.1;
+    elsewhere = λ disk answers may. let apart = apart_of n path call (after_calls calls disk) of in
         beside.elsewhere disk answers.1 (led _ _ _ _ (Some n) apart.file apart.before may);
   }
 
-  beside_all : (since calls : List FileCall) → AllOf n since → IsBeside path from n old calls
-      → IsBeside path from n old (since ++ calls)
+  beside_all : (since calls : List FileCall) → AllOf n since → IsBeside path from n old calls → IsBeside path from n old (since ++ calls)
   beside_all [] calls all beside = beside
-  beside_all (call ∷ since) calls all beside =
-      beside_of call (since ++ calls) all.0 (beside_all since calls all.1 beside)
+  beside_all (call ∷ since) calls all beside = beside_of call (since ++ calls) all.0 (beside_all since calls all.1 beside)
 
-  pub beside_about : (calls new : List FileCall) → IsBeside path from n old calls → IsAbout n calls new
-      → IsBeside path from n old new
+  pub beside_about : (calls new : List FileCall) → IsBeside path from n old calls → IsAbout n calls new → IsBeside path from n old new
   beside_about calls new beside about =
-      subst (λ (l : List FileCall). IsBeside path from n old l) (sym about.are)
-      (beside_all about.since calls about.all beside)
+      subst (λ (l : List FileCall). IsBeside path from n old l) (sym about.are) (beside_all about.since calls about.all beside)
 
   -- right after it was made
-  pub beside_made : (new : List FileCall) → IsLonger path from → new ≡ Made from n ∷ old
-      → IsBeside path from n old new
+  pub beside_made : (new : List FileCall) → IsLonger path from → new ≡ Made from n ∷ old → IsBeside path from n old new
   beside_made new longer made =
-      subst (λ (l : List FileCall). IsBeside path from n old l) (sym made) there
-    where
-      there : IsBeside path from n old (Made from n ∷ old)
-      there = record {
-        has = record {
-          touches = record { since = Made from n ∷ []; are = refl; within = (longer, tt) };
-          made = contains_first (Made from n) [];
-        };
-        apart = longer.2;
-        saves = λ bytes.
-            saves_quietly path bytes old (Made from n) old (saves_none path bytes old)
-            (λ disk answers. leaves_apart n path (after_calls old disk)
-            (after_call (Made from n) (after_calls old disk))
-            (apart_made n path from (after_calls old disk) longer.2) answers.0.1);
-        spares =
-            spares_quietly path old (Made from n) old (spares_none path old) (λ disk answers m is.
-            (apart_made n path from (after_calls old disk) longer.2).file ∙ is);
-        file = λ disk answers. path_same from (Some n) (after_calls old disk).file;
-        elsewhere = λ disk answers may.
-            let apart = apart_made n path from (after_calls old disk) longer.2 in
-            answers.0.1 (led _ _ _ _ (Some n) apart.file apart.before may);
-      }
+      subst (λ (l : List FileCall). IsBeside path from n old l) (sym made) there where
+        there : IsBeside path from n old (Made from n ∷ old)
+        there = record {
+          has = record {
+            touches = record { since = Made from n ∷ []; are = refl; within = (longer, tt) };
+            made = contains_first (Made from n) [];
+          };
+          apart = longer.2;
+          saves = λ bytes. saves_quietly path bytes old (Made from n) old (saves_none path bytes old)
+              (λ disk answers. leaves_apart n path (after_calls old disk) (after_call (Made from n) (after_calls old disk))
+              (apart_made n path from (after_calls old disk) longer.2) answers.0.1);
+          spares =
+              spares_quietly path old (Made from n) old (spares_none path old) (λ disk answers m is.
+              (apart_made n path from (after_calls old disk) longer.2).file ∙ is);
+          file = λ disk answers. path_same from (Some n) (after_calls old disk).file;
+          elsewhere = λ disk answers may. let apart = apart_made n path from (after_calls old disk) longer.2 in
+              answers.0.1 (led _ _ _ _ (Some n) apart.file apart.before may);
+        }
 
-pub sound_made : (from : List ℕ) (n : ℕ) (old new : List FileCall) → new ≡ Made from n ∷ old
-    → IsSound n new
+pub sound_made : (from : List ℕ) (n : ℕ) (old new : List FileCall) → new ≡ Made from n ∷ old → IsSound n new
 sound_made from n old new made disk =
-    subst (λ (l : List FileCall). (after_calls l disk).is_lost n ≡ false) (sym made)
-    (file_same n false (after_calls old disk).is_lost)
+    subst (λ (l : List FileCall). (after_calls l disk).is_lost n ≡ false) (sym made) (file_same n false (after_calls old disk).is_lost)
 
 -- ---- Where nothing was done.
 
 pub saves_same : (path bytes : List ℕ) (old new : List FileCall) → new ≡ old → SavesWhole path bytes old new
-saves_same path bytes old new same =
-    subst (λ (l : List FileCall). SavesWhole path bytes old l) (sym same) (saves_none path bytes old)
+saves_same path bytes old new same = subst (λ (l : List FileCall). SavesWhole path bytes old l) (sym same) (saves_none path bytes old)
 
 pub spares_same : (path : List ℕ) (old new : List FileCall) → new ≡ old → SparesFile path old new
-spares_same path old new same =
-    subst (λ (l : List FileCall). SparesFile path old l) (sym same) (spares_none path old)
+spares_same path old new same = subst (λ (l : List FileCall). SparesFile path old l) (sym same) (spares_none path old)
 
 pub touches_same : (path : List ℕ) (old new : List FileCall) → new ≡ old → Touches path old new
-touches_same path old new same =
-    subst (λ (l : List FileCall). Touches path old l) (sym same) (touches_none path old)
+touches_same path old new same = subst (λ (l : List FileCall). Touches path old l) (sym same) (touches_none path old)

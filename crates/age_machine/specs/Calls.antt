@@ -19,6 +19,9 @@ pub data FileCall : Type 0 where
   -- what a file holds has reached the disk; the system can't wait for it
   Synced : ℕ → FileCall
   Unwaited : ℕ → FileCall
+  -- this run alone has a file, until it ends; the system has no lock for it, so every run may have it
+  Locked : ℕ → FileCall
+  Unlockable : ℕ → FileCall
   -- nothing was seen at a path
   Missing : List ℕ → FileCall
   -- the file at the first path is at the second now too, where nothing was
@@ -31,7 +34,7 @@ pub data FileCall : Type 0 where
   SyncedNames : List ℕ → FileCall
   UnwaitedNames : List ℕ → FileCall
 
--- this call is about what this file holds
+-- this call is about what this file holds, or who has it
 abbrev pub IsOf : ℕ → FileCall → Type 0
 IsOf n (Wrote m at part) = m ≡ n
 IsOf n (Cut m len) = m ≡ n
@@ -39,6 +42,8 @@ IsOf n (Broke m) = m ≡ n
 IsOf n (Measured m len) = m ≡ n
 IsOf n (Synced m) = m ≡ n
 IsOf n (Unwaited m) = m ≡ n
+IsOf n (Locked m) = m ≡ n
+IsOf n (Unlockable m) = m ≡ n
 IsOf n call = ⊥
 
 -- this call was made, or none

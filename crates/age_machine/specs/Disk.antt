@@ -3,7 +3,8 @@ use Rattle.std.specs.Prelude.{◌≡◌, ◌⊎◌, ℕ, ◌+◌, ◌-◌, List,
 use Rattle.std.specs.Prelude.{Option, Some, None, Bool, true, false, not, bytes_eq, nat_eq}
 use Rattle.std.specs.Prelude.{if◌then◌else◌}
 use Rattle.age_machine.specs.Calls.{FileCall, Made, Opened, Wrote, Cut, Broke, Measured, Synced, Unwaited}
-use Rattle.age_machine.specs.Calls.{Missing, Linked, Renamed, Removed, SyncedNames, UnwaitedNames}
+use Rattle.age_machine.specs.Calls.{Locked, Unlockable, Missing, Linked, Renamed, Removed}
+use Rattle.age_machine.specs.Calls.{SyncedNames, UnwaitedNames}
 
 -- ---- A disk.
 
@@ -68,6 +69,8 @@ after_call (Broke n) disk = record disk {
 after_call (Measured n len) disk = disk
 after_call (Synced n) disk = record disk { is_kept = for_file n (not (disk.is_lost n)) disk.is_kept }
 after_call (Unwaited n) disk = disk
+after_call (Locked n) disk = disk
+after_call (Unlockable n) disk = disk
 after_call (Missing path) disk = disk
 after_call (Linked from to) disk = leading to (disk.file from) disk
 after_call (Renamed from to) disk = leading from None (leading to (disk.file from) disk)

@@ -1,10 +1,11 @@
 -- What may become of a file that is put to a path, or written in place, with a call less, or with two
 -- in another order.
-use Rattle.std.specs.Prelude.{◌≢◌, ℕ, List, [], ◌∷◌, length, Some, None, true, false}
-use Rattle.age_machine.specs.Calls.{FileCall, Made, Opened, Wrote, Cut, Measured, Synced, Linked, Renamed}
-use Rattle.age_machine.specs.Calls.{Removed, SyncedNames}
+use Rattle.std.specs.Prelude.{◌≡◌, ◌≢◌, ℕ, List, [], ◌∷◌, length, Some, None, true, false, Contains}
+use Rattle.age_machine.specs.Calls.{FileCall, Made, Opened, Wrote, Cut, Measured, Synced, Locked, Unlockable}
+use Rattle.age_machine.specs.Calls.{Linked, Renamed, Removed, SyncedNames}
 use Rattle.age_machine.specs.Disk.{Disk, at_path, after_calls, MayLeave}
-use Rattle.age_machine.specs.Saves.{AllAnswered, SavesWhole, IsSafe}
+use Rattle.age_machine.specs.Saves.{AllAnswered, SavesWhole, IsSafe, HasMade}
+use Rattle.age_machine.specs.Outs.{AllOn, MayChange, LocksFirst}
 
 -- the calls of a replacement, the newest first
 abbrev pub filled : ℕ → List ℕ → List ℕ → List FileCall
@@ -57,21 +58,53 @@ bare_but path n = record bare { file = at_path path (Some n) bare.file }
 -- the calls of an output that was there, and of one that is made, the newest first
 abbrev pub overwritten : ℕ → List ℕ → List ℕ → List FileCall
 overwritten n path bytes =
-    SyncedNames path ∷ Synced n ∷ Cut n (length bytes) ∷ Wrote n 0 bytes ∷ Opened path n ∷ []
+    SyncedNames path ∷ Synced n ∷ Cut n (length bytes) ∷ Wrote n 0 bytes ∷ Locked n
+    ∷ Opened path n ∷ []
 
 abbrev pub put_out : ℕ → List ℕ → List ℕ → List FileCall
-put_out n path bytes = SyncedNames path ∷ Synced n ∷ Wrote n 0 bytes ∷ Made path n ∷ []
-
-abbrev pub OutsAreAnswered : Type 0
-OutsAreAnswered = (n : ℕ) (path bytes : List ℕ)
-    → AllAnswered path (overwritten n path bytes) (bare_but path n)
-    × AllAnswered path (put_out n path bytes) bare
+put_out n path bytes = SyncedNames path ∷ Synced n ∷ Wrote n 0 bytes ∷ Locked n ∷ Made path n ∷ []
 
 abbrev pub TornIfUnsynced : Type 0
 TornIfUnsynced = (n : ℕ) (path bytes : List ℕ)
-    → IsSafe path bytes (SyncedNames path ∷ Wrote n 0 bytes ∷ Made path n ∷ []) → ⊥
+    → IsSafe path bytes (SyncedNames path ∷ Wrote n 0 bytes ∷ Locked n ∷ Made path n ∷ []) → ⊥
 
 abbrev pub TornIfCutLast : Type 0
 TornIfCutLast = (n : ℕ) (path bytes : List ℕ)
     → IsSafe path bytes
-    (SyncedNames path ∷ Cut n (length bytes) ∷ Synced n ∷ Wrote n 0 bytes ∷ Opened path n ∷ []) → ⊥
+    (SyncedNames path ∷ Cut n (length bytes) ∷ Synced n ∷ Wrote n 0 bytes ∷ Locked n ∷ Opened path n
+    ∷ []) → ⊥
+
+-- ---- A file that two runs open.
+
+-- Two runs at a time, on a system that gives a file's lock to one of them at most: one has it, and the
+-- other changes the file only after it has claimed it.
+pub record HasOneLock (n : ℕ) (one other : List FileCall) : Type 0 where
+  pub has : Contains one (Locked n)
+  pub once : Contains one (Locked n) → Contains other (Locked n) → ⊥
+  pub lockable : Contains other (Unlockable n) → ⊥
+  pub first : LocksFirst n other
+
+-- No call may have changed a file, and a disk on which none made it has it as it was.
+pub record IsUnchanged (n : ℕ) (calls : List FileCall) : Type 0 where
+  pub none : (call : FileCall) → Contains calls call → MayChange n call → ⊥
+  pub same : (HasMade n calls → ⊥) → (disk : Disk) → (after_calls calls disk).bytes n ≡ disk.bytes n
+
+abbrev pub SecondRunIsHarmless : Type 0
+SecondRunIsHarmless = (n : ℕ) (one other : List FileCall) → HasOneLock n one other → IsUnchanged n other
+
+-- the calls of an output are answered, while another run has opened it too
+abbrev pub OutsAreAnswered : Type 0
+OutsAreAnswered = (n : ℕ) (path bytes : List ℕ)
+    → (AllAnswered path (overwritten n path bytes) (bare_but path n)
+    × HasOneLock n (overwritten n path bytes) (Opened path n ∷ []))
+    × (AllAnswered path (put_out n path bytes) bare
+    × HasOneLock n (put_out n path bytes) (Opened path n ∷ []))
+
+abbrev pub ChangedIfLockedLate : Type 0
+ChangedIfLockedLate = (n : ℕ) (path bytes : List ℕ)
+    → LocksFirst n (Locked n ∷ Wrote n 0 bytes ∷ Opened path n ∷ []) → ⊥
+
+-- No file but the output's own is changed.
+abbrev pub OthersAreKept : Type 0
+OthersAreKept = (path : List ℕ) (n m : ℕ) (calls : List FileCall) → AllOn path n calls → m ≢ n
+    → (disk : Disk) → (after_calls calls disk).bytes m ≡ disk.bytes m

@@ -1,9 +1,11 @@
 pub mod Beside
 pub mod Calls
 pub mod Disk
+pub mod Ends
 pub mod Held
 pub mod Laws
 pub mod Numbers
 pub mod Outs
+pub mod Saved
 pub mod Saves
 pub mod inner

@@ -1,7 +1,8 @@
 -- A file that is written in place, by a machine that makes no other calls.
-use Rattle.std.specs.Prelude.{◌≡◌, ℕ, List, [], ◌∷◌, ◌++◌, Bool, true, false, if◌then◌else◌}
-use Rattle.age_machine.specs.Calls.{FileCall, Made, Opened, Wrote, Cut, Removed, SyncedNames}
-use Rattle.age_machine.specs.Calls.{UnwaitedNames, IsOf}
+use Rattle.std.specs.Prelude.{◌≡◌, ◌⊎◌, ℕ, List, [], ◌∷◌, ◌++◌, Bool, true, false, if◌then◌else◌}
+use Rattle.std.specs.Prelude.{Contains}
+use Rattle.age_machine.specs.Calls.{FileCall, Made, Opened, Wrote, Cut, Broke, Locked, Unlockable, Removed}
+use Rattle.age_machine.specs.Calls.{SyncedNames, UnwaitedNames, IsOf}
 
 -- which file it is, and at which path; whether opening made it, and its name is waited for at the end
 pub record OutFile : Type 0 where
@@ -47,3 +48,21 @@ IsOn path n call = IsOf n call
 abbrev pub AllOn : List ℕ → ℕ → List FileCall → Type 0
 AllOn path n [] = Unit {0}
 AllOn path n (call ∷ calls) = IsOn path n call × AllOn path n calls
+
+-- ---- Of two runs one writes to a file.
+
+-- this call may have changed what a file holds
+abbrev pub MayChange : ℕ → FileCall → Type 0
+MayChange n (Wrote m at part) = m ≡ n
+MayChange n (Cut m len) = m ≡ n
+MayChange n (Broke m) = m ≡ n
+MayChange n call = ⊥
+
+-- this run has locked a file, or the system has no lock for it
+abbrev pub IsClaimed : ℕ → List FileCall → Type 0
+IsClaimed n calls = Contains calls (Locked n) ⊎ Contains calls (Unlockable n)
+
+-- each call that may have changed a file came after that
+abbrev pub LocksFirst : ℕ → List FileCall → Type 0
+LocksFirst n [] = Unit {0}
+LocksFirst n (call ∷ calls) = (MayChange n call → IsClaimed n calls) × LocksFirst n calls

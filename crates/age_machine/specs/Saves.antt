@@ -2,7 +2,8 @@
 use Rattle.std.specs.Prelude.{◌≡◌, ◌≢◌, ◌⊎◌, ℕ, List, [], ◌∷◌, ◌++◌, length, Option, Some, None, false}
 use Rattle.std.specs.Prelude.{Contains}
 use Rattle.age_machine.specs.Calls.{FileCall, Made, Opened, Wrote, Cut, Broke, Measured, Synced, Unwaited}
-use Rattle.age_machine.specs.Calls.{Missing, Linked, Renamed, Removed, SyncedNames, UnwaitedNames}
+use Rattle.age_machine.specs.Calls.{Locked, Unlockable, Missing, Linked, Renamed, Removed}
+use Rattle.age_machine.specs.Calls.{SyncedNames, UnwaitedNames}
 use Rattle.age_machine.specs.Disk.{Disk, after_calls, MayLead, MayLeave}
 
 -- A disk on which this call is the next one answers as one that can be waited for. A file that is
@@ -75,6 +76,8 @@ IsWithin path calls (Broke n) = HasMade n calls
 IsWithin path calls (Measured n len) = HasMade n calls
 IsWithin path calls (Synced n) = HasMade n calls
 IsWithin path calls (Unwaited n) = HasMade n calls
+IsWithin path calls (Locked n) = HasMade n calls
+IsWithin path calls (Unlockable n) = HasMade n calls
 IsWithin path calls (Missing p) = p ≡ path
 IsWithin path calls (Linked from to) = HasMadeAt from calls × (to ≡ path)
 IsWithin path calls (Renamed from to) = HasMadeAt from calls × (to ≡ path)

@@ -11,7 +11,7 @@ use crate::machine::{Machine, Shape, Sight};
 use crate::node::{Node, found_at, is_at};
 use crate::notes::{Calls, Failed, Word};
 use crate::retry::{TRIES, is_to_retry, too_many_tries};
-use std::fs::{self, File};
+use std::fs::{self, File, TryLockError};
 use std::io;
 use std::os::fd::AsRawFd;
 use std::os::unix::fs::MetadataExt;
@@ -119,6 +119,22 @@ fn check(file: &File, shape: &Shape) -> io::Result<()> {
         Err(io::Error::other("another program changed its length"))
     } else {
         Ok(())
+    }
+}
+
+/// Takes a regular file for this run alone, as long as it is open; `false` if the file system has no
+/// locks, so that every run may have it. Fails if another run has it.
+fn lock(file: &File) -> io::Result<bool> {
+    if !file.metadata()?.is_file() {
+        return Ok(false);
+    }
+    match file.try_lock() {
+        Ok(()) => Ok(true),
+        Err(TryLockError::WouldBlock) => Err(io::Error::new(
+            io::ErrorKind::ResourceBusy,
+            "another run writes to it",
+        )),
+        Err(_) => Ok(false),
     }
 }
 
@@ -337,6 +353,20 @@ impl Machine for HostMachine {
     fn check(&mut self, file: &HostFile, shape: &Shape) -> io::Result<()> {
         match check(&file.file, shape) {
             Ok(()) => Ok(()),
+            Err(error) => Err(self.fail(error)),
+        }
+    }
+
+    fn lock(&mut self, file: &HostFile) -> io::Result<()> {
+        match lock(&file.file) {
+            Ok(true) => {
+                self.calls.note(&Word::Locked(file.node));
+                Ok(())
+            }
+            Ok(false) => {
+                self.calls.note(&Word::Unlockable(file.node));
+                Ok(())
+            }
             Err(error) => Err(self.fail(error)),
         }
     }

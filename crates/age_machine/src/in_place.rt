@@ -5,11 +5,11 @@ ghost use Rattle.std.specs.Prelude.{string_bytes};
 ghost use Rattle.std.specs.Prelude.{true, false, is_some, IfOk, OnOk, OnErr};
 ghost use Rattle.std.specs.Io.{WritesAtMost};
 ghost use Rattle.age_io.specs.declared.durability.Durability.TheVariants as wait;
-ghost use Rattle.age_machine.specs.Calls.{SyncedNames, UnwaitedNames, Waited};
+ghost use Rattle.age_machine.specs.Calls.{Locked, Unlockable, SyncedNames, UnwaitedNames, Waited};
 ghost use Rattle.age_machine.specs.Saves.{SavesWhole, IsSafe};
-ghost use Rattle.age_machine.specs.Outs.{opening_of, text_of, has_changed, AllOn};
+ghost use Rattle.age_machine.specs.Outs.{opening_of, text_of, has_changed, AllOn, IsClaimed, LocksFirst};
 ghost use Rattle.age_machine.specs.Held.{IsBegun};
-ghost use Rattle.age_machine.specs.inner.Steps.{IsInPlace, StaysOn, RemovesAt};
+ghost use Rattle.age_machine.specs.inner.Steps.{IsInPlace, StaysHeld, RemovesAt};
 
 use crate::beside::settle;
 use crate::machine::{Machine, Shape};
@@ -43,6 +43,8 @@ pub struct Out<M: Machine> {
     // Where it is, at the end of all links.
     path: String,
     opening: Opening,
+    // No other run has it, if the file system has locks.
+    is_claimed: bool,
     // What it held is still there, beyond the bytes that were written.
     is_stale: bool,
     written: u64,
@@ -89,7 +91,7 @@ impl<M: Machine> Model for Out<M> {
       number = M.number o.file;
       is_made = o.opening.is_made;
       is_waited = o.opening.is_waited;
-    }) o.is_stale o.written (M.failed o.machine) (M.calls o.machine) };
+    }) o.is_stale (is_some o.lost) o.is_claimed o.written (M.failed o.machine) (M.calls o.machine) };
 }
 
 /// Cuts off what a file held beyond the bytes that were written.
@@ -99,7 +101,7 @@ fn cut_stale<M: Machine>(
     is_stale: bool,
     written: u64,
 ) -> io::Result<()>
-    ensures on { (path : List ℕ) → StaysOn path (M.number file.now) (M.calls machine.old)
+    ensures held { (path : List ℕ) → StaysHeld path (M.number file.now) (M.calls machine.old)
         (M.calls machine.new) }
     ensures cut { OnOk result ((path text : List ℕ) → length text ≡ written
         → IsBegun path (M.number file.now) is_stale text (M.calls machine.old)
@@ -125,7 +127,7 @@ fn finish<M: Machine>(
     shape: &Shape,
     durability: Durability,
 ) -> io::Result<()>
-    ensures on { (path : List ℕ) → StaysOn path (M.number file.now) (M.calls machine.old)
+    ensures held { (path : List ℕ) → StaysHeld path (M.number file.now) (M.calls machine.old)
         (M.calls machine.new) }
     ensures finished { OnOk result (durability ≡ wait.Synced → (path text : List ℕ)
         → length text ≡ shape.now.len
@@ -184,7 +186,7 @@ fn close_named<M: Machine>(
     opening: Opening,
     durability: Durability,
 ) -> io::Result<()>
-    ensures on { StaysOn path.now (M.number file.now) (M.calls machine.old) (M.calls machine.new) }
+    ensures held { StaysHeld path.now (M.number file.now) (M.calls machine.old) (M.calls machine.new) }
     ensures named { OnOk result (durability ≡ wait.Synced → opening.is_waited ≡ true
         → Waited (SyncedNames path.now) (UnwaitedNames path.now) (M.calls machine.old)
         (M.calls machine.new)) }
@@ -258,6 +260,7 @@ impl<M: Machine + Drop> Out<M> {
             file,
             path,
             opening,
+            is_claimed: false,
             is_stale: !opening.is_made,
             written: 0,
             seen: 0,
@@ -276,6 +279,39 @@ impl<M: Machine + Drop> Out<M> {
     /// The file itself.
     pub fn file(&self) -> &M::File {
         &self.file
+    }
+
+    /// Takes it for this run alone, so that no other run writes to it, until it is ended. Fails if
+    /// another run has it. If the file system has no locks, every run may have it.
+    pub fn claim(&mut self) -> io::Result<()>
+        ensures same { (self.new.file ≡ self.old.file) × (self.new.is_lost ≡ self.old.is_lost)
+            × (text_of self.new.calls ≡ text_of self.old.calls) }
+        ensures calls { (self.new.calls ≡ self.old.calls) ⊎ Waited (Locked self.old.file.number)
+            (Unlockable self.old.file.number) self.old.calls self.new.calls }
+        ensures claimed { OnOk result (IsClaimed self.new.file.number self.new.calls) }
+        ensures again { IsClaimed self.old.file.number self.old.calls → self.new ≡ self.old }
+        ensures counted { OnOk result (self.new.failed ≡ self.old.failed) }
+        ensures err { OnErr result ((self.new.calls ≡ self.old.calls)
+            × (self.old.failed < self.new.failed)) }
+    {
+        if self.is_claimed {
+            return Ok(());
+        }
+        self.machine.lock(&self.file)?;
+        self.is_claimed = true;
+        Ok(())
+    }
+
+    /// What it is to look like now.
+    fn shape(&self, may_be_longer: bool) -> Shape
+        ensures { result.len ≡ length (text_of self.now.calls) }
+    {
+        Shape {
+            len: self.written,
+            may_be_longer,
+            has_length: self.has_length,
+            is_named: self.opening.is_named,
+        }
     }
 
     /// Fails if it can't be relied on, or if another program has harmed it, if it is time to look.
@@ -297,12 +333,7 @@ impl<M: Machine + Drop> Out<M> {
             return Ok(());
         }
         self.seen = self.written;
-        let shape = Shape {
-            len: self.written,
-            may_be_longer: true,
-            has_length: self.has_length,
-            is_named: self.opening.is_named,
-        };
+        let shape = self.shape(true);
         match self.machine.check(&self.file, &shape) {
             Ok(()) => Ok(()),
             Err(error) => {
@@ -335,7 +366,7 @@ impl<M: Machine + Drop> Out<M> {
         }
     }
 
-    /// Writes some bytes behind those that were written.
+    /// Writes some bytes behind those that were written. It is claimed before the first of them.
     fn write(&mut self, from: &[u8]) -> io::Result<usize>
         requires { 0 < length from.now }
         ensures bound { IfOk result (λ n. (n ≤ length from.now) × (0 < n)) }
@@ -352,6 +383,7 @@ impl<M: Machine + Drop> Out<M> {
         if from.len() as u64 > u64::MAX - self.written {
             return Err(io::Error::from(io::ErrorKind::FileTooLarge));
         }
+        self.claim()?;
         let n = self.machine.write(&self.file, self.written, from)?;
         let is_first = self.written == 0;
         self.written += n as u64;
@@ -384,6 +416,7 @@ impl<M: Machine + Drop> Out<M> {
     /// was written before a cut that failed can still reach it.
     pub fn reach(&mut self) -> io::Result<()>
         ensures file { self.new.file ≡ self.old.file }
+        ensures still { text_of self.old.calls ≡ [] → self.new ≡ self.old }
         ensures text { text_of self.new.calls ≡ text_of self.old.calls }
         ensures sound { self.new.is_lost ≡ false → (self.new.failed ≡ self.old.failed)
             × (self.old.is_lost ≡ false) }
@@ -426,34 +459,38 @@ impl<M: Machine + Drop> Out<M> {
         }
     }
 
-    /// Ends it with what was written, and closes it, in either case.
-    pub fn end(self, durability: Durability) -> Ended<M>
+    /// Ends it with what was written, and closes it, in either case. If nothing was written it is
+    /// claimed first; if another run has it, it stays as it is.
+    pub fn end(mut self, durability: Durability) -> Ended<M>
         ensures safe { durability ≡ wait.Synced → self.file.is_waited ≡ true → self.failed ≡ 0
             → OnOk result.end
             (IsSafe self.file.path (text_of self.calls) (M.calls result.machine)) }
         ensures path { string_bytes result.path ≡ self.file.path }
         ensures sure { OnOk result.end (self.is_lost ≡ false) }
         ensures touches { AllOn self.file.path self.file.number (M.calls result.machine) }
+        ensures locked { LocksFirst self.file.number (M.calls result.machine) }
         ensures caused { OnErr result.end ((self.is_lost ≡ true)
             ⊎ (self.failed < M.failed result.machine)) }
+        ensures failing { OnErr result.end (0 < M.failed result.machine) }
     {
+        let claimed = self.claim();
+        let shape = self.shape(false);
         let Out {
             mut machine,
             file,
             path,
             opening,
             is_stale,
-            written,
-            has_length,
             lost,
             ..
         } = self;
-        let shape = Shape {
-            len: written,
-            may_be_longer: false,
-            has_length,
-            is_named: opening.is_named,
-        };
+        if let Err(error) = claimed {
+            return Ended {
+                end: Err(error),
+                path,
+                machine,
+            };
+        }
         let finished = finish(&mut machine, &file, is_stale, lost, &shape, durability);
         let closed = close_named(&mut machine, &file, path.as_str(), opening, durability);
         match finished {
@@ -479,6 +516,7 @@ impl<M: Machine + Drop> Out<M> {
         ensures untouched { self.file.is_made ≡ false → text_of self.calls ≡ []
             → has_changed (M.calls result) ≡ false }
         ensures touches { AllOn self.file.path self.file.number (M.calls result) }
+        ensures locked { LocksFirst self.file.number (M.calls result) }
     {
         let Out {
             mut machine,

@@ -3,7 +3,8 @@
 
 ghost use Rattle.age_machine.specs.Laws.{WaitsAreAnswered, TornIfUnwaited, TornIfRenamedFirst};
 ghost use Rattle.age_machine.specs.Laws.{LostIfNamesUnwaited, OutsAreAnswered, TornIfUnsynced};
-ghost use Rattle.age_machine.specs.Laws.{TornIfCutLast};
+ghost use Rattle.age_machine.specs.Laws.{TornIfCutLast, SecondRunIsHarmless, ChangedIfLockedLate};
+ghost use Rattle.age_machine.specs.Laws.{OthersAreKept};
 
 /// There is a disk that answers the calls of a replacement, by a link or by a rename, and on which a
 /// power cut may leave the new file.
@@ -26,7 +27,8 @@ pub fn lost_if_names_unwaited()
     ensures { LostIfNamesUnwaited }
 {}
 
-/// There are disks that answer the calls of an output, whether it was there or is made.
+/// There are disks that answer the calls of an output, whether it was there or is made. It has the only
+/// lock of its file then, though another run has opened that.
 pub fn outs_are_answered()
     ensures { OutsAreAnswered }
 {}
@@ -39,4 +41,19 @@ pub fn torn_if_unsynced()
 /// An output that is cut off after it was waited for may be torn.
 pub fn torn_if_cut_last()
     ensures { TornIfCutLast }
+{}
+
+/// If one of two runs has locked a file, the other changes nothing of it.
+pub fn second_run_changes_nothing()
+    ensures { SecondRunIsHarmless }
+{}
+
+/// A run that locks a file after it wrote to it doesn't lock it first.
+pub fn changed_if_locked_late()
+    ensures { ChangedIfLockedLate }
+{}
+
+/// An output changes no other file.
+pub fn others_are_kept()
+    ensures { OthersAreKept }
 {}

@@ -26,8 +26,9 @@ pub use host::{
 };
 pub use in_place::{Ended, Opening, Out};
 pub use laws::{
-    lost_if_names_unwaited, outs_are_answered, torn_if_cut_last, torn_if_renamed_first,
-    torn_if_unsynced, torn_if_unwaited, waits_are_answered,
+    changed_if_locked_late, lost_if_names_unwaited, others_are_kept, outs_are_answered,
+    second_run_changes_nothing, torn_if_cut_last, torn_if_renamed_first, torn_if_unsynced,
+    torn_if_unwaited, waits_are_answered,
 };
 pub use machine::{Machine, Shape, Sight};
 pub use node::{Node, found_at, is_at};

@@ -3,7 +3,7 @@
 ghost use Rattle.std.specs.Prelude.{◌≡◌, ◌≤◌, ◌<◌, ℕ, List, ◌∷◌, take, length, true, false, IfOk};
 ghost use Rattle.std.specs.Prelude.{OnOk, OnErr, MatchOption};
 ghost use Rattle.age_machine.specs.Calls.{FileCall, Made, Opened, Wrote, Cut, Broke, Measured, Synced};
-ghost use Rattle.age_machine.specs.Calls.{Unwaited, Missing, Linked, Renamed, Removed};
+ghost use Rattle.age_machine.specs.Calls.{Unwaited, Locked, Unlockable, Missing, Linked, Renamed, Removed};
 ghost use Rattle.age_machine.specs.Calls.{SyncedNames, UnwaitedNames, MayHave, Waited};
 
 use std::io;
@@ -79,6 +79,15 @@ pub trait Machine {
     /// Fails if a file doesn't look as it is to.
     fn check(&mut self, file: &Self::File, shape: &Shape) -> io::Result<()>
         ensures same { calls self.new ≡ calls self.old }
+        ensures counted { OnOk result (failed self.new ≡ failed self.old) }
+        ensures failing { OnErr result (failed self.old < failed self.new) };
+
+    /// Takes a file for this run alone, until it is ended, if the system has locks. Fails if another
+    /// run has it.
+    fn lock(&mut self, file: &Self::File) -> io::Result<()>
+        ensures ok { OnOk result (Waited (Locked (number file.now)) (Unlockable (number file.now))
+            (calls self.old) (calls self.new)) }
+        ensures err { OnErr result (calls self.new ≡ calls self.old) }
         ensures counted { OnOk result (failed self.new ≡ failed self.old) }
         ensures failing { OnErr result (failed self.old < failed self.new) };
 

@@ -20,6 +20,8 @@ pub(crate) enum Word<'a> {
     Measured(Node, u64),
     Synced(Node),
     Unwaited(Node),
+    Locked(Node),
+    Unlockable(Node),
     Missing(&'a str),
     Linked(&'a str, &'a str),
     Renamed(&'a str, &'a str),

@@ -3,7 +3,8 @@ use Rattle.std.specs.Prelude.{◌≡◌, ◌⊎◌, ℕ, List, refl}
 use Rattle.std.specs.Coded.{Coded, coded_ℕ, coded_list, coded⊎, coded×, code_by}
 use mathlib.Core.Logic.{inl, inr}
 use Rattle.age_machine.specs.Calls.{FileCall, Made, Opened, Wrote, Cut, Broke, Measured, Synced, Unwaited}
-use Rattle.age_machine.specs.Calls.{Missing, Linked, Renamed, Removed, SyncedNames, UnwaitedNames}
+use Rattle.age_machine.specs.Calls.{Locked, Unlockable, Missing, Linked, Renamed, Removed}
+use Rattle.age_machine.specs.Calls.{SyncedNames, UnwaitedNames}
 use Rattle.age_machine.specs.Numbers.{number_of}
 use Rattle.age_machine.specs.declared.notes.Word.{Word}
 use Rattle.age_machine.specs.declared.notes.Word.TheVariants as word
@@ -18,6 +19,8 @@ file_call_of (word.Broke node) = Broke (number_of node)
 file_call_of (word.Measured node len) = Measured (number_of node) len
 file_call_of (word.Synced node) = Synced (number_of node)
 file_call_of (word.Unwaited node) = Unwaited (number_of node)
+file_call_of (word.Locked node) = Locked (number_of node)
+file_call_of (word.Unlockable node) = Unlockable (number_of node)
 file_call_of (word.Missing path) = Missing path.now
 file_call_of (word.Linked from to) = Linked from.now to.now
 file_call_of (word.Renamed from to) = Renamed from.now to.now
@@ -30,7 +33,7 @@ abbrev Text : Type 0
 Text = List ℕ
 
 abbrev FileParts : Type 0
-FileParts = (Text × ℕ) ⊎ ((ℕ × (ℕ × Text)) ⊎ ((ℕ × ℕ) ⊎ (ℕ ⊎ ((ℕ × ℕ) ⊎ (ℕ ⊎ ℕ)))))
+FileParts = (Text × ℕ) ⊎ ((ℕ × (ℕ × Text)) ⊎ ((ℕ × ℕ) ⊎ (ℕ ⊎ ((ℕ × ℕ) ⊎ (ℕ ⊎ (ℕ ⊎ (ℕ ⊎ ℕ)))))))
 
 abbrev NameParts : Type 0
 NameParts = Text ⊎ ((Text × Text) ⊎ ((Text × Text) ⊎ (Text ⊎ (Text ⊎ (Text ⊎ (Text × ℕ))))))
@@ -42,7 +45,9 @@ parts_of (Cut n len) = inl (inr (inr (inl (n, len))))
 parts_of (Broke n) = inl (inr (inr (inr (inl n))))
 parts_of (Measured n len) = inl (inr (inr (inr (inr (inl (n, len))))))
 parts_of (Synced n) = inl (inr (inr (inr (inr (inr (inl n))))))
-parts_of (Unwaited n) = inl (inr (inr (inr (inr (inr (inr n))))))
+parts_of (Unwaited n) = inl (inr (inr (inr (inr (inr (inr (inl n)))))))
+parts_of (Locked n) = inl (inr (inr (inr (inr (inr (inr (inr (inl n))))))))
+parts_of (Unlockable n) = inl (inr (inr (inr (inr (inr (inr (inr (inr n))))))))
 parts_of (Missing path) = inr (inl path)
 parts_of (Linked from to) = inr (inr (inl (from, to)))
 parts_of (Renamed from to) = inr (inr (inr (inl (from, to))))
@@ -58,7 +63,9 @@ from_parts (inl (inr (inr (inl cut)))) = Cut cut.0 cut.1
 from_parts (inl (inr (inr (inr (inl n))))) = Broke n
 from_parts (inl (inr (inr (inr (inr (inl measured)))))) = Measured measured.0 measured.1
 from_parts (inl (inr (inr (inr (inr (inr (inl n))))))) = Synced n
-from_parts (inl (inr (inr (inr (inr (inr (inr n))))))) = Unwaited n
+from_parts (inl (inr (inr (inr (inr (inr (inr (inl n)))))))) = Unwaited n
+from_parts (inl (inr (inr (inr (inr (inr (inr (inr (inl n))))))))) = Locked n
+from_parts (inl (inr (inr (inr (inr (inr (inr (inr (inr n))))))))) = Unlockable n
 from_parts (inr (inl path)) = Missing path
 from_parts (inr (inr (inl linked))) = Linked linked.0 linked.1
 from_parts (inr (inr (inr (inl renamed)))) = Renamed renamed.0 renamed.1
@@ -75,6 +82,8 @@ from_parts-parts_of (Broke n) = refl
 from_parts-parts_of (Measured n len) = refl
 from_parts-parts_of (Synced n) = refl
 from_parts-parts_of (Unwaited n) = refl
+from_parts-parts_of (Locked n) = refl
+from_parts-parts_of (Unlockable n) = refl
 from_parts-parts_of (Missing path) = refl
 from_parts-parts_of (Linked from to) = refl
 from_parts-parts_of (Renamed from to) = refl
@@ -90,7 +99,7 @@ abbrev pub coded_call : Coded FileCall
 coded_call = code_by (FileParts ⊎ NameParts)
     (coded⊎ (coded⊎ (coded× coded_text coded_ℕ) (coded⊎ (coded× coded_ℕ (coded× coded_ℕ coded_text))
     (coded⊎ (coded× coded_ℕ coded_ℕ) (coded⊎ coded_ℕ (coded⊎ (coded× coded_ℕ coded_ℕ)
-    (coded⊎ coded_ℕ coded_ℕ))))))
+    (coded⊎ coded_ℕ (coded⊎ coded_ℕ (coded⊎ coded_ℕ coded_ℕ))))))))
     (coded⊎ coded_text (coded⊎ (coded× coded_text coded_text)
     (coded⊎ (coded× coded_text coded_text) (coded⊎ coded_text (coded⊎ coded_text (coded⊎ coded_text
     (coded× coded_text coded_ℕ))))))))

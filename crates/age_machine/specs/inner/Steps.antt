@@ -6,7 +6,7 @@ use Rattle.age_machine.specs.Calls.{FileCall, Removed, SyncedNames, UnwaitedName
 use Rattle.age_machine.specs.Disk.{Disk, after_calls}
 use Rattle.age_machine.specs.Saves.{AllAnswered, SavesWhole, SparesFile}
 use Rattle.age_machine.specs.Beside.{HasBeside}
-use Rattle.age_machine.specs.Outs.{AllOn}
+use Rattle.age_machine.specs.Outs.{AllOn, IsClaimed, LocksFirst}
 use Rattle.age_machine.specs.declared.replacing.Spot.{Spot}
 use Rattle.age_machine.specs.declared.replacing.Spot.TheVariants as spot
 
@@ -50,9 +50,14 @@ pub record Fills (n : ℕ) (bytes : List ℕ) (old new : List FileCall) : Type 0
 
 -- ---- A file that is written in place.
 
--- all calls stay about one path and one file
-abbrev pub StaysOn : List ℕ → ℕ → List FileCall → List FileCall → Type 0
-StaysOn path n old new = AllOn path n old → AllOn path n new
+-- all calls are about one path and one file, which was claimed before it was changed
+pub record IsHeld (path : List ℕ) (n : ℕ) (calls : List FileCall) : Type 0 where
+  pub on : AllOn path n calls
+  pub claimed : IsClaimed n calls
+  pub locked : LocksFirst n calls
+
+abbrev pub StaysHeld : List ℕ → ℕ → List FileCall → List FileCall → Type 0
+StaysHeld path n old new = IsHeld path n old → IsHeld path n new
 
 -- what is at a path is removed, and its name waited for, or not
 pub record RemovesAt (path : List ℕ) (old new : List FileCall) : Type 0 where

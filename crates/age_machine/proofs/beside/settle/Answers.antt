@@ -3,12 +3,10 @@ use Rattle.age_machine.proofs.FillLemmas.{about_none, about_more, about_waited, 
 use Rattle.age_machine.proofs.beside.settle.Goals as goal
 
 pub returns-in_err-sync-in-Synced-clause-about : goal.returns-in_err-sync-in-Synced-clause-about
-returns-in_err-sync-in-Synced-clause-about g c =
-    about_more _ _ _ _ _ (about_none _ _) c.in_err-sync-in-Synced.ensures.err refl
+returns-in_err-sync-in-Synced-clause-about g c = about_more _ _ _ _ _ (about_none _ _) c.in_err-sync-in-Synced.ensures.err refl
 
 pub returns-in_ok-sync-in-Synced-clause-about : goal.returns-in_ok-sync-in-Synced-clause-about
 returns-in_ok-sync-in-Synced-clause-about g c = about_waited _ _ _ c.in_ok-sync-in-Synced.ensures.ok
 
 pub returns-in_ok-sync-in-Synced-clause-sound : goal.returns-in_ok-sync-in-Synced-clause-sound
-returns-in_ok-sync-in-Synced-clause-sound g c =
-    sound_waited _ _ _ c.in_ok-sync-in-Synced.ensures.ok
+returns-in_ok-sync-in-Synced-clause-sound g c = sound_waited _ _ _ c.in_ok-sync-in-Synced.ensures.ok

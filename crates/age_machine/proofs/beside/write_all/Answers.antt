@@ -7,15 +7,13 @@ use Rattle.age_machine.proofs.FillLemmas.{about_none, about_more, writes_none, w
 use Rattle.age_machine.proofs.beside.write_all.Goals as goal
 
 pub returns-in_err-n-clause-about : goal.returns-in_err-n-clause-about
-returns-in_err-n-clause-about g c =
-    about_more _ _ _ _ _ c.parts.invariant.about c.in_err-n.ensures.err refl
+returns-in_err-n-clause-about g c = about_more _ _ _ _ _ c.parts.invariant.about c.in_err-n.ensures.err refl
 
 pub returns-clause-written : goal.returns-clause-written
 returns-clause-written g c =
     let all : c.parts.at ≡ length c.args.bytes.now = omega arith in
     subst (λ (k : ℕ). WritesOver (g.M.Machine.number c.args.file.now) k c.args.bytes.now
-    (g.M.Machine.calls c.args.machine.now) (g.M.Machine.calls c.parts.machine)) all
-    c.parts.invariant.written
+    (g.M.Machine.calls c.args.machine.now) (g.M.Machine.calls c.parts.machine)) all c.parts.invariant.written
 
 pub parts-preserved : goal.parts-preserved
 parts-preserved g c =

@@ -23,47 +23,34 @@ returns-in-Ok-clause-touches g c =
     sound c.fill.ensures.about c.in-Ok.ensures.filled)).has.touches
 
 pub returns-then-not-is_at-clause-whole : goal.returns-then-not-is_at-clause-whole
-returns-then-not-is_at-clause-whole g c =
-    λ synced old beside sound. saves_then _ _ old _ _ (beside.saves _)
-    (c.replace_by_new.ensures.whole synced)
+returns-then-not-is_at-clause-whole g c = λ synced old beside sound. saves_then _ _ old _ _ (beside.saves _) (c.replace_by_new.ensures.whole synced)
 
 pub returns-then-not-is_at-clause-safe : goal.returns-then-not-is_at-clause-safe
-returns-then-not-is_at-clause-safe g c =
-    λ synced old beside sound. c.replace_by_new.ensures.safe synced
+returns-then-not-is_at-clause-safe g c = λ synced old beside sound. c.replace_by_new.ensures.safe synced
 
 pub returns-then-not-is_at-clause-spares : goal.returns-then-not-is_at-clause-spares
-returns-then-not-is_at-clause-spares g c =
-    λ free old beside sound. spares_then _ old _ _ beside.spares
-    (c.replace_by_new.ensures.spares free)
+returns-then-not-is_at-clause-spares g c = λ free old beside sound. spares_then _ old _ _ beside.spares (c.replace_by_new.ensures.spares free)
 
 pub returns-then-not-is_at-clause-touches : goal.returns-then-not-is_at-clause-touches
-returns-then-not-is_at-clause-touches g c =
-    λ old beside sound. touches_then _ old _ _ beside.has.touches c.replace_by_new.ensures.touches
+returns-then-not-is_at-clause-touches g c = λ old beside sound. touches_then _ old _ _ beside.has.touches c.replace_by_new.ensures.touches
 
 pub returns-in-Err-clause-whole : goal.returns-in-Err-clause-whole
 returns-in-Err-clause-whole g c =
-    λ synced old beside sound. saves_then _ _ old _ _
-    ((tried_taken_back c.args.to c.args.durability _ _ _ _ c.args.bytes.now old _ _
+    λ synced old beside sound. saves_then _ _ old _ _ ((tried_taken_back c.args.to c.args.durability _ _ _ _ c.args.bytes.now old _ _
     c.as_str-beside.ensures.value beside.apart (tried_beside _ _ _ _ old _ _ _
-    (beside_about _ _ _ old _ _ beside c.fill.ensures.about)) c.remove.ensures.calls).saves synced)
-    (c.replace_by_new-in-Err.ensures.whole synced)
+    (beside_about _ _ _ old _ _ beside c.fill.ensures.about)) c.remove.ensures.calls).saves synced) (c.replace_by_new-in-Err.ensures.whole synced)
 
 pub returns-in-Err-clause-safe : goal.returns-in-Err-clause-safe
-returns-in-Err-clause-safe g c =
-    λ synced old beside sound. c.replace_by_new-in-Err.ensures.safe synced
+returns-in-Err-clause-safe g c = λ synced old beside sound. c.replace_by_new-in-Err.ensures.safe synced
 
 pub returns-in-Err-clause-spares : goal.returns-in-Err-clause-spares
 returns-in-Err-clause-spares g c =
-    λ free old beside sound. spares_then _ old _ _
-    ((tried_taken_back c.args.to c.args.durability _ _ _ _ c.args.bytes.now old _ _
+    λ free old beside sound. spares_then _ old _ _ ((tried_taken_back c.args.to c.args.durability _ _ _ _ c.args.bytes.now old _ _
     c.as_str-beside.ensures.value beside.apart (tried_beside _ _ _ _ old _ _ _
-    (beside_about _ _ _ old _ _ beside c.fill.ensures.about)) c.remove.ensures.calls).spares free)
-    (c.replace_by_new-in-Err.ensures.spares free)
+    (beside_about _ _ _ old _ _ beside c.fill.ensures.about)) c.remove.ensures.calls).spares free) (c.replace_by_new-in-Err.ensures.spares free)
 
 pub returns-in-Err-clause-touches : goal.returns-in-Err-clause-touches
 returns-in-Err-clause-touches g c =
-    λ old beside sound. touches_then _ old _ _
-    (tried_taken_back c.args.to c.args.durability _ _ _ _ c.args.bytes.now old _ _
+    λ old beside sound. touches_then _ old _ _ (tried_taken_back c.args.to c.args.durability _ _ _ _ c.args.bytes.now old _ _
     c.as_str-beside.ensures.value beside.apart (tried_beside _ _ _ _ old _ _ _
-    (beside_about _ _ _ old _ _ beside c.fill.ensures.about)) c.remove.ensures.calls).has.touches
-    c.replace_by_new-in-Err.ensures.touches
+    (beside_about _ _ _ old _ _ beside c.fill.ensures.about)) c.remove.ensures.calls).has.touches c.replace_by_new-in-Err.ensures.touches

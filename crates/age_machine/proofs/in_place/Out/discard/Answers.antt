@@ -10,7 +10,5 @@ returns-clause-kept g c =
     let new = g.M.Machine.calls c.take_back.new.machine in
     let old = g.M.Machine.calls c.self.inside.machine in
     subst (λ (v : OutView). v.failed ≡ 0 → text_of v.calls ≡ [] → SavesWhole v.file.path [] [] new)
-    c.self.view_is (λ sound none. saves_discarded _ _ _ c.self.inside.opening.is_waited old new
-    (c.self.invariant.fresh sound none)
-    (subst (λ (p : List ℕ). RemovesAt p old new) c.as_str.ensures.value c.take_back.ensures.removed)
-    c.take_back.ensures.there)
+    c.self.view_is (λ sound none. saves_discarded _ _ _ c.self.inside.opening.is_waited old new (c.self.invariant.fresh sound none)
+    (subst (λ (p : List ℕ). RemovesAt p old new) c.as_str.ensures.value c.take_back.ensures.removed) c.take_back.ensures.there)

@@ -23,16 +23,12 @@ stayed = (stay_ref (0 ∷ []) tt (plain (λ _. R)), tt)
 pub raise_spec : {M : Type 1} → statement M
 raise_spec 𝓤 𝓛 𝓜 𝓡 wired =
     let c = f.clauses 𝓛 𝓜.mem 𝓡.returns in
-    proved 𝓛 f.ended stayed c 𝓜 𝓡 (Goes-ref 𝓛 1 0 tt (plain (λ _. R)), tt)
-    f.Key.name code.function (code.unfolded 𝓤 𝓛.H 𝓜 𝓡 wired)
+    proved 𝓛 f.ended stayed c 𝓜 𝓡 (Goes-ref 𝓛 1 0 tt (plain (λ _. R)), tt) f.Key.name code.function (code.unfolded 𝓤 𝓛.H 𝓜 𝓡 wired)
     (λ κs. (mut_vals, tt)) (λ κs. (mut_Tells (named 0) κs.0 R, tt)) (λ κs qs bounds a _ are.
     let b = a.0.ref_ptr.0 in let o = a.0.ref_ptr.1 in let vs = mut_vals a.0 in
     let next = record a.0.now { number = a.0.now.number + 1 } in
-    qed 𝓛
-    (((‵ (flft κs.0 qs.0) ⊛ ‵ ftrue) ⊛ ‵ ((MutRef (named 0) κs.0 R).own_val a.0 vs) ⊛ ‵ ftrue)
-    ∷ ‵ ftrue ∷ []) ∵
-    split ! $ split ! $ move ! (2 ∷ []) $ split ! $ keep ! (0 ∷ 2 ∷ []) $
-    enter ! _ _ _ _ _ $ alloc_all ! (λ l. pass_all ! refl ((tt, tt), tt) $
+    qed 𝓛 (((‵ (flft κs.0 qs.0) ⊛ ‵ ftrue) ⊛ ‵ ((MutRef (named 0) κs.0 R).own_val a.0 vs) ⊛ ‵ ftrue) ∷ ‵ ftrue ∷ []) ∵
+    split ! $ split ! $ move ! (2 ∷ []) $ split ! $ keep ! (0 ∷ 2 ∷ []) $ enter ! _ _ _ _ _ $ alloc_all ! (λ l. pass_all ! refl ((tt, tt), tt) $
     fsplit3 ! $ move ! (1 ∷ 2 ∷ 3 ∷ []) $ opens ! tt R b o (λ us.
     -- [the cell; what the count owns; the open borrow, in three entries]
     move ! (1 ∷ []) $ use1 𝓛 (‵ (R.own_val next us)) (id⊢ 𝓤 _) $ move ! (1 ∷ []) $ closes ! tt R

@@ -1,0 +1,5 @@
+use Rattle.age_machine.proofs.LockLemmas.{second_unchanged}
+use Rattle.age_machine.proofs.laws.second_run_changes_nothing.Goals as goal
+
+pub returns : goal.returns
+returns c = second_unchanged

@@ -1,0 +1,55 @@
+-- What was done to an output that was ended.
+use Rattle.std.specs.Prelude.{◌≡◌, ◌<◌, ℕ, List, [], Bool, true, false, Option, IfSome, Result, OnOk, OnErr}
+use Rattle.age_io.specs.Io.{SinkView}
+use Rattle.age_io.specs.declared.durability.Durability.{Durability}
+use Rattle.age_io.specs.declared.durability.Durability.TheVariants.{Synced}
+use Rattle.age_machine.specs.Calls.{FileCall}
+use Rattle.age_machine.specs.Outs.{OutFile, AllOn, LocksFirst, has_changed}
+use Rattle.age_machine.specs.Saves.{IsSafe, SavesWhole}
+
+-- an output that was ended
+pub record EndedFile : Type 0 where
+  -- the bytes that its sink had taken
+  pub took : List ℕ
+  -- it was closed with them, and not discarded
+  pub is_closed : Bool
+  -- which regular file of a disk it is, if it is one
+  pub file : Option OutFile
+  -- the calls that were made for that, the newest first, and how many have failed
+  pub calls : List FileCall
+  pub failed : ℕ
+
+-- nothing but its path and its file was touched, and that file only after this run had locked it, if
+-- the system has locks
+abbrev pub TouchesItself : EndedFile → Type 0
+TouchesItself e = IfSome e.file (λ f. AllOn f.path f.number e.calls × LocksFirst f.number e.calls)
+
+-- a power cut leaves at its path exactly what its sink took, if its name is waited for
+abbrev pub IsOnDisk : EndedFile → Type 0
+IsOnDisk e = IfSome e.file (λ f. f.is_waited ≡ true → IsSafe f.path e.took e.calls)
+
+-- No call has changed what it held, if it was there. If no put has failed, a power cut leaves at its
+-- path what it might have left before, or the empty file that was made.
+abbrev pub IsUntouched : (failed : ℕ) → EndedFile → Type 0
+IsUntouched failed e = IfSome e.file (λ f. (f.is_made ≡ false → has_changed e.calls ≡ false)
+    × (failed ≡ 0 → SavesWhole f.path [] [] e.calls))
+
+-- an output was closed, which is this file and whose sink is this
+pub record Closes {E : Type 0} (durability : Durability) (file : Option OutFile) (sink : SinkView)
+    (result : Result (Unit {0}) E) (e : EndedFile) : Type 0 where
+  pub took : e.took ≡ sink.taken.bytes
+  pub closed : e.is_closed ≡ true
+  pub same : e.file ≡ file
+  pub within : TouchesItself e
+  -- It is on the disk, if that was waited for, and neither a put nor the end has failed.
+  pub safe : durability ≡ Synced → sink.failed ≡ 0 → OnOk result (IsOnDisk e)
+  -- If the end of a regular file has failed, so has a call.
+  pub caused : OnErr result (IfSome file (λ f. 0 < e.failed))
+
+-- it was discarded, and is untouched if its sink took nothing
+pub record Discards (file : Option OutFile) (sink : SinkView) (e : EndedFile) : Type 0 where
+  pub took : e.took ≡ sink.taken.bytes
+  pub closed : e.is_closed ≡ false
+  pub same : e.file ≡ file
+  pub within : TouchesItself e
+  pub untouched : sink.taken.bytes ≡ [] → IsUntouched sink.failed e

@@ -1,0 +1,28 @@
+-- What was done for a position that was saved.
+use Rattle.std.specs.Prelude.{◌≡◌, List, [], ℕ, Option, IfSome, Result, OnOk}
+use Rattle.age_io.specs.declared.durability.Durability.{Durability}
+use Rattle.age_io.specs.declared.durability.Durability.TheVariants.{Synced}
+use Rattle.age_machine.specs.Calls.{FileCall}
+use Rattle.age_machine.specs.Saves.{IsSafe, SavesWhole, Touches}
+
+-- a file that was replaced
+pub record SavedFile : Type 0 where
+  -- the path to which a new file was put, if one was made beside it
+  pub path : Option (List ℕ)
+  -- the calls that were made for it, the newest first
+  pub calls : List FileCall
+
+-- these bytes were put to that path at once
+pub record PutsAtOnce {E : Type 0} (bytes : List ℕ) (durability : Durability)
+    (result : Result (Unit {0}) E) (calls : List FileCall) (path : List ℕ) : Type 0 where
+  -- Whenever the power is cut, what is there is what there might have been before, or these bytes.
+  pub whole : durability ≡ Synced → SavesWhole path bytes [] calls
+  -- After success it is these bytes.
+  pub safe : durability ≡ Synced → OnOk result (IsSafe path bytes calls)
+  -- Only the path and new files beside it are touched.
+  pub touches : Touches path [] calls
+
+-- they were, unless they were written directly
+abbrev pub Saves : {E : Type 0} → List ℕ → Durability → Result (Unit {0}) E → SavedFile → Type 0
+Saves bytes durability result saved =
+    IfSome saved.path (PutsAtOnce bytes durability result saved.calls)
