@@ -33,10 +33,10 @@ some_carries : (P Q : Position → Type 0) (o : Option Position) → IsSomeAnd o
 some_carries P Q None h f = absurd h
 some_carries P Q (Some p) h f = f p h
 
-none_carries : (Q : Position → Type 0) (o : Option Position) → o ≡ None → IfSome o Q
+pub none_carries : (Q : Position → Type 0) (o : Option Position) → o ≡ None → IfSome o Q
 none_carries Q o e = subst (λ (x : Option Position). IfSome x Q) (sym e) tt
 
-given_carries : (keep : PositionPolicy) (P Q : Position → Type 0) (o : Option Position)
+pub given_carries : (keep : PositionPolicy) (P Q : Position → Type 0) (o : Option Position)
     → GivesPosition keep P o → ((p : Position) → P p → Q p) → IfSome o Q
 given_carries Kept P Q o h f = some_carries P Q o h f
 given_carries Dropped P Q o h f = none_carries Q o h

@@ -1,29 +1,33 @@
--- A payload that opens to its end is the payload of the text that it gives.
-use Rattle.std.proofs.Common.{◌≡◌, ◌⊎◌, ℕ, zero, suc, ◌<◌, ◌≤◌, ◌+◌, ◌*◌, ◌-◌, ◌/◌, List, [], ◌∷◌, ◌++◌, length, take, drop, refl, sym, ap, ◌∙◌, append-nil}
+-- The rest of a payload that opens to its end is the rest of the payload of its text, after any chunks before it.
+use Rattle.std.proofs.Common.{◌≡◌, ◌⊎◌, ℕ, zero, suc, ◌<◌, ◌≤◌, ◌+◌, ◌*◌, ◌-◌, ◌/◌, List, [], ◌∷◌, ◌++◌, length, take, drop, refl, sym, ap, ◌∙◌, append-nil, append_assoc}
 use Rattle.std.proofs.Common.{Bool, true, false, inl, inr, arith, take-append-drop}
-use Rattle.std.specs.Prelude.{Option, Some, None, cond, nat_lt, ◌==◌, is_none, not, ◌&&◌, ◌||◌, map}
-use Rattle.std.specs.List.{flat_map, enumerate_from, AllByRecursion}
+use Rattle.std.specs.Prelude.{Option, Some, None, cond, nat_lt, ◌==◌, is_none, not, ◌&&◌, ◌||◌, map, slice_get}
+use Rattle.std.specs.List.{flat_map, enumerate_from}
 use Rattle.std.specs.Simd.{first_chunks}
 use Rattle.std.proofs.lemmas.Grind.{flat_map-append}
-use Rattle.std.proofs.lemmas.List.{length-append, length-drop, length-take, take_all, drop_at}
-use Rattle.std.proofs.lemmas.Bool.{cases_lt, lt-ltb, eq-eqb, eqb-true}
+use Rattle.std.proofs.lemmas.List.{length-append, length-drop, length-take, length-take-le, take_all, take_at, drop_at, append_cancel_right}
+use Rattle.std.proofs.lemmas.Bool.{cases_lt, lt-ltb, ltb-true, eq-eqb, eqb-true}
 use Rattle.std.proofs.lemmas.Nat.{div-mul-add}
-use Rattle.std.proofs.Math.Nat.{le-div_iff_mul-le}
 use Rattle.std.proofs.Math.Seq.{take-add}
 use Rattle.age_chunk.specs.ChunkBoxes.{IsChunkBox, tag_length}
-use Rattle.age_chunk.specs.Payload.{nonce_bytes, chunk_limit, last_index, last_chunk, pair, sealed_before_last, block_bytes, payload}
+use Rattle.age_chunk.specs.Payload.{nonce_bytes, chunk_limit, last_index, last_chunk, chunk_count, pair, sealed_before_last, block_bytes, payload}
 use Rattle.age_chunk.specs.declared.fault.StreamKind.TheVariants.{ChunkDamaged, ChunkCut, EmptyLast, Truncated, Trailing, TooManyChunks}
 use Rattle.age_chunk.proofs.NonceLemmas.{nonce_bytes-length}
-use Rattle.age_chunk.proofs.FirstChunkLemmas.{length-first_chunks}
-use Rattle.age_stream.specs.Segment.{Segment, Outcome, Frontier, outcome, released, front_texts, text_then, text_before_last, unless_greatest, whole_blocks}
+use Rattle.age_chunk.proofs.FirstChunkLemmas.{length-first_chunks, first_chunks-append}
+use Rattle.age_stream.specs.Segment.{Segment, Outcome, Frontier, outcome, released, front_texts, text_then, text_before_last, unless_greatest, whole_blocks, rest_bytes}
 use Rattle.age_stream.specs.Segment.{stop, verdict, stays, releases_last, failed, is_waiting, is_missing, is_cut, is_empty_last, is_too_many, is_damaged}
 use Rattle.age_stream.specs.declared.step.Status.TheVariants.{Open, LastSeen, Done}
-use Rattle.age_stream.proofs.UndamagedLemmas.{all_full}
-use Rattle.age_stream.proofs.CountingLemmas.{first_chunks-full, flat_full}
+use Rattle.age_stream.specs.Headline.{IsRest, IsPrefixOf}
+use Rattle.age_stream.specs.Laws.{IsCounted, counted_chunks}
+use Rattle.age_stream.proofs.UndamagedLemmas.{rest_payload as from_chunk}
+use Rattle.age_stream.proofs.GoingLemmas.{first_chunks-add}
+use Rattle.age_stream.proofs.GrowingLemmas.{begins_stop, index_stop}
+use Rattle.age_stream.proofs.LawLemmas.{chunks_are_counted}
+use Rattle.age_stream.proofs.TableLemmas.{by_blocks, length-front_texts}
 
--- a payload from its first block to its end
-abbrev pub whole_payload : List ℕ → Segment
-whole_payload bytes = record { start = 0; bytes = bytes; ended = true; late = false }
+-- what came of a payload from this block on, and whether that is all
+abbrev pub part : ℕ → List ℕ → Bool → Segment
+part k bytes ended = record { start = k; bytes = bytes; ended = ended; late = false }
 
 -- ---- tests
 
@@ -100,30 +104,6 @@ module _ (sealing : List ℕ → List ℕ → List ℕ) (opening : List ℕ → 
       sealed_then i b bs (front_texts opening (i + 1) bs) (text_before_last opening i b)
       (λ t e. valid.only (nonce_bytes i false) t b (nonce_bytes-length i false) (before i (opening (nonce_bytes i false) b) t e)) (fronts (i + 1) bs)
 
-  few_then : (b : List ℕ) (bs ts : List (List ℕ)) (o : Option (List ℕ)) → length ts ≤ length bs → length (text_then opening o ts) ≤ length (b ∷ bs)
-  few_then b bs ts None h = omega arith
-  few_then b bs ts (Some t) h = omega (arith, h)
-
-  few_texts : (i : ℕ) (blocks : List (List ℕ)) → length (front_texts opening i blocks) ≤ length blocks
-  few_texts i [] = omega arith
-  few_texts i (b ∷ bs) = few_then b bs (front_texts opening (i + 1) bs) (text_before_last opening i b) (few_texts (i + 1) bs)
-
-  opened_len : (nonce block text : List ℕ) → length nonce ≡ 12 → length block ≡ n + tag_length → opening nonce block ≡ Some text → length text ≡ n
-  opened_len nonce block text h len e = omega (arith, valid.longer nonce text h, ap length (valid.only nonce text block h e), len)
-
-  full_then : (o : Option (List ℕ)) (rest : List (List ℕ)) → ((t : List ℕ) → o ≡ Some t → length t ≡ n)
-      → AllByRecursion (λ (t : List ℕ). length t ≡ n) rest → AllByRecursion (λ (t : List ℕ). length t ≡ n) (text_then opening o rest)
-  full_then None rest f h = tt
-  full_then (Some t) rest f h = (f t refl, h)
-
-  front_full : (blocks : List (List ℕ)) (i : ℕ) → AllByRecursion (λ (b : List ℕ). length b ≡ n + tag_length) blocks
-      → AllByRecursion (λ (t : List ℕ). length t ≡ n) (front_texts opening i blocks)
-  front_full [] i h = tt
-  front_full (b ∷ bs) i h =
-      full_then (text_before_last opening i b) (front_texts opening (i + 1) bs)
-      (λ t e. opened_len (nonce_bytes i false) b t (nonce_bytes-length i false) h.0
-      (before i (opening (nonce_bytes i false) b) t e)) (front_full bs (i + 1) h.1)
-
   -- ---- the last block
 
   record Ends (b : Frontier) : Type 0 where
@@ -171,95 +151,232 @@ module _ (sealing : List ℕ → List ℕ → List ℕ) (opening : List ℕ → 
         alone = a6.0;
       }
 
+  seals-append : (i : ℕ) (xs ys : List (List ℕ)) → seals i (xs ++ ys) ≡ seals i xs ++ seals (i + length xs) ys
+  seals-append i [] ys = let e : i ≡ i + 0 = omega arith in ap (λ (k : ℕ). seals k ys) e
+  seals-append i (x ∷ xs) ys =
+      let e : i + 1 + length xs ≡ i + suc (length xs) = omega arith in
+      let b = sealing (nonce_bytes i false) x in
+      ap (λ (t : List ℕ). b ++ t) (seals-append (i + 1) xs ys ∙ ap (λ (k : ℕ). seals (i + 1) xs ++ seals k ys) e)
+      ∙ sym (append_assoc b (seals (i + 1) xs) (seals (i + suc (length xs)) ys))
+
   -- ---- the payload
 
-  module _ (positive : 0 < n) (bytes : List ℕ) where
+  -- no more blocks are in front than have a number
+  few_test : (i : ℕ) (t : List ℕ) (c : Bool) (ts : List (List ℕ)) → i < chunk_limit → nat_lt (i + 1) chunk_limit ≡ c
+      → (i + 1 < chunk_limit → i + 1 + length ts < chunk_limit) → i + length (text_then opening (cond c (Some t) None) ts) < chunk_limit
+  few_test i t false ts h e rest = omega (arith, h)
+  few_test i t true ts h e rest = omega (arith, rest (ltb-true (i + 1) chunk_limit e))
+
+  few_then : (i : ℕ) (o : Option (List ℕ)) (ts : List (List ℕ)) → i < chunk_limit
+      → (i + 1 < chunk_limit → i + 1 + length ts < chunk_limit) → i + length (text_then opening (unless_greatest i o) ts) < chunk_limit
+  few_then i None ts h rest = omega (arith, h)
+  few_then i (Some t) ts h rest = few_test i t (nat_lt (i + 1) chunk_limit) ts h refl rest
+
+  few_front : (blocks : List (List ℕ)) (i : ℕ) → i < chunk_limit → i + length (front_texts opening i blocks) < chunk_limit
+  few_front [] i h = omega (arith, h)
+  few_front (b ∷ bs) i h = few_then i (opening (nonce_bytes i false) b) (front_texts opening (i + 1) bs) h (few_front bs (i + 1))
+
+  module _ (k : ℕ) (bytes : List ℕ) (ended : Bool) where
+    abbrev opened : List (List ℕ)
+    opened = front_texts opening k (whole_blocks n bytes)
+
+    abbrev m : ℕ
+    m = length opened
+
+    abbrev index : ℕ
+    index = (outcome opening n (part k bytes ended)).index
+
+    abbrev behind : Bool
+    behind = nat_lt ((m + 1) * (n + tag_length)) (length bytes)
+
+    -- it stands at the block after those in front, whose texts are the chunks that it counts
+    stands_at : index ≡ k + m
+    stands_at =
+        ap (λ (o : Outcome). o.index) (by_blocks opening n (part k bytes ended))
+        ∙ index_stop opening n opened (k + m) (slice_get (whole_blocks n bytes) m) behind (rest_bytes n bytes) false ended
+
+    counted_are : counted_chunks opening n (part k bytes ended) ≡ opened
+    counted_are =
+        let more = begins_stop opening n opened (k + m) (slice_get (whole_blocks n bytes) m) behind (rest_bytes n bytes) false ended in
+        ap (take (index - k)) (ap (λ (o : Outcome). o.texts) (by_blocks opening n (part k bytes ended)) ∙ more.1)
+        ∙ take_at opened more.0 (index - k) (omega (arith, stands_at))
+
+    front_is : seals k opened ≡ take (m * (n + tag_length)) bytes
+    front_is =
+        let z = n + tag_length in
+        let within : m ≤ length bytes / z =
+        omega (arith, length-front_texts opening (whole_blocks n bytes) k, length-first_chunks z (length bytes / z) bytes) in
+        fronts k (whole_blocks n bytes) ∙ joined_front z (length bytes / z) m bytes within
+
+  module _ (positive : 0 < n) (k : ℕ) (limit : k < chunk_limit) (copied bytes : List ℕ) (copied_size : length copied ≡ k * n) where
     abbrev z : ℕ
     z = n + tag_length
 
-    abbrev ts : List (List ℕ)
-    ts = front_texts opening 0 (whole_blocks n bytes)
+    abbrev s : Segment
+    s = part k bytes true
 
-    abbrev m : ℕ
-    m = length ts
+    abbrev ts : List (List ℕ)
+    ts = opened k bytes true
+
+    abbrev j : ℕ
+    j = k + length ts
 
     abbrev b : Frontier
-    b = stop opening n (whole_payload bytes)
+    b = stop opening n s
 
-    abbrev front : List ℕ
-    front = take (m * z) bytes
+    abbrev joined : List ℕ
+    joined = flat_map (λ (t : List ℕ). t) ts
 
-    within : m ≤ length bytes / z
-    within = omega (arith, few_texts 0 (whole_blocks n bytes), length-first_chunks z (length bytes / z) bytes)
+    abbrev pub all_text : List ℕ
+    all_text = copied ++ released opening n s
 
-    full : AllByRecursion (λ (t : List ℕ). length t ≡ n) ts
-    full =
-        let pos : 0 < z = omega arith in
-        let all : length bytes / z * z ≤ length bytes = (le-div_iff_mul-le pos).0 (omega arith) in
-        front_full (whole_blocks n bytes) 0 (all_full z (length bytes / z) bytes all)
+    counted : IsCounted opening n copied s
+    counted = chunks_are_counted sealing opening valid n copied s copied_size
 
-    front_is : seals 0 ts ≡ front
-    front_is = fronts 0 (whole_blocks n bytes) ∙ joined_front z (length bytes / z) m bytes within
+    before_size : length (copied ++ joined) ≡ j * n
+    before_size =
+        let flat : List (List ℕ) → List ℕ = flat_map (λ (t : List ℕ). t) in
+        let join : copied ++ joined ≡ take (index k bytes true * n) all_text =
+        ap (λ (cs : List (List ℕ)). copied ++ flat cs) (sym (counted_are k bytes true)) ∙ counted.join in
+        omega (arith, ap length join, length-take (index k bytes true * n) all_text, counted.within, ap (λ (i : ℕ). i * n) (stands_at k bytes true))
 
-    module _ (e : Ends b) where
+    front_chunks : first_chunks n j all_text ≡ first_chunks n k copied ++ ts
+    front_chunks =
+        let at = stands_at k bytes true in
+        let all : length (first_chunks n k copied ++ ts) ≤ index k bytes true =
+        omega (arith, at, length-append (first_chunks n k copied) ts, length-first_chunks n k copied) in
+        ap (λ (i : ℕ). first_chunks n i all_text) (sym at)
+        ∙ (counted.chunks (index k bytes true) (omega arith)
+        ∙ (ap (λ (cs : List (List ℕ)). take (index k bytes true) (first_chunks n k copied ++ cs)) (counted_are k bytes true)
+        ∙ take_all (index k bytes true) (first_chunks n k copied ++ ts) all))
+
+    module _ (e : Ends b) (all_is : all_text ≡ (copied ++ joined) ++ e.text) where
       last_block : sealing (nonce_bytes b.index true) e.text ≡ b.block
       last_block = valid.only (nonce_bytes b.index true) e.text b.block (nonce_bytes-length b.index true) e.opens
 
       size : length e.text + tag_length ≡ length b.block
       size = omega (arith, valid.longer (nonce_bytes b.index true) e.text (nonce_bytes-length b.index true), ap length last_block)
 
-      block_is : b.block ≡ drop (m * z) bytes
+      block_is : b.block ≡ drop (length ts * z) bytes
       block_is =
-          let most : length bytes ≤ (m + 1) * z = not_less ((m + 1) * z) (length bytes) (or_false (nat_lt ((m + 1) * z) (length bytes)) e.alone) in
-          let more : (m + 1) * z ≡ m * z + z = omega arith in
-          take_all z (drop (m * z) bytes) (omega (arith, most, more, length-drop (m * z) bytes))
+          let most : length bytes ≤ (length ts + 1) * z = not_less ((length ts + 1) * z) (length bytes)
+          (or_false (nat_lt ((length ts + 1) * z) (length bytes)) e.alone) in
+          let more : (length ts + 1) * z ≡ length ts * z + z = omega arith in
+          take_all z (drop (length ts * z) bytes) (omega (arith, most, more, length-drop (length ts * z) bytes))
 
       short : length e.text ≤ n
-      short = omega (arith, size, length-take z (drop (m * z) bytes))
+      short = omega (arith, size, length-take z (drop (length ts * z) bytes))
 
-      some : (0 < length e.text) ⊎ (m ≡ 0)
+      some : (0 < length e.text) ⊎ (j ≡ 0)
       some = elim (cases_lt 0 (length e.text)) [
         | inl lt ↦ inl lt
-        | inr le ↦ inr (let zero_index : b.index ≡ 0 = tag_alone (length b.block) z b.index
-            (omega (arith, le, size, positive)) (omega (arith, le, size)) e.not_empty in
-            omega (arith, zero_index))
+        | inr le ↦ inr (tag_alone (length b.block) z b.index (omega (arith, le, size, positive)) (omega (arith, le, size)) e.not_empty)
       ]
 
-      index_of : length (flat_map (λ (t : List ℕ). t) ts ++ e.text) - 1 ≡ m * n + (length e.text - 1)
+      index_of : length all_text - 1 ≡ j * n + (length e.text - 1)
       index_of =
-          let both = length-append (flat_map (λ (t : List ℕ). t) ts) e.text in
-          let len = flat_full n ts full in
+          let len : length all_text ≡ j * n + length e.text = omega (arith, ap length all_is, length-append (copied ++ joined) e.text, before_size) in
           elim some [
-            | inl lt ↦ omega (arith, lt, both, len)
-            | inr none ↦ (let e0 : m * n ≡ 0 * n = ap (λ (k : ℕ). k * n) none in
-                omega (arith, both, len, e0))
+            | inl lt ↦ omega (arith, lt, len)
+            | inr none ↦ (let e0 : j * n ≡ 0 * n = ap (λ (i : ℕ). i * n) none in
+                omega (arith, len, e0))
           ]
 
-      is_payload : payload sealing n (flat_map (λ (t : List ℕ). t) ts ++ e.text) ≡ bytes
-      is_payload =
-          let joined = flat_map (λ (t : List ℕ). t) ts in
-          let text = joined ++ e.text in
-          let q = last_index n text in
-          let len = flat_full n ts full in
-          let q_is : q ≡ m = ap (λ (k : ℕ). k / n) index_of ∙ div-mul-add m n (length e.text - 1) (omega (arith, short, positive)) in
-          let index : q ≡ b.index = omega (arith, q_is) in
-          let last_is : last_chunk n text ≡ e.text = ap (λ (k : ℕ). drop (k * n) text) q_is ∙ drop_at joined e.text (m * n) len in
-          let chunks_are : first_chunks n q text ≡ ts = ap (λ (k : ℕ). first_chunks n k text) q_is ∙ first_chunks-full n ts e.text full in
-          let before_last = block_bytes (sealed_before_last sealing n text) in
-          let last = sealing (nonce_bytes q true) (last_chunk n text) in
-          let parts : payload sealing n text ≡ before_last ++ last =
-          flat_map-append (λ (p : List ℕ × List ℕ). p.1) (sealed_before_last sealing n text) (pair sealing true (q, last_chunk n text) ∷ [])
-          ∙ ap (λ (x : List ℕ). before_last ++ x) (append-nil last) in
-          let front_same : before_last ≡ front = ap (seals 0) chunks_are ∙ front_is in
-          let last_same : last ≡ drop (m * z) bytes = ap (λ (k : ℕ). sealing (nonce_bytes k true) (last_chunk n text)) index
-          ∙ (ap (sealing (nonce_bytes b.index true)) last_is ∙ (last_block ∙ block_is)) in
-          parts ∙ (ap (λ (x : List ℕ). x ++ last) front_same ∙ (ap (λ (x : List ℕ). front ++ x) last_same ∙ take-append-drop (m * z) bytes))
+      q_is : last_index n all_text ≡ j
+      q_is = ap (λ (i : ℕ). i / n) index_of ∙ div-mul-add j n (length e.text - 1) (omega (arith, short, positive))
 
-    pub is_payload_of : (outcome opening n (whole_payload bytes)).status ≡ Done → payload sealing n (released opening n (whole_payload bytes)) ≡ bytes
+      few : chunk_count n all_text ≤ chunk_limit
+      few = omega (arith, q_is, few_front (whole_blocks n bytes) k limit)
+
+      below : k < chunk_count n all_text
+      below = omega (arith, q_is)
+
+      last_is : last_chunk n all_text ≡ e.text
+      last_is = ap (λ (i : ℕ). drop (i * n) all_text) q_is ∙ (ap (drop (j * n)) all_is ∙ drop_at (copied ++ joined) e.text (j * n) before_size)
+
+      -- its chunks from this one on are those that were opened
+      chunks_are : drop k (first_chunks n (last_index n all_text) all_text) ≡ ts
+      chunks_are =
+          ap (λ (i : ℕ). drop k (first_chunks n i all_text)) q_is
+          ∙ (ap (drop k) front_chunks ∙ drop_at (first_chunks n k copied) ts k (length-first_chunks n k copied))
+
+      is_rest : bytes ≡ drop (k * z) (payload sealing n all_text)
+      is_rest =
+          let q = last_index n all_text in
+          let last = sealing (nonce_bytes q true) (last_chunk n all_text) in
+          let last_same : last ≡ drop (length ts * z) bytes = ap (λ (i : ℕ). sealing (nonce_bytes i true) (last_chunk n all_text)) q_is
+          ∙ (ap (sealing (nonce_bytes b.index true)) last_is ∙ (last_block ∙ block_is)) in
+          sym (from_chunk sealing opening valid n positive all_text few k below
+          ∙ (ap (λ (cs : List (List ℕ)). seals k cs ++ last) chunks_are
+          ∙ (ap (λ (x : List ℕ). x ++ last) (front_is k bytes true)
+          ∙ (ap (λ (x : List ℕ). take (length ts * z) bytes ++ x) last_same ∙ take-append-drop (length ts * z) bytes))))
+
+    pub is_rest_of : (outcome opening n s).status ≡ Done → (chunk_count n all_text ≤ chunk_limit) × IsRest sealing opening n all_text s
     unfolding outcome
-    is_payload_of done =
+    is_rest_of done =
         let e = ends b done in
-        let text_is : released opening n (whole_payload bytes) ≡ flat_map (λ (t : List ℕ). t) ts ++ e.text =
-        ap (flat_map (λ (t : List ℕ). t)) e.texts_are ∙ (flat_map-append (λ (t : List ℕ). t) ts (e.text ∷ [])
-        ∙ ap (λ (x : List ℕ). flat_map (λ (t : List ℕ). t) ts ++ x) (append-nil e.text)) in
-        ap (payload sealing n) text_is ∙ is_payload e
+        let flat : List (List ℕ) → List ℕ = flat_map (λ (t : List ℕ). t) in
+        let all_is : all_text ≡ (copied ++ joined) ++ e.text = ap (λ (x : List ℕ). copied ++ x) (ap flat e.texts_are
+        ∙ (flat_map-append (λ (t : List ℕ). t) ts (e.text ∷ []) ∙ ap (λ (x : List ℕ). joined ++ x) (append-nil e.text)))
+        ∙ sym (append_assoc copied joined e.text) in
+        (few e all_is, record { below = below e all_is; bytes = is_rest e all_is; ended = refl; timely = refl })
+
+  -- ---- the front of a payload
+
+  -- the blocks before chunk j of a text
+  first_blocks : (positive : 0 < n) (j : ℕ) (text : List ℕ) → chunk_count n text ≤ chunk_limit → j < chunk_count n text
+      → take (j * (n + tag_length)) (payload sealing n text) ≡ seals 0 (first_chunks n j text)
+  first_blocks positive j text few below =
+      let q = last_index n text in
+      let d = q - j in
+      let cs = first_chunks n q text in
+      let these = first_chunks n j text in
+      let more = first_chunks n d (drop (j * n) text) in
+      let last = sealing (nonce_bytes q true) (last_chunk n text) in
+      let sum : q ≡ j + d = omega (arith, below) in
+      let cs_are : cs ≡ these ++ more = ap (λ (k : ℕ). first_chunks n k text) sum ∙ first_chunks-add n j d text in
+      let after : drop j cs ≡ more = ap (drop j) cs_are ∙ drop_at these more j (length-first_chunks n j text) in
+      let behind = drop (j * (n + tag_length)) (payload sealing n text) in
+      let behind_is : behind ≡ seals j more ++ last = from_chunk sealing opening valid n positive text few j below
+      ∙ ap (λ (x : List (List ℕ)). seals j x ++ last) after in
+      let len : 0 + length these ≡ j = omega (arith, length-first_chunks n j text) in
+      let all : payload sealing n text ≡ seals 0 these ++ behind =
+      flat_map-append (λ (p : List ℕ × List ℕ). p.1) (sealed_before_last sealing n text) (pair sealing true (q, last_chunk n text) ∷ [])
+      ∙ (ap (λ (x : List ℕ). seals 0 cs ++ x) (append-nil last)
+      ∙ (ap (λ (x : List (List ℕ)). seals 0 x ++ last) cs_are
+      ∙ (ap (λ (x : List ℕ). x ++ last) (seals-append 0 these more)
+      ∙ (append_assoc (seals 0 these) (seals (0 + length these) more) last
+      ∙ ap (λ (x : List ℕ). seals 0 these ++ x) (ap (λ (k : ℕ). seals k more ++ last) len ∙ sym behind_is))))) in
+      append_cancel_right (take (j * (n + tag_length)) (payload sealing n text)) (seals 0 these) behind
+      (take-append-drop (j * (n + tag_length)) (payload sealing n text) ∙ all)
+
+  module _ (positive : 0 < n) (bytes : List ℕ) (ended : Bool) where
+    -- the blocks before the chunk at which a segment stands begin the payload of each text that begins as it does
+    pub begins_payload : (j : ℕ) (out text : List ℕ) → j ≤ index 0 bytes ended → j * n ≤ length out
+        → IsPrefixOf out (released opening n (part 0 bytes ended)) → IsPrefixOf (take (j * n) out) text → j < chunk_count n text → chunk_count n text ≤ chunk_limit
+        → IsPrefixOf (take (j * (n + tag_length)) (payload sealing n text)) bytes
+    begins_payload j out text at within front same below few =
+        let z = n + tag_length in
+        let ts = opened 0 bytes ended in
+        let m = length ts in
+        let none : length {A = ℕ} [] ≡ 0 * n = omega arith in
+        let counted = chunks_are_counted sealing opening valid n [] (part 0 bytes ended) none in
+        let first = take j ts in
+        let behind = drop j ts in
+        let start = take (j * n) out in
+        let start_size : length start ≡ j * n = length-take-le (j * n) out within in
+        let chunks_of : (x y : List ℕ) → j * n ≤ length x → first_chunks n j (x ++ y) ≡ first_chunks n j x = first_chunks-append n j in
+        let texts : first_chunks n j text ≡ first = ap (first_chunks n j) (sym same.1)
+        ∙ (chunks_of start same.0 (omega (arith, start_size))
+        ∙ (sym (ap (first_chunks n j) (sym (take-append-drop (j * n) out)) ∙ chunks_of start (drop (j * n) out) (omega (arith, start_size)))
+        ∙ (sym (ap (first_chunks n j) (sym front.1) ∙ chunks_of out front.0 within)
+        ∙ (counted.chunks j at ∙ ap (take j) (counted_are 0 bytes ended))))) in
+        let parts : ts ≡ first ++ behind = sym (take-append-drop j ts) in
+        let all : seals 0 ts ≡ take (m * z) bytes = front_is 0 bytes ended in
+        let rest = seals (0 + length first) behind in (
+          rest ++ drop (m * z) bytes,
+          ap (λ (x : List ℕ). x ++ (rest ++ drop (m * z) bytes)) (first_blocks positive j text few below ∙ ap (seals 0) texts)
+              ∙ (sym (append_assoc (seals 0 first) rest (drop (m * z) bytes))
+              ∙ (ap (λ (x : List ℕ). x ++ drop (m * z) bytes) (sym (ap (seals 0) parts ∙ seals-append 0 first behind) ∙ all)
+              ∙ take-append-drop (m * z) bytes)),
+        )

@@ -2,11 +2,11 @@
 use Rattle.age_io.specs.Supply.{Supply, Consumes, IsAtEnd}
 use Rattle.age_io.specs.Taken.{Appends}
 use Rattle.std.specs.Prelude.{◌≡◌, ◌⊎◌, ℕ, List, [], ◌∷◌, ◌≤◌, Option, Some, IfSome, IsSomeAnd, ◌<◌}
-use Rattle.std.specs.Prelude.{Result, MatchResult, ◌*◌, take, length, ◌++◌, IfOk}
+use Rattle.std.specs.Prelude.{Result, MatchResult, ◌*◌, take, drop, length, ◌++◌, IfOk, IfErr}
 use Rattle.base64.specs.GeneralPurpose.{IsBytes}
 use Rattle.age_stanza.specs.declared.header.Header.{Header}
 use Rattle.age_stanza.specs.declared.fault.HeadFault.{HeadFault}
-use Rattle.age_chunk.specs.Payload.{chunk_count, chunk_length, chunk_limit}
+use Rattle.age_chunk.specs.Payload.{chunk_count, chunk_length, chunk_limit, block_length, payload}
 use Rattle.age_stream.specs.Headline.{IsPrefixOf}
 use Rattle.age_stream.specs.Laws.{IsClosed}
 use Rattle.age_stream.specs.declared.step.Status.TheVariants.{Done as AllDone}
@@ -15,6 +15,7 @@ use Rattle.age_keys.specs.Keys.{box, unbox, Opens, FileOf}
 use Rattle.age_keys.specs.declared.fault.KeyFault.{KeyFault}
 use Rattle.age_file.specs.Runs.{Run, IsFromStart, run_outcome, run_text, held, IsTexts, IsAuthenticRun}
 use Rattle.age_file.specs.Runs.{IsPositionOf, CarriesText, Ports, IsRun, IsDone, IsHeadFault, ReportsFault}
+use Rattle.age_file.specs.Runs.{OpenedFile, Reads, HasId, HasTag, pull_room}
 use Rattle.age_file.specs.Resumes.{IsSame, IsOldText, ResumePorts, ResumeEnds, ResumeStops}
 use Rattle.age_file.specs.Resumes.{IsBoundTo, IsFrom, IsUndamagedRest, ResumesText}
 use Rattle.age_file.specs.Decrypts.{DecryptEnds, DecryptStops, IsWhole, StopsOutside, Decrypts}
@@ -260,6 +261,79 @@ module _ (Who : Type 0) (Allows : Who → Header → List ℕ → Type 0)
       → old.source.supply.left ≡ Some coming → old.sink.taken.contents ≡ Some held
       → IfOk result (λ done. (text : List ℕ) × (header : Header) × (key : List ℕ) × (nonce : List ℕ)
       × FileOf header key nonce text coming × (new.sink.taken.contents ≡ Some (held ++ text)))
+
+-- the old text gave this text's chunks before the position, which have the position's chain, and at
+-- most one pull more
+pub record GaveOld (p : Position) (old new : Supply) (text : List ℕ) : Type 0 where
+  pub more : List ℕ
+  pub read : Consumes old new (take (p.index * chunk_length) text ++ more)
+  pub few : length more ≤ pull_room
+  pub carries : CarriesText text p
+
+-- a source gave the header and the nonce of the position's file, which the unlocker opens, the blocks
+-- before the position's chunk, and then the payload of this text from that chunk on, to its end
+pub record GaveRest (Allows : Header → List ℕ → Type 0) (p : Position) (old new : Supply)
+    (text : List ℕ) : Type 0 where
+  pub file : OpenedFile
+  pub own : HasId p file
+  pub tagged : HasTag p file
+  -- the blocks before are counted, and not opened
+  pub skipped : List ℕ
+  pub size : length skipped ≡ p.index * block_length
+  -- the text has that chunk
+  pub below : p.index < chunk_count chunk_length text
+  pub few : chunk_count chunk_length text ≤ chunk_limit
+  pub read : Reads Allows old new file (skipped
+      ++ drop (p.index * block_length) (payload (box file.key file.nonce) chunk_length text))
+  pub at_end : IsAtEnd new
+
+module _ (Who : Type 0) (Allows : Who → Header → List ℕ → Type 0)
+    (Refused : Who → Header → KeyFault → Type 0) where
+  -- if a resumed decryption is done, the old text gave the first chunks of a text, the file the rest
+  -- of that text's payload, and what the sink took is exactly that text
+  abbrev pub DoneGaveRest : Type 0
+  DoneGaveRest = (keep : PositionPolicy) (who : Who) (p : Position) (old new : ResumePorts)
+      (result : Result Done Stopped) → ResumesText keep (Allows who) (Refused who) p old new result
+      → IfOk result (λ done. (text : List ℕ)
+      × GaveOld p old.old.supply new.old.supply text
+      × GaveRest (Allows who) p old.main.source.supply new.main.source.supply text
+      × WritesText old.main.sink.taken new.main.sink.taken done.written text)
+
+-- a source gave the header and the nonce of the position's file, which the unlocker opens, and at
+-- least the blocks before the position's chunk: they begin the payload of each text that begins with
+-- this text's chunks before the position, and has more
+pub record GaveFront (Allows : Header → List ℕ → Type 0) (p : Position) (old new : Supply)
+    (text : List ℕ) : Type 0 where
+  pub file : OpenedFile
+  pub own : HasId p file
+  pub tagged : HasTag p file
+  pub carries : CarriesText text p
+  pub rest : List ℕ
+  pub read : Reads Allows old new file rest
+  pub blocks : (whole : List ℕ) → IsPrefixOf (take (p.index * chunk_length) text) whole
+      → p.index < chunk_count chunk_length whole → chunk_count chunk_length whole ≤ chunk_limit
+      → IsPrefixOf (take (p.index * block_length)
+      (payload (box file.key file.nonce) chunk_length whole)) rest
+
+-- if a decryption stops at a position, its source gave the blocks before it, of the text that its
+-- sink took
+abbrev pub StoppedGaveFront : (Who : Type 0) → (Who → Header → List ℕ → Type 0)
+    → (Who → Header → KeyFault → Type 0) → Type 0
+StoppedGaveFront Who Allows Refused = (keep : PositionPolicy) (who : Who) (old new : Ports)
+    (result : Result Done Stopped) → Decrypts keep (Allows who) (Refused who) old new result
+    → IfErr result (λ stopped. IfSome stopped.position (λ p. (text : List ℕ)
+    × GaveFront (Allows who) p old.source.supply new.source.supply text
+    × WritesText old.sink.taken new.sink.taken stopped.written text))
+
+-- if a decryption stops at a position, and one that is resumed from there is done, in the same file
+-- by the same key, over the same blocks and after the same text, then the source of the second gave
+-- the age file of all that its sink took
+abbrev pub RestIsFile : (Who : Type 0) → (Who → Header → List ℕ → Type 0) → Type 0
+RestIsFile Who Allows = (first next : Who) (p : Position) (was became old new : Supply)
+    (before text : List ℕ) (front : GaveFront (Allows first) p was became before)
+    (rest : GaveRest (Allows next) p old new text) → rest.file ≡ front.file
+    → IsPrefixOf rest.skipped front.rest → IsPrefixOf (take (p.index * chunk_length) before) text
+    → GaveFile (Allows next) old new text
 
 -- ---- What was encrypted under a passphrase, decrypted with it.
 

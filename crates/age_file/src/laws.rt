@@ -5,7 +5,8 @@ ghost use Rattle.age_file.specs.declared.decryption.Stopped.{Stopped};
 ghost use Rattle.age_file.specs.declared.position.PositionPolicy.{PositionPolicy};
 ghost use Rattle.age_file.specs.InARow.{RunsInARow, CallsInARow, RunsAreBound, DoneIsBound, AgeFileIsWhole};
 ghost use Rattle.age_file.specs.InARow.{RoundTrip, AuthenticRuns, HeadFaultsStay, UndamagedIsDecrypted};
-ghost use Rattle.age_file.specs.InARow.{UndamagedIsResumed, DoneGaveFile, DoneIsFile};
+ghost use Rattle.age_file.specs.InARow.{UndamagedIsResumed, DoneGaveFile, DoneIsFile, DoneGaveRest};
+ghost use Rattle.age_file.specs.InARow.{StoppedGaveFront, RestIsFile};
 ghost use Rattle.age_file.specs.Again.{ReadAgain, RestReadAgain};
 
 use age_keys::{Unlock, passphrase_opens};
@@ -105,4 +106,18 @@ pub fn undamaged_is_written<U: Unlock>()
 pub fn done_gave_file<U: Unlock>()
     ensures gave { DoneGaveFile U U.allows U.refuses }
     ensures shown { DoneIsFile U U.allows U.refuses }
+{}
+
+/// What the sources of a resumed decryption gave and its sink took, whatever they are over: if
+/// [`resume`](crate::resume) returns `Ok`, there is a text whose chunks before the position are what
+/// the old text gave, and whose payload from there on is what the file gave, which the unlocker
+/// opens and which is at its end; and the bytes that the sink took during the call are exactly that
+/// text. The blocks before the position's are passed over and not opened. If they are those that a
+/// [`decrypt`](crate::decrypt) gave that stopped at that position, in the same file and by the same
+/// key, and the old text was what it wrote, then the file is the age file of the text. Of the calls
+/// no more is assumed than what their contracts promise.
+pub fn done_gave_rest<U: Unlock>()
+    ensures gave { DoneGaveRest U U.allows U.refuses }
+    ensures front { StoppedGaveFront U U.allows U.refuses }
+    ensures whole { RestIsFile U U.allows }
 {}

@@ -42,7 +42,7 @@ pub use encryption::{Written, encrypt};
 pub use inspection::{inspect, inspect_sized};
 pub use laws::{
     age_file_is_whole, authentic_runs, bound_positions, calls_in_a_row, done_gave_file,
-    head_faults_stay, read_again, round_trip, runs_in_a_row, undamaged_is_written,
+    done_gave_rest, head_faults_stay, read_again, round_trip, runs_in_a_row, undamaged_is_written,
 };
 pub use position::{Position, PositionPolicy};
 pub use report::{Report, StanzaReport, StanzaReports};
