@@ -15,7 +15,7 @@ use Rattle.age_command.specs.Endings.{is_usage}
 use Rattle.age_command.specs.Files.{HasReason}
 use Rattle.age_command.specs.declared.ending.Ending.{Ending}
 use Rattle.age_cli.specs.inner.Openings.{IsFresh}
-use Rattle.age_cli.specs.Acts.{Acts, clobber_of, out_of, EndsBefore, HasEngineEnded, IsBlamed, OfEngine, Spares, progress_of, input_of, IsUsage, LeavesOut, WritesOut}
+use Rattle.age_cli.specs.Acts.{Acts, clobber_of, out_of, EndsBefore, HasEngineEnded, HasEngineStopped, HasNotBegun, HasSaved, durability_of, IsBlamed, OfEngine, Spares, progress_of, input_of, IsUsage, LeavesOut, WritesOut}
 use Rattle.age_cli.proofs.CommandLemmas.{not_well, this_error, just_error}
 use Rattle.age_command.proofs.EventLemmas.{longer}
 use Rattle.std.proofs.lemmas.Result.{IfErr-weaker}
@@ -50,15 +50,16 @@ module _ (IsPorts : Ports → Type 0) (shows : Bool) (asked : Request) (before a
   always_ok (Err e) p = tt
 
   -- a command ended early, with this ending
-  pub acts_early : (e : Ending) → IsErr r × IsErrAnd r (λ x. x ≡ e) → after.entries ≡ before.entries → (shows ≡ true → EndsBefore asked before.entries e)
-      → (shows ≡ true → HasReason before.entries after.events Failed e)
+  pub acts_early : (e : Ending) → IsErr r × IsErrAnd r (λ x. x ≡ e) → after.entries ≡ before.entries → HasNotBegun e before.ended after.ended
+      → (shows ≡ true → EndsBefore asked before.entries e) → (shows ≡ true → HasReason before.entries after.events Failed e)
       → Follows (order_asked asked).done before.events after.events
       → (shows ≡ true → IsUsage e → Follows (order_asked asked).judged before.events after.events)
       → (NamesTwice (order_asked asked).apart → (after.events ≡ before.events) × IsUsage e)
-      → (shows ≡ true → IsUsage e → IsBlamed asked before.entries e)
-      → Unshown → Acted
-  acts_early e is kept early reason follows judged apart blamed silent = record {
+      → (shows ≡ true → IsUsage e → IsBlamed asked before.entries e) → Unshown → Acted
+  acts_early e is kept spared early reason follows judged apart blamed silent = record {
     done = not_well r e is _;
+    stopped = this_error r e is _ (inl spared);
+    saved = this_error r e is _ (inl follows);
     stops = λ shown. this_error r e is _ (inl (kept, early shown, reason shown));
     keeps = λ shown refused there. (is.0, kept);
     usage = this_error r e is _ (λ usage. kept);
@@ -75,18 +76,22 @@ module _ (IsPorts : Ports → Type 0) (shows : Bool) (asked : Request) (before a
   }
 
   -- a command ended once its engine had run
-  pub acts_concluded : OnOk r (OfEngine IsPorts shows asked before.entries (λ engine paths. HasEngineEnded IsPorts engine after.closed
+  pub acts_concluded : OnOk r (OfEngine IsPorts shows asked before.entries (λ engine paths. HasEngineEnded IsPorts engine (durability_of asked) after.ended
       × (shows ≡ true → WritesOut IsPorts engine paths before.entries after.entries)))
+      → IfErr r (λ e. OfEngine IsPorts shows asked before.entries (λ engine paths. HasEngineStopped IsPorts engine e after.ended))
+      → IfErr r (λ e. Follows (order_asked asked).done before.events after.events ⊎ HasSaved (durability_of asked) e after.saved)
       → (shows ≡ true → IfErr r (λ e. OfEngine IsPorts shows asked before.entries (λ engine paths. LeavesOut IsPorts engine paths before.entries after.entries e)))
       → IfErr r (λ e. is_usage e ≡ false) → (shows ≡ true → Spares asked before.entries after.entries)
       → Follows (order_asked asked).whole before.events after.events → OnOk r (after.events ≡ before.events ++ (order_asked asked).done)
       → (NamesTwice (order_asked asked).apart → ⊥) → (shows ≡ true → IsFresh (clobber_of asked) (out_of asked before.entries))
       → (progress_of asked ≡ Silent → Unshown) × (progress_of asked ≡ Shown → Progress (input_of asked before.entries) r) → Acted
-  acts_concluded done stops fault spares order finished apart fresh shown =
+  acts_concluded done stopped saved stops fault spares order finished apart fresh shown =
       let impossible : (P : Type 0) → IfErr r (λ e. IsUsage e → P) =
       λ P. IfErr-weaker r _ _ (λ e no usage. absurd (true≢false (sym usage ∙ no))) fault in
       record {
         done = done;
+        stopped = IfErr-weaker r _ _ (λ e s. inr s) stopped;
+        saved = saved;
         stops = λ shown. IfErr-weaker r _ _ (λ e s. inr s) (stops shown);
         keeps = λ shown refused there. absurd (true≢false (sym there ∙ ap is_some (fresh shown refused)));
         usage = impossible _;

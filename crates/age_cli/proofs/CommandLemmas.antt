@@ -125,6 +125,10 @@ pub bad_position : (shows : Bool) (f : OpenFault) (held : Option (List ℕ)) →
 bad_position shows f held (inl early) none = inl (opened_early shows f early)
 bad_position shows f held (inr bad) none = inr (ap ending_of bad, none bad)
 
+pub bad_early : (shows : Bool) (f : OpenFault) → OpenFails shows Read f ⊎ (f ≡ create.Fault BadPosition) → EndsEarly (ending_of f) ⊎ (ending_of f ≡ Fault BadPosition)
+bad_early shows f (inl early) = inl (opened_early shows f early)
+bad_early shows f (inr bad) = inr (ap ending_of bad)
+
 -- a file that can't be opened says nothing of a position
 pub not_bad : (shows : Bool) (f : OpenFault) → OpenFails shows Read f → f ≡ create.Fault BadPosition → ⊥
 not_bad shows SameFile fails bad = cc

@@ -11,8 +11,7 @@ pub random_in : (held : Option (List ℕ)) (bytes rest : List ℕ) (r : FileRand
     → s.key ≡ r.file_key → s.salt ≡ r.salt → s.nonce ≡ r.payload_nonce → IsRandomIn held s
 random_in held bytes rest r s is random key salt nonce =
     let whole : bytes ++ rest ≡ r.file_key ++ (r.salt ++ (r.payload_nonce ++ (random.rest ++ rest))) =
-    ap (λ (t : List ℕ). t ++ rest) random.parts
-    ∙ (append_assoc r.file_key (r.salt ++ (r.payload_nonce ++ random.rest)) rest
+    ap (λ (t : List ℕ). t ++ rest) random.parts ∙ (append_assoc r.file_key (r.salt ++ (r.payload_nonce ++ random.rest)) rest
     ∙ ap (λ (t : List ℕ). r.file_key ++ t) (append_assoc r.salt (r.payload_nonce ++ random.rest) rest
     ∙ ap (λ (t : List ℕ). r.salt ++ t) (append_assoc r.payload_nonce random.rest rest))) in
     record {

@@ -1,6 +1,6 @@
 -- What becomes of OUT, from what an engine promises and how OUT was ended.
 use Rattle.std.proofs.Common.{◌≡◌, ◌∙◌, ◌⊎◌, ℕ, ap, sym, subst, refl, inl, inr, Bool, true, false, true≢false, List, [], Option, Some, Result, Ok, Err, OnOk}
-use Rattle.std.proofs.Common.{IfOk, IfErr, ⊎_elim, rules}
+use Rattle.std.proofs.Common.{IfOk, IfErr, ⊎_elim, rules, None}
 use Rattle.std.specs.Prelude.{IsOk, IsSomeAnd, is_some}
 use Rattle.std.proofs.lemmas.Result.{on_ok_weaker, IfErr-weaker}
 use Rattle.age_io.specs.Io.{SourceView}
@@ -20,15 +20,22 @@ use Rattle.age_command.specs.Files.{Files, SparesBoth}
 use Rattle.age_command.specs.declared.ending.Ending.{Ending}
 use Rattle.age_command.specs.declared.identity.Identity.{Identity}
 use Rattle.age_command.specs.Identities.{allows_by, refuses_by}
+use Rattle.age_machine.specs.Ends.{EndedFile, TouchesItself}
+use Rattle.age_cli.specs.Acts.{AreNew, Returned, HasEngineEnded, HasEngineStopped, HaltsDecryption, HaltsResumption, IsEndingOf}
 use Rattle.age_cli.specs.Acts.{Engine, Ran, encrypt_engine, decrypt_engine, resume_engine, Paths, WritesOut, LeavesOut, IsLeft, IsUnclosed, EndsOf}
 use Rattle.age_cli.specs.declared.interruption.Interruption.{Interruption}
-use Rattle.age_cli.specs.inner.Endings.{sealing_end, opening_end, Left, Concludes}
+use Rattle.age_cli.specs.inner.Endings.{sealing_end, opening_end, Left, Concludes, EndsFile, IsFaultOf}
 use Rattle.age_cli.proofs.CommandStopLemmas.{the_run}
 
 -- an engine's promise, of how it ended
 pub record Kept (engine : Engine) (before after : Ports) (end : Result (Unit {0}) Interruption) : Type 0 where
   pub ends : OnOk end (engine.ends before after)
   pub stops : IfErr end (λ s. engine.stops s.position s.fault before after)
+
+-- and whatever contracts see: after success no call of the sink has failed
+pub record Went (engine : Engine) (before after : Ports) (end : Result (Unit {0}) Interruption) : Type 0 where
+  pub ends : OnOk end (engine.ends before after × (after.sink.failed ≡ before.sink.failed))
+  pub halts : IfErr end (λ s. engine.halts s.fault before after)
 
 pub ends_so : {P : Type 0} (end : Result (Unit {0}) Interruption) → OnOk end P → IsOk end → P
 ends_so (Ok done) ends ok = ends
@@ -39,8 +46,7 @@ module _ (IsPorts : Ports → Type 0) (engine : Engine) (shows : Bool) (p : Path
     (before_is : IsPorts before) (after_is : IsPorts after) (end : Result (Unit {0}) Interruption) (r : Result (Unit {0}) Ending)
     (kept : opened.entries ≡ old.entries)
     (found : shows ≡ true → (is_some (old.entries p.from) ≡ true) × (before.source.supply.left ≡ old.entries p.from) × (before.sink.taken.contents ≡ Some [])
-    × (before.sink.label ≡ p.to))
-    (named : after.sink.label ≡ before.sink.label) (promise : shows ≡ true → Kept engine before after end)
+    × (before.sink.label ≡ p.to)) (named : after.sink.label ≡ before.sink.label) (promise : shows ≡ true → Kept engine before after end)
     (concludes : Concludes shows p.save durability after.sink end opened new r) where
   module _ (shown : shows ≡ true) where
     label : after.sink.label ≡ p.to
@@ -61,8 +67,7 @@ module _ (IsPorts : Ports → Type 0) (engine : Engine) (shows : Bool) (p : Path
 
     -- how OUT is left, by how the engine ended
     left_out : (e : Result (Unit {0}) Interruption) → Kept engine before after e → (out_old out_new : Option (List ℕ)) (s : Interruption)
-        → Left e after.sink.taken.contents out_old out_new s
-        → IsLeft IsPorts engine s.position s.fault (old.entries p.from) out_old out_new
+        → Left e after.sink.taken.contents out_old out_new s → IsLeft IsPorts engine s.position s.fault (old.entries p.from) out_old out_new
         ⊎ IsUnclosed IsPorts engine s.position s.fault (old.entries p.from) out_old out_new
     left_out (Err cause) k out_old out_new s (is, left) =
         subst (λ (t : Interruption). IsLeft IsPorts engine t.position t.fault (old.entries p.from) out_old out_new
@@ -81,8 +86,7 @@ module _ (IsPorts : Ports → Type 0) (engine : Engine) (shows : Bool) (p : Path
     )
 
   pub wrote_out : OnOk r (shows ≡ true → WritesOut IsPorts engine p old.entries new.entries)
-  wrote_out = on_ok_weaker r (λ done shown.
-      let put = done.1 shown in
+  wrote_out = on_ok_weaker r (λ done shown. let put = done.1 shown in
       record {
         there = (found shown).0;
         output = ran shown engine.ends (ends_so end (promise shown).ends done.0) (new.entries p.to)
@@ -91,8 +95,7 @@ module _ (IsPorts : Ports → Type 0) (engine : Engine) (shows : Bool) (p : Path
       }) concludes.done
 
   pub stopped_out : (p.save ≡ Some p.to → ⊥) → shows ≡ true → IfErr r (λ e. LeavesOut IsPorts engine p old.entries new.entries e)
-  stopped_out apart shown = IfErr-weaker r _ _ (λ e stops.
-      let k = promise shown in
+  stopped_out apart shown = IfErr-weaker r _ _ (λ e stops. let k = promise shown in
       let s = stops shown (λ same. apart (same ∙ ap Some (label shown))) in
       let left = subst (λ (f : Files). Left end after.sink.taken.contents (f p.to) (new.entries p.to) s.0) kept
       (subst (λ l. Left end after.sink.taken.contents (opened.entries l) (new.entries l) s.0) (label shown) s.1) in
@@ -115,8 +118,7 @@ pub kept_opening : (keep : PositionPolicy) (i : Identity) (before after : Ports)
 kept_opening keep i before after run (Ok done) ends stops =
     let of = the_run run ends in
     record { ends = (done, of.0, of.1); stops = tt }
-kept_opening keep i before after run (Err s) ends stops =
-    record { ends = tt; stops = (s.written, run, stops) }
+kept_opening keep i before after run (Err s) ends stops = record { ends = tt; stops = (s.written, run, stops) }
 
 pub kept_resuming : (IsPorts : Ports → Type 0) (keep : PositionPolicy) (i : Identity) (from : Position) (old_text : Option (List ℕ)) (before after : Ports)
     (first last : SourceView) (run : Option Run) (r : Result Done Stopped) → IsPorts (ports first before.sink) → IsPorts (ports last after.sink)
@@ -134,3 +136,84 @@ pub kept_sealing : (secret : SecretView) (before after : Ports) (r : Result Writ
     → IfErr r (EncryptFails secret before after) → Kept (encrypt_engine secret) before after (sealing_end r)
 kept_sealing secret before after (Ok written) ends fails = record { ends = (written, ends); stops = tt }
 kept_sealing secret before after (Err f) ends fails = record { ends = tt; stops = fails }
+
+-- ---- and whatever contracts see
+
+pub went_opening : (keep : PositionPolicy) (i : Identity) (before after : Ports) (run : Option Run) (r : Result Done Stopped)
+    → IfOk r (λ done. IsSomeAnd run (DecryptEnds (allows_by i) before after done)) → IfErr r (λ s. HaltsDecryption i before after s.fault)
+    → Went (decrypt_engine keep i) before after (opening_end r)
+went_opening keep i before after run (Ok done) ends halts =
+    let of = the_run run ends in
+    record { ends = ((done, of.0, of.1), of.1.2.1); halts = tt }
+went_opening keep i before after run (Err s) ends halts = record { ends = tt; halts = halts }
+
+pub went_resuming : (IsPorts : Ports → Type 0) (keep : PositionPolicy) (i : Identity) (from : Position) (before after : Ports)
+    (first last : SourceView) (run : Option Run) (r : Result Done Stopped) → IsPorts (ports first before.sink) → IsPorts (ports last after.sink)
+    → IfOk r (λ done. IsSomeAnd run (ResumeEnds (allows_by i) from (resume_ports before first) (resume_ports after last) done))
+    → IfErr r (λ s. HaltsResumption i from (resume_ports before first) (resume_ports after last) s.fault)
+    → Went (resume_engine IsPorts keep i from first.supply.left) before after (opening_end r)
+went_resuming IsPorts keep i from before after first last run (Ok done) first_is last_is ends halts =
+    let of = the_run run ends in
+    record { ends = ((first, last, first_is, last_is, refl, (done, of.0, of.1)), of.1.3.1); halts = tt }
+went_resuming IsPorts keep i from before after first last run (Err s) first_is last_is ends halts =
+    record { ends = tt; halts = (first, last, first_is, last_is, refl, halts) }
+
+pub went_sealing : (secret : SecretView) (before after : Ports) (r : Result Written FileFault) → IfOk r (Encrypts secret before after)
+    → IfErr r (EncryptFails secret before after) → Went (encrypt_engine secret) before after (sealing_end r)
+went_sealing secret before after (Ok written) ends fails = record { ends = ((written, ends), ends.none_failed.1); halts = tt }
+went_sealing secret before after (Err f) ends fails = record { ends = tt; halts = fails }
+
+-- ---- what becomes of the file of OUT
+
+module _ (IsPorts : Ports → Type 0) (engine : Engine) (durability : Durability) (before after : Ports) (before_is : IsPorts before) (after_is : IsPorts after)
+    (new : AreNew before) (ended : Option EndedFile) where
+  abbrev returned : (out : EndedFile) → ended ≡ Some out → out.took ≡ after.sink.taken.bytes → TouchesItself out → Returned IsPorts ended
+  returned out is took within = record {
+    before = before;
+    after = after;
+    before_is = before_is;
+    after_is = after_is;
+    new = new;
+    out = out;
+    is = is;
+    took = took;
+    within = within;
+  }
+
+  ended_file : (end : Result (Unit {0}) Interruption) → Went engine before after end → IsOk end → (r : Result (Unit {0}) Ending) → (o : Option EndedFile) → ended ≡ o
+      → IsSomeAnd o (EndsFile durability after.sink end r) → OnOk r (HasEngineEnded IsPorts engine durability ended)
+  ended_file (Err s) went ok r o is file = absurd (true≢false (sym ok))
+  ended_file (Ok done) went ok (Err e) o is file = tt
+  ended_file (Ok done) went ok (Ok x) None is file = absurd file
+  ended_file (Ok done) went ok (Ok x) (Some out) is file = record {
+    run = returned out is file.took file.within;
+    promise = went.ends.0;
+    safe = λ synced. file.safe synced (went.ends.1 ∙ new.failed);
+  }
+
+  pub engine_ended : (end : Result (Unit {0}) Interruption) (r : Result (Unit {0}) Ending) → Went engine before after end → OnOk r (IsOk end)
+      → IsSomeAnd ended (EndsFile durability after.sink end r) → OnOk r (HasEngineEnded IsPorts engine durability ended)
+  engine_ended end (Ok x) went ok file = ended_file end went ok (Ok x) ended refl file
+  engine_ended end (Err e) went ok file = tt
+
+  stopped_file : (end : Result (Unit {0}) Interruption) → Went engine before after end → (e : Ending) (fault : FileFault) → IsFaultOf end fault → IsEndingOf fault e
+      → (o : Option EndedFile) → ended ≡ o → IsSomeAnd o (EndsFile durability after.sink end (Err e)) → HasEngineStopped IsPorts engine e ended
+  stopped_file end went e fault of reported None is file = absurd file
+  stopped_file (Ok done) went e fault of reported (Some out) is file = record {
+    run = returned out is file.took file.within;
+    fault = fault;
+    reported = reported;
+    cause = inr (went.ends.0, of, file.caused);
+  }
+  stopped_file (Err s) went e fault of reported (Some out) is file = record {
+    run = returned out is file.took file.within;
+    fault = fault;
+    reported = reported;
+    cause = inl (subst (λ (f : FileFault). engine.halts f before after) (sym of) went.halts, (λ none. file.untouched (sym file.took ∙ none)));
+  }
+
+  pub engine_stopped : (end : Result (Unit {0}) Interruption) (r : Result (Unit {0}) Ending) → Went engine before after end
+      → IfErr r (λ e. (fault : FileFault) × IsFaultOf end fault × IsEndingOf fault e)
+      → IsSomeAnd ended (EndsFile durability after.sink end r) → IfErr r (λ e. HasEngineStopped IsPorts engine e ended)
+  engine_stopped end (Ok x) went reported file = tt
+  engine_stopped end (Err e) went reported file = stopped_file end went e reported.0 reported.1 reported.2 ended refl file

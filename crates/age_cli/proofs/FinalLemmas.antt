@@ -1,6 +1,6 @@
 -- What a command did whose engine ran.
 use Rattle.std.proofs.Common.{◌≡◌, ◌∙◌, ◌++◌, ◌∷◌, ap, sym, subst, refl, inl, inr, true, List, [], Bool, Option, ℕ, Some, None, Result, Ok}
-use Rattle.std.proofs.Common.{Err, OnOk, IfOk, IfErr}
+use Rattle.std.proofs.Common.{Err, OnOk, IfOk, IfErr, ◌⊎◌, ⊎_elim}
 use Rattle.std.specs.Prelude.{is_some}
 use Rattle.std.proofs.lemmas.Result.{on_ok_weaker, IfErr-weaker}
 use Rattle.age_io.specs.Io.{SourceView}
@@ -8,11 +8,9 @@ use Rattle.age_io.specs.declared.durability.Durability.{Durability}
 use Rattle.age_file.specs.Runs.{Ports, ports}
 use Rattle.age_file.specs.Encrypts.{SecretView, Encrypts, EncryptFails}
 use Rattle.age_file.specs.declared.encryption.Written.{Written}
-use Rattle.age_file.specs.declared.decryption.Done.{Done}
-use Rattle.age_file.specs.declared.decryption.Stopped.{Stopped}
 use Rattle.age_file.specs.declared.position.Position.{Position}
 use Rattle.age_fault.specs.declared.fault.FileFault.{FileFault}
-use Rattle.age_fileset.specs.FileSet.{Event, Opened, Created, FilesView}
+use Rattle.age_fileset.specs.FileSet.{Event, Opened, Created, Closed, FilesView}
 use Rattle.age_cli_args.specs.Requests.{option_text}
 use Rattle.age_cli_args.specs.declared.request.ProgressOption.TheVariants.{Silent, Shown}
 use Rattle.age_cli_args.specs.declared.request.Encrypting.{Encrypting}
@@ -25,30 +23,22 @@ use Rattle.age_command.specs.Files.{Files, SparesBoth}
 use Rattle.age_command.specs.declared.ending.Ending.{Ending}
 use Rattle.age_command.specs.declared.identity.Identity.{Identity}
 use Rattle.age_cli.specs.inner.Openings.{IsFresh}
-use Rattle.age_cli.specs.Acts.{Acts, clobber_of, out_of, HasEngineEnded, OfEngine, OpensOf, Spares, paths_of, progress_of, input_of, Engine, encrypt_engine, decrypt_engine}
+use Rattle.age_cli.specs.Acts.{Acts, clobber_of, out_of, HasEngineEnded, HasEngineStopped, HasSaved, durability_of, OfEngine, OpensOf, Spares, paths_of, progress_of, input_of, Engine, encrypt_engine, decrypt_engine}
 use Rattle.age_cli.specs.Acts.{AreNew, resume_engine, Paths, LeavesOut, WritesOut, kept_for}
 use Rattle.age_cli.specs.Commands.{MakesSecret, IsPositionIn, old_for}
 use Rattle.age_cli.specs.declared.interruption.Interruption.{Interruption}
 use Rattle.age_cli.specs.inner.Endings.{Concludes, sealing_end, opening_end}
 use Rattle.age_cli.specs.inner.Rereadings.{DecryptsOpened, HoldsInput, ResumesOpened}
 use Rattle.age_cli.proofs.ActLemmas.{acts_concluded}
-use Rattle.age_cli.proofs.CommandStopLemmas.{the_run}
-use Rattle.age_cli.proofs.EngineLemmas.{Kept, ends_so, kept_sealing, kept_opening, kept_resuming, wrote_out, stopped_out, spared_out}
+use Rattle.age_cli.proofs.EngineLemmas.{Kept, kept_sealing, kept_opening, kept_resuming, wrote_out, stopped_out, spared_out}
+use Rattle.age_cli.proofs.EngineLemmas.{Went, went_sealing, went_opening, went_resuming, engine_ended, engine_stopped}
 use Rattle.age_cli.proofs.EventLemmas.{then_concluded, then_closed}
+use Rattle.age_command.proofs.EventLemmas.{followed}
 use Rattle.age_cli.proofs.ObeyLemmas.{both_done}
 
 -- IN and OUT were found so
 abbrev pub Found : Paths → Files → Ports → Type 0
 Found p old before = (is_some (old p.from) ≡ true) × (before.source.supply.left ≡ old p.from) × (before.sink.taken.contents ≡ Some []) × (before.sink.label ≡ p.to)
-
--- what follows from an engine that ended
-sealing_ran : {P : Type 0} {Q : Written → Type 0} (r : Result Written FileFault) → ((x : Written) → Q x → P) → IfOk r Q → OnOk (sealing_end r) P
-sealing_ran (Ok x) so q = so x q
-sealing_ran (Err f) so q = tt
-
-opening_ran : {P : Type 0} {Q : Done → Type 0} (r : Result Done Stopped) → ((x : Done) → Q x → P) → IfOk r Q → OnOk (opening_end r) P
-opening_ran (Ok x) so q = so x q
-opening_ran (Err s) so q = tt
 
 -- and so the position and the old text
 abbrev pub WasEarlier : Resuming → Position → Files → SourceView → Type 0
@@ -59,48 +49,50 @@ module _ (IsPorts : Ports → Type 0) (shows : Bool) (asked : Request) (old open
     (durability : Durability) (before after : Ports) (end : Result (Unit {0}) Interruption) (r : Result (Unit {0}) Ending) (xs ys : List Event) where
   acts_of_engine : IsPorts before → IsPorts after → (order_asked asked).done ≡ xs ++ (ys ++ making (Some p.to) durability)
       → (order_asked asked).whole ≡ (xs ++ (ys ++ making (Some p.to) durability)) ++ replacing p.save durability
-      → ((P : Engine → Paths → Type 0) → P engine p → OfEngine IsPorts shows asked old.entries P) → AreNew before → OnOk end (engine.ends before after)
-      → (SparesBoth (Some p.to) p.save old.entries new.entries → Spares asked old.entries new.entries)
+      → ((P : Engine → Paths → Type 0) → P engine p → OfEngine IsPorts shows asked old.entries P) → AreNew before → Went engine before after end
+      → durability_of asked ≡ durability → (SparesBoth (Some p.to) p.save old.entries new.entries → Spares asked old.entries new.entries)
       → opened.entries ≡ old.entries → (shows ≡ true → Found p old.entries before) → after.sink.label ≡ before.sink.label
       → (shows ≡ true → Kept engine before after end) → Concludes shows p.save durability after.sink end opened new r
       → opened.events ≡ old.events ++ (xs ++ (ys ++ Created p.to ∷ [])) → (NamesTwice (order_asked asked).apart → ⊥) → (p.save ≡ Some p.to → ⊥)
       → (shows ≡ true → IsFresh (clobber_of asked) (out_of asked old.entries))
       → (progress_of asked ≡ Silent → Unshown) × (progress_of asked ≡ Shown → Progress (input_of asked old.entries) r) → Acts IsPorts shows asked old new Failed Unshown Progress r
-  acts_of_engine before_is after_is done_is whole_is of begun ran spares kept found named promise concludes noted apart unsaved fresh silent =
+  acts_of_engine before_is after_is done_is whole_is of begun went settles spares kept found named promise concludes noted apart unsaved fresh silent =
+      let finished : new.events ≡ opened.events ++ Closed durability ∷ [] → new.events ≡ old.events ++ (order_asked asked).done =
+      λ closed. then_closed xs ys p.to durability old.events opened.events new.events noted closed ∙ ap (λ order. old.events ++ order) (sym done_is) in
+      let saved_so : (e : Ending) → (new.events ≡ opened.events ++ Closed durability ∷ []) ⊎ HasSaved durability e new.saved
+      → Follows (order_asked asked).done old.events new.events ⊎ HasSaved (durability_of asked) e new.saved =
+      λ e put. ⊎_elim (λ closed. inl (followed _ _ _ (finished closed))) (λ saved. inr (subst (λ (d : Durability). HasSaved d e new.saved) (sym settles) saved)) put in
       acts_concluded IsPorts shows asked old new Failed Unshown Progress r
-      (on_ok_weaker r (λ both. of (λ e q. HasEngineEnded IsPorts e new.closed × (shows ≡ true → WritesOut IsPorts e q old.entries new.entries)) both)
-      (both_done _ _ r
-      (on_ok_weaker r (λ both. (before, after, before_is, after_is, begun, both.1, both.0))
-      (both_done _ _ r (on_ok_weaker r (λ done. ends_so end ran done.0) concludes.done) concludes.closed))
+      (on_ok_weaker r (λ both. of (λ e q. HasEngineEnded IsPorts e (durability_of asked) new.ended × (shows ≡ true → WritesOut IsPorts e q old.entries new.entries))
+      (subst (λ (d : Durability). HasEngineEnded IsPorts engine d new.ended) (sym settles) both.0, both.1)) (both_done _ _ r
+      (engine_ended IsPorts engine durability before after before_is after_is begun new.ended end r went (on_ok_weaker r (λ done. done.0) concludes.done) concludes.ended)
       (wrote_out IsPorts engine shows p durability old opened new before after before_is after_is end r kept found named promise concludes)))
+      (IfErr-weaker r _ _ (λ e stop. of (λ n q. HasEngineStopped IsPorts n e new.ended) stop)
+      (engine_stopped IsPorts engine durability before after before_is after_is begun new.ended end r went concludes.reported concludes.ended))
+      (IfErr-weaker r _ _ (λ e put. saved_so e put) concludes.saved)
       (λ shown. IfErr-weaker r _ _ (λ e stops. of (λ n q. LeavesOut IsPorts n q old.entries new.entries e) stops)
       (stopped_out IsPorts engine shows p durability old opened new before after before_is after_is end r kept found named promise concludes unsaved shown))
-      concludes.fault
-      (λ shown. spares
+      concludes.fault (λ shown. spares
       (spared_out IsPorts engine shows p durability old opened new before after before_is after_is end r kept found named promise concludes shown))
       (subst (λ order. Follows order old.events new.events) (sym whole_is)
       (then_concluded xs ys p.to durability (replacing p.save durability) old.events opened.events new.events noted concludes.order))
-      (on_ok_weaker r (λ closed. then_closed xs ys p.to durability old.events opened.events new.events noted closed ∙ ap (λ order. old.events ++ order) (sym done_is))
-      concludes.order_done)
-      apart fresh silent
+      (on_ok_weaker r finished concludes.order_done) apart fresh silent
 
 module _ (IsPorts : Ports → Type 0) (shows : Bool) (old opened new : FilesView) (Failed Unshown : Type 0) (Progress : Option (List ℕ) → Result (Unit {0}) Ending → Type 0) (before after : Ports) (before_is : IsPorts before)
     (after_is : IsPorts after) (end : Result (Unit {0}) Interruption) (r : Result (Unit {0}) Ending) (kept : opened.entries ≡ old.entries) where
   pub encrypt_acts : (e : Encrypting) (secret : SecretView) (sealed : Result Written FileFault) → AreNew before → (shows ≡ true → MakesSecret e old.entries secret)
       → (shows ≡ true → Found (record { from = e.from.now; to = e.to.now; save = None }) old.entries before) → end ≡ sealing_end sealed
       → IfOk sealed (Encrypts secret before after) → IfErr sealed (EncryptFails secret before after) → after.sink.label ≡ before.sink.label
-      → Concludes shows None e.durability after.sink end opened new r
-      → opened.events ≡ old.events
+      → Concludes shows None e.durability after.sink end opened new r → opened.events ≡ old.events
       ++ ((Opened e.pass.now ∷ Opened (random_name (option_text e.random)) ∷ []) ++ (Opened e.from.now ∷ Created e.to.now ∷ []))
       → (NamesTwice (order_asked (Encrypt e)).apart → ⊥) → (shows ≡ true → IsFresh e.clobber (old.entries e.to.now)) → (e.progress ≡ Silent → Unshown) × (e.progress ≡ Shown → Progress (old.entries e.from.now) r)
       → Acts IsPorts shows (Encrypt e) old new Failed Unshown Progress r
   encrypt_acts e secret sealed begun made found is ends fails named concludes noted apart fresh silent =
       acts_of_engine IsPorts shows (Encrypt e) old opened new Failed Unshown Progress (encrypt_engine secret) (record { from = e.from.now; to = e.to.now; save = None }) e.durability
-      before after end r (Opened e.pass.now ∷ Opened (random_name (option_text e.random)) ∷ []) (Opened e.from.now ∷ []) before_is after_is refl
-      refl
+      before after end r (Opened e.pass.now ∷ Opened (random_name (option_text e.random)) ∷ []) (Opened e.from.now ∷ []) before_is after_is refl refl
       (λ P holds. (secret, made, holds)) begun
-      (subst (λ (n : Result (Unit {0}) Interruption). OnOk n ((encrypt_engine secret).ends before after)) (sym is)
-      (sealing_ran sealed (λ written sealed_so. (written, sealed_so)) ends)) (λ spared. spared) kept found named
+      (subst (λ (n : Result (Unit {0}) Interruption). Went (encrypt_engine secret) before after n) (sym is) (went_sealing secret before after sealed ends fails)) refl
+      (λ spared. spared) kept found named
       (λ shown. subst (λ (n : Result (Unit {0}) Interruption). Kept (encrypt_engine secret) before after n) (sym is) (kept_sealing secret before after sealed ends fails))
       concludes noted apart (λ same. cc) fresh silent
 
@@ -123,7 +115,7 @@ module _ (IsPorts : Ports → Type 0) (shows : Bool) (old opened new : FilesView
       acts_of_engine IsPorts shows (Decrypt d) old opened new Failed Unshown Progress (decrypt_engine k identity) (paths_of d) d.durability before did.after
       (opening_end did.decrypted) r (identity_order (option_text d.identity.pass) (option_text d.identity.shared)) (Opened d.from.now ∷ preparing (option_text d.save))
       before_is did.after_is refl refl (λ P holds. (identity, opens, holds)) begun
-      (opening_ran did.decrypted (λ done so. let of = the_run did.run so in (done, of.0, of.1)) did.done) (λ spared. spared) kept found did.named
+      (went_opening k identity before did.after did.run did.decrypted did.done did.halted) refl (λ spared. spared) kept found did.named
       (λ shown. kept_opening k identity before did.after did.run did.decrypted did.done (did.stopped shown (holds shown))) did.concludes noted apart
       (λ same. apart (inr (inl (inl (d.to.now, same, refl))))) fresh (did.silent, λ asked. did.shown asked (old.entries d.from.now) (λ shown. (found shown).1))
 
@@ -157,8 +149,8 @@ module _ (IsPorts : Ports → Type 0) (shows : Bool) (old opened new : FilesView
             (was.0, was.2, ap is_some was.2 ∙ was.1)),
         holds,
       )) begun
-      (opening_ran did.resumed (λ done so. let of = the_run did.run so in
-      (first, did.last, first_is, did.last_is, refl, (done, of.0, of.1))) did.done) (λ spared. spared) kept found did.named
+      (went_resuming IsPorts k identity from before did.after first did.last did.run did.resumed first_is did.last_is did.done did.halted) refl
+      (λ spared. spared) kept found did.named
       (λ shown. kept_resuming IsPorts k identity from first.supply.left before did.after first did.last did.run did.resumed first_is
       did.last_is refl did.done (did.stopped shown (holds shown))) did.concludes noted apart
       (λ same. apart (inr (inl (inl (d.to.now, same, refl))))) fresh (did.silent, λ asked. did.shown asked (old.entries d.from.now) (λ shown. (found shown).1))

@@ -52,8 +52,7 @@ read_from (Some x) None bs t c = absurd c
 read_from (Some x) (Some y) bs t c = (y, ap Some c, λ e. e)
 
 is_read : (identity : Identity) (input : Option (List ℕ)) (before after : Ports) (written : ℕ) (r : Run) → input ≡ before.source.supply.left → is_some input
-    ≡ true
-    → IsRun (allows_by identity) before after written r → IsRead identity input r
+    ≡ true → IsRun (allows_by identity) before after written r → IsRead identity input r
 is_read identity input before after written r coming there is =
     let read = (r.file.header_bytes ++ r.file.nonce) ++ (r.skipped ++ r.bytes) in
     let found = read_from before.source.supply.left after.source.supply.left read (ap is_some (sym coming) ∙ there) is.reads.read.left in
@@ -85,8 +84,7 @@ whole_out IsPorts keep identity input new text there auth o =
 
 -- OUT, if the run stopped
 held_stop : (IsPorts : Ports → Type 0) (keep : PositionPolicy) (identity : Identity) (input old new : Option (List ℕ)) (position : Option Position)
-    (fault : FileFault) (text : List ℕ)
-    → is_some input ≡ true → ((r : Run) → IsFromStart r → IsRead identity input r → IsAuthenticRun r text)
+    (fault : FileFault) (text : List ℕ) → is_some input ≡ true → ((r : Run) → IsFromStart r → IsRead identity input r → IsAuthenticRun r text)
     → IsLeft IsPorts (decrypt_engine keep identity) position fault input old new ⊎ IsUnclosed IsPorts (decrypt_engine keep identity) position fault input old new
     → HoldsNoMore old new text
 held_stop IsPorts keep identity input old new position fault text there auth (inl (taken, s, left)) =
@@ -132,8 +130,7 @@ same_front n a b x y p q e = sym (take_at a x n p) ∙ (ap (take n) e ∙ take_a
 module _ (identity : Identity) (p : Position) (input old_text : Option (List ℕ)) (text : List ℕ) (there : is_some input ≡ true) (old_there : is_some old_text
     ≡ true)
     (few : chunk_count chunk_length text ≤ chunk_limit) (begins : (all : List ℕ) → old_text ≡ Some all → (p.index * chunk_length ≤ length text)
-    × IsPrefixOf (take (p.index * chunk_length) text) all)
-    (auth : (r : Run) → BeginsAt p r → IsRead identity input r → IsTexts text r) where
+    × IsPrefixOf (take (p.index * chunk_length) text) all) (auth : (r : Run) → BeginsAt p r → IsRead identity input r → IsTexts text r) where
   begins_with : (coming : Supply) → old_text ≡ coming.left → BeginsWith p coming text
   begins_with coming same =
       let all = some_of old_text old_there in
@@ -173,8 +170,7 @@ module _ (identity : Identity) (p : Position) (input old_text : Option (List ℕ
   -- OUT, if the run stopped
   resumed_stop : (IsPorts : Ports → Type 0) (keep : PositionPolicy) (old new : Option (List ℕ)) (position : Option Position) (fault : FileFault)
       → IsLeft IsPorts (resume_engine IsPorts keep identity p old_text) position fault input old new
-      ⊎ IsUnclosed IsPorts (resume_engine IsPorts keep identity p old_text) position fault input old new
-      → HoldsNoMore old new text
+      ⊎ IsUnclosed IsPorts (resume_engine IsPorts keep identity p old_text) position fault input old new → HoldsNoMore old new text
   resumed_stop IsPorts keep old new position fault (inl (taken, s, left)) =
       let before = resume_ports s.before s.promise.0 in
       let after = resume_ports s.after s.promise.1 in
@@ -191,12 +187,10 @@ module _ (identity : Identity) (p : Position) (input old_text : Option (List ℕ
 
 -- the words name one command, with these arguments
 one_name : (words : List Text) (name other : Text) (rows given : List Row) → Asks words name rows → Asks words other given → name ≡ other
-one_name words name other rows given a b =
-    ap (λ (o : Option (Text × List Row)). option_map_or (λ q. q.0) o []) (sym a.command ∙ b.command)
+one_name words name other rows given a b = ap (λ (o : Option (Text × List Row)). option_map_or (λ q. q.0) o []) (sym a.command ∙ b.command)
 
 one_command : (words : List Text) (name other : Text) (rows given : List Row) → Asks words name rows → Asks words other given → rows ≡ given
-one_command words name other rows given a b =
-    ap (λ (o : Option (Text × List Row)). option_map_or (λ q. q.1) o []) (sym a.command ∙ b.command)
+one_command words name other rows given a b = ap (λ (o : Option (Text × List Row)). option_map_or (λ q. q.1) o []) (sym a.command ∙ b.command)
 
 not_help : (words : List Text) → refusals words ≡ [] → IsForHelp words → ⊥
 not_help words taken (inl help) = subst (λ (ks : Kinds). IsAmong DisplayHelp ks) taken help
@@ -283,8 +277,7 @@ kept_stopped : (old new : Option (List ℕ)) (status : ℕ) (text : List ℕ) �
 kept_stopped old new status text failed safe = record { safe = safe; whole = λ zero. absurd (failed zero) }
 
 module _ (words : List Text) (shows : Bool) (IsPorts : Ports → Type 0) (before after : World) (Failed Unread Unprinted Unshown : Type 0)
-    (Progress : Option (List ℕ) → Result (Unit {0}) Ending → Type 0) (status : ℕ) (text : List ℕ)
-    (shown : shows ≡ true) where
+    (Progress : Option (List ℕ) → Result (Unit {0}) Ending → Type 0) (status : ℕ) (text : List ℕ) (shown : shows ≡ true) where
   abbrev pub old : Files
   old = before.files.entries
 
@@ -303,7 +296,7 @@ module _ (words : List Text) (shows : Bool) (IsPorts : Ports → Type 0) (before
 
   module _ (e : Decrypting) (auth : IsWritersInput e old text) where
     decrypted : (r : Result (Unit {0}) Ending) → OnErr r (status ≡ 0 → ⊥)
-        → OnOk r (OfEngine IsPorts shows (Decrypt e) old (λ engine paths. HasEngineEnded IsPorts engine after.files.closed × (shows ≡ true → WritesOut IsPorts engine paths old new)))
+        → OnOk r (OfEngine IsPorts shows (Decrypt e) old (λ engine paths. HasEngineEnded IsPorts engine e.durability after.files.ended × (shows ≡ true → WritesOut IsPorts engine paths old new)))
         → IfErr r (λ ending. ((new ≡ old) × EndsBefore (Decrypt e) old ending × HasReason old after.files.events Failed ending)
         ⊎ OfEngine IsPorts shows (Decrypt e) old (λ engine paths. LeavesOut IsPorts engine paths old new ending))
         → KeepsOut (old e.to.now) (new e.to.now) status text
@@ -340,7 +333,7 @@ module _ (words : List Text) (shows : Bool) (IsPorts : Ports → Type 0) (before
     fronts p old_text at is all same = old_front p (old s.old.now) text (λ all held. auth.old_text p at all held) all (sym is ∙ same)
 
     resumed : (r : Result (Unit {0}) Ending) → OnErr r (status ≡ 0 → ⊥)
-        → OnOk r (OfEngine IsPorts shows (Resume s) old (λ engine paths. HasEngineEnded IsPorts engine after.files.closed × (shows ≡ true → WritesOut IsPorts engine paths old new)))
+        → OnOk r (OfEngine IsPorts shows (Resume s) old (λ engine paths. HasEngineEnded IsPorts engine s.decrypting.durability after.files.ended × (shows ≡ true → WritesOut IsPorts engine paths old new)))
         → IfErr r (λ ending. ((new ≡ old) × EndsBefore (Resume s) old ending × HasReason old after.files.events Failed ending)
         ⊎ OfEngine IsPorts shows (Resume s) old (λ engine paths. LeavesOut IsPorts engine paths old new ending))
         → KeepsOut (old s.decrypting.to.now) (new s.decrypting.to.now) status text

@@ -9,7 +9,9 @@ pub mod SettledLemmas
 pub mod RereadLemmas
 pub mod RestLemmas
 pub mod TakingLemmas
+pub mod TextLemmas
 pub mod ProgressLemmas
+pub mod FileLemmas
 pub mod FinalLemmas
 pub mod HeadlineLemmas
 pub mod ObeyLemmas

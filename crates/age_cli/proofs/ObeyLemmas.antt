@@ -113,6 +113,8 @@ module _ (IsPorts : Ports → Type 0) (shows : Bool) (before after : FilesView) 
       → OnOk r (after.events ≡ before.events ++ (order_asked (Drill d)).done) → Acts IsPorts shows (Drill d) before after Failed Unshown Progress r
   drill_acts d whole finished = record {
     done = always r _ tt;
+    stopped = every_fault r _ (λ e. inr tt);
+    saved = every_fault r _ (λ e. inl whole);
     stops = λ shown. every_fault r _ (λ e. inr tt);
     keeps = λ shown refused there. absurd (true≢false (sym there));
     usage = every_fault r _ (λ e usage. kept);
@@ -136,6 +138,8 @@ module _ (IsPorts : Ports → Type 0) (shows : Bool) (before after : FilesView) 
       λ P. IfErr-weaker r _ _ (λ e no usage. absurd (true≢false (sym usage ∙ no))) fault in
       record {
         done = always r _ tt;
+        stopped = every_fault r _ (λ e. inr tt);
+        saved = every_fault r _ (λ e. inl (followed before.events after.events _ noted));
         stops = λ shown. every_fault r _ (λ e. inr tt);
         keeps = λ shown refused there. absurd (true≢false (sym there));
         usage = impossible _;

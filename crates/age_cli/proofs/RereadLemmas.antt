@@ -28,14 +28,17 @@ use Rattle.age_command.specs.Endings.{is_usage}
 use Rattle.age_command.specs.Orders.{Follows, replacing}
 use Rattle.age_command.specs.Files.{Files, SparesBut, SparesBoth}
 use Rattle.age_command.proofs.EventLemmas.{then_follows}
-use Rattle.age_cli.specs.Acts.{EndsOf, IsSaved, SaveFails, kept_for}
-use Rattle.age_cli.specs.inner.Openings.{Saves}
+use Rattle.age_cli.specs.Acts.{EndsOf, IsEndingOf, HasSaved, IsSaved, SaveFails, kept_for}
+use Rattle.age_cli.specs.inner.Openings.{Stands}
 use Rattle.age_cli.specs.declared.interruption.Interruption.{Interruption}
 use Rattle.age_io.specs.Supply.{IsAtEnd}
 use Rattle.age_cli.proofs.CommandStopLemmas.{ends_from}
 use Rattle.age_cli.proofs.SettledLemmas.{all_written}
 use Rattle.age_cli.proofs.ProgressLemmas.{at_end_of, opening_at_end}
-use Rattle.age_cli.specs.inner.Endings.{Concludes, IsPut, Left, opening_end}
+use Rattle.age_cli.specs.inner.Endings.{Concludes, IsPut, Left, opening_end, LeavesFile, EndsFile}
+use Rattle.age_machine.specs.Ends.{EndedFile}
+use Rattle.age_cli.proofs.FileLemmas.{some_and, left_file, put_closed}
+use Rattle.std.proofs.lemmas.Result.{IfErr-weaker}
 use Rattle.age_cli.specs.inner.Rereadings.{again_of, ConcludesAgain, ConcludesDecryption, DecryptsOpened, HoldsInput, IsFoundIn, stopped_at}
 
 pub some_of : (o : Option (List ℕ)) → is_some o ≡ true → (bytes : List ℕ) × (o ≡ Some bytes)
@@ -78,6 +81,7 @@ module _ (IsPorts : Ports → Type 0) (shows : Bool) (d : Decrypting) (i : Ident
     run = did.is.run;
     done = did.is.done;
     stopped = λ shown holds. stops;
+    halted = IfErr-weaker end _ _ (λ s so. (keep, did.is.run, s, refl, so)) did.is.stopped;
     named = did.is.named;
     concludes = concludes;
     silent = silent;
@@ -117,6 +121,7 @@ module _ (IsPorts : Ports → Type 0) (shows : Bool) (d : Decrypting) (i : Ident
       run = did.is.run;
       done = tt;
       stopped = λ shown holds. subst (λ (keep : PositionPolicy). At keep did.is.run p) (kept_some (option_text d.save) saves) (stops shown holds);
+      halted = (Dropped, did.is.run, s, refl, did.is.stopped);
       named = did.is.named;
       concludes = concludes;
       silent = silent;
@@ -162,18 +167,20 @@ save_unfound None p files f there fault = absurd (true≢false (sym there))
 save_unfound (Some name) p files f there fault = (refl, unfound f fault)
 
 -- a position that stands in its file is saved
-pub saves_is : (save : Option Text) (p : Position) (old new : Files) → Saves save (Some p) old new → IsSaved save (Some p) old new
+pub saves_is : (save : Option Text) (p : Position) (old new : Files) → Stands save (Some p) old new → IsSaved save (Some p) old new
 saves_is None p old new saves = tt
 saves_is (Some name) p old new saves = saves
 
 -- OUT was left as the stop leaves it, and then what is due was done for the position
 pub concludes_left : (shows : Bool) (save : Option Text) (durability : Durability) (sink : SinkView) (cause : Interruption) (old mid new : FilesView) (ending : Ending)
+    → IsSomeAnd mid.ended (LeavesFile sink) → new.ended ≡ mid.ended → IsEndingOf cause.fault ending
+    → (new.events ≡ mid.events) ⊎ HasSaved durability ending new.saved
     → (shows ≡ true → IsPut sink.taken.contents (old.entries sink.label) (mid.entries sink.label))
     → SparesBut sink.label old.entries mid.entries → mid.events ≡ old.events ++ Closed durability ∷ [] → is_usage ending ≡ false
     → (shows ≡ true → EndsOf cause.fault save cause.position mid.entries new.entries ending)
     → Follows (replacing save durability) mid.events new.events → (shows ≡ true → SparesBoth None save mid.entries new.entries)
     → Concludes shows save durability sink (Err cause) old new (Err ending)
-concludes_left shows save durability sink cause old mid new ending left others closed fault ends noted spares = record {
+concludes_left shows save durability sink cause old mid new ending file unended reported put left others closed fault ends noted spares = record {
   done = tt;
   stops = λ shown apart. (
     cause,
@@ -187,5 +194,8 @@ concludes_left shows save durability sink cause old mid new ending left others c
   spares = λ shown q to save_is. spares shown q (λ e. cc) save_is ∙ others q (λ e. to (ap Some (sym e)));
   order = then_follows _ _ _ (Closed durability ∷ []) (replacing save durability) closed noted;
   order_done = tt;
-  closed = tt;
+  ended = subst (λ (o : Option EndedFile). IsSomeAnd o (EndsFile durability sink (Err cause) (Err ending))) (sym unended)
+      (some_and mid.ended (λ out so. left_file durability sink cause ending out so) file);
+  reported = (cause.fault, refl, reported);
+  saved = put_closed old.events mid.events new.events (Closed durability ∷ []) closed put;
 }

@@ -27,6 +27,7 @@ use Rattle.age_cli.specs.inner.Endings.{Concludes, opening_end}
 use Rattle.age_cli.specs.inner.Rereadings.{again_of, key_of, placed, ConcludesAgain, ConcludesDecryption, HoldsInput, IsFoundIn, ResumesOpened, start_of, stopped_at}
 use Rattle.age_io.specs.Supply.{IsAtEnd}
 use Rattle.age_cli.proofs.ProgressLemmas.{at_end_of, resuming_at_end}
+use Rattle.age_cli.specs.Acts.{HaltsResumption}
 use Rattle.age_cli.proofs.RereadLemmas.{kept_some, some_of}
 use Rattle.age_cli.proofs.SettledLemmas.{all_written, at_least, starts_there}
 
@@ -76,10 +77,11 @@ module _ (IsPorts : Ports → Type 0) (shows : Bool) (d : Decrypting) (i : Ident
   -- one that isn't read again ended as if positions had been kept, if one is to be saved
   resumed_once : (run : Option Run) (end : Result Done Stopped) (r : Result (Unit {0}) Ending) → after.sink.label ≡ before.sink.label
       → IfOk end (λ done. IsSomeAnd run (ResumeEnds (allows_by i) from (resume_ports before first) (resume_ports after last) done))
-      → IfErr end (Stops i from (resume_ports before first) (resume_ports after last) (kept_for (option_text d.save)) run) → Shows r
+      → IfErr end (Stops i from (resume_ports before first) (resume_ports after last) (kept_for (option_text d.save)) run)
+      → IfErr end (λ s. HaltsResumption i from (resume_ports before first) (resume_ports after last) s.fault) → Shows r
       → Concludes shows (option_text d.save) d.durability after.sink (opening_end end) old new r
       → ResumesOpened IsPorts shows d i from first before old new Unshown Progress r
-  resumed_once run end r named done stops shown concludes = record {
+  resumed_once run end r named done stops halted shown concludes = record {
     after = after;
     after_is = after_is;
     last = last;
@@ -88,6 +90,7 @@ module _ (IsPorts : Ports → Type 0) (shows : Bool) (d : Decrypting) (i : Ident
     run = run;
     done = done;
     stopped = λ shown holds. stops;
+    halted = halted;
     named = named;
     concludes = concludes;
     silent = silent;
@@ -138,6 +141,7 @@ module _ (IsPorts : Ports → Type 0) (shows : Bool) (d : Decrypting) (i : Ident
       run = did.is.run;
       done = tt;
       stopped = λ shown holds. subst (λ (keep : PositionPolicy). At keep did.is.run p) (kept_some (option_text d.save) saves) (stops shown holds);
+      halted = (Dropped, did.is.run, s, refl, did.is.stopped);
       named = did.is.named;
       concludes = concludes;
       silent = silent;
@@ -159,28 +163,31 @@ module _ (IsPorts : Ports → Type 0) (shows : Bool) (d : Decrypting) (i : Ident
       → Did keep (Err s) standing → Shows r → Concluded r (Err s) None → ResumesOpened IsPorts shows d i from first before old new Unshown Progress r
   as_kept s standing keep r kept did shown concludes =
       resumed_once did.is.run (Err s) r did.is.named tt
-      (subst (λ (x : PositionPolicy). Stops i from (resume_ports before first) (resume_ports after last) x did.is.run s) kept did.is.stopped) shown concludes
+      (subst (λ (x : PositionPolicy). Stops i from (resume_ports before first) (resume_ports after last) x did.is.run s) kept did.is.stopped)
+      (keep, did.is.run, s, refl, did.is.stopped) shown concludes
 
   by : RestReadAgain Identity allows_by refuses_by → (reread : Bool) (end : Result Done Stopped) (standing : Standing) (keep : PositionPolicy)
       (r : Result (Unit {0}) Ending) → (reread ≡ true → is_some (option_text d.save) ≡ true) → (reread ≡ true → keep ≡ Dropped)
       → (reread ≡ false → keep ≡ kept_for (option_text d.save)) → Did keep end standing → Shows r
       → Concluded r (placed reread standing from end) (again_of reread (placed reread standing from end) (key_of standing))
       → ResumesOpened IsPorts shows d i from first before old new Unshown Progress r
-  by law false (Ok x) standing keep r saves dropped kept did shown concludes = resumed_once did.is.run (Ok x) r did.is.named did.is.done tt shown concludes
-  by law true (Ok x) Before keep r saves dropped kept did shown concludes = resumed_once did.is.run (Ok x) r did.is.named did.is.done tt shown concludes
-  by law true (Ok x) Skipping keep r saves dropped kept did shown concludes = resumed_once did.is.run (Ok x) r did.is.named did.is.done tt shown concludes
-  by law true (Ok x) (InPayload k) keep r saves dropped kept did shown concludes = resumed_once did.is.run (Ok x) r did.is.named did.is.done tt shown concludes
+  by law false (Ok x) standing keep r saves dropped kept did shown concludes = resumed_once did.is.run (Ok x) r did.is.named did.is.done tt tt shown concludes
+  by law true (Ok x) Before keep r saves dropped kept did shown concludes = resumed_once did.is.run (Ok x) r did.is.named did.is.done tt tt shown concludes
+  by law true (Ok x) Skipping keep r saves dropped kept did shown concludes = resumed_once did.is.run (Ok x) r did.is.named did.is.done tt tt shown concludes
+  by law true (Ok x) (InPayload k) keep r saves dropped kept did shown concludes = resumed_once did.is.run (Ok x) r did.is.named did.is.done tt tt shown concludes
   by law false (Err s) Before keep r saves dropped kept did shown concludes = as_kept s Before keep r (kept refl) did shown concludes
   by law false (Err s) Skipping keep r saves dropped kept did shown concludes = as_kept s Skipping keep r (kept refl) did shown concludes
   by law false (Err s) (InPayload k) keep r saves dropped kept did shown concludes = as_kept s (InPayload k) keep r (kept refl) did shown concludes
   by law true (Err s) Before keep r saves dropped kept did shown concludes =
       resumed_once did.is.run (Err s) r did.is.named tt
-      (before_as i from (resume_ports before first) (resume_ports after last) keep (kept_for (option_text d.save)) did.is.run s did.stands) shown concludes
+      (before_as i from (resume_ports before first) (resume_ports after last) keep (kept_for (option_text d.save)) did.is.run s did.stands)
+      (keep, did.is.run, s, refl, did.is.stopped) shown concludes
   by law true (Err s) Skipping keep r saves dropped kept did shown concludes =
       resumed_once did.is.run (Err (stopped_at s from)) r did.is.named tt
       (subst (λ (x : PositionPolicy). Stops i from (resume_ports before first) (resume_ports after last) x did.is.run (stopped_at s from)) (kept_some (option_text d.save) (saves refl))
       (skipping_as i from (resume_ports before first) (resume_ports after last) did.is.run s
-      (subst (λ (x : PositionPolicy). Stands i from (resume_ports before first) (resume_ports after last) x did.is.run (Err s) Skipping) (dropped refl) did.stands))) shown concludes
+      (subst (λ (x : PositionPolicy). Stands i from (resume_ports before first) (resume_ports after last) x did.is.run (Err s) Skipping) (dropped refl) did.stands)))
+      (keep, did.is.run, s, refl, did.is.stopped) shown concludes
   by law true (Err s) (InPayload k) keep (Ok x) saves dropped kept did shown concludes = absurd concludes
   by law true (Err s) (InPayload k) keep (Err e) saves dropped kept did shown concludes =
       resumed_again law s k (saves refl) e (subst (λ (x : PositionPolicy). Did x (Err s) (InPayload k)) (dropped refl) did) shown concludes

@@ -56,5 +56,4 @@ pub beyond_closed : (o : Option Position) (settled : ℕ) (Asked Unsaved : Type 
     → IfSome o (λ p. IsBeyond settled p → Asked → Unsaved × (new ≡ mid)) → mid ≡ old ++ closed
     → IfSome o (λ p. IsBeyond settled p → Asked → Unsaved × (new ≡ old ++ closed))
 beyond_closed None settled Asked Unsaved old mid new closed unsaved noted = tt
-beyond_closed (Some p) settled Asked Unsaved old mid new closed unsaved noted = λ beyond asked.
-    let so = unsaved beyond asked in (so.0, so.1 ∙ noted)
+beyond_closed (Some p) settled Asked Unsaved old mid new closed unsaved noted = λ beyond asked. let so = unsaved beyond asked in (so.0, so.1 ∙ noted)

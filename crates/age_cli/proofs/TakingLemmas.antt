@@ -22,3 +22,6 @@ unfolding empty_bytes
 took_some None is_empty knows some nothing = absurd knows
 took_some (Some bytes) is_empty knows some nothing =
     true≢false (sym (ap (λ (o : Option (List ℕ)). length (empty_bytes o) == 0) nothing) ∙ (sym knows ∙ some))
+
+pub took_bytes : (bytes : List ℕ) (is_empty : Bool) → is_empty ≡ (length bytes == 0) → is_empty ≡ false → bytes ≡ [] → ⊥
+took_bytes bytes is_empty knows some none = true≢false (sym (ap (λ (xs : List ℕ). length xs == 0) none) ∙ (sym knows ∙ some))

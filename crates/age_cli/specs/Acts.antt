@@ -1,7 +1,7 @@
 -- What a command does with files, done or stopped.
 use Rattle.std.specs.Prelude.{◌≡◌, ℕ, true, Result, Ok, Err, if◌then◌else◌, List, [], Option, Some, ◌⊎◌}
 use Rattle.std.specs.Prelude.{is_some, None, Bool, ◌++◌, OnOk, IfErr, IsErr, IsErrAnd, ◌≢◌, option_map}
-use Rattle.std.specs.Prelude.{length}
+use Rattle.std.specs.Prelude.{length, IfSome, IsSomeAnd, ◌<◌}
 use Rattle.clap.specs.Words.{Text}
 use Rattle.age_io.specs.Io.{SourceView, SinkView, Shown as ShownOne, ShowsReading}
 use Rattle.age_io.specs.Supply.{Supply, IsAtEnd}
@@ -16,6 +16,11 @@ use Rattle.age_file.specs.declared.encryption.Written.{Written}
 use Rattle.age_file.specs.declared.position.Position.{Position}
 use Rattle.age_file.specs.declared.position.PositionPolicy.{PositionPolicy}
 use Rattle.age_file.specs.declared.position.PositionPolicy.TheVariants.{Kept, Dropped}
+use Rattle.age_io.specs.declared.durability.Durability.{Durability}
+use Rattle.age_io.specs.declared.durability.Durability.TheVariants.{Buffered, Synced}
+use Rattle.age_machine.specs.Ends.{EndedFile, TouchesItself, IsOnDisk, IsUntouched}
+use Rattle.age_machine.specs.Saved.{SavedFile, Saves}
+use Rattle.age_file.specs.declared.decryption.Stopped.{Stopped}
 use Rattle.age_fileset.specs.FileSet.{IsMemoryOr, FilesView}
 use Rattle.age_cli_args.specs.Requests.{option_text}
 use Rattle.age_cli_args.specs.declared.request.ClobberOption.{ClobberOption}
@@ -43,6 +48,12 @@ use Rattle.age_cli.specs.Commands.{IsPositionIn, old_for}
 abbrev pub IsUsage : Ending → Type 0
 IsUsage ending = is_usage ending ≡ true
 
+-- it reports this fault, perhaps with that of a save
+abbrev pub IsEndingOf : FileFault → Ending → Type 0
+IsEndingOf fault (Fault f) = f ≡ fault
+IsEndingOf fault (Unsaved f second) = f ≡ fault
+IsEndingOf fault other = ⊥
+
 -- the status of the program: 1 on a fault, 2 for a bad command line
 abbrev pub ending_status : Ending → ℕ
 ending_status e = if is_usage e then 2 else 1
@@ -54,17 +65,30 @@ status_by (Err e) = ending_status e
 
 -- ---- What the engine of a command promises of its source and its sink, before and after.
 
--- what it promises if it ends, and if it stops with a position and a fault
+-- what it promises if it ends, if it stops with a position and a fault, and if it stops with a
+-- fault, whether it was to make a position or not
 pub record Engine : Type 1 where
   pub ends : Ports → Ports → Type 0
   pub stops : Option Position → FileFault → Ports → Ports → Type 0
+  pub halts : FileFault → Ports → Ports → Type 0
 
 -- that of `encrypt`, which has no position
 abbrev pub encrypt_engine : SecretView → Engine
 encrypt_engine secret = record {
   ends = λ before after. (written : Written) × Encrypts secret before after written;
   stops = λ position fault before after. EncryptFails secret before after fault;
+  halts = λ fault before after. EncryptFails secret before after fault;
 }
+
+-- it stopped with this fault, whether it was to make a position or not
+abbrev pub HaltsDecryption : Identity → Ports → Ports → FileFault → Type 0
+HaltsDecryption i before after fault = (policy : PositionPolicy) × (run : Option Run) × (stop : Stopped)
+    × (stop.fault ≡ fault) × DecryptStops policy (allows_by i) (refuses_by i) before after run stop
+
+abbrev pub HaltsResumption : Identity → Position → ResumePorts → ResumePorts → FileFault → Type 0
+HaltsResumption i from before after fault = (policy : PositionPolicy) × (run : Option Run)
+    × (stop : Stopped) × (stop.fault ≡ fault)
+    × ResumeStops (allows_by i) from before after policy (refuses_by i) run stop
 
 -- that of `decrypt`, which names its run
 abbrev pub decrypt_engine : PositionPolicy → Identity → Engine
@@ -74,6 +98,7 @@ decrypt_engine keep i = record {
   stops = λ position fault before after. (written : ℕ) × (run : Option Run)
       × DecryptStops keep (allows_by i) (refuses_by i) before after run
       (record { fault = fault; written = written; position = position });
+  halts = λ fault before after. HaltsDecryption i before after fault;
 }
 
 -- the ports of a source and a sink of one set of files: what they show, and how often they failed
@@ -83,9 +108,11 @@ pub record PortsOf {In Out : Type 0} (read : In → SourceView) (wrote : Out →
   pub sink : Out
   pub is : p ≡ ports (read source) (wrote sink)
 
--- a source that gave nothing so far, and a sink that took nothing
-abbrev pub AreNew : Ports → Type 0
-AreNew p = (p.source.supply.given ≡ []) × (p.sink.taken.bytes ≡ [])
+-- a source that gave nothing so far, and a sink that took nothing, and of which no call failed
+pub record AreNew (p : Ports) : Type 0 where
+  pub given : p.source.supply.given ≡ []
+  pub taken : p.sink.taken.bytes ≡ []
+  pub failed : p.sink.failed ≡ 0
 
 module _ (IsPorts : Ports → Type 0) where
   -- a second source of the set gives the old text
@@ -104,6 +131,7 @@ module _ (IsPorts : Ports → Type 0) where
     stops = λ position fault. Beside old_text (λ before after. (written : ℕ) × (run : Option Run)
         × ResumeStops (allows_by i) from before after keep (refuses_by i) run
         (record { fault = fault; written = written; position = position }));
+    halts = λ fault. Beside old_text (λ before after. HaltsResumption i from before after fault);
   }
 
   -- the engine ran: it read from this input, and wrote this to an output that was empty
@@ -205,6 +233,13 @@ progress_of (Decrypt d) = d.progress
 progress_of (Resume r) = r.decrypting.progress
 progress_of other = Silent
 
+-- when what is written reaches the disk
+abbrev pub durability_of : Request → Durability
+durability_of (Encrypt e) = e.durability
+durability_of (Decrypt d) = d.durability
+durability_of (Resume r) = r.decrypting.durability
+durability_of other = Buffered
+
 -- what becomes of an existing OUT
 abbrev pub clobber_of : Request → ClobberOption
 clobber_of (Encrypt e) = e.clobber
@@ -275,6 +310,25 @@ pub record ShowsProgress (shows : Bool) (old new : Option (List ShownOne)) (inpu
   pub again : (new ≡ middle)
       ⊎ ((input : Option (List ℕ)) × (left : Supply) × ShowsRun shows input left middle new)
 
+-- A position was put to its file, at once if that was a new one beside it, and the ending says whether
+-- that failed.
+abbrev pub HasSaved : Durability → Ending → SavedFile → Type 0
+HasSaved durability (Fault fault) saved =
+    (p : Position) × Saves {E = FileFault} (position_text p) durability (Ok tt) saved
+HasSaved durability (Unsaved fault second) saved =
+    (p : Position) × Saves (position_text p) durability (Err second) saved
+HasSaved durability other saved = ⊥
+
+-- no output was ended, or one that took nothing and is untouched
+abbrev pub SparesOut : (before after : Option EndedFile) → Type 0
+SparesOut before after = (after ≡ before)
+    ⊎ IsSomeAnd after (λ out. TouchesItself out × (out.took ≡ []) × IsUntouched 0 out)
+
+-- no engine ran
+abbrev pub HasNotBegun : Ending → (before after : Option EndedFile) → Type 0
+HasNotBegun ending before after =
+    (EndsEarly ending ⊎ (ending ≡ Fault BadPosition)) × SparesOut before after
+
 module _ (IsPorts : Ports → Type 0) where
   -- what is asked and what the files hold make an engine, and this holds of it and of the names;
   -- files that contracts don't see may hold anything
@@ -295,11 +349,37 @@ module _ (IsPorts : Ports → Type 0) where
       (paths_of d)
   OfEngine shows other old P = Unit {0}
 
-  -- the engine ended, over a source and a sink of the files which were new, and the sink of the file
-  -- that was closed last had taken what the engine's took
-  abbrev pub HasEngineEnded : Engine → (closed : Option (List ℕ)) → Type 0
-  HasEngineEnded engine closed = (before : Ports) × (after : Ports) × IsPorts before × IsPorts after
-      × AreNew before × (closed ≡ Some after.sink.taken.bytes) × engine.ends before after
+  -- an engine returned, over a source and a sink of the files which were new, and the output that
+  -- was ended last had taken what its sink took
+  pub record Returned (ended : Option EndedFile) : Type 0 where
+    pub before : Ports
+    pub after : Ports
+    pub before_is : IsPorts before
+    pub after_is : IsPorts after
+    pub new : AreNew before
+    pub out : EndedFile
+    pub is : ended ≡ Some out
+    pub took : out.took ≡ after.sink.taken.bytes
+    pub within : TouchesItself out
+
+  -- it ended, and the output is on the disk, if that was to be waited for
+  pub record HasEngineEnded (engine : Engine) (durability : Durability) (ended : Option EndedFile)
+      : Type 0 where
+    pub run : Returned ended
+    pub promise : engine.ends run.before run.after
+    pub safe : durability ≡ Synced → IsOnDisk run.out
+
+  -- It stopped with the fault that is reported, and the output is untouched if its sink took
+  -- nothing; or the end of the output failed, as did a call, if it is a regular file.
+  pub record HasEngineStopped (engine : Engine) (ending : Ending) (ended : Option EndedFile)
+      : Type 0 where
+    pub run : Returned ended
+    pub fault : FileFault
+    pub reported : IsEndingOf fault ending
+    pub cause : (engine.halts fault run.before run.after
+        × (run.out.took ≡ [] → IsUntouched run.after.sink.failed run.out))
+        ⊎ (engine.ends run.before run.after × (fault ≡ Write)
+        × IfSome run.out.file (λ f. 0 < run.out.failed))
 
   -- What stands before and after a command; `shows` says whether contracts see the files, `Failed`
   -- that a source of these failed, `Unshown` that the progress is as it was, and `Progress` what was
@@ -310,8 +390,15 @@ module _ (IsPorts : Ports → Type 0) where
     -- The engine ended, and OUT was closed with what it wrote; it holds what the engine promises for
     -- what the names stood for at the call.
     pub done : OnOk ended (OfEngine shows asked before.entries (λ engine paths.
-        HasEngineEnded engine after.closed
+        HasEngineEnded engine (durability_of asked) after.ended
         × (shows ≡ true → WritesOut IsPorts engine paths before.entries after.entries)))
+    -- No engine ran, and no output is touched; or the engine stopped, or its output couldn't be ended.
+    pub stopped : IfErr ended (λ ending. HasNotBegun ending before.ended after.ended
+        ⊎ OfEngine shows asked before.entries
+        (λ engine paths. HasEngineStopped engine ending after.ended))
+    -- After a stop nothing was replaced, or a position was saved.
+    pub saved : IfErr ended (λ ending. Follows (order_asked asked).done before.events after.events
+        ⊎ HasSaved (durability_of asked) ending after.saved)
     -- Nothing differs, and 26 and 27 have a reason; or OUT holds what the engine promises for a
     -- stop, and the file of `--save` its position.
     pub stops : shows ≡ true → IfErr ended (λ ending. ((after.entries ≡ before.entries)

@@ -1,6 +1,6 @@
 -- When OUT holds nothing but what the file's writer wrote: the headline at the command line.
 use Rattle.std.specs.Prelude.{◌≡◌, ◌⊎◌, ℕ, ◌*◌, ◌≤◌, true, List, [], ◌++◌, length, take, Option}
-use Rattle.std.specs.Prelude.{Some, Bool, Result, IfErr, IsErrAnd}
+use Rattle.std.specs.Prelude.{Some, Bool, Result, Ok, Err, IfErr, IsErrAnd}
 use Rattle.clap.specs.Words.{Text}
 use Rattle.age_stanza.specs.Grammar.{HeadText}
 use Rattle.age_chunk.specs.Payload.{chunk_count, chunk_length, block_length, chunk_limit}
@@ -16,7 +16,16 @@ use Rattle.age_cli_args.specs.declared.request.Resuming.{Resuming}
 use Rattle.age_command.specs.Files.{Files}
 use Rattle.age_command.specs.Identities.{allows_by, OpensBy}
 use Rattle.age_command.specs.declared.identity.Identity.{Identity}
-use Rattle.age_cli.specs.Acts.{ShowsProgress, IsUsage}
+use Rattle.age_fault.specs.declared.fault.FileFault.{FileFault}
+use Rattle.age_fault.specs.declared.fault.FileFault.TheVariants.{Head, Key, NonceCut, OtherFile}
+use Rattle.age_fault.specs.declared.fault.FileFault.TheVariants.{PositionForged}
+use Rattle.age_cli_args.specs.declared.request.Request.{Request}
+use Rattle.age_file.specs.InARow.{GaveFile}
+use Rattle.age_fileset.specs.FileSet.{FilesView}
+use Rattle.age_io.specs.declared.durability.Durability.{Durability}
+use Rattle.age_io.specs.declared.durability.Durability.TheVariants.{Synced}
+use Rattle.age_machine.specs.Ends.{EndedFile, TouchesItself, IsOnDisk}
+use Rattle.age_cli.specs.Acts.{Acts, AreNew, IsEndingOf, OpensOf, ShowsProgress, SparesOut, IsUsage}
 use Rattle.age_cli.specs.Runs.{World, Runs, Declines, Obeys, IsRefusal}
 use Rattle.age_cli.specs.Commands.{IsPositionIn, FailsReport}
 use Rattle.age_command.specs.declared.ending.Ending.{Ending}
@@ -129,3 +138,58 @@ RefusesInSilence shows IsPorts Failed Input Output Progress =
 abbrev pub ReportsAccept : Type 0
 ReportsAccept = (ended : Result (Unit {0}) Ending) (held : Option (List ℕ))
     → IfErr ended (FailsReport held) → IfErr ended (λ e. IsUsage e → ⊥)
+
+-- ---- A decryption over any set of files, the machine's among them.
+
+-- What a source of the set gave is the age file of a text, which an identity opens. OUT was closed with
+-- just that text, and is on the disk, if that was to be waited for.
+pub record LeavesText (IsPorts : Ports → Type 0) (identity : Identity) (durability : Durability)
+    (ended : Option EndedFile) : Type 0 where
+  pub text : List ℕ
+  pub before : Ports
+  pub after : Ports
+  pub before_is : IsPorts before
+  pub after_is : IsPorts after
+  pub new : AreNew before
+  pub gave : GaveFile (allows_by identity) before.source.supply after.source.supply text
+  pub out : EndedFile
+  pub is : ended ≡ Some out
+  pub took : out.took ≡ text
+  pub within : TouchesItself out
+  pub safe : durability ≡ Synced → IsOnDisk out
+
+-- a fault that comes before OUT is written, also of a wrong passphrase
+abbrev pub IsBeforeText : FileFault → Type 0
+IsBeforeText (Head fault) = Unit {0}
+IsBeforeText (Key fault) = Unit {0}
+IsBeforeText NonceCut = Unit {0}
+IsBeforeText OtherFile = Unit {0}
+IsBeforeText PositionForged = Unit {0}
+IsBeforeText other = ⊥
+
+-- a file is to be decrypted, from its start or from a position
+abbrev pub IsForText : Request → Type 0
+IsForText (Decrypt d) = Unit {0}
+IsForText (Resume r) = Unit {0}
+IsForText other = ⊥
+
+module _ (shows : Bool) (IsPorts : Ports → Type 0) (Failed Progress : Type 0) where
+  -- a command did this, with a meter of this type, and ended so
+  abbrev pub Obeyed : Request → FilesView → FilesView → Result (Unit {0}) Ending → Type 0
+  Obeyed asked before after ended = (progress : Progress × Progress)
+      × (shown : Option (List Shown) × Option (List Shown))
+      × Acts IsPorts shows asked before after Failed (progress.1 ≡ progress.0)
+      (ShowsProgress shows shown.0 shown.1) ended
+
+  -- If a decryption is done, OUT is the text whose age file IN gave.
+  abbrev pub DoneLeavesText : Type 0
+  DoneLeavesText = (d : Decrypting) (before after : FilesView)
+      → Obeyed (Decrypt d) before after (Ok tt)
+      → (identity : Identity) × OpensOf shows d before.entries identity
+      × LeavesText IsPorts identity d.durability after.ended
+
+  -- After a fault that comes before the text OUT is as it was, or the empty file that was made.
+  abbrev pub KeyFaultsSpareOut : Type 0
+  KeyFaultsSpareOut = (asked : Request) (before after : FilesView) (ending : Ending)
+      (fault : FileFault) → IsForText asked → Obeyed asked before after (Err ending)
+      → IsEndingOf fault ending → IsBeforeText fault → SparesOut before.ended after.ended

@@ -76,8 +76,8 @@ module _ (words : List Text) (shows : Bool) (IsPorts : Ports → Type 0) (before
 
   -- `inspect` reported the input, or its file, which 26 says can't be read. A drill sent on what it
   -- wrote, and wrote nothing if it is refused; with both or neither of `--clear` and `--pass` it is
-  -- refused before a file is opened. Other commands write nothing to the output, and none of them
-  -- reads the input.
+  -- refused before a file is opened. Neither ends an output. Other commands write nothing to the
+  -- output, and none of them reads the input.
   abbrev pub DoesOther : Request → Type 0
   DoesOther (Inspect None) =
       Reported ended (Reports before.input after.input before.output.taken after.output.taken)
@@ -87,9 +87,11 @@ module _ (words : List Text) (shows : Bool) (IsPorts : Ports → Type 0) (before
       (seen shows (before.files.entries name.now)) before.output after.output
       × (shows ≡ true → IfErr ended (λ e. e ≡ Fault Read
       → IsUnread before.files.entries after.files.events Failed))
+      × (after.files.ended ≡ before.files.ended)
   DoesOther (Drill d) = Unread × OnOk ended (after.output.settled ≡ true)
       × IfErr ended (λ e. IsUsage e → Unprinted) × (d.clear ≡ is_some (option_text d.pass)
       → (after.files.events ≡ before.files.events) × IsErrAnd ended IsUsage)
+      × (after.files.ended ≡ before.files.ended)
   DoesOther other = Unread × Unprinted
 
   -- Words that make a request are obeyed.

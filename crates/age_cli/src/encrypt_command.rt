@@ -65,6 +65,7 @@ fn random_in<S: Source>(alloc: Global, source: &mut S) -> Result<FileRandom, End
 /// The random parts, from the first 48 bytes of a file.
 fn read_random<F: FileSet>(alloc: Global, files: &mut F, name: &str) -> Result<FileRandom, Ending>
     ensures kept { (F.view files.new).entries ≡ (F.view files.old).entries }
+    ensures unended { (F.view files.new).ended ≡ (F.view files.old).ended }
     ensures read { IfOk result (λ r. F.shows_bytes ≡ true
         → (bytes : List ℕ) × (rest : List ℕ)
         × ((F.view files.old).entries name.now ≡ Some (bytes ++ rest)) × IsRandom bytes r) }
@@ -104,6 +105,7 @@ fn read_pass<F: FileSet>(
     asked: &Encrypting<'_>,
 ) -> Result<Vec<u8>, Ending>
     ensures kept { (F.view files.new).entries ≡ (F.view files.old).entries }
+    ensures unended { (F.view files.new).ended ≡ (F.view files.old).ended }
     ensures noted { (F.view files.new).events
         ≡ (F.view files.old).events ++ Opened asked.now.pass.now ∷ [] }
     ensures early { IfErr result EndsEarly }

@@ -119,6 +119,7 @@ pub(crate) fn report_file<F: FileSet, O: Sink>(
     output: &mut O,
 ) -> Result<(), Ending>
     ensures kept { (F.view files.new).entries ≡ (F.view files.old).entries }
+    ensures unended { (F.view files.new).ended ≡ (F.view files.old).ended }
     ensures noted { (F.view files.new).events ≡ (F.view files.old).events ++ Opened name.now ∷ [] }
     ensures done { OnOk result (ReportsFile (F.shows_bytes) ((F.view files.old).entries name.now)
         (O.view output.old).taken (O.view output.new).taken) }

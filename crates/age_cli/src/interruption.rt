@@ -1,13 +1,16 @@
 //! How a command that writes a text stops, and where its position goes.
 
-ghost use Rattle.std.specs.Prelude.{◌≡◌, true, false, None, OnOk, IfErr, IfSome, IsErr, is_some};
+ghost use Rattle.std.specs.Prelude.{◌≡◌, ◌⊎◌, true, false, None, OnOk, IfErr, IfSome, IsErr, is_some};
 ghost use Rattle.age_cli_args.specs.Requests.{option_text};
 ghost use Rattle.age_command.specs.Endings.{is_usage, Announces};
-ghost use Rattle.age_cli.specs.Acts.{SaveFails, EndsOf};
+ghost use Rattle.age_cli.specs.Acts.{SaveFails, EndsOf, IsEndingOf, HasSaved};
 ghost use Rattle.age_command.specs.Orders.{Follows, replacing};
 ghost use Rattle.age_command.specs.Files.{SparesBoth};
 ghost use Rattle.age_cli.specs.inner.Endings.{sealing_end, opening_end, IsBeyond, IsUnsaved};
-ghost use Rattle.age_cli.specs.inner.Openings.{Saves};
+ghost use Rattle.age_cli.specs.inner.Openings.{Stands};
+ghost use Rattle.age_machine.specs.Saved.{Saves};
+ghost use Rattle.age_file.specs.declared.position.Position.{Position};
+ghost use Rattle.age_file.specs.Resumes.{position_text};
 
 use age_command::{Announcement, Ending, announce};
 use age_file::{Done, FileFault, Position, Stopped, Written};
@@ -71,7 +74,7 @@ pub(crate) fn save<F: FileSet>(
     settled: u64,
     durability: Durability,
 ) -> Result<(), FileFault>
-    ensures saved { OnOk result (F.shows_bytes ≡ true → Saves (option_text name.entry) position
+    ensures saved { OnOk result (F.shows_bytes ≡ true → Stands (option_text name.entry) position
         (F.view files.old).entries (F.view files.new).entries) }
     ensures unsaved { IfErr result (λ second. SaveFails (option_text name.entry) position
         (F.view files.old).entries (F.view files.new).entries second) }
@@ -80,6 +83,9 @@ pub(crate) fn save<F: FileSet>(
         → IsErr result × ((F.view files.new).events ≡ (F.view files.old).events)) }
     ensures noted { Follows (replacing (option_text name.entry) durability)
         (F.view files.old).events (F.view files.new).events }
+    ensures unended { (F.view files.new).ended ≡ (F.view files.old).ended }
+    ensures put { ((F.view files.new).events ≡ (F.view files.old).events) ⊎ ((p : Position)
+        × Saves (position_text p) durability result (F.view files.new).saved) }
     ensures others { F.shows_bytes ≡ true → SparesBoth None (option_text name.entry)
         (F.view files.old).entries (F.view files.new).entries }
 {
@@ -107,6 +113,7 @@ pub(crate) fn end_of<F: FileSet, E: Sink>(
 ) -> Ending
     ensures announced { Announces announced.new result (E.view faults.old) (E.view faults.new) ⊥ }
     ensures fault { is_usage result ≡ false }
+    ensures reported { IsEndingOf stop.fault result }
     ensures ends { F.shows_bytes ≡ true → EndsOf stop.fault (option_text name.entry) stop.position
         (F.view files.old).entries (F.view files.new).entries result }
     ensures beyond { IfSome stop.position (λ p. IsBeyond settled p
@@ -114,6 +121,9 @@ pub(crate) fn end_of<F: FileSet, E: Sink>(
         → IsUnsaved result × ((F.view files.new).events ≡ (F.view files.old).events)) }
     ensures noted { Follows (replacing (option_text name.entry) durability)
         (F.view files.old).events (F.view files.new).events }
+    ensures unended { (F.view files.new).ended ≡ (F.view files.old).ended }
+    ensures put { ((F.view files.new).events ≡ (F.view files.old).events)
+        ⊎ HasSaved durability result (F.view files.new).saved }
     ensures others { F.shows_bytes ≡ true → SparesBoth None (option_text name.entry)
         (F.view files.old).entries (F.view files.new).entries }
 {

@@ -27,6 +27,6 @@ mod taking;
 pub use age_fileset::{FileSet, MemFiles, OpenFault};
 pub use decrypt_command::decrypt_file;
 pub use encrypt_command::encrypt_file;
-pub use laws::{refusals_are_silent, runs_keep_out};
+pub use laws::{decryptions_leave_text, refusals_are_silent, runs_keep_out};
 pub use program::run;
 pub use resume_command::resume_file;

@@ -1,7 +1,7 @@
 //! How the input and the output of a command are opened, and how the output is ended.
 
 ghost use Rattle.std.specs.Prelude.{◌≡◌, [], ◌∷◌, ◌++◌, Some, None, true, false, is_some, IfErr, ℕ};
-ghost use Rattle.std.specs.Prelude.{Option, option_map, length, OnErr, IfOk, IfSome, IsErrAnd};
+ghost use Rattle.std.specs.Prelude.{Option, option_map, length, OnErr, IfOk, IfSome, IsErrAnd, IsSomeAnd};
 ghost use Rattle.age_io.specs.Io.{Adds, Begins, Ends};
 ghost use Rattle.age_fault.specs.declared.fault.FileFault.TheVariants.{Write};
 ghost use Rattle.age_fileset.specs.FileSet.{Opened, Created, Closed, OpenFails};
@@ -12,6 +12,7 @@ ghost use Rattle.age_command.specs.Orders.{preparing, making};
 ghost use Rattle.age_file.specs.Runs.{ports};
 ghost use Rattle.age_cli.specs.Acts.{AreNew};
 ghost use Rattle.age_cli.specs.inner.Endings.{Concludes, EndsOut, IsBeyond, IsPut, IsCertain, IsUnsaved};
+ghost use Rattle.age_cli.specs.inner.Endings.{LeavesFile};
 ghost use Rattle.age_cli.specs.inner.Openings.{IsFresh, OpensFiles};
 
 use crate::interruption::{Interruption, end_of};
@@ -67,10 +68,12 @@ fn make_out<F: FileSet>(
     asked: &Output<'_>,
 ) -> Result<F::Out, OpenFault>
     ensures kept { (F.view files.new).entries ≡ (F.view files.old).entries }
+    ensures unended { (F.view files.new).ended ≡ (F.view files.old).ended }
     ensures made { IfOk result (λ o. F.shows_bytes ≡ true
         → ((F.Out.view o).taken.contents ≡ Some []) × ((F.Out.view o).label ≡ asked.now.to.now)
         × IsFresh asked.now.clobber ((F.view files.old).entries asked.now.to.now)) }
-    ensures begun { IfOk result (λ o. (F.Out.view o).taken.bytes ≡ []) }
+    ensures begun { IfOk result (λ o. ((F.Out.view o).taken.bytes ≡ [])
+        × ((F.Out.view o).failed ≡ 0)) }
     ensures noted { (F.view files.new).events
         ≡ (F.view files.old).events ++ Created asked.now.to.now ∷ [] }
     ensures faults { IfErr result (OpenFails (F.shows_bytes) Write) }
@@ -93,7 +96,8 @@ fn create_out<F: FileSet>(
         (F.view files.new) (λ o. ((F.Out.view o.out).taken.contents ≡ Some [])
         × ((F.Out.view o.out).label ≡ asked.now.to.now)
         × IsFresh asked.now.clobber ((F.view files.old).entries asked.now.to.now))
-        (λ o. (F.Out.view o.out).taken.bytes ≡ []) (SourceFails F.In.view) result }
+        (λ o. ((F.Out.view o.out).taken.bytes ≡ []) × ((F.Out.view o.out).failed ≡ 0))
+        (SourceFails F.In.view) result }
 {
     let out = make_out(alloc, files, asked)?;
     match refusal_of(files, &out, asked.content) {
@@ -109,6 +113,7 @@ fn create_out<F: FileSet>(
 /// other than the file of the position.
 fn prepare_save<F: FileSet>(alloc: Global, files: &mut F, asked: &Output<'_>) -> Result<(), Ending>
     ensures kept { (F.view files.new).entries ≡ (F.view files.old).entries }
+    ensures unended { (F.view files.new).ended ≡ (F.view files.old).ended }
     ensures noted { (F.view files.new).events
         ≡ (F.view files.old).events ++ preparing (option_text asked.now.save) }
     ensures early { IfErr result EndsEarly }
@@ -174,6 +179,7 @@ pub(crate) fn leave<F: FileSet>(files: &mut F, out: Taking<F>, durability: Durab
         (F.view files.new).entries }
     ensures noted { (F.view files.new).events
         ≡ (F.view files.old).events ++ Closed durability ∷ [] }
+    ensures ended { IsSomeAnd (F.view files.new).ended (LeavesFile (F.Out.view out.out)) }
 {
     let Taking { out, is_empty } = out;
     if is_empty {

@@ -40,6 +40,7 @@ fn read_position<F: FileSet>(
     name: &str,
 ) -> Result<Position, OpenFault>
     ensures kept { (F.view files.new).entries ≡ (F.view files.old).entries }
+    ensures unended { (F.view files.new).ended ≡ (F.view files.old).ended }
     ensures read { IfOk result
         (λ p. F.shows_bytes ≡ true → IsPositionIn ((F.view files.old).entries name.now) p) }
     ensures noted { (F.view files.new).events ≡ (F.view files.old).events ++ Opened name.now ∷ [] }
@@ -88,6 +89,7 @@ fn open_old<F: FileSet>(
     position: &Position,
 ) -> Result<F::In, OpenFault>
     ensures kept { (F.view files.new).entries ≡ (F.view files.old).entries }
+    ensures unended { (F.view files.new).ended ≡ (F.view files.old).ended }
     ensures found { IfOk result (λ s. F.shows_bytes ≡ true
         → (is_some (old_for position.now ((F.view files.old).entries name.now)) ≡ true)
         × ((F.In.view s).supply.left ≡ old_for position.now ((F.view files.old).entries name.now))) }
@@ -110,6 +112,7 @@ fn open_earlier<F: FileSet>(
     asked: &Resuming<'_>,
 ) -> Result<(Position, F::In), OpenFault>
     ensures kept { (F.view files.new).entries ≡ (F.view files.old).entries }
+    ensures unended { (F.view files.new).ended ≡ (F.view files.old).ended }
     ensures found { IfOk result (λ both. F.shows_bytes ≡ true
         → IsPositionIn ((F.view files.old).entries asked.now.position.now) both.0
         × (is_some (old_for both.0 ((F.view files.old).entries asked.now.old.now)) ≡ true)

@@ -11,15 +11,16 @@ use age_io::{Durability, Failed, Sink};
 pub(crate) struct Taking<F: FileSet> {
     pub(crate) out: F::Out,
     pub(crate) is_empty: bool,
-    ghost knows: { F.shows_bytes ≡ true
+    ghost knows: { (is_empty ≡ (length (F.Out.view out).taken.bytes == 0)) × (F.shows_bytes ≡ true
         → IsSomeAnd (F.Out.view out).taken.contents
-        (λ bytes. is_empty ≡ (length bytes == 0)) } by { Prim.hlevel props },
+        (λ bytes. is_empty ≡ (length bytes == 0))) } by { Prim.hlevel props },
 }
 
 impl<F: FileSet> Taking<F> {
     /// A file that was just created.
     pub(crate) fn new(out: F::Out) -> Taking<F>
-        requires { F.shows_bytes ≡ true → (F.Out.view out).taken.contents ≡ Some [] }
+        requires shown { F.shows_bytes ≡ true → (F.Out.view out).taken.contents ≡ Some [] }
+        requires empty { (F.Out.view out).taken.bytes ≡ [] }
         ensures { result.out ≡ out }
     {
         Taking {

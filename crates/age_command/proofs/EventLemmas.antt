@@ -4,13 +4,11 @@ use Rattle.age_fileset.specs.FileSet.{Event}
 use Rattle.age_command.specs.Orders.{Follows}
 
 -- events came, and then others
-pub then_did : (old mid new done more : List Event) → mid ≡ old ++ done → new ≡ mid ++ more
-    → new ≡ old ++ (done ++ more)
+pub then_did : (old mid new done more : List Event) → mid ≡ old ++ done → new ≡ mid ++ more → new ≡ old ++ (done ++ more)
 then_did old mid new done more m n = n ∙ (ap (λ x. x ++ more) m ∙ append_assoc old done more)
 
 -- events came, and then an order was followed
-pub then_follows : (old mid new done order : List Event) → mid ≡ old ++ done → Follows order mid new
-    → Follows (done ++ order) old new
+pub then_follows : (old mid new done order : List Event) → mid ≡ old ++ done → Follows order mid new → Follows (done ++ order) old new
 then_follows old mid new done order m f = record {
   done = done ++ f.done;
   rest = f.rest;
@@ -20,12 +18,10 @@ then_follows old mid new done order m f = record {
 
 -- an order was followed whole
 pub followed : (old new order : List Event) → new ≡ old ++ order → Follows order old new
-followed old new order is =
-    record { done = order; rest = []; did = is; front = sym (append-nil order) }
+followed old new order is = record { done = order; rest = []; did = is; front = sym (append-nil order) }
 
 -- what follows an order follows a longer one
-pub longer : (order more old new : List Event) → Follows order old new
-    → Follows (order ++ more) old new
+pub longer : (order more old new : List Event) → Follows order old new → Follows (order ++ more) old new
 longer order more old new f = record {
   done = f.done;
   rest = f.rest ++ more;

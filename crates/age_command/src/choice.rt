@@ -61,6 +61,7 @@ impl<'a> Choice<'a> {
         files: &mut F,
     ) -> Result<Option<Vec<u8>>, OpenFault>
         ensures kept { (F.view files.new).entries ≡ (F.view files.old).entries }
+        ensures unended { (F.view files.new).ended ≡ (F.view files.old).ended }
         ensures noted { (F.view files.new).events
             ≡ (F.view files.old).events ++ opening_event (file_of self.now) }
         ensures faults { IfErr result (OpenFails (F.shows_bytes) Read) }

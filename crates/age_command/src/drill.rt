@@ -34,6 +34,7 @@ const BYTES_MAX: usize = HEAD_MAX + PAYLOAD_NONCE_LEN + PAYLOAD_MAX + 1;
 /// The bytes of the file of a script.
 fn read_script<F: FileSet>(alloc: Global, files: &mut F, name: &str) -> Result<Vec<u8>, Ending>
     ensures kept { (F.view files.new).entries ≡ (F.view files.old).entries }
+    ensures unended { (F.view files.new).ended ≡ (F.view files.old).ended }
     ensures noted { (F.view files.new).events ≡ (F.view files.old).events ++ Opened name.now ∷ [] }
 {
     match read_file(alloc, files, name, SCRIPT_MAX)? {
@@ -293,6 +294,7 @@ fn drill<F: FileSet, O: Sink>(
     output: &mut O,
 ) -> Result<(), Ending>
     ensures kept { (F.view files.new).entries ≡ (F.view files.old).entries }
+    ensures unended { (F.view files.new).ended ≡ (F.view files.old).ended }
     ensures order { Follows (Opened asked.now.script.now ∷ Opened asked.now.from.now ∷ [])
         (F.view files.old).events (F.view files.new).events }
     ensures order_done { OnOk result ((F.view files.new).events ≡ (F.view files.old).events
@@ -314,6 +316,7 @@ fn drill_sealed<F: FileSet, O: Sink>(
     output: &mut O,
 ) -> Result<(), Ending>
     ensures kept { (F.view files.new).entries ≡ (F.view files.old).entries }
+    ensures unended { (F.view files.new).ended ≡ (F.view files.old).ended }
     ensures order { Follows
         (Opened pass_name.now ∷ Opened asked.now.script.now ∷ Opened asked.now.from.now ∷ [])
         (F.view files.old).events (F.view files.new).events }
@@ -337,6 +340,7 @@ pub fn drill_file<F: FileSet, O: Sink>(
     output: &mut O,
 ) -> Result<(), Ending>
     ensures kept { (F.view files.new).entries ≡ (F.view files.old).entries }
+    ensures unended { (F.view files.new).ended ≡ (F.view files.old).ended }
     ensures order { Follows (order_asked (Drill asked.now)).whole (F.view files.old).events
         (F.view files.new).events }
     ensures order_done { OnOk result ((F.view files.new).events

@@ -111,6 +111,7 @@ pub fn read_file<F: FileSet>(
 ) -> Result<Option<Vec<u8>>, OpenFault>
     requires { most < 2 ^ 32 }
     ensures kept { (F.view files.new).entries ≡ (F.view files.old).entries }
+    ensures unended { (F.view files.new).ended ≡ (F.view files.old).ended }
     ensures noted { (F.view files.new).events ≡ (F.view files.old).events ++ Opened name.now ∷ [] }
     ensures all { IfOk result (λ o. IfSome o (λ v. F.shows_bytes ≡ true
         → (F.view files.old).entries name.now ≡ Some v.items)) }

@@ -71,6 +71,7 @@ pub(crate) const SHARED_FILE_LEN: usize = 64;
 /// The bytes of a file that holds a passphrase.
 pub fn read_pass<F: FileSet>(alloc: Global, files: &mut F, name: &str) -> Result<Vec<u8>, Ending>
     ensures kept { (F.view files.new).entries ≡ (F.view files.old).entries }
+    ensures unended { (F.view files.new).ended ≡ (F.view files.old).ended }
     ensures noted { (F.view files.new).events ≡ (F.view files.old).events ++ Opened name.now ∷ [] }
     ensures early { IfErr result EndsEarly }
     ensures read { IfOk result

@@ -1,1 +1,2 @@
+pub mod SavedLemmas
 pub mod TargetLemmas

@@ -1,22 +1,82 @@
--- What is known of a file that was ended.
-use Rattle.std.proofs.Common.{◌≡◌, ℕ, List, true, false, Some, sym, subst}
-use Rattle.std.specs.Prelude.{Result, Ok, Err, OnOk, is_ok}
+-- What is known of a file while puts go on, and once it was ended.
+use Rattle.std.proofs.Common.{◌≡◌, ◌<◌, ℕ, List, [], ◌∷◌, ◌++◌, Bool, true, false, Option, Some, None}
+use Rattle.std.proofs.Common.{arith, sym, ap, ◌∙◌, refl, subst}
+use Rattle.std.specs.Prelude.{Result, Ok, Err, IfOk, OnOk, OnErr, MatchResult, is_ok}
+use Rattle.age_io.specs.Io.{one_more}
+use Rattle.age_io.specs.declared.durability.Durability.{Durability}
+use Rattle.age_io.specs.declared.durability.Durability.TheVariants.{Synced}
 use Rattle.age_machine.specs.Calls.{FileCall}
+use Rattle.age_machine.specs.Ends.{EndedFile, Closes}
+use Rattle.age_machine.specs.Outs.{OutFile, OutView, AllOn, LocksFirst, text_of}
 use Rattle.age_machine.specs.Saves.{IsSafe}
-use Rattle.age_machine.specs.Outs.{OutView, text_of}
+use Rattle.age_disk.specs.Outputs.{sink_of}
 use Rattle.age_disk.specs.Targets.{IsTaking}
+use Rattle.age_disk.specs.inner.Puts.{TargetPuts}
 
--- what its sink took is safe at its path, once it ended well
-pub taking_safe : {A E : Type 0} (r : Result A E) (out : OutView) (failed : ℕ)
-    (took path : List ℕ) (calls : List FileCall) → IsTaking (Some out) failed took → failed ≡ 0
-    → is_ok r ≡ true → OnOk r (out.is_lost ≡ false) → path ≡ out.file.path
-    → (out.failed ≡ 0 → OnOk r (IsSafe out.file.path (text_of out.calls) calls))
-    → IsSafe path took calls
-taking_safe (Err e) out failed took path calls taking none ok sure at safe = absurd (differ ok)
-  where
-    differ : false ≡ true → ⊥
-    differ same = cc
-taking_safe (Ok x) out failed took path calls taking none ok sure at safe =
-    subst (λ (p : List ℕ). IsSafe p took calls) (sym at)
-    (subst (λ (t : List ℕ). IsSafe out.file.path t calls) taking.0
-    (safe (taking.1 none sure)))
+first_none : (one other : List ℕ) → one ++ other ≡ [] → one ≡ []
+first_none [] other none = refl
+first_none (x ∷ one) other none = absurd (differ none) where
+  differ : (x ∷ one) ++ other ≡ [] → ⊥
+  differ same = cc
+
+second_none : (one other : List ℕ) → one ++ other ≡ [] → other ≡ []
+second_none [] other none = none
+second_none (x ∷ one) other none = absurd (differ none) where
+  differ : (x ∷ one) ++ other ≡ [] → ⊥
+  differ same = cc
+
+-- while no put has failed, this one hasn't, nor one before it
+pub noted_well : {E F : Type 0} (call : Result ℕ E) (put : Result ℕ F) (before after : ℕ)
+    → MatchResult call (λ _. after ≡ before) (λ _. after ≡ one_more before)
+    → IfOk call (λ n. put ≡ Ok n) → after ≡ 0 → (before ≡ 0) × (is_ok put ≡ true)
+noted_well (Ok n) put before after counted same none = (sym counted ∙ none, ap is_ok same)
+noted_well (Err e) put before after counted same none = absurd (more (sym counted ∙ none)) where
+  more : one_more before ≡ 0 → ⊥
+  more is = grind arith
+
+-- what holds after a put
+pub taking_put : (old new : Option OutView) (before after : ℕ) (ok : Bool)
+    (part took later : List ℕ) → IsTaking old before took → TargetPuts old new ok part
+    → later ≡ took ++ part → (after ≡ 0 → (before ≡ 0) × (ok ≡ true)) → IsTaking new after later
+taking_put None None before after ok part took later taking puts added well = tt
+taking_put None (Some new) before after ok part took later taking puts added well = absurd puts
+taking_put (Some old) None before after ok part took later taking puts added well = absurd puts
+taking_put (Some old) (Some new) before after ok part took later taking puts added well = (
+  puts.text ∙ (ap (λ (l : List ℕ). l ++ part) taking.0 ∙ sym added),
+  (
+    (λ none kept. let sound = puts.sound (well none).1 kept in
+        sound.0 ∙ taking.1.0 (well none).0 sound.1),
+    (λ none empty. let nothing = first_none took part (sym added ∙ empty) in
+        puts.still (well none).1 (taking.0 ∙ nothing) (second_none took part (sym added ∙ empty)) ∙ taking.1.1 (well none).0 nothing),
+  ),
+)
+
+-- ---- A regular file that was ended.
+
+module _ (durability : Durability) (out : OutView) (failed : ℕ) (failing : Bool) (took : List ℕ)
+    (calls : List FileCall) (count : ℕ) (which : Option OutFile) (is : which ≡ Some out.file)
+    (taking : IsTaking (Some out) failed took) (on : AllOn out.file.path out.file.number calls × LocksFirst out.file.number calls) where
+  abbrev ended : Option OutFile → EndedFile
+  ended file = record { took = took; is_closed = true; file = file; calls = calls; failed = count }
+
+  safe_at : {E : Type 0} (r : Result (Unit {0}) E) → OnOk r (out.is_lost ≡ false) → (durability ≡ Synced → out.file.is_waited ≡ true → out.failed ≡ 0
+      → OnOk r (IsSafe out.file.path (text_of out.calls) calls)) → durability ≡ Synced → failed ≡ 0
+      → OnOk r (out.file.is_waited ≡ true → IsSafe out.file.path took calls)
+  safe_at (Err e) sure safe synced none = tt
+  safe_at (Ok x) sure safe synced none = λ waited. subst (λ (t : List ℕ). IsSafe out.file.path t calls) taking.0
+      (safe synced waited (taking.1.0 none sure))
+
+  pub file_closes : {E : Type 0} (r : Result (Unit {0}) E) → OnOk r (out.is_lost ≡ false)
+      → (durability ≡ Synced → out.file.is_waited ≡ true → out.failed ≡ 0
+      → OnOk r (IsSafe out.file.path (text_of out.calls) calls)) → OnErr r (0 < count)
+      → Closes durability (Some out.file) (sink_of failed failing took) r (ended which)
+  file_closes r sure safe caused =
+      subst (λ (w : Option OutFile). Closes durability (Some out.file) (sink_of failed failing took) r
+      (ended w)) (sym is) (record {
+        took = refl;
+        closed = refl;
+        same = refl;
+        within = on;
+        safe = safe_at r sure safe;
+        caused = caused;
+      })

@@ -1,7 +1,8 @@
 -- What contracts see of a file of the machine that is written.
-use Rattle.std.specs.Prelude.{◌≡◌, ℕ, List, [], Bool, false, Option}
-use Rattle.age_machine.specs.Calls.{FileCall}
+use Rattle.std.specs.Prelude.{◌≡◌, ◌≢◌, ℕ, List, [], Bool, true, false, Option, None, Some, Contains}
+use Rattle.age_io.specs.Io.{SinkView}
 use Rattle.age_machine.specs.Outs.{OutFile}
+use Rattle.age_disk.specs.declared.names.FileId.{FileId}
 
 pub record OutputView : Type 0 where
   -- how many puts have failed, and whether the last call did
@@ -11,6 +12,26 @@ pub record OutputView : Type 0 where
   pub took : List ℕ
   -- which regular file it is, if it is one
   pub file : Option OutFile
+  -- what tells it from other files, if that is known
+  pub id : Option FileId
+
+-- a file that is none of these
+abbrev pub IsNoneOf : List FileId → Option FileId → Type 0
+IsNoneOf opened id = (one : FileId) → Contains opened one → id ≢ Some one
+
+-- a sink that took these bytes; it doesn't show what it holds
+abbrev pub sink_of : (failed : ℕ) (failing : Bool) (took : List ℕ) → SinkView
+sink_of failed failing took = record {
+  taken = record { bytes = took; contents = None };
+  failed = failed;
+  failing = failing;
+  label = [];
+  settled = true;
+}
+
+-- the file as a sink
+abbrev pub as_sink : OutputView → SinkView
+as_sink out = sink_of out.failed out.failing out.took
 
 -- nothing was put into it yet
 pub record IsNew (out : OutputView) : Type 0 where
@@ -18,9 +39,10 @@ pub record IsNew (out : OutputView) : Type 0 where
   pub failing : out.failing ≡ false
   pub took : out.took ≡ []
 
--- a file that was ended: what its sink took, its path if a power cut leaves exactly that there, and the
--- calls that were made for it
-pub record EndedView : Type 0 where
-  pub took : List ℕ
-  pub path : Option (List ℕ)
-  pub calls : List FileCall
+-- a regular file that opening made at a path, and whose name is waited for
+pub record IsMadeAt (path : List ℕ) (out : OutputView) : Type 0 where
+  pub file : OutFile
+  pub is : out.file ≡ Some file
+  pub at : file.path ≡ path
+  pub made : file.is_made ≡ true
+  pub waited : file.is_waited ≡ true

@@ -1,5 +1,5 @@
 -- What is known of a file while it is written.
-use Rattle.std.specs.Prelude.{◌≡◌, ℕ, List, Option, Some, None, false}
+use Rattle.std.specs.Prelude.{◌≡◌, ℕ, List, [], Option, Some, None, false}
 use Rattle.age_machine.specs.Outs.{OutView, text_of}
 use Rattle.age_disk.specs.declared.output.Target.{Target}
 use Rattle.age_disk.specs.declared.output.Target.TheVariants as target
@@ -11,9 +11,10 @@ regular_of (target.Device file) = None
 regular_of (target.Output output witness) = None
 regular_of (target.Faults faults witness) = None
 
--- What its sink took was written to a regular file; and while no put has failed, no call has, unless
--- the file is one that can't be relied on.
+-- What its sink took was written to a regular file. While no put has failed, no call has, unless the
+-- file is one that can't be relied on; nor has one while nothing was taken either.
 abbrev pub IsTaking : Option OutView → ℕ → List ℕ → Type 0
 IsTaking None failed took = Unit {0}
 IsTaking (Some out) failed took = (text_of out.calls ≡ took)
-    × (failed ≡ 0 → out.is_lost ≡ false → out.failed ≡ 0)
+    × ((failed ≡ 0 → out.is_lost ≡ false → out.failed ≡ 0)
+    × (failed ≡ 0 → took ≡ [] → out.failed ≡ 0))

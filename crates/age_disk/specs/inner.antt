@@ -1,1 +1,3 @@
+pub mod Besides
+pub mod Files
 pub mod Puts

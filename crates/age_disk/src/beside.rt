@@ -1,10 +1,15 @@
 //! A file beside another one, whose place it is to take.
 
+ghost use Rattle.std.specs.Prelude.{◌≡◌, string_bytes};
+ghost use Rattle.age_machine.specs.Numbers.{number_of};
+ghost use Rattle.age_disk.specs.inner.Besides.{IsKept};
+
 use crate::names::FileId;
 use age_io::Durability;
 use age_machine::{Beside, HostFile, HostMachine, Machine, prepare_beside};
 use std::alloc::Global;
 use std::io;
+use std::marker::Model;
 use std::path::PathBuf;
 use std::rt::HostRuntime;
 
@@ -16,12 +21,40 @@ const ROOM: [u8; 256] = [b' '; 256];
 pub(crate) struct Kept {
     // The calls that made it.
     machine: HostMachine,
+    // Where it is to be put.
+    path: String,
     beside: Beside<HostFile>,
+}
+
+impl Model for Kept {
+    ghost use Rattle.std.specs.Prelude.{string_bytes};
+    ghost use Rattle.age_machine.specs.Numbers.{number_of};
+    ghost use Rattle.age_disk.specs.inner.Besides.{KeptView, IsKept};
+
+    ghost Value = { KeptView };
+
+    ghost view = { λ k. record {
+      path = string_bytes k.path;
+      from = string_bytes k.beside.path;
+      number = number_of k.beside.file.node;
+      calls = k.machine.calls;
+    } };
+
+    ghost invariant = { λ k. IsKept (record {
+      path = string_bytes k.path;
+      from = string_bytes k.beside.path;
+      number = number_of k.beside.file.node;
+      calls = k.machine.calls;
+    }) };
 }
 
 impl Drop for Kept {
     fn drop(self) {
-        let Kept { machine, beside } = self;
+        let Kept {
+            machine,
+            path: _path,
+            beside,
+        } = self;
         let mut machine = machine;
         machine.remove(&beside.file, beside.path.as_str());
     }
@@ -37,18 +70,36 @@ impl Kept {
         durability: Durability,
     ) -> io::Result<Option<Kept>> {
         let mut machine = HostMachine::new(rt);
-        match prepare_beside(alloc, &mut machine, path.as_str(), &ROOM, durability)? {
-            Some(beside) => Ok(Some(Kept { machine, beside })),
+        let own = String::from_str(alloc, path.as_str())?;
+        match prepare_beside(alloc, &mut machine, own.as_str(), &ROOM, durability)? {
+            Some(beside) => Ok(Some(Kept {
+                machine,
+                path: own,
+                beside,
+            })),
             None => Ok(None),
         }
     }
 
     /// The machine after the calls that made it.
-    pub(crate) fn machine(&self) -> HostMachine {
+    pub(crate) fn machine(&self) -> HostMachine
+        ensures { result.calls ≡ self.now.calls }
+    {
         self.machine.again()
     }
 
-    pub(crate) fn beside(&self) -> &Beside<HostFile> {
+    /// Where it is to be put.
+    pub(crate) fn path(&self) -> &str
+        ensures { result.now ≡ self.now.path }
+    {
+        self.path.as_str()
+    }
+
+    pub(crate) fn beside(&self) -> &Beside<HostFile>
+        ensures path { string_bytes result.now.path ≡ self.now.from }
+        ensures number { number_of result.now.file.node ≡ self.now.number }
+        ensures kept { IsKept self.now }
+    {
         &self.beside
     }
 

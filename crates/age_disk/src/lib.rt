@@ -11,10 +11,11 @@ mod paths;
 mod prepare;
 mod saving;
 mod sync;
+mod which;
 
 pub use age_machine::{Node, found_at};
 pub use input::HostIn;
 pub use names::{FileId, Resolved, Stream, StreamId};
 pub use output::{Ended, HostOut};
 pub use prepare::Prepared;
-pub use saving::replace;
+pub use saving::{Saved, replace};

@@ -1,19 +1,21 @@
 //! A file of the machine that is written.
 
 ghost use Rattle.std.specs.Prelude.{◌≡◌, ◌≤◌, ◌<◌, [], ◌∷◌, ◌++◌, None, Some, true, false, length, is_ok};
-ghost use Rattle.std.specs.Prelude.{IfOk, OnOk, OnErr, IfSome, MatchOption, string_bytes};
-ghost use Rattle.age_io.specs.declared.durability.Durability.TheVariants as wait;
+ghost use Rattle.std.specs.Prelude.{IfOk, OnErr, MatchResult, string_bytes, is_err, ℕ, List, option_map};
 ghost use Rattle.std.specs.Io.{WritesAtMost};
+ghost use Rattle.age_io.specs.Io.{one_more};
+ghost use Rattle.age_io.specs.Taken.{WriteAppends, Keeps};
 ghost use Rattle.age_machine.specs.Calls.{Opened};
+ghost use Rattle.age_machine.specs.Ends.{Closes, Discards};
 ghost use Rattle.age_machine.specs.Numbers.{number_of};
-ghost use Rattle.age_machine.specs.Saves.{IsSafe};
-ghost use Rattle.age_disk.specs.Outputs.{IsNew};
+ghost use Rattle.age_machine.specs.Outs.{OutView};
+ghost use Rattle.age_disk.specs.Outputs.{IsNew, IsMadeAt, sink_of, as_sink};
 ghost use Rattle.age_disk.specs.Targets.{regular_of, IsTaking};
 ghost use Rattle.age_disk.specs.inner.Puts.{part_of, TargetPuts};
 
-use crate::lock::lock;
 use crate::names::{FileId, Resolved, Stream, resolve};
 use crate::sync::{Witness, close_stream, sync_file};
+use crate::which::Which;
 use age_io::{Durability, Failed, Failures, Sink, Tape};
 use age_machine::calls::close;
 use age_machine::{
@@ -58,6 +60,7 @@ impl Target {
             (part_of result from.now) }
     {
         match self {
+            Target::File(_) if from.is_empty() => Ok(0),
             Target::File(out) => out.put(from),
             Target::Device(file) => write_to(rt, file, from),
             Target::Output(output, _) => write_to(rt, output, from),
@@ -181,45 +184,48 @@ fn note_put(
     }
 }
 
-/// What was written to a file that was ended, for contracts alone, and whether it is for certain all
-/// that its path leads to.
+/// A target of which a regular file is taken for this run alone, if its name still leads to it.
+fn claimed(rt: &HostRuntime, target: Target, id: Option<FileId>, name: &str) -> io::Result<Target>
+    ensures file { IfOk result (λ t. option_map (λ (o : OutView). o.file) (regular_of t)
+        ≡ option_map (λ (o : OutView). o.file) (regular_of target)) }
+    ensures taking { IfOk result (λ t. (failed : ℕ) (took : List ℕ)
+        → IsTaking (regular_of target) failed took → IsTaking (regular_of t) failed took) }
+{
+    match target {
+        Target::File(out) => {
+            let mut out = out;
+            out.claim()?;
+            if FileId::at(rt, name) != id {
+                return Err(io::Error::from(io::ErrorKind::NotFound));
+            }
+            Ok(Target::File(out))
+        }
+        other => Ok(other),
+    }
+}
+
+/// What was done to a file that was ended, for contracts alone.
 #[derive(Drop)]
 pub struct Ended {
     took: Tape,
-    // Of a regular file that has reached the disk under its name.
-    path: Option<String>,
+    // It was closed with what was written, and not discarded.
+    is_closed: bool,
+    which: Which,
     machine: HostMachine,
 }
 
 impl Model for Ended {
-    ghost use Rattle.std.specs.Prelude.{IfSome, string_bytes, option_map};
-    ghost use Rattle.age_machine.specs.Saves.{IsSafe};
-    ghost use Rattle.age_disk.specs.Outputs.{EndedView};
+    ghost use Rattle.age_machine.specs.Ends.{EndedFile};
 
-    ghost Value = { EndedView };
+    ghost Value = { EndedFile };
 
     ghost view = { λ e. record {
       took = e.took;
-      path = option_map string_bytes e.path;
+      is_closed = e.is_closed;
+      file = e.which;
       calls = e.machine.calls;
+      failed = e.machine.failed;
     } };
-
-    ghost invariant = { λ e. IfSome (option_map string_bytes e.path)
-        (λ p. IsSafe p e.took e.machine.calls) };
-}
-
-impl Ended {
-    /// The path at which a power cut leaves exactly what was written, if that is known.
-    pub fn path(&self) -> Option<&str>
-        ensures is { MatchOption result (self.now.path ≡ None)
-            (λ p. self.now.path ≡ Some p.now) }
-        ensures safe { IfSome self.now.path (λ p. IsSafe p self.now.took self.now.calls) }
-    {
-        match &self.path {
-            Some(path) => Some(path.as_str()),
-            None => None,
-        }
-    }
 }
 
 /// A file of the machine that is written, or standard output or error. A regular file keeps its
@@ -251,6 +257,7 @@ impl Model for HostOut {
       failing = s.failures.last;
       took = s.took;
       file = option_map (λ (o : OutView). o.file) (regular_of s.target);
+      id = s.id;
     } };
 
     ghost invariant = { λ s. IsTaking (regular_of s.target) s.failures.count s.took };
@@ -267,50 +274,81 @@ fn is_wait_due(taken: u64, settled: u64) -> bool {
     taken.saturating_sub(settled) >= settled.min(WAIT_MOST).max(WAIT_FIRST)
 }
 
-/// What is known of nothing but what was taken.
-fn unknown(took: Tape, machine: HostMachine) -> Ended
-    ensures { result.took ≡ took }
+/// What was done to a device or a stream: no call for it was noted.
+fn unseen(rt: &HostRuntime, took: Tape, is_closed: bool) -> Ended
+    ensures { result ≡ record {
+      took = took;
+      is_closed = is_closed;
+      file = None;
+      calls = [];
+      failed = 0;
+    } }
 {
     Ended {
         took,
-        path: None,
-        machine,
+        is_closed,
+        which: Which::none(),
+        machine: HostMachine::new(rt),
     }
-}
-
-/// Whether all that a file took is for certain at its path after this end.
-fn is_certain(end: &io::Result<()>, is_waited: bool, failed: u64, durability: Durability) -> bool
-    ensures certain { result ≡ true → (is_ok end.now ≡ true) × ((is_waited ≡ true)
-        × ((failed ≡ 0) × (durability ≡ wait.Synced))) }
-    ensures known { OnOk end.now (is_waited ≡ true → failed ≡ 0 → durability ≡ wait.Synced
-        → result ≡ true) }
-{
-    end.is_ok() && is_waited && failed == 0 && durability == Durability::Synced
 }
 
 /// Ends a regular file, and closes it.
 fn end_file(
     out: Out<HostMachine>,
     took: Tape,
-    failed: u64,
+    failures: Failures,
     durability: Durability,
 ) -> (Ended, io::Result<()>)
-    requires { IsTaking (Some out) failed took }
-    ensures took { result.0.took ≡ took }
-    ensures safe { durability ≡ wait.Synced → failed ≡ 0 → OnOk result.1
-        (out.file.is_waited ≡ true → result.0.path ≡ Some out.file.path) }
+    requires { IsTaking (Some out) failures.count took }
+    ensures { Closes durability (Some out.file) (sink_of failures.count failures.last took) result.1
+        result.0 }
 {
-    let is_waited = out.is_waited();
-    let age_machine::Ended { end, path, machine } = out.end(durability);
-    if !is_certain(&end, is_waited, failed, durability) {
-        return (unknown(took, machine), end);
-    }
+    let which = Which::of(&out);
+    let age_machine::Ended { end, machine, .. } = out.end(durability);
     let ended = Ended {
         took,
-        path: Some(path),
+        is_closed: true,
+        which,
         machine,
     };
     (ended, end)
+}
+
+/// Ends a regular file as it was before it was opened, if nothing was written.
+fn discard_file(
+    out: Out<HostMachine>,
+    took: Tape,
+    failures: Failures,
+    durability: Durability,
+) -> Ended
+    requires { IsTaking (Some out) failures.count took }
+    ensures { Discards (Some out.file) (sink_of failures.count failures.last took) result }
+{
+    let which = Which::of(&out);
+    let machine = out.discard(durability);
+    Ended {
+        took,
+        is_closed: false,
+        which,
+        machine,
+    }
+}
+
+/// Ends a regular file to which each put failed: it is closed as it was before it was opened.
+fn close_untouched(
+    out: Out<HostMachine>,
+    took: Tape,
+    failures: Failures,
+    durability: Durability,
+) -> (Ended, io::Result<()>)
+    requires taking { IsTaking (Some out) failures.count took }
+    requires failed { 0 < failures.count }
+    ensures { Closes durability (Some out.file) (sink_of failures.count failures.last took) result.1
+        result.0 }
+{
+    let mut ended = discard_file(out, took, failures, durability);
+    ended.is_closed = true;
+    (ended, Ok(()))
 }
 
 /// Ends a device or a stream, and closes it, in either case.
@@ -339,7 +377,8 @@ fn end_stream(
 impl HostOut {
     fn new(rt: &HostRuntime, target: Target, id: Option<FileId>) -> HostOut
         requires { IsTaking (regular_of target) 0 [] }
-        ensures { IsNew result }
+        ensures fresh { IsNew result }
+        ensures file { result.file ≡ option_map (λ (o : OutView). o.file) (regular_of target) }
     {
         HostOut {
             rt: *rt,
@@ -392,7 +431,8 @@ impl HostOut {
         name: &str,
         durability: Durability,
     ) -> io::Result<HostOut>
-        ensures { IfOk result IsNew }
+        ensures fresh { IfOk result IsNew }
+        ensures made { IfOk result (IsMadeAt name.now) }
     {
         let mut out = HostOut::make_by(alloc, HostMachine::new(rt), rt, name)?;
         out.pace.durability = durability;
@@ -419,7 +459,8 @@ impl HostOut {
         path: &str,
     ) -> io::Result<HostOut>
         requires { (machine.calls ≡ []) × (machine.failed ≡ 0) }
-        ensures { IfOk result IsNew }
+        ensures fresh { IfOk result IsNew }
+        ensures made { IfOk result (IsMadeAt path.now) }
     {
         let mut machine = machine;
         let own = String::from_str(alloc, path)?;
@@ -486,18 +527,33 @@ impl HostOut {
     /// Takes a regular file for this run alone, so that no two runs write to one. Fails if another
     /// run has it, or if its name leads to it no longer, as when another run that had made it has
     /// removed it.
-    pub fn claim(&self, rt: &HostRuntime, name: &str) -> io::Result<()> {
-        if let Target::File(out) = &self.target {
-            lock(out.file().file())?;
-            if FileId::at(rt, name) != self.id {
-                return Err(io::Error::from(io::ErrorKind::NotFound));
-            }
-        }
-        Ok(())
+    pub fn claim(self, rt: &HostRuntime, name: &str) -> io::Result<HostOut>
+        ensures { IfOk result (λ o. o ≡ self) }
+    {
+        let HostOut {
+            rt: own,
+            target,
+            id,
+            failures,
+            error,
+            pace,
+            took,
+        } = self;
+        Ok(HostOut {
+            rt: own,
+            target: claimed(rt, target, id, name)?,
+            id,
+            failures,
+            error,
+            pace,
+            took,
+        })
     }
 
     /// Which file it is, if that is known.
-    pub fn id(&self) -> Option<FileId> {
+    pub fn id(&self) -> Option<FileId>
+        ensures { result ≡ self.now.id }
+    {
         self.id
     }
 
@@ -550,9 +606,7 @@ impl HostOut {
     /// Ends it with what was written, and closes it, in either case. If each put failed, it is as
     /// it was before it was opened.
     pub fn close(self, rt: &HostRuntime, durability: Durability) -> (Ended, io::Result<()>)
-        ensures took { result.0.took ≡ self.took }
-        ensures safe { durability ≡ wait.Synced → self.failed ≡ 0 → OnOk result.1
-            (IfSome self.file (λ f. f.is_waited ≡ true → result.0.path ≡ Some f.path)) }
+        ensures closes { Closes durability self.file (as_sink self) result.1 result.0 }
     {
         let has_only_failed = self.has_only_failed();
         let HostOut {
@@ -564,26 +618,33 @@ impl HostOut {
         } = self;
         match target {
             Target::File(out) if has_only_failed => {
-                let machine = out.discard(durability);
-                (unknown(took, machine), Ok(()))
+                close_untouched(out, took, failures, durability)
             }
-            Target::File(out) => end_file(out, took, failures.count, durability),
+            Target::File(out) => end_file(out, took, failures, durability),
             other => {
                 let ended = if has_only_failed {
                     Ok(())
                 } else {
                     end_stream(rt, other, pace, durability)
                 };
-                (unknown(took, HostMachine::new(rt)), ended)
+                (unseen(rt, took, true), ended)
             }
         }
     }
 
     /// Ends it if nothing was written, as it was before it was opened.
-    pub fn discard(self, _rt: &HostRuntime, durability: Durability) {
-        let HostOut { target, .. } = self;
-        if let Target::File(out) = target {
-            let _ = out.discard(durability);
+    pub fn discard(self, rt: &HostRuntime, durability: Durability) -> Ended
+        ensures discards { Discards self.file (as_sink self) result }
+    {
+        let HostOut {
+            target,
+            failures,
+            took,
+            ..
+        } = self;
+        match target {
+            Target::File(out) => discard_file(out, took, failures, durability),
+            _ => unseen(rt, took, false),
         }
     }
 }
@@ -597,22 +658,29 @@ fn error_of(put: io::Result<usize>) -> io::Error {
 }
 
 impl Sink for HostOut {
-    ghost view = { λ s. record {
-      taken = record { bytes = s.took; contents = None };
-      failed = s.failed;
-      failing = s.failing;
-      label = [];
-      settled = true;
-    } };
+    ghost view = { as_sink };
 
-    fn put(&mut self, from: &[u8]) -> Result<usize, Failed> {
+    fn put(&mut self, from: &[u8]) -> Result<usize, Failed>
+        ensures bound { IfOk result (λ n. (n ≤ length from.now) × (0 < length from.now → 0 < n)) }
+        ensures bytes { WriteAppends (as_sink self.old).taken (as_sink self.new).taken result from.now }
+        ensures counted { MatchResult result (λ _. self.new.failed ≡ self.old.failed)
+            (λ _. self.new.failed ≡ one_more self.old.failed) }
+        ensures last { self.new.failing ≡ is_err result }
+        ensures same { (self.new.file ≡ self.old.file) × (self.new.id ≡ self.old.id) }
+    {
         let put = write_paced(&self.rt, &mut self.target, &mut self.pace, from);
         let taken = note_put(&mut self.took, &mut self.error, put, from);
         self.failures.note(taken)
     }
 
     /// The machine's files have no buffer of the program's.
-    fn flush(&mut self) -> Result<(), Failed> {
+    fn flush(&mut self) -> Result<(), Failed>
+        ensures bytes { Keeps (as_sink self.old).taken (as_sink self.new).taken }
+        ensures counted { MatchResult result (λ _. self.new.failed ≡ self.old.failed)
+            (λ _. self.new.failed ≡ one_more self.old.failed) }
+        ensures last { self.new.failing ≡ is_err result }
+        ensures same { (self.new.file ≡ self.old.file) × (self.new.id ≡ self.old.id) }
+    {
         self.failures.note(Ok(()))
     }
 

@@ -1,5 +1,9 @@
 //! Replaces a file of the machine as a whole.
 
+ghost use Rattle.std.specs.Prelude.{◌≡◌, None, Some};
+ghost use Rattle.age_machine.specs.Saved.{Saves};
+
+use crate::beside::Kept;
 use crate::lock::{lock, remove_own};
 use crate::names::{Resolved, is_on_disk};
 use crate::output::HostOut;
@@ -7,7 +11,7 @@ use crate::paths::{make_file, open_at_once};
 use crate::prepare::Prepared;
 use crate::sync::sync_folder;
 use age_fault::write_all;
-use age_io::Durability;
+use age_io::{Durability, Tape};
 use age_machine::{
     HostMachine, Node, POSITION_MODE, Spot, Unplaced, found_at, made_meanwhile, open_to_write,
     replace_by_kept, replace_by_new,
@@ -15,9 +19,82 @@ use age_machine::{
 use std::alloc::Global;
 use std::fs::{self, File, Metadata};
 use std::io;
+use std::marker::Model;
 use std::os::unix::fs::FileTypeExt;
 use std::path::PathBuf;
 use std::rt::HostRuntime;
+
+/// What was done for a file that was replaced, for contracts alone.
+#[derive(Drop)]
+pub struct Saved {
+    // Where a new file was put, if one was made beside.
+    path: Option<Tape>,
+    machine: HostMachine,
+}
+
+impl Model for Saved {
+    ghost use Rattle.age_machine.specs.Saved.{SavedFile};
+
+    ghost Value = { SavedFile };
+
+    ghost view = { λ s. record {
+      path = s.path;
+      calls = s.machine.calls;
+    } };
+}
+
+impl Saved {
+    /// Nothing so far, or a file that is written directly.
+    pub fn directly(rt: &HostRuntime) -> Saved
+        ensures { result.path ≡ None }
+    {
+        Saved {
+            path: None,
+            machine: HostMachine::new(rt),
+        }
+    }
+
+    /// A new file that was put to a path.
+    fn beside(path: &str, machine: HostMachine) -> Saved
+        ensures path { result.path ≡ Some path.now }
+        ensures calls { result.calls ≡ machine.calls }
+    {
+        let mut own = Tape::new();
+        own.note(path.as_bytes());
+        Saved {
+            path: Some(own),
+            machine,
+        }
+    }
+}
+
+/// Puts the file that was made beside a path when that was prepared, or a new one.
+fn replace_by(
+    alloc: Global,
+    prepared: &Prepared,
+    kept: &Kept,
+    to: Spot,
+    bytes: &[u8],
+    durability: Durability,
+    saved: &mut Saved,
+) -> Result<(), Unplaced>
+    ensures { Saves bytes.now durability result saved.new }
+{
+    let mut machine = kept.machine();
+    let path = kept.path();
+    let placed = replace_by_kept(
+        alloc,
+        &mut machine,
+        prepared.folder(),
+        kept.beside(),
+        path,
+        to,
+        bytes,
+        durability,
+    );
+    *saved = Saved::beside(path, machine);
+    placed
+}
 
 /// Puts a new file of these bytes to a path. It is the one that was made beside when this was
 /// prepared, unless that is gone, or can't be written over.
@@ -29,29 +106,19 @@ fn replace_beside(
     to: Spot,
     bytes: &[u8],
     durability: Durability,
-) -> Result<(), Unplaced> {
-    let folder = prepared.folder();
-    let path = path.as_str();
-    match prepared.kept() {
-        Some(kept) => {
-            let mut machine = kept.machine();
-            let kept = kept.beside();
-            replace_by_kept(
-                alloc,
-                &mut machine,
-                folder,
-                kept,
-                path,
-                to,
-                bytes,
-                durability,
-            )
-        }
-        None => {
-            let mut machine = HostMachine::new(rt);
-            replace_by_new(alloc, &mut machine, folder, path, to, bytes, durability)
-        }
+    saved: &mut Saved,
+) -> Result<(), Unplaced>
+    ensures { Saves bytes.now durability result saved.new }
+{
+    if let Some(kept) = prepared.kept() {
+        return replace_by(alloc, prepared, kept, to, bytes, durability, saved);
     }
+    let mut machine = HostMachine::new(rt);
+    let path = path.as_str();
+    let folder = prepared.folder();
+    let placed = replace_by_new(alloc, &mut machine, folder, path, to, bytes, durability);
+    *saved = Saved::beside(path, machine);
+    placed
 }
 
 /// Writes these bytes to what is open; they replace what it holds.
@@ -124,10 +191,16 @@ fn make_at(
     to: Spot,
     bytes: &[u8],
     durability: Durability,
-) -> io::Result<()> {
-    match replace_beside(alloc, rt, prepared, path, to, bytes, durability) {
+    saved: &mut Saved,
+) -> io::Result<()>
+    ensures { Saves bytes.now durability result saved.new }
+{
+    match replace_beside(alloc, rt, prepared, path, to, bytes, durability, saved) {
         Ok(()) => Ok(()),
-        Err(Unplaced::NotBeside) => make_directly(alloc, rt, path, bytes, durability),
+        Err(Unplaced::NotBeside) => {
+            *saved = Saved::directly(rt);
+            make_directly(alloc, rt, path, bytes, durability)
+        }
         Err(Unplaced::Failed(error)) => Err(error),
         Err(Unplaced::Memory) => Err(io::Error::from(io::ErrorKind::OutOfMemory)),
     }
@@ -160,12 +233,25 @@ fn replace_found(
     found: &Metadata,
     bytes: &[u8],
     durability: Durability,
-) -> io::Result<()> {
+    saved: &mut Saved,
+) -> io::Result<()>
+    requires { saved.old.path ≡ None }
+    ensures { Saves bytes.now durability result saved.new }
+{
     let file = open_found(rt, prepared, path, Node::of(found))?;
     if found.is_file() {
-        match replace_beside(alloc, rt, prepared, path, Spot::Taken, bytes, durability) {
+        match replace_beside(
+            alloc,
+            rt,
+            prepared,
+            path,
+            Spot::Taken,
+            bytes,
+            durability,
+            saved,
+        ) {
             Ok(()) => return Ok(()),
-            Err(Unplaced::NotBeside) => {}
+            Err(Unplaced::NotBeside) => *saved = Saved::directly(rt),
             Err(Unplaced::Failed(error)) => return Err(error),
             Err(Unplaced::Memory) => return Err(io::Error::from(io::ErrorKind::OutOfMemory)),
         }
@@ -184,15 +270,47 @@ fn replace_at(
     path: &PathBuf,
     bytes: &[u8],
     durability: Durability,
-) -> io::Result<()> {
-    match found_at(rt, path.as_str())? {
-        Some(found) if is_on_disk(&found) && prepared.was_nothing() => Err(made_meanwhile()),
+    saved: &mut Saved,
+) -> io::Result<()>
+    requires { saved.old.path ≡ None }
+    ensures { Saves bytes.now durability result saved.new }
+{
+    let to = match found_at(rt, path.as_str())? {
+        Some(found) if is_on_disk(&found) && prepared.was_nothing() => return Err(made_meanwhile()),
         Some(found) if is_on_disk(&found) => {
-            replace_found(alloc, rt, prepared, path, &found, bytes, durability)
+            return replace_found(alloc, rt, prepared, path, &found, bytes, durability, saved);
         }
-        Some(found) if !found.is_symlink() => { Err(io::Error::other("it is no file any more")) }
-        Some(_) => make_at(alloc, rt, prepared, path, Spot::Taken, bytes, durability),
-        None => make_at(alloc, rt, prepared, path, Spot::Free, bytes, durability),
+        Some(found) if !found.is_symlink() => {
+            return Err(io::Error::other("it is no file any more"));
+        }
+        Some(_) => Spot::Taken,
+        None => Spot::Free,
+    };
+    make_at(alloc, rt, prepared, path, to, bytes, durability, saved)
+}
+
+/// Puts a file of these bytes where a name led.
+fn replace_named(
+    alloc: Global,
+    rt: &HostRuntime,
+    prepared: &Prepared,
+    bytes: &[u8],
+    durability: Durability,
+    saved: &mut Saved,
+) -> io::Result<()>
+    requires { saved.old.path ≡ None }
+    ensures { Saves bytes.now durability result saved.new }
+{
+    if let Some((name, device)) = prepared.device() {
+        let file = open_device(rt, name, device)?;
+        let out = HostOut::over(alloc, rt, file, name)?;
+        return fill_directly(rt, out, bytes, durability);
+    }
+    match prepared.resolved() {
+        Resolved::Stream(stream) => {
+            fill_directly(rt, HostOut::of_stream(rt, *stream)?, bytes, durability)
+        }
+        Resolved::Path(path) => replace_at(alloc, rt, prepared, path, bytes, durability, saved),
     }
 }
 
@@ -204,16 +322,10 @@ pub fn replace(
     prepared: &Prepared,
     bytes: &[u8],
     durability: Durability,
-) -> io::Result<()> {
-    if let Some((name, device)) = prepared.device() {
-        let file = open_device(rt, name, device)?;
-        let out = HostOut::over(alloc, rt, file, name)?;
-        return fill_directly(rt, out, bytes, durability);
-    }
-    match prepared.resolved() {
-        Resolved::Stream(stream) => {
-            fill_directly(rt, HostOut::of_stream(rt, *stream)?, bytes, durability)
-        }
-        Resolved::Path(path) => replace_at(alloc, rt, prepared, path, bytes, durability),
-    }
+) -> (Saved, io::Result<()>)
+    ensures { Saves bytes.now durability result.1 result.0 }
+{
+    let mut saved = Saved::directly(rt);
+    let placed = replace_named(alloc, rt, prepared, bytes, durability, &mut saved);
+    (saved, placed)
 }

@@ -4,6 +4,8 @@ use Rattle.std.specs.Prelude.{find, option_map, Result, OnOk, OnErr}
 use Rattle.std.specs.Str.{bytes_eq}
 use Rattle.age_io.specs.Io.{Holding}
 use Rattle.age_io.specs.declared.durability.Durability.{Durability}
+use Rattle.age_machine.specs.Ends.{EndedFile}
+use Rattle.age_machine.specs.Saved.{SavedFile}
 use Rattle.age_fault.specs.declared.fault.FileFault.{FileFault}
 use Rattle.age_fault.specs.declared.fault.FileFault.TheVariants.{Memory}
 use Rattle.age_fileset.specs.declared.files.OpenFault.{OpenFault}
@@ -32,8 +34,10 @@ pub record FilesView : Type 0 where
   -- what was opened, prepared, created, replaced and closed, in order, whether it succeeded or not;
   -- also of a set that doesn't show its entries
   pub events : List Event
-  -- what the sink had taken of the file that was ended last, if it was closed and not discarded
-  pub closed : Option (List ℕ)
+  -- the output that was ended last, if one was
+  pub ended : Option EndedFile
+  -- what was done for the file that was replaced last
+  pub saved : SavedFile
 
 -- this fault, or memory ran out
 abbrev pub IsMemoryOr : FileFault → FileFault → Type 0
@@ -79,8 +83,18 @@ pub record Shelf : Type 0 where
   pub room : ℕ
   -- what was done
   pub events : List Event
-  -- what the sink had taken of the file that was ended last, if it was closed
-  pub closed : Option (List ℕ)
+  -- the output that was ended last, if one was
+  pub ended : Option EndedFile
+
+-- what contracts see of one that was ended: it is on no disk
+abbrev pub ended_with : List ℕ → Bool → EndedFile
+ended_with took is_closed = record {
+  took = took;
+  is_closed = is_closed;
+  file = None;
+  calls = [];
+  failed = 0;
+}
 
 -- the sink of a new file that holds at most this many bytes
 abbrev pub empty_with : ℕ → Holding

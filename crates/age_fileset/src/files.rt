@@ -2,9 +2,12 @@
 
 ghost use Rattle.std.specs.Prelude.{◌≡◌, ◌≢◌, ◌⊎◌, ℕ, Bool, true, false, List, [], ◌∷◌, ◌++◌, None, Some};
 ghost use Rattle.std.specs.Prelude.{IfOk, IfErr, IsOkUnless, OnOk, OnErr, IfSome, ◌≤◌, is_some, option_map};
-ghost use Rattle.std.specs.Prelude.{length};
+ghost use Rattle.std.specs.Prelude.{length, Option, IsSomeAnd};
 ghost use Rattle.age_fileset.specs.FileSet.{FilesView, IsMemoryOr, OpenFails, or_empty, Opened};
 ghost use Rattle.age_fileset.specs.FileSet.{Prepared, Created, Replaced, Closed};
+ghost use Rattle.age_machine.specs.Ends.{Closes, Discards};
+ghost use Rattle.age_machine.specs.Saved.{Saves};
+ghost use Rattle.age_machine.specs.Outs.{OutFile};
 ghost use Rattle.age_fileset.specs.declared.files.OpenFault.TheVariants.{Fault};
 
 use age_fault::FileFault;
@@ -55,6 +58,9 @@ pub trait FileSet {
     // What contracts see of a set: its entries, and what was done.
     ghost view: { Self → FilesView };
 
+    // Which regular file of a disk a file that is written is, if it is one.
+    ghost file: { Self.Out → Option OutFile };
+
     /// Whether two names stand for one file. Equal names do, and no others if the set shows its
     /// entries.
     fn is_same(&self, one: &str, other: &str) -> bool
@@ -81,6 +87,7 @@ pub trait FileSet {
     fn open(&mut self, alloc: Global, name: &str) -> Result<Self::In, OpenFault>
         ensures kept { (view self.new).entries ≡ (view self.old).entries }
         ensures noted { (view self.new).events ≡ (view self.old).events ++ Opened name.now ∷ [] }
+        ensures unended { (view self.new).ended ≡ (view self.old).ended }
         ensures begun { IfOk result (λ s. (Self.In.view s).supply.given ≡ []) }
         ensures found { IfOk result (λ s. shows_bytes ≡ true
             → (is_some ((view self.old).entries name.now) ≡ true)
@@ -95,6 +102,7 @@ pub trait FileSet {
     fn open_or_empty(&mut self, alloc: Global, name: &str) -> Result<Self::In, OpenFault>
         ensures kept { (view self.new).entries ≡ (view self.old).entries }
         ensures noted { (view self.new).events ≡ (view self.old).events ++ Opened name.now ∷ [] }
+        ensures unended { (view self.new).ended ≡ (view self.old).ended }
         ensures begun { IfOk result (λ s. (Self.In.view s).supply.given ≡ []) }
         ensures found { IfOk result (λ s. shows_bytes ≡ true
             → (Self.In.view s).supply.left ≡ or_empty ((view self.old).entries name.now)) }
@@ -131,6 +139,7 @@ pub trait FileSet {
     fn prepare(&mut self, alloc: Global, name: &str, spared: Option<&str>) -> Result<(), OpenFault>
         ensures kept { (view self.new).entries ≡ (view self.old).entries }
         ensures noted { (view self.new).events ≡ (view self.old).events ++ Prepared name.now ∷ [] }
+        ensures unended { (view self.new).ended ≡ (view self.old).ended }
         ensures shown { shows_bytes ≡ true → IfErr result (λ f. f ≡ Fault FileFault.Memory) }
         ensures faults { IfErr result (OpenFails shows_bytes FileFault.Write) };
 
@@ -143,8 +152,10 @@ pub trait FileSet {
         ensures kept { (view self.new).entries ≡ (view self.old).entries }
         ensures made { IfOk result (λ o. shows_bytes ≡ true
             → ((Self.Out.view o).taken.contents ≡ Some []) × ((Self.Out.view o).label ≡ name.now)) }
-        ensures begun { IfOk result (λ o. (Self.Out.view o).taken.bytes ≡ []) }
+        ensures begun { IfOk result (λ o. ((Self.Out.view o).taken.bytes ≡ [])
+            × ((Self.Out.view o).failed ≡ 0)) }
         ensures noted { (view self.new).events ≡ (view self.old).events ++ Created name.now ∷ [] }
+        ensures unended { (view self.new).ended ≡ (view self.old).ended }
         ensures faults { IfErr result (OpenFails shows_bytes FileFault.Write) };
 
     /// Makes a file to be written, as `create` does, and refuses one that is there too, with `Write`
@@ -153,9 +164,11 @@ pub trait FileSet {
         ensures kept { (view self.new).entries ≡ (view self.old).entries }
         ensures made { IfOk result (λ o. shows_bytes ≡ true
             → ((Self.Out.view o).taken.contents ≡ Some []) × ((Self.Out.view o).label ≡ name.now)) }
-        ensures begun { IfOk result (λ o. (Self.Out.view o).taken.bytes ≡ []) }
+        ensures begun { IfOk result (λ o. ((Self.Out.view o).taken.bytes ≡ [])
+            × ((Self.Out.view o).failed ≡ 0)) }
         ensures absent { OnOk result (shows_bytes ≡ true → (view self.old).entries name.now ≡ None) }
         ensures noted { (view self.new).events ≡ (view self.old).events ++ Created name.now ∷ [] }
+        ensures unended { (view self.new).ended ≡ (view self.old).ended }
         ensures faults { IfErr result (OpenFails shows_bytes FileFault.Write) };
 
     /// Whether a file that was created is standard error's, which the lines of progress and of
@@ -196,7 +209,8 @@ pub trait FileSet {
             ⊎ (shows_bytes ≡ true
             → (view self.new).entries (Self.Out.view out).label ≡ (Self.Out.view out).taken.contents)) }
         ensures noted { (view self.new).events ≡ (view self.old).events ++ Closed durability ∷ [] }
-        ensures closed { (view self.new).closed ≡ Some (Self.Out.view out).taken.bytes }
+        ensures closed { IsSomeAnd (view self.new).ended
+            (Closes durability (file out) (Self.Out.view out) result) }
         ensures faults { IsOkUnless result FileFault.Write };
 
     /// Ends a file that was created and into which nothing was put: it is as it was before
@@ -207,7 +221,8 @@ pub trait FileSet {
         ensures others { (q : List ℕ) → q ≢ (Self.Out.view out).label
             → (view self.new).entries q ≡ (view self.old).entries q }
         ensures noted { (view self.new).events ≡ (view self.old).events ++ Closed durability ∷ [] }
-        ensures dropped { (view self.new).closed ≡ None };
+        ensures discarded { IsSomeAnd (view self.new).ended
+            (Discards (file out) (Self.Out.view out)) };
 
     /// Makes a file of these bytes, and waits for the disk as `close` does. One of the name is
     /// replaced atomically if its folder lets a new one be made beside it; else it is written
@@ -227,5 +242,7 @@ pub trait FileSet {
         ensures err { OnErr result ((view self.new).entries ≡ (view self.old).entries) }
         ensures noted { (view self.new).events
             ≡ (view self.old).events ++ Replaced name.now durability ∷ [] }
+        ensures saved { Saves bytes.now durability result (view self.new).saved }
+        ensures unended { (view self.new).ended ≡ (view self.old).ended }
         ensures faults { IfErr result (IsMemoryOr FileFault.Write) };
 }

@@ -2,11 +2,12 @@
 
 ghost use Rattle.std.specs.Prelude.{◌≡◌, ◌↔◌, ◌⊎◌, ◌++◌, ◌∷◌, ◌<◌, ◌≤◌, IsTrue, [], true, Some, None, OnOk};
 ghost use Rattle.std.specs.Prelude.{OnErr, IfOk, IsErrOf, IsOk, IfErr, IsOkUnless, Contains, is_some};
-ghost use Rattle.std.specs.Prelude.{option_map, length};
+ghost use Rattle.std.specs.Prelude.{option_map, length, false};
 ghost use Rattle.age_io.specs.Taken.{WriteAppends, Keeps};
 ghost use Rattle.age_io.specs.Io.{Puts, Flushes, holds};
 ghost use Rattle.age_fileset.specs.FileSet.{entry_of, empty_with, PutsEntry, IsMemoryOr, OpenFails};
 ghost use Rattle.age_fileset.specs.FileSet.{or_empty, Opened, Prepared, Created, Replaced, Closed};
+ghost use Rattle.age_fileset.specs.FileSet.{ended_with};
 ghost use Rattle.age_fileset.specs.declared.files.OpenFault.TheVariants.{Fault};
 
 use crate::files::{FileSet, OpenFault};
@@ -26,7 +27,29 @@ pub struct MemFiles {
     refused: Vec<Name>,
     room: usize,
     log: Log,
-    closed: Option<Tape>,
+    ended: Option<MemEnded>,
+}
+
+/// A file over memory that was ended, for contracts alone.
+#[derive(Debug, Drop)]
+struct MemEnded {
+    took: Tape,
+    is_closed: bool,
+}
+
+impl Model for MemEnded {
+    ghost use Rattle.std.specs.Prelude.{None, []};
+    ghost use Rattle.age_machine.specs.Ends.{EndedFile};
+
+    ghost Value = { EndedFile };
+
+    ghost view = { λ e. record {
+      took = e.took;
+      is_closed = e.is_closed;
+      file = None;
+      calls = [];
+      failed = 0;
+    } };
 }
 
 impl Model for MemFiles {
@@ -39,7 +62,7 @@ impl Model for MemFiles {
       refused = f.refused.items;
       room = f.room;
       events = f.log;
-      closed = f.closed;
+      ended = f.ended;
     } };
 }
 
@@ -99,7 +122,7 @@ impl MemFiles {
           refused = [];
           room = room;
           events = [];
-          closed = None;
+          ended = None;
         } }
     {
         MemFiles {
@@ -107,7 +130,7 @@ impl MemFiles {
             refused: Vec::new(alloc),
             room,
             log: Log::new(),
-            closed: None,
+            ended: None,
         }
     }
 
@@ -149,13 +172,15 @@ impl MemFiles {
     }
 }
 
-/// A tape of these bytes.
-fn tape_of(bytes: &[u8]) -> Tape
-    ensures { result ≡ bytes.now }
-{
-    let mut tape = Tape::new();
-    tape.note(bytes);
-    tape
+impl MemEnded {
+    /// What became of this sink.
+    fn of(sink: &MemSink, is_closed: bool) -> MemEnded
+        ensures { result ≡ ended_with sink.now.held is_closed }
+    {
+        let mut took = Tape::new();
+        took.note(sink.bytes());
+        MemEnded { took, is_closed }
+    }
 }
 
 fn is_refused(refused: &[Name], name: &str) -> bool
@@ -219,8 +244,11 @@ impl FileSet for MemFiles {
     ghost view = { λ f. record {
       entries = entry_of f.entries;
       events = f.events;
-      closed = f.closed;
+      ended = f.ended;
+      saved = record { path = None; calls = [] };
     } };
+
+    ghost file = { λ _. None };
 
     /// Opens a copy of a file's bytes. Refuses with `Read` (26) exactly if no file has the name.
     fn open(&mut self, alloc: Global, name: &str) -> Result<MemSource, OpenFault>
@@ -353,12 +381,12 @@ impl FileSet for MemFiles {
         ensures kept { self.new ≡ record self.old {
           entries = self.new.entries;
           events = self.old.events ++ Closed durability ∷ [];
-          closed = Some out.1.held;
+          ended = Some (ended_with out.1.held true);
         } }
     {
         self.log.closed(durability);
         let MemOut { name, sink } = out;
-        self.closed = Some(tape_of(sink.bytes()));
+        self.ended = Some(MemEnded::of(&sink, true));
         match put_entry(&mut self.entries, name, Bytes::from_vec(sink.into_bytes())) {
             Ok(()) => Ok(()),
             Err(_) => Err(FileFault::Write),
@@ -369,11 +397,11 @@ impl FileSet for MemFiles {
     fn discard(&mut self, out: MemOut, durability: Durability)
         ensures kept { self.new ≡ record self.old {
           events = self.old.events ++ Closed durability ∷ [];
-          closed = None;
+          ended = Some (ended_with out.1.held false);
         } }
     {
         self.log.closed(durability);
-        self.closed = None;
+        self.ended = Some(MemEnded::of(&out.sink, false));
         let _dropped = out;
     }
 

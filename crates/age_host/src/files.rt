@@ -1,15 +1,18 @@
 //! The machine's files.
 
-ghost use Rattle.std.specs.Prelude.{◌≡◌, [], true, false, None, Some, Err, IfOk, IfErr, IsErr, Contains};
-ghost use Rattle.std.specs.Prelude.{MatchOption, option_map};
+ghost use Rattle.std.specs.Prelude.{◌≡◌, ◌∷◌, ◌++◌, [], true, false, None, Some, Err, IfOk, IfErr, IsErr};
+ghost use Rattle.std.specs.Prelude.{Contains, OnOk, Option, List, ℕ};
 ghost use Rattle.age_fault.specs.declared.fault.FileFault.TheVariants.{Read, Write, Memory};
-ghost use Rattle.age_fileset.specs.FileSet.{IsMemoryOr, OpenFails};
+ghost use Rattle.age_fileset.specs.FileSet.{IsMemoryOr, OpenFails, Created};
 ghost use Rattle.age_fileset.specs.declared.files.OpenFault.TheVariants.{SameFile};
 ghost use Rattle.age_disk.specs.declared.names.FileId.{FileId};
-ghost use Rattle.age_disk.specs.Outputs.{EndedView};
+ghost use Rattle.age_disk.specs.Outputs.{IsNoneOf, IsMadeAt, as_sink};
+ghost use Rattle.age_machine.specs.Saved.{Saves};
 
 use crate::watched::{WatchedIn, WatchedOut};
-use age_disk::{Ended, FileId, HostIn, HostOut, Prepared, Stream, StreamId, found_at, replace};
+use age_disk::{
+    Ended, FileId, HostIn, HostOut, Prepared, Saved, Stream, StreamId, found_at, replace,
+};
 use age_fault::FileFault;
 use age_fileset::{FileSet, Log, OpenFault};
 use age_io::Durability;
@@ -32,8 +35,9 @@ pub struct HostFiles<'r, 'w> {
     streams: Vec<StreamId>,
     prepared: Vec<Prepared>,
     log: Log,
-    // What became of the file that was ended last, if it was closed.
-    closed: Option<Ended>,
+    // What was done to the file that was ended last, and for the one that was replaced last.
+    ended: Option<Ended>,
+    saved: Saved,
     failures: &'r Failures<'w>,
     // Whether the disk is waited for while the run goes on. This goes by the words alone: what is
     // waited for at the end is said by each call.
@@ -49,22 +53,16 @@ impl<'r, 'w> HostFiles<'r, 'w> {
             streams: Vec::new(rt.alloc()),
             prepared: Vec::new(rt.alloc()),
             log: Log::new(),
-            closed: None,
+            ended: None,
+            saved: Saved::directly(rt),
             failures,
             durability: durability_of(failures),
         }
     }
 
-    /// What became of the file that was ended last, if it was closed.
-    pub fn closed(&self) -> Option<&Ended>
-        ensures { MatchOption result (self.now.closed ≡ None) (λ e. self.now.closed ≡ Some e.now) }
-    {
-        self.closed.as_ref()
-    }
-
     /// Keeps a stream that is to be opened, before that is tried: it may wait forever.
     fn admit_stream(&mut self, alloc: Global, name: &str) -> Result<(), OpenFault>
-        ensures kept { self.new.log ≡ self.old.log }
+        ensures kept { (self.new.log ≡ self.old.log) × (self.new.ended ≡ self.old.ended) }
         ensures faults { IfErr result (OpenFails false Read) }
     {
         match StreamId::at(alloc, self.rt, name) {
@@ -85,7 +83,7 @@ impl<'r, 'w> HostFiles<'r, 'w> {
     ) -> Result<WatchedIn<'r, 'w>, OpenFault>
         requires { IfOk opened (λ o. o.0.1.0 ≡ []) }
         ensures begun { IfOk result (λ s. s.source.1.0 ≡ []) }
-        ensures kept { self.new.log ≡ self.old.log }
+        ensures kept { (self.new.log ≡ self.old.log) × (self.new.ended ≡ self.old.ended) }
         ensures faults { IfErr result (OpenFails false Read) }
     {
         match opened {
@@ -104,7 +102,8 @@ impl<'r, 'w> HostFiles<'r, 'w> {
     /// Keeps a file that was opened to be written, under its name, and takes it for this run alone.
     fn admit_created(&mut self, name: &str, out: HostOut) -> Result<WatchedOut<'r, 'w>, OpenFault>
         ensures same { IfOk result (λ o. o.sink ≡ out) }
-        ensures kept { self.new.log ≡ self.old.log }
+        ensures apart { IfOk result (λ o. IsNoneOf self.old.open.items o.sink.id) }
+        ensures kept { (self.new.log ≡ self.old.log) × (self.new.ended ≡ self.old.ended) }
         ensures faults { IfErr result (OpenFails false Write) }
     {
         let out = WatchedOut::new(out, name, self.failures);
@@ -147,13 +146,17 @@ impl<'r, 'w> HostFiles<'r, 'w> {
         name: &str,
         bytes: &[u8],
         durability: Durability,
-    ) -> io::Result<()> {
+        saved: &mut Saved,
+    ) -> io::Result<()>
+        requires { saved.old.path ≡ None }
+        ensures { Saves bytes.now durability result saved.new }
+    {
         match self.prepared.iter().find(|p| p.is_named(name)) {
-            Some(prepared) => self.replace_prepared(alloc, prepared, bytes, durability),
+            Some(prepared) => self.replace_prepared(alloc, prepared, bytes, durability, saved),
             None => {
                 let prepared = Prepared::new(alloc, self.rt, name, None, durability)?;
                 prepared.claim()?;
-                self.replace_prepared(alloc, &prepared, bytes, durability)
+                self.replace_prepared(alloc, &prepared, bytes, durability, saved)
             }
         }
     }
@@ -166,19 +169,25 @@ impl<'r, 'w> HostFiles<'r, 'w> {
         prepared: &Prepared,
         bytes: &[u8],
         durability: Durability,
-    ) -> io::Result<()> {
+        saved: &mut Saved,
+    ) -> io::Result<()>
+        requires { saved.old.path ≡ None }
+        ensures { Saves bytes.now durability result saved.new }
+    {
         let id = prepared.id(self.rt);
         prepared.check_folder(self.rt)?;
         if is_for_faults(self.rt, id) {
             return Err(io::Error::from(io::ErrorKind::AlreadyExists));
         }
         let opened = self.open.as_slice();
-        replace_apart(alloc, self.rt, opened, prepared, id, bytes, durability)
+        replace_apart(
+            alloc, self.rt, opened, prepared, id, bytes, durability, saved,
+        )
     }
 
     /// Keeps a file that was prepared, if it is none of those that are open.
     fn admit_prepared(&mut self, prepared: Prepared) -> Result<(), OpenFault>
-        ensures kept { self.new.log ≡ self.old.log }
+        ensures kept { (self.new.log ≡ self.old.log) × (self.new.ended ≡ self.old.ended) }
         ensures faults { IfErr result (OpenFails false Write) }
     {
         let id = prepared.id(self.rt);
@@ -331,6 +340,7 @@ fn admit_out<'r, 'w>(
     out: WatchedOut<'r, 'w>,
 ) -> Result<WatchedOut<'r, 'w>, OpenFault>
     ensures same { IfOk result (λ o. o.sink ≡ out.entry.sink) }
+    ensures apart { IfOk result (λ o. IsNoneOf opened.old.items o.sink.id) }
     ensures faults { IfErr result (OpenFails false Write) }
 {
     let other = find_prepared(rt, prepared, out.id());
@@ -359,7 +369,7 @@ fn claimed<'r, 'w>(
     ensures faults { IfErr result (OpenFails false Write) }
 {
     match out.claim(rt, name) {
-        Ok(()) => Ok(out),
+        Ok(out) => Ok(out),
         Err(error) => Err(OpenFault::Fault(fault_of(error, FileFault::Write))),
     }
 }
@@ -373,14 +383,19 @@ fn replace_apart(
     id: Option<FileId>,
     bytes: &[u8],
     durability: Durability,
+    saved: &mut Saved,
 ) -> io::Result<()>
+    requires { saved.old.path ≡ None }
     ensures apart { (one : FileId) → id ≡ Some one → Contains opened.now one
         → IsErr result }
+    ensures saved { Saves bytes.now durability result saved.new }
 {
     if is_known(opened, id) {
         return Err(io::Error::from(io::ErrorKind::AlreadyExists));
     }
-    replace(alloc, rt, prepared, bytes, durability)
+    let (own, replaced) = replace(alloc, rt, prepared, bytes, durability);
+    *saved = own;
+    replaced
 }
 
 /// Running out of memory is reported as such, and anything else as `other`.
@@ -404,8 +419,11 @@ impl<'r, 'w> FileSet for HostFiles<'r, 'w> {
     ghost view = { λ f. record {
       entries = λ _. None;
       events = f.log;
-      closed = option_map (λ (e : EndedView). e.took) f.closed;
+      ended = f.ended;
+      saved = f.saved;
     } };
+
+    ghost file = { λ o. o.sink.file };
 
     /// Two paths of one file are the same too, so that no link destroys what is read.
     fn is_same(&self, one: &str, other: &str) -> bool {
@@ -483,7 +501,15 @@ impl<'r, 'w> FileSet for HostFiles<'r, 'w> {
         }
     }
 
-    fn create(&mut self, alloc: Global, name: &str) -> Result<WatchedOut<'r, 'w>, OpenFault> {
+    fn create(&mut self, alloc: Global, name: &str) -> Result<WatchedOut<'r, 'w>, OpenFault>
+        ensures noted { self.new.log ≡ self.old.log ++ Created name.now ∷ [] }
+        ensures unended { self.new.ended ≡ self.old.ended }
+        ensures made { IfOk result (λ o. false ≡ true
+            → ((as_sink o.sink).taken.contents ≡ Some []) × ((as_sink o.sink).label ≡ name.now)) }
+        ensures begun { IfOk result (λ o. (o.sink.took ≡ []) × (o.sink.failed ≡ 0)) }
+        ensures apart { IfOk result (λ o. IsNoneOf self.old.open.items o.sink.id) }
+        ensures faults { IfErr result (OpenFails false Write) }
+    {
         self.log.created(name);
         match HostOut::open(alloc, self.rt, name, self.durability) {
             Ok(out) => self.admit_created(name, out),
@@ -491,7 +517,17 @@ impl<'r, 'w> FileSet for HostFiles<'r, 'w> {
         }
     }
 
-    fn create_new(&mut self, alloc: Global, name: &str) -> Result<WatchedOut<'r, 'w>, OpenFault> {
+    fn create_new(&mut self, alloc: Global, name: &str) -> Result<WatchedOut<'r, 'w>, OpenFault>
+        ensures noted { self.new.log ≡ self.old.log ++ Created name.now ∷ [] }
+        ensures unended { self.new.ended ≡ self.old.ended }
+        ensures made { IfOk result (λ o. false ≡ true
+            → ((as_sink o.sink).taken.contents ≡ Some []) × ((as_sink o.sink).label ≡ name.now)) }
+        ensures absent { OnOk result (false ≡ true → ◌≡◌ {A = Option (List ℕ)} None None) }
+        ensures begun { IfOk result (λ o. (o.sink.took ≡ []) × (o.sink.failed ≡ 0)) }
+        ensures apart { IfOk result (λ o. IsNoneOf self.old.open.items o.sink.id) }
+        ensures regular { IfOk result (λ o. IsMadeAt name.now o.sink) }
+        ensures faults { IfErr result (OpenFails false Write) }
+    {
         self.log.created(name);
         match HostOut::make(alloc, self.rt, name, self.durability) {
             Ok(out) => self.admit_created(name, out),
@@ -518,7 +554,7 @@ impl<'r, 'w> FileSet for HostFiles<'r, 'w> {
             announce_sync(self.rt, self.failures);
         }
         let (ended, closed) = out.close(self.rt, durability);
-        self.closed = Some(ended);
+        self.ended = Some(ended);
         match closed {
             Ok(()) => Ok(()),
             Err(_) => Err(FileFault::Write),
@@ -527,8 +563,7 @@ impl<'r, 'w> FileSet for HostFiles<'r, 'w> {
 
     fn discard(&mut self, out: WatchedOut<'r, 'w>, durability: Durability) {
         self.log.closed(durability);
-        self.closed = None;
-        out.discard(self.rt, durability);
+        self.ended = Some(out.discard(self.rt, durability));
     }
 
     fn replace(
@@ -539,7 +574,10 @@ impl<'r, 'w> FileSet for HostFiles<'r, 'w> {
         durability: Durability,
     ) -> Result<(), FileFault> {
         self.log.replaced(name, durability);
-        match self.replace_named(alloc, name, bytes, durability) {
+        let mut saved = Saved::directly(self.rt);
+        let replaced = self.replace_named(alloc, name, bytes, durability, &mut saved);
+        self.saved = saved;
+        match replaced {
             Ok(()) => {
                 self.failures.note_saved(name);
                 Ok(())

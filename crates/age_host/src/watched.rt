@@ -1,7 +1,10 @@
 //! Files and streams whose failures are kept.
 
-ghost use Rattle.std.specs.Prelude.{◌≡◌, [], None, Some, true, OnOk, IfSome};
-ghost use Rattle.age_io.specs.declared.durability.Durability.TheVariants as wait;
+ghost use Rattle.std.specs.Prelude.{◌≡◌, ◌≤◌, ◌<◌, None, length, true, IfOk, OnOk, MatchResult, is_err};
+ghost use Rattle.age_io.specs.Io.{one_more};
+ghost use Rattle.age_io.specs.Taken.{WriteAppends, Keeps};
+ghost use Rattle.age_machine.specs.Ends.{Closes, Discards};
+ghost use Rattle.age_disk.specs.Outputs.{as_sink};
 
 use age_disk::{Ended, FileId, HostIn, HostOut, Prepared};
 use age_io::{Durability, Failed, Sink, Source};
@@ -121,7 +124,9 @@ impl<'r, 'w> WatchedOut<'r, 'w> {
     }
 
     /// Which file it is, if that is known.
-    pub(crate) fn id(&self) -> Option<FileId> {
+    pub(crate) fn id(&self) -> Option<FileId>
+        ensures { result ≡ self.now.sink.id }
+    {
         self.sink.id()
     }
 
@@ -143,12 +148,25 @@ impl<'r, 'w> WatchedOut<'r, 'w> {
     }
 
     /// Takes it for this run alone.
-    pub(crate) fn claim(&self, rt: &HostRuntime, name: &str) -> io::Result<()> {
-        let claimed = self.sink.claim(rt, name);
-        if let Err(error) = claimed {
-            self.failures.note(Action::Write, self.name, error);
+    pub(crate) fn claim(self, rt: &HostRuntime, name: &str) -> io::Result<WatchedOut<'r, 'w>>
+        ensures { IfOk result (λ o. o.sink ≡ self.entry.sink) }
+    {
+        let WatchedOut {
+            sink,
+            name: word,
+            failures,
+        } = self;
+        match sink.claim(rt, name) {
+            Ok(sink) => Ok(WatchedOut {
+                sink,
+                name: word,
+                failures,
+            }),
+            Err(error) => {
+                failures.note(Action::Write, word, error);
+                Err(error)
+            }
         }
-        claimed
     }
 
     /// Whether it is a terminal.
@@ -165,9 +183,8 @@ impl<'r, 'w> WatchedOut<'r, 'w> {
 
     /// Ends it with what was written.
     pub(crate) fn close(self, rt: &HostRuntime, durability: Durability) -> (Ended, io::Result<()>)
-        ensures took { result.0.took ≡ self.entry.sink.took }
-        ensures safe { durability ≡ wait.Synced → self.entry.sink.failed ≡ 0 → OnOk result.1
-            (IfSome self.entry.sink.file (λ f. f.is_waited ≡ true → result.0.path ≡ Some f.path)) }
+        ensures closes { Closes durability self.entry.sink.file (as_sink self.entry.sink) result.1
+            result.0 }
     {
         let WatchedOut {
             sink,
@@ -182,8 +199,10 @@ impl<'r, 'w> WatchedOut<'r, 'w> {
     }
 
     /// Ends it if nothing was written.
-    pub(crate) fn discard(self, rt: &HostRuntime, durability: Durability) {
-        self.sink.discard(rt, durability);
+    pub(crate) fn discard(self, rt: &HostRuntime, durability: Durability) -> Ended
+        ensures discards { Discards self.entry.sink.file (as_sink self.entry.sink) result }
+    {
+        self.sink.discard(rt, durability)
     }
 }
 
@@ -196,15 +215,18 @@ fn closing(durability: Durability) -> Action {
 }
 
 impl<'r, 'w> Sink for WatchedOut<'r, 'w> {
-    ghost view = { λ s. record {
-      taken = record { bytes = s.sink.took; contents = None };
-      failed = s.sink.failed;
-      failing = s.sink.failing;
-      label = [];
-      settled = true;
-    } };
+    ghost view = { λ s. as_sink s.sink };
 
-    fn put(&mut self, from: &[u8]) -> Result<usize, Failed> {
+    fn put(&mut self, from: &[u8]) -> Result<usize, Failed>
+        ensures bound { IfOk result (λ n. (n ≤ length from.now) × (0 < length from.now → 0 < n)) }
+        ensures bytes { WriteAppends (as_sink self.old.sink).taken (as_sink self.new.sink).taken result
+            from.now }
+        ensures counted { MatchResult result (λ _. self.new.sink.failed ≡ self.old.sink.failed)
+            (λ _. self.new.sink.failed ≡ one_more self.old.sink.failed) }
+        ensures last { self.new.sink.failing ≡ is_err result }
+        ensures same { (self.new.sink.file ≡ self.old.sink.file)
+            × (self.new.sink.id ≡ self.old.sink.id) }
+    {
         let put = self.sink.put(from);
         if put.is_err() {
             self.failures
@@ -213,7 +235,15 @@ impl<'r, 'w> Sink for WatchedOut<'r, 'w> {
         put
     }
 
-    fn flush(&mut self) -> Result<(), Failed> {
+    fn flush(&mut self) -> Result<(), Failed>
+        ensures settled { OnOk result ((as_sink self.new.sink).settled ≡ true) }
+        ensures bytes { Keeps (as_sink self.old.sink).taken (as_sink self.new.sink).taken }
+        ensures counted { MatchResult result (λ _. self.new.sink.failed ≡ self.old.sink.failed)
+            (λ _. self.new.sink.failed ≡ one_more self.old.sink.failed) }
+        ensures last { self.new.sink.failing ≡ is_err result }
+        ensures same { (self.new.sink.file ≡ self.old.sink.file)
+            × (self.new.sink.id ≡ self.old.sink.id) }
+    {
         self.sink.flush()
     }
 

@@ -1,12 +1,14 @@
 -- How a part of the program ended. What only private code cites.
 use Rattle.std.specs.Prelude.{◌≡◌, ◌≢◌, ◌⊎◌, ℕ, ◌++◌, ◌∷◌, [], true, false, Bool, List, Option, Some, None}
-use Rattle.std.specs.Prelude.{Result, Ok, Err, IsOk, OnOk, IfErr, IsErrAnd, IsSomeAnd, length, ◌<◌, ◌*◌}
+use Rattle.std.specs.Prelude.{Result, Ok, Err, IsOk, OnOk, OnErr, IfErr, IsErrAnd, IsSomeAnd, length, ◌<◌}
+use Rattle.std.specs.Prelude.{◌*◌, IfSome}
 use Rattle.clap.specs.Words.{Text}
 use Rattle.clap.specs.declared.error.kind.ErrorKind.{ErrorKind}
 use Rattle.clap.specs.declared.error.kind.ErrorKind.TheVariants.{DisplayHelp, DisplayVersion}
 use Rattle.age_chunk.specs.Payload.{chunk_length}
 use Rattle.age_io.specs.Io.{SinkView}
 use Rattle.age_io.specs.declared.durability.Durability.{Durability}
+use Rattle.age_io.specs.declared.durability.Durability.TheVariants.{Synced}
 use Rattle.age_fault.specs.declared.fault.FileFault.{FileFault}
 use Rattle.age_fault.specs.declared.fault.FileFault.TheVariants.{Write}
 use Rattle.age_file.specs.declared.decryption.Done.{Done}
@@ -19,7 +21,8 @@ use Rattle.age_command.specs.declared.ending.Ending.{Ending}
 use Rattle.age_command.specs.declared.ending.Ending.TheVariants.{Unsaved}
 use Rattle.age_command.specs.Orders.{Follows, replacing}
 use Rattle.age_command.specs.Files.{SparesBut, SparesBoth}
-use Rattle.age_cli.specs.Acts.{EndsOf}
+use Rattle.age_machine.specs.Ends.{EndedFile, TouchesItself, IsOnDisk, IsUntouched}
+use Rattle.age_cli.specs.Acts.{EndsOf, IsEndingOf, HasSaved}
 use Rattle.age_cli.specs.declared.interruption.Interruption.{Interruption}
 
 -- a refusal that isn't one: help or the version is asked for
@@ -59,6 +62,30 @@ Left (Err cause) taken old new stop = (stop ≡ cause) × IsPut taken old new
 Left (Ok done) taken old new stop = (stop ≡ record { fault = Write; position = None })
     × ((new ≡ old) ⊎ (new ≡ taken))
 
+-- the fault of a stop: the engine's, or that of the end of OUT
+abbrev pub IsFaultOf : Result (Unit {0}) Interruption → FileFault → Type 0
+IsFaultOf (Ok done) fault = fault ≡ Write
+IsFaultOf (Err stop) fault = fault ≡ stop.fault
+
+-- how an engine's stop leaves the file of OUT, whose sink is this: untouched, if nothing was taken
+pub record LeavesFile (sink : SinkView) (out : EndedFile) : Type 0 where
+  pub took : out.took ≡ sink.taken.bytes
+  pub within : TouchesItself out
+  pub untouched : sink.taken.bytes ≡ [] → IsUntouched sink.failed out
+
+-- what was done to the file of OUT, whose sink is this, once the engine returned so
+pub record EndsFile {E : Type 0} (durability : Durability) (sink : SinkView)
+    (engine : Result (Unit {0}) Interruption) (result : Result (Unit {0}) E) (out : EndedFile)
+    : Type 0 where
+  pub took : out.took ≡ sink.taken.bytes
+  pub within : TouchesItself out
+  -- It is on the disk, if that was waited for and no put has failed.
+  pub safe : durability ≡ Synced → sink.failed ≡ 0 → OnOk result (IsOnDisk out)
+  -- After a stop it is untouched, if nothing was taken.
+  pub untouched : IfErr engine (λ stop. sink.taken.bytes ≡ [] → IsUntouched sink.failed out)
+  -- If it couldn't be ended, a call has failed.
+  pub caused : OnOk engine (OnErr result (IfSome out.file (λ f. 0 < out.failed)))
+
 -- OUT was ended, whose sink is this: whole, or as a stop leaves it
 pub record EndsOut (shows : Bool) (durability : Durability) (sink : SinkView)
     (engine : Result (Unit {0}) Interruption) (old new : FilesView) (result : Result (Unit {0}) Interruption)
@@ -74,8 +101,9 @@ pub record EndsOut (shows : Bool) (durability : Durability) (sink : SinkView)
   pub others : SparesBut sink.label old.entries new.entries
   -- It is ended once.
   pub noted : new.events ≡ old.events ++ Closed durability ∷ []
-  -- It was closed, and not discarded, if the engine and the end succeeded.
-  pub closed : OnOk result (new.closed ≡ Some sink.taken.bytes)
+  -- What was done to its file, and with which fault that stopped.
+  pub ended : IsSomeAnd new.ended (EndsFile durability sink engine result)
+  pub fault : IfErr result (λ stop. IsFaultOf engine stop.fault)
 
 -- and then the position of a stop was saved
 pub record Concludes (shows : Bool) (save : Option Text) (durability : Durability)
@@ -97,4 +125,10 @@ pub record Concludes (shows : Bool) (save : Option Text) (durability : Durabilit
   pub order : Follows (Closed durability ∷ replacing save durability) old.events new.events
   -- If all is done, OUT is closed and nothing more.
   pub order_done : OnOk result (new.events ≡ old.events ++ Closed durability ∷ [])
-  pub closed : OnOk result (new.closed ≡ Some sink.taken.bytes)
+  -- What was done to its file, and with which fault that stopped, which is reported.
+  pub ended : IsSomeAnd new.ended (EndsFile durability sink engine result)
+  pub reported : IfErr result
+      (λ ending. (fault : FileFault) × IsFaultOf engine fault × IsEndingOf fault ending)
+  -- After a stop nothing was replaced, or a position was saved.
+  pub saved : IfErr result (λ ending. (new.events ≡ old.events ++ Closed durability ∷ [])
+      ⊎ HasSaved durability ending new.saved)

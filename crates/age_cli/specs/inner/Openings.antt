@@ -18,6 +18,7 @@ use Rattle.age_command.specs.declared.ending.Ending.TheVariants.{Usage}
 use Rattle.age_command.specs.declared.ending.Usage.TheVariants.{SameFile}
 use Rattle.age_command.specs.Files.{Files, HasReason}
 use Rattle.age_command.specs.Orders.{Follows, random_name}
+use Rattle.age_cli.specs.Acts.{SparesOut}
 use Rattle.age_cli.specs.declared.encrypt_command.Material.{Material}
 
 -- ---- The names of the files that are read.
@@ -30,10 +31,10 @@ IsReadAs d name = (d.from.now ≡ name)
 -- ---- The position that is saved.
 
 -- the position stands in the file of this name, if both are there, and nothing differs if one isn't
-abbrev pub Saves : Option Text → Option Position → Files → Files → Type 0
-Saves (Some name) (Some position) old new = new name ≡ Some (position_text position)
-Saves None position old new = new ≡ old
-Saves (Some name) None old new = new ≡ old
+abbrev pub Stands : Option Text → Option Position → Files → Files → Type 0
+Stands (Some name) (Some position) old new = new name ≡ Some (position_text position)
+Stands None position old new = new ≡ old
+Stands (Some name) None old new = new ≡ old
 
 -- ---- How files are opened and made before anything is written.
 
@@ -50,6 +51,8 @@ pub record OpensFiles {A : Type 0} (shows : Bool) (order whole : List Event) (ol
   pub opened : IfOk result (λ a. shows ≡ true → IsOpened a)
   -- Nothing was given or taken so far.
   pub begun : IfOk result IsNew
+  -- No output was touched.
+  pub spared : SparesOut old.ended new.ended
   -- All of the order was followed.
   pub noted : OnOk result (new.events ≡ old.events ++ order)
   -- Or a beginning of what a refusal may add.
@@ -72,6 +75,8 @@ pub record Judges {A : Type 0} (shows : Bool) (order : List Event) (old new : Fi
     (result : Result A Ending) : Type 0 where
   -- No entry differs.
   pub kept : new.entries ≡ old.entries
+  -- No output was ended.
+  pub unended : new.ended ≡ old.ended
   -- What was read is what the files hold.
   pub read : IfOk result (λ a. shows ≡ true → IsRead a)
   -- All of the order was followed.

@@ -20,7 +20,7 @@ use Rattle.age_cli_args.specs.declared.request.ProgressOption.TheVariants.{Silen
 use Rattle.age_command.specs.declared.ending.Ending.{Ending}
 use Rattle.age_command.specs.Identities.{allows_by, refuses_by}
 use Rattle.age_command.specs.declared.identity.Identity.{Identity}
-use Rattle.age_cli.specs.Acts.{kept_for}
+use Rattle.age_cli.specs.Acts.{kept_for, HaltsDecryption, HaltsResumption}
 use Rattle.age_cli.specs.inner.Endings.{Concludes, IsCertain, opening_end}
 
 -- that of a run over these bytes, by this key, which wrote this many bytes; of one that began from a
@@ -105,6 +105,8 @@ pub record DecryptsOpened (IsPorts : Ports → Type 0) (shows : Bool) (d : Decry
       (λ done. IsSomeAnd run (DecryptEnds (allows_by identity) before after done))
   pub stopped : shows ≡ true → HoldsInput d before old → IfErr decrypted (DecryptStops
       (kept_for (option_text d.save)) (allows_by identity) (refuses_by identity) before after run)
+  -- Whatever contracts see, the engine stopped with this fault.
+  pub halted : IfErr decrypted (λ s. HaltsDecryption identity before after s.fault)
   pub named : after.sink.label ≡ before.sink.label
   pub concludes : Concludes shows (option_text d.save) d.durability after.sink (opening_end decrypted)
       old new result
@@ -129,6 +131,8 @@ pub record ResumesOpened (IsPorts : Ports → Type 0) (shows : Bool) (d : Decryp
   pub stopped : shows ≡ true → HoldsInput d before old → IfErr resumed (ResumeStops
       (allows_by identity) from (resume_ports before first) (resume_ports after last)
       (kept_for (option_text d.save)) (refuses_by identity) run)
+  pub halted : IfErr resumed (λ s. HaltsResumption identity from (resume_ports before first)
+      (resume_ports after last) s.fault)
   pub named : after.sink.label ≡ before.sink.label
   pub concludes : Concludes shows (option_text d.save) d.durability after.sink (opening_end resumed)
       old new result

@@ -8,12 +8,13 @@ abbrev pub part_of : {E : Type 0} → Result ℕ E → List ℕ → List ℕ
 part_of (Ok n) from = take n from
 part_of (Err e) from = []
 
--- a part was written to it, and no call has failed unless that has
+-- a part was written to it, and no call has failed unless that has; nor if nothing was written so far
 pub record PutsPart (old new : OutView) (is_ok : Bool) (part : List ℕ) : Type 0 where
   pub file : new.file ≡ old.file
   pub text : text_of new.calls ≡ text_of old.calls ++ part
   pub sound : is_ok ≡ true → new.is_lost ≡ false
       → (new.failed ≡ old.failed) × (old.is_lost ≡ false)
+  pub still : is_ok ≡ true → text_of old.calls ≡ [] → part ≡ [] → new.failed ≡ old.failed
 
 -- the same of a regular file, if it is one
 abbrev pub TargetPuts : Option OutView → Option OutView → Bool → List ℕ → Type 0

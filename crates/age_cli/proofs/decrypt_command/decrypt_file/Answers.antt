@@ -12,6 +12,7 @@ use Rattle.age_cli.specs.Acts.{paths_of}
 use Rattle.age_cli.proofs.CommandLemmas.{in_order, reason_at, found_by}
 use Rattle.age_cli.proofs.ReportLemmas.{unmade}
 use Rattle.age_cli.proofs.ActLemmas.{acts_early}
+use Rattle.age_cli.proofs.FileLemmas.{spared_then}
 use Rattle.age_cli.proofs.FinalLemmas.{Found, decrypt_acts}
 use Rattle.age_command.proofs.EventLemmas.{longer, none_done, then_did, then_follows}
 use Rattle.age_cli.proofs.decrypt_command.decrypt_file.Goals as goal
@@ -20,7 +21,7 @@ pub returns-in_err-choice-clause-acts : goal.returns-in_err-choice-clause-acts
 returns-in_err-choice-clause-acts g c =
     let d = c.args.asked.now in
     let e : Ending = Usage c.in_err-choice.field-0.0 in
-    acts_early _ _ (Decrypt d) _ _ _ _ _ c.from_residual.result e c.from_residual.ensures refl (λ shown. tt) (λ shown. tt) (none_done _ _) (λ shown usage. none_done _ _)
+    acts_early _ _ (Decrypt d) _ _ _ _ _ c.from_residual.result e c.from_residual.ensures refl (inl tt, inl refl) (λ shown. tt) (λ shown. tt) (none_done _ _) (λ shown usage. none_done _ _)
     (λ twice. (refl, refl))
     (λ shown usage. inr (ap Usage c.in_err-choice.ensures.blame, c.in_err-choice.ensures.none (g.F.FileSet.view c.args.files.now).entries)) refl
 
@@ -32,7 +33,7 @@ returns-in_err-secret-clause-acts g c =
     let d = c.args.asked.now in
     let e : Ending = c.in_err-secret.field-0.0 in
     let judged = in_order _ _ _ _ _ _ _ _ _ _ c.in_ok-choice.ensures.chooses.order c.in_err-secret.ensures in
-    acts_early _ _ (Decrypt d) _ _ _ _ _ c.from_residual-in_err-secret.result e c.from_residual-in_err-secret.ensures judged.kept (λ shown. judged.early) judged.reason
+    acts_early _ _ (Decrypt d) _ _ _ _ _ c.from_residual-in_err-secret.result e c.from_residual-in_err-secret.ensures judged.kept (inl judged.early, inl judged.unended) (λ shown. judged.early) judged.reason
     (longer _ (Opened d.from.now ∷ (preparing (option_text d.save) ++ making (Some d.to.now) d.durability)) _ _ judged.followed) (λ shown usage. judged.followed)
     (λ twice. judged.apart (c.names_a_file_twice-is_file_named_twice.ensures.twice twice))
     (λ shown usage. let named = judged.blamed shown usage in inl (named.0, c.names_a_file_twice-is_file_named_twice.ensures.shown shown named.1)) refl
@@ -45,13 +46,12 @@ returns-in_err-identity-clause-acts g c =
     let d = c.args.asked.now in
     let e : Ending = Usage c.in_err-identity.field-0.0 in
     let judged = in_order _ _ _ _ _ _ _ _ _ _ c.in_ok-choice.ensures.chooses.order c.in_ok-secret.ensures in
-    acts_early _ _ (Decrypt d) _ _ _ _ _ c.from_residual-in_err-identity.result e c.from_residual-in_err-identity.ensures judged.kept (λ shown. tt) (λ shown. tt)
+    acts_early _ _ (Decrypt d) _ _ _ _ _ c.from_residual-in_err-identity.result e c.from_residual-in_err-identity.ensures judged.kept (inl tt, inl judged.unended) (λ shown. tt) (λ shown. tt)
     (longer _ (Opened d.from.now ∷ (preparing (option_text d.save) ++ making (Some d.to.now) d.durability)) _ _ judged.followed) (λ shown usage. judged.followed)
     (λ twice. absurd (judged.apart (c.names_a_file_twice-is_file_named_twice.ensures.twice twice)).1)
     (λ shown usage. inr (
       ap Usage (c.in_err-identity.ensures.blame ∙ c.in_ok-choice.ensures.chooses.blame),
-      λ identity opens.
-          c.in_err-identity.ensures.none identity
+      λ identity opens. c.in_err-identity.ensures.none identity
           ((judged.read shown).1 identity (c.in_ok-choice.ensures.chooses.only (g.F.FileSet.view c.args.files.now).entries identity opens)),
     )) refl
 
@@ -64,7 +64,7 @@ returns-in_err-source-clause-acts g c =
     let e : Ending = c.in_err-source.field-0.0 in
     let judged = in_order _ _ _ _ _ _ _ _ _ _ c.in_ok-choice.ensures.chooses.order c.in_ok-secret.ensures in
     let both = c.in_err-source.ensures in
-    acts_early _ _ (Decrypt d) _ _ _ _ _ c.from_residual-in_err-source.result e c.from_residual-in_err-source.ensures (both.kept ∙ judged.kept) (λ shown. both.early)
+    acts_early _ _ (Decrypt d) _ _ _ _ _ c.from_residual-in_err-source.result e c.from_residual-in_err-source.ensures (both.kept ∙ judged.kept) (inl both.early, spared_then _ _ _ judged.unended both.spared) (λ shown. both.early)
     (λ shown. reason_at _ _ (g.F.FileSet.view c.open_both.new.files).events (SourceFails g.F.In.Source.view) e judged.kept (both.reason shown))
     (then_follows _ _ _ (identity_order (option_text d.identity.pass) (option_text d.identity.shared))
     (Opened d.from.now ∷ (preparing (option_text d.save) ++ making (Some d.to.now) d.durability)) judged.noted both.followed)

@@ -9,6 +9,7 @@ use Rattle.age_cli.proofs.decrypt_command.read_secret.Goals as goal
 pub returns-then-is_file_named_twice : goal.returns-then-is_file_named_twice
 returns-then-is_file_named_twice g c = record {
   kept = refl;
+  unended = refl;
   read = tt;
   noted = tt;
   followed = none_done _ _;
@@ -26,6 +27,7 @@ returns-in_err-check_streams g c =
     let fails = c.in_err-check_streams.ensures in
     record {
       kept = refl;
+      unended = refl;
       read = no_value r e is _;
       noted = not_well r e is _;
       followed = none_done _ _;
@@ -43,6 +45,7 @@ returns-in_err-read g c =
     let read = c.in_err-read.ensures in
     record {
       kept = read.kept;
+      unended = read.unended;
       read = no_value r e is _;
       noted = not_well r e is _;
       followed = followed _ _ _ read.noted;
@@ -57,6 +60,7 @@ returns g c =
     let read = c.in_ok-read.ensures in
     record {
       kept = read.kept;
+      unended = read.unended;
       read = λ shown. (read.read shown, read.enough shown);
       noted = read.noted;
       followed = followed _ _ _ read.noted;

@@ -14,6 +14,7 @@ use Rattle.age_cli.specs.Acts.{Paths}
 use Rattle.age_cli.proofs.CommandLemmas.{reason_at}
 use Rattle.age_cli.proofs.ReportLemmas.{unmade}
 use Rattle.age_cli.proofs.ActLemmas.{acts_early}
+use Rattle.age_cli.proofs.FileLemmas.{spared_then}
 use Rattle.age_cli.proofs.FinalLemmas.{Found, encrypt_acts}
 use Rattle.age_cli.proofs.ProgressLemmas.{at_end_of, run_of, sealing_at_end, shown_once}
 use Rattle.age_cli.specs.declared.interruption.Interruption.{Interruption}
@@ -24,7 +25,7 @@ returns-in_err-material-clause-acts g c =
     let a = c.args.asked.now in
     let e : Ending = c.in_err-material.field-0.0 in
     let judged = c.in_err-material.ensures in
-    acts_early _ _ (Encrypt a) _ _ _ _ _ c.from_residual.result e c.from_residual.ensures judged.kept (λ shown. judged.early) judged.reason
+    acts_early _ _ (Encrypt a) _ _ _ _ _ c.from_residual.result e c.from_residual.ensures judged.kept (inl judged.early, inl judged.unended) (λ shown. judged.early) judged.reason
     (longer _ (Opened a.from.now ∷ making (Some a.to.now) a.durability) _ _ judged.followed) (λ shown usage. judged.followed)
     (λ twice. judged.apart twice) judged.blamed refl
 
@@ -36,10 +37,9 @@ returns-in_err-secret-clause-acts g c =
     let a = c.args.asked.now in
     let e : Ending = Usage c.in_err-secret.field-0.0 in
     let judged = c.in_ok-material.ensures in
-    acts_early _ _ (Encrypt a) _ _ _ _ _ c.from_residual-in_err-secret.result e c.from_residual-in_err-secret.ensures judged.kept (λ shown. tt) (λ shown. tt)
+    acts_early _ _ (Encrypt a) _ _ _ _ _ c.from_residual-in_err-secret.result e c.from_residual-in_err-secret.ensures judged.kept (inl tt, inl judged.unended) (λ shown. tt) (λ shown. tt)
     (longer _ (Opened a.from.now ∷ making (Some a.to.now) a.durability) _ _ judged.followed) (λ shown usage. judged.followed)
-    (λ twice. absurd (judged.apart twice).1)
-    (λ shown usage. let none = c.in_err-secret.ensures.none in
+    (λ twice. absurd (judged.apart twice).1) (λ shown usage. let none = c.in_err-secret.ensures.none in
     inr (inl (ap Usage none.0, none.1 (g.F.FileSet.view c.args.files.now).entries (judged.read shown)))) refl
 
 pub returns-in_err-secret-clause-announced : goal.returns-in_err-secret-clause-announced
@@ -51,11 +51,10 @@ returns-in_err-source-clause-acts g c =
     let e : Ending = c.in_err-source.field-0.0 in
     let judged = c.in_ok-material.ensures in
     let both = c.in_err-source.ensures in
-    acts_early _ _ (Encrypt a) _ _ _ _ _ c.from_residual-in_err-source.result e c.from_residual-in_err-source.ensures (both.kept ∙ judged.kept) (λ shown. both.early)
+    acts_early _ _ (Encrypt a) _ _ _ _ _ c.from_residual-in_err-source.result e c.from_residual-in_err-source.ensures (both.kept ∙ judged.kept) (inl both.early, spared_then _ _ _ judged.unended both.spared) (λ shown. both.early)
     (λ shown. reason_at _ _ (g.F.FileSet.view c.open_both.new.files).events (SourceFails g.F.In.Source.view) e judged.kept (both.reason shown))
     (then_follows _ _ _ (Opened a.pass.now ∷ Opened (random_name (option_text a.random)) ∷ []) (Opened a.from.now ∷ making (Some a.to.now) a.durability)
-    judged.noted both.followed)
-    (λ shown usage. absurd (true≢false (sym usage ∙ both.fault shown)))
+    judged.noted both.followed) (λ shown usage. absurd (true≢false (sym usage ∙ both.fault shown)))
     (λ twice. absurd (judged.apart twice).1) (λ shown usage. absurd (true≢false (sym usage ∙ both.fault shown))) refl
 
 pub returns-in_err-source-clause-announced : goal.returns-in_err-source-clause-announced
@@ -82,13 +81,11 @@ returns-clause-acts g c =
     (then_did _ _ _ (Opened a.pass.now ∷ Opened (random_name (option_text a.random)) ∷ []) (Opened a.from.now ∷ Created a.to.now ∷ []) judged.noted both.noted)
     (λ twice. absurd (judged.apart twice).1) (λ shown. subst (λ (f : Files). IsFresh a.clobber (f a.to.now)) judged.kept (both.opened shown).1) (
       run.ensures.silent,
-      λ asked.
-          shown_once _ _ _ _ _ c.conclude.result
+      λ asked. shown_once _ _ _ _ _ c.conclude.result
           (run_of _ _ _ _ _ _ (λ shown. (both.opened shown).0.1 ∙ ap (λ (f : Files). f a.from.now) judged.kept) (run.ensures.shown asked))
           (at_end_of _ c.sealing_end.result c.conclude.result _
           (subst (λ (e : Result (Unit {0}) Interruption). OnOk e (IsAtEnd (In run.result.source).supply)) (sym c.sealing_end.ensures)
-          (sealing_at_end c.in_ok-secret.secret before after run.result.end run.ensures.done))
-          c.conclude.ensures.concludes.done),
+          (sealing_at_end c.in_ok-secret.secret before after run.result.end run.ensures.done)) c.conclude.ensures.concludes.done),
     )
 
 pub returns-clause-announced : goal.returns-clause-announced

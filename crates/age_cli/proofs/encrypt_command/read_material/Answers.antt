@@ -15,6 +15,7 @@ use Rattle.age_cli.proofs.encrypt_command.read_material.Goals as goal
 pub returns-then-names_out_twice : goal.returns-then-names_out_twice
 returns-then-names_out_twice g c = record {
   kept = refl;
+  unended = refl;
   read = tt;
   noted = tt;
   followed = none_done _ _;
@@ -32,6 +33,7 @@ returns-in_err-check_streams g c =
     let fails = c.in_err-check_streams.ensures in
     record {
       kept = refl;
+      unended = refl;
       read = no_value r e is _;
       noted = not_well r e is _;
       followed = none_done _ _;
@@ -49,6 +51,7 @@ returns-in_err-pass g c =
     let is = c.from_residual-in_err-pass.ensures in
     record {
       kept = c.in_err-pass.ensures.kept;
+      unended = c.in_err-pass.ensures.unended;
       read = no_value r e is _;
       noted = not_well r e is _;
       followed = record {
@@ -71,6 +74,7 @@ returns-in_err-random g c =
     let is = c.from_residual-in_err-random.ensures in
     record {
       kept = c.in_err-random.ensures.kept ∙ c.in_ok-pass.ensures.kept;
+      unended = c.in_err-random.ensures.unended ∙ c.in_ok-pass.ensures.unended;
       read = no_value r e is _;
       noted = not_well r e is _;
       followed = followed _ _ _ (then_did _ _ _ (Opened a.pass.now ∷ []) (Opened c.random_name-random_name.result.now ∷ []) c.in_ok-pass.ensures.noted
@@ -94,8 +98,8 @@ returns g c =
     ∙ ap (λ n. (g.F.FileSet.view c.args.files.now).events ++ Opened a.pass.now ∷ Opened n ∷ []) name in
     record {
       kept = c.in_ok-random.ensures.kept ∙ c.in_ok-pass.ensures.kept;
-      read = λ shown.
-          let random = c.in_ok-random.ensures.read shown in
+      unended = c.in_ok-random.ensures.unended ∙ c.in_ok-pass.ensures.unended;
+      read = λ shown. let random = c.in_ok-random.ensures.read shown in
           record {
             pass_is = c.in_ok-pass.ensures.read shown;
             bytes = random.0;

@@ -12,7 +12,6 @@ returns-in-Some-clause-read g c = λ shown.
 pub returns-in-None-clause-refused : goal.returns-in-None-clause-refused
 returns-in-None-clause-refused g c = λ shown usage. (
   refl,
-  λ pass holds allowed.
-      let words : PassphraseIdentity = record { pass = pass; max_log = c.args.asked.now.log } in
+  λ pass holds allowed. let words : PassphraseIdentity = record { pass = pass; max_log = c.args.asked.now.log } in
       c.in-None.ensures.none pass (c.in_ok-held.ensures.enough shown (ByPassphrase words) (holds, refl, allowed)).0 allowed,
 )

@@ -15,6 +15,7 @@ returns-in_err-source g c =
     let is = c.from_residual.ensures in
     record {
       kept = c.in_err-source.ensures.kept;
+      unended = c.in_err-source.ensures.unended;
       read = no_value r e is _;
       short = λ shown. this_error r e is _ (λ usage. absurd (true≢false (sym usage ∙ created_fault _ _ _ c.in_err-source.ensures.faults shown)));
       noted = c.in_err-source.ensures.noted;
@@ -26,14 +27,13 @@ returns-in_err-source g c =
 pub returns : goal.returns
 returns g c = record {
   kept = c.in_ok-source.ensures.kept;
-  read = IfOk-weaker c.random_in.result _ _ (λ random of shown.
-      let found = c.in_ok-source.ensures.found shown in
+  unended = c.in_ok-source.ensures.unended;
+  read = IfOk-weaker c.random_in.result _ _ (λ random of shown. let found = c.in_ok-source.ensures.found shown in
       let front = front_read _ _ of.0 (ap (λ o. is_some o) found.1 ∙ found.0) of.1 in
       (of.0, front.0, sym found.1 ∙ front.1, of.2)) c.random_in.ensures.read;
   short = λ shown. IfErr-weaker c.random_in.result _ _ (λ e short usage. (
     (short usage).0,
-    λ secret held.
-        too_few secret _ held ((short usage).1 _ ((c.in_ok-source.ensures.found shown).1 ∙ held.bytes)),
+    λ secret held. too_few secret _ held ((short usage).1 _ ((c.in_ok-source.ensures.found shown).1 ∙ held.bytes)),
   )) c.random_in.ensures.short;
   noted = c.in_ok-source.ensures.noted;
   early = c.random_in.ensures.early;

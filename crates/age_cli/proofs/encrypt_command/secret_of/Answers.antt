@@ -6,8 +6,7 @@ use Rattle.age_cli.proofs.EncryptionLemmas.{random_in}
 use Rattle.age_cli.proofs.encrypt_command.secret_of.Goals as goal
 
 pub returns-in-Some-clause-makes : goal.returns-in-Some-clause-makes
-returns-in-Some-clause-makes c = λ old of.
-    let secret = c.in-Some.secret in
+returns-in-Some-clause-makes c = λ old of. let secret = c.in-Some.secret in
     let is = c.in-Some.ensures.1 in
     record {
       passphrase = (

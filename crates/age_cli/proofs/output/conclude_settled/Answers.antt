@@ -1,8 +1,11 @@
-use Rattle.std.proofs.Common.{◌∙◌, ◌∷◌, [], ap, sym, subst, Some}
+use Rattle.std.proofs.Common.{◌∙◌, ◌∷◌, [], ap, sym, subst, Some, Option, Err}
+use Rattle.std.specs.Prelude.{IsSomeAnd}
+use Rattle.age_machine.specs.Ends.{EndedFile}
 use Rattle.age_fileset.specs.FileSet.{Closed}
 use Rattle.age_cli_args.specs.Requests.{option_text}
 use Rattle.age_command.specs.Orders.{replacing}
-use Rattle.age_cli.specs.inner.Endings.{Left}
+use Rattle.age_cli.specs.inner.Endings.{Left, EndsFile}
+use Rattle.age_cli.proofs.FileLemmas.{some_and, done_as, stop_as, put_closed}
 use Rattle.age_cli.proofs.CommandStopLemmas.{ends_from}
 use Rattle.age_cli.proofs.ReportLemmas.{announced_so}
 use Rattle.age_command.proofs.EventLemmas.{followed, longer, then_follows}
@@ -19,7 +22,9 @@ returns-in-Ok-clause-concludes g c =
       spares = λ shown q to save. out.others q (λ e. to (ap Some (sym e)));
       order = longer (Closed c.args.durability ∷ []) (replacing (option_text c.args.save) c.args.durability) _ _ (followed _ _ _ out.noted);
       order_done = out.noted;
-      closed = out.closed;
+      ended = some_and _ (λ file so. done_as _ _ _ file so) out.ended;
+      reported = tt;
+      saved = tt;
     }
 
 pub returns-in-Err-clause-concludes : goal.returns-in-Err-clause-concludes
@@ -44,7 +49,10 @@ returns-in-Err-clause-concludes g c =
       spares = λ shown q to save. ended.others shown q (λ e. cc) save ∙ out.others q (λ e. to (ap Some (sym e)));
       order = then_follows _ _ _ (Closed c.args.durability ∷ []) (replacing (option_text c.args.save) c.args.durability) out.noted ended.noted;
       order_done = tt;
-      closed = tt;
+      ended = subst (λ (o : Option EndedFile). IsSomeAnd o (EndsFile c.args.durability sink c.args.engine (Err c.end_of.result))) (sym ended.unended)
+          (some_and _ (λ file so. stop_as _ _ _ _ c.end_of.result file so) out.ended);
+      reported = (stop.fault, out.fault, ended.reported);
+      saved = put_closed (view c.args.files.now).events (view c.end_out.new.files).events (view c.end_of.new.files).events (Closed c.args.durability ∷ []) out.noted ended.put;
     }
 
 pub returns-in-Err-clause-announced : goal.returns-in-Err-clause-announced

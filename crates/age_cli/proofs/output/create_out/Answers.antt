@@ -1,8 +1,9 @@
-use Rattle.std.proofs.Common.{◌∙◌, ◌∷◌, refl, sym, []}
+use Rattle.std.proofs.Common.{◌∙◌, ◌∷◌, refl, sym, [], inl}
 use Rattle.age_fileset.specs.FileSet.{Created, Closed}
 use Rattle.age_command.specs.Endings.{EndsEarly}
 use Rattle.age_command.specs.inner.Endings.{ending_of}
 use Rattle.age_command.specs.declared.ending.Ending.{Ending}
+use Rattle.age_cli.proofs.FileLemmas.{spared_by}
 use Rattle.age_cli.proofs.CommandLemmas.{no_value, not_well, this_error, an_error, created_early, created_fault, made_reason}
 use Rattle.age_command.proofs.EventLemmas.{followed, then_did}
 use Rattle.age_cli.proofs.output.create_out.Goals as goal
@@ -18,6 +19,7 @@ returns-in_err-out g c =
       kept = c.in_err-out.ensures.kept;
       opened = no_value r e is _;
       begun = no_value r e is _;
+      spared = inl c.in_err-out.ensures.unended;
       noted = not_well r e is _;
       followed = an_error r _ (record {
         done = Created a.to.now ∷ [];
@@ -38,6 +40,7 @@ returns-in-Some g c =
       kept = c.discard.ensures.kept (λ shown. (created.made shown).0) ∙ created.kept;
       opened = tt;
       begun = tt;
+      spared = spared_by _ _ _ _ created.begun.0 created.begun.1 c.discard.ensures.discarded;
       noted = tt;
       followed = followed _ _ _ (then_did _ _ _ (Created a.to.now ∷ []) (Closed a.durability ∷ []) created.noted c.discard.ensures.noted);
       early = tt;
@@ -50,6 +53,7 @@ returns-in-None g c = record {
   kept = c.in_ok-out.ensures.kept;
   opened = rw c.new.ensures c.in_ok-out.ensures.made;
   begun = rw c.new.ensures c.in_ok-out.ensures.begun;
+  spared = inl c.in_ok-out.ensures.unended;
   noted = c.in_ok-out.ensures.noted;
   followed = tt;
   early = tt;

@@ -1,8 +1,9 @@
-use Rattle.std.proofs.Common.{⊎_elim, inl, inr, refl, ap, sym, subst, None, Result}
-use Rattle.std.specs.Prelude.{IsOk}
+use Rattle.std.proofs.Common.{⊎_elim, inl, inr, refl, ap, sym, subst, None, Result, Ok, Err, IfErr}
+use Rattle.std.specs.Prelude.{IsOk, IsSomeAnd}
 use Rattle.age_command.specs.Files.{Files}
 use Rattle.age_cli.specs.declared.interruption.Interruption.{Interruption}
-use Rattle.age_cli.specs.inner.Endings.{Left}
+use Rattle.age_cli.specs.inner.Endings.{Left, EndsFile, IsFaultOf}
+use Rattle.age_cli.proofs.FileLemmas.{some_and, closed_well, closed_badly, left_file}
 use Rattle.age_cli.proofs.CommandLemmas.{not_well, this_error}
 use Rattle.age_cli.proofs.SettledLemmas.{no_stop, same_stop}
 use Rattle.age_cli.proofs.output.end_out.Goals as goal
@@ -16,7 +17,9 @@ returns-in_ok-close-in-Ok g c =
       stops = tt;
       others = rw c.into_out.ensures at closed.others;
       noted = closed.noted;
-      closed = rw c.into_out.ensures at closed.closed;
+      ended = subst (λ (x : Result (Unit {0}) Interruption). IsSomeAnd (g.F.FileSet.view c.close.new.self).ended (EndsFile c.args.durability (g.F.Out.Sink.view c.args.out.out) x (Ok tt)))
+          (sym c.in-Ok.is) (some_and _ (λ out so. closed_well _ _ _ out so) (rw c.into_out.ensures at closed.closed));
+      fault = tt;
     }
 
 pub returns-in_err-close-in-Ok : goal.returns-in_err-close-in-Ok
@@ -38,7 +41,9 @@ returns-in_err-close-in-Ok g c =
           ));
       others = rw c.into_out.ensures at closed.others;
       noted = closed.noted;
-      closed = not_well r e is _;
+      ended = subst (λ (x : Result (Unit {0}) Interruption). IsSomeAnd (view c.close.new.self).ended (EndsFile c.args.durability sink x r))
+          (sym c.in-Ok.is) (some_and _ (λ out so. closed_badly _ _ _ _ r out (not_well r e is) so) (rw c.into_out.ensures at closed.closed));
+      fault = subst (λ (x : Result (Unit {0}) Interruption). IfErr r (λ stop. IsFaultOf x stop.fault)) (sym c.in-Ok.is) (this_error r e is _ closed.faults);
     }
 
 pub returns-in-Err : goal.returns-in-Err
@@ -59,5 +64,7 @@ returns-in-Err g c =
           );
       others = left.others;
       noted = left.noted;
-      closed = tt;
+      ended = subst (λ (x : Result (Unit {0}) Interruption). IsSomeAnd (view c.leave.new.files).ended (EndsFile c.args.durability sink x (Err stop))) (sym c.in-Err.is)
+          (some_and _ (λ out so. left_file c.args.durability sink stop stop out so) left.ended);
+      fault = subst (λ (x : Result (Unit {0}) Interruption). IsFaultOf x stop.fault) (sym c.in-Err.is) refl;
     }

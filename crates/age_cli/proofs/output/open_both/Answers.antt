@@ -1,4 +1,4 @@
-use Rattle.std.proofs.Common.{◌∙◌, ◌++◌, ◌∷◌, [], subst, Some}
+use Rattle.std.proofs.Common.{◌∙◌, ◌++◌, ◌∷◌, [], subst, Some, inl}
 use Rattle.age_fileset.specs.FileSet.{Opened, Created}
 use Rattle.age_cli_args.specs.Requests.{option_text}
 use Rattle.age_command.specs.Orders.{preparing, making}
@@ -7,6 +7,7 @@ use Rattle.age_command.specs.Files.{Files, SourceFails}
 use Rattle.age_cli.specs.inner.Openings.{IsFresh}
 use Rattle.age_command.specs.declared.ending.Ending.{Ending}
 use Rattle.age_command.specs.inner.Endings.{ending_of}
+use Rattle.age_cli.proofs.FileLemmas.{spared_then}
 use Rattle.age_cli.proofs.CommandLemmas.{no_value, not_well, this_error, an_error, created_fault, last_missing, opened_early, open_reason, reason_at}
 use Rattle.age_command.proofs.EventLemmas.{followed, longer, then_did, then_follows}
 use Rattle.age_cli.proofs.output.open_both.Goals as goal
@@ -19,6 +20,7 @@ returns-in_err-source g c =
     let is = c.from_residual.ensures in
     record {
       kept = c.in_err-source.ensures.kept;
+      spared = inl c.in_err-source.ensures.unended;
       opened = no_value r e is _;
       begun = no_value r e is _;
       noted = not_well r e is _;
@@ -39,6 +41,7 @@ returns-in_err-prepare_save g c =
     let prepared = c.in_err-prepare_save.ensures in
     record {
       kept = prepared.kept ∙ c.in_ok-source.ensures.kept;
+      spared = inl (prepared.unended ∙ c.in_ok-source.ensures.unended);
       opened = no_value r e is _;
       begun = no_value r e is _;
       noted = not_well r e is _;
@@ -59,6 +62,7 @@ returns-in_err-out g c =
     let out = c.in_err-out.ensures in
     record {
       kept = out.kept ∙ (prepared.kept ∙ c.in_ok-source.ensures.kept);
+      spared = spared_then _ _ _ (prepared.unended ∙ c.in_ok-source.ensures.unended) out.spared;
       opened = no_value r e is _;
       begun = no_value r e is _;
       noted = not_well r e is _;
@@ -76,13 +80,13 @@ returns g c =
     let out = c.in_ok-out.ensures in
     record {
       kept = out.kept ∙ (prepared.kept ∙ c.in_ok-source.ensures.kept);
-      opened = λ shown.
-          let found = c.in_ok-source.ensures.found shown in
+      spared = spared_then _ _ _ (prepared.unended ∙ c.in_ok-source.ensures.unended) out.spared;
+      opened = λ shown. let found = c.in_ok-source.ensures.found shown in
           let made = out.opened shown in (
             (found.0, found.1, made.0, made.1),
             subst (λ (f : Files). IsFresh a.clobber (f a.to.now)) (prepared.kept ∙ c.in_ok-source.ensures.kept) made.2,
           );
-      begun = (c.in_ok-source.ensures.begun, out.begun);
+      begun = record { given = c.in_ok-source.ensures.begun; taken = out.begun.0; failed = out.begun.1 };
       noted = then_did _ _ _ (Opened c.args.from.now ∷ []) (preparing (option_text a.save) ++ Created a.to.now ∷ []) c.in_ok-source.ensures.noted
           (then_did _ _ _ (preparing (option_text a.save)) (Created a.to.now ∷ []) prepared.noted out.noted);
       followed = tt;

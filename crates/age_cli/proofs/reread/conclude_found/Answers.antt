@@ -19,7 +19,7 @@ returns-in-Ok-save-clause-again g c =
     inl (
       p,
       (λ shown other. subst (λ (x : Option (List ℕ)). IsFoundIn (start_of c.args.settled again.from) x again.key (min again.stopped.written c.args.settled) p) (left.others d.from.now other) (c.in-Ok.ensures.found shown)),
-      concludes_left _ (option_text d.save) d.durability (g.F.Out.Sink.view c.args.out.out) _ (view c.args.files.now) mid new _ left.left left.others
+      concludes_left _ (option_text d.save) d.durability (g.F.Out.Sink.view c.args.out.out) _ (view c.args.files.now) mid new _ left.ended saved.unended refl saved.put left.left left.others
           left.noted refl (λ shown. (refl, saves_is (option_text d.save) p mid.entries new.entries (saved.saved shown))) saved.noted saved.others,
     )
 
@@ -36,7 +36,7 @@ returns-in-Err-save-clause-again g c =
     inl (
       p,
       (λ shown other. subst (λ (x : Option (List ℕ)). IsFoundIn (start_of c.args.settled again.from) x again.key (min again.stopped.written c.args.settled) p) (left.others d.from.now other) (c.in-Ok.ensures.found shown)),
-      concludes_left _ (option_text d.save) d.durability (g.F.Out.Sink.view c.args.out.out) _ (view c.args.files.now) mid new _ left.left left.others
+      concludes_left _ (option_text d.save) d.durability (g.F.Out.Sink.view c.args.out.out) _ (view c.args.files.now) mid new _ left.ended saved.unended refl saved.put left.left left.others
           left.noted refl (λ shown. (refl, saved.unsaved)) saved.noted saved.others,
     )
 
@@ -46,6 +46,6 @@ returns-in-Err-clause-again g c =
     let d = c.args.asked.now in
     let left = c.leave.ensures in
     let mid = view c.leave.new.files in
-    inr (λ p. concludes_left _ (option_text d.save) d.durability (g.F.Out.Sink.view c.args.out.out) _ (view c.args.files.now) mid mid _ left.left left.others left.noted refl
+    inr (λ p. concludes_left _ (option_text d.save) d.durability (g.F.Out.Sink.view c.args.out.out) _ (view c.args.files.now) mid mid _ left.ended refl refl (inl refl) left.left left.others left.noted refl
     (λ shown. (refl, save_unfound (option_text d.save) p mid.entries c.in-Err.second c.requires c.in-Err.ensures.faults))
     (none_done _ _) (λ shown q to save. refl))

@@ -14,6 +14,7 @@ returns-in_err-position g c =
     let is = c.from_residual.ensures in
     record {
       kept = c.in_err-position.ensures.kept;
+      unended = c.in_err-position.ensures.unended;
       found = no_value r e is _;
       noted = not_well r e is _;
       follows = record {
@@ -35,6 +36,7 @@ returns-in_err-old g c =
     let is = c.from_residual-in_err-old.ensures in
     record {
       kept = c.in_err-old.ensures.kept ∙ c.in_ok-position.ensures.kept;
+      unended = c.in_err-old.ensures.unended ∙ c.in_ok-position.ensures.unended;
       found = no_value r e is _;
       noted = not_well r e is _;
       follows = followed _ _ _ (then_did _ _ _ (Opened a.position.now ∷ []) (Opened a.old.now ∷ []) c.in_ok-position.ensures.noted
@@ -52,8 +54,8 @@ returns g c =
     let events = then_did _ _ _ (Opened a.position.now ∷ []) (Opened a.old.now ∷ []) position.noted c.in_ok-old.ensures.noted in
     record {
       kept = c.in_ok-old.ensures.kept ∙ position.kept;
-      found = λ shown.
-          let found = c.in_ok-old.ensures.found shown in
+      unended = c.in_ok-old.ensures.unended ∙ position.unended;
+      found = λ shown. let found = c.in_ok-old.ensures.found shown in
           (position.read shown, ap (λ f. is_some (old_for p (f a.old.now))) (sym position.kept) ∙ found.0, found.1 ∙ ap (λ f. old_for p (f a.old.now)) position.kept);
       noted = events;
       follows = followed _ _ _ events;

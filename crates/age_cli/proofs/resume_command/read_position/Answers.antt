@@ -9,6 +9,7 @@ returns-in_err-text g c =
     let is = c.from_residual.ensures in
     record {
       kept = c.in_err-text.ensures.kept;
+      unended = c.in_err-text.ensures.unended;
       read = no_value r e is _;
       noted = c.in_err-text.ensures.noted;
       faults = this_error r e is _ (inl c.in_err-text.ensures.faults);

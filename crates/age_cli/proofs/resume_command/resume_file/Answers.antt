@@ -15,7 +15,8 @@ use Rattle.age_cli.specs.Acts.{paths_of}
 use Rattle.age_cli.specs.Commands.{HoldsNoPosition}
 use Rattle.age_cli.proofs.ReportLemmas.{unmade}
 use Rattle.age_cli.proofs.ActLemmas.{acts_early}
-use Rattle.age_cli.proofs.CommandLemmas.{bad_position, in_order, position_fault, position_reason, reason_at, found_by}
+use Rattle.age_cli.proofs.CommandLemmas.{bad_position, bad_early, in_order, position_fault, position_reason, reason_at, found_by}
+use Rattle.age_cli.proofs.FileLemmas.{spared_then}
 use Rattle.age_cli.proofs.FinalLemmas.{Found, WasEarlier, resume_acts}
 use Rattle.age_command.proofs.EventLemmas.{longer, none_done, then_did, then_follows}
 use Rattle.age_cli.proofs.resume_command.resume_file.Goals as goal
@@ -25,7 +26,7 @@ returns-in_err-choice-clause-acts g c =
     let r = c.args.asked.now in
     let d = r.decrypting in
     let e : Ending = Usage c.in_err-choice.field-0.0 in
-    acts_early _ _ (Resume r) _ _ _ _ _ c.from_residual.result e c.from_residual.ensures refl (λ shown. inl tt) (λ shown. tt) (none_done _ _) (λ shown usage. none_done _ _)
+    acts_early _ _ (Resume r) _ _ _ _ _ c.from_residual.result e c.from_residual.ensures refl (inl tt, inl refl) (λ shown. inl tt) (λ shown. tt) (none_done _ _) (λ shown usage. none_done _ _)
     (λ twice. (refl, refl))
     (λ shown usage. inr (ap Usage c.in_err-choice.ensures.blame, c.in_err-choice.ensures.none (g.F.FileSet.view c.args.files.now).entries)) refl
 
@@ -38,10 +39,9 @@ returns-in_err-secret-clause-acts g c =
     let d = r.decrypting in
     let e : Ending = c.in_err-secret.field-0.0 in
     let judged = in_order _ _ _ _ _ _ _ _ _ _ c.in_ok-choice.ensures.chooses.order c.in_err-secret.ensures in
-    acts_early _ _ (Resume r) _ _ _ _ _ c.from_residual-in_err-secret.result e c.from_residual-in_err-secret.ensures judged.kept (λ shown. inl judged.early) judged.reason
+    acts_early _ _ (Resume r) _ _ _ _ _ c.from_residual-in_err-secret.result e c.from_residual-in_err-secret.ensures judged.kept (inl judged.early, inl judged.unended) (λ shown. inl judged.early) judged.reason
     (longer _ (Opened r.position.now ∷ Opened r.old.now ∷ Opened d.from.now ∷ (preparing (option_text d.save) ++ making (Some d.to.now) d.durability)) _ _ judged.followed)
-    (λ shown usage. judged.followed)
-    (λ twice. judged.apart (c.names_one_twice-is_file_named_twice.ensures.twice twice))
+    (λ shown usage. judged.followed) (λ twice. judged.apart (c.names_one_twice-is_file_named_twice.ensures.twice twice))
     (λ shown usage. let named = judged.blamed shown usage in inl (named.0, c.names_one_twice-is_file_named_twice.ensures.shown shown named.1)) refl
 
 pub returns-in_err-secret-clause-announced : goal.returns-in_err-secret-clause-announced
@@ -53,14 +53,12 @@ returns-in_err-identity-clause-acts g c =
     let d = r.decrypting in
     let e : Ending = Usage c.in_err-identity.field-0.0 in
     let judged = in_order _ _ _ _ _ _ _ _ _ _ c.in_ok-choice.ensures.chooses.order c.in_ok-secret.ensures in
-    acts_early _ _ (Resume r) _ _ _ _ _ c.from_residual-in_err-identity.result e c.from_residual-in_err-identity.ensures judged.kept (λ shown. inl tt) (λ shown. tt)
+    acts_early _ _ (Resume r) _ _ _ _ _ c.from_residual-in_err-identity.result e c.from_residual-in_err-identity.ensures judged.kept (inl tt, inl judged.unended) (λ shown. inl tt) (λ shown. tt)
     (longer _ (Opened r.position.now ∷ Opened r.old.now ∷ Opened d.from.now ∷ (preparing (option_text d.save) ++ making (Some d.to.now) d.durability)) _ _ judged.followed)
-    (λ shown usage. judged.followed)
-    (λ twice. absurd (judged.apart (c.names_one_twice-is_file_named_twice.ensures.twice twice)).1)
+    (λ shown usage. judged.followed) (λ twice. absurd (judged.apart (c.names_one_twice-is_file_named_twice.ensures.twice twice)).1)
     (λ shown usage. inr (
       ap Usage (c.in_err-identity.ensures.blame ∙ c.in_ok-choice.ensures.chooses.blame),
-      λ identity opens.
-          c.in_err-identity.ensures.none identity
+      λ identity opens. c.in_err-identity.ensures.none identity
           ((judged.read shown).1 identity (c.in_ok-choice.ensures.chooses.only (g.F.FileSet.view c.args.files.now).entries identity opens)),
     )) refl
 
@@ -74,14 +72,13 @@ returns-in_err-position-clause-acts g c =
     let e : Ending = ending_of c.in_err-position.field-0.0 in
     let judged = in_order _ _ _ _ _ _ _ _ _ _ c.in_ok-choice.ensures.chooses.order c.in_ok-secret.ensures in
     let earlier = c.in_err-position.ensures in
-    acts_early _ _ (Resume r) _ _ _ _ _ c.from_residual-in_err-position.result e c.from_residual-in_err-position.ensures (earlier.kept ∙ judged.kept)
+    acts_early _ _ (Resume r) _ _ _ _ _ c.from_residual-in_err-position.result e c.from_residual-in_err-position.ensures (earlier.kept ∙ judged.kept) (bad_early _ _ earlier.faults, inl (earlier.unended ∙ judged.unended))
     (λ shown. bad_position _ _ _ earlier.faults (subst (λ (f : Files). c.in_err-position.field-0.0 ≡ create.Fault BadPosition → HoldsNoPosition (f r.position.now))
     judged.kept (earlier.bad shown)))
     (λ shown. reason_at _ _ (g.F.FileSet.view c.open_earlier.new.files).events (SourceFails g.F.In.Source.view) e judged.kept (position_reason _ _ _ _ _ earlier.faults (earlier.reason shown)))
     (then_follows _ _ _ (identity_order (option_text d.identity.pass) (option_text d.identity.shared)) (Opened r.position.now ∷ Opened r.old.now ∷ Opened d.from.now ∷ (preparing (option_text d.save) ++ making (Some d.to.now) d.durability)) judged.noted
     (longer (Opened r.position.now ∷ Opened r.old.now ∷ []) (Opened d.from.now ∷ (preparing (option_text d.save) ++ making (Some d.to.now) d.durability)) _ _
-    earlier.follows))
-    (λ shown usage. absurd (true≢false (sym usage ∙ position_fault _ _ earlier.faults shown)))
+    earlier.follows)) (λ shown usage. absurd (true≢false (sym usage ∙ position_fault _ _ earlier.faults shown)))
     (λ twice. absurd (judged.apart (c.names_one_twice-is_file_named_twice.ensures.twice twice)).1)
     (λ shown usage. absurd (true≢false (sym usage ∙ position_fault _ _ earlier.faults shown))) refl
 
@@ -96,7 +93,7 @@ returns-in_err-source-clause-acts g c =
     let judged = in_order _ _ _ _ _ _ _ _ _ _ c.in_ok-choice.ensures.chooses.order c.in_ok-secret.ensures in
     let earlier = c.in_ok-position.ensures in
     let both = c.in_err-source.ensures in
-    acts_early _ _ (Resume r) _ _ _ _ _ c.from_residual-in_err-source.result e c.from_residual-in_err-source.ensures (both.kept ∙ (earlier.kept ∙ judged.kept))
+    acts_early _ _ (Resume r) _ _ _ _ _ c.from_residual-in_err-source.result e c.from_residual-in_err-source.ensures (both.kept ∙ (earlier.kept ∙ judged.kept)) (inl both.early, spared_then _ _ _ (earlier.unended ∙ judged.unended) both.spared)
     (λ shown. inl both.early)
     (λ shown. reason_at _ _ (g.F.FileSet.view c.open_both.new.files).events (SourceFails g.F.In.Source.view) e (earlier.kept ∙ judged.kept) (both.reason shown))
     (then_follows _ _ _ (identity_order (option_text d.identity.pass) (option_text d.identity.shared)) (Opened r.position.now ∷ Opened r.old.now ∷ Opened d.from.now ∷ (preparing (option_text d.save) ++ making (Some d.to.now) d.durability)) judged.noted
@@ -131,8 +128,7 @@ returns-clause-acts g c =
     (then_did _ _ _ (identity_order (option_text d.identity.pass) (option_text d.identity.shared))
     (Opened r.position.now ∷ Opened r.old.now ∷ Opened d.from.now ∷ (preparing (option_text d.save) ++ Created d.to.now ∷ [])) judged.noted
     (then_did _ _ _ (Opened r.position.now ∷ Opened r.old.now ∷ []) (Opened d.from.now ∷ (preparing (option_text d.save) ++ Created d.to.now ∷ [])) earlier.noted
-    both.noted))
-    (λ twice. absurd (judged.apart (c.names_one_twice-is_file_named_twice.ensures.twice twice)).1)
+    both.noted)) (λ twice. absurd (judged.apart (c.names_one_twice-is_file_named_twice.ensures.twice twice)).1)
     (λ shown. subst (λ (f : Files). IsFresh d.clobber (f d.to.now)) (earlier.kept ∙ judged.kept) (both.opened shown).1)
 
 pub returns-clause-announced : goal.returns-clause-announced

@@ -16,6 +16,7 @@ returns g c =
     let did = then_did _ _ _ (Opened asked.script.now ∷ []) (Opened asked.from.now ∷ []) script.noted opened.noted in
     record {
       kept = opened.kept ∙ script.kept;
+      unended = opened.unended ∙ script.unended;
       order = followed _ _ (Opened asked.script.now ∷ Opened asked.from.now ∷ []) did;
       order_done = always c.deliver_opened.result _ did;
       sent = c.deliver_opened.ensures.sent;
@@ -27,6 +28,7 @@ returns-in_err-script g c =
     let asked = c.args.asked.now in
     record {
       kept = c.read_script.ensures.kept;
+      unended = c.read_script.ensures.unended;
       order = longer (Opened asked.script.now ∷ []) (Opened asked.from.now ∷ []) _ _ (followed _ _ (Opened asked.script.now ∷ []) c.read_script.ensures.noted);
       order_done = IfOk-from_err c.from_residual.result _ c.from_residual.ensures.0;
       sent = IfOk-from_err c.from_residual.result _ c.from_residual.ensures.0;

@@ -12,9 +12,9 @@ returns-in-Some g c =
     let first = Opened c.args.pass_name.now ∷ [] in
     record {
       kept = drilled.kept ∙ pass.kept;
+      unended = drilled.unended ∙ pass.unended;
       order = then_follows _ _ _ first _ pass.noted drilled.order;
-      order_done = on_ok_weaker c.drill.result
-          (λ done. then_did _ _ _ first (Opened asked.script.now ∷ Opened asked.from.now ∷ []) pass.noted done)
+      order_done = on_ok_weaker c.drill.result (λ done. then_did _ _ _ first (Opened asked.script.now ∷ Opened asked.from.now ∷ []) pass.noted done)
           drilled.order_done;
       sent = drilled.sent;
       silent = drilled.silent;
@@ -26,6 +26,7 @@ returns g c =
     let first = Opened c.args.pass_name.now ∷ [] in
     record {
       kept = c.read_pass.ensures.kept;
+      unended = c.read_pass.ensures.unended;
       order = longer first (Opened asked.script.now ∷ Opened asked.from.now ∷ []) _ _ (followed _ _ first c.read_pass.ensures.noted);
       order_done = tt;
       sent = tt;
@@ -38,6 +39,7 @@ returns-in_err-pass g c =
     let first = Opened c.args.pass_name.now ∷ [] in
     record {
       kept = c.read_pass.ensures.kept;
+      unended = c.read_pass.ensures.unended;
       order = longer first (Opened asked.script.now ∷ Opened asked.from.now ∷ []) _ _ (followed _ _ first c.read_pass.ensures.noted);
       order_done = IfOk-from_err c.from_residual.result _ c.from_residual.ensures.0;
       sent = IfOk-from_err c.from_residual.result _ c.from_residual.ensures.0;

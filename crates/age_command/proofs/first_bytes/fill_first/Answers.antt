@@ -10,8 +10,7 @@ pieces-preserved g c =
     let buffer = c.pull_some.new.buffer in
     let items = c.in_ok-extend_from_slice.ensures.items in
     record {
-      read = rw items (Consumes-trans _ _ _ c.pieces.held.items (take n buffer) kept.read
-          c.in_ok-n.ensures.piece.read);
+      read = rw items (Consumes-trans _ _ _ c.pieces.held.items (take n buffer) kept.read c.in_ok-n.ensures.piece.read);
       within = omega (
         arith,
         kept.within,

@@ -5,8 +5,7 @@ use Rattle.age_command.proofs.first_bytes.fill_first.Given as goal
 -- what was read so far
 abbrev pub invariant-pieces : goal.invariant-pieces
 invariant-pieces g l = record {
-  read : Consumes (g.S.Source.view l.fn.source).supply (g.S.Source.view l.source).supply
-      l.held.items;
+  read : Consumes (g.S.Source.view l.fn.source).supply (g.S.Source.view l.source).supply l.held.items;
   within : length l.held.items ≤ l.most;
   room : length l.buffer ≡ 4096;
 }

@@ -12,8 +12,7 @@ returns-clause-some c =
     let rest = c.in_ok-shared.recipient.now in
     subst (λ s. IsSharedIn (Some xs) s) (sym c.new.ensures) (record {
       bytes =
-          ap Some
-          (cut_in_two 32 xs front rest a.0 a.1 ∙ ap (λ (t : List ℕ). front ++ t) (sym b.same));
+          ap Some (cut_in_two 32 xs front rest a.0 a.1 ∙ ap (λ (t : List ℕ). front ++ t) (sym b.same));
       secret_length = front_length 32 xs front a.0 (omega (arith, a.2));
       recipient_length = ap length b.same ∙ b.long;
     })

@@ -12,8 +12,7 @@ returns-in-Some-clause-puts c =
     let at : position (has_name name) es ≡ Some c.in-Some.at = search rules in
     record {
       put = entry_of-set es c.in-Some.at name e c.index_mut.result.now at refl;
-      others = λ q other.
-          entry_of-set-other es c.in-Some.at name q e c.index_mut.result.now at refl other;
+      others = λ q other. entry_of-set-other es c.in-Some.at name q e c.index_mut.result.now at refl other;
       err = tt;
     }
 

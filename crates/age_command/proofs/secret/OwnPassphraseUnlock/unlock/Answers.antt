@@ -9,9 +9,7 @@ of_bytes max_log bytes = record { pass = bytes; max_log = max_log }
 
 pub returns-in-Some-clause-answer : goal.returns-in-Some-clause-answer
 returns-in-Some-clause-answer c =
-    let same : c.in-Some.pass ≡ c.args.self.now = c.in-Some.ensures.1
-    ∙ (ap (λ (b : List ℕ). of_bytes c.self.inside.max_log b)
+    let same : c.in-Some.pass ≡ c.args.self.now = c.in-Some.ensures.1 ∙ (ap (λ (b : List ℕ). of_bytes c.self.inside.max_log b)
     (c.trimmed.ensures ∙ ap without_line_feed c.bytes.ensures) ∙ c.self.view_is) in
     subst (λ (p : PassphraseIdentity). MatchResult c.unlock.result
-    (λ key. IsPassphraseKey p c.args.header.now key) (PassphraseRefuses p c.args.header.now))
-    same c.unlock.ensures.answer
+    (λ key. IsPassphraseKey p c.args.header.now key) (PassphraseRefuses p c.args.header.now)) same c.unlock.ensures.answer

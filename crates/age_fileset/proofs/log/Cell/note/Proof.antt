@@ -31,22 +31,17 @@ stayed = (stay_ref (0 ∷ []) tt (plain (λ _. R)), (stay_dropped borrowed yes, 
 pub note_spec : {M : Type 1} → statement M
 note_spec 𝓤 𝓛 𝓜 𝓡 wired =
     let c = f.clauses 𝓛 𝓜.mem 𝓡.returns in
-    proved 𝓛 f.ended stayed c 𝓜 𝓡
-    (Goes-ref 𝓛 3 0 tt (plain (λ _. R)), (Goes-dropped 𝓛 3 borrowed yes (λ κs x w. refl), tt))
-    f.Key.name code.function (code.unfolded 𝓤 𝓛.H 𝓜 𝓡 wired)
-    (λ κs. (mut_vals, (shr_vals, tt)))
+    proved 𝓛 f.ended stayed c 𝓜 𝓡 (Goes-ref 𝓛 3 0 tt (plain (λ _. R)), (Goes-dropped 𝓛 3 borrowed yes (λ κs x w. refl), tt))
+    f.Key.name code.function (code.unfolded 𝓤 𝓛.H 𝓜 𝓡 wired) (λ κs. (mut_vals, (shr_vals, tt)))
     (λ κs. (
       mut_Tells (named 0) κs.0 R,
       (shr_Tells (named 1) κs.1.0 (Action (named_lft 3 2 tt κs)), tt),
-    )) (λ κs qs bounds a _ are.
-    let b = a.0.ref_ptr.0 in let o = a.0.ref_ptr.1 in let vs = mut_vals a.0 in
+    )) (λ κs qs bounds a _ are. let b = a.0.ref_ptr.0 in let o = a.0.ref_ptr.1 in let vs = mut_vals a.0 in
     let ws = shr_vals a.1.0 in
     let next = record a.0.now { events = a.0.now.events ++ event_of a.1.0.now ∷ [] } in
     qed 𝓛 ((((‵ (flft κs.0 qs.0)) ⊛ (‵ (flft κs.1.0 qs.1.0) ⊛ ‵ (flft κs.1.1.0 qs.1.1.0) ⊛ ‵ ftrue))
-    ⊛ ‵ ((MutRef (named 0) κs.0 R).own_val a.0 vs) ⊛ ‵
-    ((ShrRef (named 1) κs.1.0 (Action (named_lft 3 2 tt κs))).own_val a.1.0 ws) ⊛ ‵ ftrue)
-    ∷ ‵ ftrue ∷ []) ∵
-    split ! $ split ! $ move ! (2 ∷ []) $ split ! $ keep ! (0 ∷ 2 ∷ 3 ∷ []) $
+    ⊛ ‵ ((MutRef (named 0) κs.0 R).own_val a.0 vs) ⊛ ‵ ((ShrRef (named 1) κs.1.0 (Action (named_lft 3 2 tt κs))).own_val a.1.0 ws) ⊛ ‵ ftrue)
+    ∷ ‵ ftrue ∷ []) ∵ split ! $ split ! $ move ! (2 ∷ []) $ split ! $ keep ! (0 ∷ 2 ∷ 3 ∷ []) $
     -- [self; its token; the other tokens]
     enter ! _ _ _ _ _ $ alloc_all ! (λ l. pass_all ! refl ((tt, tt), ((tt, tt), tt)) $
     fsplit3 ! $ move ! (1 ∷ 2 ∷ 3 ∷ []) $ opens ! tt R b o (λ us.

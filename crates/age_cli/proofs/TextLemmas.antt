@@ -1,0 +1,151 @@
+-- What a decryption leaves at OUT, over any set of files.
+use Rattle.std.proofs.Common.{◌≡◌, ◌∙◌, ◌++◌, [], List, ℕ, ap, sym, subst, inl, inr, ⊎_elim, ◌⊎◌, Bool, Option, Some, None, Result, Ok, Err}
+use Rattle.std.specs.Prelude.{IsSomeAnd}
+use Rattle.age_fault.specs.declared.fault.FileFault.{FileFault}
+use Rattle.age_fault.specs.declared.fault.FileFault.TheVariants.{Head, Key, NonceCut, Write, Stream, BadPosition, OtherFile, ShortText, Read, Memory, ReadNeverEnds, PositionForged, OldTextDiffers}
+use Rattle.age_file.proofs.GivenLemmas.{done_gave_file}
+use Rattle.age_file.specs.Decrypts.{DecryptStops}
+use Rattle.age_file.specs.Resumes.{ResumePorts, resume_ports, ResumeStops, InOldFails, InSkippedFails}
+use Rattle.age_file.specs.declared.position.Position.{Position}
+use Rattle.age_io.specs.Io.{SourceView}
+use Rattle.age_stanza.specs.declared.header.Header.{Header}
+use Rattle.age_stanza.specs.declared.fault.HeadFault.{HeadFault}
+use Rattle.age_keys.specs.declared.fault.KeyFault.{KeyFault}
+use Rattle.age_file.specs.Runs.{Ports, Run, PayloadFails}
+use Rattle.age_file.specs.declared.decryption.Stopped.{Stopped}
+use Rattle.age_file.specs.declared.position.PositionPolicy.{PositionPolicy}
+use Rattle.age_io.specs.Io.{SinkView}
+use Rattle.age_io.specs.declared.durability.Durability.{Durability}
+use Rattle.age_machine.specs.Ends.{EndedFile, TouchesItself, IsUntouched}
+use Rattle.age_command.specs.Identities.{allows_by, refuses_by}
+use Rattle.age_command.specs.declared.ending.Ending.{Ending}
+use Rattle.age_command.specs.declared.ending.Ending.TheVariants.{Words, Usage, Fault, Unsaved}
+use Rattle.age_command.specs.declared.identity.Identity.{Identity}
+use Rattle.age_cli.specs.Acts.{Engine, decrypt_engine, HasEngineEnded, HasEngineStopped, HasNotBegun, OfEngine, HaltsDecryption, HaltsResumption, IsEndingOf, Returned, SparesOut}
+use Rattle.age_cli.specs.Headline.{IsBeforeText, IsForText, LeavesText}
+use Rattle.age_cli_args.specs.declared.request.Request.{Request}
+use Rattle.age_cli_args.specs.declared.request.Request.TheVariants.{Encrypt, Decrypt, Resume, Inspect, Drill}
+use Rattle.age_command.specs.Files.{Files}
+
+same_fault : (f g : FileFault) (e : Ending) → IsEndingOf f e → IsEndingOf g e → f ≡ g
+same_fault f g (Fault x) is was = sym is ∙ was
+same_fault f g (Unsaved x second) is was = sym is ∙ was
+same_fault f g (Words text) is was = absurd is
+same_fault f g (Usage usage) is was = absurd is
+
+-- what comes later isn't such a fault
+module _ (Fails : FileFault → Type 0) (head : (h : HeadFault) → Fails (Head h) → ⊥) (key : (k : KeyFault) → Fails (Key k) → ⊥) (cut : Fails NonceCut → ⊥)
+    (other : Fails OtherFile → ⊥) (forged : Fails PositionForged → ⊥) where
+  not_later : (f : FileFault) → IsBeforeText f → Fails f → ⊥
+  not_later (Head h) early fails = head h fails
+  not_later (Key k) early fails = key k fails
+  not_later NonceCut early fails = cut fails
+  not_later OtherFile early fails = other fails
+  not_later PositionForged early fails = forged fails
+  not_later (Stream s) early fails = early
+  not_later BadPosition early fails = early
+  not_later ShortText early fails = early
+  not_later Read early fails = early
+  not_later Write early fails = early
+  not_later Memory early fails = early
+  not_later ReadNeverEnds early fails = early
+  not_later OldTextDiffers early fails = early
+
+in_payload : (Never : Type 0) (old new : Ports) (r : Run) (f : FileFault) → IsBeforeText f → PayloadFails Never old new r f → ⊥
+in_payload Never old new r = not_later (PayloadFails Never old new r) (λ h no. no) (λ k no. no) (λ no. no) (λ no. no) (λ no. no)
+
+in_old : (Allows : Header → List ℕ → Type 0) (p : Position) (old new : ResumePorts) (pulled copied : List ℕ) (f : FileFault) → IsBeforeText f
+    → InOldFails Allows p old new pulled copied f → ⊥
+in_old Allows p old new pulled copied = not_later (InOldFails Allows p old new pulled copied) (λ h no. no.1) (λ k no. no.1) (λ no. no.1) (λ no. no.1) (λ no. no.1)
+
+in_skipped : (Allows : Header → List ℕ → Type 0) (p : Position) (old new : ResumePorts) (skipped : List ℕ) (f : FileFault) → IsBeforeText f
+    → InSkippedFails Allows p old new skipped f → ⊥
+in_skipped Allows p old new skipped = not_later (InSkippedFails Allows p old new skipped) (λ h no. no) (λ k no. no) (λ no. no) (λ no. no) (λ no. no)
+
+-- ---- A decryption that is done.
+
+module _ (IsPorts : Ports → Type 0) (identity : Identity) (keep : PositionPolicy) where
+  pub leaves_text : (durability : Durability) (ended : Option EndedFile) → HasEngineEnded IsPorts (decrypt_engine keep identity) durability ended
+      → LeavesText IsPorts identity durability ended
+  leaves_text durability ended e =
+      let gave = done_gave_file (allows_by identity) e.run.before e.run.after (Ok e.promise.0) (Some e.promise.1) e.promise.2 in
+      record {
+        text = gave.0;
+        before = e.run.before;
+        after = e.run.after;
+        before_is = e.run.before_is;
+        after_is = e.run.after_is;
+        new = e.run.new;
+        gave = gave.1;
+        out = e.run.out;
+        is = e.run.is;
+        took = e.run.took ∙ (gave.2.0.bytes ∙ ap (λ (l : List ℕ). l ++ gave.0) e.run.new.taken);
+        within = e.run.within;
+        safe = e.safe;
+      }
+
+-- ---- One that stopped before it wrote.
+
+module _ (IsPorts : Ports → Type 0) (old ended : Option EndedFile) (run : Returned IsPorts ended) where
+  abbrev Untouched : Type 0
+  Untouched = run.out.took ≡ [] → IsUntouched run.after.sink.failed run.out
+
+  untouched : run.after.sink ≡ run.before.sink → Untouched → SparesOut old ended
+  untouched same so =
+      let none : run.out.took ≡ [] = run.took ∙ (ap (λ (s : SinkView). s.taken.bytes) same ∙ run.new.taken) in
+      let unfailed : run.after.sink.failed ≡ 0 = ap (λ (s : SinkView). s.failed) same ∙ run.new.failed in
+      inr (subst (λ (o : Option EndedFile). IsSomeAnd o (λ out. TouchesItself out × (out.took ≡ []) × IsUntouched 0 out)) (sym run.is)
+      (run.within, none, subst (λ (n : ℕ). IsUntouched n run.out) unfailed (so none)))
+
+  spared : (identity : Identity) (fault : FileFault) → IsBeforeText fault → (policy : PositionPolicy) (reached : Option Run) (stop : Stopped)
+      → stop.fault ≡ fault → DecryptStops policy (allows_by identity) (refuses_by identity) run.before run.after reached stop → Untouched → SparesOut old ended
+  spared identity fault early policy None stop is stops so = untouched stops.0.sink so
+  spared identity fault early policy (Some r) stop is stops so =
+      absurd (in_payload _ run.before run.after r stop.fault (subst IsBeforeText (sym is) early) stops.1.why)
+
+  pub spares_decryption : (identity : Identity) (fault : FileFault) → IsBeforeText fault → HaltsDecryption identity run.before run.after fault → Untouched
+      → SparesOut old ended
+  spares_decryption identity fault early halts so = spared identity fault early halts.0 halts.1 halts.2 halts.3 halts.4 so
+
+  spared_rest : (identity : Identity) (from : Position) (first last : SourceView) (fault : FileFault) → IsBeforeText fault → (policy : PositionPolicy)
+      (reached : Option Run) (stop : Stopped) → stop.fault ≡ fault
+      → ResumeStops (allows_by identity) from (resume_ports run.before first) (resume_ports run.after last) policy (refuses_by identity) reached stop
+      → Untouched → SparesOut old ended
+  spared_rest identity from first last fault early policy None stop is (inl none) so = untouched none.0.sink so
+  spared_rest identity from first last fault early policy None stop is (inr (inl copying)) so =
+      absurd (in_old (allows_by identity) from (resume_ports run.before first) (resume_ports run.after last) copying.writes.pulled copying.copied stop.fault
+      (subst IsBeforeText (sym is) early) copying.why)
+  spared_rest identity from first last fault early policy None stop is (inr (inr skipping)) so =
+      absurd (in_skipped (allows_by identity) from (resume_ports run.before first) (resume_ports run.after last) skipping.skipped stop.fault
+      (subst IsBeforeText (sym is) early) skipping.why)
+  spared_rest identity from first last fault early policy (Some r) stop is stops so =
+      absurd (in_payload _ run.before run.after r stop.fault (subst IsBeforeText (sym is) early) stops.2.why)
+
+  pub spares_resumption : (identity : Identity) (from : Position) (first last : SourceView) (fault : FileFault) → IsBeforeText fault
+      → HaltsResumption identity from (resume_ports run.before first) (resume_ports run.after last) fault → Untouched → SparesOut old ended
+  spares_resumption identity from first last fault early halts so =
+      spared_rest identity from first last fault early halts.0 halts.1 halts.2 halts.3 halts.4 so
+
+-- by what an engine promises of a stop
+pub spares_before : (IsPorts : Ports → Type 0) (engine : Engine) (old ended : Option EndedFile) (ending : Ending) (fault : FileFault) → IsEndingOf fault ending
+    → IsBeforeText fault → (stopped : HasEngineStopped IsPorts engine ending ended)
+    → ((f : FileFault) → IsBeforeText f → engine.halts f stopped.run.before stopped.run.after
+    → (stopped.run.out.took ≡ [] → IsUntouched stopped.run.after.sink.failed stopped.run.out) → SparesOut old ended) → SparesOut old ended
+spares_before IsPorts engine old ended ending fault is early s so =
+    let mine : IsBeforeText s.fault = subst IsBeforeText (same_fault fault s.fault ending is s.reported) early in
+    ⊎_elim (λ stop. so s.fault mine stop.0 stop.1) (λ unclosed. absurd (subst IsBeforeText unclosed.1 mine)) s.cause
+
+-- of what was asked
+pub spares_of_request : (IsPorts : Ports → Type 0) (shows : Bool) (asked : Request) (files : Files) (old ended : Option EndedFile) (ending : Ending) (fault : FileFault)
+    → IsForText asked → IsEndingOf fault ending → IsBeforeText fault
+    → HasNotBegun ending old ended ⊎ OfEngine IsPorts shows asked files (λ engine paths. HasEngineStopped IsPorts engine ending ended) → SparesOut old ended
+spares_of_request IsPorts shows asked files old ended ending fault text is early (inl unbegun) = unbegun.1
+spares_of_request IsPorts shows (Decrypt d) files old ended ending fault text is early (inr stop) =
+    spares_before IsPorts _ old ended ending fault is early stop.2
+    (λ f before halts so. spares_decryption IsPorts old ended stop.2.run stop.0 f before halts so)
+spares_of_request IsPorts shows (Resume r) files old ended ending fault text is early (inr stop) =
+    spares_before IsPorts _ old ended ending fault is early stop.5
+    (λ f before halts so. spares_resumption IsPorts old ended stop.5.run stop.0 stop.2 halts.0 halts.1 f before halts.5 so)
+spares_of_request IsPorts shows (Encrypt e) files old ended ending fault text is early (inr stop) = absurd text
+spares_of_request IsPorts shows (Inspect file) files old ended ending fault text is early (inr stop) = absurd text
+spares_of_request IsPorts shows (Drill d) files old ended ending fault text is early (inr stop) = absurd text
