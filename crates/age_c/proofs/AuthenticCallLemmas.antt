@@ -25,22 +25,16 @@ use Rattle.age_c.proofs.CallFaultLemmas.{IsKnown, all_known, all_map, known_faul
 use Rattle.age_c.proofs.CallLemmas.{After, StandsAt, all_calls, done_after, done_status, last_is}
 
 -- what is left of a text after this many bytes
-rest_of : (n : ℕ) (text : List ℕ) → n ≤ length text → (more rest : List ℕ)
-    → (take n text ++ more) ++ rest ≡ text → more ++ rest ≡ drop n text
+rest_of : (n : ℕ) (text : List ℕ) → n ≤ length text → (more rest : List ℕ) → (take n text ++ more) ++ rest ≡ text → more ++ rest ≡ drop n text
 rest_of n text within more rest e =
     let front : length (take n text) ≡ n = omega (arith, length-take n text, within) in
-    sym (drop_at (take n text) (more ++ rest) n front)
-    ∙ (ap (drop n) (sym (append_assoc (take n text) more rest)) ∙ ap (drop n) e)
+    sym (drop_at (take n text) (more ++ rest) n front) ∙ (ap (drop n) (sym (append_assoc (take n text) more rest)) ∙ ap (drop n) e)
 
-rest_all : (n : ℕ) (text more : List ℕ) → take n text ++ more ≡ text → n ≤ length text
-    → more ≡ drop n text
-rest_all n text more e within =
-    sym (append-nil more)
-    ∙ rest_of n text within more [] (append-nil (take n text ++ more) ∙ e)
+rest_all : (n : ℕ) (text more : List ℕ) → take n text ++ more ≡ text → n ≤ length text → more ≡ drop n text
+rest_all n text more e within = sym (append-nil more) ∙ rest_of n text within more [] (append-nil (take n text ++ more) ∙ e)
 
 -- past its end nothing is left
-rest_prefix : (n : ℕ) (text more : List ℕ) → IsPrefixOf (take n text ++ more) text
-    → IsPrefixOf more (drop n text)
+rest_prefix : (n : ℕ) (text more : List ℕ) → IsPrefixOf (take n text ++ more) text → IsPrefixOf more (drop n text)
 rest_prefix n text more p =
     elim (cases_lt (length text) n) [
       | inl past ↦
@@ -58,12 +52,10 @@ rest_prefix n text more p =
 
 -- what any calls do to the text, of blocks or of pieces, by what is known of each call
 module _ (r : Reader) (start : ℕ) (limit : start < chunk_limit) (calls : List Call) (text : List ℕ)
-    (few : chunk_count chunk_length text ≤ chunk_limit)
-    (start_is : (given_by start calls).start ≡ start)
+    (few : chunk_count chunk_length text ≤ chunk_limit) (start_is : (given_by start calls).start ≡ start)
     (text_is : reader_text r (given_by start calls) ≡ reader_text r (fresh start) ++ texts_of calls)
     (known : AllByRecursion (IsKnown (key_of r) (given_by start calls)) calls)
-    (ended : (before : List Call) (last : Call) → calls ≡ before ++ last ∷ [] → last.is_end ≡ true
-    → last.answer ≡ 0
+    (ended : (before : List Call) (last : Call) → calls ≡ before ++ last ∷ [] → last.is_end ≡ true → last.answer ≡ 0
     → (outcome (opens (key_of r)) chunk_length (given_by start calls)).status ≡ Done) where
   abbrev k : List ℕ
   k = key_of r
@@ -84,43 +76,34 @@ module _ (r : Reader) (start : ℕ) (limit : start < chunk_limit) (calls : List 
   right : AreCallsAuthentic r text start calls → Right
   right authentic =
       let positive : 0 < chunk_length = omega arith in
-      released_is_written (seals k) (opens k) (box_valid k) chunk_length positive s text few
-      (omega (arith, start_is, limit)) authentic
+      released_is_written (seals k) (opens k) (box_valid k) chunk_length positive s text few (omega (arith, start_is, limit)) authentic
 
   -- what was released, after the text before that chunk
-  written : take (s.start * chunk_length) text ++ reader_text r s
-      ≡ take (start * chunk_length) text ++ texts_of calls
+  written : take (s.start * chunk_length) text ++ reader_text r s ≡ take (start * chunk_length) text ++ texts_of calls
   written =
       let nothing : reader_text r (fresh start) ≡ [] =
-      ap (λ (o : Outcome). flat_map (λ (t : List ℕ). t) o.texts)
-      (fresh_outcome (opens k) chunk_length start) in
-      ap (λ (n : ℕ). take (n * chunk_length) text ++ reader_text r s) start_is
-      ∙ ap (λ (t : List ℕ). take (start * chunk_length) text ++ t)
+      ap (λ (o : Outcome). flat_map (λ (t : List ℕ). t) o.texts) (fresh_outcome (opens k) chunk_length start) in
+      ap (λ (n : ℕ). take (n * chunk_length) text ++ reader_text r s) start_is ∙ ap (λ (t : List ℕ). take (start * chunk_length) text ++ t)
       (text_is ∙ ap (λ (t : List ℕ). t ++ texts_of calls) nothing)
 
   begins : AreCallsAuthentic r text start calls → IsPrefixOf (texts_of calls) there
   begins authentic =
       let prefix = (right authentic).prefix in
-      rest_prefix (start * chunk_length) text (texts_of calls)
-      (prefix.0, ap (λ (t : List ℕ). t ++ prefix.0) (sym written) ∙ prefix.1)
+      rest_prefix (start * chunk_length) text (texts_of calls) (prefix.0, ap (λ (t : List ℕ). t ++ prefix.0) (sym written) ∙ prefix.1)
 
-  all_there : (right : Right) → status ≡ Done
-      → (texts_of calls ≡ there) × (start * chunk_length ≤ length text)
+  all_there : (right : Right) → status ≡ Done → (texts_of calls ≡ there) × (start * chunk_length ≤ length text)
   all_there right done =
       let within : start * chunk_length ≤ length text =
       subst (λ (n : ℕ). n * chunk_length ≤ length text) start_is (right.within done) in
       (rest_all (start * chunk_length) text (texts_of calls) (sym written ∙ right.done done) within, within)
 
   all_written : AreCallsAuthentic r text start calls → (before : List Call) (last : Call)
-      → calls ≡ before ++ last ∷ [] → last.is_end ≡ true → last.answer ≡ 0
-      → (texts_of calls ≡ there) × (start * chunk_length ≤ length text)
-  all_written authentic before last parts is_end zero =
-      all_there (right authentic) (ended before last parts is_end zero)
+      → calls ≡ before ++ last ∷ [] → last.is_end ≡ true → last.answer ≡ 0 → (texts_of calls ≡ there) × (start * chunk_length ≤ length text)
+  all_written authentic before last parts is_end zero = all_there (right authentic) (ended before last parts is_end zero)
 
   -- ---- the undamaged payload
 
-  zero_by : status ≡ Done → (c : Call) → IsKnown k s c
-      → ((c.answer == 0) ≡ true) × (c.answer ≡ 0) ⊎ ((c.answer == 0) ≡ false) × (c.answer ≢ 0)
+  zero_by : status ≡ Done → (c : Call) → IsKnown k s c → ((c.answer == 0) ≡ true) × (c.answer ≡ 0) ⊎ ((c.answer == 0) ≡ false) × (c.answer ≢ 0)
       → c.answer ≢ misused → c.answer ≡ 0
   zero_by done c is (inl zero) other = zero.1
   zero_by done c is (inr some) other =
@@ -145,8 +128,7 @@ module _ (r : Reader) (start : ℕ) (limit : start < chunk_limit) (calls : List 
       let right = right authentic in
       let done = (right.whole rest).1 in (
         (all_there right done).0,
-        all_map (IsKnown k s) (λ (c : Call). c.answer ≢ misused → c.answer ≡ 0)
-            (λ c is. zero_by done c is (eqb_tells c.answer 0)) calls known,
+        all_map (IsKnown k s) (λ (c : Call). c.answer ≢ misused → c.answer ≡ 0) (λ c is. zero_by done c is (eqb_tells c.answer 0)) calls known,
       )
 
   -- ---- what refusals say
@@ -154,18 +136,14 @@ module _ (r : Reader) (start : ℕ) (limit : start < chunk_limit) (calls : List 
   damaged_at : AreCallsAuthentic r text start calls → (c : Call) → IsKnown k s c → c.answer ≡ 17
       → IsFirstWrong (seals k) chunk_length text s c.after.fault_chunk
   damaged_at authentic c is seventeen =
-      let state = known_state k s c is (λ e. omega (arith, e, seventeen))
-      (λ e. omega (arith, e, seventeen)) ∙ seventeen in
-      (right authentic).place.damaged c.after.fault_chunk
-      (is.fault (record { kind = ChunkDamaged; chunk = c.after.fault_chunk })
+      let state = known_state k s c is (λ e. omega (arith, e, seventeen)) (λ e. omega (arith, e, seventeen)) ∙ seventeen in
+      (right authentic).place.damaged c.after.fault_chunk (is.fault (record { kind = ChunkDamaged; chunk = c.after.fault_chunk })
       (ap (λ (n : ℕ). reader_status n c.after.fault_chunk) state))
 
   never_many : AreCallsAuthentic r text start calls → (c : Call) → IsKnown k s c → c.answer ≢ 22
   never_many authentic c is many =
-      let state = known_state k s c is (λ e. omega (arith, e, many)) (λ e. omega (arith, e, many))
-      ∙ many in
-      (right authentic).place.few c.after.fault_chunk
-      (is.fault (record { kind = TooManyChunks; chunk = c.after.fault_chunk })
+      let state = known_state k s c is (λ e. omega (arith, e, many)) (λ e. omega (arith, e, many)) ∙ many in
+      (right authentic).place.few c.after.fault_chunk (is.fault (record { kind = TooManyChunks; chunk = c.after.fault_chunk })
       (ap (λ (n : ℕ). reader_status n c.after.fault_chunk) state))
 
   pub text_right : IsTextRight r text start calls
@@ -178,8 +156,7 @@ module _ (r : Reader) (start : ℕ) (limit : start < chunk_limit) (calls : List 
   }
 
 -- calls of blocks
-module _ (r : Reader) (start : ℕ) (h : IsAt r (fresh start)) (limit : start < chunk_limit)
-    (calls : List Call) (are : AreCalls r calls)
+module _ (r : Reader) (start : ℕ) (h : IsAt r (fresh start)) (limit : start < chunk_limit) (calls : List Call) (are : AreCalls r calls)
     (text : List ℕ) (few : chunk_count chunk_length text ≤ chunk_limit) where
   abbrev key : List ℕ
   key = key_of r
@@ -201,18 +178,14 @@ module _ (r : Reader) (start : ℕ) (h : IsAt r (fresh start)) (limit : start < 
   ended_calls before last parts is_end zero =
       let end = last_is before last r (subst (λ (cs : List Call). AreCalls r cs) parts are) in
       let reader : last_reader r calls ≡ last.after = ap (last_reader r) parts ∙ end.0 in
-      let three : (last_reader r calls).state ≡ 3 = ap (λ (r : Reader). r.state) reader
-      ∙ done_after (last_reader r before) last end.1 is_end zero in
-      subst (λ (k : List ℕ). (outcome (opens k) chunk_length given).status ≡ Done) after.key
-      (done_status (last_reader r calls) given after.at three)
+      let three : (last_reader r calls).state ≡ 3 = ap (λ (r : Reader). r.state) reader ∙ done_after (last_reader r before) last end.1 is_end zero in
+      subst (λ (k : List ℕ). (outcome (opens k) chunk_length given).status ≡ Done) after.key (done_status (last_reader r calls) given after.at three)
 
   text_right_of_blocks : IsTextRight r text start calls
-  text_right_of_blocks =
-      text_right r start limit calls text few after.start after.text_is known_calls ended_calls
+  text_right_of_blocks = text_right r start limit calls text few after.start after.text_is known_calls ended_calls
 
 pub calls_are_written : CallsAreWritten
-calls_are_written r start h limit calls are text few =
-    text_right_of_blocks r start h limit calls are text few
+calls_are_written r start h limit calls are text few = text_right_of_blocks r start h limit calls are text few
 
 -- ---- seeks
 
@@ -224,16 +197,12 @@ same_file a b c x y = record {
 }
 
 same_call : (r : Reader) (c : Call) → IsCall r c → SameFile r c.after
-same_call r c (inl idle) =
-    subst (SameFile r) (sym idle.1) (record { file_key = refl; nonce = refl; payload_at = refl })
+same_call r c (inl idle) = subst (SameFile r) (sym idle.1) (record { file_key = refl; nonce = refl; payload_at = refl })
 same_call r c (inr taken) = taken.1.same
 
-same_calls : (calls : List Call) (r : Reader) → AreCalls r calls
-    → SameFile r (last_reader r calls)
+same_calls : (calls : List Call) (r : Reader) → AreCalls r calls → SameFile r (last_reader r calls)
 same_calls [] r are = record { file_key = refl; nonce = refl; payload_at = refl }
-same_calls (c ∷ calls) r are =
-    same_file r c.after (last_reader c.after calls) (same_call r c are.0)
-    (same_calls calls c.after are.1)
+same_calls (c ∷ calls) r are = same_file r c.after (last_reader c.after calls) (same_call r c are.0) (same_calls calls c.after are.1)
 
 -- parts from a reader of the same file on
 parts_from : (first r : Reader) (parts : List Part) → SameFile first r → AreParts r parts
@@ -244,10 +213,8 @@ parts_from first r (p ∷ parts) same are text few =
     let here = same_file first r p.begun same are.1.same in (
       (here, calls_are_written p.begun p.chunk are.1.at are.0 p.calls are.2 text few),
       parts_from first (last_reader p.begun p.calls) parts
-          (same_file first p.begun (last_reader p.begun p.calls) here (same_calls p.calls p.begun are.2))
-          are.3 text few,
+          (same_file first p.begun (last_reader p.begun p.calls) here (same_calls p.calls p.begun are.2)) are.3 text few,
     )
 
 pub parts_are_written : PartsAreWritten
-parts_are_written r parts are text few =
-    parts_from r r parts (record { file_key = refl; nonce = refl; payload_at = refl }) are text few
+parts_are_written r parts are text few = parts_from r r parts (record { file_key = refl; nonce = refl; payload_at = refl }) are text few

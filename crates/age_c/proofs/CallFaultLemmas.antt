@@ -43,30 +43,23 @@ abbrev IsRefused : ℕ → ℕ → Type 0
 IsRefused n chunk = (f : StreamFault) × (reader_status n chunk ≡ Some (Failed f))
 
 refused_last : (n chunk : ℕ) → (n ≡ 20) ⊎ ((n ≡ 21) ⊎ (n ≡ 22)) → IsRefused n chunk
-refused_last n chunk (inl is) =
-    (record { kind = Truncated; chunk = chunk }, ap (λ (m : ℕ). reader_status m chunk) is)
-refused_last n chunk (inr (inl is)) =
-    (record { kind = Trailing; chunk = chunk }, ap (λ (m : ℕ). reader_status m chunk) is)
-refused_last n chunk (inr (inr is)) =
-    (record { kind = TooManyChunks; chunk = chunk }, ap (λ (m : ℕ). reader_status m chunk) is)
+refused_last n chunk (inl is) = (record { kind = Truncated; chunk = chunk }, ap (λ (m : ℕ). reader_status m chunk) is)
+refused_last n chunk (inr (inl is)) = (record { kind = Trailing; chunk = chunk }, ap (λ (m : ℕ). reader_status m chunk) is)
+refused_last n chunk (inr (inr is)) = (record { kind = TooManyChunks; chunk = chunk }, ap (λ (m : ℕ). reader_status m chunk) is)
 
 refused_first : (n chunk : ℕ) → (n ≡ 17) ⊎ ((n ≡ 18) ⊎ (n ≡ 19)) → IsRefused n chunk
-refused_first n chunk (inl is) =
-    (record { kind = ChunkDamaged; chunk = chunk }, ap (λ (m : ℕ). reader_status m chunk) is)
-refused_first n chunk (inr (inl is)) =
-    (record { kind = ChunkCut; chunk = chunk }, ap (λ (m : ℕ). reader_status m chunk) is)
-refused_first n chunk (inr (inr is)) =
-    (record { kind = EmptyLast; chunk = chunk }, ap (λ (m : ℕ). reader_status m chunk) is)
+refused_first n chunk (inl is) = (record { kind = ChunkDamaged; chunk = chunk }, ap (λ (m : ℕ). reader_status m chunk) is)
+refused_first n chunk (inr (inl is)) = (record { kind = ChunkCut; chunk = chunk }, ap (λ (m : ℕ). reader_status m chunk) is)
+refused_first n chunk (inr (inr is)) = (record { kind = EmptyLast; chunk = chunk }, ap (λ (m : ℕ). reader_status m chunk) is)
 
 three : (n k : ℕ) → k ≤ n → n ≤ k + 2 → (n ≡ k) ⊎ ((n ≡ k + 1) ⊎ (n ≡ k + 2))
 three n k least most =
     elim (cases_lt n (k + 1)) [
       | inl lt ↦ inl (omega (arith, lt, least))
-      | inr ge ↦
-          inr (elim (cases_lt n (k + 2)) [
-            | inl lt ↦ inl (omega (arith, lt, ge))
-            | inr le ↦ inr (omega (arith, le, most))
-          ])
+      | inr ge ↦ inr (elim (cases_lt n (k + 2)) [
+        | inl lt ↦ inl (omega (arith, lt, ge))
+        | inr le ↦ inr (omega (arith, le, most))
+      ])
     ]
 
 pub refused_of : (n chunk : ℕ) → answer_of n ≢ 0 → IsRefused n chunk
@@ -82,8 +75,7 @@ refused_of n chunk some =
 abbrev pub Timely : Segment → Type 0
 Timely s = s.ended ≡ false → s.late ≡ false
 
-timely_by : (a : ℕ) (b : List ℕ) (ended late : Bool) (piece : List ℕ)
-    → (ended ≡ false → late ≡ false)
+timely_by : (a : ℕ) (b : List ℕ) (ended late : Bool) (piece : List ℕ) → (ended ≡ false → late ≡ false)
     → Timely (with_piece (record { start = a; bytes = b; ended = ended; late = late }) piece)
 timely_by a b true late piece h e = absurd (false≢true (sym e))
 timely_by a b false late piece h e = h refl
@@ -112,8 +104,7 @@ module _ (op : List ℕ → List ℕ → Option (List ℕ)) (m : ℕ) (f : Strea
     is = (closed_stays op m s h.timely (shut (outcome op m s).status h.is)).1.fault f h.is;
   }
 
-  given_stays : (is_end : Bool) (bytes : List ℕ) (s : Segment) → IsFailed s
-      → IsFailed (if is_end then after_end bytes s else after_block bytes s)
+  given_stays : (is_end : Bool) (bytes : List ℕ) (s : Segment) → IsFailed s → IsFailed (if is_end then after_end bytes s else after_block bytes s)
   given_stays true bytes s h = end_stays (with_piece s bytes) (piece_stays s bytes h)
   given_stays false bytes s h = piece_stays s bytes h
 
@@ -122,8 +113,7 @@ module _ (op : List ℕ → List ℕ → Option (List ℕ)) (m : ℕ) (f : Strea
   either false s t h g = g
 
   pub next_stays : (c : Call) (s : Segment) → IsFailed s → IsFailed (next c s)
-  next_stays c s h = either (c.answer == misused) s
-      (if c.is_end then after_end c.bytes s else after_block c.bytes s) h
+  next_stays c s h = either (c.answer == misused) s (if c.is_end then after_end c.bytes s else after_block c.bytes s) h
       (given_stays c.is_end c.bytes s h)
 
   pub stays : (calls : List Call) (s : Segment) → IsFailed s → IsFailed (segment_from s calls)
@@ -132,13 +122,11 @@ module _ (op : List ℕ → List ℕ → Option (List ℕ)) (m : ℕ) (f : Strea
 
 -- ---- calls
 
-pub all_map : (P Q : Call → Type 0) → ((c : Call) → P c → Q c) → (calls : List Call)
-    → AllByRecursion P calls → AllByRecursion Q calls
+pub all_map : (P Q : Call → Type 0) → ((c : Call) → P c → Q c) → (calls : List Call) → AllByRecursion P calls → AllByRecursion Q calls
 all_map P Q f [] h = tt
 all_map P Q f (c ∷ calls) h = (f c h.0, all_map P Q f calls h.1)
 
-pub answer_by : (r : Reader) (c : Call) → IsCall r c → c.answer ≢ misused
-    → c.answer ≡ answer_of c.after.state
+pub answer_by : (r : Reader) (c : Call) → IsCall r c → c.answer ≢ misused → c.answer ≡ answer_of c.after.state
 answer_by r c (inl idle) other = absurd (other idle.0)
 answer_by r c (inr taken) other = taken.1.answer_is
 
@@ -164,8 +152,7 @@ all_known k (c ∷ calls) r s stands are =
     )
 
 -- a call that was refused refuses all
-pub known_fault : (k : List ℕ) (whole : Segment) (c : Call) → IsKnown k whole c
-    → c.answer ≢ misused → c.answer ≢ 0
+pub known_fault : (k : List ℕ) (whole : Segment) (c : Call) → IsKnown k whole c → c.answer ≢ misused → c.answer ≢ 0
     → (f : StreamFault) × ((outcome (opens k) chunk_length whole).status ≡ Failed f)
 known_fault k whole c known other some =
     let is = known.answer other in
@@ -173,8 +160,7 @@ known_fault k whole c known other some =
     (refused.0, known.fault refused.0 refused.1)
 
 -- and its number is its answer
-pub known_state : (k : List ℕ) (whole : Segment) (c : Call) → IsKnown k whole c
-    → c.answer ≢ misused → c.answer ≢ 0 → c.after.state ≡ c.answer
+pub known_state : (k : List ℕ) (whole : Segment) (c : Call) → IsKnown k whole c → c.answer ≢ misused → c.answer ≢ 0 → c.after.state ≡ c.answer
 known_state k whole c known other some =
     let is = known.answer other in
     let fault = fault_from c.after.state (λ zero. some (is ∙ zero)) in

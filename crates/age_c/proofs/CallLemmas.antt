@@ -20,8 +20,7 @@ start_piece : (a : ℕ) (b : List ℕ) (ended late : Bool) (piece : List ℕ)
 start_piece a b true late piece = refl
 start_piece a b false late piece = refl
 
-pub start_given : (is_end : Bool) (bytes : List ℕ) (s : Segment)
-    → (if is_end then after_end bytes s else after_block bytes s).start ≡ s.start
+pub start_given : (is_end : Bool) (bytes : List ℕ) (s : Segment) → (if is_end then after_end bytes s else after_block bytes s).start ≡ s.start
 start_given true bytes s = start_piece s.start s.bytes s.ended s.late bytes
 start_given false bytes s = start_piece s.start s.bytes s.ended s.late bytes
 
@@ -33,8 +32,7 @@ pub misused_next : (c : Call) (s : Segment) → c.answer ≡ misused → next c 
 misused_next c s is = ap (λ (n : ℕ). if n == misused then s else after_call c s) is
 
 pub taken_next : (c : Call) (s : Segment) → c.answer ≢ misused → next c s ≡ after_call c s
-taken_next c s other = ap (λ (b : Bool). if b then s else after_call c s)
-    (ne_eqb c.answer misused other)
+taken_next c s other = ap (λ (b : Bool). if b then s else after_call c s) (ne_eqb c.answer misused other)
 
 -- where a reader stands after calls
 pub record After (r : Reader) (s next : Segment) (text : List ℕ) (last : Reader) : Type 0 where
@@ -43,17 +41,14 @@ pub record After (r : Reader) (s next : Segment) (text : List ℕ) (last : Reade
   pub start : next.start ≡ s.start
   pub text_is : reader_text r next ≡ reader_text r s ++ text
 
-pub one : (r : Reader) (c : Call) (s : Segment) → IsAt r s → IsCall r c
-    → After r s (next c s) c.text c.after
+pub one : (r : Reader) (c : Call) (s : Segment) → IsAt r s → IsCall r c → After r s (next c s) c.text c.after
 one r c s h (inl idle) =
     let is = misused_next c s idle.0 in
     record {
-      at = subst (λ (t : Segment). IsAt c.after t) (sym is)
-          (subst (λ (r : Reader). IsAt r s) (sym idle.1) h);
+      at = subst (λ (t : Segment). IsAt c.after t) (sym is) (subst (λ (r : Reader). IsAt r s) (sym idle.1) h);
       key = ap key_of idle.1;
       start = ap (λ (s : Segment). s.start) is;
-      text_is = ap (reader_text r) is ∙ (sym (append-nil (reader_text r s))
-          ∙ ap (λ (t : List ℕ). reader_text r s ++ t) (sym idle.2));
+      text_is = ap (reader_text r) is ∙ (sym (append-nil (reader_text r s)) ∙ ap (λ (t : List ℕ). reader_text r s ++ t) (sym idle.2));
     }
 one r c s h (inr taken) =
     let is = taken_next c s taken.0 in
@@ -65,23 +60,18 @@ one r c s h (inr taken) =
       text_is = ap (reader_text r) is ∙ takes.released s h;
     }
 
-both : (r : Reader) (c : Call) (s : Segment) (calls : List Call)
-    → After r s (next c s) c.text c.after
-    → After c.after (next c s) (segment_from (next c s) calls) (texts_of calls)
-    (last_reader c.after calls)
-    → After r s (segment_from (next c s) calls) (c.text ++ texts_of calls)
-    (last_reader c.after calls)
+both : (r : Reader) (c : Call) (s : Segment) (calls : List Call) → After r s (next c s) c.text c.after
+    → After c.after (next c s) (segment_from (next c s) calls) (texts_of calls) (last_reader c.after calls)
+    → After r s (segment_from (next c s) calls) (c.text ++ texts_of calls) (last_reader c.after calls)
 both r c s calls first others =
     let there : reader_text r (segment_from (next c s) calls) ≡ reader_text r (next c s) ++ texts_of calls =
     subst (λ (k : List ℕ). released (opens k) chunk_length (segment_from (next c s) calls)
-    ≡ released (opens k) chunk_length (next c s) ++ texts_of calls)
-    first.key others.text_is in
+    ≡ released (opens k) chunk_length (next c s) ++ texts_of calls) first.key others.text_is in
     record {
       at = others.at;
       key = others.key ∙ first.key;
       start = others.start ∙ first.start;
-      text_is = there ∙ (ap (λ (t : List ℕ). t ++ texts_of calls) first.text_is
-          ∙ append_assoc (reader_text r s) c.text (texts_of calls));
+      text_is = there ∙ (ap (λ (t : List ℕ). t ++ texts_of calls) first.text_is ∙ append_assoc (reader_text r s) c.text (texts_of calls));
     }
 
 pub all_calls : (calls : List Call) (r : Reader) (s : Segment) → IsAt r s → AreCalls r calls
@@ -101,10 +91,8 @@ pub record StandsAt (k : List ℕ) (r : Reader) (s : Segment) : Type 0 where
   pub key : key_of r ≡ k
   pub at : IsAt r s
 
-pub one_more : (k : List ℕ) (r : Reader) (c : Call) (s : Segment) → StandsAt k r s → IsCall r c
-    → StandsAt k c.after (next c s)
-one_more k r c s stands is =
-    let after = one r c s stands.at is in record { at = after.at; key = after.key ∙ stands.key }
+pub one_more : (k : List ℕ) (r : Reader) (c : Call) (s : Segment) → StandsAt k r s → IsCall r c → StandsAt k c.after (next c s)
+one_more k r c s stands is = let after = one r c s stands.at is in record { at = after.at; key = after.key ∙ stands.key }
 
 pub status_at : (k : List ℕ) (r : Reader) (s : Segment) → StandsAt k r s
     → reader_status r.state r.fault_chunk ≡ Some (outcome (opens k) chunk_length s).status
@@ -118,27 +106,20 @@ last_is [] last r are = (refl, are.0)
 last_is (c ∷ before) last r are = last_is before last c.after are.1
 
 -- an end that answers 0 leaves a reader that is done
-pub done_after : (r : Reader) (c : Call) → IsCall r c → c.is_end ≡ true → c.answer ≡ 0
-    → c.after.state ≡ 3
-done_after r c (inl idle) is_end zero = let e : 0 ≡ 255 =
-    sym zero ∙ idle.0 in absurd (omega (arith, e))
+pub done_after : (r : Reader) (c : Call) → IsCall r c → c.is_end ≡ true → c.answer ≡ 0 → c.after.state ≡ 3
+done_after r c (inl idle) is_end zero = let e : 0 ≡ 255 = sym zero ∙ idle.0 in absurd (omega (arith, e))
 done_after r c (inr taken) is_end zero = taken.2 is_end zero
 
-pub done_status : (r : Reader) (s : Segment) → IsAt r s → r.state ≡ 3
-    → (outcome (opens (key_of r)) chunk_length s).status ≡ Done
+pub done_status : (r : Reader) (s : Segment) → IsAt r s → r.state ≡ 3 → (outcome (opens (key_of r)) chunk_length s).status ≡ Done
 done_status r s h three = some_is (sym h.status ∙ ap (λ (n : ℕ). reader_status n r.fault_chunk) three)
 
 -- ---- answers are calls
 
-a_call : (old new : Reader) (is_end : Bool) (bytes before after : List ℕ) (answer written : ℕ)
-    (Fits : Type 0) (Does : ℕ → List ℕ → Reader → Type 0)
-    → Answers Fits Does old new answer written before after
-    → (Does answer (take written after) new
+a_call : (old new : Reader) (is_end : Bool) (bytes before after : List ℕ) (answer written : ℕ) (Fits : Type 0) (Does : ℕ → List ℕ → Reader → Type 0)
+    → Answers Fits Does old new answer written before after → (Does answer (take written after) new
     → TakesBlock (after_call (call_of is_end bytes answer written after new)) old answer
-    (take written after) new × (is_end ≡ true → answer ≡ 0 → new.state ≡ 3))
-    → ((answer == misused) ≡ true) × (answer ≡ misused)
-    ⊎ ((answer == misused) ≡ false) × (answer ≢ misused)
-    → IsCall old (call_of is_end bytes answer written after new)
+    (take written after) new × (is_end ≡ true → answer ≡ 0 → new.state ≡ 3)) → ((answer == misused) ≡ true) × (answer ≡ misused)
+    ⊎ ((answer == misused) ≡ false) × (answer ≢ misused) → IsCall old (call_of is_end bytes answer written after new)
 a_call old new is_end bytes before after answer written Fits Does it does (inl is) =
     inl (
       is.1,
@@ -151,8 +132,6 @@ a_call old new is_end bytes before after answer written Fits Does it does (inr o
 
 pub answers_are_calls : AnswersAreCalls
 answers_are_calls old new bytes before after answer written = (
-  λ it. a_call old new false bytes before after answer written _ _ it
-      (λ takes. (takes, λ is. absurd (false≢true is))) (eqb_tells answer misused),
-  λ it. a_call old new true bytes before after answer written _ _ it
-      (λ ends. (ends.takes, λ is zero. ends.done zero)) (eqb_tells answer misused),
+  λ it. a_call old new false bytes before after answer written _ _ it (λ takes. (takes, λ is. absurd (false≢true is))) (eqb_tells answer misused),
+  λ it. a_call old new true bytes before after answer written _ _ it (λ ends. (ends.takes, λ is zero. ends.done zero)) (eqb_tells answer misused),
 )

@@ -32,21 +32,18 @@ ended_stanzas (s ∷ ss) base e =
     (more.0, sym (append_assoc base (stanza_text s) (flat_map stanza_text ss)) ∙ more.1)
 
 -- the lines before the end line, without their last LF
-before_end : (h : Header) → (before : List ℕ)
-    × (head_text h ≡ before ++ (10 ∷ codes "--- " ++ (base64_text h.mac ++ 10 ∷ [])))
+before_end : (h : Header) → (before : List ℕ) × (head_text h ≡ before ++ (10 ∷ codes "--- " ++ (base64_text h.mac ++ 10 ∷ [])))
 before_end h =
     let lines = ended_stanzas h.stanzas (line version) (version, refl) in
     let last = line (end_line h.mac) in (
       lines.0,
-      sym (append_assoc (line version) (flat_map stanza_text h.stanzas) last)
-          ∙ (ap (λ (t : List ℕ). t ++ last) lines.1
+      sym (append_assoc (line version) (flat_map stanza_text h.stanzas) last) ∙ (ap (λ (t : List ℕ). t ++ last) lines.1
           ∙ (append_assoc lines.0 (10 ∷ []) last
           ∙ ap (λ (t : List ℕ). lines.0 ++ (10 ∷ t)) (append_assoc (codes "--- ") (base64_text h.mac) (10 ∷ [])))),
     )
 
 -- so a header that is whole, with its nonce, ends so
-pub front_ends : (front : List ℕ) (header : Header) (len : ℕ) → HasFront front header len
-    → (at : ℕ) × (at + 49 ≡ len) × EndsAt front at
+pub front_ends : (front : List ℕ) (header : Header) (len : ℕ) → HasFront front header len → (at : ℕ) × (at + 49 ≡ len) × EndsAt front at
 front_ends front header len has =
     let lines = before_end header in
     let before = lines.0 in
@@ -66,15 +63,13 @@ front_ends front header len has =
     ) in
     let there : drop (length before) front ≡ 10 ∷ codes "--- " ++ (mac ++ 10 ∷ rest) =
     ap (drop (length before)) (sym (take-append-drop len front) ∙ ap (λ (t : List ℕ). t ++ rest) text)
-    ∙ (ap (drop (length before)) (append_assoc before (10 ∷ codes "--- " ++ (mac ++ 10 ∷ [])) rest)
-    ∙ (drop_at before _ (length before) refl
+    ∙ (ap (drop (length before)) (append_assoc before (10 ∷ codes "--- " ++ (mac ++ 10 ∷ [])) rest) ∙ (drop_at before _ (length before) refl
     ∙ ap (λ (t : List ℕ). 10 ∷ codes "--- " ++ t) (append_assoc mac (10 ∷ []) rest))) in (
       length before,
       size,
       record {
         within = omega (arith, size, has.within);
         begins = ap (λ (d : List ℕ). starts_with nat_eq d (10 ∷ codes "--- ")) there;
-        ends = ap (λ (d : List ℕ). get_or d 48 0) there
-            ∙ get_or_at (10 ∷ codes "--- " ++ mac) 10 rest 0 48 (omega (arith, mac_size));
+        ends = ap (λ (d : List ℕ). get_or d 48 0) there ∙ get_or_at (10 ∷ codes "--- " ++ mac) 10 rest 0 48 (omega (arith, mac_size));
       },
     )

@@ -15,8 +15,7 @@ use Rattle.age_keys.specs.Keys.{wrapped_key}
 use Rattle.age_keys.specs.Scrypt.{wrap_key, scrypt_stanza, scrypt_head}
 use Rattle.age_c.specs.Writers.{IsFileFront}
 
-three_arguments : (a b c body : List ℕ)
-    → length (stanza_text (record { args = a ∷ b ∷ c ∷ []; body = body }))
+three_arguments : (a b c body : List ℕ) → length (stanza_text (record { args = a ∷ b ∷ c ∷ []; body = body }))
     ≡ length a + length b + length c + length (in_lines (base64_text body)) + 6
 three_arguments a b c body =
     let lines : List ℕ = in_lines (base64_text body) in
@@ -43,15 +42,13 @@ wrapped_size : (wrap key : List ℕ) → length key ≡ 16 → length (wrapped_k
 unfolding wrapped_key
 wrapped_size wrap key size = omega (arith, length-sealing wrap (replicate 12 0) [] key, size)
 
-head_size : (pass salt key : List ℕ) (work : ℕ) → length salt ≡ 16 → length key ≡ 16 → work ≤ 22
-    → length (scrypt_head pass work salt key).mac ≡ 32
+head_size : (pass salt key : List ℕ) (work : ℕ) → length salt ≡ 16 → length key ≡ 16 → work ≤ 22 → length (scrypt_head pass work salt key).mac ≡ 32
     → length (head_text (scrypt_head pass work salt key)) ≤ 170
 unfolding scrypt_head
 head_size pass salt key work size key_size few mac =
     let body = wrapped_key (wrap_key pass salt work) key in
     let h : Header = scrypt_head pass work salt key in
-    let stanza = stanza_size salt body work size
-    (wrapped_size (wrap_key pass salt work) key key_size) few in
+    let stanza = stanza_size salt body work size (wrapped_size (wrap_key pass salt work) key key_size) few in
     omega (
       arith,
       length-head h mac,
@@ -60,8 +57,7 @@ head_size pass salt key work size key_size few mac =
     )
 
 pub front_size : (pass : List ℕ) (work : ℕ) (key salt nonce bytes : List ℕ)
-    → IsFileFront (scrypt_head pass work salt key) nonce bytes → length salt ≡ 16
-    → length key ≡ 16 → work ≤ 22 → length bytes ≤ 256
+    → IsFileFront (scrypt_head pass work salt key) nonce bytes → length salt ≡ 16 → length key ≡ 16 → work ≤ 22 → length bytes ≤ 256
 front_size pass work key salt nonce bytes it size key_size few =
     let head = head_size pass salt key work size key_size few it.head.spells.valid.mac_length in
     omega (arith, ap length it.parts, length-append it.front nonce, it.size, ap length it.head.spells.bytes_are, head)

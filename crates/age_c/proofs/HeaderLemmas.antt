@@ -34,8 +34,7 @@ pub no_work : (h : Header) (s : Stanza) → h.stanzas ≡ s ∷ []
     → ((salt : List ℕ) (log : ℕ) (body : List ℕ) → IsScryptStanza s salt log body → ⊥) → IsWork h 0
 no_work h s one none = record {
   some = λ other. absurd (other refl);
-  none = λ _ only.
-      let same : only.stanza ≡ s = cc (only.alone, one) in
+  none = λ _ only. let same : only.stanza ≡ s = cc (only.alone, one) in
       none only.salt only.log only.body (rw same at only.valid);
 }
 
@@ -82,16 +81,14 @@ spaced_is (a ∷ args) some = refl
 marked : (args : List (List ℕ)) (w lines more : List ℕ) → spaced args ≡ 32 ∷ w
     → (line (argument_line args) ++ lines) ++ more ≡ codes "-> " ++ (w ++ ((10 ∷ lines) ++ more))
 marked args w lines more e =
-    ap (λ (t : List ℕ). (((codes "->" ++ t) ++ 10 ∷ []) ++ lines) ++ more) e
-    ∙ ap (λ (t : List ℕ). codes "-> " ++ t)
+    ap (λ (t : List ℕ). (((codes "->" ++ t) ++ 10 ∷ []) ++ lines) ++ more) e ∙ ap (λ (t : List ℕ). codes "-> " ++ t)
     (append_assoc (w ++ 10 ∷ []) lines more ∙ append_assoc w (10 ∷ []) (lines ++ more))
 
 -- where they stand
 args_there : (front lines letters rest : List ℕ) (at : ℕ) → front ≡ lines ++ (letters ++ rest) → at ≡ length lines
     → (take (length letters) (drop at front) ≡ letters) × (at + length letters ≤ length front)
 args_there front lines letters rest at e is = (
-  ap (λ (t : List ℕ). take (length letters) (drop at t)) e
-      ∙ ap (take (length letters)) (drop_at lines (letters ++ rest) at (sym is))
+  ap (λ (t : List ℕ). take (length letters) (drop at t)) e ∙ ap (take (length letters)) (drop_at lines (letters ++ rest) at (sym is))
       ∙ take_at letters rest (length letters) refl,
   omega (arith, ap length e, length-append lines (letters ++ rest), length-append letters rest),
 )
@@ -107,10 +104,8 @@ has_stanza front h len before after s args_at args_len body has parts at_is len_
     let rest : List ℕ = flat_map stanza_text after ++ line (end_line h.mac) in
     let behind : List ℕ = (10 ∷ in_lines (base64_text s.body)) ++ (rest ++ drop len front) in
     let text : front ≡ (stanzas_text before ++ codes "-> ") ++ (letters s.args ++ behind) =
-    sym (take-append-drop len front)
-    ∙ (ap (λ (t : List ℕ). t ++ drop len front) (has.text.spells.bytes_are ∙ head_parts h before after s parts)
-    ∙ (append_assoc (stanzas_text before) (stanza_text s ++ rest) (drop len front)
-    ∙ (ap (λ (t : List ℕ). stanzas_text before ++ t)
+    sym (take-append-drop len front) ∙ (ap (λ (t : List ℕ). t ++ drop len front) (has.text.spells.bytes_are ∙ head_parts h before after s parts)
+    ∙ (append_assoc (stanzas_text before) (stanza_text s ++ rest) (drop len front) ∙ (ap (λ (t : List ℕ). stanzas_text before ++ t)
     (append_assoc (stanza_text s) rest (drop len front)
     ∙ marked s.args (letters s.args) (in_lines (base64_text s.body)) (rest ++ drop len front) spaces)
     ∙ sym (append_assoc (stanzas_text before) (codes "-> ") (letters s.args ++ behind))))) in

@@ -23,8 +23,7 @@ use Rattle.age_c.specs.inner.Sealing.{zero_text}
 
 pub with_mac : (lines mac : List ℕ) (h : Header) → HasLines lines h → length mac ≡ 32 → ((i : ℕ) → get_or mac i 0 < 256)
     → HasLines lines (record { stanzas = h.stanzas; mac = mac })
-with_mac lines mac h has size bytes =
-    record { text = other_mac h mac has.text size bytes; lines_are = has.lines_are }
+with_mac lines mac h has size bytes = record { text = other_mac h mac has.text size bytes; lines_are = has.lines_are }
 
 -- the MAC covers the stanzas alone
 pub mac_made : (key mac : List ℕ) (h : Header) → mac ≡ header_mac key h → IsMacOf (record { stanzas = h.stanzas; mac = mac }) key
@@ -99,8 +98,7 @@ length_end mac long = omega (
   length-text mac,
 )
 
-pub lines_read : (lines : List ℕ) (p : Header) (len : ℕ) → HasHead (zero_text lines) p len → length (zero_text lines) ≤ len
-    → HasLines lines p
+pub lines_read : (lines : List ℕ) (p : Header) (len : ℕ) → HasHead (zero_text lines) p len → length (zero_text lines) ≤ len → HasLines lines p
 lines_read lines p len head whole =
     let text : List ℕ = zero_text lines in
     let last : List ℕ = line (end_line zeros) in
@@ -108,8 +106,7 @@ lines_read lines p len head whole =
     let stanzas : List ℕ = flat_map stanza_text p.stanzas in
     let all : text ≡ head_text p = sym (take_all len text whole) ∙ head.text.spells.bytes_are in
     let rest : lines ++ last ≡ stanzas ++ ending =
-    sym (drop_at (line version) (lines ++ last) 22 refl)
-    ∙ (ap (drop 22) all ∙ drop_at (line version) (stanzas ++ ending) 22 refl) in
+    sym (drop_at (line version) (lines ++ last) 22 refl) ∙ (ap (drop 22) all ∙ drop_at (line version) (stanzas ++ ending) 22 refl) in
     let size : length lines ≡ length stanzas = omega (
       arith,
       ap length rest,
@@ -120,8 +117,7 @@ lines_read lines p len head whole =
     ) in
     record {
       text = (take len text, head.text);
-      lines_are = sym (take_at lines last (length lines) refl)
-          ∙ (ap (take (length lines)) rest ∙ take_at stanzas ending (length lines) (sym size));
+      lines_are = sym (take_at lines last (length lines) refl) ∙ (ap (take (length lines)) rest ∙ take_at stanzas ending (length lines) (sym size));
     }
 
 -- ---- how long what stands before the payload is

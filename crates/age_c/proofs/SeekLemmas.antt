@@ -13,19 +13,15 @@ use Rattle.age_c.specs.Places.{OpeningsAreParts}
 use Rattle.age_c.specs.inner.Keys.{opens}
 use Rattle.age_c.specs.declared.reader.Reader.{Reader}
 
-pub goes_open : (chunk : ℕ) (old new : Reader) → GoesTo chunk old new
-    → reader_status new.state new.fault_chunk ≡ Some Open
+pub goes_open : (chunk : ℕ) (old new : Reader) → GoesTo chunk old new → reader_status new.state new.fault_chunk ≡ Some Open
 goes_open chunk old new g =
-    g.at.status ∙ ap (λ (o : Outcome). Some o.status)
-    (fresh_outcome (opens (payload_key new.file_key new.nonce)) chunk_length chunk)
+    g.at.status ∙ ap (λ (o : Outcome). Some o.status) (fresh_outcome (opens (payload_key new.file_key new.nonce)) chunk_length chunk)
 
 pub goes_there : (chunk : ℕ) (old new : Reader) → GoesTo chunk old new → new.chunk ≡ chunk
 goes_there chunk old new g =
-    g.at.index ∙ ap (λ (o : Outcome). o.index)
-    (fresh_outcome (opens (payload_key new.file_key new.nonce)) chunk_length chunk)
+    g.at.index ∙ ap (λ (o : Outcome). o.index) (fresh_outcome (opens (payload_key new.file_key new.nonce)) chunk_length chunk)
 
-pub goes_usable : (chunk : ℕ) (old new : Reader) → GoesTo chunk old new → chunk < chunk_limit
-    → CanBeUsed new
+pub goes_usable : (chunk : ℕ) (old new : Reader) → GoesTo chunk old new → chunk < chunk_limit → CanBeUsed new
 goes_usable chunk old new g below = record {
   status = ap is_some (goes_open chunk old new g);
   chunk = subst (λ (n : ℕ). n < chunk_limit) (sym (goes_there chunk old new g)) below;

@@ -58,8 +58,7 @@ place_next places next ss i at body_at s all lt is room put told =
     let it : StanzaPlace = place_of at body_at s in
     let rest : List StanzaPlace = places_from (at + length (stanza_text s)) (body_at + length s.body) (drop (i + 1) ss) in
     let first : drop i ss ≡ s ∷ drop (i + 1) ss = drop_more ss i s lt ∙ ap (λ (t : Stanza). t ∷ drop (i + 1) ss) (sym is) in
-    ap (λ (t : List StanzaPlace). t ++ rest) (ap (take (i + 1)) put ∙ take_more_set places i it room)
-    ∙ (append_assoc (take i places) (it ∷ []) rest
+    ap (λ (t : List StanzaPlace). t ++ rest) (ap (take (i + 1)) put ∙ take_more_set places i it room) ∙ (append_assoc (take i places) (it ∷ []) rest
     ∙ (ap (λ (ts : List Stanza). take i places ++ places_from at body_at ts) (sym first) ∙ told))
 
 -- ---- a loop that puts the body of each stanza
@@ -95,8 +94,7 @@ body_next ss i s n k out initial put body lt is body_is put_is k_is room was =
 -- ---- what is told of all stanzas
 
 -- the bytes of a body, after those of the stanzas before it
-body_there : (done rest : List Stanza) (s : Stanza)
-    → (take (length s.body) (drop (length (bodies_of done)) (bodies_of (done ++ s ∷ rest))) ≡ s.body)
+body_there : (done rest : List Stanza) (s : Stanza) → (take (length s.body) (drop (length (bodies_of done)) (bodies_of (done ++ s ∷ rest))) ≡ s.body)
     × (length (bodies_of done) + length s.body ≤ length (bodies_of (done ++ s ∷ rest)))
 body_there done rest s =
     let parts : bodies_of (done ++ s ∷ rest) ≡ bodies_of done ++ (s.body ++ bodies_of rest) =
@@ -113,8 +111,7 @@ Told front h index it =
     HasStanza front h index it.args_at it.args_len (take it.body_len (drop it.body_at (bodies_of h.stanzas)))
     × (it.body_at + it.body_len ≤ length (bodies_of h.stanzas))
 
-told_one : (front : List ℕ) (h : Header) (len : ℕ) (done rest : List Stanza) (s : Stanza) → HasHead front h len
-    → h.stanzas ≡ done ++ s ∷ rest
+told_one : (front : List ℕ) (h : Header) (len : ℕ) (done rest : List Stanza) (s : Stanza) → HasHead front h len → h.stanzas ≡ done ++ s ∷ rest
     → Told front h (length done) (place_of (length (stanzas_text done)) (length (bodies_of done)) s)
 told_one front h len done rest s has parts =
     let there = body_there done rest s in
@@ -134,8 +131,7 @@ told_from front h len at body_at done (s ∷ rest) has parts at_is body_is [] it
     let place : place_of (length (stanzas_text done)) (length (bodies_of done)) s ≡ it =
     ap₂ (λ (n m : ℕ). place_of n m s) (sym at_is) (sym body_is) ∙ cc is in
     let index : length done ≡ length done + 0 = omega arith in
-    subst (λ (n : ℕ). Told front h n it) index
-    (subst (Told front h (length done)) place (told_one front h len done rest s has parts))
+    subst (λ (n : ℕ). Told front h n it) index (subst (Told front h (length done)) place (told_one front h len done rest s has parts))
 told_from front h len at body_at done (s ∷ rest) has parts at_is body_is (b ∷ before) it after is =
     let more : List Stanza = done ++ s ∷ [] in
     let text : at + length (stanza_text s) ≡ length (stanzas_text more) = omega (
@@ -155,22 +151,19 @@ told_from front h len at body_at done (s ∷ rest) has parts at_is body_is (b �
       length-append s.body [],
     ) in
     let index : length more + length before ≡ length done + length (b ∷ before) = omega (arith, length-append done (s ∷ [])) in
-    subst (λ (n : ℕ). Told front h n it) index
-    (told_from front h len (at + length (stanza_text s)) (body_at + length s.body) more rest has
+    subst (λ (n : ℕ). Told front h n it) index (told_from front h len (at + length (stanza_text s)) (body_at + length s.body) more rest has
     (parts ∙ sym (append_assoc done (s ∷ []) rest)) text bodies before it after (cc is))
 
 length-places : (at body_at : ℕ) (ss : List Stanza) → length (places_from at body_at ss) ≡ length ss
 length-places at body_at [] = refl
-length-places at body_at (s ∷ ss) =
-    omega (arith, length-places (at + length (stanza_text s)) (body_at + length s.body) ss)
+length-places at body_at (s ∷ ss) = omega (arith, length-places (at + length (stanza_text s)) (body_at + length s.body) ss)
 
 pub has_stanzas : (front : List ℕ) (h : Header) (len : ℕ) (places : List StanzaPlace) (bodies : List ℕ) → HasHead front h len
     → places ≡ places_from 22 0 h.stanzas → bodies ≡ bodies_of h.stanzas → HasStanzas front h places bodies
 has_stanzas front h len places bodies has told bodies_are = record {
   all = ap length told ∙ length-places 22 0 h.stanzas;
   bodies_are = bodies_are;
-  each = λ before it after is.
-      let from : Told front h (length before) it =
+  each = λ before it after is. let from : Told front h (length before) it =
       subst (λ (n : ℕ). Told front h n it) (omega arith)
       (told_from front h len 22 0 [] h.stanzas has refl refl refl before it after (sym told ∙ is)) in
       subst (λ (t : List ℕ). HasStanza front h (length before) it.args_at it.args_len (take it.body_len (drop it.body_at t))

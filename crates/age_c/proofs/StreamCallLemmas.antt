@@ -34,8 +34,7 @@ record After (s : Stream) (was now : Segment) (text : List ℕ) (last : Stream) 
   pub start : now.start ≡ was.start
   pub text_is : reader_text s.reader now ≡ reader_text s.reader was ++ text
 
-one : (s : Stream) (c : FeedCall) (was : Segment) → StreamIsAt s was → IsFeedCall s c
-    → After s was (next (reader_call c) was) c.text c.after
+one : (s : Stream) (c : FeedCall) (was : Segment) → StreamIsAt s was → IsFeedCall s c → After s was (next (reader_call c) was) c.text c.after
 one s c was h (inl idle) =
     let is = misused_next (reader_call c) was idle.0 in
     record {
@@ -55,10 +54,8 @@ one s c was h (inr taken) =
       text_is = ap (reader_text s.reader) is ∙ moves.released was h;
     }
 
-all_feeds : (calls : List FeedCall) (s : Stream) (was : Segment) → StreamIsAt s was
-    → AreFeedCalls s calls
-    → After s was (segment_from was (reader_calls calls)) (texts_of (reader_calls calls))
-    (last_stream s calls)
+all_feeds : (calls : List FeedCall) (s : Stream) (was : Segment) → StreamIsAt s was → AreFeedCalls s calls
+    → After s was (segment_from was (reader_calls calls)) (texts_of (reader_calls calls)) (last_stream s calls)
 all_feeds [] s was h are = record {
   at = h;
   key = refl;
@@ -72,14 +69,12 @@ all_feeds (c ∷ calls) s was h are =
     let now = segment_from there (reader_calls calls) in
     let more = texts_of (reader_calls calls) in
     let text : reader_text s.reader now ≡ reader_text s.reader there ++ more =
-    subst (λ (k : List ℕ). released (opens k) chunk_length now
-    ≡ released (opens k) chunk_length there ++ more) first.key others.text_is in
+    subst (λ (k : List ℕ). released (opens k) chunk_length now ≡ released (opens k) chunk_length there ++ more) first.key others.text_is in
     record {
       at = others.at;
       key = others.key ∙ first.key;
       start = others.start ∙ first.start;
-      text_is = text ∙ (ap (λ (t : List ℕ). t ++ more) first.text_is
-          ∙ append_assoc (reader_text s.reader was) c.text more);
+      text_is = text ∙ (ap (λ (t : List ℕ). t ++ more) first.text_is ∙ append_assoc (reader_text s.reader was) c.text more);
     }
 
 -- what is held leaves the status as it is
@@ -90,22 +85,19 @@ status_there s g h = h.at.status ∙ ap (λ o. Some o.status) (sym (stream_same 
 timely_there : (s : Stream) (g : Segment) → StreamIsAt s g → Timely g
 timely_there s g h = subst Timely (sym h.given) (timely_piece h.blocks (held_block s) h.at.timely)
 
-answer_by : (s : Stream) (c : FeedCall) → IsFeedCall s c → c.answer ≢ misused
-    → c.answer ≡ answer_of c.after.reader.state
+answer_by : (s : Stream) (c : FeedCall) → IsFeedCall s c → c.answer ≢ misused → c.answer ≡ answer_of c.after.reader.state
 answer_by s c (inl idle) other = absurd (other idle.0)
 answer_by s c (inr taken) other = taken.1.answer_is
 
 -- what is known of each call
-all_known : (k : List ℕ) (calls : List FeedCall) (s : Stream) (was : Segment) → key_of s.reader ≡ k
-    → StreamIsAt s was → AreFeedCalls s calls
+all_known : (k : List ℕ) (calls : List FeedCall) (s : Stream) (was : Segment) → key_of s.reader ≡ k → StreamIsAt s was → AreFeedCalls s calls
     → AllByRecursion (IsKnown k (segment_from was (reader_calls calls))) (reader_calls calls)
 all_known k [] s was key h are = tt
 all_known k (c ∷ calls) s was key h are =
     let after = one s c was h are.0 in
     let there = next (reader_call c) was in
     let now_key : key_of c.after.reader ≡ k = after.key ∙ key in
-    let status : reader_status c.after.reader.state c.after.reader.fault_chunk
-    ≡ Some (outcome (opens k) chunk_length there).status =
+    let status : reader_status c.after.reader.state c.after.reader.fault_chunk ≡ Some (outcome (opens k) chunk_length there).status =
     subst (λ (k : List ℕ). reader_status c.after.reader.state c.after.reader.fault_chunk
     ≡ Some (outcome (opens k) chunk_length there).status) now_key (status_there c.after there after.at) in (
       record {
@@ -119,18 +111,15 @@ all_known k (c ∷ calls) s was key h are =
     )
 
 -- an end that answers 0 leaves a reader that is done
-done_after : (s : Stream) (c : FeedCall) → IsFeedCall s c → c.is_end ≡ true → c.answer ≡ 0
-    → c.after.reader.state ≡ 3
-done_after s c (inl idle) is_end zero =
-    let e : 0 ≡ 255 = sym zero ∙ idle.0 in absurd (omega (arith, e))
+done_after : (s : Stream) (c : FeedCall) → IsFeedCall s c → c.is_end ≡ true → c.answer ≡ 0 → c.after.reader.state ≡ 3
+done_after s c (inl idle) is_end zero = let e : 0 ≡ 255 = sym zero ∙ idle.0 in absurd (omega (arith, e))
 done_after s c (inr taken) is_end zero = taken.2 is_end zero
 
 not_none : (before : List Call) (last : Call) → [] ≡ before ++ last ∷ [] → ⊥
 not_none before last e = omega (arith, ap length e, length-append before (last ∷ []))
 
 done_last : (calls : List FeedCall) (s : Stream) → AreFeedCalls s calls → (before : List Call)
-    (last : Call) → reader_calls calls ≡ before ++ last ∷ [] → last.is_end ≡ true → last.answer ≡ 0
-    → (last_stream s calls).reader.state ≡ 3
+    (last : Call) → reader_calls calls ≡ before ++ last ∷ [] → last.is_end ≡ true → last.answer ≡ 0 → (last_stream s calls).reader.state ≡ 3
 done_last [] s are before last e is_end zero = absurd (not_none before last e)
 done_last (c ∷ []) s are [] last e is_end zero =
     let is : reader_call c ≡ last = cc e in
@@ -147,25 +136,19 @@ feeds_are_written s start at empty limit calls are text few =
     let given = segment_from (fresh start) (reader_calls calls) in
     let last = last_stream s calls in
     text_right s.reader start limit (reader_calls calls) text few after.start after.text_is
-    (all_known (key_of s.reader) calls s (fresh start) refl h are)
-    (λ before one parts is_end zero.
+    (all_known (key_of s.reader) calls s (fresh start) refl h are) (λ before one parts is_end zero.
     let three = done_last calls s are before one parts is_end zero in
     let done : (outcome (opens (key_of last.reader)) chunk_length given).status ≡ Done =
-    some_is (sym (status_there last given after.at)
-    ∙ ap (λ (n : ℕ). reader_status n last.reader.fault_chunk) three) in
+    some_is (sym (status_there last given after.at) ∙ ap (λ (n : ℕ). reader_status n last.reader.fault_chunk) three) in
     subst (λ (k : List ℕ). (outcome (opens k) chunk_length given).status ≡ Done) after.key done)
 
 -- ---- answers are calls
 
-a_call : (old new : Stream) (is_end : Bool) (bytes before after : List ℕ) (answer written : ℕ)
-    (Fits : Type 0) (Does : ℕ → List ℕ → Stream → Type 0)
-    → Answers Fits Does old new answer written before after
-    → (Does answer (take written after) new
+a_call : (old new : Stream) (is_end : Bool) (bytes before after : List ℕ) (answer written : ℕ) (Fits : Type 0) (Does : ℕ → List ℕ → Stream → Type 0)
+    → Answers Fits Does old new answer written before after → (Does answer (take written after) new
     → Moves (after_call (reader_call (feed_call_of is_end bytes answer written after new))) old answer
-    (take written after) new × (is_end ≡ true → answer ≡ 0 → new.reader.state ≡ 3))
-    → ((answer == misused) ≡ true) × (answer ≡ misused)
-    ⊎ ((answer == misused) ≡ false) × (answer ≢ misused)
-    → IsFeedCall old (feed_call_of is_end bytes answer written after new)
+    (take written after) new × (is_end ≡ true → answer ≡ 0 → new.reader.state ≡ 3)) → ((answer == misused) ≡ true) × (answer ≡ misused)
+    ⊎ ((answer == misused) ≡ false) × (answer ≢ misused) → IsFeedCall old (feed_call_of is_end bytes answer written after new)
 a_call old new is_end bytes before after answer written Fits Does it does (inl is) =
     inl (
       is.1,
@@ -177,13 +160,11 @@ a_call old new is_end bytes before after answer written Fits Does it does (inr o
     inr (other.1, did.0, did.1)
 
 -- an end that is given no bytes
-ends_with_none : (old : Stream) (answer : ℕ) (text : List ℕ) (new : Stream)
-    → Moves with_end old answer text new
+ends_with_none : (old : Stream) (answer : ℕ) (text : List ℕ) (new : Stream) → Moves with_end old answer text new
     → Moves (λ (s : Segment). with_end (with_piece s [])) old answer text new
 ends_with_none old answer text new moves = record {
   at = λ s h. subst (λ (t : Segment). StreamIsAt new (with_end t)) (sym (piece_nil s)) (moves.at s h);
-  released = λ s h.
-      ap (λ (t : Segment). reader_text old.reader (with_end t)) (piece_nil s) ∙ moves.released s h;
+  released = λ s h. ap (λ (t : Segment). reader_text old.reader (with_end t)) (piece_nil s) ∙ moves.released s h;
   same = moves.same;
   answer_is = moves.answer_is;
   nothing = moves.nothing;
@@ -194,8 +175,7 @@ answers_are_feed_calls old new piece before after answer taken written = (
   λ it. a_call old new false (take taken piece) before after answer written _ _ it
       (λ feeds. (feeds.moves, λ is. absurd (false≢true is))) (eqb_tells answer misused),
   λ it. a_call old new true [] before after answer written _ _ it
-      (λ ends. (ends_with_none old answer (take written after) new ends.moves, λ is zero. ends.done zero))
-      (eqb_tells answer misused),
+      (λ ends. (ends_with_none old answer (take written after) new ends.moves, λ is zero. ends.done zero)) (eqb_tells answer misused),
 )
 
 -- ---- the round trip
@@ -205,12 +185,9 @@ pieces_read_back header key nonce front w texts last writes s at empty has_key h
     let text = text_taken texts in
     let few = few_chunks header key nonce front w texts last writes in
     let right = feeds_are_written s 0 at empty (omega arith) calls are text few in
-    let written : payload (box s.reader.file_key s.reader.nonce) chunk_length text
-    ≡ bytes_written texts ++ last.bytes =
-    ap (λ (k : List ℕ). payload (box k s.reader.nonce) chunk_length text)
-    (has_key ∙ sym writes.begins.has_key)
-    ∙ (ap (λ (n : List ℕ). payload (box w.writer.file_key n) chunk_length text)
-    (has_nonce ∙ sym writes.begins.has_nonce)
+    let written : payload (box s.reader.file_key s.reader.nonce) chunk_length text ≡ bytes_written texts ++ last.bytes =
+    ap (λ (k : List ℕ). payload (box k s.reader.nonce) chunk_length text) (has_key ∙ sym writes.begins.has_key)
+    ∙ (ap (λ (n : List ℕ). payload (box w.writer.file_key n) chunk_length text) (has_nonce ∙ sym writes.begins.has_nonce)
     ∙ payload_written header key nonce front w texts last writes) in
     right.whole closed (omega arith) (given ∙ ap (λ (b : List ℕ). record {
       start = 0;

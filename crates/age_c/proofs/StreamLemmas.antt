@@ -18,13 +18,10 @@ use Rattle.age_c.specs.Readers.{TakesBlock, TakesEnd, after_block, IsAt, SameFil
 use Rattle.age_c.specs.Streams.{FeedsStream, FinishesStream, IsStreamCall, StreamIsAt, held_block}
 use Rattle.age_c.proofs.ReaderLemmas.{some_is}
 
-nil_by : (start : ℕ) (bytes : List ℕ) (ended late : Bool)
-    → with_piece (record { start = start; bytes = bytes; ended = ended; late = late }) []
+nil_by : (start : ℕ) (bytes : List ℕ) (ended late : Bool) → with_piece (record { start = start; bytes = bytes; ended = ended; late = late }) []
     ≡ record { start = start; bytes = bytes; ended = ended; late = late }
-nil_by start bytes true late =
-    ap (λ (l : Bool). record { start = start; bytes = bytes; ended = true; late = l }) (or-false late)
-nil_by start bytes false late =
-    ap (λ (b : List ℕ). record { start = start; bytes = b; ended = false; late = late }) (append-nil bytes)
+nil_by start bytes true late = ap (λ (l : Bool). record { start = start; bytes = bytes; ended = true; late = l }) (or-false late)
+nil_by start bytes false late = ap (λ (b : List ℕ). record { start = start; bytes = b; ended = false; late = late }) (append-nil bytes)
 
 -- no bytes change nothing
 pub piece_nil : (s : Segment) → with_piece s [] ≡ s
@@ -36,13 +33,10 @@ part_same : (r : Reader) (blocks : Segment) (part : List ℕ) → IsAt r blocks
     → reader_outcome r (with_piece blocks part) ≡ reader_outcome r blocks
 part_same r blocks part at when short =
     elim (cases_lt 0 (length part)) [
-      | inl some ↦
-          (let is = when some in
+      | inl some ↦ (let is = when some in
           let op = unbox r.file_key r.nonce in
-          (going_part op chunk_length blocks part (going op chunk_length blocks is)
-          (omega (arith, short, ap length (at.whole is)))).same)
-      | inr none ↦
-          (let nil : part ≡ [] = nil_from_length part (omega (arith, none)) in
+          (going_part op chunk_length blocks part (going op chunk_length blocks is) (omega (arith, short, ap length (at.whole is)))).same)
+      | inr none ↦ (let nil : part ≡ [] = nil_from_length part (omega (arith, none)) in
           ap (λ (p : List ℕ). reader_outcome r (with_piece blocks p)) nil ∙ ap (reader_outcome r) (piece_nil blocks))
     ]
 
@@ -51,12 +45,10 @@ abbrev released_of : Outcome → List ℕ
 released_of o = flat_map (λ (t : List ℕ). t) o.texts
 
 -- what is held releases nothing
-pub stream_same : (st : Stream) (s : Segment) → (h : StreamIsAt st s)
-    → reader_outcome st.reader s ≡ reader_outcome st.reader h.blocks
+pub stream_same : (st : Stream) (s : Segment) → (h : StreamIsAt st s) → reader_outcome st.reader s ≡ reader_outcome st.reader h.blocks
 stream_same st s h =
     let size = length-take st.held st.block in
-    ap (reader_outcome st.reader) h.given
-    ∙ part_same st.reader h.blocks (held_block st) h.at (λ some. h.is_open (omega (arith, some, size)))
+    ap (reader_outcome st.reader) h.given ∙ part_same st.reader h.blocks (held_block st) h.at (λ some. h.is_open (omega (arith, some, size)))
     (omega (arith, h.short, size))
 
 unchanged : (r : Reader) → SameFile r r
@@ -66,8 +58,7 @@ unchanged r = record { file_key = refl; nonce = refl; payload_at = refl }
 given_more : (st : Stream) (s : Segment) (h : StreamIsAt st s) (more all : List ℕ)
     → held_block st ++ more ≡ all → with_piece s more ≡ with_piece h.blocks all
 given_more st s h more all is =
-    ap (λ (t : Segment). with_piece t more) h.given
-    ∙ (pieces_join h.blocks (held_block st) more ∙ ap (with_piece h.blocks) is)
+    ap (λ (t : Segment). with_piece t more) h.given ∙ (pieces_join h.blocks (held_block st) more ∙ ap (with_piece h.blocks) is)
 
 -- a stream that holds nothing
 pub nothing_held : (st : Stream) (s : Segment) → st.held ≡ 0 → IsAt st.reader s → StreamIsAt st s
@@ -79,8 +70,7 @@ nothing_held st s zero at = record {
   given = sym (ap (λ (n : ℕ). with_piece s (take n st.block)) zero ∙ piece_nil s);
 }
 
-opened : (r : Reader) (s : Segment) → IsAt r s → reader_status r.state r.fault_chunk ≡ Some Open
-    → (reader_outcome r s).status ≡ Open
+opened : (r : Reader) (s : Segment) → IsAt r s → reader_status r.state r.fault_chunk ≡ Some Open → (reader_outcome r s).status ≡ Open
 opened r s at is = some_is (sym at.status ∙ is)
 
 -- ---- bytes that leave the block open
@@ -88,8 +78,7 @@ opened r s at is = some_is (sym at.status ∙ is)
 pub feeds_part : (piece : List ℕ) (count : ℕ) (old new : Stream) → new.reader ≡ old.reader
     → held_block new ≡ held_block old ++ take count piece → new.held ≡ old.held + count
     → new.held < block_length → count ≡ min (length piece) (block_length - old.held) → old.held < block_length
-    → reader_status old.reader.state old.reader.fault_chunk ≡ Some Open
-    → FeedsStream piece old (answer_of new.reader.state) count [] new
+    → reader_status old.reader.state old.reader.fault_chunk ≡ Some Open → FeedsStream piece old (answer_of new.reader.state) count [] new
 feeds_part piece count old new same held more fits count_is short is = record {
   moves = record {
     at = λ s h. record {
@@ -99,8 +88,7 @@ feeds_part piece count old new same held more fits count_is short is = record {
       is_open = λ _. ap (λ (r : Reader). (reader_outcome r h.blocks).status) same ∙ opened old.reader h.blocks h.at is;
       given = given_more old s h (take count piece) (held_block new) (sym held);
     };
-    released = λ s h.
-        let all : reader_outcome old.reader (with_piece s (take count piece)) ≡ reader_outcome old.reader h.blocks =
+    released = λ s h. let all : reader_outcome old.reader (with_piece s (take count piece)) ≡ reader_outcome old.reader h.blocks =
         ap (reader_outcome old.reader) (given_more old s h (take count piece) (held_block new) (sym held))
         ∙ part_same old.reader h.blocks (held_block new) h.at (λ _. opened old.reader h.blocks h.at is)
         (omega (arith, fits, length-take new.held new.block)) in
@@ -117,17 +105,13 @@ feeds_part piece count old new same held more fits count_is short is = record {
 -- ---- bytes that fill the block
 
 pub feeds_whole : (piece : List ℕ) (count answer : ℕ) (block text : List ℕ) (old new : Stream)
-    → TakesBlock (after_block block) old.reader answer text new.reader → new.held ≡ 0
-    → held_block old ++ take count piece ≡ block
-    → count ≡ min (length piece) (block_length - old.held) → old.held < block_length
-    → FeedsStream piece old answer count text new
+    → TakesBlock (after_block block) old.reader answer text new.reader → new.held ≡ 0 → held_block old ++ take count piece ≡ block
+    → count ≡ min (length piece) (block_length - old.held) → old.held < block_length → FeedsStream piece old answer count text new
 feeds_whole piece count answer block text old new takes zero is count_is short = record {
   moves = record {
     at = λ s h. subst (StreamIsAt new) (sym (given_more old s h (take count piece) block is))
         (nothing_held new (with_piece h.blocks block) zero (takes.at h.blocks h.at));
-    released = λ s h.
-        ap (reader_text old.reader) (given_more old s h (take count piece) block is)
-        ∙ (takes.released h.blocks h.at
+    released = λ s h. ap (reader_text old.reader) (given_more old s h (take count piece) block is) ∙ (takes.released h.blocks h.at
         ∙ ap (λ (o : Outcome). released_of o ++ text) (sym (stream_same old s h)));
     same = takes.same;
     answer_is = takes.answer_is;
@@ -150,24 +134,18 @@ block_call s piece out call whole = record {
 -- ---- bytes after the last block, or after a fault
 
 pub feeds_closed : (piece : List ℕ) (count answer : ℕ) (text : List ℕ) (old new : Stream)
-    → TakesBlock (λ (s : Segment). with_piece s (take count piece)) old.reader answer text new.reader
-    → new.held ≡ 0 → count ≡ min (length piece) 1
-    → (reader_status old.reader.state old.reader.fault_chunk ≢ Some Open)
-    → FeedsStream piece old answer count text new
+    → TakesBlock (λ (s : Segment). with_piece s (take count piece)) old.reader answer text new.reader → new.held ≡ 0 → count ≡ min (length piece) 1
+    → (reader_status old.reader.state old.reader.fault_chunk ≢ Some Open) → FeedsStream piece old answer count text new
 feeds_closed piece count answer text old new takes zero count_is shut =
-    let none : (s : Segment) → (h : StreamIsAt old s) → s ≡ h.blocks = λ s h.
-    elim (cases_lt 0 old.held) [
+    let none : (s : Segment) → (h : StreamIsAt old s) → s ≡ h.blocks = λ s h. elim (cases_lt 0 old.held) [
       | inl some ↦ absurd (shut (h.at.status ∙ ap Some (h.is_open some)))
-      | inr le ↦
-          (let held : old.held ≡ 0 = omega (arith, le) in
+      | inr le ↦ (let held : old.held ≡ 0 = omega (arith, le) in
           h.given ∙ (ap (λ (n : ℕ). with_piece h.blocks (take n old.block)) held ∙ piece_nil h.blocks))
     ] in
     record {
       moves = record {
-        at = λ s h.
-            let is = none s h in
-            nothing_held new (with_piece s (take count piece)) zero
-            (takes.at s (subst (IsAt old.reader) (sym is) h.at));
+        at = λ s h. let is = none s h in
+            nothing_held new (with_piece s (take count piece)) zero (takes.at s (subst (IsAt old.reader) (sym is) h.at));
         released = λ s h. takes.released s (subst (IsAt old.reader) (sym (none s h)) h.at);
         same = takes.same;
         answer_is = takes.answer_is;
@@ -180,18 +158,14 @@ feeds_closed piece count answer text old new takes zero count_is shut =
 
 -- ---- the end
 
-pub finishes : (answer : ℕ) (text : List ℕ) (old new : Stream)
-    → TakesEnd (held_block old) old.reader answer text new.reader → new.held ≡ 0
+pub finishes : (answer : ℕ) (text : List ℕ) (old new : Stream) → TakesEnd (held_block old) old.reader answer text new.reader → new.held ≡ 0
     → FinishesStream old answer text new
 finishes answer text old new ends zero =
     let takes = ends.takes in
     record {
       moves = record {
-        at = λ s h. nothing_held new (with_end s) zero
-            (subst (λ (t : Segment). IsAt new.reader (with_end t)) (sym h.given) (takes.at h.blocks h.at));
-        released = λ s h.
-            ap (λ (t : Segment). reader_text old.reader (with_end t)) h.given
-            ∙ (takes.released h.blocks h.at
+        at = λ s h. nothing_held new (with_end s) zero (subst (λ (t : Segment). IsAt new.reader (with_end t)) (sym h.given) (takes.at h.blocks h.at));
+        released = λ s h. ap (λ (t : Segment). reader_text old.reader (with_end t)) h.given ∙ (takes.released h.blocks h.at
             ∙ ap (λ (o : Outcome). released_of o ++ text) (sym (stream_same old s h)));
         same = takes.same;
         answer_is = takes.answer_is;

@@ -45,10 +45,8 @@ module _ (opening : List ℕ → List ℕ → Option (List ℕ)) (n i : ℕ) (bl
   blocks =
       let positive : 0 < n + tag_length = omega arith in
       let size : length block ≡ 1 * (n + tag_length) + 0 = omega (arith, len) in
-      let count : length block / (n + tag_length) ≡ 1 = ap (λ (k : ℕ). k / (n + tag_length)) size
-      ∙ div-mul-add 1 (n + tag_length) 0 positive in
-      ap (λ (c : ℕ). first_chunks (n + tag_length) c block) count
-      ∙ ap (λ (b : List ℕ). b ∷ []) (take_all (n + tag_length) block (omega (arith, len)))
+      let count : length block / (n + tag_length) ≡ 1 = ap (λ (k : ℕ). k / (n + tag_length)) size ∙ div-mul-add 1 (n + tag_length) 0 positive in
+      ap (λ (c : ℕ). first_chunks (n + tag_length) c block) count ∙ ap (λ (b : List ℕ). b ∷ []) (take_all (n + tag_length) block (omega (arith, len)))
 
   abbrev by_text : Option (List ℕ) → Outcome
   by_text o =
@@ -57,16 +55,13 @@ module _ (opening : List ℕ → List ℕ → Option (List ℕ)) (n i : ℕ) (bl
       (nat_lt ((length texts + 1) * (n + tag_length)) (length block)) (rest_bytes n block) false false
 
   by_front : outcome opening n one ≡ by_text (text_before_last opening i block)
-  by_front =
-      by_blocks opening n one
-      ∙ ap (λ (bs : List (List ℕ)). outcome_of opening n i bs (length block) (rest_bytes n block) false false) blocks
+  by_front = by_blocks opening n one ∙ ap (λ (bs : List (List ℕ)). outcome_of opening n i bs (length block) (rest_bytes n block) false false) blocks
 
   -- it opens as one before the last
   pub opens_before : opening (nonce_bytes i false) block ≡ Some text → i + 1 < chunk_limit
       → outcome opening n one ≡ record { texts = text ∷ []; index = i + 1; status = Open }
   opens_before is lt =
-      by_front
-      ∙ (ap (λ (o : Option (List ℕ)). by_text (unless_greatest i o)) is
+      by_front ∙ (ap (λ (o : Option (List ℕ)). by_text (unless_greatest i o)) is
       ∙ ap (λ (b : Bool). by_text (if b then Some text else None)) (lt-ltb (i + 1) chunk_limit lt))
 
   -- it opens as the last alone
@@ -76,12 +71,9 @@ module _ (opening : List ℕ → List ℕ → Option (List ℕ)) (n i : ℕ) (bl
       let zero : i + 0 ≡ i = omega arith in
       let alone : nat_lt ((0 + 1) * (n + tag_length)) (length block) ≡ false =
       le-ltb ((0 + 1) * (n + tag_length)) (length block) (omega (arith, len)) in
-      let At : ℕ → Bool → Outcome = λ k followed.
-      at_block opening [] k block (followed || false) false (opening (nonce_bytes k false) block) in
-      by_front
-      ∙ (ap (λ (o : Option (List ℕ)). by_text (unless_greatest i o)) closed
-      ∙ (ap (λ (k : ℕ). At k (nat_lt ((0 + 1) * (n + tag_length)) (length block))) zero
-      ∙ (ap (λ (b : Bool). At i b) alone
+      let At : ℕ → Bool → Outcome = λ k followed. at_block opening [] k block (followed || false) false (opening (nonce_bytes k false) block) in
+      by_front ∙ (ap (λ (o : Option (List ℕ)). by_text (unless_greatest i o)) closed
+      ∙ (ap (λ (k : ℕ). At k (nat_lt ((0 + 1) * (n + tag_length)) (length block))) zero ∙ (ap (λ (b : Bool). At i b) alone
       ∙ (ap (λ (o : Option (List ℕ)). at_block opening [] i block false false o) closed
       ∙ ap (λ (o : Option (List ℕ)). after_last opening [] i o false false) is))))
 
@@ -125,23 +117,19 @@ payload_end k text block is =
     let last : List ℕ = seals k (nonce_bytes at true) (last_chunk chunk_length text) in
     let whole : payload (seals k) chunk_length text ≡ before ++ last =
     flat_map-append (λ (p : List ℕ × List ℕ). p.1) (sealed_before_last (seals k) chunk_length text)
-    (pair (seals k) true (at, last_chunk chunk_length text) ∷ [])
-    ∙ ap (λ (x : List ℕ). before ++ x) (append-nil last) in
+    (pair (seals k) true (at, last_chunk chunk_length text) ∷ []) ∙ ap (λ (x : List ℕ). before ++ x) (append-nil last) in
     let size = (payload_is_longer (seals k) (opens k) (box_valid k) chunk_length text).1 in
     is ∙ sym (ap (drop (at * block_length)) whole ∙ drop_at before last (at * block_length) size)
 
 -- ---- an answer
 
 -- a reader that isn't refused answers 0
-pub answers_zero : (n chunk answer : ℕ) (status : Status) → answer ≡ answer_of n
-    → reader_status n chunk ≡ Some status
-    → ((f : StreamFault) → Some status ≡ Some (Failed f) → ⊥)
-    → answer ≡ 0
+pub answers_zero : (n chunk answer : ℕ) (status : Status) → answer ≡ answer_of n → reader_status n chunk ≡ Some status
+    → ((f : StreamFault) → Some status ≡ Some (Failed f) → ⊥) → answer ≡ 0
 answers_zero n chunk answer status is stands unfailed =
     elim (eqb_tells answer 0) [
       | inl zero ↦ zero.1
-      | inr some ↦
-          (let refused = refused_of n chunk (λ zero. some.1 (is ∙ zero)) in
+      | inr some ↦ (let refused = refused_of n chunk (λ zero. some.1 (is ∙ zero)) in
           absurd (unfailed refused.0 (sym stands ∙ refused.1)))
     ]
 
@@ -157,21 +145,17 @@ never_misused n answer is misused_is =
 whole_gives : (r new : Reader) (chunk answer : ℕ) (block opened text : List ℕ) (status : Status) (index : ℕ)
     → IsAt r (fresh chunk) → TakesBlock (after_block block) r answer opened new
     → outcome (opens (key_of r)) chunk_length (record { start = chunk; bytes = block; ended = false; late = false })
-    ≡ record { texts = text ∷ []; index = index; status = status }
-    → ((f : StreamFault) → Some status ≡ Some (Failed f) → ⊥)
+    ≡ record { texts = text ∷ []; index = index; status = status } → ((f : StreamFault) → Some status ≡ Some (Failed f) → ⊥)
     → (answer ≡ 0) × (opened ≡ text)
 whole_gives r new chunk answer block opened text status index at takes is unfailed =
     let given : Segment = record { start = chunk; bytes = block; ended = false; late = false } in
     let after : IsAt new given = takes.at (fresh chunk) at in
     let key : key_of new ≡ key_of r = key_same r new takes.same in
     let stands : reader_status new.state new.fault_chunk ≡ Some status =
-    after.status
-    ∙ (ap (λ (k : List ℕ). Some (outcome (opens k) chunk_length given).status) key
-    ∙ ap (λ (o : Outcome). Some o.status) is) in
+    after.status ∙ (ap (λ (k : List ℕ). Some (outcome (opens k) chunk_length given).status) key ∙ ap (λ (o : Outcome). Some o.status) is) in
     let Texts : Outcome → List ℕ = λ o. flat_map (λ (t : List ℕ). t) o.texts in (
       answers_zero new.state new.fault_chunk answer status takes.answer_is stands unfailed,
-      ap (λ (o : Outcome). Texts o ++ opened) (sym (fresh_outcome (opens (key_of r)) chunk_length chunk))
-          ∙ (sym (takes.released (fresh chunk) at)
+      ap (λ (o : Outcome). Texts o ++ opened) (sym (fresh_outcome (opens (key_of r)) chunk_length chunk)) ∙ (sym (takes.released (fresh chunk) at)
           ∙ (ap Texts is ∙ append-nil text)),
     )
 
@@ -180,8 +164,7 @@ record OpensThere (r new : Reader) (block : List ℕ) (answer : ℕ) (opened : L
   pub whole : length block ≡ block_length → TakesBlock (after_block block) r answer opened new
   pub rest : length block ≢ block_length → TakesEnd block r answer opened new
 
-module _ (k text : List ℕ) (few : chunk_count chunk_length text ≤ chunk_limit)
-    (closed : IsClosed (seals k) (opens k) chunk_length text)
+module _ (k text : List ℕ) (few : chunk_count chunk_length text ≤ chunk_limit) (closed : IsClosed (seals k) (opens k) chunk_length text)
     (r new : Reader) (key : key_of r ≡ k) (chunk answer : ℕ) (block opened : List ℕ) (at : IsAt r (fresh chunk)) where
   abbrev Gives : Type 0
   Gives = (answer ≡ 0) × (opened ≡ chunk_of text chunk)
@@ -198,17 +181,14 @@ module _ (k text : List ℕ) (few : chunk_count chunk_length text ≤ chunk_limi
         full_chunk text chunk lt,
       ) in
       let opened_as : opens (key_of r) (nonce_bytes chunk false) block ≡ Some (chunk_of text chunk) =
-      ap (λ (k : List ℕ). opens k (nonce_bytes chunk false) block) key
-      ∙ (ap (opens k (nonce_bytes chunk false)) is
+      ap (λ (k : List ℕ). opens k (nonce_bytes chunk false) block) key ∙ (ap (opens k (nonce_bytes chunk false)) is
       ∙ valid.opens (nonce_bytes chunk false) (chunk_of text chunk) (nonce_bytes-length chunk false)) in
       whole_gives r new chunk answer block opened (chunk_of text chunk) Open (chunk + 1) at (whole size)
-      (opens_before (opens (key_of r)) chunk_length chunk block (chunk_of text chunk) size opened_as (omega (arith, lt, few)))
-      (λ f e. cc)
+      (opens_before (opens (key_of r)) chunk_length chunk block (chunk_of text chunk) size opened_as (omega (arith, lt, few))) (λ f e. cc)
 
   -- the last block, if it is whole
   gives_full : chunk ≡ last_index chunk_length text → block ≡ seals k (nonce_bytes chunk true) (chunk_of text chunk)
-      → length (chunk_of text chunk) ≡ chunk_length
-      → (length block ≡ block_length → TakesBlock (after_block block) r answer opened new) → Gives
+      → length (chunk_of text chunk) ≡ chunk_length → (length block ≡ block_length → TakesBlock (after_block block) r answer opened new) → Gives
   gives_full last is full whole =
       let valid = box_valid k in
       let part = last_chunk_is text chunk last in
@@ -222,22 +202,17 @@ module _ (k text : List ℕ) (few : chunk_count chunk_length text ≤ chunk_limi
       is ∙ (ap (λ (j : ℕ). seals k (nonce_bytes j true) (chunk_of text chunk)) last
       ∙ ap (seals k (nonce_bytes (last_index chunk_length text) true)) part) in
       let shut : opens (key_of r) (nonce_bytes chunk false) block ≡ None =
-      ap (λ (k : List ℕ). opens k (nonce_bytes chunk false) block) key
-      ∙ (ap (λ (j : ℕ). opens k (nonce_bytes j false) block) last
-      ∙ (ap (opens k (nonce_bytes (last_index chunk_length text) false)) as_written
-      ∙ closed (sym (ap length part) ∙ full))) in
+      ap (λ (k : List ℕ). opens k (nonce_bytes chunk false) block) key ∙ (ap (λ (j : ℕ). opens k (nonce_bytes j false) block) last
+      ∙ (ap (opens k (nonce_bytes (last_index chunk_length text) false)) as_written ∙ closed (sym (ap length part) ∙ full))) in
       let opened_as : opens (key_of r) (nonce_bytes chunk true) block ≡ Some (chunk_of text chunk) =
-      ap (λ (k : List ℕ). opens k (nonce_bytes chunk true) block) key
-      ∙ (ap (opens k (nonce_bytes chunk true)) is
+      ap (λ (k : List ℕ). opens k (nonce_bytes chunk true) block) key ∙ (ap (opens k (nonce_bytes chunk true)) is
       ∙ valid.opens (nonce_bytes chunk true) (chunk_of text chunk) (nonce_bytes-length chunk true)) in
       whole_gives r new chunk answer block opened (chunk_of text chunk) LastSeen chunk at (whole size)
-      (opens_last (opens (key_of r)) chunk_length chunk block (chunk_of text chunk) size shut opened_as)
-      (λ f e. cc)
+      (opens_last (opens (key_of r)) chunk_length chunk block (chunk_of text chunk) size shut opened_as) (λ f e. cc)
 
   -- the last block, if it is shorter
   gives_short : chunk ≡ last_index chunk_length text → block ≡ seals k (nonce_bytes chunk true) (chunk_of text chunk)
-      → length (chunk_of text chunk) < chunk_length
-      → (length block ≢ block_length → TakesEnd block r answer opened new) → Gives
+      → length (chunk_of text chunk) < chunk_length → (length block ≢ block_length → TakesEnd block r answer opened new) → Gives
   gives_short last is short rest =
       let valid = box_valid k in
       let part = last_chunk_is text chunk last in
@@ -255,15 +230,13 @@ module _ (k text : List ℕ) (few : chunk_count chunk_length text ≤ chunk_limi
       is ∙ (ap (λ (j : ℕ). seals k (nonce_bytes j true) (chunk_of text chunk)) last
       ∙ ap (seals k (nonce_bytes (last_index chunk_length text) true)) part) in
       let there : block ≡ drop (chunk * block_length) (payload (seals (key_of r)) chunk_length text) =
-      payload_end k text block as_written
-      ∙ (ap (λ (j : ℕ). drop (j * block_length) (payload (seals k) chunk_length text)) (sym last)
+      payload_end k text block as_written ∙ (ap (λ (j : ℕ). drop (j * block_length) (payload (seals k) chunk_length text)) (sym last)
       ∙ ap (λ (k : List ℕ). drop (chunk * block_length) (payload (seals k) chunk_length text)) (sym key)) in
       let right = calls_are_written r chunk at (omega (arith, last, few)) (call ∷ [])
       (inr (other, ends.takes, λ _ zero. ends.done zero), tt) text few in
       let closed_here : IsClosed (seals (key_of r)) (opens (key_of r)) chunk_length text =
       subst (λ (k : List ℕ). IsClosed (seals k) (opens k) chunk_length text) (sym key) closed in
-      let gives = right.whole closed_here (omega (arith, last))
-      (taken_next call (fresh chunk) other
+      let gives = right.whole closed_here (omega (arith, last)) (taken_next call (fresh chunk) other
       ∙ ap (λ (b : List ℕ). record { start = chunk; bytes = b; ended = true; late = false }) there) in (
         gives.1.0 other,
         sym (append-nil opened) ∙ (gives.0 ∙ (ap (λ (j : ℕ). drop (j * chunk_length) text) last ∙ sym part)),
@@ -279,10 +252,8 @@ module _ (k text : List ℕ) (few : chunk_count chunk_length text ≤ chunk_limi
       → block ≡ seals k (nonce_bytes chunk last) (chunk_of text chunk) =
       λ last e. is ∙ (sealed_is ∙ ap (λ (b : Bool). seals k (nonce_bytes chunk b) (chunk_of text chunk)) e) in
       elim (cases_lt chunk (last_index chunk_length text)) [
-        | inl lt ↦
-            gives_before lt
-            (flagged false (ne_eqb (chunk + 1) (length (chunks chunk_length text)) (λ e. omega (arith, lt, e, count))))
-            it.whole
+        | inl lt ↦ gives_before lt
+            (flagged false (ne_eqb (chunk + 1) (length (chunks chunk_length text)) (λ e. omega (arith, lt, e, count)))) it.whole
         | inr le ↦
             (let last : chunk ≡ last_index chunk_length text = omega (arith, le, below) in
             let as_last = flagged true (eq-eqb (chunk + 1) (length (chunks chunk_length text)) (omega (arith, last, count))) in
@@ -308,15 +279,13 @@ same_through a b c x y = record {
 
 after_opening : (chunk answer : ℕ) (block text : List ℕ) (old new : Reader) → OpensAt chunk block old answer text new → SameFile old new
 after_opening chunk answer block text old new it =
-    same_through old it.begun new it.goes.same
-    (elim (eqb_tells (length block) block_length) [
+    same_through old it.begun new it.goes.same (elim (eqb_tells (length block) block_length) [
       | inl is ↦ (it.whole is.1).same
       | inr is ↦ (it.rest is.1).takes.same
     ])
 
 openings_from : (first r : Reader) (openings : List Opening) → SameFile first r → AreOpenings r openings
-    → (text : List ℕ) → chunk_count chunk_length text ≤ chunk_limit
-    → IsClosed (seals (key_of first)) (opens (key_of first)) chunk_length text
+    → (text : List ℕ) → chunk_count chunk_length text ≤ chunk_limit → IsClosed (seals (key_of first)) (opens (key_of first)) chunk_length text
     → AllByRecursion (IsOpenedRight first text) openings
 openings_from first r [] same are text few closed = tt
 openings_from first r (o ∷ openings) same (inl idle, are) text few closed = (

@@ -20,34 +20,27 @@ use Rattle.age_c.specs.inner.Keys.{key_of_writer as key_of, seals}
 use Rattle.age_c.proofs.WriterLemmas.{idle_or_did, key_same, none_yet, not_end, same_front}
 
 -- more text changes no block that was written
-blocks_front : (w : Writer) (chunks more : List ℕ) → HasSealed w chunks
-    → blocks_of w (chunks ++ more) ≡ blocks_of w chunks
+blocks_front : (w : Writer) (chunks more : List ℕ) → HasSealed w chunks → blocks_of w (chunks ++ more) ≡ blocks_of w chunks
 blocks_front w chunks more h =
     ap (λ (cs : List (List ℕ)). block_bytes (map (pair (seals (key_of w)) false) (enumerate_from 0 cs)))
     (same_front (seals (key_of w)) chunk_length w.chunk chunks h.whole more)
 
 -- the blocks of a stream's text are the blocks of its whole chunks
-blocks_held : (s : WriteStream) (text : List ℕ) → (h : HasTaken s text)
-    → blocks_of s.writer text ≡ blocks_of s.writer h.chunks
-blocks_held s text h =
-    ap (blocks_of s.writer) h.given ∙ blocks_front s.writer h.chunks (held_chunk s) h.sealed
+blocks_held : (s : WriteStream) (text : List ℕ) → (h : HasTaken s text) → blocks_of s.writer text ≡ blocks_of s.writer h.chunks
+blocks_held s text h = ap (blocks_of s.writer) h.given ∙ blocks_front s.writer h.chunks (held_chunk s) h.sealed
 
 keys_by : (was now : Writer) → now ≡ was → SameKeys was now
-keys_by was now is =
-    record { file_key = ap (λ (w : Writer). w.file_key) is; nonce = ap (λ (w : Writer). w.nonce) is }
+keys_by was now is = record { file_key = ap (λ (w : Writer). w.file_key) is; nonce = ap (λ (w : Writer). w.nonce) is }
 
 -- ---- bytes for which the chunk has room
 
-held_more : (piece : List ℕ) (count : ℕ) (old new : WriteStream) → HoldsText piece count old new
-    → (text : List ℕ) → (h : HasTaken old text)
+held_more : (piece : List ℕ) (count : ℕ) (old new : WriteStream) → HoldsText piece count old new → (text : List ℕ) → (h : HasTaken old text)
     → text ++ take count piece ≡ h.chunks ++ held_chunk new
 held_more piece count old new holds text h =
-    ap (λ (t : List ℕ). t ++ take count piece) h.given
-    ∙ (append_assoc h.chunks (held_chunk old) (take count piece)
+    ap (λ (t : List ℕ). t ++ take count piece) h.given ∙ (append_assoc h.chunks (held_chunk old) (take count piece)
     ∙ ap (λ (t : List ℕ). h.chunks ++ t) (sym holds.bytes))
 
-takes_held : (piece : List ℕ) (count : ℕ) (old new : WriteStream) → HoldsText piece count old new
-    → TakesText (take count piece) old [] new
+takes_held : (piece : List ℕ) (count : ℕ) (old new : WriteStream) → HoldsText piece count old new → TakesText (take count piece) old [] new
 takes_held piece count old new holds = record {
   taken = λ text h. record {
     chunks = h.chunks;
@@ -55,16 +48,13 @@ takes_held piece count old new holds = record {
     given = held_more piece count old new holds text h;
     some = λ none. ap (λ (w : Writer). w.chunk) holds.writer ∙ h.some (omega (arith, none, holds.held));
   };
-  blocks = λ text h.
-      ap₂ blocks_of holds.writer (held_more piece count old new holds text h)
-      ∙ (blocks_front old.writer h.chunks (held_chunk new) h.sealed
-      ∙ (sym (blocks_held old text h) ∙ sym (append-nil (blocks_of old.writer text))));
+  blocks = λ text h. ap₂ blocks_of holds.writer (held_more piece count old new holds text h)
+      ∙ (blocks_front old.writer h.chunks (held_chunk new) h.sealed ∙ (sym (blocks_held old text h) ∙ sym (append-nil (blocks_of old.writer text))));
   same = keys_by old.writer new.writer holds.writer;
 }
 
 pub feeds_held : (piece : List ℕ) (count : ℕ) (old new : WriteStream) → HoldsText piece count old new
-    → old.held ≤ chunk_length → (0 < length piece → old.held < chunk_length)
-    → FeedsText piece count old [] new
+    → old.held ≤ chunk_length → (0 < length piece → old.held < chunk_length) → FeedsText piece count old [] new
 feeds_held piece count old new holds short room = record {
   takes = takes_held piece count old new holds;
   most = omega (arith, holds.count_is);
@@ -74,15 +64,13 @@ feeds_held piece count old new holds short room = record {
 
 -- ---- a byte after a full chunk
 
-module _ (piece bytes : List ℕ) (count : ℕ) (old between new : WriteStream)
-    (full : old.held ≡ chunk_length) (size : length old.chunk ≡ chunk_length)
+module _ (piece bytes : List ℕ) (count : ℕ) (old between new : WriteStream) (full : old.held ≡ chunk_length) (size : length old.chunk ≡ chunk_length)
     (seals_it : SealsChunk old.chunk old.writer bytes between.writer) (empty : between.held ≡ 0)
     (holds : HoldsText piece count between new) (more : 0 < length piece) where
   -- what was held is now sealed
   all_sealed : (text : List ℕ) → (h : HasTaken old text) → text ≡ h.chunks ++ old.chunk
   all_sealed text h =
-      h.given ∙ ap (λ (t : List ℕ). h.chunks ++ t)
-      (ap (λ (n : ℕ). take n old.chunk) full ∙ take_all chunk_length old.chunk (omega (arith, size)))
+      h.given ∙ ap (λ (t : List ℕ). h.chunks ++ t) (ap (λ (n : ℕ). take n old.chunk) full ∙ take_all chunk_length old.chunk (omega (arith, size)))
 
   sealed_text : (text : List ℕ) → HasTaken old text → HasSealed new.writer text
   sealed_text text h =
@@ -90,16 +78,12 @@ module _ (piece bytes : List ℕ) (count : ℕ) (old between new : WriteStream)
       (subst (HasSealed between.writer) (sym (all_sealed text h)) (seals_it.sealed h.chunks h.sealed))
 
   held_is : held_chunk new ≡ take count piece
-  held_is = holds.bytes
-      ∙ ap (λ (n : ℕ). take n between.chunk ++ take count piece) empty
+  held_is = holds.bytes ∙ ap (λ (n : ℕ). take n between.chunk ++ take count piece) empty
 
-  blocks_are : (text : List ℕ) → HasTaken old text
-      → blocks_of new.writer (text ++ take count piece) ≡ blocks_of old.writer text ++ bytes
+  blocks_are : (text : List ℕ) → HasTaken old text → blocks_of new.writer (text ++ take count piece) ≡ blocks_of old.writer text ++ bytes
   blocks_are text h =
-      blocks_front new.writer text (take count piece) (sealed_text text h)
-      ∙ (ap₂ blocks_of holds.writer (all_sealed text h)
-      ∙ (seals_it.blocks h.chunks h.sealed
-      ∙ ap (λ (b : List ℕ). b ++ bytes) (sym (blocks_held old text h))))
+      blocks_front new.writer text (take count piece) (sealed_text text h) ∙ (ap₂ blocks_of holds.writer (all_sealed text h)
+      ∙ (seals_it.blocks h.chunks h.sealed ∙ ap (λ (b : List ℕ). b ++ bytes) (sym (blocks_held old text h))))
 
   pub feeds_full : FeedsText piece count old bytes new
   feeds_full = record {
@@ -123,15 +107,11 @@ module _ (piece bytes : List ℕ) (count : ℕ) (old between new : WriteStream)
 
 -- ---- the end
 
-pub finishes_text : (bytes : List ℕ) (old new : WriteStream)
-    → SealsLast (held_chunk old) old.writer bytes new.writer → FinishesText old bytes new
+pub finishes_text : (bytes : List ℕ) (old new : WriteStream) → SealsLast (held_chunk old) old.writer bytes new.writer → FinishesText old bytes new
 finishes_text bytes old new seals_it = record {
-  payload_is = λ text h.
-      ap (payload (seals (key_of old.writer)) chunk_length) h.given
-      ∙ (seals_it.payload_is h.chunks h.sealed
+  payload_is = λ text h. ap (payload (seals (key_of old.writer)) chunk_length) h.given ∙ (seals_it.payload_is h.chunks h.sealed
       ∙ ap (λ (b : List ℕ). b ++ bytes) (sym (blocks_held old text h)));
-  few = λ text h. subst (λ (t : List ℕ). chunk_count chunk_length t ≤ chunk_limit) (sym h.given)
-      (seals_it.few h.chunks h.sealed);
+  few = λ text h. subst (λ (t : List ℕ). chunk_count chunk_length t ≤ chunk_limit) (sym h.given) (seals_it.few h.chunks h.sealed);
   finished = seals_it.finished;
   same = seals_it.same;
 }
@@ -150,16 +130,13 @@ idle_after s text more bytes last h is none nothing =
     let all : text ++ more ≡ text = ap (λ (m : List ℕ). text ++ m) none ∙ append-nil text in
     record {
       taken = subst (HasTaken last) (sym all) (subst (λ (s : WriteStream). HasTaken s text) (sym is) h);
-      blocks = ap₂ (λ (s : WriteStream) (t : List ℕ). blocks_of s.writer t) is all
-          ∙ (sym (append-nil (blocks_of s.writer text))
+      blocks = ap₂ (λ (s : WriteStream) (t : List ℕ). blocks_of s.writer t) is all ∙ (sym (append-nil (blocks_of s.writer text))
           ∙ ap (λ (b : List ℕ). blocks_of s.writer text ++ b) (sym nothing));
       key = ap (λ (s : WriteStream). key_of s.writer) is;
     }
 
-one_by : (s : WriteStream) (c : TextCall) (text : List ℕ) → HasTaken s text → IsTextCallOn s c
-    → (c.is_end ≡ true → c.answer ≢ 0)
-    → ((c.answer == 0) ≡ true) × (c.answer ≡ 0) ⊎ ((c.answer == 0) ≡ false) × (c.answer ≢ 0)
-    → After s text c.text c.bytes c.after
+one_by : (s : WriteStream) (c : TextCall) (text : List ℕ) → HasTaken s text → IsTextCallOn s c → (c.is_end ≡ true → c.answer ≢ 0)
+    → ((c.answer == 0) ≡ true) × (c.answer ≡ 0) ⊎ ((c.answer == 0) ≡ false) × (c.answer ≢ 0) → After s text c.text c.bytes c.after
 one_by s c text h is middle (inl zero) =
     let takes = is.1 zero.1 (not_end c.is_end c.answer middle zero.1) in
     record {
@@ -167,11 +144,9 @@ one_by s c text h is middle (inl zero) =
       blocks = takes.blocks text h;
       key = key_same s.writer c.after.writer takes.same;
     }
-one_by s c text h is middle (inr other) =
-    let idle = is.0 other.1 in idle_after s text c.text c.bytes c.after h idle.0 idle.1 idle.2
+one_by s c text h is middle (inr other) = let idle = is.0 other.1 in idle_after s text c.text c.bytes c.after h idle.0 idle.1 idle.2
 
-all_calls : (calls : List TextCall) (s : WriteStream) (text : List ℕ) → HasTaken s text
-    → AreTextCalls s calls
+all_calls : (calls : List TextCall) (s : WriteStream) (text : List ℕ) → HasTaken s text → AreTextCalls s calls
     → After s text (text_taken calls) (bytes_written calls) (stream_after s calls)
 all_calls [] s text h are = idle_after s text [] [] s h refl refl refl
 all_calls (c ∷ calls) s text h are =
@@ -205,13 +180,10 @@ module _ (header : Header) (key nonce front : List ℕ) (s : WriteStream) (calls
   ends = (it.is_call.2 it.zero it.is_end).1
 
   -- what was written after the front is the payload
-  pub payload_written : payload (box s.writer.file_key s.writer.nonce) chunk_length (text_taken calls)
-      ≡ bytes_written calls ++ last.bytes
+  pub payload_written : payload (box s.writer.file_key s.writer.nonce) chunk_length (text_taken calls) ≡ bytes_written calls ++ last.bytes
   payload_written =
-      ap (λ (k : List ℕ). payload (seals k) chunk_length (text_taken calls)) (sym after.key)
-      ∙ (ends.payload_is (text_taken calls) after.taken
-      ∙ ap (λ (b : List ℕ). b ++ last.bytes)
-      (after.blocks ∙ ap (λ (b : List ℕ). b ++ bytes_written calls) (none_yet s.writer it.begins.start)))
+      ap (λ (k : List ℕ). payload (seals k) chunk_length (text_taken calls)) (sym after.key) ∙ (ends.payload_is (text_taken calls) after.taken
+      ∙ ap (λ (b : List ℕ). b ++ last.bytes) (after.blocks ∙ ap (λ (b : List ℕ). b ++ bytes_written calls) (none_yet s.writer it.begins.start)))
 
   pub few_chunks : chunk_count chunk_length (text_taken calls) ≤ chunk_limit
   few_chunks = ends.few (text_taken calls) after.taken
@@ -225,8 +197,7 @@ texts_are_files header key nonce front s calls last it =
         head = begins.front.head;
         mac = begins.mac;
         size = begins.front.size;
-        parts = ap₂ (λ (a b : List ℕ). a ++ b) begins.front.parts
-            (sym (payload_written header key nonce front s calls last it)
+        parts = ap₂ (λ (a b : List ℕ). a ++ b) begins.front.parts (sym (payload_written header key nonce front s calls last it)
             ∙ ap₂ (λ (k n : List ℕ). payload (box k n) chunk_length text) begins.has_key begins.has_nonce);
       },
       few_chunks header key nonce front s calls last it,
@@ -236,15 +207,13 @@ texts_are_files header key nonce front s calls last it =
 
 pub answers_are_text_calls : AnswersAreTextCalls
 answers_are_text_calls old new piece before after answer taken written = (
-  λ it none.
-      let both = idle_or_did old new before after answer written _ _ _ it
+  λ it none. let both = idle_or_did old new before after answer written _ _ _ it
       (eqb_tells answer misused) in (
         λ some. ((both.0 some).0, ap (λ (n : ℕ). take n piece) (none some), (both.0 some).1),
         λ zero middle. (both.1 zero).takes,
         λ zero is. absurd (false≢true is),
       ),
-  λ it.
-      let both = idle_or_did old new before after answer written _ _ _ it
+  λ it. let both = idle_or_did old new before after answer written _ _ _ it
       (eqb_tells answer misused) in (
         λ some. ((both.0 some).0, refl, (both.0 some).1),
         λ zero middle. absurd (false≢true (sym middle)),

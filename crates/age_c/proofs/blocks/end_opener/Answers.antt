@@ -12,8 +12,7 @@ returns-in-Ok-clause-passes c =
     record {
       key = after.key;
       stands = after.stands;
-      text_is = λ s h. c.in-Ok.ensures.ends.text s h
-          ∙ ap (λ (t : List ℕ). released op chunk_length s ++ t) (sym c.put.ensures.bytes);
+      text_is = λ s h. c.in-Ok.ensures.ends.text s h ∙ ap (λ (t : List ℕ). released op chunk_length s ++ t) (sym c.put.ensures.bytes);
       nothing = λ failed. cc (ap has_failed after.done, failed);
       was_open = λ is_open. cc (after.done, is_open);
     }

@@ -16,16 +16,12 @@ returns-in-Ok-clause-passes c =
     let block = c.args.block.now in
     let op = opens c.args.opener.now.key in
     let all : take step.taken block ≡ block =
-    take_all step.taken block (omega
-    (arith, ok.taken, c.requires.block, ap length c.requires.held)) in
+    take_all step.taken block (omega (arith, ok.taken, c.requires.block, ap length c.requires.held)) in
     record {
       key = after.key;
-      stands = λ s h. subst (λ (t : List ℕ). Stands opens chunk_length new (with_piece s t)) all
-          (after.stands s h);
-      text_is = λ s h. block_text op s (with_piece s block) step.chunk
-          (take c.put_chunk.result c.put_chunk.new.out)
-          (ap (λ t. (outcome op chunk_length (with_piece s t)).texts) (sym all) ∙ ok.texts s h)
-          c.put_chunk.ensures.text;
+      stands = λ s h. subst (λ (t : List ℕ). Stands opens chunk_length new (with_piece s t)) all (after.stands s h);
+      text_is = λ s h. block_text op s (with_piece s block) step.chunk (take c.put_chunk.result c.put_chunk.new.out)
+          (ap (λ t. (outcome op chunk_length (with_piece s t)).texts) (sym all) ∙ ok.texts s h) c.put_chunk.ensures.text;
       nothing = λ failed. cc (after.unfailed, failed);
       was_open = λ _. ok.was_open (omega (arith, c.requires.block));
     }
@@ -38,8 +34,7 @@ returns-in-Err-clause-passes c =
     record {
       key = after.key;
       stands = after.stands;
-      text_is = λ s h. block_text op s (with_piece s block) None (take 0 c.args.out.now)
-          (c.in-Err.ensures.feeds.texts s h) refl;
+      text_is = λ s h. block_text op s (with_piece s block) None (take 0 c.args.out.now) (c.in-Err.ensures.feeds.texts s h) refl;
       nothing = λ _. refl;
       was_open = λ is_open. cc (after.fault, is_open);
     }

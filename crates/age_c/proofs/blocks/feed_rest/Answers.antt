@@ -17,19 +17,15 @@ returns-in-Ok-clause-passes c =
     let rest = c.args.rest.now in
     let op = opens old.key in
     let all : take step.taken rest ≡ rest =
-    take_all step.taken rest (omega
-    (arith, ok.taken, c.requires.rest, ap length c.requires.held)) in
+    take_all step.taken rest (omega (arith, ok.taken, c.requires.rest, ap length c.requires.held)) in
     record {
       key = after.key;
-      stands = λ s h. subst (λ (t : List ℕ). Stands opens chunk_length new (with_piece s t)) all
-          (after.stands s h);
+      stands = λ s h. subst (λ (t : List ℕ). Stands opens chunk_length new (with_piece s t)) all (after.stands s h);
       text_is = λ s h. rest_text op s (with_piece s rest) step.chunk old.held new.held step.taken
           (ap (λ t. (outcome op chunk_length (with_piece s t)).texts) (sym all) ∙ ok.texts s h)
-          after.lent c.requires.held (omega (arith, ok.taken, c.requires.rest))
-          ∙ sym (append-nil (released op chunk_length s));
+          after.lent c.requires.held (omega (arith, ok.taken, c.requires.rest)) ∙ sym (append-nil (released op chunk_length s));
       nothing = λ _. refl;
-      was_open = rest_open rest old.status new.status ok.was_open
-          (λ none. ap (λ o. o.status) (after.unchanged none));
+      was_open = rest_open rest old.status new.status ok.was_open (λ none. ap (λ o. o.status) (after.unchanged none));
     }
 
 pub returns-in-Err-clause-passes : goal.returns-in-Err-clause-passes
@@ -40,9 +36,7 @@ returns-in-Err-clause-passes c =
     record {
       key = after.key;
       stands = after.stands;
-      text_is = λ s h. block_text op s (with_piece s rest) None []
-          (c.in-Err.ensures.feeds.texts s h)
-          refl;
+      text_is = λ s h. block_text op s (with_piece s rest) None [] (c.in-Err.ensures.feeds.texts s h) refl;
       nothing = λ _. refl;
       was_open = λ is_open. cc (after.fault, is_open);
     }

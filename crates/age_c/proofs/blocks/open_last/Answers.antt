@@ -20,26 +20,18 @@ returns-clause-takes c =
     let answer = answer_of c.keep.new.reader.state in
     record {
       takes = record {
-        at = λ s h. end_at reader c.keep.new.reader c.args.status opener fed.new.opener
-            ended.new.opener s rest view c.keep.ensures.same
-            fed.ensures.passes.key ended.ensures.passes.key
-            (cc (c.keep.ensures.index, c.index.ensures.index))
-            (cc (c.keep.ensures.status, c.status.ensures)) ended.ensures.closed c.requires.status
-            (fed.ensures.passes.stands s)
+        at = λ s h. end_at reader c.keep.new.reader c.args.status opener fed.new.opener ended.new.opener s rest view c.keep.ensures.same
+            fed.ensures.passes.key ended.ensures.passes.key (cc (c.keep.ensures.index, c.index.ensures.index))
+            (cc (c.keep.ensures.status, c.status.ensures)) ended.ensures.closed c.requires.status (fed.ensures.passes.stands s)
             (ended.ensures.passes.stands _) h;
-        released = λ s h. end_text reader c.args.status opener fed.new.opener s rest
-            (take ended.result ended.new.out) view c.requires.status
-            fed.ensures.passes.key (fed.ensures.passes.stands s)
-            (λ stood. fed.ensures.passes.text_is s stood
-            ∙ append-nil (released (opens opener.key) chunk_length s))
-            (ended.ensures.passes.text_is _) h;
+        released = λ s h. end_text reader c.args.status opener fed.new.opener s rest (take ended.result ended.new.out) view c.requires.status
+            fed.ensures.passes.key (fed.ensures.passes.stands s) (λ stood. fed.ensures.passes.text_is s stood
+            ∙ append-nil (released (opens opener.key) chunk_length s)) (ended.ensures.passes.text_is _) h;
         same = c.keep.ensures.same;
         answer_is = refl;
-        nothing = nothing_of failed answer (take ended.result ended.new.out)
-            (λ e. c.keep.ensures.unfailed (ap has_failed c.status.ensures ∙ e))
+        nothing = nothing_of failed answer (take ended.result ended.new.out) (λ e. c.keep.ensures.unfailed (ap has_failed c.status.ensures ∙ e))
             ended.ensures.passes.nothing;
       };
-      done = done_of failed answer c.keep.new.reader.state
-          (λ e. c.keep.ensures.failed (ap has_failed c.status.ensures ∙ e))
+      done = done_of failed answer c.keep.new.reader.state (λ e. c.keep.ensures.failed (ap has_failed c.status.ensures ∙ e))
           (λ e. c.keep.ensures.done (c.status.ensures ∙ ended.ensures.done e));
     }

@@ -5,8 +5,7 @@ use Rattle.age_c.proofs.feed.feed.Goals as goal
 
 pub returns-in_default : goal.returns-in_default
 returns-in_default c = record {
-  feeds = feeds_closed c.args.piece.now c.refuse_more.result _ _ c.args.stream.now _
-      c.refuse_more.ensures.takes refl c.refuse_more.ensures.count
+  feeds = feeds_closed c.args.piece.now c.refuse_more.result _ _ c.args.stream.now _ c.refuse_more.ensures.takes refl c.refuse_more.ensures.count
       (λ is. c.in_default.not-Open (some_is (sym c.requires.status ∙ is)));
   put = record { most = omega arith; rest = refl };
 }

@@ -17,5 +17,4 @@ returns-clause-feeds c =
     c.requires.empty is count c.requires.call.short
 
 pub open_block-written-requires-clause-call : goal.open_block-written-requires-clause-call
-open_block-written-requires-clause-call c =
-    block_call c.args.stream.now c.args.piece.now c.args.out.now c.requires.call c.requires.whole
+open_block-written-requires-clause-call c = block_call c.args.stream.now c.args.piece.now c.args.out.now c.requires.call c.requires.whole

@@ -8,7 +8,6 @@ use Rattle.age_c.proofs.seal_key.zero_text.Goals as goal
 pub returns : goal.returns
 returns c =
     let lines : List ℕ = c.args.lines.now in
-    c.in_ok-extend_from_slice-2.ensures.items
-    ∙ ap₂ (λ (a b : List ℕ). a ++ b)
+    c.in_ok-extend_from_slice-2.ensures.items ∙ ap₂ (λ (a b : List ℕ). a ++ b)
     (c.in_ok-extend_from_slice.ensures.items ∙ ap (λ (a : List ℕ). a ++ lines) c.in_ok-text.ensures.items) zero_line
     ∙ append_assoc (line version) lines (line (end_line (replicate 32 0)))

@@ -11,8 +11,7 @@ pub returns : goal.returns
 returns c0 =
     let c = c0.before.before.before in
     let reader = c.args.reader.now in
-    let o = fresh_outcome (opens (payload_key reader.file_key reader.nonce)) chunk_length
-    c.args.chunk in
+    let o = fresh_outcome (opens (payload_key reader.file_key reader.nonce)) chunk_length c.args.chunk in
     record {
       at = record {
         status = ap (λ (o : Outcome). Some o.status) (sym o);

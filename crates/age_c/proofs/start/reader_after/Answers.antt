@@ -9,8 +9,7 @@ use Rattle.age_chunk.specs.Payload.{chunk_length}
 
 pub returns-clause-start : goal.returns-clause-start
 returns-clause-start c =
-    let o = fresh_outcome (opens (payload_key c.bytes.result.now c.copy_from_slice.new.self))
-    chunk_length 0 in
+    let o = fresh_outcome (opens (payload_key c.bytes.result.now c.copy_from_slice.new.self)) chunk_length 0 in
     record {
       status = ap (λ (o : Outcome). Some o.status) (sym o);
       index = ap (λ (o : Outcome). o.index) (sym o);
