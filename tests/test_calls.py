@@ -3,6 +3,7 @@ if a call fails (tools/shim.c), and computes what that leaves by `age_machine/sp
 
 - the disk that the definitions give is the real one, so they say rightly what calls do;
 - after status 0 a power cut leaves OUT as it is, and so a position, once it was said to be saved;
+- OUT is locked before it is changed;
 - at each moment it leaves a position as it was, or the new one, whole;
 - a run that stops before there is a byte to write leaves OUT as it was, or empty, if it wasn't there.
 
@@ -25,6 +26,9 @@ NOTHING = ("None",)
 OTHERS = {"file": NOTHING, "before": (), "bytes": b"", "is_kept": True, "is_lost": False}
 # The calls that change what a file holds, or wait for it, may fail from one of their first turns on.
 TURNS = range(1, 6)
+# Of the calls that are recorded: those that take a file for a run alone, and those that may change what a file holds.
+LOCKS = {"lock": "Locked", "unlockable": "Unlockable"}
+CHANGES = ("Wrote", "Cut", "Broke")
 ERRORS = (errno.EIO, errno.ENOSPC, errno.EROFS)
 
 
@@ -62,7 +66,10 @@ class Disk:
         return {path: self.held(it[1]) for path, it in found.items() if it != NOTHING}
 
     def path_of(self, file):
-        return next(path for path in self.paths if self.disk["file"](path) == ("Some", file))
+        return next(path for path in self.paths if self.leads(path, file))
+
+    def leads(self, path, file):
+        return self.disk["file"](path) == ("Some", file)
 
     def may_lead(self, path):
         """The files to which a power cut may let a path lead (`MayLead`)."""
@@ -97,6 +104,8 @@ def calls_of(record, disk):
             yield "Cut", int(words[0]), int(words[1])
         elif name == "sync":
             yield "Synced", int(words[0])
+        elif name in LOCKS:
+            yield LOCKS[name], int(words[0])
         elif name == "broke":
             yield "Broke", int(words[0])
         elif name == "rename":
@@ -143,9 +152,14 @@ class Run:
 
     def faults(self):
         yield from self.faults_now()
+        locked = set()
         for call in calls_of(self.record, self.disk):
             if not self.disk.is_answer(call):
                 yield "a call that the definitions don't expect"
+            if call[0] in LOCKS.values():
+                locked.add(call[1])
+            if call[0] in CHANGES and self.disk.leads(self.out, call[1]) and call[1] not in locked:
+                yield "OUT may have changed before it was locked"
             self.disk.do(call)
             yield from self.faults_now()
         yield from self.faults_at_end()

@@ -207,6 +207,11 @@ class Disk:
     def sync(self, inode):
         self.files[inode].sync()
 
+    def lock(self, inode):
+        """A power cut leaves what it would without it."""
+
+    unlockable = lock
+
     def sync_names(self, path):
         self.folders[pathlib.Path(path).resolve()].sync()
 

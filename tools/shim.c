@@ -11,7 +11,7 @@
  * its place. GONE: `out` is removed before it is opened to be written. TRIGGER names a file that gets a 1 before the first sync. SYNCED names one that gets a line for each file that is synced.
  *
  * RECORD names a file that gets each call that succeeded and changes what a regular file holds or which names a folder has, or waits
- * for the disk. A line has the name of the call and its arguments, with tabs between them: an inode where a file is meant, and a path
+ * for the disk, and locks. A line has the name of the call and its arguments, with tabs between them: an inode where a file is meant, and a path
  * from the root where a name is. What was written follows its line. A write, a cut or a wait that was made to fail is `broke`. */
 #define _GNU_SOURCE
 #include <dlfcn.h>
@@ -229,7 +229,13 @@ int ftruncate(int fd, off_t length) {
     return ended;
 }
 int ftruncate64(int fd, off_t length) { return ftruncate(fd, length); }
-int flock(int fd, int how) { return fails("FLOCK") ? -1 : ((int (*)(int, int))dlsym(RTLD_NEXT, "flock"))(fd, how); }
+int flock(int fd, int how) {
+    int ended = fails("FLOCK") ? -1 : ((int (*)(int, int))dlsym(RTLD_NEXT, "flock"))(fd, how), why = errno;
+    ino_t file = regular(fd);
+    if (file && (ended == 0 || why != EWOULDBLOCK)) note(ended == 0 ? "lock\t%lu\n" : "unlockable\t%lu\n", file);
+    errno = why;
+    return ended;
+}
 
 static int synced(int fd, int ended) {
     struct stat it;
