@@ -1,3 +1,4 @@
+pub mod Inputs
 pub mod Outputs
 pub mod Targets
 pub mod inner

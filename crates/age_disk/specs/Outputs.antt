@@ -19,6 +19,10 @@ pub record OutputView : Type 0 where
 abbrev pub IsNoneOf : List FileId → Option FileId → Type 0
 IsNoneOf opened id = (one : FileId) → Contains opened one → id ≢ Some one
 
+-- the others have all of these
+abbrev pub HasAll : List FileId → List FileId → Type 0
+HasAll opened later = (one : FileId) → Contains opened one → Contains later one
+
 -- a sink that took these bytes; it doesn't show what it holds
 abbrev pub sink_of : (failed : ℕ) (failing : Bool) (took : List ℕ) → SinkView
 sink_of failed failing took = record {

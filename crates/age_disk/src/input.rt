@@ -1,7 +1,8 @@
 //! A file of the machine that is read.
 
-ghost use Rattle.std.specs.Prelude.{◌≡◌, [], None, false, IfOk};
+ghost use Rattle.std.specs.Prelude.{◌≡◌, None, IfOk};
 ghost use Rattle.std.specs.Io.{ReadsAtMost};
+ghost use Rattle.age_disk.specs.Inputs.{IsUnread};
 
 use crate::names::{FileId, Resolved, Stream, is_on_disk, is_random, resolve};
 use age_io::{Failed, Failures, Source, Tape};
@@ -71,7 +72,7 @@ fn length_of(metadata: &Metadata) -> Option<u64> {
 
 /// A file of the machine that is read, or standard input. A contract sees the bytes that it gave,
 /// and whether a pull found the end; none that are to come; how many pulls have failed, and whether
-/// the last one did.
+/// the last one did; and which file it is.
 #[derive(Drop)]
 pub struct HostIn {
     rt: HostRuntime,
@@ -85,21 +86,28 @@ pub struct HostIn {
     error: io::Error,
     given: Tape,
     is_at_end: bool,
+    // Which file it is, if that is known.
+    id: Option<FileId>,
 }
 
 impl Model for HostIn {
-    ghost use Rattle.std.specs.Prelude.{ℕ, Bool, List};
+    ghost use Rattle.age_disk.specs.Inputs.{InputView};
 
-    ghost Value = { (ℕ × Bool) × (List ℕ × Bool) };
+    ghost Value = { InputView };
 
-    ghost view = { λ s. ((s.failures.count, s.failures.last), (s.given, s.is_at_end)) };
+    ghost view = { λ s. record {
+      failed = s.failures.count;
+      failing = s.failures.last;
+      given = s.given;
+      is_at_end = s.is_at_end;
+      id = s.id;
+    } };
 }
 
 impl HostIn {
-    /// Opens what a name stands for, and says which regular file it is. Standard output, standard
-    /// error and folders can't be read.
-    pub fn open(alloc: Global, rt: &HostRuntime, name: &str) -> io::Result<(HostIn, Option<FileId>)>
-        ensures { IfOk result (λ opened. opened.0 ≡ ((0, false), ([], false))) }
+    /// Opens what a name stands for. Standard output, standard error and folders can't be read.
+    pub fn open(alloc: Global, rt: &HostRuntime, name: &str) -> io::Result<HostIn>
+        ensures { IfOk result IsUnread }
     {
         match resolve(alloc, rt, name)? {
             Resolved::Stream(stream) => HostIn::open_stream(rt, stream),
@@ -108,23 +116,20 @@ impl HostIn {
     }
 
     /// Like `open`, but a missing file counts as empty.
-    pub fn open_or_empty(
-        alloc: Global,
-        rt: &HostRuntime,
-        name: &str,
-    ) -> io::Result<(HostIn, Option<FileId>)>
-        ensures { IfOk result (λ opened. opened.0 ≡ ((0, false), ([], false))) }
+    pub fn open_or_empty(alloc: Global, rt: &HostRuntime, name: &str) -> io::Result<HostIn>
+        ensures { IfOk result IsUnread }
     {
         match HostIn::open(alloc, rt, name) {
             Err(error) if error.kind() == io::ErrorKind::NotFound => {
-                Ok((HostIn::new(rt, Origin::Nothing, Some(0)), None))
+                Ok(HostIn::new(rt, Origin::Nothing, Some(0), None))
             }
             opened => opened,
         }
     }
 
-    fn new(rt: &HostRuntime, origin: Origin, left: Option<u64>) -> HostIn
-        ensures { result ≡ ((0, false), ([], false)) }
+    fn new(rt: &HostRuntime, origin: Origin, left: Option<u64>, id: Option<FileId>) -> HostIn
+        ensures unread { IsUnread result }
+        ensures same { result.id ≡ id }
     {
         HostIn {
             rt: *rt,
@@ -135,7 +140,15 @@ impl HostIn {
             error: io::Error::from(io::ErrorKind::Other),
             given: Tape::new(),
             is_at_end: false,
+            id,
         }
+    }
+
+    /// Which file it is, if that is known.
+    pub fn id(&self) -> Option<FileId>
+        ensures { result ≡ self.now.id }
+    {
+        self.id
     }
 
     /// What the machine answered to the last pull that failed.
@@ -185,19 +198,19 @@ impl HostIn {
         Ok(())
     }
 
-    fn open_stream(rt: &HostRuntime, stream: Stream) -> io::Result<(HostIn, Option<FileId>)>
-        ensures { IfOk result (λ opened. opened.0 ≡ ((0, false), ([], false))) }
+    fn open_stream(rt: &HostRuntime, stream: Stream) -> io::Result<HostIn>
+        ensures { IfOk result IsUnread }
     {
         let Stream::Input = stream else {
             return Err(io::Error::from(io::ErrorKind::Unsupported));
         };
         stream.check(rt)?;
         let id = FileId::of_open_stream(rt, stream)?;
-        Ok((HostIn::new(rt, Origin::Input(rt.stdin()), None), id))
+        Ok(HostIn::new(rt, Origin::Input(rt.stdin()), None, id))
     }
 
-    fn open_path(rt: &HostRuntime, name: &str) -> io::Result<(HostIn, Option<FileId>)>
-        ensures { IfOk result (λ opened. opened.0 ≡ ((0, false), ([], false))) }
+    fn open_path(rt: &HostRuntime, name: &str) -> io::Result<HostIn>
+        ensures { IfOk result IsUnread }
     {
         let file = above_streams(File::open(rt, name)?)?;
         let metadata = file.metadata()?;
@@ -210,11 +223,13 @@ impl HostIn {
         Ok(HostIn::of_file(rt, file, &metadata))
     }
 
-    fn of_file(rt: &HostRuntime, file: File, metadata: &Metadata) -> (HostIn, Option<FileId>)
-        ensures { result.0 ≡ ((0, false), ([], false)) }
+    fn of_file(rt: &HostRuntime, file: File, metadata: &Metadata) -> HostIn
+        ensures { IsUnread result }
     {
-        (
-            HostIn::new(rt, Origin::File(file), length_of(metadata)),
+        HostIn::new(
+            rt,
+            Origin::File(file),
+            length_of(metadata),
             FileId::of(metadata),
         )
     }
@@ -230,12 +245,12 @@ impl HostIn {
 impl Source for HostIn {
     ghost view = { λ s. record {
       supply = record {
-        given = s.1.0;
+        given = s.given;
         left = None;
-        is_at_end = s.1.1;
+        is_at_end = s.is_at_end;
       };
-      failed = s.0.0;
-      failing = s.0.1;
+      failed = s.failed;
+      failing = s.failing;
     } };
 
     fn pull(&mut self, into: &mut [u8]) -> Result<usize, Failed> {

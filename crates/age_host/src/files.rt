@@ -1,12 +1,13 @@
 //! The machine's files.
 
 ghost use Rattle.std.specs.Prelude.{◌≡◌, ◌∷◌, ◌++◌, [], true, false, None, Some, Err, IfOk, IfErr, IsErr};
-ghost use Rattle.std.specs.Prelude.{Contains, OnOk, Option, List, ℕ};
+ghost use Rattle.std.specs.Prelude.{Contains, OnOk, IfSome, Option, List, ℕ};
 ghost use Rattle.age_fault.specs.declared.fault.FileFault.TheVariants.{Read, Write, Memory};
-ghost use Rattle.age_fileset.specs.FileSet.{IsMemoryOr, OpenFails, Created};
-ghost use Rattle.age_fileset.specs.declared.files.OpenFault.TheVariants.{SameFile};
+ghost use Rattle.age_fileset.specs.FileSet.{IsMemoryOr, OpenFails, Opened, Created};
+ghost use Rattle.age_fileset.specs.declared.files.OpenFault.TheVariants.{SameFile, Fault};
 ghost use Rattle.age_disk.specs.declared.names.FileId.{FileId};
-ghost use Rattle.age_disk.specs.Outputs.{IsNoneOf, IsMadeAt, as_sink};
+ghost use Rattle.age_disk.specs.Inputs.{IsUnread};
+ghost use Rattle.age_disk.specs.Outputs.{IsNoneOf, IsMadeAt, HasAll, as_sink};
 ghost use Rattle.age_machine.specs.Saved.{Saves};
 
 use crate::watched::{WatchedIn, WatchedOut};
@@ -62,7 +63,8 @@ impl<'r, 'w> HostFiles<'r, 'w> {
 
     /// Keeps a stream that is to be opened, before that is tried: it may wait forever.
     fn admit_stream(&mut self, alloc: Global, name: &str) -> Result<(), OpenFault>
-        ensures kept { (self.new.log ≡ self.old.log) × (self.new.ended ≡ self.old.ended) }
+        ensures kept { (self.new.log ≡ self.old.log) × (self.new.ended ≡ self.old.ended)
+            × (self.new.open ≡ self.old.open) }
         ensures faults { IfErr result (OpenFails false Read) }
     {
         match StreamId::at(alloc, self.rt, name) {
@@ -79,15 +81,17 @@ impl<'r, 'w> HostFiles<'r, 'w> {
     fn admit_in(
         &mut self,
         name: &str,
-        opened: io::Result<(HostIn, Option<FileId>)>,
+        opened: io::Result<HostIn>,
     ) -> Result<WatchedIn<'r, 'w>, OpenFault>
-        requires { IfOk opened (λ o. o.0.1.0 ≡ []) }
-        ensures begun { IfOk result (λ s. s.source.1.0 ≡ []) }
+        requires { IfOk opened IsUnread }
+        ensures begun { IfOk result (λ s. IsUnread s.source) }
+        ensures known { IfOk result (λ s. IfSome s.source.id (Contains self.new.open.items)) }
+        ensures before { HasAll self.old.open.items self.new.open.items }
         ensures kept { (self.new.log ≡ self.old.log) × (self.new.ended ≡ self.old.ended) }
         ensures faults { IfErr result (OpenFails false Read) }
     {
         match opened {
-            Ok((file, id)) => match keep(&mut self.open, id) {
+            Ok(file) => match keep(&mut self.open, file.id()) {
                 Ok(()) => Ok(WatchedIn::new(file, name, self.failures)),
                 Err(_) => Err(OpenFault::Fault(FileFault::Memory)),
             },
@@ -309,7 +313,10 @@ fn is_known(opened: &[FileId], id: Option<FileId>) -> bool
 }
 
 /// Keeps which file was opened.
-fn keep(opened: &mut Vec<FileId>, id: Option<FileId>) -> Result<(), AllocError> {
+fn keep(opened: &mut Vec<FileId>, id: Option<FileId>) -> Result<(), AllocError>
+    ensures known { OnOk result (IfSome id (Contains opened.new.items)) }
+    ensures before { HasAll opened.old.items opened.new.items }
+{
     if let Some(id) = id {
         opened.push(id)?;
     }
@@ -447,13 +454,34 @@ impl<'r, 'w> FileSet for HostFiles<'r, 'w> {
         Ok(())
     }
 
-    fn open(&mut self, alloc: Global, name: &str) -> Result<WatchedIn<'r, 'w>, OpenFault> {
+    fn open(&mut self, alloc: Global, name: &str) -> Result<WatchedIn<'r, 'w>, OpenFault>
+        ensures noted { self.new.log ≡ self.old.log ++ Opened name.now ∷ [] }
+        ensures unended { self.new.ended ≡ self.old.ended }
+        ensures begun { IfOk result (λ s. s.source.given ≡ []) }
+        ensures found { IfOk result (λ s. false ≡ true → (false ≡ true)
+            × (◌≡◌ {A = Option (List ℕ)} None None)) }
+        ensures missing { false ≡ true → IfErr result (λ f. f ≡ Fault Read
+            → ◌≡◌ {A = Option (List ℕ)} None None) }
+        ensures faults { IfErr result (OpenFails false Read) }
+        ensures known { IfOk result (λ s. IfSome s.source.id (Contains self.new.open.items)) }
+        ensures before { HasAll self.old.open.items self.new.open.items }
+    {
         self.log.opened(name);
         self.admit_stream(alloc, name)?;
         self.admit_in(name, HostIn::open(alloc, self.rt, name))
     }
 
-    fn open_or_empty(&mut self, alloc: Global, name: &str) -> Result<WatchedIn<'r, 'w>, OpenFault> {
+    fn open_or_empty(&mut self, alloc: Global, name: &str) -> Result<WatchedIn<'r, 'w>, OpenFault>
+        ensures noted { self.new.log ≡ self.old.log ++ Opened name.now ∷ [] }
+        ensures unended { self.new.ended ≡ self.old.ended }
+        ensures begun { IfOk result (λ s. s.source.given ≡ []) }
+        ensures found { IfOk result (λ s. false ≡ true
+            → ◌≡◌ {A = Option (List ℕ)} None (Some [])) }
+        ensures shown { false ≡ true → IfErr result (λ f. f ≡ Fault Memory) }
+        ensures faults { IfErr result (OpenFails false Read) }
+        ensures known { IfOk result (λ s. IfSome s.source.id (Contains self.new.open.items)) }
+        ensures before { HasAll self.old.open.items self.new.open.items }
+    {
         self.log.opened(name);
         self.admit_stream(alloc, name)?;
         self.admit_in(name, HostIn::open_or_empty(alloc, self.rt, name))

@@ -80,12 +80,12 @@ impl<'r, 'w> WatchedIn<'r, 'w> {
 impl<'r, 'w> Source for WatchedIn<'r, 'w> {
     ghost view = { λ s. record {
       supply = record {
-        given = s.source.1.0;
+        given = s.source.given;
         left = None;
-        is_at_end = s.source.1.1;
+        is_at_end = s.source.is_at_end;
       };
-      failed = s.source.0.0;
-      failing = s.source.0.1;
+      failed = s.source.failed;
+      failing = s.source.failing;
     } };
 
     fn pull(&mut self, into: &mut [u8]) -> Result<usize, Failed> {
