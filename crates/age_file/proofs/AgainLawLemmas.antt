@@ -97,9 +97,6 @@ module _ (r q : Run) (k : ℕ) (at : Position) (left rest : List ℕ) (limit : k
   held_q : held q ≡ r.copied ++ q.out
   held_q = ap (λ (t : List ℕ). t ++ q.out) copied
 
-  out_long : length r.out ≡ length q.out
-  out_long = omega (arith, long, length-append r.copied r.out, ap length held_q, length-append r.copied q.out)
-
   index_of : (x : Run) → x.first ≡ k → held x ≡ r.copied ++ x.out → unbox x.file.key x.file.nonce ≡ open_r
       → min (length (held x) / chunk_length) (run_outcome x).index ≡ min (length (r.copied ++ x.out) / chunk_length)
       (outcome open_r chunk_length (part_of x)).index
@@ -113,7 +110,8 @@ module _ (r q : Run) (k : ℕ) (at : Position) (left rest : List ℕ) (limit : k
   same_stand found =
       let alike = stand_alike (box r.file.key r.file.nonce) open_r
       (box_valid (payload_key r.file.key r.file.nonce)) chunk_length r.copied k r.bytes q.bytes
-      left rest r.ended q.ended r.out q.out (omega arith) size behind end_r end_q begins_r begins_q out_long in
+      left rest r.ended q.ended r.out q.out (omega arith) size behind end_r end_q begins_r begins_q
+      (omega (arith, long, length-append r.copied r.out, ap length held_q, length-append r.copied q.out)) in
       carried r q at (omega (arith, limit, first_r)) key head nonce prefix_r (held_q ∙ ap (λ (t : List ℕ). r.copied ++ t) (sym alike.wrote))
       (index_of q first_q held_q keys ∙ (sym alike.place ∙ sym (index_of r first_r refl refl))) found
 

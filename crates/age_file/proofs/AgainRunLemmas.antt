@@ -1,20 +1,19 @@
 -- Two runs over the same bytes that wrote as many: they stand at the same place.
 use Rattle.std.proofs.Common.{◌≡◌, ℕ, ◌+◌, ◌*◌, ◌/◌, ◌<◌, ◌≤◌, min, List, [], ◌∷◌, ◌++◌, length, take, Option, Bool, true, false, refl, sym, ap, subst}
 use Rattle.std.proofs.Common.{◌∙◌, arith, inl, inr, append-nil}
-use Rattle.std.specs.Prelude.{◌⊎◌, nat_lt, slice_get}
+use Rattle.std.specs.Prelude.{◌⊎◌}
 use Rattle.std.specs.List.{flat_map}
 use Rattle.std.proofs.lemmas.Grind.{flat_map-append}
 use Rattle.std.proofs.lemmas.List.{length-append, length-take}
 use Rattle.std.proofs.lemmas.Bool.{cases_lt}
 use Rattle.std.proofs.Math.Nat.{le-div_iff_mul-le}
-use Rattle.age_chunk.specs.ChunkBoxes.{IsChunkBox, tag_length}
+use Rattle.age_chunk.specs.ChunkBoxes.{IsChunkBox}
 use Rattle.age_stream.specs.Headline.{IsPrefixOf}
-use Rattle.age_stream.specs.Segment.{Segment, Outcome, outcome, released, front_texts, whole_blocks, rest_bytes, with_piece, with_end}
+use Rattle.age_stream.specs.Segment.{Segment, Outcome, outcome, released, with_piece, with_end}
 use Rattle.age_stream.specs.declared.step.Status.{Status}
 use Rattle.age_stream.specs.declared.step.Status.TheVariants.{Open}
 use Rattle.age_stream.proofs.GoingLemmas.{going, going_outcome}
-use Rattle.age_stream.proofs.GrowingLemmas.{begins_stop}
-use Rattle.age_stream.proofs.TableLemmas.{by_blocks}
+use Rattle.age_stream.proofs.GrowingLemmas.{stands_at}
 use Rattle.age_stream.proofs.LawLemmas.{chunks_are_counted, closed_stays, end_closes, released_grows}
 use Rattle.age_file.proofs.ByteLemmas.{prefix_trans, same_front, longer}
 
@@ -61,16 +60,14 @@ module _ (sealing : List ℕ → List ℕ → List ℕ) (opening : List ℕ → 
   end_extends s timely = by_status (outcome opening n s).status refl where
     by_status : (status : Status) → (outcome opening n s).status ≡ status → Extends s (with_end s)
     by_status Open e =
-        let texts = front_texts opening s.start (whole_blocks n s.bytes) in
         let flat : List (List ℕ) → List ℕ = flat_map (λ (t : List ℕ). t) in
         let here = ap (λ (o : Outcome). o.texts) (going_outcome opening n s (going opening n s e)) in
-        let b = begins_stop opening n texts (s.start + length texts) (slice_get (whole_blocks n s.bytes) (length texts))
-        (nat_lt ((length texts + 1) * (n + tag_length)) (length s.bytes)) (rest_bytes n s.bytes) s.late true in
+        let b = stands_at opening n (with_end s) in
         record {
           text = (
-            flat b.0,
-            sym (ap flat (ap (λ (o : Outcome). o.texts) (by_blocks opening n (with_end s))
-                ∙ (b.1 ∙ ap (λ (ts : List (List ℕ)). ts ++ b.0) (sym here))) ∙ flat_map-append (λ (t : List ℕ). t) (outcome opening n s).texts b.0),
+            flat b.more,
+            sym (ap flat (b.texts_are ∙ ap (λ (ts : List (List ℕ)). ts ++ b.more) (sym here))
+                ∙ flat_map-append (λ (t : List ℕ). t) (outcome opening n s).texts b.more),
           );
           place = inl (end_closes opening n s).1;
         }
@@ -137,9 +134,8 @@ module _ (sealing : List ℕ → List ℕ → List ℕ) (opening : List ℕ → 
       inr (subst (λ (t : List ℕ). Extends (part k t false) (part k bytes true)) (sym same) (end_extends (part k bytes false) (λ _. refl)))
   one_extends k bytes more true true len none =
       let same : bytes ++ more ≡ bytes = ap (λ (t : List ℕ). bytes ++ t) (none refl) ∙ append-nil bytes in
-      inl (subst (λ (t : List ℕ). Extends (part k bytes true) (part k t true)) (sym same) (piece_none k bytes)) where
-        piece_none : (k : ℕ) (bytes : List ℕ) → Extends (part k bytes true) (part k bytes true)
-        piece_none k bytes = record { text = ([], append-nil (released opening n (part k bytes true))); place = inl refl }
+      inl (subst (λ (t : List ℕ). Extends (part k bytes true) (part k t true)) (sym same)
+      (record { text = ([], append-nil (released opening n (part k bytes true))); place = inl refl }))
 
   -- what both wrote, if it is as much, and where they stand
   pub record StandAlike (a b : Segment) (x y : List ℕ) : Type 0 where

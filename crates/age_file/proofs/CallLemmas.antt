@@ -12,7 +12,7 @@ use Rattle.age_keys.specs.declared.fault.KeyFault.{KeyFault}
 use Rattle.age_io.specs.Io.{SinkView}
 use Rattle.age_file.specs.Runs.{Ports, Run, held, IsTexts, IsAuthenticRun, IsPositionOf, CarriesText, GivesPosition, WritesNone, StopsInPayload, NeverEnds}
 use Rattle.age_file.specs.Decrypts.{DecryptStops}
-use Rattle.age_file.specs.Resumes.{ResumePorts, WritesOld, IsFrom, IsSame, NeverEndTogether, StopsInOld, StopsInSkipped, ResumeStops}
+use Rattle.age_file.specs.Resumes.{ResumePorts, WritesOld, IsFrom, IsSame, NeverEndTogether, StopsInSkipped, ResumeStops}
 use Rattle.age_file.specs.InARow.{AnswersRight, FirstCall, NextCall, DecryptAnswers, ResumeAnswers, last_took, AreInARow, AreTexts, AllAnswerRight}
 use Rattle.age_file.specs.declared.decryption.Done.{Done}
 use Rattle.age_file.specs.declared.decryption.Stopped.{Stopped}
@@ -90,9 +90,6 @@ module _ (text : List ℕ) (few : chunk_count chunk_length text ≤ chunk_limit)
         subst (λ (t : List ℕ). IsPrefixOf t text) (one_taken old.main.sink.taken new.main.sink.taken copied out w.wrote wrote)
         (copied_begins written copied w)
 
-    in_old_right : (stopped : Stopped) → StopsInOld A p old new stopped → Right text out stopped.position
-    in_old_right stopped s = (old_right stopped.written s.copied s.writes, none_carries (CarriesText text) stopped.position s.nowhere)
-
     in_skipped_right : (keep : PositionPolicy) (stopped : Stopped) → StopsInSkipped A p old new keep stopped → Right text out stopped.position
     in_skipped_right keep stopped s = (
       old_right stopped.written s.copied s.writes,
@@ -108,7 +105,8 @@ module _ (text : List ℕ) (few : chunk_count chunk_length text ≤ chunk_limit)
     next_right : (keep : PositionPolicy) (run : Option Run) (stopped : Stopped)
         → ResumeStops A p old new keep R run stopped → IfSome run (IsTexts text) → Right text out stopped.position
     next_right keep None stopped (inl f) auth = none_right text old.main new.main stopped out wrote f.0
-    next_right keep None stopped (inr (inl s)) auth = in_old_right stopped s
+    next_right keep None stopped (inr (inl s)) auth =
+        (old_right stopped.written s.copied s.writes, none_carries (CarriesText text) stopped.position s.nowhere)
     next_right keep None stopped (inr (inr s)) auth = in_skipped_right keep stopped s
     next_right keep (Some r) stopped f auth =
         run_right text keep A (NeverEndTogether old new) old.main new.main stopped r out

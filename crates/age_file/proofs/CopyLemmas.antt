@@ -28,20 +28,20 @@ chain_more n i out chunk whole size =
 
 copy_fails : (x y z : ReaderView) (a b c : WriterView) (p q : List ℕ) (fault : FileFault) → Passes x y p → b.sink.failed ≡ a.sink.failed
     → FailsInCopy y z b c q fault → FailsInCopy x z a c (p ++ q) fault
-copy_fails x y z a b c p q ShortText f same g = (passes_then x y z p q f g.0, g.1, g.2, g.3 ∙ same)
+copy_fails x y z a b c p q ShortText f same g = (passes_then p q f g.0, g.1, g.2, g.3 ∙ same)
 copy_fails x y z a b c p q Write f same g =
     let more : IsPrefixOf (p ++ q) ((p ++ g.0) ++ z.unread.bytes) = (
       g.2.0,
       append_assoc p q g.2.0 ∙ ap (λ (t : List ℕ). p ++ t) g.2.1 ∙ sym (append_assoc p g.0 z.unread.bytes),
     ) in (
       p ++ g.0,
-      passes_then x y z p g.0 f g.1,
+      passes_then p g.0 f g.1,
       more,
       subst (λ (m : ℕ). HasFailed m c.sink.failed c.sink.failing) same g.3,
       omega (arith, g.4, length-append p g.0, length-append p q),
     )
-copy_fails x y z a b c p q Read f same g = (dries_then x y z p q Read f g.0, g.1 ∙ same)
-copy_fails x y z a b c p q ReadNeverEnds f same g = (dries_then x y z p q ReadNeverEnds f g.0, g.1 ∙ same)
+copy_fails x y z a b c p q Read f same g = (dries_then p q Read f g.0, g.1 ∙ same)
+copy_fails x y z a b c p q ReadNeverEnds f same g = (dries_then p q ReadNeverEnds f g.0, g.1 ∙ same)
 copy_fails x y z a b c p q other f same g = absurd g
 
 -- whole chunks, and then one that was not copied
@@ -71,10 +71,6 @@ pub copy_dry : (x z : ReaderView) (a b : WriterView) (p : List ℕ) (fault : Fil
 copy_dry x z a b p Read g same = (g, same)
 copy_dry x z a b p ReadNeverEnds g same = (g, same)
 copy_dry x z a b p other g same = absurd g.why
-
--- what was written whole
-pub all_out : (piece out unwritten : List ℕ) → piece ≡ out ++ unwritten → unwritten ≡ [] → out ≡ piece
-all_out piece out unwritten parts none = sym (parts ∙ ap (λ (xs : List ℕ). out ++ xs) none ∙ append-nil out)
 
 -- why the old text was not copied
 pub text_fails : (n chunks : ℕ) (links : List ℕ) (old new : ReaderView) (was now : WriterView) (out : List ℕ) (fault : FileFault)

@@ -15,6 +15,7 @@ use Rattle.age_stream.specs.Laws.{counted_chunks}
 use Rattle.age_stream.specs.declared.step.Status.{Status}
 use Rattle.age_stream.specs.declared.step.Status.TheVariants.{Open}
 use Rattle.age_stream.proofs.LawLemmas.{chunks_are_counted, closed_stays, end_closes, fresh_is_open, released_grows}
+use Rattle.age_stream.proofs.SegmentLemmas.{piece_start}
 use Rattle.age_chunk.proofs.FirstChunkLemmas.{first_chunks-append, length-first_chunks}
 use Rattle.age_file.specs.Bindings.{link, chain}
 use Rattle.age_file.specs.inner.Bindings.{link_if, chain_if}
@@ -49,13 +50,6 @@ no_piece s = nothing s.start s.bytes s.ended s.late where
   nothing start bytes true late = ap (λ (l : Bool). record { start = start; bytes = bytes; ended = true; late = l }) (or-false late)
   nothing start bytes false late = ap (λ (b : List ℕ). record { start = start; bytes = b; ended = false; late = late }) (append-nil bytes)
 
-pub piece_start : (s : Segment) (piece : List ℕ) → (with_piece s piece).start ≡ s.start
-piece_start s piece = start_of s.start s.bytes s.ended s.late where
-  start_of : (start : ℕ) (bytes : List ℕ) (ended late : Bool) → (with_piece (record { start = start; bytes = bytes; ended = ended; late = late })
-      piece).start ≡ start
-  start_of start bytes true late = refl
-  start_of start bytes false late = refl
-
 -- one link more
 pub chain_on : (chunks : List (List ℕ)) (chunk : List ℕ) → chain (chunks ++ chunk ∷ []) ≡ link (chain chunks) chunk
 unfolding chain
@@ -86,6 +80,16 @@ module _ (sealing : List ℕ → List ℕ → List ℕ) (opening : List ℕ → 
       let text = base ++ released opening n s in
       let e : text ≡ take (at s * n) text = ap (λ (ts : List (List ℕ)). base ++ flat_map (λ (t : List ℕ). t) ts) (sym all) ∙ c.join in
       omega (arith, ap length e, length-take (at s * n) text, c.within)
+
+  -- all chunks of their text: those of what was there before, and those that were released
+  open_chunks : (base : List ℕ) (s : Segment) → length base ≡ s.start * n → counted_chunks opening n s ≡ (outcome opening n s).texts
+      → first_chunks n (at s) (base ++ released opening n s) ≡ first_chunks n s.start base ++ (outcome opening n s).texts
+  open_chunks base s len all =
+      let c = chunks_are_counted sealing opening valid n base s len in
+      let texts = (outcome opening n s).texts in
+      let front = first_chunks n s.start base in
+      c.chunks (at s) (omega arith) ∙ (ap (λ (xs : List (List ℕ)). take (at s) (front ++ xs)) all
+      ∙ take_all (at s) (front ++ texts) (omega (arith, length-append front texts, length-first_chunks n s.start base, c.count, ap length all)))
 
   -- how many texts were released, by the index
   texts_len : (base : List ℕ) (s : Segment) → length base ≡ s.start * n → at s ≤ s.start + length (outcome opening n s).texts
@@ -180,24 +184,10 @@ module _ (sealing : List ℕ → List ℕ → List ℕ) (opening : List ℕ → 
       let all : counted_chunks opening n next ≡ texts ++ ts = ap (take (at next - next.start)) m.texts ∙ take_all (at next - next.start) (texts ++ ts)
       (omega (arith, length-append texts ts, by_one, one, count, start)) in
       let base_chunks = first_chunks n s.start base in
-      let here : first_chunks n (at s) (base ++ released opening n s) ≡ base_chunks ++ texts = c.chunks (at s) (omega arith)
-      ∙ (ap (λ (xs : List (List ℕ)). take (at s) (base_chunks ++ xs)) (c.all o) ∙ take_all (at s) (base_chunks ++ texts) (omega (
-        arith,
-        length-append base_chunks texts,
-        length-first_chunks n s.start base,
-        count,
-      ))) in
-      let there : first_chunks n (at next) (base ++ released opening n next) ≡ base_chunks ++ (texts ++ ts) = c'.chunks (at next) (omega arith)
-      ∙ (ap (λ (xs : List (List ℕ)). take (at next) (first_chunks n next.start base ++ xs)) all
-      ∙ (ap (λ (k : ℕ). take (at next) (first_chunks n k base ++ (texts ++ ts))) start ∙ take_all (at next) (base_chunks ++ (texts ++ ts)) (omega (
-        arith,
-        length-append base_chunks (texts ++ ts),
-        length-append texts ts,
-        length-first_chunks n s.start base,
-        count,
-        by_one,
-        one,
-      )))) in
+      let here = open_chunks base s len (c.all o) in
+      let there : first_chunks n (at next) (base ++ released opening n next) ≡ base_chunks ++ (texts ++ ts) =
+      open_chunks base next len' (all ∙ sym m.texts) ∙ (ap (λ (k : ℕ). first_chunks n k base ++ (outcome opening n next).texts) start
+      ∙ ap (λ (xs : List (List ℕ)). base_chunks ++ xs) m.texts) in
       record {
         by_one = by_one;
         one = one;

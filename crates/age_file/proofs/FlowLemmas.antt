@@ -81,7 +81,8 @@ module _ {B : Type 0} (opening : B → List ℕ → List ℕ → Option (List �
         most = most;
       }
 
-  module _ (a b c : OpenerView B) (old : Stage) (source : SourceView) (u v : Unread) (was now : WriterView) (piece : List ℕ) (is : piece ≡ u.bytes)
+  module _ {a b : OpenerView B} (c : OpenerView B) {old : Stage} {source : SourceView} {u : Unread} (v : Unread) {was : WriterView} (now : WriterView)
+      {piece : List ℕ} (is : piece ≡ u.bytes)
       (pulls : v.pulls ≡ u.pulls) (p : GoesOn a b old (stage (reader_view source u) was)) where
     -- this much of the piece that was unread was fed
     fed_on : (fed left unwritten : List ℕ) → piece ≡ fed ++ left → Releases opening n (λ s. with_piece s fed) b c was now unwritten
@@ -126,7 +127,7 @@ module _ {B : Type 0} (opening : B → List ℕ → List ℕ → Option (List �
         }
 
   -- if all was fed, the next piece is pulled
-  module _ (a b : OpenerView B) (old : Stage) (x z : ReaderView) (now : WriterView)
+  module _ {a b : OpenerView B} {old : Stage} {x : ReaderView} (z : ReaderView) {now : WriterView}
       (used : x.unread.bytes ≡ []) (p : GoesOn a b old (stage x now)) where
     pulled_on : (result : Result Bool FileFault) → Refills x z result → Flows a b old (stage z now) z.unread.bytes []
     pulled_on result r =

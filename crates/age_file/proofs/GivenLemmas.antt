@@ -191,7 +191,7 @@ module _ (Allows : Header → List ℕ → Type 0) (Refused : Header → KeyFaul
           rest = r.bytes;
           read = subst (λ (t : List ℕ). Reads Allows old.source.supply new.source.supply f (t ++ r.bytes)) from.none_skipped is.reads;
           blocks = λ whole begins below few. begins_payload (box f.key f.nonce) (unbox f.key f.nonce) (box_valid (payload_key f.key f.nonce))
-              chunk_length positive r.bytes r.ended p.index (held r) whole stands within prefix begins below few;
+              chunk_length r.bytes r.ended p.index (held r) whole stands within prefix begins below;
         },
         (is.wrote, is.count),
       )

@@ -37,40 +37,25 @@ back_is a b x n size e = rw (e, ← size) (drop-append_seam a b)
 pub decimal_reads : (index : ℕ) (digits : List ℕ) → index < chunk_limit → digits ≡ decimal index → IsUtf8 digits
 decimal_reads index digits lt e = rw e (IsUtf8-from_ascii (decimal index) (IsAscii-decimal index (omega arith)))
 
-some_or_none : {T A : Type 0} (x : T) → Some x ≡ None → A
-some_or_none x e = absurd cc
-
-same_ok : {T E : Type 0} (r : Result T E) (y x : T) → r ≡ Ok y → Some y ≡ Some x → r ≡ Ok x
-same_ok r y x is e = cc
-
 -- what a result was, by what `ok` made of it
 pub was_err : {T E : Type 0} (r : Result T E) (o : Option T) → o ≡ result_ok r → o ≡ None → (error : E) × (r ≡ Err error)
-was_err (Ok x) o is none = some_or_none x (sym is ∙ none)
+was_err (Ok x) o is none = absurd cc
 was_err (Err error) o is none = (error, refl)
 
 pub was_ok : {T E : Type 0} (r : Result T E) (o : Option T) (x : T) → o ≡ result_ok r → o ≡ Some x → r ≡ Ok x
-was_ok (Ok y) o x is some = same_ok (Ok y) y x refl (sym is ∙ some)
-was_ok (Err error) o x is some = some_or_none x (sym some ∙ is)
-
-one_value : {E : Type 0} (r : Result ℕ E) (m n : ℕ) → r ≡ Ok m → r ≡ Ok n → m ≡ n
-one_value r m n a b = cc
-
-never_both : {E : Type 0} (r : Result ℕ E) (m : ℕ) (e : E) → r ≡ Ok m → r ≡ Err e → ⊥
-never_both r m e a b = absurd cc
+was_ok (Ok y) o x is some = cc
+was_ok (Err error) o x is some = absurd cc
 
 -- and are read as it
 pub read_as : {E : Type 0} (index m : ℕ) (digits : List ℕ) (r : Result ℕ E) → r ≡ Ok m → index < chunk_limit → digits ≡ decimal index
     → ParsesUnsigned 64 10 digits r → m ≡ index
-read_as index m digits r is lt e h = one_value r m index is (parse-decimal 64 index digits r (omega arith) (omega arith) e h)
+read_as index m digits r is lt e h = cc (parse-decimal 64 index digits r (omega arith) (omega arith) e h)
 
 pub never_refused : {E : Type 0} (index : ℕ) (digits : List ℕ) (r : Result ℕ E) (error : E)
     → r ≡ Err error → index < chunk_limit → digits ≡ decimal index → ParsesUnsigned 64 10 digits r → ⊥
-never_refused index digits r error is lt e h = never_both r index error (parse-decimal 64 index digits r (omega arith) (omega arith) e h) is
+never_refused index digits r error is lt e h = cc (parse-decimal 64 index digits r (omega arith) (omega arith) e h)
 
 -- a comparison of lists
-same_if : (xs ys : List ℕ) → pointwise eqb xs ys ≡ true → xs ≡ ys
-same_if xs ys e = same_text xs ys (sym e)
-
 same_of : (xs : List ℕ) → pointwise eqb xs xs ≡ true
 same_of [] = refl
 same_of (x ∷ xs) = and_from (eqb x x) (pointwise eqb xs xs) (eq-eqb x x refl) (same_of xs)
@@ -81,7 +66,7 @@ never_differs xs ys test e =
     absurd cc
 
 pub same_unless : (xs ys : List ℕ) → false ≡ not (pointwise eqb xs ys) → xs ≡ ys
-same_unless xs ys test = same_if xs ys (from_not (pointwise eqb xs ys) test)
+same_unless xs ys test = same_text xs ys (sym (from_not (pointwise eqb xs ys) test))
   where
     from_not : (b : Bool) → false ≡ not b → b ≡ true
     from_not true e = refl

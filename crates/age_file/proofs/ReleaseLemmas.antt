@@ -18,7 +18,8 @@ use Rattle.age_chunk.specs.ChunkBoxes.{IsChunkBox}
 use Rattle.age_file.specs.inner.Bindings.{link_if}
 use Rattle.age_file.specs.declared.position.PositionPolicy.{PositionPolicy}
 use Rattle.age_file.specs.declared.tally.Tally.{Tally}
-use Rattle.age_file.proofs.CountLemmas.{no_piece, piece_start, mark_step, mark_none, mark_cut}
+use Rattle.age_stream.proofs.SegmentLemmas.{piece_start}
+use Rattle.age_file.proofs.CountLemmas.{no_piece, mark_step, mark_none, mark_cut}
 use Rattle.age_io.proofs.TakenLemmas.{Appends-trans}
 use Rattle.age_io.proofs.TakenLemmas.{Appends-nil}
 

@@ -1,5 +1,5 @@
 -- From what was read, copied, skipped and decrypted to what a resumed decryption did.
-use Rattle.std.proofs.Common.{◌≡◌, ℕ, ◌+◌, ◌*◌, ◌<◌, ◌≤◌, List, [], ◌++◌, length, take, drop, Option, Some, None, refl, inl, inr, sym, ap, subst, ◌∙◌, suc}
+use Rattle.std.proofs.Common.{◌≡◌, ℕ, ◌+◌, ◌*◌, ◌<◌, ◌≤◌, List, [], ◌++◌, length, take, drop, Option, Some, None, refl, inl, inr, sym, ap, subst, ◌∙◌}
 use Rattle.std.proofs.Common.{◌^◌, arith, append-nil}
 use Rattle.std.specs.Prelude.{Result, Err}
 use Rattle.age_file.specs.Resumes.{ResumesKeyed, HasOpened, ResumePorts, resume_ports, WritesOld, IsFrom, IsSame, BeginsWith, StandsAt}
@@ -11,7 +11,6 @@ use Rattle.age_file.specs.declared.decryption.Stopped.{Stopped}
 use Rattle.std.specs.Simd.{first_chunks}
 use Rattle.age_io.specs.Supply.{Supply, Consumes}
 use Rattle.std.proofs.lemmas.List.{length-append, length-take, take-append-drop}
-use Rattle.std.proofs.Math.Nat.{mul-le-mul_right}
 use Rattle.age_stanza.specs.declared.header.Header.{Header}
 use Rattle.age_stream.specs.Headline.{IsPrefixOf}
 use Rattle.age_keys.specs.declared.fault.KeyFault.{KeyFault}
@@ -41,9 +40,6 @@ use Rattle.age_chunk.specs.Payload.{block_length, chunk_length}
 
 -- ---- the old text
 
-take_prefix : (n : ℕ) (text : List ℕ) → IsPrefixOf (take n text) text
-take_prefix n text = (drop n text, take-append-drop n text)
-
 -- what was written of an old text is the beginning of the text that it is of
 old_of : (p : Position) (coming now : Supply) (pulled copied : List ℕ) → Consumes coming now pulled → IsPrefixOf copied pulled → length copied
     ≤ p.index * chunk_length → (text : List ℕ) → BeginsWith p coming text → IsPrefixOf copied text
@@ -53,7 +49,8 @@ old_of p coming now pulled copied read front le text b =
     omega (arith, length-take (p.index * chunk_length) text, b.within) in
     let before = prefix_trans copied pulled b.all front (part.0, sym part.1) in
     let begins = longer copied (take (p.index * chunk_length) text) before.0 b.begins.0 (before.1 ∙ sym b.begins.1) (omega (arith, size, le)) in
-    prefix_trans copied (take (p.index * chunk_length) text) text (begins.0, sym begins.1) (take_prefix (p.index * chunk_length) text)
+    prefix_trans copied (take (p.index * chunk_length) text) text (begins.0, sym begins.1)
+    (drop (p.index * chunk_length) text, take-append-drop (p.index * chunk_length) text)
 
 -- ---- a run that stopped in the old text, or before it
 
@@ -295,15 +292,9 @@ module _ (keep : PositionPolicy) (Allows : Header → List ℕ → Type 0) (Refu
       skipped_fails : (m : ReaderView) (position : Option Position) (fault : FileFault)
           → GivesPosition keep (IsSame p) position → SkipFails block_length p.index s1.reader m fault
           → StopsInSkipped Allows p old (new m) keep (stop fault position)
-      skipped_fails m position (Stream fault) at f =
-          let e = f.2 in
-          let more : suc fault.chunk * block_length ≤ p.index * block_length = mul-le-mul_right block_length f.1 in
-          stops_in_skipped m position (Stream fault) e.bytes at (omega (arith, e.most, more)) (dried m e.bytes e.used e.passes.uses).consumed (
-            f.0,
-            omega (arith, e.least, e.most),
-            e.at_end,
-            (e.passes.unfailed ∙ s.unfailed, g.2),
-          )
+      skipped_fails m position (Stream fault) at (kind, skipped, short, chunk, passes, used, at_end) =
+          stops_in_skipped m position (Stream fault) skipped at short (dried m skipped used passes.uses).consumed
+          (kind, chunk, at_end, (passes.unfailed ∙ s.unfailed, g.2))
       skipped_fails m position Read at f =
           stops_in_skipped m position Read f.0 at f.1 (dried m f.0 f.2.used f.2.uses).consumed (
             subst (λ (k : ℕ). HasFailed k m.source.failed m.source.failing) s.unfailed f.2.why,

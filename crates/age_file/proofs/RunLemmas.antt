@@ -32,12 +32,10 @@ held_text r text auth limit =
 abbrev pub WritesOf : Run → Type 0
 WritesOf r = (text : List ℕ) → IsAuthenticRun r text → IsPrefixOf (held r) text
 
-append_prefix : (x y z : List ℕ) → IsPrefixOf y z → IsPrefixOf (x ++ y) (x ++ z)
-append_prefix x y z p = (p.0, append_assoc x y p.0 ∙ ap (λ (t : List ℕ). x ++ t) p.1)
-
 pub writes_of : (r : Run) → r.first < chunk_limit → IsPrefixOf r.out (run_text r) → WritesOf r
 writes_of r limit begins text auth =
-    prefix_trans (held r) (r.copied ++ run_text r) text (append_prefix r.copied r.out (run_text r) begins) (held_text r text auth limit).0
+    prefix_trans (held r) (r.copied ++ run_text r) text
+    (begins.0, append_assoc r.copied r.out begins.0 ∙ ap (λ (t : List ℕ). r.copied ++ t) begins.1) (held_text r text auth limit).0
 
 pub writes_all : (r : Run) → r.first < chunk_limit → r.out ≡ run_text r → (run_outcome r).status ≡ Done → (text : List ℕ) → IsAuthenticRun r text
     → held r ≡ text

@@ -28,12 +28,11 @@ front_begins sealing n text = (
       (pair sealing true (last_index n text, last_chunk n text) ∷ [])),
 )
 
-zero_div : (n : ℕ) → 0 < n → 0 / n ≡ 0
-zero_div n positive = omega arith
-
 -- no text has no such blocks
 pub no_front : (sealing : List ℕ → List ℕ → List ℕ) (n : ℕ) → 0 < n → front_of sealing n [] ≡ []
-no_front sealing n positive = ap (λ (q : ℕ). block_bytes (map (pair sealing false) (enumerate_from 0 (first_chunks n q [])))) (zero_div n positive)
+no_front sealing n positive =
+    let zero : 0 / n ≡ 0 = omega arith in
+    ap (λ (q : ℕ). block_bytes (map (pair sealing false) (enumerate_from 0 (first_chunks n q [])))) zero
 
 module _ {B : Type 0} (sealing : B → List ℕ → List ℕ → List ℕ) (n : ℕ) (a b d : SealerView B) (was mid now : WriterView)
     (text piece fed left unwritten : List ℕ) (goes : GoesOn sealing n a b text)

@@ -221,12 +221,6 @@ own_authentic key nonce text few closed k below =
     }) (segment k (drop (k * block_length) (payload (box key nonce) chunk_length text)) true)
     (record { below = below; bytes = refl; ended = refl; timely = refl })
 
--- the blocks of a segment are as authentic
-pub authentic_as : (text : List ℕ) (k : ℕ) (key nonce own_key own_nonce bytes all : List ℕ) (ended : Bool) → key ≡ own_key → nonce ≡ own_nonce → bytes
-    ≡ all → ended ≡ true → IsAuthentic (box own_key own_nonce) (unbox own_key own_nonce) chunk_length text (segment k all true)
-    → IsAuthentic (box key nonce) (unbox key nonce) chunk_length text (segment k bytes ended)
-authentic_as text k key nonce own_key own_nonce bytes all ended keys nonces blocks ends a = rw (keys, nonces, blocks, ends) a
-
 -- a run of an undamaged file, from a chunk of its text
 module _ (one : OneHeader) (Allows : Header → List ℕ → Type 0) (Refused : Header → KeyFault → Type 0) (old new : Ports) (text : List ℕ)
     (u : IsWhole Allows Refused old.source.supply text) (closed : IsClosed (box u.key u.nonce) (unbox u.key u.nonce) chunk_length text) (written : ℕ)
@@ -269,5 +263,5 @@ module _ (one : OneHeader) (Allows : Header → List ℕ → Type 0) (Refused : 
       let whole = writes_all r (omega (arith, below, u.few)) d.whole d.done text (record {
         few = u.few;
         old_text = old_text;
-        authentic = authentic_as text r.first r.file.key r.file.nonce u.key u.nonce r.bytes rest r.ended o.key_is o.nonce_is bytes_are d.ended own;
+        authentic = rw (o.key_is, o.nonce_is, bytes_are, d.ended) own;
       }) in (subst (λ (t : List ℕ). Appends old.sink.taken new.sink.taken t) whole is.wrote, is.count ∙ ap length whole)

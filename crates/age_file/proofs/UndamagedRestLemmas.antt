@@ -10,7 +10,7 @@ use Rattle.age_chunk.proofs.FirstChunkLemmas.{first_chunks-append}
 use Rattle.age_keys.specs.declared.fault.KeyFault.{KeyFault}
 use Rattle.age_file.specs.Bindings.{chain}
 use Rattle.age_file.specs.Decrypts.{WritesText, StopsOutside}
-use Rattle.age_file.specs.Runs.{Run, Reads, IsDone, OpenedFile, HasId, HasTag}
+use Rattle.age_file.specs.Runs.{Run, Reads, IsDone, OpenedFile, HasId}
 use Rattle.age_file.specs.Resumes.{ResumePorts, WritesOld, IsFrom, IsUndamagedRest, NeverEndTogether, BeforeOldFails, InOldFails, InSkippedFails}
 use Rattle.age_file.specs.Resumes.{StopsInSkipped, ResumeStops}
 use Rattle.age_file.specs.declared.decryption.Stopped.{Stopped}
@@ -36,11 +36,6 @@ module _ (one : OneHeader) (Allows : Header → List ℕ → Type 0) (Refused : 
       let front = front_is one Allows Refused old.main.source.supply text u.whole new.main.source.supply f.header f.header_bytes f.nonce rest
       r.text r.read in
       cc (u.own, front, o.nonce_is)
-
-  own_tag : (f : OpenedFile) (rest : List ℕ) → Reads Allows old.main.source.supply new.main.source.supply f rest → HasTag p f
-  own_tag f rest r =
-      let o = opened_of f rest r in
-      cc (u.tagged, o.key_is, o.nonce_is)
 
   -- the old text is long enough
   old_is_long : (written : ℕ) (copied : List ℕ) (w : WritesOld p old new written copied)
@@ -72,7 +67,7 @@ module _ (one : OneHeader) (Allows : Header → List ℕ → Type 0) (Refused : 
   -- the position is the file's, and was made under its key
   before_undamaged : (fault : FileFault) → BeforeOldFails Allows p old new Refused fault → StopsOutside fault
   before_undamaged OtherFile f = absurd (f.2 (own_file f.0 f.1.0 f.1.2))
-  before_undamaged PositionForged f = absurd (f.3 (own_tag f.0 f.1.0 f.1.2))
+  before_undamaged PositionForged f = let o = opened_of f.0 f.1.0 f.1.2 in absurd (f.3 (cc (u.tagged, o.key_is, o.nonce_is)))
   before_undamaged other f = start_undamaged one Allows Refused old.main.source new.main.source text u.whole other f
 
   -- the old text is long enough, and the text's

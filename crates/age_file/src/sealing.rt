@@ -31,9 +31,8 @@ fn seal_once<O: Sink>(
 {
     let step = sealer.feed(piece)?;
     let taken = step.taken;
-    if let Some(block) = step.chunk {
-        write_all(writer.sink, block, &mut writer.tally.written)?;
-    }
+    let block = step.chunk.unwrap_or(&[]);
+    write_all(writer.sink, block, &mut writer.tally.written)?;
     Ok(taken)
 }
 

@@ -1,6 +1,6 @@
 //! Passes over the blocks of a payload that were opened before.
 
-ghost use Rattle.age_file.specs.inner.Copies.{SkipsBlock, SkipsBlocks};
+ghost use Rattle.age_file.specs.inner.Copies.{SkipsBlocks};
 ghost use Rattle.age_file.specs.inner.Readers.{view_of_reader, SameReader, KeepsMeter};
 ghost use Rattle.age_chunk.specs.Payload.{block_length};
 
@@ -9,25 +9,6 @@ use crate::start::has_bytes;
 use age_fault::FileFault;
 use age_io::Source;
 use age_stream::{BLOCK_LEN, StreamFault, StreamKind};
-
-/// Passes over a block. False: the source ended within it.
-fn skip_block<S: Source>(reader: &mut Reader<'_, S>) -> Result<bool, FileFault>
-    ensures skipped { SkipsBlock block_length (view_of_reader S.view reader.old)
-        (view_of_reader S.view reader.new) result }
-    ensures same { SameReader reader.old reader.new }
-    ensures metered { KeepsMeter S.metered reader.old reader.new }
-{
-    let mut left = BLOCK_LEN;
-    'parts: while left > 0 {
-        if !has_bytes(reader)? {
-            return Ok(false);
-        }
-        let n = left.min(reader.intake.bytes().len());
-        reader.intake.use_front(n);
-        left -= n;
-    }
-    Ok(true)
-}
 
 /// Passes over this many blocks, unopened.
 pub(crate) fn skip_blocks<S: Source>(
@@ -39,13 +20,18 @@ pub(crate) fn skip_blocks<S: Source>(
     ensures same { SameReader reader.old reader.new }
     ensures metered { KeepsMeter S.metered reader.old reader.new }
 {
-    for block in 0..blocks {
-        if !skip_block(reader)? {
+    let all = u128::from(blocks) * BLOCK_LEN as u128;
+    let mut left = all;
+    'pieces: while left > 0 {
+        if !has_bytes(reader)? {
             return Err(FileFault::Stream(StreamFault {
                 kind: StreamKind::Truncated,
-                chunk: block,
+                chunk: ((all - left) / BLOCK_LEN as u128) as u64,
             }));
         }
+        let n = left.min(reader.intake.bytes().len() as u128);
+        reader.intake.use_front(n as usize);
+        left -= n;
     }
     Ok(())
 }

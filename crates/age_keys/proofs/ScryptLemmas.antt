@@ -84,7 +84,8 @@ three_arguments a b c body =
     let third = length-append c [] in
     omega arith
 
-scrypt_size : (salt body : List ℕ) (log : ℕ) → length salt ≡ 16 → length body ≡ 32 → log ≤ 22 → length (stanza_text (scrypt_stanza salt log body)) ≤ 100
+pub scrypt_size : (salt body : List ℕ) (log : ℕ) → length salt ≡ 16 → length body ≡ 32 → log ≤ 22
+    → length (stanza_text (scrypt_stanza salt log body)) ≤ 100
 unfolding scrypt_stanza
 scrypt_size salt body log size body_size few =
     let factor = factor_size log few in
@@ -94,7 +95,8 @@ scrypt_size salt body log size body_size few =
     omega arith
 
 -- a MAC of 32 bytes doesn't change the length
-size_of_one : (s : Stanza) (mac : List ℕ) → length mac ≡ 32 → length (head_text (record { stanzas = s ∷ []; mac = mac })) ≡ length (stanza_text s) + 70
+pub size_of_one : (s : Stanza) (mac : List ℕ) → length mac ≡ 32
+    → length (head_text (record { stanzas = s ∷ []; mac = mac })) ≡ length (stanza_text s) + 70
 size_of_one s mac long =
     length-head (record { stanzas = s ∷ []; mac = mac }) long
     ∙ ap (λ n. n + 70) (omega (arith, length-append (stanza_text s) []))

@@ -151,21 +151,8 @@ met_end before l c cs place n fault (Err kind) at lined fits on lf is e =
 met_end before l c cs place n fault (Ok (Done h)) at lined fits on lf is e = absurd cc
 met_end before l c cs place n fault (Ok (Go next)) at lined fits on lf is e =
     let there = at_next before l place next n at lined (front_bytes l (c ∷ cs) fits) is in
-    let deeper = on next there (IsBytes-tail (c ∷ []) cs (IsBytes-tail l (c ∷ cs) fits)) e in
     let joined : before ++ (l ++ c ∷ cs) ≡ (before ++ line l) ++ cs = line_parts before l c cs lf ∙ sym (append_assoc before (line l) cs) in
-    record {
-      before = deeper.before;
-      l = deeper.l;
-      rest = deeper.rest;
-      place = deeper.place;
-      n = deeper.n;
-      kind = deeper.kind;
-      at = deeper.at;
-      parts = joined ∙ deeper.parts;
-      one_line = deeper.one_line;
-      leads_to = deeper.leads_to;
-      fault_is = deeper.fault_is;
-    }
+    rw joined (on next there (IsBytes-tail (c ∷ []) cs (IsBytes-tail l (c ∷ cs) fits)) e)
 
 pub met : (before l bs : List ℕ) (place : Place) (n : ℕ) (fault : HeadFault) → At before place n → IsLine l → IsBytes (l ++ bs) → walk place n l bs
     ≡ faulty fault → Met (before ++ (l ++ bs)) fault
@@ -199,17 +186,8 @@ passed_end before l c cs place n (Err kind) at lined fits on lf is e = absurd cc
 passed_end before l c cs place n (Ok (Done h)) at lined fits on lf is e = absurd cc
 passed_end before l c cs place n (Ok (Go next)) at lined fits on lf is e =
     let there = at_next before l place next n at lined (front_bytes l (c ∷ cs) fits) is in
-    let deeper = on next there (IsBytes-tail (c ∷ []) cs (IsBytes-tail l (c ∷ cs) fits)) e in
     let joined : before ++ (l ++ c ∷ cs) ≡ (before ++ line l) ++ cs = line_parts before l c cs lf ∙ sym (append_assoc before (line l) cs) in
-    record {
-      before = deeper.before;
-      l = deeper.l;
-      place = deeper.place;
-      n = deeper.n;
-      at = deeper.at;
-      parts = joined ∙ deeper.parts;
-      one_line = deeper.one_line;
-    }
+    rw joined (on next there (IsBytes-tail (c ∷ []) cs (IsBytes-tail l (c ∷ cs) fits)) e)
 
 pub passed : (before l bs : List ℕ) (place : Place) (n : ℕ) → At before place n → IsLine l → IsBytes (l ++ bs) → walk place n l bs ≡ unfinished
     → Passed (before ++ (l ++ bs))
@@ -375,36 +353,19 @@ never_ended ss None e = cc
 never_ended [] (Some mac) e = cc
 never_ended (s ∷ ss) (Some mac) e = cc
 
-never_begun : (ss : List Stanza) (o : Option (List (List ℕ))) → argument_line_result ss o ≡ Err Memory → ⊥
-never_begun ss None e = cc
-never_begun ss (Some args) e = cc
-
-never_continued : (ss : List Stanza) (args : List (List ℕ)) (body : List ℕ) (full : Bool) (o : Option (List ℕ)) → body_line_result ss args body full o
-    ≡ Err Memory → ⊥
-never_continued ss args body true None e = cc
-never_continued ss args body false None e = cc
-never_continued ss args body true (Some more) e = cc
-never_continued ss args body false (Some more) e = cc
+never_chosen : (b : Bool) → Memory ≡ cond b Armored NotAge → ⊥
+never_chosen true e = cc
+never_chosen false e = cc
 
 never_memory : (place : Place) (l : List ℕ) → step place l ≡ Err Memory → ⊥
 unfolding step
-never_memory Start l e = elim (chosen (bytes_eq l version) (Ok (Go (Between []))) _ (Err Memory) e) [
-  | inl h ↦ cc (h.1)
-  | inr h ↦ elim (chosen (bytes_eq l armor || bytes_eq l (armor ++ 13 ∷ [])) (Err Armored) (Err NotAge) (Err Memory) h.1) [
-    | inl g ↦ cc (g.1)
-    | inr g ↦ cc (g.1)
-  ]
-]
+never_memory Start l e = never_chosen _ (kind_first l Memory e)
 never_memory (Between ss) l e = elim (chosen (starts_with nat_eq l (codes "---")) (end_line_result ss (mac_of l)) (argument_line_result ss (arguments_of l))
     (Err Memory) e) [
       | inl h ↦ never_ended ss (mac_of l) h.1
-      | inr h ↦ never_begun ss (arguments_of l) h.1
+      | inr h ↦ cc (kind_begun ss Memory (arguments_of l) h.1)
     ]
-never_memory (InBody ss args body) l e = elim (chosen (ltb 64 (length l)) (Err BadBody) (body_line_result ss args body (eqb (length l) 64) (base64_bytes l))
-    (Err Memory) e) [
-      | inl h ↦ cc (h.1)
-      | inr h ↦ never_continued ss args body (eqb (length l) 64) (base64_bytes l) h.1
-    ]
+never_memory (InBody ss args body) l e = cc (kind_body ss args body l Memory e)
 
 named : (kind : HeadKind) (n : ℕ) → (kind ≡ Memory → ⊥) → ((fault_at kind n).line ≡ n) × ((fault_at kind n).kind ≡ kind)
 named Memory n not = absurd (not refl)

@@ -1,11 +1,14 @@
 -- Facts about the chunks of a text.
-use Rattle.std.proofs.Common.{inl, inr, ◌≡◌, ℕ, zero, suc, ◌<◌, ◌≤◌, ◌+◌, ◌*◌, ◌-◌, ◌/◌, refl, ap, ◌∙◌, List, [], ◌∷◌, ◌++◌, length, get_or, arith}
-use Rattle.std.specs.Prelude.{slice_get, Some, None}
+use Rattle.std.proofs.Common.{inl, inr, ◌≡◌, ℕ, suc, ◌<◌, ◌≤◌, ◌+◌, ◌*◌, ◌-◌, ◌/◌, ap, ◌∙◌, List, [], ◌∷◌, ◌++◌, length, get_or, true, false, arith}
+use Rattle.std.specs.Simd.{first_chunks}
+use Rattle.std.proofs.lemmas.List.{get_or-map, length-map, get_or_append_left, length_push, get_or_push}
+use Rattle.std.proofs.lemmas.List.FromFn.{length-enumerate_from, get_or-enumerate_from}
 use Rattle.std.proofs.lemmas.List.{length-drop}
 use Rattle.std.specs.List.{enumerate_from}
 use Rattle.std.proofs.lemmas.Bool.{cases_lt}
 use Rattle.std.proofs.Math.Nat.{le-div_iff_mul-le}
-use Rattle.age_chunk.specs.Payload.{last_index, last_chunk}
+use Rattle.age_chunk.specs.Payload.{last_index, last_chunk, chunk_count, pair, sealed_before_last, sealed}
+use Rattle.age_chunk.proofs.FirstChunkLemmas.{length-first_chunks}
 
 -- the last index is the one whose chunk the text ends in
 pub text_le : (n : ℕ) (text : List ℕ) → 0 < n → length text ≤ (last_index n text + 1) * n
@@ -25,12 +28,31 @@ enumerate_from_more {X} k (y ∷ ys) x =
     let e : k + 1 + length ys ≡ k + suc (length ys) = omega arith in
     ap (λ (rest : List (ℕ × X)). (k, y) ∷ rest) (enumerate_from_more (k + 1) ys x ∙ ap (λ (i : ℕ). enumerate_from (k + 1) ys ++ (i, x) ∷ []) e)
 
-pub slice_get-within : {X : Type 0} (xs : List X) (k : ℕ) (d : X) → k < length xs → slice_get xs k ≡ Some (get_or xs k d)
-slice_get-within [] k d h = absurd (omega arith)
-slice_get-within (x ∷ xs) zero d h = refl
-slice_get-within (x ∷ xs) (suc k) d h = slice_get-within xs k d (omega arith)
+-- the pairs of a payload, by their numbers
+module _ (sealing : List ℕ → List ℕ → List ℕ) (n : ℕ) (text : List ℕ) where
+  abbrev q : ℕ
+  q = last_index n text
 
-pub slice_get-past : {X : Type 0} (xs : List X) (k : ℕ) → length xs ≤ k → slice_get xs k ≡ None
-slice_get-past [] k h = refl
-slice_get-past (x ∷ xs) zero h = absurd (omega arith)
-slice_get-past (x ∷ xs) (suc k) h = slice_get-past xs k (omega arith)
+  abbrev cs : List (List ℕ)
+  cs = first_chunks n q text
+
+  length-before_last : length (sealed_before_last sealing n text) ≡ q
+  length-before_last = length-map (enumerate_from 0 cs) (pair sealing false) ∙ (length-enumerate_from 0 cs ∙ length-first_chunks n q text)
+
+  pub length-sealed : length (sealed sealing n text) ≡ chunk_count n text
+  length-sealed =
+      length_push (sealed_before_last sealing n text) (pair sealing true (q, last_chunk n text)) ∙ ap (λ (k : ℕ). k + 1) length-before_last
+
+  pub pair_before : (i : ℕ) (d : List ℕ × List ℕ) → i < q → get_or (sealed sealing n text) i d ≡ pair sealing false (i, get_or cs i [])
+  pair_before i d lt =
+      let size = length-first_chunks n q text in
+      let z : 0 + i ≡ i = omega arith in
+      get_or_append_left (sealed_before_last sealing n text) (pair sealing true (q, last_chunk n text) ∷ []) d i
+      (omega (arith, lt, length-before_last))
+      ∙ (get_or-map (pair sealing false) (enumerate_from 0 cs) i (0, []) d (omega (arith, lt, size, length-enumerate_from 0 cs))
+      ∙ (ap (pair sealing false) (get_or-enumerate_from 0 cs i (0, []) (omega (arith, lt, size)))
+      ∙ ap (λ (j : ℕ). pair sealing false (j, get_or cs i [])) z))
+
+  pub pair_last : (i : ℕ) (d : List ℕ × List ℕ) → i ≡ q → get_or (sealed sealing n text) i d ≡ pair sealing true (q, last_chunk n text)
+  pair_last i d is =
+      get_or_push (sealed_before_last sealing n text) (pair sealing true (q, last_chunk n text)) d i (omega (arith, is, length-before_last))

@@ -1,23 +1,23 @@
 -- How many chunks were released, by the length of the text.
 use Rattle.std.proofs.Common.{◌≡◌, ℕ, suc, ◌<◌, ◌≤◌, ◌+◌, ◌*◌, ◌-◌, ◌/◌, refl, ap, sym, ◌∙◌, List, [], ◌∷◌, ◌++◌, length, take, drop, Bool, true, false, arith}
-use Rattle.std.specs.Prelude.{Option, Some, None, cond, nat_lt, slice_get}
+use Rattle.std.specs.Prelude.{Option, Some, None}
 use Rattle.std.specs.Simd.{first_chunks}
 use Rattle.std.specs.List.{flat_map, AllByRecursion}
 use Rattle.std.proofs.lemmas.List.{length-append, append_assoc, take_at, drop_at}
 use Rattle.std.proofs.lemmas.Grind.{flat_map-append}
 use Rattle.std.proofs.Math.Nat.{le-div_iff_mul-le}
-use Rattle.age_chunk.specs.Payload.{nonce_bytes, chunk_limit}
+use Rattle.age_chunk.specs.Payload.{nonce_bytes}
 use Rattle.age_chunk.specs.ChunkBoxes.{IsChunkBox, tag_length}
-use Rattle.age_stream.specs.Segment.{Segment, Outcome, outcome, front_texts, text_then, text_before_last, unless_greatest, whole_blocks, rest_bytes, released}
+use Rattle.age_stream.specs.Segment.{Segment, Outcome, outcome, front_texts, text_then, text_before_last, whole_blocks, released}
 use Rattle.age_stream.specs.Laws.{IsCounted, counted_chunks}
 use Rattle.age_chunk.proofs.NonceLemmas.{nonce_bytes-length}
 use Rattle.age_stream.proofs.UndamagedLemmas.{all_full}
 use Rattle.age_stream.proofs.GoingLemmas.{going, going_outcome, first_chunks-add}
-use Rattle.age_stream.proofs.GrowingLemmas.{begins_stop, index_stop}
+use Rattle.age_stream.proofs.GrowingLemmas.{stands_at}
 use Rattle.age_chunk.proofs.FirstChunkLemmas.{first_chunks-append, length-first_chunks}
-use Rattle.age_stream.proofs.TableLemmas.{by_blocks}
+use Rattle.age_stream.proofs.SegmentLemmas.{opens_before}
 
-first_chunks-take : (n i d : ℕ) (xs : List ℕ) → take i (first_chunks n (i + d) xs) ≡ first_chunks n i xs
+pub first_chunks-take : (n i d : ℕ) (xs : List ℕ) → take i (first_chunks n (i + d) xs) ≡ first_chunks n i xs
 first_chunks-take n i d xs =
     ap (take i) (first_chunks-add n i d xs) ∙ take_at (first_chunks n i xs) (first_chunks n d (drop (i * n) xs)) i (length-first_chunks n i xs)
 
@@ -38,18 +38,16 @@ flat_full n (t ∷ ts) h =
     let e : suc (length ts) * n ≡ length ts * n + n = omega arith in
     omega (arith, length-append t (flat_map (λ (t : List ℕ). t) ts), h.0, flat_full n ts h.1, e)
 
+-- the chunks that a segment counts are the texts of the blocks in front
+pub counted_are : (opening : List ℕ → List ℕ → Option (List ℕ)) (n : ℕ) (s : Segment)
+    → counted_chunks opening n s ≡ front_texts opening s.start (whole_blocks n s.bytes)
+counted_are opening n s =
+    let b = stands_at opening n s in
+    let texts = front_texts opening s.start (whole_blocks n s.bytes) in
+    let count = (outcome opening n s).index - s.start in
+    ap (take count) b.texts_are ∙ take_at texts b.more count (omega (arith, b.index))
+
 module _ (sealing : List ℕ → List ℕ → List ℕ) (opening : List ℕ → List ℕ → Option (List ℕ)) (valid : IsChunkBox sealing opening) (n : ℕ) where
-  opened_len : (nonce block text : List ℕ) → length nonce ≡ 12 → length block ≡ n + tag_length → opening nonce block ≡ Some text → length text ≡ n
-  opened_len nonce block text h len e = omega (arith, valid.longer nonce text h, ap length (valid.only nonce text block h e), len)
-
-  unless : (i : ℕ) (o : Option (List ℕ)) (t : List ℕ) (b : Bool) → cond b o None ≡ Some t → o ≡ Some t
-  unless i o t true e = e
-  unless i o t false e = cc
-
-  before : (i : ℕ) (o : Option (List ℕ)) (t : List ℕ) → unless_greatest i o ≡ Some t → o ≡ Some t
-  before i None t e = e
-  before i (Some x) t e = unless i (Some x) t (nat_lt (i + 1) chunk_limit) e
-
   full_then : (o : Option (List ℕ)) (rest : List (List ℕ)) → ((t : List ℕ) → o ≡ Some t → length t ≡ n)
       → AllByRecursion (λ (t : List ℕ). length t ≡ n) rest → AllByRecursion (λ (t : List ℕ). length t ≡ n) (text_then opening o rest)
   full_then None rest f h = tt
@@ -60,7 +58,12 @@ module _ (sealing : List ℕ → List ℕ → List ℕ) (opening : List ℕ → 
   front_full [] i h = tt
   front_full (b ∷ bs) i h =
       full_then (text_before_last opening i b) (front_texts opening (i + 1) bs)
-      (λ t e. opened_len (nonce_bytes i false) b t (nonce_bytes-length i false) h.0 (before i (opening (nonce_bytes i false) b) t e))
+      (λ t e. let is = (opens_before i (opening (nonce_bytes i false) b) t e).1 in omega (
+        arith,
+        h.0,
+        valid.longer (nonce_bytes i false) t (nonce_bytes-length i false),
+        ap length (valid.only (nonce_bytes i false) t b (nonce_bytes-length i false) is),
+      ))
       (front_full bs (i + 1) h.1)
 
   pub is_counted : (base : List ℕ) (s : Segment) → length base ≡ s.start * n → IsCounted opening n base s
@@ -69,21 +72,16 @@ module _ (sealing : List ℕ → List ℕ → List ℕ) (opening : List ℕ → 
       let texts = front_texts opening s.start blocks in
       let m = length texts in
       let i = (outcome opening n s).index in
-      let behind = nat_lt ((m + 1) * (n + tag_length)) (length s.bytes) in
       let pos : 0 < n + tag_length = omega arith in
       let fits : length s.bytes / (n + tag_length) * (n + tag_length) ≤ length s.bytes = (le-div_iff_mul-le pos).0 (omega arith) in
       let full = front_full blocks s.start (all_full (n + tag_length) (length s.bytes / (n + tag_length)) s.bytes fits) in
-      let same = by_blocks opening n s in
-      let at : i ≡ s.start + m = ap (λ (o : Outcome). o.index) same ∙ index_stop opening n texts (s.start + m) (slice_get blocks m) behind
-      (rest_bytes n s.bytes) s.late s.ended in
-      let stopped = begins_stop opening n texts (s.start + m) (slice_get blocks m) behind (rest_bytes n s.bytes) s.late s.ended in
-      let more : (added : List (List ℕ)) × ((outcome opening n s).texts ≡ texts ++ added) = (stopped.0, ap (λ (o : Outcome). o.texts) same ∙ stopped.1) in
-      let are : counted_chunks opening n s ≡ texts =
-      ap (λ (ts : List (List ℕ)). take (i - s.start) ts) more.1 ∙ take_at texts more.0 (i - s.start) (omega (arith, at)) in
+      let b = stands_at opening n s in
+      let at = b.index in
+      let are = counted_are opening n s in
       let front = flat_map (λ (t : List ℕ). t) texts in
-      let tail = flat_map (λ (t : List ℕ). t) more.0 in
+      let tail = flat_map (λ (t : List ℕ). t) b.more in
       let released_is : released opening n s ≡ front ++ tail =
-      ap (flat_map (λ (t : List ℕ). t)) more.1 ∙ flat_map-append (λ (t : List ℕ). t) texts more.0 in
+      ap (flat_map (λ (t : List ℕ). t)) b.texts_are ∙ flat_map-append (λ (t : List ℕ). t) texts b.more in
       let text = base ++ released opening n s in
       let text_is : text ≡ (base ++ front) ++ tail = ap (λ (x : List ℕ). base ++ x) released_is ∙ sym (append_assoc base front tail) in
       let size : length (base ++ front) ≡ i * n =

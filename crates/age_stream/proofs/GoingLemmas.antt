@@ -16,7 +16,7 @@ use Rattle.age_stream.specs.declared.step.Status.{Status}
 use Rattle.age_stream.specs.declared.step.Status.TheVariants.{Open}
 use Rattle.age_chunk.specs.declared.fault.StreamKind.TheVariants.{ChunkDamaged, ChunkCut, EmptyLast, Truncated, TooManyChunks}
 use Rattle.age_chunk.proofs.FirstChunkLemmas.{length-first_chunks, first_chunks_more, first_chunks-append}
-use Rattle.age_stream.proofs.ChunkLemmas.{slice_get-within, slice_get-past}
+use Rattle.std.proofs.lemmas.Option.{slice_get-get_or, slice_get_past}
 use Rattle.age_stream.proofs.SegmentLemmas.{by_test}
 use Rattle.age_stream.proofs.TableLemmas.{outcome_of, verdict_at, by_blocks, length-front_texts}
 use Rattle.age_chunk.specs.ChunkBoxes.{tag_length}
@@ -167,6 +167,16 @@ unended_piece s p is =
     ap (λ (t : Bool). cond t (record { start = s.start; bytes = s.bytes; ended = true; late = s.late || nat_lt 0 (length p) })
     (record { start = s.start; bytes = s.bytes ++ p; ended = false; late = s.late })) is
 
+ended_piece : (s : Segment) (p : List ℕ) → s.ended ≡ true → with_piece s p ≡ record {
+  start = s.start;
+  bytes = s.bytes;
+  ended = true;
+  late = s.late || nat_lt 0 (length p);
+}
+ended_piece s p is =
+    ap (λ (t : Bool). cond t (record { start = s.start; bytes = s.bytes; ended = true; late = s.late || nat_lt 0 (length p) })
+    (record { start = s.start; bytes = s.bytes ++ p; ended = false; late = s.late })) is
+
 by_test2 : {A : Type 0} (R : A → A → Type 0) (b : Bool) (x y x' y' : A) → R x x' → R y y' → R (cond b x y) (cond b x' y')
 by_test2 R true x y x' y' p q = p
 by_test2 R false x y x' y' p q = q
@@ -267,7 +277,7 @@ module _ (opening : List ℕ → List ℕ → Option (List ℕ)) (n : ℕ) where
       by_blocks opening n s
       ∙ ap (λ (o : Option (List ℕ)). verdict_at opening texts (s.start + length texts) o (nat_lt ((length texts + 1) * (n + tag_length)) (length s.bytes))
       (rest_bytes n s.bytes) s.late s.ended)
-      (slice_get-within blocks (length texts) [] lt)
+      (slice_get-get_or blocks (length texts) [] lt)
 
   -- and after them
   pub past_place : (s : Segment) → length (front_texts opening s.start (whole_blocks n s.bytes)) ≡ length (whole_blocks n s.bytes)
@@ -279,7 +289,7 @@ module _ (opening : List ℕ → List ℕ → Option (List ℕ)) (n : ℕ) where
       by_blocks opening n s
       ∙ ap (λ (o : Option (List ℕ)). verdict_at opening texts (s.start + length texts) o (nat_lt ((length texts + 1) * (n + tag_length)) (length s.bytes))
       (rest_bytes n s.bytes) s.late s.ended)
-      (slice_get-past blocks (length texts) (omega (arith, e)))
+      (slice_get_past blocks (length texts) (omega (arith, e)))
 
   ended_closed : (s : Segment) (ended : Bool) → s.ended ≡ ended → length (front_texts opening s.start (whole_blocks n s.bytes))
       ≡ length (whole_blocks n s.bytes) → (outcome opening n s).status ≡ Open → IsGoing s
@@ -300,13 +310,6 @@ module _ (opening : List ℕ → List ℕ → Option (List ℕ)) (n : ℕ) where
             (sym (ap (λ (o : Outcome). o.status) (at_place s lt)) ∙ h)))
         | inr e ↦ ended_closed s s.ended refl e h
       ]
-
-  carry_bytes : {some : Bool} {o p o' p' : Outcome} → o ≡ p → o' ≡ p' → IsAfterBytes some p p' → IsAfterBytes some o o'
-  carry_bytes {some} {o} {p} {o'} {p'} e f h = subst (λ (x : Outcome). IsAfterBytes some x o') (sym e)
-      (subst (λ (x : Outcome). IsAfterBytes some p x) (sym f) h)
-
-  carry_end : {o p o' p' : Outcome} → o ≡ p → o' ≡ p' → IsAfterEnd p p' → IsAfterEnd o o'
-  carry_end {o} {p} {o'} {p'} e f h = subst (λ (x : Outcome). IsAfterEnd x o') (sym e) (subst (λ (x : Outcome). IsAfterEnd p x) (sym f) h)
 
   after_on : (a len m : ℕ) (late : Bool) → a ≤ len → late ≡ false → (nat_lt a (len + m) || late) ≡ ((nat_lt a len || late) || nat_lt 0 m)
   after_on a len zero late h e =
@@ -338,15 +341,13 @@ module _ (opening : List ℕ → List ℕ → Option (List ℕ)) (n : ℕ) where
       let o = opening (nonce_bytes i false) b in
       let F : List (List ℕ) → Outcome = λ ts. verdict_at opening ts (s.start + length ts) (slice_get (blocks ++ more.0) (length ts))
       (nat_lt ((length ts + 1) * (n + tag_length)) (length bytes)) rest late false in
-      let e0 : outcome opening n (with_piece s p) ≡ outcome opening n (record { start = s.start; bytes = bytes; ended = false; late = late }) =
-      ap (λ (t : Bool). outcome opening n (cond t (record { start = s.start; bytes = s.bytes; ended = true; late = s.late || nat_lt 0 (length p) })
-      (record { start = s.start; bytes = s.bytes ++ p; ended = false; late = s.late }))) is in
+      let e0 = ap (outcome opening n) (unended_piece s p is) in
       let e1 : outcome opening n (record { start = s.start; bytes = bytes; ended = false; late = late }) ≡ F (front_texts opening s.start (blocks ++ more.0)) =
       by_blocks opening n (record { start = s.start; bytes = bytes; ended = false; late = late })
       ∙ ap (λ (bs : List (List ℕ)). outcome_of opening n s.start bs (length bytes) rest late false) more.1 in
       let e2 : F (front_texts opening s.start (blocks ++ more.0)) ≡ F texts = ap F (front_stays opening blocks more.0 s.start lt) in
       let g : slice_get (blocks ++ more.0) (length texts) ≡ Some b = slice_get-append_left blocks more.0 (length texts) lt
-      ∙ slice_get-within blocks (length texts) [] lt in
+      ∙ slice_get-get_or blocks (length texts) [] lt in
       let e3 : F texts ≡ at_block opening texts i b (nat_lt a (length bytes) || late) false o =
       ap (λ (x : Option (List ℕ)). verdict_at opening texts i x (nat_lt a (length bytes)) rest late false) g in
       let count = length-first_chunks (n + tag_length) (length s.bytes / (n + tag_length)) s.bytes in
@@ -356,7 +357,7 @@ module _ (opening : List ℕ → List ℕ → Option (List ℕ)) (n : ℕ) where
       let flag : (nat_lt a (length bytes) || late) ≡ ((nat_lt a (length s.bytes) || late) || some) = ap (λ (k : ℕ). nat_lt a k || late) len
       ∙ after_on a (length s.bytes) (length p) late low (timely is) in
       let here = at_place s lt ∙ ap (λ (t : Bool). at_block opening texts i b (nat_lt a (length s.bytes) || late) t o) is in
-      carry_bytes here (e0 ∙ (e1 ∙ (e2 ∙ e3))) (block_bytes texts i b o (nat_lt a (length s.bytes) || late) (nat_lt a (length bytes) || late) some false flag)
+      rw (here, e0 ∙ (e1 ∙ (e2 ∙ e3))) (block_bytes texts i b o (nat_lt a (length s.bytes) || late) (nat_lt a (length bytes) || late) some false flag)
   piece_at_place s true p is timely lt =
       let blocks = whole_blocks n s.bytes in
       let texts = front_texts opening s.start blocks in
@@ -366,10 +367,9 @@ module _ (opening : List ℕ → List ℕ → Option (List ℕ)) (n : ℕ) where
       let a = (length texts + 1) * (n + tag_length) in
       let o = opening (nonce_bytes i false) b in
       let next : Segment = record { start = s.start; bytes = s.bytes; ended = true; late = s.late || some } in
-      let e0 : outcome opening n (with_piece s p) ≡ outcome opening n next =
-      ap (λ (t : Bool). outcome opening n (cond t next (record { start = s.start; bytes = s.bytes ++ p; ended = false; late = s.late }))) is in
+      let e0 = ap (outcome opening n) (ended_piece s p is) in
       let here = at_place s lt ∙ ap (λ (t : Bool). at_block opening texts i b (nat_lt a (length s.bytes) || s.late) t o) is in
-      carry_bytes here (e0 ∙ at_place next lt)
+      rw (here, e0 ∙ at_place next lt)
       (block_bytes texts i b o (nat_lt a (length s.bytes) || s.late) (nat_lt a (length s.bytes) || (s.late || some)) some true
       (or_assoc (nat_lt a (length s.bytes)) s.late some))
 
@@ -385,10 +385,9 @@ module _ (opening : List ℕ → List ℕ → Option (List ℕ)) (n : ℕ) where
       let i = s.start + length texts in
       let some = nat_lt 0 (length p) in
       let next : Segment = record { start = s.start; bytes = s.bytes; ended = true; late = s.late || some } in
-      let e0 : outcome opening n (with_piece s p) ≡ outcome opening n next =
-      ap (λ (t : Bool). outcome opening n (cond t next (record { start = s.start; bytes = s.bytes ++ p; ended = false; late = s.late }))) is in
+      let e0 = ap (outcome opening n) (ended_piece s p is) in
       let here = past_place s e ∙ ap (λ (t : Bool). final_block opening texts i (rest_bytes n s.bytes) s.late t) is in
-      carry_bytes here (e0 ∙ past_place next e) (rest_bytes_after texts i (rest_bytes n s.bytes) s.late some)
+      rw (here, e0 ∙ past_place next e) (rest_bytes_after texts i (rest_bytes n s.bytes) s.late some)
 
   -- a piece, if the segment is open no more
   pub after_piece : (s : Segment) (p : List ℕ) → (s.ended ≡ false → s.late ≡ false) → ((outcome opening n s).status ≡ Open → ⊥)
@@ -415,7 +414,7 @@ module _ (opening : List ℕ → List ℕ → Option (List ℕ)) (n : ℕ) where
       by_test P (nat_lt 0 (length rest) && nat_lt (length rest) tag_length) _ _ (λ _. same (record { texts = texts; index = i; status = failed ChunkCut i }) refl)
       (λ _. by_test P (length rest == tag_length && nat_lt 0 i) _ _ (λ _. same (record { texts = texts; index = i; status = failed EmptyLast i }) refl)
       (λ _. by_test P (length rest == 0) _ _ (λ _. same (record { texts = texts; index = i; status = failed Truncated i }) refl) (λ _. last))) in
-      carry_end here (past_place (with_end s) e) core
+      rw (here, past_place (with_end s) e) core
 
   -- an end, likewise
   pub after_end : (s : Segment) → ((outcome opening n s).status ≡ Open → ⊥) → IsAfterEnd (outcome opening n s) (outcome opening n (with_end s))
@@ -425,7 +424,7 @@ module _ (opening : List ℕ → List ℕ → Option (List ℕ)) (n : ℕ) where
             (let texts = front_texts opening s.start (whole_blocks n s.bytes) in
             let i = s.start + length texts in
             let b = get_or (whole_blocks n s.bytes) (length texts) [] in
-            carry_end (at_place s lt) (at_place (with_end s) lt) (block_end texts i b (opening (nonce_bytes i false) b)
+            rw (at_place s lt, at_place (with_end s) lt) (block_end texts i b (opening (nonce_bytes i false) b)
             (nat_lt ((length texts + 1) * (n + tag_length)) (length s.bytes) || s.late) s.ended))
         | inr e ↦ end_past_place s s.ended refl shut e
       ]
@@ -497,7 +496,7 @@ module _ (opening : List ℕ → List ℕ → Option (List ℕ)) (n : ℕ) where
       let i : start + length (texts ++ t ∷ []) ≡ start + length texts + 1 = omega (arith, count) in
       ap (λ (o : Option (List ℕ)). verdict_at opening (texts ++ t ∷ []) (start + length (texts ++ t ∷ [])) o
       (nat_lt ((length (texts ++ t ∷ []) + 1) * (n + tag_length)) len) rest false false)
-      (slice_get-past (blocks ++ b ∷ []) (length (texts ++ t ∷ [])) past)
+      (slice_get_past (blocks ++ b ∷ []) (length (texts ++ t ∷ [])) past)
       ∙ ap (λ (k : ℕ). record { texts = texts ++ t ∷ []; index = k; status = Open }) i
   one_more None blocks b start len rest all is =
       let texts = front_texts opening start blocks in

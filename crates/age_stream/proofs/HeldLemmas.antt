@@ -8,7 +8,7 @@ use Rattle.age_chunk.specs.Payload.{chunk_limit, chunk_count}
 use Rattle.age_chunk.specs.ChunkBoxes.{IsChunkBox}
 use Rattle.age_stream.specs.Segment.{Segment, outcome, Standing, standing, standing_from, after_delivery, begin, fresh, with_piece, with_end, text_held}
 use Rattle.age_stream.specs.Segment.{accepts}
-use Rattle.age_stream.specs.Headline.{IsAuthentic, AreAuthentic, IsRight, IsPrefixOf, IsStart, IsUndamaged}
+use Rattle.age_stream.specs.Headline.{IsAuthentic, AreAuthentic, IsRight, IsStart, IsUndamaged}
 use Rattle.age_stream.specs.declared.step.Status.TheVariants.{Done}
 use Rattle.age_stream.proofs.PlaceLemmas.{in_place, low_within}
 use Rattle.age_stream.proofs.UndamagedLemmas.{rest_segment, rest_payload, rest_is_done}
@@ -36,13 +36,10 @@ module _ (sealing : List ℕ → List ℕ → List ℕ) (opening : List ℕ → 
     fits : s.segment.start * n ≤ length text
     base : s.base ≡ take (s.segment.start * n) text
 
-  held_prefix : (s : Standing) → IsSound s → Good s.segment → IsPrefixOf (text_held opening n s) text
-  held_prefix s sound good = (released_segment sealing opening valid n text few positive s.segment s.base sound.small sound.fits sound.base good).prefix
-
   restarted : (s : Standing) (k : ℕ) → IsSound s → Good s.segment → accepts opening n s k ≡ true
       → IsSound (record { given_up = s.given_up ++ s.segment ∷ []; base = take (k * n) (text_held opening n s); segment = fresh k; refused = s.refused })
   restarted s k sound good sure =
-      let p = held_prefix s sound good in
+      let p = (released_segment sealing opening valid n text few positive s.segment s.base sound.small sound.fits sound.base good).prefix in
       let held = text_held opening n s in
       let a : (nat_lt k chunk_limit ≡ true) × (nat_le (k * n) (length held) ≡ true) = and_parts (nat_lt k chunk_limit) (nat_le (k * n) (length held)) sure in
       let le : k * n ≤ length held = leb-true (k * n) (length held) a.1 in

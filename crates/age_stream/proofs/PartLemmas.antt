@@ -2,19 +2,18 @@
 use Rattle.std.proofs.Common.{inl, inr, ◌≡◌, ℕ, zero, suc, ◌<◌, ◌≤◌, ◌+◌, ◌*◌, ◌-◌, refl, ap, sym, ◌∙◌, List, [], ◌∷◌, ◌++◌, length, take, drop, get_or, Bool}
 use Rattle.std.proofs.Common.{true, false, take-add, arith}
 use Rattle.std.specs.Prelude.{◌==◌}
-use Rattle.std.specs.List.{enumerate_from, flat_map, AllByRecursion}
+use Rattle.std.specs.List.{flat_map, AllByRecursion}
 use Rattle.std.specs.Simd.{first_chunks}
 use Rattle.std.proofs.lemmas.Grind.{flat_map-append}
-use Rattle.std.proofs.lemmas.List.{length-append, length-drop, append-nil, take-append-drop, drop_at, get_or-map, length-map, get_or_append_left, length_push}
+use Rattle.std.proofs.lemmas.List.{length-append, length-drop, append-nil, take-append-drop, drop_at, get_or_append_left, length_push}
 use Rattle.std.proofs.lemmas.List.{get_or_push, nil_from_length}
-use Rattle.std.proofs.lemmas.List.FromFn.{length-enumerate_from, get_or-enumerate_from}
 use Rattle.std.proofs.lemmas.Bool.{cases_lt, eq-eqb, ne_eqb}
 use Rattle.std.proofs.lemmas.Nat.{mul-le}
 use Rattle.std.proofs.Math.Seq.{drop-nil}
-use Rattle.age_chunk.specs.Payload.{nonce_bytes, last_index, last_chunk, chunks, pair, sealed_before_last, sealed}
+use Rattle.age_chunk.specs.Payload.{nonce_bytes, last_index, last_chunk, chunks, pair, sealed}
 use Rattle.age_stream.specs.Laws.{AreChunks}
 use Rattle.age_chunk.proofs.FirstChunkLemmas.{length-first_chunks}
-use Rattle.age_stream.proofs.ChunkLemmas.{last_chunk_le}
+use Rattle.age_stream.proofs.ChunkLemmas.{last_chunk_le, length-sealed, pair_before, pair_last}
 use Rattle.age_stream.proofs.SealingLemmas.{last_index_is, last_index_le}
 use Rattle.age_stream.proofs.UndamagedLemmas.{all_full}
 use Rattle.age_stream.proofs.CountingLemmas.{flat_full, first_chunks-full}
@@ -22,7 +21,7 @@ use Rattle.age_stream.proofs.CountingLemmas.{flat_full, first_chunks-full}
 abbrev flat : List (List ℕ) → List ℕ
 flat parts = flat_map (λ (part : List ℕ). part) parts
 
-flat_first : (n c : ℕ) (xs : List ℕ) → flat (first_chunks n c xs) ≡ take (c * n) xs
+pub flat_first : (n c : ℕ) (xs : List ℕ) → flat (first_chunks n c xs) ≡ take (c * n) xs
 flat_first n zero xs = let z : 0 ≡ 0 * n = omega arith in ap (λ (k : ℕ). take k xs) z
 flat_first n (suc c) xs =
     let e : n + c * n ≡ suc c * n = omega arith in
@@ -104,37 +103,26 @@ module _ (sealing : List ℕ → List ℕ → List ℕ) (n : ℕ) (text : List �
   abbrev sealed_as : ℕ → List (List ℕ) → ℕ → List ℕ × List ℕ
   sealed_as count parts i = (nonce_bytes i (i + 1 == count), sealing (nonce_bytes i (i + 1 == count)) (get_or parts i []))
 
-  len : length (sealed_before_last sealing n text) ≡ at
-  len = length-map (enumerate_from 0 cs) (pair sealing false) ∙ (length-enumerate_from 0 cs ∙ length-first_chunks n at text)
-
   count : length (chunks n text) ≡ at + 1
   count = length_push cs last ∙ ap (λ (k : ℕ). k + 1) (length-first_chunks n at text)
 
   pub sealed_count : length (sealed sealing n text) ≡ length (chunks n text)
-  sealed_count = length_push (sealed_before_last sealing n text) (pair sealing true (at, last)) ∙ (ap (λ (k : ℕ). k + 1) len ∙ sym count)
+  sealed_count = length-sealed sealing n text ∙ sym count
 
   pub sealed_at : (i : ℕ) → i < length (chunks n text) → get_or (sealed sealing n text) i ([], []) ≡ sealed_as (length (chunks n text)) (chunks n text) i
   sealed_at i below =
-      let front = sealed_before_last sealing n text in
       let P : List ℕ × List ℕ = ([], []) in
       let len_cs : length cs ≡ at = length-first_chunks n at text in
       elim (cases_lt i at) [
         | inl lt ↦
-            (let e0 : get_or (sealed sealing n text) i P ≡ get_or front i P = get_or_append_left front (pair sealing true (at, last) ∷ []) P i
-            (omega (arith, lt, len)) in
-            let e1 : get_or front i P ≡ pair sealing false (get_or (enumerate_from 0 cs) i (0, [])) =
-            get_or-map (pair sealing false) (enumerate_from 0 cs) i (0, []) P (omega (arith, lt, length-enumerate_from 0 cs, len_cs)) in
-            let e2 : get_or (enumerate_from 0 cs) i (0, []) ≡ (0 + i, get_or cs i []) = get_or-enumerate_from 0 cs i (0, []) (omega (arith, lt, len_cs)) in
-            let z : 0 + i ≡ i = omega arith in
-            let x : get_or cs i [] ≡ get_or (chunks n text) i [] = sym (get_or_append_left cs (last ∷ []) [] i (omega (arith, lt, len_cs))) in
+            (let x : get_or cs i [] ≡ get_or (chunks n text) i [] = sym (get_or_append_left cs (last ∷ []) [] i (omega (arith, lt, len_cs))) in
             let flag : false ≡ (i + 1 == length (chunks n text)) = sym (ne_eqb (i + 1) (length (chunks n text)) (λ e. omega (arith, lt, e, count))) in
-            e0 ∙ (e1 ∙ (ap (pair sealing false) e2 ∙ (ap (λ (j : ℕ). pair sealing false (j, get_or cs i [])) z
-            ∙ (ap (λ (c : List ℕ). pair sealing false (i, c)) x ∙ ap (λ (b : Bool). pair sealing b (i, get_or (chunks n text) i [])) flag)))))
+            pair_before sealing n text i P lt ∙ (ap (λ (c : List ℕ). pair sealing false (i, c)) x
+            ∙ ap (λ (b : Bool). pair sealing b (i, get_or (chunks n text) i [])) flag))
         | inr le ↦
             (let is : i ≡ at = omega (arith, le, below, count) in
-            let e0 : get_or (sealed sealing n text) i P ≡ pair sealing true (at, last) = get_or_push front (pair sealing true (at, last)) P i (len ∙ sym is) in
             let x : last ≡ get_or (chunks n text) i [] = sym (get_or_push cs last [] i (len_cs ∙ sym is)) in
             let flag : true ≡ (i + 1 == length (chunks n text)) = sym (eq-eqb (i + 1) (length (chunks n text)) (omega (arith, is, count))) in
-            e0 ∙ (ap (λ (j : ℕ). pair sealing true (j, last)) (sym is)
+            pair_last sealing n text i P is ∙ (ap (λ (j : ℕ). pair sealing true (j, last)) (sym is)
             ∙ (ap (λ (c : List ℕ). pair sealing true (i, c)) x ∙ ap (λ (b : Bool). pair sealing b (i, get_or (chunks n text) i [])) flag)))
       ]

@@ -10,7 +10,7 @@ use Rattle.age_stream.specs.Segment.{Segment, Outcome, outcome, text_before_last
 use Rattle.age_stream.specs.inner.OpenerSteps.{after_last, at_block, final_block}
 use Rattle.age_stream.specs.declared.step.Status.TheVariants.{Done}
 use Rattle.age_stream.specs.Headline.{IsWriters, IsAuthentic}
-use Rattle.age_stream.proofs.ChunkLemmas.{slice_get-within, slice_get-past}
+use Rattle.std.proofs.lemmas.Option.{slice_get-get_or, slice_get_past}
 use Rattle.age_stream.proofs.SegmentLemmas.{IsChunk, writer_text, opens_before, by_test, tag_left, empty_first}
 use Rattle.age_stream.proofs.TableLemmas.{verdict_at, by_blocks}
 use Rattle.age_stream.proofs.TriedLemmas.{tried}
@@ -31,7 +31,7 @@ module _ (sealing : List ℕ → List ℕ → List ℕ) (opening : List ℕ → 
       → text_then opening o (front_texts opening (i + 1) blocks) ≡ []
   none_then block blocks i None e small past w = refl
   none_then block blocks i (Some x) e small past w =
-      let p = opens_before sealing opening valid n text few positive i (opening (nonce_bytes i false) block) x e in
+      let p = opens_before i (opening (nonce_bytes i false) block) x e in
       let w0 : IsWriters sealing opening n text (nonce_bytes (i + 0) false) block = w 0 (omega arith) in
       let z : i + 0 ≡ i = omega arith in
       let w1 = subst (λ (k : ℕ). IsWriters sealing opening n text (nonce_bytes k false) block) z w0 in
@@ -103,12 +103,12 @@ module _ (sealing : List ℕ → List ℕ → List ℕ) (opening : List ℕ → 
       let at_none : IsPast (verdict_at opening [] (s.start + 0) (slice_get blocks 0) behind rest s.late s.ended) =
       elim (cases_lt 0 (length blocks)) [
         | inl lt ↦
-            (let is : slice_get blocks 0 ≡ Some (get_or blocks 0 []) = slice_get-within blocks 0 [] lt in
+            (let is : slice_get blocks 0 ≡ Some (get_or blocks 0 []) = slice_get-get_or blocks 0 [] lt in
             subst (λ (b : Option (List ℕ)). IsPast (verdict_at opening [] (s.start + 0) b behind rest s.late s.ended)) (sym is)
             (past_block (s.start + 0) (get_or blocks 0 []) (behind || s.late) s.ended (opening (nonce_bytes (s.start + 0) false) (get_or blocks 0 []))
             low far (next (omega (arith, lt, count)) true)))
         | inr le ↦
-            (let is : slice_get blocks 0 ≡ None = slice_get-past blocks 0 le in
+            (let is : slice_get blocks 0 ≡ None = slice_get_past blocks 0 le in
             let eq : 0 ≡ q = omega (arith, le, count) in
             subst (λ (b : Option (List ℕ)). IsPast (verdict_at opening [] (s.start + 0) b behind rest s.late s.ended)) (sym is)
             (past_rest (s.start + 0) rest s.late s.ended low far

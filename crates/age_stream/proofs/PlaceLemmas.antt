@@ -39,9 +39,6 @@ seals_from : (sealing : List ℕ → List ℕ → List ℕ) (q i : ℕ) (last : 
 seals_from sealing q i last [] = (refl, (nonce_bytes-length q true, tt))
 seals_from sealing q i last (c ∷ cs) = (refl, (nonce_bytes-length i false, seals_from sealing q (i + 1) last cs))
 
-seals_all : (sealing : List ℕ → List ℕ → List ℕ) (n : ℕ) (text : List ℕ) → AreSealed sealing (sealed sealing n text) (chunks n text)
-seals_all sealing n text = seals_from sealing (last_index n text) 0 (last_chunk n text) (first_chunks n (last_index n text) text)
-
 abbrev is_pair : List ℕ → List ℕ → List ℕ × List ℕ → Bool
 is_pair nonce block pair = bytes_eq pair.0 nonce && bytes_eq pair.1 block
 
@@ -140,7 +137,9 @@ module _ (sealing : List ℕ → List ℕ → List ℕ) (opening : List ℕ → 
       cc
 
   same_by : (nonce block : List ℕ) (b : Bool) → sure nonce block ≡ b → IsWriters sealing opening n text nonce block → Same nonce block
-  same_by nonce block true e w = found_opens sealing opening valid (sealed sealing n text) (chunks n text) nonce block (seals_all sealing n text) e
+  same_by nonce block true e w =
+      let all = seals_from sealing (last_index n text) 0 (last_chunk n text) (first_chunks n (last_index n text) text) in
+      found_opens sealing opening valid (sealed sealing n text) (chunks n text) nonce block all e
   same_by nonce block false e w =
       opens_none nonce block (opening nonce block) refl w e ∙ sym (found_none (sealed sealing n text) (chunks n text) nonce block e)
 
@@ -201,8 +200,7 @@ module _ (sealing : List ℕ → List ℕ → List ℕ) (opening : List ℕ → 
   opens_step block blocks i j None e more lt = absurd (omega arith)
   opens_step block blocks i zero (Some x) e more lt =
       let z : i ≡ i + 0 = omega arith in
-      let o : opening (nonce_bytes i false) block
-      ≡ Some x = (opens_before sealing opening valid n text few positive i (opening (nonce_bytes i false) block) x e).1 in
+      let o = (opens_before i (opening (nonce_bytes i false) block) x e).1 in
       let some : IsSome (opening (nonce_bytes i false) block) = rw o (search rules) in
       subst (λ (k : ℕ). IsSome (opening (nonce_bytes k false) block)) z some
   opens_step block blocks i (suc j) (Some x) e more lt =

@@ -5,19 +5,13 @@ use Rattle.std.specs.Borrow.{Bor}
 use borrow.Author.Tests.{ltb-true}
 use Rattle.std.proofs.Math.Nat.{add-mul-div_left, div-mul-le_self}
 use Rattle.age_stream.specs.declared.step.Status.{Status}
-use Rattle.age_stream.specs.declared.step.Status.TheVariants.{Open, LastSeen, Done, Failed}
+use Rattle.age_stream.specs.declared.step.Status.TheVariants.{Open}
 use Rattle.age_chunk.specs.Payload.{chunk_limit}
 use Rattle.age_stream.specs.Opener.{chunk_bytes, while_open, whole_text}
 use Rattle.age_chunk.specs.ChunkBoxes.{tag_length, text_length}
 
 pub open_number : (s : Status) (k : ℕ) → s ≡ Open → while_open s k ≡ k
 open_number s k e = ap (λ (x : Status). while_open x k) e
-
-pub shut_number : (s : Status) (k : ℕ) → (s ≡ Open → ⊥) → while_open s k ≡ 0
-shut_number Open k h = absurd (h refl)
-shut_number LastSeen k h = refl
-shut_number Done k h = refl
-shut_number (Failed f) k h = refl
 
 -- what is left to come needs the room that is left
 pub room_left : (n h t p : ℕ) (held : List ℕ) (chunk : Option (Bor (List ℕ)))

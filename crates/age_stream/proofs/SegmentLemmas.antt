@@ -2,17 +2,16 @@
 use Rattle.std.proofs.Common.{take-add, inl, inr, ◌≡◌, ℕ, suc, ◌<◌, ◌≤◌, ◌+◌, ◌*◌, ◌-◌, ◌/◌, ◌^◌, refl, ap, sym, subst, ◌∙◌, List, [], ◌∷◌, ◌++◌, length, take}
 use Rattle.std.proofs.Common.{drop, get_or, Bool, true, false, arith, rules}
 use Rattle.std.specs.Prelude.{Option, Some, None, IsSome, Contains, ◌==◌, nat_lt, cond, ◌||◌, ◌&&◌, slice_get}
-use Rattle.std.specs.List.{enumerate_from, flat_map}
+use Rattle.std.specs.List.{flat_map}
 use Rattle.std.specs.Simd.{first_chunks}
-use Rattle.std.proofs.lemmas.List.{get_or-map, length-map, append_assoc, append-nil, take_all, take-append-drop, get_or_append_left, length_push, get_or_push}
+use Rattle.std.proofs.lemmas.List.{append_assoc, append-nil, take_all, take-append-drop}
 use Rattle.std.proofs.lemmas.List.{flat_map_more}
-use Rattle.std.proofs.lemmas.Bool.{ltb-true, lt-ltb, cases_lt, eq-eqb, ne_eqb}
+use Rattle.std.proofs.lemmas.Bool.{ltb-true, cases_lt, eq-eqb, ne_eqb}
 use Rattle.std.proofs.lemmas.Bool.Decides.{nat_tests}
 use Rattle.std.proofs.Math.Nat.{le-div_iff_mul-le}
-use Rattle.std.proofs.lemmas.List.FromFn.{length-enumerate_from, get_or-enumerate_from}
-use Rattle.std.proofs.lemmas.Option.{cond_some}
+use Rattle.std.proofs.lemmas.Option.{cond_some, slice_get-get_or, slice_get_past}
 use Rattle.age_chunk.specs.ChunkBoxes.{IsChunkBox, tag_length}
-use Rattle.age_chunk.specs.Payload.{nonce_bytes, chunk_limit, chunk_count, last_index, last_chunk, pair, sealed_before_last, sealed}
+use Rattle.age_chunk.specs.Payload.{nonce_bytes, chunk_limit, chunk_count, last_index, last_chunk, pair, sealed}
 use Rattle.age_stream.specs.Segment.{Segment, Outcome, outcome, text_before_last, unless_greatest, text_then, front_texts, whole_blocks, rest_bytes, failed}
 use Rattle.age_stream.specs.Segment.{with_piece}
 use Rattle.age_stream.specs.inner.OpenerSteps.{after_last, at_block, final_block}
@@ -22,7 +21,7 @@ use Rattle.age_chunk.specs.declared.fault.StreamKind.TheVariants.{ChunkDamaged, 
 use Rattle.age_stream.specs.Headline.{IsWriters, IsAuthentic, IsPrefixOf}
 use Rattle.age_chunk.proofs.NonceLemmas.{nonce_bytes-length, nonce_bytes-number, nonce_bytes-flag}
 use Rattle.age_chunk.proofs.FirstChunkLemmas.{length-first_chunks, get_or-first_chunks}
-use Rattle.age_stream.proofs.ChunkLemmas.{last_chunk_le, slice_get-within, slice_get-past}
+use Rattle.age_stream.proofs.ChunkLemmas.{last_chunk_le, length-sealed, pair_before, pair_last}
 use Rattle.age_stream.proofs.TableLemmas.{verdict_at, by_blocks, length-front_texts}
 use Rattle.age_stream.proofs.TriedLemmas.{tried}
 
@@ -49,34 +48,14 @@ pub IsPair-from_Contains : (sealing : List ℕ → List ℕ → List ℕ) (n : �
     → IsPair sealing n text nonce block
 IsPair-from_Contains sealing n text nonce block positive h =
     let q = last_index n text in
-    let cs = first_chunks n q text in
-    let front = sealed_before_last sealing n text in
-    let len_cs : length cs ≡ q = length-first_chunks n q text in
-    let len_en : length (enumerate_from 0 cs) ≡ q = length-enumerate_from 0 cs ∙ len_cs in
-    let len : length front ≡ q = length-map (enumerate_from 0 cs) (pair sealing false) ∙ len_en in
+    let x = get_or (first_chunks n q text) h.0 [] in
+    let total = length-sealed sealing n text in
     elim (cases_lt h.0 q) [
-      | inl lt ↦
-          (let e0 : get_or (sealed sealing n text) h.0 (nonce, block) ≡ get_or front h.0 (nonce, block) =
-          get_or_append_left front (pair sealing true (q, last_chunk n text) ∷ []) (nonce, block) h.0 (omega (arith, lt, len)) in
-          let e1 : get_or front h.0 (nonce, block) ≡ pair sealing false (get_or (enumerate_from 0 cs) h.0 (0, [])) =
-          get_or-map (pair sealing false) (enumerate_from 0 cs) h.0 (0, []) (nonce, block) (omega (arith, lt, len_en)) in
-          let e2 : get_or (enumerate_from 0 cs) h.0 (0, []) ≡ (0 + h.0, get_or cs h.0 []) = get_or-enumerate_from 0 cs h.0 (
-            0,
-            [],
-          ) (omega (arith, lt, len_cs)) in
-          let z : 0 + h.0 ≡ h.0 = omega arith in
-          let e3 : pair sealing false (0 + h.0, get_or cs h.0 [])
-          ≡ pair sealing false (h.0, get_or cs h.0 []) = ap (λ (i : ℕ). pair sealing false (i, get_or cs h.0 [])) z in
-          pair_at sealing n text nonce block false h.0 (get_or cs h.0 []) (sym h.2 ∙ (e0 ∙ (e1 ∙ (ap (pair sealing false) e2 ∙ e3)))) (omega (arith, lt))
-          (sym (ne_eqb (h.0 + 1) (q + 1) (λ e. omega (arith, lt, e)))) (get_or-first_chunks n q text h.0 [] lt))
-      | inr le ↦
-          (let total : length (sealed sealing n text) ≡ q + 1 = length_push front (pair sealing true (q, last_chunk n text)) ∙ ap (λ (k : ℕ). k + 1) len in
-          let at : h.0 ≡ q = omega (arith, le, h.1, total) in
-          let e0 : get_or (sealed sealing n text) h.0 (nonce, block) ≡ pair sealing true (q, last_chunk n text) =
-          get_or_push front (pair sealing true (q, last_chunk n text)) (nonce, block) h.0 (len ∙ sym at) in
-          let short : length (last_chunk n text) ≤ n = last_chunk_le n text positive in
-          pair_at sealing n text nonce block true q (last_chunk n text) (sym h.2 ∙ e0) (omega arith) (sym (eq-eqb (q + 1) (q + 1) refl))
-          (sym (take_all n (last_chunk n text) short)))
+      | inl lt ↦ pair_at sealing n text nonce block false h.0 x (sym h.2 ∙ pair_before sealing n text h.0 (nonce, block) lt) (omega (arith, lt))
+          (sym (ne_eqb (h.0 + 1) (q + 1) (λ e. omega (arith, lt, e)))) (get_or-first_chunks n q text h.0 [] lt)
+      | inr le ↦ pair_at sealing n text nonce block true q (last_chunk n text)
+          (sym h.2 ∙ pair_last sealing n text h.0 (nonce, block) (omega (arith, le, h.1, total))) (omega arith)
+          (sym (eq-eqb (q + 1) (q + 1) refl)) (sym (take_all n (last_chunk n text) (last_chunk_le n text positive)))
     ]
 
 pub by_test : {A : Type 0} (P : A → Type 0) (b : Bool) (x y : A) → (b ≡ true → P x) → (b ≡ false → P y) → P (cond b x y)
@@ -85,25 +64,10 @@ by_test P false x y f g = g refl
 
 -- what is left at the end has a tag, and is only a tag at number 0
 pub tag_left : (len : ℕ) → (nat_lt 0 len && nat_lt len tag_length) ≡ false → (len == 0) ≡ false → tag_length ≤ len
-tag_left len uncut some =
-    elim (cases_lt len tag_length) [
-      | inl lt ↦
-          (let pos : 0 < len = grind (arith, nat_tests) in
-          let cut : (nat_lt 0 len && nat_lt len tag_length) ≡ true = ap (λ (b : Bool). b && nat_lt len tag_length) (lt-ltb 0 len pos) ∙ lt-ltb len tag_length lt in
-          let no : true ≡ false = sym cut ∙ uncut in
-          cc)
-      | inr le ↦ le
-    ]
+tag_left len uncut some = grind (arith, nat_tests)
 
 pub empty_first : (len i : ℕ) → (len == tag_length && nat_lt 0 i) ≡ false → len ≡ tag_length → i ≡ 0
-empty_first len i first is =
-    elim (cases_lt 0 i) [
-      | inl lt ↦
-          (let later : (len == tag_length && nat_lt 0 i) ≡ true = ap (λ (b : Bool). b && nat_lt 0 i) (eq-eqb len tag_length is) ∙ lt-ltb 0 i lt in
-          let no : true ≡ false = sym later ∙ first in
-          cc)
-      | inr le ↦ omega (arith, le)
-    ]
+empty_first len i first is = grind (arith, nat_tests)
 
 -- x is the chunk at i, and last says whether no other follows
 pub record IsChunk (n : ℕ) (text : List ℕ) (i : ℕ) (last : Bool) (x : List ℕ) : Type 0 where
@@ -114,6 +78,11 @@ pub record IsChunk (n : ℕ) (text : List ℕ) (i : ℕ) (last : Bool) (x : List
 -- a piece leaves the start
 pub piece_start : (s : Segment) (p : List ℕ) → (with_piece s p).start ≡ s.start
 piece_start s p = by_test (λ (t : Segment). t.start ≡ s.start) s.ended _ _ (λ _. refl) (λ _. refl)
+
+-- a block opens as one before the last only where its number isn't the greatest
+pub opens_before : (i : ℕ) (o : Option (List ℕ)) (x : List ℕ) → unless_greatest i o ≡ Some x → (nat_lt (i + 1) chunk_limit ≡ true) × (o ≡ Some x)
+opens_before i None x e = cc
+opens_before i (Some y) x e = let t = cond_some (nat_lt (i + 1) chunk_limit) y x e in (t.0, ap Some t.1)
 
 module _ (sealing : List ℕ → List ℕ → List ℕ) (opening : List ℕ → List ℕ → Option (List ℕ)) (valid : IsChunkBox sealing opening)
     (n : ℕ) (text : List ℕ) (few : chunk_count n text ≤ chunk_limit) (positive : 0 < n) where
@@ -142,10 +111,6 @@ module _ (sealing : List ℕ → List ℕ → List ℕ) (opening : List ℕ → 
     pub within : (i + length texts) * n ≤ length text
     pub joins : take (i * n) text ++ flat_map (λ (t : List ℕ). t) texts ≡ take ((i + length texts) * n) text
     pub small : i < chunk_limit → i + length texts < chunk_limit
-
-  pub opens_before : (i : ℕ) (o : Option (List ℕ)) (x : List ℕ) → unless_greatest i o ≡ Some x → (nat_lt (i + 1) chunk_limit ≡ true) × (o ≡ Some x)
-  opens_before i None x e = cc
-  opens_before i (Some y) x e = let t = cond_some (nat_lt (i + 1) chunk_limit) y x e in (t.0, ap Some t.1)
 
   pub next_within : (i : ℕ) → i < chunk_count n text → false ≡ (i + 1 == chunk_count n text) → (i + 1) * n ≤ length text
   next_within i below flag =
@@ -281,13 +246,13 @@ module _ (sealing : List ℕ → List ℕ → List ℕ) (opening : List ℕ → 
       subst (IsReleased i base) (sym (by_blocks opening n s))
       (elim (cases_lt m (length blocks)) [
         | inl lt ↦
-            (let is : slice_get blocks m ≡ Some (get_or blocks m []) = slice_get-within blocks m [] lt in
+            (let is : slice_get blocks m ≡ Some (get_or blocks m []) = slice_get-get_or blocks m [] lt in
             let lt' : m < length s.bytes / size = omega (arith, lt, count) in
             subst (λ (b : Option (List ℕ)). IsReleased i base (verdict_at opening texts i b behind rest s.late s.ended)) (sym is)
             (released_block i base texts (get_or blocks m []) (behind || s.late) s.ended
             (opening (nonce_bytes i false) (get_or blocks m [])) low (auth.next lt' true) here))
         | inr le ↦
-            (let is : slice_get blocks m ≡ None = slice_get-past blocks m le in
+            (let is : slice_get blocks m ≡ None = slice_get_past blocks m le in
             let eq : m ≡ length s.bytes / size = omega (arith, le, count, length-front_texts opening blocks s.start) in
             subst (λ (b : Option (List ℕ)). IsReleased i base (verdict_at opening texts i b behind rest s.late s.ended)) (sym is)
             (released_rest i base texts rest s.late s.ended low

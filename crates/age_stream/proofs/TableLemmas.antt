@@ -12,7 +12,7 @@ use Rattle.age_stream.specs.inner.OpenerSteps.{after_last, at_block, final_block
 use Rattle.age_stream.specs.declared.step.Status.TheVariants.{LastSeen, Done}
 use Rattle.age_chunk.specs.declared.fault.StreamKind.TheVariants.{ChunkDamaged, ChunkCut, EmptyLast, Truncated, Trailing, TooManyChunks}
 use Rattle.age_chunk.proofs.FirstChunkLemmas.{length-first_chunks, get_or-first_chunks}
-use Rattle.age_stream.proofs.ChunkLemmas.{slice_get-within, slice_get-past}
+use Rattle.std.proofs.lemmas.Option.{slice_get-get_or, slice_get_past}
 use Rattle.age_chunk.specs.ChunkBoxes.{tag_length}
 
 -- a line that doesn't hold
@@ -151,7 +151,7 @@ module _ (opening : List ℕ → List ℕ → Option (List ℕ)) where
         ap (λ (w : Bool). read (block_at n s.bytes j) w (followed || s.late)) (eq-eqb (length (block_at n s.bytes j)) (n + tag_length) len)
         ∙ (ap (λ (c : List ℕ). read c true (followed || s.late)) block
         ∙ (whole_verdict texts i b (followed || s.late) s.ended long
-        ∙ sym (ap (λ (o : Option (List ℕ)). verdict_at texts i o followed (rest_bytes n s.bytes) s.late s.ended) (slice_get-within blocks j [] lt))))
+        ∙ sym (ap (λ (o : Option (List ℕ)). verdict_at texts i o followed (rest_bytes n s.bytes) s.late s.ended) (slice_get-get_or blocks j [] lt))))
 
     at_rest : length blocks ≤ length texts → length texts ≤ length blocks → outcome opening n s
         ≡ outcome_of n s.start blocks (length s.bytes) (rest_bytes n s.bytes) s.late s.ended
@@ -171,7 +171,7 @@ module _ (opening : List ℕ → List ℕ → Option (List ℕ)) where
         ∙ (ap (λ (w : Bool). read rest w (followed || s.late)) part
         ∙ (ap (λ (f : Bool). read rest false (f || s.late)) none
         ∙ (short_verdict texts i rest s.late s.ended
-        ∙ sym (ap (λ (o : Option (List ℕ)). verdict_at texts i o followed rest s.late s.ended) (slice_get-past blocks j ge)))))
+        ∙ sym (ap (λ (o : Option (List ℕ)). verdict_at texts i o followed rest s.late s.ended) (slice_get_past blocks j ge)))))
 
     -- the outcome, by its whole blocks and what is left
     pub by_blocks : outcome opening n s ≡ outcome_of n s.start blocks (length s.bytes) (rest_bytes n s.bytes) s.late s.ended

@@ -6,8 +6,7 @@ use Rattle.std.specs.List.{enumerate_from, AllByRecursion}
 use Rattle.std.specs.Simd.{first_chunks}
 use Rattle.std.proofs.lemmas.Grind.{flat_map-append}
 use Rattle.std.proofs.lemmas.List.{length-append, length-drop, length-take, append-nil, append_assoc, get_or_at, take_at, drop_at, drop-drop, take_all}
-use Rattle.std.proofs.lemmas.List.{get_or-map, length-map, get_or_append_left, length_push, get_or_push, get_or-drop}
-use Rattle.std.proofs.lemmas.List.FromFn.{length-enumerate_from, get_or-enumerate_from}
+use Rattle.std.proofs.lemmas.List.{get_or_append_left, get_or-drop}
 use Rattle.std.proofs.lemmas.Bool.{cases_lt, lt-ltb, le-ltb, eq-eqb, eqb-true, ltb-true, and_parts}
 use Rattle.std.proofs.lemmas.Nat.{div-mul-add, mul-le}
 use Rattle.std.proofs.Math.Nat.{add-mul-div_left}
@@ -19,7 +18,8 @@ use Rattle.age_stream.specs.Headline.{IsAuthentic, IsWriters}
 use Rattle.age_stream.specs.declared.step.Status.TheVariants.{Done}
 use Rattle.age_chunk.proofs.NonceLemmas.{nonce_bytes-length}
 use Rattle.age_chunk.proofs.FirstChunkLemmas.{length-first_chunks}
-use Rattle.age_stream.proofs.ChunkLemmas.{last_chunk_le, slice_get-past}
+use Rattle.std.proofs.lemmas.Option.{slice_get_past}
+use Rattle.age_stream.proofs.ChunkLemmas.{last_chunk_le, length-sealed, pair_before, pair_last}
 use Rattle.age_stream.proofs.SealingLemmas.{last_index_le}
 use Rattle.age_stream.proofs.SegmentLemmas.{by_test, writer_text}
 use Rattle.age_stream.proofs.GoingLemmas.{front_on, slice_get_end}
@@ -70,7 +70,7 @@ module _ (sealing : List ℕ → List ℕ → List ℕ) (opening : List ℕ → 
       let e : i + 1 + j ≡ i + suc j = omega arith in
       get_or-blocks_of (i + 1) ds j (omega arith) ∙ ap (λ (x : ℕ). sealing (nonce_bytes x false) (get_or ds j [])) e
 
-  length-bytes_of : (i : ℕ) (ds : List (List ℕ)) → Full ds → length (bytes_of i ds) ≡ (n + tag_length) * length ds
+  pub length-bytes_of : (i : ℕ) (ds : List (List ℕ)) → Full ds → length (bytes_of i ds) ≡ (n + tag_length) * length ds
   length-bytes_of i [] h = omega arith
   length-bytes_of i (d ∷ ds) h =
       let e : (n + tag_length) * suc (length ds) ≡ (n + tag_length) * length ds + (n + tag_length) = omega arith in
@@ -147,6 +147,14 @@ module _ (sealing : List ℕ → List ℕ → List ℕ) (opening : List ℕ → 
       ∙ (ap (drop (k * z)) (drop_at b rest z (full_len i d h.0))
       ∙ (drop_of (i + 1) k ds l h.1 (omega arith) ∙ ap (λ (j : ℕ). bytes_of j (drop k ds) ++ l) e))))
 
+  -- a payload is the blocks of all chunks but the last, and the last one's
+  pub payload_is : (text : List ℕ) → payload sealing n text
+      ≡ bytes_of 0 (first_chunks n (last_index n text) text) ++ sealing (nonce_bytes (last_index n text) true) (last_chunk n text)
+  payload_is text =
+      flat_map-append (λ (p : List ℕ × List ℕ). p.1) (sealed_before_last sealing n text)
+      (pair sealing true (last_index n text, last_chunk n text) ∷ [])
+      ∙ ap (λ (x : List ℕ). block_bytes (sealed_before_last sealing n text) ++ x) (append-nil _)
+
   module _ (positive : 0 < n) (text : List ℕ) (few : chunk_count n text ≤ chunk_limit) (k : ℕ) (below : k < chunk_count n text) where
     abbrev pub q : ℕ
     q = last_index n text
@@ -187,12 +195,9 @@ module _ (sealing : List ℕ → List ℕ → List ℕ) (opening : List ℕ → 
 
     pub rest_payload : drop (k * (n + tag_length)) (payload sealing n text) ≡ bytes
     rest_payload =
-        let all : payload sealing n text ≡ bytes_of 0 cs ++ tail =
-        flat_map-append (λ (p : List ℕ × List ℕ). p.1) (sealed_before_last sealing n text) (pair sealing true (q, last_chunk n text) ∷ [])
-        ∙ ap (λ (x : List ℕ). bytes_of 0 cs ++ x) (append-nil tail) in
         let z : 0 + k ≡ k = omega arith in
         let le : k ≤ length cs = omega (arith, length-first_chunks n q text, below) in
-        ap (drop (k * (n + tag_length))) all ∙ (drop_of 0 k cs tail cs_full le ∙ ap (λ (j : ℕ). bytes_of j ds ++ tail) z)
+        ap (drop (k * (n + tag_length))) (payload_is text) ∙ (drop_of 0 k cs tail cs_full le ∙ ap (λ (j : ℕ). bytes_of j ds ++ tail) z)
 
     outcome_is : outcome opening n rest_segment ≡ outcome_of opening n k (blocks_of k ds ++ whole_blocks n tail) (length bytes) (rest_bytes n tail) false true
     outcome_is =
@@ -213,16 +218,17 @@ module _ (sealing : List ℕ → List ℕ → List ℕ) (opening : List ℕ → 
 
     -- the last chunk is short: its block is what is left after the whole ones
     module _ (short : length tail < n + tag_length) where
+      none_count : length tail / (n + tag_length) ≡ 0
+      none_count = let e : length tail ≡ 0 * (n + tag_length) + length tail = omega arith in
+          ap (λ (x : ℕ). x / (n + tag_length)) e ∙ div-mul-add 0 (n + tag_length) (length tail) short
+
       none_whole : whole_blocks n tail ≡ []
-      none_whole =
-          let e : length tail ≡ 0 * (n + tag_length) + length tail = omega arith in
-          ap (λ (c : ℕ). first_chunks (n + tag_length) c tail) (ap (λ (x : ℕ). x / (n + tag_length)) e ∙ div-mul-add 0 (n + tag_length) (length tail) short)
+      none_whole = ap (λ (c : ℕ). first_chunks (n + tag_length) c tail) none_count
 
       all_left : rest_bytes n tail ≡ tail
       all_left =
-          let e : length tail ≡ 0 * (n + tag_length) + length tail = omega arith in
           let z : 0 * (n + tag_length) ≡ 0 = omega arith in
-          ap (λ (c : ℕ). drop (c * (n + tag_length)) tail) (ap (λ (x : ℕ). x / (n + tag_length)) e ∙ div-mul-add 0 (n + tag_length) (length tail) short) ∙ ap (λ (c : ℕ). drop c tail) z
+          ap (λ (c : ℕ). drop (c * (n + tag_length)) tail) none_count ∙ ap (λ (c : ℕ). drop c tail) z
 
       rest_done : (final_block opening ds (k + length ds) tail false true).status ≡ Done
       rest_done =
@@ -260,7 +266,7 @@ module _ (sealing : List ℕ → List ℕ → List ℕ) (opening : List ℕ → 
           ∙ (ap (λ (r : List ℕ). outcome_of opening n k (blocks ++ []) (length bytes) r false true) all_left
           ∙ ap G (front_after [] ∙ append-nil ds))) in
           let past : slice_get (blocks ++ []) (length ds)
-          ≡ None = slice_get-past (blocks ++ []) (length ds) (omega (arith, ap length (append-nil blocks), length-blocks_of k ds)) in
+          ≡ None = slice_get_past (blocks ++ []) (length ds) (omega (arith, ap length (append-nil blocks), length-blocks_of k ds)) in
           let e2 = e1 ∙ ap (λ (o : Option (List ℕ)). verdict_at opening ds (k + length ds) o (nat_lt ((length ds + 1) * (n + tag_length)) (length bytes)) tail
           false true) past in
           ap (λ (o : Outcome). o.status) e2 ∙ rest_done
@@ -342,27 +348,11 @@ module _ (sealing : List ℕ → List ℕ → List ℕ) (opening : List ℕ → 
     -- the writer's pairs
     writers_front : (i : ℕ) → i < q → Contains (sealed sealing n text) (nonce_bytes i false, sealing (nonce_bytes i false) (get_or cs i []))
     writers_front i lt =
-        let p : List ℕ × List ℕ = (nonce_bytes i false, sealing (nonce_bytes i false) (get_or cs i [])) in
-        let front = sealed_before_last sealing n text in
-        let len_cs : length cs ≡ q = length-first_chunks n q text in
-        let len_en : length (enumerate_from 0 cs) ≡ q = length-enumerate_from 0 cs ∙ len_cs in
-        let len : length front ≡ q = length-map (enumerate_from 0 cs) (pair sealing false) ∙ len_en in
-        let total : length (sealed sealing n text) ≡ q + 1 = length_push front (pair sealing true (q, last_chunk n text)) ∙ ap (λ (j : ℕ). j + 1) len in
-        let e0 : get_or (sealed sealing n text) i p ≡ get_or front i p =
-        get_or_append_left front (pair sealing true (q, last_chunk n text) ∷ []) p i (omega (arith, lt, len)) in
-        let e1 : get_or front i p ≡ pair sealing false (get_or (enumerate_from 0 cs) i (0, [])) =
-        get_or-map (pair sealing false) (enumerate_from 0 cs) i (0, []) p (omega (arith, lt, len_en)) in
-        let e2 : get_or (enumerate_from 0 cs) i (0, []) ≡ (0 + i, get_or cs i []) = get_or-enumerate_from 0 cs i (0, []) (omega (arith, lt, len_cs)) in
-        let z : 0 + i ≡ i = omega arith in
-        (i, omega (arith, lt, total), e0 ∙ (e1 ∙ (ap (pair sealing false) e2 ∙ ap (λ (j : ℕ). pair sealing false (j, get_or cs i [])) z)))
+        let d : List ℕ × List ℕ = (nonce_bytes i false, sealing (nonce_bytes i false) (get_or cs i [])) in
+        (i, omega (arith, lt, length-sealed sealing n text), pair_before sealing n text i d lt)
 
     writers_last : Contains (sealed sealing n text) (nonce_bytes q true, tail)
-    writers_last =
-        let p : List ℕ × List ℕ = (nonce_bytes q true, tail) in
-        let front = sealed_before_last sealing n text in
-        let len : length front ≡ q = length-map (enumerate_from 0 cs) (pair sealing false) ∙ (length-enumerate_from 0 cs ∙ length-first_chunks n q text) in
-        let total : length (sealed sealing n text) ≡ q + 1 = length_push front (pair sealing true (q, last_chunk n text)) ∙ ap (λ (j : ℕ). j + 1) len in
-        (q, omega (arith, total), get_or_push front (pair sealing true (q, last_chunk n text)) p q len)
+    writers_last = (q, omega (arith, length-sealed sealing n text), pair_last sealing n text q (nonce_bytes q true, tail) refl)
 
     -- the blocks before the last are the writer's
     front_writers : (ys : List (List ℕ)) (j : ℕ) → j < length ds → IsWriters sealing opening n text (nonce_bytes (k + j) false)
@@ -378,9 +368,7 @@ module _ (sealing : List ℕ → List ℕ → List ℕ) (opening : List ℕ → 
         let whole : whole_blocks n bytes ≡ blocks_of k ds ++ [] = whole_of k ds tail ds_full
         ∙ ap (λ (ys : List (List ℕ)). blocks_of k ds ++ ys) (none_whole short) in
         let front : front_texts opening k (whole_blocks n bytes) ≡ ds = ap (front_texts opening k) whole ∙ (front_after [] ∙ append-nil ds) in
-        let e : length tail ≡ 0 * (n + tag_length) + length tail = omega arith in
-        let none : length tail / (n + tag_length) ≡ 0 = ap (λ (x : ℕ). x / (n + tag_length)) e ∙ div-mul-add 0 (n + tag_length) (length tail) short in
-        let count : length bytes / (n + tag_length) ≡ length ds = omega (arith, count_of k ds tail ds_full, none) in
+        let count : length bytes / (n + tag_length) ≡ length ds = omega (arith, count_of k ds tail ds_full, none_count short) in
         let len : length (front_texts opening k (whole_blocks n bytes)) ≡ length ds = ap length front in
         authentic sealing opening n text rest_segment (record {
           front = λ j lt. subst (λ (bs : List (List ℕ)). IsWriters sealing opening n text (nonce_bytes (k + j) false) (get_or bs j [])) (sym whole)

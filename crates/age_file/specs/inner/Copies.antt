@@ -1,7 +1,7 @@
 -- What reading the nonce, skipping blocks and copying the old text do. Private: no public contract
 -- cites this module.
 use Rattle.std.specs.Prelude.{◌≡◌, ℕ, ◌^◌, ◌<◌, ◌≤◌, List, [], ◌++◌, length, Result, Bool}
-use Rattle.std.specs.Prelude.{Ok, Err, true, false, ◌+◌, ◌*◌, ◌≢◌, Some, IsSome, MatchResult}
+use Rattle.std.specs.Prelude.{Ok, Err, true, false, ◌+◌, ◌*◌, ◌/◌, ◌≢◌, Some, IsSome, MatchResult}
 use Rattle.age_io.specs.Taken.{Appends}
 use Rattle.age_io.specs.Supply.{IsAtEnd}
 use Rattle.std.specs.Simd.{first_chunks}
@@ -99,26 +99,11 @@ pub record Dries (old new : ReaderView) (bytes : List ℕ) (fault : FileFault) :
   pub used : new.unread.bytes ≡ []
   pub why : PullFails old new fault
 
--- this many bytes were passed over, or the source ended before, or failed
-abbrev pub SkipsBlock : ℕ → ReaderView → ReaderView → Result Bool FileFault → Type 0
-SkipsBlock n old new (Ok true) = (bytes : List ℕ) × (length bytes ≡ n) × Passes old new bytes
-SkipsBlock n old new (Ok false) = (bytes : List ℕ) × (length bytes < n) × Passes old new bytes
-    × (new.unread.bytes ≡ []) × IsAtEnd new.source.supply
-SkipsBlock n old new (Err fault) = (bytes : List ℕ) × (length bytes < n)
-    × Dries old new bytes fault
-
--- the source ended after j whole blocks of n bytes
-pub record EndsAfter (n j : ℕ) (old new : ReaderView) : Type 0 where
-  pub bytes : List ℕ
-  pub least : j * n ≤ length bytes
-  pub most : length bytes < j * n + n
-  pub passes : Passes old new bytes
-  pub used : new.unread.bytes ≡ []
-  pub at_end : IsAtEnd new.source.supply
-
+-- the source ended after a number of whole blocks of n bytes, or failed before all were passed over
 abbrev pub SkipFails : ℕ → ℕ → ReaderView → ReaderView → FileFault → Type 0
-SkipFails n blocks old new (Stream fault) = (fault.kind ≡ Truncated) × (fault.chunk < blocks)
-    × EndsAfter n fault.chunk old new
+SkipFails n blocks old new (Stream fault) = (fault.kind ≡ Truncated) × (bytes : List ℕ)
+    × (length bytes < blocks * n) × (fault.chunk ≡ length bytes / n) × Passes old new bytes
+    × (new.unread.bytes ≡ []) × IsAtEnd new.source.supply
 SkipFails n blocks old new Read = (bytes : List ℕ) × (length bytes < blocks * n)
     × Dries old new bytes Read
 SkipFails n blocks old new ReadNeverEnds = (bytes : List ℕ) × (length bytes < blocks * n)

@@ -6,12 +6,12 @@ use Rattle.age_io.specs.Taken.{Appends}
 use Rattle.sha2.specs.Hashers.{Holds256}
 use Rattle.age_stream.specs.Headline.{IsPrefixOf}
 use Rattle.age_fault.specs.Faults.{HasFailed}
+use Rattle.age_file.specs.inner.Readers.{view_of_reader, view_of_writer}
 use Rattle.age_file.specs.inner.Bindings.{link_if}
-use Rattle.age_file.specs.inner.Readers.{reader_view, view_of_reader, view_of_writer}
 use Rattle.age_io.proofs.TakenLemmas.{Appends-trans}
 use Rattle.age_file.proofs.StartLemmas.{uses_front}
 use Rattle.age_file.proofs.SkipLemmas.{passes_then, passes_same, dries_same}
-use Rattle.age_file.proofs.CopyLemmas.{copy_dry, all_out, front_written}
+use Rattle.age_file.proofs.CopyLemmas.{copy_dry, front_written}
 use Rattle.age_file.proofs.copy.copy_chunk.Goals as goal
 
 pub parts-init : goal.parts-init
@@ -39,16 +39,15 @@ pub returns-then-not-branch-clause-copied : goal.returns-then-not-branch-clause-
 returns-then-not-branch-clause-copied g c =
     let kept = c.parts.invariant in
     let r = rw c.if-not-branch.true at c.in_ok-has_bytes.ensures.answers in
-    let old = view_of_reader g.S.Source.view c.args.reader.now in
-    let mid = view_of_reader g.S.Source.view c.parts.reader in
-    let new = view_of_reader g.S.Source.view c.has_bytes.new.reader in
-    let passes = passes_same old mid new kept.copied kept.passes (record { uses = c.has_bytes.ensures.uses; unfailed = r.2 }) in
     record {
       out = kept.copied;
       wrote = kept.wrote;
       named = kept.named;
       count = kept.count;
-      answered = (omega (arith, kept.size, c.parts-test.true), (passes, r.0, r.1, kept.failures));
+      answered = (
+        omega (arith, kept.size, c.parts-test.true),
+        (passes_same kept.passes (record { uses = c.has_bytes.ensures.uses; unfailed = r.2 }), r.0, r.1, kept.failures),
+      );
     }
 
 pub returns-in_err-has_bytes-clause-copied : goal.returns-in_err-has_bytes-clause-copied
@@ -56,12 +55,9 @@ returns-in_err-has_bytes-clause-copied g c =
     let p = err_from_is_err_and c.from_residual.result c.from_residual.ensures.1 in
     let kept = c.parts.invariant in
     let a = c.in_err-has_bytes.ensures.answers in
-    let old = view_of_reader g.S.Source.view c.args.reader.now in
-    let mid = view_of_reader g.S.Source.view c.parts.reader in
-    let new = view_of_reader g.S.Source.view c.has_bytes.new.reader in
     let was = view_of_writer g.O.Sink.view c.args.writer.now in
     let now = view_of_writer g.O.Sink.view c.parts.writer in
-    let dries = dries_same old mid new kept.copied c.in_err-has_bytes.field-0.0 kept.passes (record {
+    let dries = dries_same {z = view_of_reader g.S.Source.view c.has_bytes.new.reader} c.in_err-has_bytes.field-0.0 kept.passes (record {
       uses = c.has_bytes.ensures.uses;
       used = a.0;
       why = a.1;
@@ -73,7 +69,7 @@ returns-in_err-has_bytes-clause-copied g c =
       count = kept.count;
       answered = rw (p.1, p.2) (
         omega (arith, kept.size, c.parts-test.true),
-        copy_dry old new was now kept.copied c.in_err-has_bytes.field-0.0 dries kept.failures,
+        copy_dry _ _ was now kept.copied c.in_err-has_bytes.field-0.0 dries kept.failures,
       );
     }
 
@@ -83,10 +79,6 @@ returns-in_err-write_all-clause-copied g c =
     let kept = c.parts.invariant in
     let r = rw c.if-not-branch.false at c.in_ok-has_bytes.ensures.answers in
     let put = c.in_err-write_all.ensures.writes in
-    let old = view_of_reader g.S.Source.view c.args.reader.now in
-    let mid = view_of_reader g.S.Source.view c.parts.reader in
-    let new = view_of_reader g.S.Source.view c.has_bytes.new.reader in
-    let used = passes_same old mid new kept.copied kept.passes (record { uses = c.has_bytes.ensures.uses; unfailed = r.1 }) in
     let n = c.min-n.result in
     let bytes = c.bytes-in-parts.result.now in
     record {
@@ -108,7 +100,7 @@ returns-in_err-write_all-clause-copied g c =
         ),
         (
           kept.copied,
-          used,
+          passes_same kept.passes (record { uses = c.has_bytes.ensures.uses; unfailed = r.1 }),
           subst (λ (t : List ℕ). IsPrefixOf (kept.copied ++ put.out) (kept.copied ++ t)) c.bytes-in-parts.ensures.bytes
               (front_written kept.copied put.out put.unwritten bytes n put.parts),
           subst (λ (m : ℕ). HasFailed m (g.O.Sink.view c.write_all.new.sink).failed (g.O.Sink.view c.write_all.new.sink).failing)
@@ -122,14 +114,10 @@ pub parts-preserved : goal.parts-preserved
 parts-preserved g c =
     let kept = c.parts.invariant in
     let r = rw c.if-not-branch.false at c.in_ok-has_bytes.ensures.answers in
-    let old = view_of_reader g.S.Source.view c.args.reader.now in
-    let mid = view_of_reader g.S.Source.view c.parts.reader in
-    let there = view_of_reader g.S.Source.view c.has_bytes.new.reader in
-    let new = reader_view (g.S.Source.view c.has_bytes.new.reader.source.now) c.use_front.new.self in
     let n = c.min-n.result in
     let bytes = c.bytes-in-parts.result.now in
     let put = c.in_ok-write_all.ensures.writes in
-    let whole : put.out ≡ take n bytes = all_out (take n bytes) put.out put.unwritten put.parts put.answered.0 in
+    let whole : put.out ≡ take n bytes = sym (put.parts ∙ ap (λ (t : List ℕ). put.out ++ t) put.answered.0 ∙ append-nil put.out) in
     let wrote = subst (λ (t : List ℕ). Appends (g.O.Sink.view c.parts.writer.sink.now).taken
     (g.O.Sink.view c.write_all.new.sink).taken t) whole put.wrote in
     let front = uses_front (g.S.Source.view c.has_bytes.new.reader.source.now) c.has_bytes.new.reader.intake.now c.use_front.new.self bytes n
@@ -147,7 +135,7 @@ parts-preserved g c =
         ap length c.bytes.ensures.bytes,
         ap length c.bytes-in-parts.ensures.bytes,
       );
-      passes = passes_then old there new kept.copied (take n bytes) (passes_same old mid there kept.copied kept.passes
+      passes = passes_then kept.copied (take n bytes) (passes_same {z = view_of_reader g.S.Source.view c.has_bytes.new.reader} kept.passes
           (record { uses = c.has_bytes.ensures.uses; unfailed = r.1 })) (record { uses = front; unfailed = refl });
       wrote = Appends-trans (g.O.Sink.view c.args.writer.now.sink.now).taken (g.O.Sink.view c.parts.writer.sink.now).taken
           (g.O.Sink.view c.write_all.new.sink).taken kept.copied (take n bytes) kept.wrote wrote;

@@ -56,9 +56,6 @@ loop-copied-preserved g c =
     let step = c.in_ok-copy_chunk.ensures.copied in
     let goes = step.answered in
     let i = c.loop-copied._copied in
-    let old = view_of_reader g.S.Source.view c.args.reader.now in
-    let mid = view_of_reader g.S.Source.view c.loop-copied.reader in
-    let new = view_of_reader g.S.Source.view c.copy_chunk.new.reader in
     let next : suc i ≡ i + 1 = omega arith in
     let links : c.copy_chunk.new.writer.tally.chain ≡ chain_if Kept (first_chunks chunk_length (i + 1) (kept.out ++ step.out)) =
     goes.4 ∙ ap (λ (xs : Option (List ℕ)). link_if xs step.out) kept.chain_is
@@ -69,7 +66,7 @@ loop-copied-preserved g c =
       same_writer = c.in_ok-copy_chunk.ensures.same_writer ∙ kept.same_writer;
       out = kept.out ++ step.out;
       size = omega (arith, kept.size, goes.0, length-append kept.out step.out);
-      passes = passes_then old mid new kept.out step.out kept.passes goes.1;
+      passes = passes_then kept.out step.out kept.passes goes.1;
       wrote = Appends-trans (g.O.Sink.view c.args.writer.now.sink.now).taken (g.O.Sink.view c.loop-copied.writer.sink.now).taken
           (g.O.Sink.view c.copy_chunk.new.writer.sink.now).taken kept.out step.out kept.wrote step.wrote;
       failures = goes.2 ∙ kept.failures;

@@ -25,13 +25,7 @@ returns-in_err-copy_chunks-clause-copied g c =
 pub returns-then-ne-clause-copied : goal.returns-then-ne-clause-copied
 returns-then-ne-clause-copied g c =
     let f = c.in_ok-copy_chunks.ensures.copied in
-    record {
-      out = f.out;
-      wrote = f.wrote;
-      named = f.named;
-      count = f.count;
-      answered = (f.answered, search rules);
-    }
+    record { out = f.out; wrote = f.wrote; named = f.named; count = f.count; answered = (f.answered, search rules) }
 
 pub returns-clause-copied : goal.returns-clause-copied
 returns-clause-copied g c =

@@ -132,12 +132,9 @@ pulls-preserved g c =
     let n : ℕ = chunk_length in
     let positive : 0 < n = omega arith in
     let piece = c.bytes.result.now in
-    let was = view_of_writer g.O.Sink.view c.args.writer.now in
-    let mid = view_of_writer g.O.Sink.view c.pulls.writer in
-    let now = view_of_writer g.O.Sink.view c.seal_piece.new.writer in
     let all = rw (← c.bytes.ensures.bytes) at (r.pulled (start_at (g.S.Source.view c.args.reader.now.source.now).supply) kept.text kept.pulled) in
-    let done = piece_done seals n c.new-sealer.result c.pulls.sealer c.seal_piece.new.sealer was mid
-    now kept.text piece s.fed s.left s.unwritten kept.goes kept.fresh kept.wrote s.some positive s.answered.0 s.answered.1 s.answered.3 in
+    let done = piece_done seals n c.new-sealer.result c.pulls.sealer c.seal_piece.new.sealer _ _
+    _ kept.text piece s.fed s.left s.unwritten kept.goes kept.fresh kept.wrote s.some positive s.answered.0 s.answered.1 s.answered.3 in
     record {
       feeding = kept.feeding;
       fresh = kept.fresh;
@@ -183,20 +180,16 @@ returns-in_err-finish-clause-sealed g c =
     let l = c.in_err-finish.ensures.sealed in
     let n : ℕ = chunk_length in
     let a = c.new-sealer.result in
-    let b = c.pulls.sealer in
-    let was = view_of_writer g.O.Sink.view c.args.writer.now in
-    let mid = view_of_writer g.O.Sink.view c.pulls.writer in
-    let now = view_of_writer g.O.Sink.view c.finish.new.writer in
     let old = ports (g.S.Source.view c.args.reader.now.source.now) (g.O.Sink.view c.args.writer.now.sink.now) in
     let new = ports (g.S.Source.view c.refill.new.source) (g.O.Sink.view c.finish.new.writer.sink.now) in
-    let out = last_written seals n a b was mid now kept.text kept.goes.key
+    let out = last_written seals n a _ _ _ _ kept.text kept.goes.key
     (kept.goes.holds [] kept.fresh) kept.wrote l.out l.unwritten l.wrote l.blocks in
     rw (p.1, p.2) (sealing_failed seals n c.new-sealer.result.key c.args.key.now old new c.args.writer.now.tally.written
     c.finish.new.writer.tally.written c.in_err-finish.field-0.0 (ap (λ v. v.key) c.new-sealer.ensures) (record {
       text = kept.text;
       out = front_of (seals a.key) n kept.text ++ l.out;
       moved = record { read = all.consumed; wrote = out.bytes; count = out.count; small = small };
-      prefix = last_begins seals n a b was mid now kept.text kept.goes.key
+      prefix = last_begins seals n a _ _ _ _ kept.text kept.goes.key
           (kept.goes.holds [] kept.fresh) kept.wrote l.out l.unwritten l.wrote l.blocks;
       fails = subst (λ (f : FileFault). SealingFails (seals a.key) n old new kept.text (front_of (seals a.key) n kept.text ++ l.out) f)
           (sym l.answered.0) (

@@ -1,4 +1,6 @@
-use Rattle.std.proofs.Common.{ℕ, ◌≡◌, take, drop, sym, ap, ◌∙◌, arith, [], ◌++◌, append-nil, refl}
+use Rattle.std.proofs.Common.{ℕ, ◌≡◌, take, drop, sym, ap, ◌∙◌, arith, List, [], Option, None, Some, append-nil, refl}
+use Rattle.std.specs.Borrow.{Bor}
+use Rattle.std.specs.Option.{unwrap_or}
 use Rattle.std.proofs.lemmas.Result.{err_from_is_err_and}
 use Rattle.std.proofs.lemmas.List.{length-take}
 use Rattle.age_io.proofs.TakenLemmas.{Appends-nil}
@@ -9,6 +11,11 @@ use Rattle.age_file.specs.inner.Seals.{front_of}
 use Rattle.age_file.proofs.SealLemmas.{step_len_le, step_len_some, at_limit, too_long, some_sealed}
 use Rattle.age_chunk.specs.Payload.{chunk_length}
 use Rattle.age_file.proofs.sealing.seal_once.Goals as goal
+
+-- the block that a step lent, or none
+lent : (chunk : Option (Bor (List ℕ))) (none : Bor (List ℕ)) → none.now ≡ [] → chunk_bytes chunk ≡ (unwrap_or chunk none).now
+lent None none e = sym e
+lent (Some block) none e = refl
 
 pub returns-in_err-step-clause-sealed : goal.returns-in_err-step-clause-sealed
 returns-in_err-step-clause-sealed g c =
@@ -30,8 +37,8 @@ returns-in_err-step-clause-sealed g c =
       answered = rw (p.1, p.2) (too_long n c.args.sealer.now c.args.piece.now (omega arith) limit, refused.1 ∙ ap too_many limit.index, refl);
     }
 
-pub returns-in_ok-write_all-clause-sealed : goal.returns-in_ok-write_all-clause-sealed
-returns-in_ok-write_all-clause-sealed g c =
+pub returns-clause-sealed : goal.returns-clause-sealed
+returns-clause-sealed g c =
     let after = rw c.in_ok-step.was at c.feed.follows.holds-at-none in
     let ok = c.in_ok-step.ensures.takes in
     let put = c.in_ok-write_all.ensures.writes in
@@ -39,7 +46,7 @@ returns-in_ok-write_all-clause-sealed g c =
     let piece = c.args.piece.now in
     let held = c.args.sealer.now.held in
     let n : ℕ = chunk_length in
-    let is : chunk_bytes step.chunk ≡ put.out ++ put.unwritten = ap (λ o. chunk_bytes o) c.in-Some.is ∙ put.parts in
+    let is = lent step.chunk _ refl ∙ ap (λ b. b.now) (sym c.unwrap_or-block.ensures) ∙ put.parts in
     record {
       fed = take step.taken piece;
       left = drop step.taken piece;
@@ -62,34 +69,6 @@ returns-in_ok-write_all-clause-sealed g c =
       );
     }
 
-pub returns-in_default-clause-sealed : goal.returns-in_default-clause-sealed
-returns-in_default-clause-sealed g c =
-    let after = rw c.in_ok-step.was at c.feed.follows.holds-at-none in
-    let ok = c.in_ok-step.ensures.takes in
-    let step = c.in_ok-step.step in
-    let piece = c.args.piece.now in
-    let held = c.args.sealer.now.held in
-    let n : ℕ = chunk_length in
-    let is : chunk_bytes step.chunk ≡ [] ++ [] = ap (λ o. chunk_bytes o) c.in_default.is in
-    record {
-      fed = take step.taken piece;
-      left = drop step.taken piece;
-      unwritten = [];
-      some = some_sealed seals n c.args.sealer.now _ _ _ piece step.taken step.chunk [] [] is
-          (record { bytes = Appends-nil _; count = omega arith; named = refl }) ok.chunk;
-      answered = (
-        omega (arith, ok.taken, step_len_le n held piece, length-take c.in_ok-step.step.taken c.args.piece.now),
-        λ more. omega (arith, ok.taken, step_len_some n held piece more),
-        refl,
-        refl,
-        record {
-          key = after.key;
-          feeding = record { unfinished = after.unfinished; sound = after.unfailed };
-          holds = after.holds;
-        },
-      );
-    }
-
 pub returns-in_err-write_all-clause-sealed : goal.returns-in_err-write_all-clause-sealed
 returns-in_err-write_all-clause-sealed g c =
     let p = err_from_is_err_and c.from_residual-in_err-write_all.result c.from_residual-in_err-write_all.ensures.1 in
@@ -98,7 +77,7 @@ returns-in_err-write_all-clause-sealed g c =
     let step = c.in_ok-step.step in
     let piece = c.args.piece.now in
     let n : ℕ = chunk_length in
-    let is : chunk_bytes step.chunk ≡ put.out ++ put.unwritten = ap (λ o. chunk_bytes o) c.in-Some.is ∙ put.parts in
+    let is = lent step.chunk _ refl ∙ ap (λ b. b.now) (sym c.unwrap_or-block.ensures) ∙ put.parts in
     record {
       fed = take step.taken piece;
       left = drop step.taken piece;

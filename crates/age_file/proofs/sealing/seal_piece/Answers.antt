@@ -45,7 +45,6 @@ loop-at-preserved g c =
     let at = c.loop-at.at in
     let s = c.in_ok-at.ensures.sealed in
     let was = view_of_writer g.O.Sink.view c.args.writer.now in
-    let mid = view_of_writer g.O.Sink.view c.loop-at.writer in
     let now = view_of_writer g.O.Sink.view c.seal_once.new.writer in
     let a = c.args.sealer.now in
     let b = c.loop-at.sealer in
@@ -54,7 +53,7 @@ loop-at-preserved g c =
     s.answered.0 in
     let whole : SealsSome seals n a d was now piece (take at piece ++ s.fed) s.left [] =
     subst (λ (t : List ℕ). SealsSome seals n a d was now piece (take at piece ++ s.fed) s.left t) s.answered.2
-    (next_some seals n a b d was mid now piece at s.fed s.left s.unwritten kept.some kept.goes s.some) in
+    (next_some seals n a b d was _ now piece at s.fed s.left s.unwritten kept.some kept.goes s.some) in
     record {
       same_writer = c.in_ok-at.ensures.same_writer ∙ kept.same_writer;
       within = omega (
@@ -85,14 +84,13 @@ returns-in_err-at-clause-sealed g c =
     let now = view_of_writer g.O.Sink.view c.seal_once.new.writer in
     let a = c.args.sealer.now in
     let b = c.loop-at.sealer in
-    let d = c.seal_once.new.sealer in
     let whole : take at piece ++ take (length piece - at) (drop at piece) ≡ piece = ap (λ (t : List ℕ). take at piece ++ t) (take_rest piece at)
     ∙ take-append-drop at piece in
     record {
       fed = take at piece ++ s.fed;
       left = s.left;
       unwritten = s.unwritten;
-      some = next_some seals n a b d was mid now piece at s.fed s.left s.unwritten kept.some kept.goes s.some;
+      some = next_some seals n a b _ was mid now piece at s.fed s.left s.unwritten kept.some kept.goes s.some;
       answered = rw (p.1, p.2) (subst (λ (t : List ℕ). SealFails seals n a was now t c.in_err-at.field-0.0) whole
           (fails_then seals n a b was mid now (take at piece) (take (length piece - at) (drop at piece)) c.in_err-at.field-0.0 kept.failures kept.goes
           s.answered));

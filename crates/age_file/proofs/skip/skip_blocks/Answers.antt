@@ -1,44 +1,49 @@
-use Rattle.std.proofs.Common.{◌++◌, ◌∙◌, refl, arith}
+use Rattle.std.proofs.Common.{◌++◌, ◌∙◌, refl, take, arith}
 use Rattle.std.proofs.lemmas.Result.{err_from_is_err_and}
-use Rattle.std.proofs.lemmas.List.{length-append}
-use Rattle.age_file.proofs.SkipLemmas.{passes_then, pass_fails, ends_after}
+use Rattle.std.proofs.lemmas.List.{length-append, length-take}
 use Rattle.age_file.specs.inner.Readers.{view_of_reader}
 use Rattle.age_chunk.specs.Payload.{block_length}
+use Rattle.age_file.proofs.StartLemmas.{uses_front}
+use Rattle.age_file.proofs.SkipLemmas.{passes_then, passes_same, dries_same, skip_dry}
 use Rattle.age_file.proofs.skip.skip_blocks.Goals as goal
 
 pub returns-then-not-branch-clause-skipped : goal.returns-then-not-branch-clause-skipped
 returns-then-not-branch-clause-skipped g c =
-    let kept = c.loop-block.invariant in
-    let r = rw c.if-not-branch.true at c.in_ok-skip_block.ensures.skipped in
-    let old = view_of_reader g.S.Source.view c.args.reader.now in
-    let mid = view_of_reader g.S.Source.view c.loop-block.reader in
-    let new = view_of_reader g.S.Source.view c.skip_block.new.reader in (
+    let kept = c.pieces.invariant in
+    let r = rw c.if-not-branch.true at c.in_ok-has_bytes.ensures.answers in (
       refl,
-      omega arith,
-      ends_after block_length c.loop-block.block old mid new kept.passed kept.size kept.passes r,
+      kept.passed,
+      omega (arith, kept.size, c.pieces-test.true),
+      omega (arith, kept.size, c.pieces-test.true),
+      passes_same kept.passes (record { uses = c.has_bytes.ensures.uses; unfailed = r.2 }),
+      r.0,
+      r.1,
     )
 
-pub returns-in_err-skip_block-clause-skipped : goal.returns-in_err-skip_block-clause-skipped
-returns-in_err-skip_block-clause-skipped g c =
+pub returns-in_err-has_bytes-clause-skipped : goal.returns-in_err-has_bytes-clause-skipped
+returns-in_err-has_bytes-clause-skipped g c =
     let p = err_from_is_err_and c.from_residual.result c.from_residual.ensures.1 in
-    let kept = c.loop-block.invariant in
-    let old = view_of_reader g.S.Source.view c.args.reader.now in
-    let mid = view_of_reader g.S.Source.view c.loop-block.reader in
-    let new = view_of_reader g.S.Source.view c.skip_block.new.reader in
-    rw (p.1, p.2) (pass_fails block_length c.args.blocks c.loop-block.block old mid new kept.passed
-    c.in_err-skip_block.field-0.0 kept.size (omega arith) kept.passes c.in_err-skip_block.ensures.skipped)
+    let kept = c.pieces.invariant in
+    let a = c.in_err-has_bytes.ensures.answers in
+    rw (p.1, p.2) (skip_dry block_length c.args.blocks _ _ kept.passed c.in_err-has_bytes.field-0.0
+    (omega (arith, kept.size, c.pieces-test.true))
+    (dries_same {z = view_of_reader g.S.Source.view c.has_bytes.new.reader} c.in_err-has_bytes.field-0.0 kept.passes
+    (record { uses = c.has_bytes.ensures.uses; used = a.0; why = a.1 })))
 
-pub loop-block-preserved : goal.loop-block-preserved
-loop-block-preserved g c =
-    let kept = c.loop-block.invariant in
-    let r = rw c.if-not-branch.false at c.in_ok-skip_block.ensures.skipped in
-    let old = view_of_reader g.S.Source.view c.args.reader.now in
-    let mid = view_of_reader g.S.Source.view c.loop-block.reader in
-    let new = view_of_reader g.S.Source.view c.skip_block.new.reader in
+pub pieces-preserved : goal.pieces-preserved
+pieces-preserved g c =
+    let kept = c.pieces.invariant in
+    let r = rw c.if-not-branch.false at c.in_ok-has_bytes.ensures.answers in
+    let there = view_of_reader g.S.Source.view c.has_bytes.new.reader in
+    let n = c.min-n.result in
+    let piece = c.bytes.result.now in
+    let front = uses_front (g.S.Source.view c.has_bytes.new.reader.source.now) c.has_bytes.new.reader.intake.now c.use_front.new.self piece n
+    c.use_front.ensures.pulls c.bytes.ensures.bytes c.use_front.ensures.bytes in
     record {
-      same = (c.in_ok-skip_block.ensures.same.0 ∙ kept.same.0, c.in_ok-skip_block.ensures.same.1 ∙ kept.same.1);
-      metered = λ from began. c.in_ok-skip_block.ensures.metered from (kept.metered from began);
-      passed = kept.passed ++ r.0;
-      size = omega (arith, kept.size, r.1, length-append kept.passed r.0);
-      passes = passes_then old mid new kept.passed r.0 kept.passes r.2;
+      same = (c.in_ok-has_bytes.ensures.same.0 ∙ kept.same.0, c.in_ok-has_bytes.ensures.same.1 ∙ kept.same.1);
+      metered = λ from began. c.in_ok-has_bytes.ensures.metered from (kept.metered from began);
+      passed = kept.passed ++ take n piece;
+      size = omega (arith, kept.size, c.min-n.ensures, length-append kept.passed (take n piece), length-take n piece);
+      passes = passes_then kept.passed (take n piece) (passes_same {z = there} kept.passes
+          (record { uses = c.has_bytes.ensures.uses; unfailed = r.1 })) (record { uses = front; unfailed = refl });
     }

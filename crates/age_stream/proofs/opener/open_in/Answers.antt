@@ -6,12 +6,6 @@ use Rattle.age_stream.proofs.opener.open_in.Goals as goal
 pub as_mut_slice-requires : goal.as_mut_slice-requires
 as_mut_slice-requires g c = list_fits c.requires.limit
 
-pub open_at-requires-clause-tag : goal.open_at-requires-clause-tag
-open_at-requires-clause-tag g c = omega (arith, ap length c.as_mut_slice.ensures.value)
-
-pub open_at-requires-clause-limit : goal.open_at-requires-clause-limit
-open_at-requires-clause-limit g c = omega (arith, c.as_mut_slice.ensures.fits)
-
 pub returns-clause-opened : goal.returns-clause-opened
 returns-clause-opened g c =
     let len : length c.open_at.new.block ≡ length c.args.buffer.now.items = omega (arith, c.open_at.auto.block, ap length c.as_mut_slice.ensures.value) in

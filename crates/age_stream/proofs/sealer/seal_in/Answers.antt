@@ -1,5 +1,4 @@
 use Rattle.std.proofs.Common.{◌≡◌, ap, length, arith, refl}
-use Rattle.std.proofs.lemmas.List.{length-append}
 use Rattle.age_stream.proofs.InPlaceLemmas.{sealed_in}
 use Rattle.age_stream.proofs.SizeLemmas.{list_fits}
 use Rattle.age_stream.proofs.sealer.seal_in.Goals as goal
@@ -9,13 +8,6 @@ push_bytes-requires g c = (list_fits c.requires.limit, (c.requires.room, c.requi
 
 pub as_mut_slice-requires : goal.as_mut_slice-requires
 as_mut_slice-requires g c = list_fits c.requires.limit
-
-pub seal_at-requires-clause-tag : goal.seal_at-requires-clause-tag
-seal_at-requires-clause-tag g c =
-    omega (arith, ap length c.as_mut_slice.ensures.value, simp length-append at (ap length c.push_bytes.ensures))
-
-pub seal_at-requires-clause-limit : goal.seal_at-requires-clause-limit
-seal_at-requires-clause-limit g c = omega (arith, c.as_mut_slice.ensures.fits)
 
 pub returns : goal.returns
 returns g c =

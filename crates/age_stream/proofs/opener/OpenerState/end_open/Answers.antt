@@ -85,15 +85,6 @@ returns-then-open_in-clause-ends g c =
     ends_opened old _ _ settled.same.1 settled.same.0 _ text (is_opened opening old.index (held_bytes old) long first text opens) refl
     (ap (λ k. take (text_length k) c.open_in.new.buffer.items) (omega arith)) (omega (arith, c.open_in.ensures.len)) (omega (arith, len))
 
-pub returns-then-open_in-clause-done : goal.returns-then-open_in-clause-done
-returns-then-open_in-clause-done g c = refl
-
-pub returns-then-open_in-clause-none : goal.returns-then-open_in-clause-none
-returns-then-open_in-clause-none g c = refl
-
-pub returns-then-open_in-clause-len : goal.returns-then-open_in-clause-len
-returns-then-open_in-clause-len g c = omega (arith, ap length c.reclaim.ensures.buffer)
-
 pub invariant_of-self-else-open_in : goal.invariant_of-self-else-open_in
 invariant_of-self-else-open_in g c =
     let open_ : c.reclaim.new.self.status ≡ Open = c.reclaim.ensures.same.2 ∙ c.requires in

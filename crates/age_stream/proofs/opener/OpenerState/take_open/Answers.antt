@@ -13,9 +13,6 @@ reclaim-requires g c = opener_state_fits c.args.self.now.sizes.1
 pub len-room-requires : goal.len-room-requires
 len-room-requires g c = list_fits c.args.self.now.sizes.1
 
-pub overflow_sub-room : goal.overflow_sub-room
-overflow_sub-room g c = c.len-room.ensures.fits
-
 pub push_bytes-requires : goal.push_bytes-requires
 push_bytes-requires g c = (list_fits c.args.self.now.sizes.1, (omega arith, c.args.self.now.sizes.1))
 
@@ -38,18 +35,6 @@ returns-then-piece-room-clause-part g c = λ _. record {
       ∙ (c.push_bytes.ensures ∙ ap (λ (held : List ℕ). held ++ c.args.piece.now) c.reclaim.ensures.buffer);
   answered = (refl, refl);
 }
-
-pub returns-then-piece-room-clause-whole : goal.returns-then-piece-room-clause-whole
-returns-then-piece-room-clause-whole g c = λ long. absurd (omega (arith, ap length c.reclaim.ensures.buffer))
-
-pub returns-then-piece-room-clause-short : goal.returns-then-piece-room-clause-short
-returns-then-piece-room-clause-short g c = omega (arith, ap length c.reclaim.ensures.buffer)
-
-pub returns-then-piece-room-clause-key : goal.returns-then-piece-room-clause-key
-returns-then-piece-room-clause-key g c = c.reclaim.ensures.same.1
-
-pub slice_bounds-push_bytes-end : goal.slice_bounds-push_bytes-end
-slice_bounds-push_bytes-end g c = omega (arith, length-take (g.row.SEALED - c.len-room.result) c.args.piece.now)
 
 pub push_bytes-requires-2 : goal.push_bytes-requires-2
 push_bytes-requires-2 g c = (
@@ -77,9 +62,6 @@ try_block-requires g c =
       ),
     )
 
-pub returns-clause-part : goal.returns-clause-part
-returns-clause-part g c = λ short. absurd (omega (arith, ap length c.reclaim.ensures.buffer))
-
 pub returns-clause-whole : goal.returns-clause-whole
 returns-clause-whole g c = λ _.
     let piece = c.args.piece.now in
@@ -91,16 +73,6 @@ returns-clause-whole g c = λ _.
     ∙ ap (λ (k : ℕ). held_bytes old ++ take k piece) size) in
     tried_ok g.B.ChunkBox.opening old _ c.try_block.new.self piece c.reclaim.ensures.same.1 c.reclaim.ensures.same.0 items room
     (omega (arith, size, c.len-room.ensures.fits, ap length c.reclaim.ensures.buffer)) c.in_ok-try_block.ensures
-
-pub returns-clause-short : goal.returns-clause-short
-returns-clause-short g c =
-    omega (arith, ap length c.reclaim.ensures.buffer, c.reclaim.new.self.room (c.reclaim.ensures.same.2 ∙ c.requires) c.reclaim.ensures.lent)
-
-pub returns-clause-key : goal.returns-clause-key
-returns-clause-key g c = c.in_ok-try_block.ensures.key ∙ c.reclaim.ensures.same.1
-
-pub returns-in_err-try_block-clause-part : goal.returns-in_err-try_block-clause-part
-returns-in_err-try_block-clause-part g c = λ short. absurd (omega (arith, ap length c.reclaim.ensures.buffer))
 
 pub returns-in_err-try_block-clause-whole : goal.returns-in_err-try_block-clause-whole
 returns-in_err-try_block-clause-whole g c = λ _.
@@ -114,10 +86,3 @@ returns-in_err-try_block-clause-whole g c = λ _.
     let told = err_from_is_err_and c.from_residual.result c.from_residual.ensures.1 in
     rw (told.1, told.2) (tried_err g.B.ChunkBox.opening old _ c.try_block.new.self piece c.reclaim.ensures.same.1 c.reclaim.ensures.same.0 items _
     c.in_err-try_block.ensures)
-
-pub returns-in_err-try_block-clause-short : goal.returns-in_err-try_block-clause-short
-returns-in_err-try_block-clause-short g c =
-    omega (arith, ap length c.reclaim.ensures.buffer, c.reclaim.new.self.room (c.reclaim.ensures.same.2 ∙ c.requires) c.reclaim.ensures.lent)
-
-pub returns-in_err-try_block-clause-key : goal.returns-in_err-try_block-clause-key
-returns-in_err-try_block-clause-key g c = c.in_err-try_block.ensures.key ∙ c.reclaim.ensures.same.1

@@ -8,9 +8,6 @@ use Rattle.age_chunk.specs.ChunkBoxes.{text_length}
 pub end-requires : goal.end-requires
 end-requires g c = opener_fits c.args.self.now.sizes.1
 
-pub push_text-requires : goal.push_text-requires
-push_text-requires g c = omega (arith, c.requires, c.in-Ok.ensures.ends.len)
-
 pub returns-in-Ok-clause-ended : goal.returns-in-Ok-clause-ended
 returns-in-Ok-clause-ended g c =
     let after = rw c.in-Ok.is at c.end.follows.holds-at-none in

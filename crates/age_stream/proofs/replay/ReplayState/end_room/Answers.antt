@@ -1,5 +1,5 @@
 use Rattle.std.proofs.Common.{ℕ, ap, sym, ◌∙◌}
-use Rattle.age_stream.proofs.RoomLemmas.{open_number, shut_number}
+use Rattle.age_stream.proofs.RoomLemmas.{open_number}
 use Rattle.age_stream.proofs.SizeLemmas.{opener_fits}
 use Rattle.age_stream.proofs.replay.ReplayState.end_room.Goals as goal
 use Rattle.age_chunk.specs.ChunkBoxes.{text_length}
@@ -14,6 +14,3 @@ pub returns-in-Open : goal.returns-in-Open
 returns-in-Open g c =
     c.saturating_sub.ensures
     ∙ (ap (λ (k : ℕ). text_length k) c.held_len.ensures.len ∙ sym (open_number c.args.self.now.opener.status _ (sym c.status.ensures ∙ c.in-Open.is)))
-
-pub returns-in_default : goal.returns-in_default
-returns-in_default g c = sym (shut_number c.args.self.now.opener.status _ (λ open_. c.in_default.not-Open (c.status.ensures ∙ open_)))

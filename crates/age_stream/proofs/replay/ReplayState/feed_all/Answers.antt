@@ -75,20 +75,8 @@ loop-at-smaller g c =
     let at = c.loop-at.at in
     omega (arith, c.in-Some.ensures.taken.0, c.in-Some.ensures.taken.1, length-take (length piece - at) (drop at piece), length-drop at piece)
 
-pub returns-in-None-clause-capacity : goal.returns-in-None-clause-capacity
-returns-in-None-clause-capacity g c = omega (arith, c.loop-at.invariant.capacity, c.feed_once.ensures.capacity)
-
-pub returns-in-None-clause-key : goal.returns-in-None-clause-key
-returns-in-None-clause-key g c = c.feed_once.ensures.key ∙ c.loop-at.invariant.key
-
-pub returns-clause-capacity : goal.returns-clause-capacity
-returns-clause-capacity g c = c.loop-at.invariant.capacity
-
 pub returns-clause-fed : goal.returns-clause-fed
 returns-clause-fed g c = λ s h.
     let piece = c.args.piece.now in
     subst (λ (ps : List ℕ). IsReplayAt g.B.ChunkBox.opening (text_length g.row.SEALED) (replay_view c.loop-at.self) (with_bytes s ps))
     (take_all c.loop-at.at piece (omega (arith, c.loop-at-test.false))) (c.loop-at.invariant.fed s h)
-
-pub returns-clause-key : goal.returns-clause-key
-returns-clause-key g c = c.loop-at.invariant.key

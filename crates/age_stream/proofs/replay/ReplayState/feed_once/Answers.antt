@@ -58,9 +58,3 @@ push_lent-requires g c =
 
 pub feed-requires : goal.feed-requires
 feed-requires g c = opener_fits c.args.self.now.sizes.1
-
-pub invariant_of-self : goal.invariant_of-self
-invariant_of-self g c = record { sizes = c.args.self.now.sizes }
-
-pub invariant_of-self-in-Err : goal.invariant_of-self-in-Err
-invariant_of-self-in-Err g c = record { sizes = c.args.self.now.sizes }

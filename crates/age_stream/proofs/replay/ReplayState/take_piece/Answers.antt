@@ -1,6 +1,5 @@
 use Rattle.std.proofs.Common.{ℕ, ◌+◌, ◌≤◌, ◌∙◌, vec_len, vec_capacity, refl, subst, arith}
 use Rattle.age_stream.proofs.RoomLemmas.{open_number}
-use Rattle.age_stream.proofs.ReplayLemmas.{on_err}
 use Rattle.age_stream.proofs.SizeLemmas.{replay_state_fits}
 use Rattle.age_stream.proofs.replay.ReplayState.take_piece.Goals as goal
 
@@ -15,9 +14,6 @@ feed_all-requires g c =
           (c.piece_room-room.ensures ∙ open_number _ _ open_) c.in_ok-reserve.ensures.ok,
     )
 
-pub invariant_of-self : goal.invariant_of-self
-invariant_of-self g c = record { sizes = c.args.self.now.sizes }
-
 pub returns-clause-fed : goal.returns-clause-fed
 returns-clause-fed g c = λ s h. c.feed_all.ensures.fed s (record {
   key = h.key;
@@ -25,21 +21,3 @@ returns-clause-fed g c = λ s h. c.feed_all.ensures.fed s (record {
   text = c.reserve.ensures.items ∙ h.text;
   refused = h.refused;
 })
-
-pub returns-clause-capacity : goal.returns-clause-capacity
-returns-clause-capacity g c = omega (arith, c.reserve.ensures.capacity, c.feed_all.ensures.capacity)
-
-pub returns-clause-key : goal.returns-clause-key
-returns-clause-key g c = c.feed_all.ensures.key
-
-pub returns-in_err-reserve-clause-err : goal.returns-in_err-reserve-clause-err
-returns-in_err-reserve-clause-err g c = on_err c.from_residual.result (cc (c.in_err-reserve.ensures.err))
-
-pub returns-in_err-reserve-clause-cramped : goal.returns-in_err-reserve-clause-cramped
-returns-in_err-reserve-clause-cramped g c = on_err c.from_residual.result (omega (arith, c.in_err-reserve.ensures.full, c.piece_room-room.ensures))
-
-pub returns-in_err-reserve-clause-capacity : goal.returns-in_err-reserve-clause-capacity
-returns-in_err-reserve-clause-capacity g c = c.reserve.ensures.capacity
-
-pub returns-in_err-reserve-clause-key : goal.returns-in_err-reserve-clause-key
-returns-in_err-reserve-clause-key g c = refl
