@@ -36,7 +36,7 @@ whole_of (Resume r) old new f = longer _ (replacing (option_text r.decrypting.sa
 whole_of (Inspect file) old new f = f
 whole_of (Drill d) old new f = f
 
-module _ (IsPorts : Ports → Type 0) (shows : Bool) (asked : Request) (before after : FilesView) (Failed Unshown : Type 0)
+module _ (IsPorts : Option (List ℕ) → Ports → Type 0) (shows : Bool) (asked : Request) (before after : FilesView) (Failed Unshown : Type 0)
     (Progress : Option (List ℕ) → Result (Unit {0}) Ending → Type 0) (r : Result (Unit {0}) Ending) where
   abbrev pub Acted : Type 0
   Acted = Acts IsPorts shows asked before after Failed Unshown Progress r
@@ -76,9 +76,9 @@ module _ (IsPorts : Ports → Type 0) (shows : Bool) (asked : Request) (before a
   }
 
   -- a command ended once its engine had run
-  pub acts_concluded : OnOk r (OfEngine IsPorts shows asked before.entries (λ engine paths. HasEngineEnded IsPorts engine (durability_of asked) after.ended
+  pub acts_concluded : OnOk r (OfEngine IsPorts shows asked before.entries (λ engine paths. HasEngineEnded IsPorts engine paths (durability_of asked) after.ended
       × (shows ≡ true → WritesOut IsPorts engine paths before.entries after.entries)))
-      → IfErr r (λ e. OfEngine IsPorts shows asked before.entries (λ engine paths. HasEngineStopped IsPorts engine e after.ended))
+      → IfErr r (λ e. OfEngine IsPorts shows asked before.entries (λ engine paths. HasEngineStopped IsPorts engine paths e after.ended))
       → IfErr r (λ e. Follows (order_asked asked).done before.events after.events ⊎ HasSaved (durability_of asked) e after.saved)
       → (shows ≡ true → IfErr r (λ e. OfEngine IsPorts shows asked before.entries (λ engine paths. LeavesOut IsPorts engine paths before.entries after.entries e)))
       → IfErr r (λ e. is_usage e ≡ false) → (shows ≡ true → Spares asked before.entries after.entries)

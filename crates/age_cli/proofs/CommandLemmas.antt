@@ -6,7 +6,7 @@ use Rattle.std.specs.Io.KnownBytes as known
 use Rattle.age_io.specs.Supply.{Supply, Consumes}
 use Rattle.age_fault.specs.declared.fault.FileFault.{FileFault}
 use Rattle.age_fault.specs.declared.fault.FileFault.TheVariants.{Read, Write, Memory, BadPosition}
-use Rattle.age_fileset.specs.FileSet.{IsMemoryOr, OpenFails, Event, Opened, FilesView}
+use Rattle.age_fileset.specs.FileSet.{IsMemoryOr, OpenFails, Event, Opened, Created, Made, FilesView}
 use Rattle.age_fileset.specs.declared.files.OpenFault.{OpenFault}
 use Rattle.age_fileset.specs.declared.files.OpenFault.TheVariants.{SameFile}
 use Rattle.age_fileset.specs.declared.files.OpenFault.TheVariants as create
@@ -20,7 +20,10 @@ use Rattle.clap.specs.Words.{Text}
 use Rattle.age_command.specs.inner.Endings.{ending_of}
 use Rattle.age_command.specs.declared.ending.Ending.{Ending}
 use Rattle.age_command.specs.declared.ending.Ending.TheVariants.{Fault}
+use Rattle.age_cli_args.specs.declared.request.ClobberOption.{ClobberOption}
+use Rattle.age_cli_args.specs.declared.request.ClobberOption.TheVariants.{Allowed, Refused}
 use Rattle.age_cli_args.specs.declared.request.Decrypting.{Decrypting}
+use Rattle.age_command.specs.Orders.{creating}
 use Rattle.age_cli.specs.Acts.{OpensOf}
 use Rattle.age_cli.specs.Commands.{HoldsNoPosition}
 use Rattle.age_cli.specs.inner.Openings.{Judges}
@@ -104,6 +107,12 @@ reason_at old now events Failed e kept reason = subst (λ (f : Files). HasReason
 pub last_missing : (old : Files) (Failed : Type 0) (before after : List Event) (name : Text) → after ≡ before ++ Opened name ∷ [] → old name ≡ None
     → IsUnread old after Failed
 last_missing old Failed before after name last missing = inl (record { front = before; name = name; last = last; missing = missing })
+
+-- an output was to be created or made last
+pub created_last : (clobber : ClobberOption) (before after : List Event) (name : Text) → after ≡ before ++ creating clobber name ∷ []
+    → (after ≡ before ++ Created name ∷ []) ⊎ (after ≡ before ++ Made name ∷ [])
+created_last Allowed before after name last = inl last
+created_last Refused before after name last = inr last
 
 -- it isn't the command line's if contracts see the files
 pub created_fault : (shows : Bool) (other : FileFault) (f : OpenFault) → OpenFails shows other f → shows ≡ true → is_usage (ending_of f) ≡ false

@@ -42,8 +42,8 @@ ends_so (Ok done) ends ok = ends
 ends_so (Err stop) ends ok = absurd (true≢false (sym ok))
 
 -- the end of a command, whose source and sink were these once IN and OUT were open, and are these after the engine ran
-module _ (IsPorts : Ports → Type 0) (engine : Engine) (shows : Bool) (p : Paths) (durability : Durability) (old opened new : FilesView) (before after : Ports)
-    (before_is : IsPorts before) (after_is : IsPorts after) (end : Result (Unit {0}) Interruption) (r : Result (Unit {0}) Ending)
+module _ (IsPorts : Option (List ℕ) → Ports → Type 0) (engine : Engine) (shows : Bool) (p : Paths) (durability : Durability) (old opened new : FilesView) (before after : Ports)
+    (before_is : IsPorts (Some p.from) before) (after_is : IsPorts None after) (end : Result (Unit {0}) Interruption) (r : Result (Unit {0}) Ending)
     (kept : opened.entries ≡ old.entries)
     (found : shows ≡ true → (is_some (old.entries p.from) ≡ true) × (before.source.supply.left ≡ old.entries p.from) × (before.sink.taken.contents ≡ Some [])
     × (before.sink.label ≡ p.to)) (named : after.sink.label ≡ before.sink.label) (promise : shows ≡ true → Kept engine before after end)
@@ -53,7 +53,7 @@ module _ (IsPorts : Ports → Type 0) (engine : Engine) (shows : Bool) (p : Path
     label = named ∙ (found shown).3
 
     ran : (Promise : Ports → Ports → Type 0) → Promise before after → (taken : Option (List ℕ)) → taken ≡ after.sink.taken.contents
-        → Ran IsPorts Promise (old.entries p.from) taken
+        → Ran IsPorts p.from Promise (old.entries p.from) taken
     ran Promise promised taken took = record {
       before = before;
       after = after;
@@ -67,11 +67,11 @@ module _ (IsPorts : Ports → Type 0) (engine : Engine) (shows : Bool) (p : Path
 
     -- how OUT is left, by how the engine ended
     left_out : (e : Result (Unit {0}) Interruption) → Kept engine before after e → (out_old out_new : Option (List ℕ)) (s : Interruption)
-        → Left e after.sink.taken.contents out_old out_new s → IsLeft IsPorts engine s.position s.fault (old.entries p.from) out_old out_new
-        ⊎ IsUnclosed IsPorts engine s.position s.fault (old.entries p.from) out_old out_new
+        → Left e after.sink.taken.contents out_old out_new s → IsLeft IsPorts engine p.from s.position s.fault (old.entries p.from) out_old out_new
+        ⊎ IsUnclosed IsPorts engine p.from s.position s.fault (old.entries p.from) out_old out_new
     left_out (Err cause) k out_old out_new s (is, left) =
-        subst (λ (t : Interruption). IsLeft IsPorts engine t.position t.fault (old.entries p.from) out_old out_new
-        ⊎ IsUnclosed IsPorts engine t.position t.fault (old.entries p.from) out_old out_new) (sym is)
+        subst (λ (t : Interruption). IsLeft IsPorts engine p.from t.position t.fault (old.entries p.from) out_old out_new
+        ⊎ IsUnclosed IsPorts engine p.from t.position t.fault (old.entries p.from) out_old out_new) (sym is)
         (inl (
           after.sink.taken.contents,
           ran (engine.stops cause.position cause.fault) k.stops after.sink.taken.contents refl,
@@ -120,16 +120,16 @@ kept_opening keep i before after run (Ok done) ends stops =
     record { ends = (done, of.0, of.1); stops = tt }
 kept_opening keep i before after run (Err s) ends stops = record { ends = tt; stops = (s.written, run, stops) }
 
-pub kept_resuming : (IsPorts : Ports → Type 0) (keep : PositionPolicy) (i : Identity) (from : Position) (old_text : Option (List ℕ)) (before after : Ports)
-    (first last : SourceView) (run : Option Run) (r : Result Done Stopped) → IsPorts (ports first before.sink) → IsPorts (ports last after.sink)
+pub kept_resuming : (IsPorts : Option (List ℕ) → Ports → Type 0) (keep : PositionPolicy) (i : Identity) (from : Position) (old_name : List ℕ) (old_text : Option (List ℕ))
+    (before after : Ports) (first last : SourceView) (run : Option Run) (r : Result Done Stopped) → IsPorts (Some old_name) (ports first before.sink) → IsPorts None (ports last after.sink)
     → old_text ≡ first.supply.left
     → IfOk r (λ done. IsSomeAnd run (ResumeEnds (allows_by i) from (resume_ports before first) (resume_ports after last) done))
     → IfErr r (ResumeStops (allows_by i) from (resume_ports before first) (resume_ports after last) keep (refuses_by i) run)
-    → Kept (resume_engine IsPorts keep i from old_text) before after (opening_end r)
-kept_resuming IsPorts keep i from old_text before after first last run (Ok done) first_is last_is coming ends stops =
+    → Kept (resume_engine IsPorts keep i from old_name old_text) before after (opening_end r)
+kept_resuming IsPorts keep i from old_name old_text before after first last run (Ok done) first_is last_is coming ends stops =
     let of = the_run run ends in
     record { ends = (first, last, first_is, last_is, coming, (done, of.0, of.1)); stops = tt }
-kept_resuming IsPorts keep i from old_text before after first last run (Err s) first_is last_is coming ends stops =
+kept_resuming IsPorts keep i from old_name old_text before after first last run (Err s) first_is last_is coming ends stops =
     record { ends = tt; stops = (first, last, first_is, last_is, coming, (s.written, run, stops)) }
 
 pub kept_sealing : (secret : SecretView) (before after : Ports) (r : Result Written FileFault) → IfOk r (Encrypts secret before after)
@@ -147,15 +147,15 @@ went_opening keep i before after run (Ok done) ends halts =
     record { ends = ((done, of.0, of.1), of.1.2.1); halts = tt }
 went_opening keep i before after run (Err s) ends halts = record { ends = tt; halts = halts }
 
-pub went_resuming : (IsPorts : Ports → Type 0) (keep : PositionPolicy) (i : Identity) (from : Position) (before after : Ports)
-    (first last : SourceView) (run : Option Run) (r : Result Done Stopped) → IsPorts (ports first before.sink) → IsPorts (ports last after.sink)
+pub went_resuming : (IsPorts : Option (List ℕ) → Ports → Type 0) (keep : PositionPolicy) (i : Identity) (from : Position) (old_name : List ℕ) (before after : Ports)
+    (first last : SourceView) (run : Option Run) (r : Result Done Stopped) → IsPorts (Some old_name) (ports first before.sink) → IsPorts None (ports last after.sink)
     → IfOk r (λ done. IsSomeAnd run (ResumeEnds (allows_by i) from (resume_ports before first) (resume_ports after last) done))
     → IfErr r (λ s. HaltsResumption i from (resume_ports before first) (resume_ports after last) s.fault)
-    → Went (resume_engine IsPorts keep i from first.supply.left) before after (opening_end r)
-went_resuming IsPorts keep i from before after first last run (Ok done) first_is last_is ends halts =
+    → Went (resume_engine IsPorts keep i from old_name first.supply.left) before after (opening_end r)
+went_resuming IsPorts keep i from old_name before after first last run (Ok done) first_is last_is ends halts =
     let of = the_run run ends in
     record { ends = ((first, last, first_is, last_is, refl, (done, of.0, of.1)), of.1.3.1); halts = tt }
-went_resuming IsPorts keep i from before after first last run (Err s) first_is last_is ends halts =
+went_resuming IsPorts keep i from old_name before after first last run (Err s) first_is last_is ends halts =
     record { ends = tt; halts = (first, last, first_is, last_is, refl, halts) }
 
 pub went_sealing : (secret : SecretView) (before after : Ports) (r : Result Written FileFault) → IfOk r (Encrypts secret before after)
@@ -165,9 +165,9 @@ went_sealing secret before after (Err f) ends fails = record { ends = tt; halts 
 
 -- ---- what becomes of the file of OUT
 
-module _ (IsPorts : Ports → Type 0) (engine : Engine) (durability : Durability) (before after : Ports) (before_is : IsPorts before) (after_is : IsPorts after)
-    (new : AreNew before) (ended : Option EndedFile) where
-  abbrev returned : (out : EndedFile) → ended ≡ Some out → out.took ≡ after.sink.taken.bytes → TouchesItself out → Returned IsPorts ended
+module _ (IsPorts : Option (List ℕ) → Ports → Type 0) (engine : Engine) (p : Paths) (durability : Durability) (before after : Ports)
+    (before_is : IsPorts (Some p.from) before) (after_is : IsPorts None after) (new : AreNew before) (ended : Option EndedFile) where
+  abbrev returned : (out : EndedFile) → ended ≡ Some out → out.took ≡ after.sink.taken.bytes → TouchesItself out → Returned IsPorts p ended
   returned out is took within = record {
     before = before;
     after = after;
@@ -181,23 +181,25 @@ module _ (IsPorts : Ports → Type 0) (engine : Engine) (durability : Durability
   }
 
   ended_file : (end : Result (Unit {0}) Interruption) → Went engine before after end → IsOk end → (r : Result (Unit {0}) Ending) → (o : Option EndedFile) → ended ≡ o
-      → IsSomeAnd o (EndsFile durability after.sink end r) → OnOk r (HasEngineEnded IsPorts engine durability ended)
+      → IsSomeAnd o (EndsFile durability after.sink end r) → OnOk r (HasEngineEnded IsPorts engine p durability ended)
   ended_file (Err s) went ok r o is file = absurd (true≢false (sym ok))
   ended_file (Ok done) went ok (Err e) o is file = tt
   ended_file (Ok done) went ok (Ok x) None is file = absurd file
   ended_file (Ok done) went ok (Ok x) (Some out) is file = record {
     run = returned out is file.took file.within;
     promise = went.ends.0;
+    closed = file.closed;
+    there = file.there (went.ends.1 ∙ new.failed);
     safe = λ synced. file.safe synced (went.ends.1 ∙ new.failed);
   }
 
   pub engine_ended : (end : Result (Unit {0}) Interruption) (r : Result (Unit {0}) Ending) → Went engine before after end → OnOk r (IsOk end)
-      → IsSomeAnd ended (EndsFile durability after.sink end r) → OnOk r (HasEngineEnded IsPorts engine durability ended)
+      → IsSomeAnd ended (EndsFile durability after.sink end r) → OnOk r (HasEngineEnded IsPorts engine p durability ended)
   engine_ended end (Ok x) went ok file = ended_file end went ok (Ok x) ended refl file
   engine_ended end (Err e) went ok file = tt
 
   stopped_file : (end : Result (Unit {0}) Interruption) → Went engine before after end → (e : Ending) (fault : FileFault) → IsFaultOf end fault → IsEndingOf fault e
-      → (o : Option EndedFile) → ended ≡ o → IsSomeAnd o (EndsFile durability after.sink end (Err e)) → HasEngineStopped IsPorts engine e ended
+      → (o : Option EndedFile) → ended ≡ o → IsSomeAnd o (EndsFile durability after.sink end (Err e)) → HasEngineStopped IsPorts engine p e ended
   stopped_file end went e fault of reported None is file = absurd file
   stopped_file (Ok done) went e fault of reported (Some out) is file = record {
     run = returned out is file.took file.within;
@@ -214,6 +216,6 @@ module _ (IsPorts : Ports → Type 0) (engine : Engine) (durability : Durability
 
   pub engine_stopped : (end : Result (Unit {0}) Interruption) (r : Result (Unit {0}) Ending) → Went engine before after end
       → IfErr r (λ e. (fault : FileFault) × IsFaultOf end fault × IsEndingOf fault e)
-      → IsSomeAnd ended (EndsFile durability after.sink end r) → IfErr r (λ e. HasEngineStopped IsPorts engine e ended)
+      → IsSomeAnd ended (EndsFile durability after.sink end r) → IfErr r (λ e. HasEngineStopped IsPorts engine p e ended)
   engine_stopped end (Ok x) went reported file = tt
   engine_stopped end (Err e) went reported file = stopped_file end went e reported.0 reported.1 reported.2 ended refl file

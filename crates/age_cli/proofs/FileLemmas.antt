@@ -18,12 +18,12 @@ some_and (Some x) so p = so x p
 -- an engine's stop has left it
 pub left_file : {E : Type 0} (durability : Durability) (sink : SinkView) (cause : Interruption) (e : E) (out : EndedFile)
     → LeavesFile sink out → EndsFile durability sink (Err cause) (Err e) out
-left_file durability sink cause e out left = record { took = left.took; within = left.within; safe = λ synced none. tt; untouched = left.untouched; caused = tt }
+left_file durability sink cause e out left = record { took = left.took; within = left.within; closed = tt; there = λ none. tt; safe = λ synced none. tt; untouched = left.untouched; caused = tt }
 
 -- it was closed, since the engine had ended
 pub closed_well : {E G : Type 0} (durability : Durability) (sink : SinkView) (file : Option OutFile) (out : EndedFile)
     → Closes {E = E} durability file sink (Ok tt) out → EndsFile {E = G} durability sink (Ok tt) (Ok tt) out
-closed_well durability sink file out closes = record { took = closes.took; within = closes.within; safe = closes.safe; untouched = tt; caused = tt }
+closed_well durability sink file out closes = record { took = closes.took; within = closes.within; closed = closes.closed; there = closes.there; safe = closes.safe; untouched = tt; caused = tt }
 
 -- and that has failed
 pub closed_badly : {E G : Type 0} (durability : Durability) (sink : SinkView) (file : Option OutFile) (fault : E) (r : Result (Unit {0}) G) (out : EndedFile)
@@ -31,6 +31,8 @@ pub closed_badly : {E G : Type 0} (durability : Durability) (sink : SinkView) (f
 closed_badly durability sink file fault r out never closes = record {
   took = closes.took;
   within = closes.within;
+  closed = never _;
+  there = λ none. never _;
   safe = λ synced none. never _;
   untouched = tt;
   caused = an_error r _ (subst (λ (f : Option OutFile). IfSome f (λ x. 0 < out.failed)) (sym closes.same) closes.caused);
@@ -39,11 +41,11 @@ closed_badly durability sink file fault r out never closes = record {
 -- the same of the ending that the end of the output makes
 pub done_as : {E G : Type 0} (durability : Durability) (sink : SinkView) (engine : Result (Unit {0}) Interruption) (out : EndedFile)
     → EndsFile {E = E} durability sink engine (Ok tt) out → EndsFile {E = G} durability sink engine (Ok tt) out
-done_as durability sink engine out did = record { took = did.took; within = did.within; safe = did.safe; untouched = did.untouched; caused = did.caused }
+done_as durability sink engine out did = record { took = did.took; within = did.within; closed = did.closed; there = did.there; safe = did.safe; untouched = did.untouched; caused = did.caused }
 
 pub stop_as : {E G : Type 0} (durability : Durability) (sink : SinkView) (engine : Result (Unit {0}) Interruption) (stop : E) (e : G) (out : EndedFile)
     → EndsFile durability sink engine (Err stop) out → EndsFile durability sink engine (Err e) out
-stop_as durability sink engine stop e out did = record { took = did.took; within = did.within; safe = λ synced none. tt; untouched = did.untouched; caused = did.caused }
+stop_as durability sink engine stop e out did = record { took = did.took; within = did.within; closed = tt; there = λ none. tt; safe = λ synced none. tt; untouched = did.untouched; caused = did.caused }
 
 -- one into which nothing was put was discarded, or it wasn't even made
 pub spared_by : (file : Option OutFile) (sink : SinkView) (before after : Option EndedFile) → sink.taken.bytes ≡ [] → sink.failed ≡ 0

@@ -10,15 +10,16 @@ use Rattle.age_file.specs.Encrypts.{SecretView, Encrypts, EncryptFails}
 use Rattle.age_file.specs.declared.encryption.Written.{Written}
 use Rattle.age_file.specs.declared.position.Position.{Position}
 use Rattle.age_fault.specs.declared.fault.FileFault.{FileFault}
-use Rattle.age_fileset.specs.FileSet.{Event, Opened, Created, Closed, FilesView}
+use Rattle.age_fileset.specs.FileSet.{Event, Opened, Closed, FilesView}
 use Rattle.age_cli_args.specs.Requests.{option_text}
 use Rattle.age_cli_args.specs.declared.request.ProgressOption.TheVariants.{Silent, Shown}
+use Rattle.age_cli_args.specs.declared.request.ClobberOption.{ClobberOption}
 use Rattle.age_cli_args.specs.declared.request.Encrypting.{Encrypting}
 use Rattle.age_cli_args.specs.declared.request.Decrypting.{Decrypting}
 use Rattle.age_cli_args.specs.declared.request.Resuming.{Resuming}
 use Rattle.age_cli_args.specs.declared.request.Request.{Request}
 use Rattle.age_cli_args.specs.declared.request.Request.TheVariants.{Encrypt, Decrypt, Resume}
-use Rattle.age_command.specs.Orders.{Follows, identity_order, preparing, making, replacing, NamesTwice, order_asked, random_name}
+use Rattle.age_command.specs.Orders.{Follows, identity_order, preparing, creating, making, replacing, NamesTwice, order_asked, random_name}
 use Rattle.age_command.specs.Files.{Files, SparesBoth}
 use Rattle.age_command.specs.declared.ending.Ending.{Ending}
 use Rattle.age_command.specs.declared.identity.Identity.{Identity}
@@ -45,65 +46,65 @@ abbrev pub WasEarlier : Resuming → Position → Files → SourceView → Type 
 WasEarlier a from old first = IsPositionIn (old a.position.now) from × (is_some (old_for from (old a.old.now)) ≡ true)
     × (first.supply.left ≡ old_for from (old a.old.now))
 
-module _ (IsPorts : Ports → Type 0) (shows : Bool) (asked : Request) (old opened new : FilesView) (Failed Unshown : Type 0) (Progress : Option (List ℕ) → Result (Unit {0}) Ending → Type 0) (engine : Engine) (p : Paths)
-    (durability : Durability) (before after : Ports) (end : Result (Unit {0}) Interruption) (r : Result (Unit {0}) Ending) (xs ys : List Event) where
-  acts_of_engine : IsPorts before → IsPorts after → (order_asked asked).done ≡ xs ++ (ys ++ making (Some p.to) durability)
-      → (order_asked asked).whole ≡ (xs ++ (ys ++ making (Some p.to) durability)) ++ replacing p.save durability
+module _ (IsPorts : Option (List ℕ) → Ports → Type 0) (shows : Bool) (asked : Request) (old opened new : FilesView) (Failed Unshown : Type 0) (Progress : Option (List ℕ) → Result (Unit {0}) Ending → Type 0) (engine : Engine) (p : Paths)
+    (durability : Durability) (before after : Ports) (end : Result (Unit {0}) Interruption) (r : Result (Unit {0}) Ending) (xs ys : List Event) (clobber : ClobberOption) where
+  acts_of_engine : IsPorts (Some p.from) before → IsPorts None after → (order_asked asked).done ≡ xs ++ (ys ++ making clobber (Some p.to) durability)
+      → (order_asked asked).whole ≡ (xs ++ (ys ++ making clobber (Some p.to) durability)) ++ replacing p.save durability
       → ((P : Engine → Paths → Type 0) → P engine p → OfEngine IsPorts shows asked old.entries P) → AreNew before → Went engine before after end
       → durability_of asked ≡ durability → (SparesBoth (Some p.to) p.save old.entries new.entries → Spares asked old.entries new.entries)
       → opened.entries ≡ old.entries → (shows ≡ true → Found p old.entries before) → after.sink.label ≡ before.sink.label
       → (shows ≡ true → Kept engine before after end) → Concludes shows p.save durability after.sink end opened new r
-      → opened.events ≡ old.events ++ (xs ++ (ys ++ Created p.to ∷ [])) → (NamesTwice (order_asked asked).apart → ⊥) → (p.save ≡ Some p.to → ⊥)
+      → opened.events ≡ old.events ++ (xs ++ (ys ++ creating clobber p.to ∷ [])) → (NamesTwice (order_asked asked).apart → ⊥) → (p.save ≡ Some p.to → ⊥)
       → (shows ≡ true → IsFresh (clobber_of asked) (out_of asked old.entries))
       → (progress_of asked ≡ Silent → Unshown) × (progress_of asked ≡ Shown → Progress (input_of asked old.entries) r) → Acts IsPorts shows asked old new Failed Unshown Progress r
   acts_of_engine before_is after_is done_is whole_is of begun went settles spares kept found named promise concludes noted apart unsaved fresh silent =
       let finished : new.events ≡ opened.events ++ Closed durability ∷ [] → new.events ≡ old.events ++ (order_asked asked).done =
-      λ closed. then_closed xs ys p.to durability old.events opened.events new.events noted closed ∙ ap (λ order. old.events ++ order) (sym done_is) in
+      λ closed. then_closed xs ys clobber p.to durability old.events opened.events new.events noted closed ∙ ap (λ order. old.events ++ order) (sym done_is) in
       let saved_so : (e : Ending) → (new.events ≡ opened.events ++ Closed durability ∷ []) ⊎ HasSaved durability e new.saved
       → Follows (order_asked asked).done old.events new.events ⊎ HasSaved (durability_of asked) e new.saved =
       λ e put. ⊎_elim (λ closed. inl (followed _ _ _ (finished closed))) (λ saved. inr (subst (λ (d : Durability). HasSaved d e new.saved) (sym settles) saved)) put in
       acts_concluded IsPorts shows asked old new Failed Unshown Progress r
-      (on_ok_weaker r (λ both. of (λ e q. HasEngineEnded IsPorts e (durability_of asked) new.ended × (shows ≡ true → WritesOut IsPorts e q old.entries new.entries))
-      (subst (λ (d : Durability). HasEngineEnded IsPorts engine d new.ended) (sym settles) both.0, both.1)) (both_done _ _ r
-      (engine_ended IsPorts engine durability before after before_is after_is begun new.ended end r went (on_ok_weaker r (λ done. done.0) concludes.done) concludes.ended)
+      (on_ok_weaker r (λ both. of (λ e q. HasEngineEnded IsPorts e q (durability_of asked) new.ended × (shows ≡ true → WritesOut IsPorts e q old.entries new.entries))
+      (subst (λ (d : Durability). HasEngineEnded IsPorts engine p d new.ended) (sym settles) both.0, both.1)) (both_done _ _ r
+      (engine_ended IsPorts engine p durability before after before_is after_is begun new.ended end r went (on_ok_weaker r (λ done. done.0) concludes.done) concludes.ended)
       (wrote_out IsPorts engine shows p durability old opened new before after before_is after_is end r kept found named promise concludes)))
-      (IfErr-weaker r _ _ (λ e stop. of (λ n q. HasEngineStopped IsPorts n e new.ended) stop)
-      (engine_stopped IsPorts engine durability before after before_is after_is begun new.ended end r went concludes.reported concludes.ended))
+      (IfErr-weaker r _ _ (λ e stop. of (λ n q. HasEngineStopped IsPorts n q e new.ended) stop)
+      (engine_stopped IsPorts engine p durability before after before_is after_is begun new.ended end r went concludes.reported concludes.ended))
       (IfErr-weaker r _ _ (λ e put. saved_so e put) concludes.saved)
       (λ shown. IfErr-weaker r _ _ (λ e stops. of (λ n q. LeavesOut IsPorts n q old.entries new.entries e) stops)
       (stopped_out IsPorts engine shows p durability old opened new before after before_is after_is end r kept found named promise concludes unsaved shown))
       concludes.fault (λ shown. spares
       (spared_out IsPorts engine shows p durability old opened new before after before_is after_is end r kept found named promise concludes shown))
       (subst (λ order. Follows order old.events new.events) (sym whole_is)
-      (then_concluded xs ys p.to durability (replacing p.save durability) old.events opened.events new.events noted concludes.order))
+      (then_concluded xs ys clobber p.to durability (replacing p.save durability) old.events opened.events new.events noted concludes.order))
       (on_ok_weaker r finished concludes.order_done) apart fresh silent
 
-module _ (IsPorts : Ports → Type 0) (shows : Bool) (old opened new : FilesView) (Failed Unshown : Type 0) (Progress : Option (List ℕ) → Result (Unit {0}) Ending → Type 0) (before after : Ports) (before_is : IsPorts before)
-    (after_is : IsPorts after) (end : Result (Unit {0}) Interruption) (r : Result (Unit {0}) Ending) (kept : opened.entries ≡ old.entries) where
-  pub encrypt_acts : (e : Encrypting) (secret : SecretView) (sealed : Result Written FileFault) → AreNew before → (shows ≡ true → MakesSecret e old.entries secret)
+module _ (IsPorts : Option (List ℕ) → Ports → Type 0) (shows : Bool) (old opened new : FilesView) (Failed Unshown : Type 0) (Progress : Option (List ℕ) → Result (Unit {0}) Ending → Type 0) (before after : Ports)
+    (after_is : IsPorts None after) (end : Result (Unit {0}) Interruption) (r : Result (Unit {0}) Ending) (kept : opened.entries ≡ old.entries) where
+  pub encrypt_acts : (e : Encrypting) (secret : SecretView) (sealed : Result Written FileFault) → IsPorts (Some e.from.now) before → AreNew before → (shows ≡ true → MakesSecret e old.entries secret)
       → (shows ≡ true → Found (record { from = e.from.now; to = e.to.now; save = None }) old.entries before) → end ≡ sealing_end sealed
       → IfOk sealed (Encrypts secret before after) → IfErr sealed (EncryptFails secret before after) → after.sink.label ≡ before.sink.label
       → Concludes shows None e.durability after.sink end opened new r → opened.events ≡ old.events
-      ++ ((Opened e.pass.now ∷ Opened (random_name (option_text e.random)) ∷ []) ++ (Opened e.from.now ∷ Created e.to.now ∷ []))
+      ++ ((Opened e.pass.now ∷ Opened (random_name (option_text e.random)) ∷ []) ++ (Opened e.from.now ∷ creating e.clobber e.to.now ∷ []))
       → (NamesTwice (order_asked (Encrypt e)).apart → ⊥) → (shows ≡ true → IsFresh e.clobber (old.entries e.to.now)) → (e.progress ≡ Silent → Unshown) × (e.progress ≡ Shown → Progress (old.entries e.from.now) r)
       → Acts IsPorts shows (Encrypt e) old new Failed Unshown Progress r
-  encrypt_acts e secret sealed begun made found is ends fails named concludes noted apart fresh silent =
+  encrypt_acts e secret sealed before_is begun made found is ends fails named concludes noted apart fresh silent =
       acts_of_engine IsPorts shows (Encrypt e) old opened new Failed Unshown Progress (encrypt_engine secret) (record { from = e.from.now; to = e.to.now; save = None }) e.durability
-      before after end r (Opened e.pass.now ∷ Opened (random_name (option_text e.random)) ∷ []) (Opened e.from.now ∷ []) before_is after_is refl refl
+      before after end r (Opened e.pass.now ∷ Opened (random_name (option_text e.random)) ∷ []) (Opened e.from.now ∷ []) e.clobber before_is after_is refl refl
       (λ P holds. (secret, made, holds)) begun
       (subst (λ (n : Result (Unit {0}) Interruption). Went (encrypt_engine secret) before after n) (sym is) (went_sealing secret before after sealed ends fails)) refl
       (λ spared. spared) kept found named
       (λ shown. subst (λ (n : Result (Unit {0}) Interruption). Kept (encrypt_engine secret) before after n) (sym is) (kept_sealing secret before after sealed ends fails))
       concludes noted apart (λ same. cc) fresh silent
 
-module _ (IsPorts : Ports → Type 0) (shows : Bool) (old opened new : FilesView) (Failed Unshown : Type 0) (Progress : Option (List ℕ) → Result (Unit {0}) Ending → Type 0) (before : Ports) (before_is : IsPorts before)
+module _ (IsPorts : Option (List ℕ) → Ports → Type 0) (shows : Bool) (old opened new : FilesView) (Failed Unshown : Type 0) (Progress : Option (List ℕ) → Result (Unit {0}) Ending → Type 0) (before : Ports)
     (r : Result (Unit {0}) Ending) (kept : opened.entries ≡ old.entries) where
-  pub decrypt_acts : (d : Decrypting) (identity : Identity) → AreNew before → OpensOf shows d old.entries identity → (shows ≡ true → Found (paths_of d) old.entries before)
+  pub decrypt_acts : (d : Decrypting) (identity : Identity) → IsPorts (Some d.from.now) before → AreNew before → OpensOf shows d old.entries identity → (shows ≡ true → Found (paths_of d) old.entries before)
       → DecryptsOpened IsPorts shows d identity before opened new Unshown Progress r
       → opened.events ≡ old.events ++ (identity_order (option_text d.identity.pass) (option_text d.identity.shared)
-      ++ ((Opened d.from.now ∷ preparing (option_text d.save)) ++ Created d.to.now ∷ []))
+      ++ ((Opened d.from.now ∷ preparing (option_text d.save)) ++ creating d.clobber d.to.now ∷ []))
       → (NamesTwice (order_asked (Decrypt d)).apart → ⊥) → (shows ≡ true → IsFresh d.clobber (old.entries d.to.now)) → Acts IsPorts shows (Decrypt d) old new Failed Unshown Progress r
-  decrypt_acts d identity begun opens found did noted apart fresh =
+  decrypt_acts d identity before_is begun opens found did noted apart fresh =
       let k = kept_for (option_text d.save) in
       let holds : shows ≡ true → HoldsInput d before opened =
       λ shown. let f = found shown in record {
@@ -113,23 +114,23 @@ module _ (IsPorts : Ports → Type 0) (shows : Bool) (old opened new : FilesView
         empty = f.2;
       } in
       acts_of_engine IsPorts shows (Decrypt d) old opened new Failed Unshown Progress (decrypt_engine k identity) (paths_of d) d.durability before did.after
-      (opening_end did.decrypted) r (identity_order (option_text d.identity.pass) (option_text d.identity.shared)) (Opened d.from.now ∷ preparing (option_text d.save))
+      (opening_end did.decrypted) r (identity_order (option_text d.identity.pass) (option_text d.identity.shared)) (Opened d.from.now ∷ preparing (option_text d.save)) d.clobber
       before_is did.after_is refl refl (λ P holds. (identity, opens, holds)) begun
       (went_opening k identity before did.after did.run did.decrypted did.done did.halted) refl (λ spared. spared) kept found did.named
       (λ shown. kept_opening k identity before did.after did.run did.decrypted did.done (did.stopped shown (holds shown))) did.concludes noted apart
       (λ same. apart (inr (inl (inl (d.to.now, same, refl))))) fresh (did.silent, λ asked. did.shown asked (old.entries d.from.now) (λ shown. (found shown).1))
 
-  pub resume_acts : (a : Resuming) (identity : Identity) (from : Position) (first : SourceView) → AreNew before → OpensOf shows a.decrypting old.entries identity
-      → (shows ≡ true → WasEarlier a from old.entries first) → IsPorts (ports first before.sink)
+  pub resume_acts : (a : Resuming) (identity : Identity) (from : Position) (first : SourceView) → IsPorts (Some a.decrypting.from.now) before → AreNew before → OpensOf shows a.decrypting old.entries identity
+      → (shows ≡ true → WasEarlier a from old.entries first) → IsPorts (Some a.old.now) (ports first before.sink)
       → (shows ≡ true → Found (paths_of a.decrypting) old.entries before)
       → ResumesOpened IsPorts shows a.decrypting identity from first before opened new Unshown Progress r
       → opened.events ≡ old.events ++ (identity_order (option_text a.decrypting.identity.pass) (option_text a.decrypting.identity.shared)
-      ++ ((Opened a.position.now ∷ Opened a.old.now ∷ Opened a.decrypting.from.now ∷ preparing (option_text a.decrypting.save)) ++ Created a.decrypting.to.now ∷ []))
+      ++ ((Opened a.position.now ∷ Opened a.old.now ∷ Opened a.decrypting.from.now ∷ preparing (option_text a.decrypting.save)) ++ creating a.decrypting.clobber a.decrypting.to.now ∷ []))
       → (NamesTwice (order_asked (Resume a)).apart → ⊥) → (shows ≡ true → IsFresh a.decrypting.clobber (old.entries a.decrypting.to.now)) → Acts IsPorts shows (Resume a) old new Failed Unshown Progress r
-  resume_acts a identity from first begun opens earlier first_is found did noted apart fresh =
+  resume_acts a identity from first before_is begun opens earlier first_is found did noted apart fresh =
       let d = a.decrypting in
       let k = kept_for (option_text d.save) in
-      let engine = resume_engine IsPorts k identity from first.supply.left in
+      let engine = resume_engine IsPorts k identity from a.old.now first.supply.left in
       let holds : shows ≡ true → HoldsInput d before opened =
       λ shown. let f = found shown in record {
         there = subst (λ (files : Files). is_some (files d.from.now) ≡ true) (sym kept) f.0;
@@ -139,7 +140,7 @@ module _ (IsPorts : Ports → Type 0) (shows : Bool) (old opened new : FilesView
       } in
       acts_of_engine IsPorts shows (Resume a) old opened new Failed Unshown Progress engine (paths_of d) d.durability before did.after (opening_end did.resumed) r
       (identity_order (option_text d.identity.pass) (option_text d.identity.shared))
-      (Opened a.position.now ∷ Opened a.old.now ∷ Opened d.from.now ∷ preparing (option_text d.save)) before_is did.after_is refl refl
+      (Opened a.position.now ∷ Opened a.old.now ∷ Opened d.from.now ∷ preparing (option_text d.save)) d.clobber before_is did.after_is refl refl
       (λ P holds. (
         identity,
         opens,
@@ -149,8 +150,8 @@ module _ (IsPorts : Ports → Type 0) (shows : Bool) (old opened new : FilesView
             (was.0, was.2, ap is_some was.2 ∙ was.1)),
         holds,
       )) begun
-      (went_resuming IsPorts k identity from before did.after first did.last did.run did.resumed first_is did.last_is did.done did.halted) refl
+      (went_resuming IsPorts k identity from a.old.now before did.after first did.last did.run did.resumed first_is did.last_is did.done did.halted) refl
       (λ spared. spared) kept found did.named
-      (λ shown. kept_resuming IsPorts k identity from first.supply.left before did.after first did.last did.run did.resumed first_is
+      (λ shown. kept_resuming IsPorts k identity from a.old.now first.supply.left before did.after first did.last did.run did.resumed first_is
       did.last_is refl did.done (did.stopped shown (holds shown))) did.concludes noted apart
       (λ same. apart (inr (inl (inl (d.to.now, same, refl))))) fresh (did.silent, λ asked. did.shown asked (old.entries d.from.now) (λ shown. (found shown).1))

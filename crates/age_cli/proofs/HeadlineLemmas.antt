@@ -71,9 +71,9 @@ abbrev HoldsNoMore : Option (List ℕ) → Option (List ℕ) → List ℕ → Ty
 HoldsNoMore old new text = (new ≡ old) ⊎ ((bytes : List ℕ) × (new ≡ Some bytes) × IsPrefixOf bytes text)
 
 -- OUT, if it is whole
-whole_out : (IsPorts : Ports → Type 0) (keep : PositionPolicy) (identity : Identity) (input new : Option (List ℕ)) (text : List ℕ) → is_some input ≡ true
-    → ((r : Run) → IsFromStart r → IsRead identity input r → IsAuthenticRun r text) → Ran IsPorts (decrypt_engine keep identity).ends input new → new ≡ Some text
-whole_out IsPorts keep identity input new text there auth o =
+whole_out : (IsPorts : Option (List ℕ) → Ports → Type 0) (name : List ℕ) (keep : PositionPolicy) (identity : Identity) (input new : Option (List ℕ)) (text : List ℕ) → is_some input ≡ true
+    → ((r : Run) → IsFromStart r → IsRead identity input r → IsAuthenticRun r text) → Ran IsPorts name (decrypt_engine keep identity).ends input new → new ≡ Some text
+whole_out IsPorts name keep identity input new text there auth o =
     let done = o.promise.0 in
     let r = o.promise.1 in
     let ends = o.promise.2 in
@@ -83,18 +83,18 @@ whole_out IsPorts keep identity input new text there auth o =
     o.took ∙ (appended o.before.sink.taken.contents o.after.sink.taken.contents (held r) o.empty is.wrote.contents ∙ ap Some all)
 
 -- OUT, if the run stopped
-held_stop : (IsPorts : Ports → Type 0) (keep : PositionPolicy) (identity : Identity) (input old new : Option (List ℕ)) (position : Option Position)
+held_stop : (IsPorts : Option (List ℕ) → Ports → Type 0) (name : List ℕ) (keep : PositionPolicy) (identity : Identity) (input old new : Option (List ℕ)) (position : Option Position)
     (fault : FileFault) (text : List ℕ) → is_some input ≡ true → ((r : Run) → IsFromStart r → IsRead identity input r → IsAuthenticRun r text)
-    → IsLeft IsPorts (decrypt_engine keep identity) position fault input old new ⊎ IsUnclosed IsPorts (decrypt_engine keep identity) position fault input old new
+    → IsLeft IsPorts (decrypt_engine keep identity) name position fault input old new ⊎ IsUnclosed IsPorts (decrypt_engine keep identity) name position fault input old new
     → HoldsNoMore old new text
-held_stop IsPorts keep identity input old new position fault text there auth (inl (taken, s, left)) =
+held_stop IsPorts name keep identity input old new position fault text there auth (inl (taken, s, left)) =
     let written = s.promise.0 in
     let stopped : Stopped = record { fault = fault; written = written; position = position } in
     let w = stop_wrote keep (allows_by identity) (refuses_by identity) s.before s.after stopped s.promise.1 s.promise.2 in
     let begins : IsPrefixOf w.0 text = w.2 text (λ r from is. auth r from (is_read identity input s.before s.after written r s.coming there is)) in
     ⊎_elim (λ same. inl same) (λ put. inr (w.0, put.0 ∙ (s.took ∙ appended s.before.sink.taken.contents s.after.sink.taken.contents w.0 s.empty w.1.0.contents), begins)) left
-held_stop IsPorts keep identity input old new position fault text there auth (inr (taken, ran, left, none, write)) =
-    ⊎_elim (λ same. inl same) (λ put. inr (text, put ∙ whole_out IsPorts keep identity input taken text there auth ran, ([], append-nil text))) left
+held_stop IsPorts name keep identity input old new position fault text there auth (inr (taken, ran, left, none, write)) =
+    ⊎_elim (λ same. inl same) (λ put. inr (text, put ∙ whole_out IsPorts name keep identity input taken text there auth ran, ([], append-nil text))) left
 
 -- ---- A decryption from a position.
 
@@ -154,9 +154,9 @@ module _ (identity : Identity) (p : Position) (input old_text : Option (List ℕ
       }
 
   -- OUT, if it is whole
-  whole_resumed : (IsPorts : Ports → Type 0) (keep : PositionPolicy) (new : Option (List ℕ)) → Ran IsPorts (resume_engine IsPorts keep identity p old_text).ends input new
+  whole_resumed : (IsPorts : Option (List ℕ) → Ports → Type 0) (name old_name : List ℕ) (keep : PositionPolicy) (new : Option (List ℕ)) → Ran IsPorts name (resume_engine IsPorts keep identity p old_name old_text).ends input new
       → new ≡ Some text
-  whole_resumed IsPorts keep new o =
+  whole_resumed IsPorts name old_name keep new o =
       let first = o.promise.0 in
       let last = o.promise.1 in
       let done = o.promise.5.0 in
@@ -168,10 +168,10 @@ module _ (identity : Identity) (p : Position) (input old_text : Option (List ℕ
       o.took ∙ (appended o.before.sink.taken.contents o.after.sink.taken.contents (held r) o.empty is.wrote.contents ∙ ap Some all)
 
   -- OUT, if the run stopped
-  resumed_stop : (IsPorts : Ports → Type 0) (keep : PositionPolicy) (old new : Option (List ℕ)) (position : Option Position) (fault : FileFault)
-      → IsLeft IsPorts (resume_engine IsPorts keep identity p old_text) position fault input old new
-      ⊎ IsUnclosed IsPorts (resume_engine IsPorts keep identity p old_text) position fault input old new → HoldsNoMore old new text
-  resumed_stop IsPorts keep old new position fault (inl (taken, s, left)) =
+  resumed_stop : (IsPorts : Option (List ℕ) → Ports → Type 0) (name old_name : List ℕ) (keep : PositionPolicy) (old new : Option (List ℕ)) (position : Option Position) (fault : FileFault)
+      → IsLeft IsPorts (resume_engine IsPorts keep identity p old_name old_text) name position fault input old new
+      ⊎ IsUnclosed IsPorts (resume_engine IsPorts keep identity p old_name old_text) name position fault input old new → HoldsNoMore old new text
+  resumed_stop IsPorts name old_name keep old new position fault (inl (taken, s, left)) =
       let before = resume_ports s.before s.promise.0 in
       let after = resume_ports s.after s.promise.1 in
       let written = s.promise.5.0 in
@@ -180,8 +180,8 @@ module _ (identity : Identity) (p : Position) (input old_text : Option (List ℕ
       let front : IsPrefixOf w.0 text = w.2 text (begins_with before.old.supply s.promise.4) (λ r from is. authentic_run before after written
       r s.coming s.promise.4 from is) in
       ⊎_elim (λ same. inl same) (λ put. inr (w.0, put.0 ∙ (s.took ∙ appended s.before.sink.taken.contents s.after.sink.taken.contents w.0 s.empty w.1.0.contents), front)) left
-  resumed_stop IsPorts keep old new position fault (inr (taken, ran, left, none, write)) =
-      ⊎_elim (λ same. inl same) (λ put. inr (text, put ∙ whole_resumed IsPorts keep taken ran, ([], append-nil text))) left
+  resumed_stop IsPorts name old_name keep old new position fault (inr (taken, ran, left, none, write)) =
+      ⊎_elim (λ same. inl same) (λ put. inr (text, put ∙ whole_resumed IsPorts name old_name keep taken ran, ([], append-nil text))) left
 
 -- ---- what the words ask for
 
@@ -276,7 +276,7 @@ kept_whole old new status text whole = record { safe = inr (text, whole, ([], ap
 kept_stopped : (old new : Option (List ℕ)) (status : ℕ) (text : List ℕ) → (status ≡ 0 → ⊥) → HoldsNoMore old new text → KeepsOut old new status text
 kept_stopped old new status text failed safe = record { safe = safe; whole = λ zero. absurd (failed zero) }
 
-module _ (words : List Text) (shows : Bool) (IsPorts : Ports → Type 0) (before after : World) (Failed Unread Unprinted Unshown : Type 0)
+module _ (words : List Text) (shows : Bool) (IsPorts : Option (List ℕ) → Ports → Type 0) (before after : World) (Failed Unread Unprinted Unshown : Type 0)
     (Progress : Option (List ℕ) → Result (Unit {0}) Ending → Type 0) (status : ℕ) (text : List ℕ) (shown : shows ≡ true) where
   abbrev pub old : Files
   old = before.files.entries
@@ -296,19 +296,19 @@ module _ (words : List Text) (shows : Bool) (IsPorts : Ports → Type 0) (before
 
   module _ (e : Decrypting) (auth : IsWritersInput e old text) where
     decrypted : (r : Result (Unit {0}) Ending) → OnErr r (status ≡ 0 → ⊥)
-        → OnOk r (OfEngine IsPorts shows (Decrypt e) old (λ engine paths. HasEngineEnded IsPorts engine e.durability after.files.ended × (shows ≡ true → WritesOut IsPorts engine paths old new)))
+        → OnOk r (OfEngine IsPorts shows (Decrypt e) old (λ engine paths. HasEngineEnded IsPorts engine paths e.durability after.files.ended × (shows ≡ true → WritesOut IsPorts engine paths old new)))
         → IfErr r (λ ending. ((new ≡ old) × EndsBefore (Decrypt e) old ending × HasReason old after.files.events Failed ending)
         ⊎ OfEngine IsPorts shows (Decrypt e) old (λ engine paths. LeavesOut IsPorts engine paths old new ending))
         → KeepsOut (old e.to.now) (new e.to.now) status text
     decrypted (Ok done) failed did stopped =
         let wrote = did.2.1 shown in
         kept_whole (old e.to.now) (new e.to.now) status text
-        (whole_out IsPorts (kept_for (option_text e.save)) did.0 (old e.from.now) (new e.to.now) text wrote.there (auth did.0 (opened_by e did.0 did.1)) wrote.output)
+        (whole_out IsPorts e.from.now (kept_for (option_text e.save)) did.0 (old e.from.now) (new e.to.now) text wrote.there (auth did.0 (opened_by e did.0 did.1)) wrote.output)
     decrypted (Err ending) failed wrote (inl same) =
         kept_stopped (old e.to.now) (new e.to.now) status text failed (inl (ap (λ (f : Files). f e.to.now) same.0))
     decrypted (Err ending) failed wrote (inr did) =
         kept_stopped (old e.to.now) (new e.to.now) status text failed
-        (held_stop IsPorts (kept_for (option_text e.save)) did.0 (old e.from.now) (old e.to.now) (new e.to.now) did.2.position did.2.fault text did.2.there
+        (held_stop IsPorts e.from.now (kept_for (option_text e.save)) did.0 (old e.from.now) (old e.to.now) (new e.to.now) did.2.position did.2.fault text did.2.there
         (auth did.0 (opened_by e did.0 did.1)) did.2.output)
 
   -- of what is asked, whichever request was made of the words
@@ -333,7 +333,7 @@ module _ (words : List Text) (shows : Bool) (IsPorts : Ports → Type 0) (before
     fronts p old_text at is all same = old_front p (old s.old.now) text (λ all held. auth.old_text p at all held) all (sym is ∙ same)
 
     resumed : (r : Result (Unit {0}) Ending) → OnErr r (status ≡ 0 → ⊥)
-        → OnOk r (OfEngine IsPorts shows (Resume s) old (λ engine paths. HasEngineEnded IsPorts engine s.decrypting.durability after.files.ended × (shows ≡ true → WritesOut IsPorts engine paths old new)))
+        → OnOk r (OfEngine IsPorts shows (Resume s) old (λ engine paths. HasEngineEnded IsPorts engine paths s.decrypting.durability after.files.ended × (shows ≡ true → WritesOut IsPorts engine paths old new)))
         → IfErr r (λ ending. ((new ≡ old) × EndsBefore (Resume s) old ending × HasReason old after.files.events Failed ending)
         ⊎ OfEngine IsPorts shows (Resume s) old (λ engine paths. LeavesOut IsPorts engine paths old new ending))
         → KeepsOut (old s.decrypting.to.now) (new s.decrypting.to.now) status text
@@ -344,7 +344,7 @@ module _ (words : List Text) (shows : Bool) (IsPorts : Ports → Type 0) (before
         let wrote = did.5.1 shown in
         kept_whole (old d.to.now) (new d.to.now) status text
         (whole_resumed did.0 p (old d.from.now) did.3 text wrote.there was.2 auth.few (fronts p did.3 was.0 was.1)
-        (auth.rest p was.0 did.0 (opened_by d did.0 did.1)) IsPorts (kept_for (option_text d.save)) (new d.to.now) wrote.output)
+        (auth.rest p was.0 did.0 (opened_by d did.0 did.1)) IsPorts d.from.now s.old.now (kept_for (option_text d.save)) (new d.to.now) wrote.output)
     resumed (Err ending) failed wrote (inl same) =
         kept_stopped (old s.decrypting.to.now) (new s.decrypting.to.now) status text failed (inl (ap (λ (f : Files). f s.decrypting.to.now) same.0))
     resumed (Err ending) failed wrote (inr did) =
@@ -354,7 +354,7 @@ module _ (words : List Text) (shows : Bool) (IsPorts : Ports → Type 0) (before
         kept_stopped (old d.to.now) (new d.to.now) status text failed
         (resumed_stop did.0 p (old d.from.now) did.3 text did.5.there was.2 auth.few (fronts p did.3 was.0 was.1)
         (auth.rest p was.0 did.0 (opened_by d did.0 did.1))
-        IsPorts (kept_for (option_text d.save)) (old d.to.now) (new d.to.now) did.5.position did.5.fault did.5.output)
+        IsPorts d.from.now s.old.now (kept_for (option_text d.save)) (old d.to.now) (new d.to.now) did.5.position did.5.fault did.5.output)
 
   pub resumed_headline_of : (r : Result (Unit {0}) Ending) → OnErr r (status ≡ 0 → ⊥)
       → Obeys words shows IsPorts before after Failed Unread Unprinted Unshown Progress r → (a : Resuming) → Requests words (Resume a)

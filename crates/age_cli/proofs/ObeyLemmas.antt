@@ -105,7 +105,7 @@ every_fault : {A : Type 0} (r : Result A Ending) (P : Ending → Type 0) → ((e
 every_fault (Ok x) P h = tt
 every_fault (Err e) P h = h e
 
-module _ (IsPorts : Ports → Type 0) (shows : Bool) (before after : FilesView) (Failed Unshown : Type 0)
+module _ (IsPorts : Option (List ℕ) → Ports → Type 0) (shows : Bool) (before after : FilesView) (Failed Unshown : Type 0)
     (Progress : Option (List ℕ) → Result (Unit {0}) Ending → Type 0) (r : Result (Unit {0}) Ending)
     (kept : after.entries ≡ before.entries) (silent : Unshown) where
   -- of a drill
@@ -155,7 +155,7 @@ module _ (IsPorts : Ports → Type 0) (shows : Bool) (before after : FilesView) 
         shown = always r _ (λ asked. absurd (shown_not_silent (sym asked)));
       }
 
-module _ (words : List Text) (shows : Bool) (IsPorts : Ports → Type 0) (before after : World) (Failed Unread Unprinted Unshown : Type 0)
+module _ (words : List Text) (shows : Bool) (IsPorts : Option (List ℕ) → Ports → Type 0) (before after : World) (Failed Unread Unprinted Unshown : Type 0)
     (Progress : Option (List ℕ) → Result (Unit {0}) Ending → Type 0) (r : Result (Unit {0}) Ending) where
   -- a report isn't refused
   unblamed : (held : Option (List ℕ)) → IfErr r (FailsReport held) → IfErr r (λ e. IsUsage e → Unprinted)

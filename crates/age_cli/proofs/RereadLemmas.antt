@@ -29,7 +29,7 @@ use Rattle.age_command.specs.Orders.{Follows, replacing}
 use Rattle.age_command.specs.Files.{Files, SparesBut, SparesBoth}
 use Rattle.age_command.proofs.EventLemmas.{then_follows}
 use Rattle.age_cli.specs.Acts.{EndsOf, IsEndingOf, HasSaved, IsSaved, SaveFails, kept_for}
-use Rattle.age_cli.specs.inner.Openings.{Stands}
+use Rattle.age_cli.specs.inner.Openings.{IsStored}
 use Rattle.age_cli.specs.declared.interruption.Interruption.{Interruption}
 use Rattle.age_io.specs.Supply.{IsAtEnd}
 use Rattle.age_cli.proofs.CommandStopLemmas.{ends_from}
@@ -62,7 +62,7 @@ unread : (keep other : PositionPolicy) (i : Identity) (before after : Ports) (ru
 unread keep other i before after None s none stops = stops
 unread keep other i before after (Some r) s none stops = absurd (none-some r.file.key none)
 
-module _ (IsPorts : Ports → Type 0) (shows : Bool) (d : Decrypting) (i : Identity) (before after : Ports) (after_is : IsPorts after) (old new : FilesView)
+module _ (IsPorts : Option (List ℕ) → Ports → Type 0) (shows : Bool) (d : Decrypting) (i : Identity) (before after : Ports) (after_is : IsPorts None after) (old new : FilesView)
     (Unshown : Type 0) (Progress : Option (List ℕ) → Result (Unit {0}) Ending → Type 0) (silent : d.progress ≡ Silent → Unshown) where
   abbrev Shows : Result (Unit {0}) Ending → Type 0
   Shows r = d.progress ≡ Shown → (input : Option (List ℕ)) → (shows ≡ true → before.source.supply.left ≡ input)
@@ -167,7 +167,7 @@ save_unfound None p files f there fault = absurd (true≢false (sym there))
 save_unfound (Some name) p files f there fault = (refl, unfound f fault)
 
 -- a position that stands in its file is saved
-pub saves_is : (save : Option Text) (p : Position) (old new : Files) → Stands save (Some p) old new → IsSaved save (Some p) old new
+pub saves_is : (save : Option Text) (p : Position) (old new : Files) → IsStored save (Some p) old new → IsSaved save (Some p) old new
 saves_is None p old new saves = tt
 saves_is (Some name) p old new saves = saves
 

@@ -64,8 +64,8 @@ module _ (i : Identity) (from : Position) (before after : ResumePorts) where
   skipping_as None s stands = inr (inr (skipping_kept i from before after s stands))
   skipping_as (Some r) s stands = absurd stands
 
-module _ (IsPorts : Ports → Type 0) (shows : Bool) (d : Decrypting) (i : Identity) (from : Position) (first last : SourceView) (before after : Ports)
-    (after_is : IsPorts after) (last_is : IsPorts (ports last after.sink)) (old new : FilesView) (Unshown : Type 0) (Progress : Option (List ℕ) → Result (Unit {0}) Ending → Type 0)
+module _ (IsPorts : Option (List ℕ) → Ports → Type 0) (shows : Bool) (d : Decrypting) (i : Identity) (from : Position) (first last : SourceView) (before after : Ports)
+    (after_is : IsPorts None after) (last_is : IsPorts None (ports last after.sink)) (old new : FilesView) (Unshown : Type 0) (Progress : Option (List ℕ) → Result (Unit {0}) Ending → Type 0)
     (silent : d.progress ≡ Silent → Unshown) where
   abbrev Did : PositionPolicy → Result Done Stopped → Standing → Type 0
   Did keep end standing = ResumesKeyed keep (allows_by i) (refuses_by i) from (resume_ports before first) (resume_ports after last) end standing

@@ -18,7 +18,7 @@ use Rattle.age_file.specs.declared.position.PositionPolicy.{PositionPolicy}
 use Rattle.age_file.specs.declared.position.PositionPolicy.TheVariants.{Kept, Dropped}
 use Rattle.age_io.specs.declared.durability.Durability.{Durability}
 use Rattle.age_io.specs.declared.durability.Durability.TheVariants.{Buffered, Synced}
-use Rattle.age_machine.specs.Ends.{EndedFile, TouchesItself, IsOnDisk, IsUntouched}
+use Rattle.age_machine.specs.Ends.{EndedFile, TouchesItself, IsThere, IsOnDisk, IsUntouched}
 use Rattle.age_machine.specs.Saved.{SavedFile, Saves}
 use Rattle.age_file.specs.declared.decryption.Stopped.{Stopped}
 use Rattle.age_fileset.specs.FileSet.{IsMemoryOr, FilesView}
@@ -101,12 +101,14 @@ decrypt_engine keep i = record {
   halts = λ fault before after. HaltsDecryption i before after fault;
 }
 
--- the ports of a source and a sink of one set of files: what they show, and how often they failed
-pub record PortsOf {In Out : Type 0} (read : In → SourceView) (wrote : Out → SinkView) (p : Ports)
-    : Type 0 where
+-- The ports of a source and a sink of one set of files: what they show, and how often they failed. If a
+-- name is given, the source was opened under it, as far as the set tells.
+pub record PortsOf {In Out : Type 0} (read : In → SourceView) (opened_as : In → Option (List ℕ))
+    (wrote : Out → SinkView) (name : Option (List ℕ)) (p : Ports) : Type 0 where
   pub source : In
   pub sink : Out
   pub is : p ≡ ports (read source) (wrote sink)
+  pub named : IfSome name (λ own. IfSome (opened_as source) (λ n. n ≡ own))
 
 -- a source that gave nothing so far, and a sink that took nothing, and of which no call failed
 pub record AreNew (p : Ports) : Type 0 where
@@ -114,32 +116,34 @@ pub record AreNew (p : Ports) : Type 0 where
   pub taken : p.sink.taken.bytes ≡ []
   pub failed : p.sink.failed ≡ 0
 
-module _ (IsPorts : Ports → Type 0) where
-  -- a second source of the set gives the old text
-  abbrev pub Beside : Option (List ℕ) → (ResumePorts → ResumePorts → Type 0) → Ports → Ports
-      → Type 0
-  Beside old_text Promise before after =
-      (first : SourceView) × (last : SourceView) × IsPorts (ports first before.sink)
-      × IsPorts (ports last after.sink) × (old_text ≡ first.supply.left)
+module _ (IsPorts : Option (List ℕ) → Ports → Type 0) where
+  -- a second source of the set, which was opened under this name, gives the old text
+  abbrev pub Beside : Text → Option (List ℕ) → (ResumePorts → ResumePorts → Type 0)
+      → Ports → Ports → Type 0
+  Beside old_name old_text Promise before after =
+      (first : SourceView) × (last : SourceView) × IsPorts (Some old_name) (ports first before.sink)
+      × IsPorts None (ports last after.sink) × (old_text ≡ first.supply.left)
       × Promise (resume_ports before first) (resume_ports after last)
 
-  -- the engine of `resume`, from a position and the old text
-  abbrev pub resume_engine : PositionPolicy → Identity → Position → Option (List ℕ) → Engine
-  resume_engine keep i from old_text = record {
-    ends = Beside old_text (λ before after. (done : Done) × (run : Run)
+  -- the engine of `resume`, from a position and the old text of a file
+  abbrev pub resume_engine : PositionPolicy → Identity → Position → Text → Option (List ℕ) → Engine
+  resume_engine keep i from old_name old_text = record {
+    ends = Beside old_name old_text (λ before after. (done : Done) × (run : Run)
         × ResumeEnds (allows_by i) from before after done run);
-    stops = λ position fault. Beside old_text (λ before after. (written : ℕ) × (run : Option Run)
+    stops = λ position fault. Beside old_name old_text (λ before after. (written : ℕ) × (run : Option Run)
         × ResumeStops (allows_by i) from before after keep (refuses_by i) run
         (record { fault = fault; written = written; position = position }));
-    halts = λ fault. Beside old_text (λ before after. HaltsResumption i from before after fault);
+    halts = λ fault. Beside old_name old_text (λ before after. HaltsResumption i from before after fault);
   }
 
-  -- the engine ran: it read from this input, and wrote this to an output that was empty
-  pub record Ran (Promise : Ports → Ports → Type 0) (input taken : Option (List ℕ)) : Type 0 where
+  -- the engine ran: it read from this input, which has this name, and wrote this to an output that was
+  -- empty
+  pub record Ran (name : Text) (Promise : Ports → Ports → Type 0) (input taken : Option (List ℕ))
+      : Type 0 where
     pub before : Ports
     pub after : Ports
-    pub before_is : IsPorts before
-    pub after_is : IsPorts after
+    pub before_is : IsPorts (Some name) before
+    pub after_is : IsPorts None after
     pub coming : input ≡ before.source.supply.left
     pub empty : before.sink.taken.contents ≡ Some []
     pub took : taken ≡ after.sink.taken.contents
@@ -179,23 +183,24 @@ pub record Paths : Type 0 where
   pub to : Text
   pub save : Option Text
 
-module _ (IsPorts : Ports → Type 0) (engine : Engine) where
+module _ (IsPorts : Option (List ℕ) → Ports → Type 0) (engine : Engine) where
   -- all is done: the engine ended, OUT holds what the sink took, and no other file differs
   pub record WritesOut (p : Paths) (old new : Files) : Type 0 where
     pub there : is_some (old p.from) ≡ true
-    pub output : Ran IsPorts engine.ends (old p.from) (new p.to)
+    pub output : Ran IsPorts p.from engine.ends (old p.from) (new p.to)
     pub others : SparesBut p.to old new
 
   -- the engine stopped, and OUT is as it was, or holds what the sink took, if it took anything
-  abbrev pub IsLeft : Option Position → FileFault → (input old new : Option (List ℕ)) → Type 0
-  IsLeft position fault input old new = (taken : Option (List ℕ))
-      × Ran IsPorts (engine.stops position fault) input taken
+  abbrev pub IsLeft : Text → Option Position → FileFault → (input old new : Option (List ℕ)) → Type 0
+  IsLeft name position fault input old new = (taken : Option (List ℕ))
+      × Ran IsPorts name (engine.stops position fault) input taken
       × ((new ≡ old) ⊎ ((new ≡ taken) × (taken ≢ Some [])))
 
   -- the engine ended, but OUT could not be closed, and is as it was or whole
-  abbrev pub IsUnclosed : Option Position → FileFault → (input old new : Option (List ℕ)) → Type 0
-  IsUnclosed position fault input old new = (taken : Option (List ℕ))
-      × Ran IsPorts engine.ends input taken × ((new ≡ old) ⊎ (new ≡ taken))
+  abbrev pub IsUnclosed : Text → Option Position → FileFault → (input old new : Option (List ℕ))
+      → Type 0
+  IsUnclosed name position fault input old new = (taken : Option (List ℕ))
+      × Ran IsPorts name engine.ends input taken × ((new ≡ old) ⊎ (new ≡ taken))
       × (position ≡ None) × (fault ≡ Write)
 
   -- the command stopped in one of these ways, and then the position was saved
@@ -203,8 +208,8 @@ module _ (IsPorts : Ports → Type 0) (engine : Engine) where
     pub there : is_some (old p.from) ≡ true
     pub position : Option Position
     pub fault : FileFault
-    pub output : IsLeft position fault (old p.from) (old p.to) (new p.to)
-        ⊎ IsUnclosed position fault (old p.from) (old p.to) (new p.to)
+    pub output : IsLeft p.from position fault (old p.from) (old p.to) (new p.to)
+        ⊎ IsUnclosed p.from position fault (old p.from) (old p.to) (new p.to)
     pub ends : EndsOf fault p.save position old new ending
 
 -- ---- What a command does of what it is asked.
@@ -329,7 +334,7 @@ abbrev pub HasNotBegun : Ending → (before after : Option EndedFile) → Type 0
 HasNotBegun ending before after =
     (EndsEarly ending ⊎ (ending ≡ Fault BadPosition)) × SparesOut before after
 
-module _ (IsPorts : Ports → Type 0) where
+module _ (IsPorts : Option (List ℕ) → Ports → Type 0) where
   -- what is asked and what the files hold make an engine, and this holds of it and of the names;
   -- files that contracts don't see may hold anything
   abbrev pub OfEngine : Bool → Request → Files → (Engine → Paths → Type 0) → Type 0
@@ -345,35 +350,38 @@ module _ (IsPorts : Ports → Type 0) where
       × (position : Position) × (old_text : Option (List ℕ))
       × (shows ≡ true → IsPositionIn (old r.position.now) position
       × (old_text ≡ old_for position (old r.old.now)) × (is_some old_text ≡ true))
-      × P (resume_engine IsPorts (kept_for (option_text d.save)) identity position old_text)
+      × P (resume_engine IsPorts (kept_for (option_text d.save)) identity position r.old.now old_text)
       (paths_of d)
   OfEngine shows other old P = Unit {0}
 
-  -- an engine returned, over a source and a sink of the files which were new, and the output that
-  -- was ended last had taken what its sink took
-  pub record Returned (ended : Option EndedFile) : Type 0 where
+  -- an engine returned, over a source of IN and a sink of the files which were new, and the output
+  -- that was ended last had taken what its sink took
+  pub record Returned (p : Paths) (ended : Option EndedFile) : Type 0 where
     pub before : Ports
     pub after : Ports
-    pub before_is : IsPorts before
-    pub after_is : IsPorts after
+    pub before_is : IsPorts (Some p.from) before
+    pub after_is : IsPorts None after
     pub new : AreNew before
     pub out : EndedFile
     pub is : ended ≡ Some out
     pub took : out.took ≡ after.sink.taken.bytes
     pub within : TouchesItself out
 
-  -- it ended, and the output is on the disk, if that was to be waited for
-  pub record HasEngineEnded (engine : Engine) (durability : Durability) (ended : Option EndedFile)
-      : Type 0 where
-    pub run : Returned ended
+  -- It ended, and the output was closed with what its sink took: that is at its path, and on the disk, if
+  -- that was to be waited for.
+  pub record HasEngineEnded (engine : Engine) (p : Paths) (durability : Durability)
+      (ended : Option EndedFile) : Type 0 where
+    pub run : Returned p ended
     pub promise : engine.ends run.before run.after
+    pub closed : run.out.is_closed ≡ true
+    pub there : IsThere run.out
     pub safe : durability ≡ Synced → IsOnDisk run.out
 
   -- It stopped with the fault that is reported, and the output is untouched if its sink took
   -- nothing; or the end of the output failed, as did a call, if it is a regular file.
-  pub record HasEngineStopped (engine : Engine) (ending : Ending) (ended : Option EndedFile)
-      : Type 0 where
-    pub run : Returned ended
+  pub record HasEngineStopped (engine : Engine) (p : Paths) (ending : Ending)
+      (ended : Option EndedFile) : Type 0 where
+    pub run : Returned p ended
     pub fault : FileFault
     pub reported : IsEndingOf fault ending
     pub cause : (engine.halts fault run.before run.after
@@ -390,12 +398,12 @@ module _ (IsPorts : Ports → Type 0) where
     -- The engine ended, and OUT was closed with what it wrote; it holds what the engine promises for
     -- what the names stood for at the call.
     pub done : OnOk ended (OfEngine shows asked before.entries (λ engine paths.
-        HasEngineEnded engine (durability_of asked) after.ended
+        HasEngineEnded engine paths (durability_of asked) after.ended
         × (shows ≡ true → WritesOut IsPorts engine paths before.entries after.entries)))
     -- No engine ran, and no output is touched; or the engine stopped, or its output couldn't be ended.
     pub stopped : IfErr ended (λ ending. HasNotBegun ending before.ended after.ended
         ⊎ OfEngine shows asked before.entries
-        (λ engine paths. HasEngineStopped engine ending after.ended))
+        (λ engine paths. HasEngineStopped engine paths ending after.ended))
     -- After a stop nothing was replaced, or a position was saved.
     pub saved : IfErr ended (λ ending. Follows (order_asked asked).done before.events after.events
         ⊎ HasSaved (durability_of asked) ending after.saved)

@@ -4,10 +4,10 @@ use Rattle.std.specs.Prelude.{Some, Bool, Result, Ok, Err, IfErr, IsErrAnd}
 use Rattle.clap.specs.Words.{Text}
 use Rattle.age_stanza.specs.Grammar.{HeadText}
 use Rattle.age_chunk.specs.Payload.{chunk_count, chunk_length, block_length, chunk_limit}
-use Rattle.age_io.specs.Io.{Shown, SinkView}
+use Rattle.age_io.specs.Io.{Shown, SourceView, SinkView}
 use Rattle.age_stream.specs.Headline.{IsPrefixOf}
 use Rattle.age_keys.specs.Keys.{Opens}
-use Rattle.age_file.specs.Runs.{Ports, Run, IsFromStart, IsTexts, IsAuthenticRun, HasId, HasTag}
+use Rattle.age_file.specs.Runs.{Ports, ports, Run, IsFromStart, IsTexts, IsAuthenticRun, HasId, HasTag}
 use Rattle.age_file.specs.declared.position.Position.{Position}
 use Rattle.age_cli_args.specs.Requests.{Requests, IsForHelp}
 use Rattle.age_cli_args.specs.declared.request.Decrypting.{Decrypting}
@@ -20,12 +20,13 @@ use Rattle.age_fault.specs.declared.fault.FileFault.{FileFault}
 use Rattle.age_fault.specs.declared.fault.FileFault.TheVariants.{Head, Key, NonceCut, OtherFile}
 use Rattle.age_fault.specs.declared.fault.FileFault.TheVariants.{PositionForged}
 use Rattle.age_cli_args.specs.declared.request.Request.{Request}
-use Rattle.age_file.specs.InARow.{GaveFile}
+use Rattle.age_file.specs.InARow.{GaveFile, GaveOld, GaveRest}
 use Rattle.age_fileset.specs.FileSet.{FilesView}
 use Rattle.age_io.specs.declared.durability.Durability.{Durability}
 use Rattle.age_io.specs.declared.durability.Durability.TheVariants.{Synced}
-use Rattle.age_machine.specs.Ends.{EndedFile, TouchesItself, IsOnDisk}
-use Rattle.age_cli.specs.Acts.{Acts, AreNew, IsEndingOf, OpensOf, ShowsProgress, SparesOut, IsUsage}
+use Rattle.age_machine.specs.Ends.{EndedFile, IsThere, IsOnDisk}
+use Rattle.age_cli.specs.Acts.{Acts, IsEndingOf, OpensOf, Paths, paths_of, Returned, ShowsProgress}
+use Rattle.age_cli.specs.Acts.{SparesOut, IsUsage}
 use Rattle.age_cli.specs.Runs.{World, Runs, Declines, Obeys, IsRefusal}
 use Rattle.age_cli.specs.Commands.{IsPositionIn, FailsReport}
 use Rattle.age_command.specs.declared.ending.Ending.{Ending}
@@ -106,7 +107,8 @@ ResumeKeepsOut words before after status =
 
 -- A run over files that contracts see does so: of these ports, with a meter and sinks and a source
 -- of these types.
-abbrev pub RunsKeepOut : (Ports → Type 0) → (Failed Input Output Faults Progress : Type 0) → Type 0
+abbrev pub RunsKeepOut : (Option (List ℕ) → Ports → Type 0)
+    → (Failed Input Output Faults Progress : Type 0) → Type 0
 RunsKeepOut IsPorts Failed Input Output Faults Progress =
     (words : List Text) (before after : World) (faults_old faults_new : SinkView)
     (input : Input × Input) (output : Output × Output) (faults : Faults × Faults)
@@ -121,8 +123,8 @@ RunsKeepOut IsPorts Failed Input Output Faults Progress =
 
 -- Words that ask neither for help nor for the version, and make no request, are refused, or memory
 -- is, and nothing is written; nor does any run write that refuses its words.
-abbrev pub RefusesInSilence : Bool → (Ports → Type 0) → (Failed Input Output Progress : Type 0)
-    → Type 0
+abbrev pub RefusesInSilence : Bool → (Option (List ℕ) → Ports → Type 0)
+    → (Failed Input Output Progress : Type 0) → Type 0
 RefusesInSilence shows IsPorts Failed Input Output Progress =
     (words : List Text) (before after : World) (input : Input × Input) (output : Output × Output)
     (progress : Progress × Progress) (shown : Option (List Shown) × Option (List Shown))
@@ -141,22 +143,32 @@ ReportsAccept = (ended : Result (Unit {0}) Ending) (held : Option (List ℕ))
 
 -- ---- A decryption over any set of files, the machine's among them.
 
--- What a source of the set gave is the age file of a text, which an identity opens. OUT was closed with
--- just that text, and is on the disk, if that was to be waited for.
-pub record LeavesText (IsPorts : Ports → Type 0) (identity : Identity) (durability : Durability)
+-- IN gave the age file of a text, which an identity opens
+abbrev pub GivesFile : Identity → Ports → Ports → List ℕ → Type 0
+GivesFile identity before after =
+    GaveFile (allows_by identity) before.source.supply after.source.supply
+
+-- the earlier output gave a text's chunks before a position, and IN the rest of its payload, in the
+-- position's file, which an identity opens
+abbrev pub GivesRest : (Option (List ℕ) → Ports → Type 0) → Text → Identity → Position
+    → Ports → Ports → List ℕ → Type 0
+GivesRest IsPorts old_name identity from before after text =
+    (first : SourceView) × (last : SourceView) × IsPorts (Some old_name) (ports first before.sink)
+    × GaveOld from first.supply last.supply text
+    × GaveRest (allows_by identity) from before.source.supply after.source.supply text
+
+-- What was read gave a text. OUT was closed with just that: it is at its path, and on the disk, if that
+-- was to be waited for.
+pub record LeavesText (IsPorts : Option (List ℕ) → Ports → Type 0)
+    (Gave : Ports → Ports → List ℕ → Type 0) (p : Paths) (durability : Durability)
     (ended : Option EndedFile) : Type 0 where
+  pub run : Returned IsPorts p ended
   pub text : List ℕ
-  pub before : Ports
-  pub after : Ports
-  pub before_is : IsPorts before
-  pub after_is : IsPorts after
-  pub new : AreNew before
-  pub gave : GaveFile (allows_by identity) before.source.supply after.source.supply text
-  pub out : EndedFile
-  pub is : ended ≡ Some out
-  pub took : out.took ≡ text
-  pub within : TouchesItself out
-  pub safe : durability ≡ Synced → IsOnDisk out
+  pub gave : Gave run.before run.after text
+  pub took : run.out.took ≡ text
+  pub closed : run.out.is_closed ≡ true
+  pub there : IsThere run.out
+  pub safe : durability ≡ Synced → IsOnDisk run.out
 
 -- a fault that comes before OUT is written, also of a wrong passphrase
 abbrev pub IsBeforeText : FileFault → Type 0
@@ -173,7 +185,7 @@ IsForText (Decrypt d) = Unit {0}
 IsForText (Resume r) = Unit {0}
 IsForText other = ⊥
 
-module _ (shows : Bool) (IsPorts : Ports → Type 0) (Failed Progress : Type 0) where
+module _ (shows : Bool) (IsPorts : Option (List ℕ) → Ports → Type 0) (Failed Progress : Type 0) where
   -- a command did this, with a meter of this type, and ended so
   abbrev pub Obeyed : Request → FilesView → FilesView → Result (Unit {0}) Ending → Type 0
   Obeyed asked before after ended = (progress : Progress × Progress)
@@ -186,10 +198,19 @@ module _ (shows : Bool) (IsPorts : Ports → Type 0) (Failed Progress : Type 0) 
   DoneLeavesText = (d : Decrypting) (before after : FilesView)
       → Obeyed (Decrypt d) before after (Ok tt)
       → (identity : Identity) × OpensOf shows d before.entries identity
-      × LeavesText IsPorts identity d.durability after.ended
+      × LeavesText IsPorts (GivesFile identity) (paths_of d) d.durability after.ended
+
+  -- If a resumed one is, it is the text whose first chunks the earlier output gave, and the rest of
+  -- whose payload IN gave.
+  abbrev pub ResumedLeavesText : Type 0
+  ResumedLeavesText = (r : Resuming) (before after : FilesView)
+      → Obeyed (Resume r) before after (Ok tt)
+      → (identity : Identity) × OpensOf shows r.decrypting before.entries identity × (from : Position)
+      × LeavesText IsPorts (GivesRest IsPorts r.old.now identity from) (paths_of r.decrypting)
+      r.decrypting.durability after.ended
 
   -- After a fault that comes before the text OUT is as it was, or the empty file that was made.
-  abbrev pub KeyFaultsSpareOut : Type 0
-  KeyFaultsSpareOut = (asked : Request) (before after : FilesView) (ending : Ending)
+  abbrev pub EarlyFaultsSpareOut : Type 0
+  EarlyFaultsSpareOut = (asked : Request) (before after : FilesView) (ending : Ending)
       (fault : FileFault) → IsForText asked → Obeyed asked before after (Err ending)
       → IsEndingOf fault ending → IsBeforeText fault → SparesOut before.ended after.ended

@@ -58,8 +58,8 @@ pub record Reported (ended : Result (Unit {0}) Ending) (Report Unprinted : Type 
 -- `Failed` that a source of them failed. `Unread`, `Unprinted` and `Unshown` say that the input, the
 -- output and the progress are as they were, and `Progress` what was shown of the progress, by what
 -- IN holds and by how the run ended.
-module _ (words : List Text) (shows : Bool) (IsPorts : Ports → Type 0) (before after : World)
-    (Failed Unread Unprinted Unshown : Type 0)
+module _ (words : List Text) (shows : Bool) (IsPorts : Option (List ℕ) → Ports → Type 0)
+    (before after : World) (Failed Unread Unprinted Unshown : Type 0)
     (Progress : Option (List ℕ) → Result (Unit {0}) Ending → Type 0)
     (ended : Result (Unit {0}) Ending) where
   -- Without words the input is reported.
@@ -130,7 +130,7 @@ module _ (words : List Text) (shows : Bool) (IsPorts : Ports → Type 0) (before
 -- `Failed` says that a source of the files failed; `Quiet`, `Unread`, `Unprinted` and `Unshown` say
 -- that `faults`, the input, the output and the progress are as they were, and `Progress` what was
 -- shown of the progress.
-pub record Runs (words : List Text) (shows : Bool) (IsPorts : Ports → Type 0)
+pub record Runs (words : List Text) (shows : Bool) (IsPorts : Option (List ℕ) → Ports → Type 0)
     (before after : World) (faults_old faults_new : SinkView)
     (Failed Quiet Unread Unprinted Unshown : Type 0)
     (Progress : Option (List ℕ) → Result (Unit {0}) Ending → Type 0) (status : ℕ) : Type 0 where

@@ -155,8 +155,8 @@ fn decrypt_opened<F: FileSet, E: Sink, P: Meter>(
 ) -> Result<(), Ending>
     ensures announced { Tells announced.new result (E.view faults.old) (E.view faults.new)
         (faults.new ≡ faults.old) }
-    ensures opened { DecryptsOpened (PortsOf F.In.view F.Out.view) (F.shows_bytes) asked.now identity
-        (ports (F.In.view source) (F.Out.view out.out)) (F.view files.old) (F.view files.new)
+    ensures opened { DecryptsOpened (PortsOf F.In.view F.opened_as F.Out.view) (F.shows_bytes) asked.now
+        identity (ports (F.In.view source) (F.Out.view out.out)) (F.view files.old) (F.view files.new)
         (progress.new ≡ progress.old)
         (ShowsProgress (F.shows_bytes) (P.shown progress.old) (P.shown progress.new)) result }
 {
@@ -196,7 +196,7 @@ pub fn decrypt_file<F: FileSet, E: Sink, P: Meter>(
 ) -> Result<(), Ending>
     ensures announced { Tells announced.new result (E.view faults.old) (E.view faults.new)
         (faults.new ≡ faults.old) }
-    ensures acts { Acts (PortsOf F.In.view F.Out.view) (F.shows_bytes) (Decrypt asked.now)
+    ensures acts { Acts (PortsOf F.In.view F.opened_as F.Out.view) (F.shows_bytes) (Decrypt asked.now)
         (F.view files.old) (F.view files.new) (SourceFails F.In.view)
         (progress.new ≡ progress.old)
         (ShowsProgress (F.shows_bytes) (P.shown progress.old) (P.shown progress.new)) result }

@@ -262,7 +262,7 @@ pub fn encrypt_file<F: FileSet, E: Sink, P: Meter>(
 ) -> Result<(), Ending>
     ensures announced { Tells announced.new result (E.view faults.old) (E.view faults.new)
         (faults.new ≡ faults.old) }
-    ensures acts { Acts (PortsOf F.In.view F.Out.view) (F.shows_bytes) (Encrypt asked.now)
+    ensures acts { Acts (PortsOf F.In.view F.opened_as F.Out.view) (F.shows_bytes) (Encrypt asked.now)
         (F.view files.old) (F.view files.new) (SourceFails F.In.view)
         (progress.new ≡ progress.old)
         (ShowsProgress (F.shows_bytes) (P.shown progress.old) (P.shown progress.new)) result }

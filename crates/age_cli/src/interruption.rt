@@ -7,7 +7,7 @@ ghost use Rattle.age_cli.specs.Acts.{SaveFails, EndsOf, IsEndingOf, HasSaved};
 ghost use Rattle.age_command.specs.Orders.{Follows, replacing};
 ghost use Rattle.age_command.specs.Files.{SparesBoth};
 ghost use Rattle.age_cli.specs.inner.Endings.{sealing_end, opening_end, IsBeyond, IsUnsaved};
-ghost use Rattle.age_cli.specs.inner.Openings.{Stands};
+ghost use Rattle.age_cli.specs.inner.Openings.{IsStored};
 ghost use Rattle.age_machine.specs.Saved.{Saves};
 ghost use Rattle.age_file.specs.declared.position.Position.{Position};
 ghost use Rattle.age_file.specs.Resumes.{position_text};
@@ -74,7 +74,7 @@ pub(crate) fn save<F: FileSet>(
     settled: u64,
     durability: Durability,
 ) -> Result<(), FileFault>
-    ensures saved { OnOk result (F.shows_bytes ≡ true → Stands (option_text name.entry) position
+    ensures saved { OnOk result (F.shows_bytes ≡ true → IsStored (option_text name.entry) position
         (F.view files.old).entries (F.view files.new).entries) }
     ensures unsaved { IfErr result (λ second. SaveFails (option_text name.entry) position
         (F.view files.old).entries (F.view files.new).entries second) }

@@ -4,11 +4,11 @@ ghost use Rattle.std.specs.Prelude.{◌≡◌, [], ◌∷◌, ◌++◌, Some, No
 ghost use Rattle.std.specs.Prelude.{Option, option_map, length, OnErr, IfOk, IfSome, IsErrAnd, IsSomeAnd};
 ghost use Rattle.age_io.specs.Io.{Adds, Begins, Ends};
 ghost use Rattle.age_fault.specs.declared.fault.FileFault.TheVariants.{Write};
-ghost use Rattle.age_fileset.specs.FileSet.{Opened, Created, Closed, OpenFails};
+ghost use Rattle.age_fileset.specs.FileSet.{Opened, Closed, OpenFails};
 ghost use Rattle.age_cli_args.specs.Requests.{option_text};
 ghost use Rattle.age_command.specs.Endings.{EndsEarly, is_usage, Tells};
 ghost use Rattle.age_command.specs.Files.{SourceFails, HasReason, SparesBut};
-ghost use Rattle.age_command.specs.Orders.{preparing, making};
+ghost use Rattle.age_command.specs.Orders.{creating, preparing, making};
 ghost use Rattle.age_file.specs.Runs.{ports};
 ghost use Rattle.age_cli.specs.Acts.{AreNew};
 ghost use Rattle.age_cli.specs.inner.Endings.{Concludes, EndsOut, IsBeyond, IsPut, IsCertain, IsUnsaved};
@@ -75,7 +75,7 @@ fn make_out<F: FileSet>(
     ensures begun { IfOk result (λ o. ((F.Out.view o).taken.bytes ≡ [])
         × ((F.Out.view o).failed ≡ 0)) }
     ensures noted { (F.view files.new).events
-        ≡ (F.view files.old).events ++ Created asked.now.to.now ∷ [] }
+        ≡ (F.view files.old).events ++ creating asked.now.clobber asked.now.to.now ∷ [] }
     ensures faults { IfErr result (OpenFails (F.shows_bytes) Write) }
 {
     match asked.clobber {
@@ -91,8 +91,8 @@ fn create_out<F: FileSet>(
     files: &mut F,
     asked: &Output<'_>,
 ) -> Result<Taking<F>, Ending>
-    ensures { OpensFiles (F.shows_bytes) (Created asked.now.to.now ∷ [])
-        (making (Some asked.now.to.now) asked.now.durability) (F.view files.old)
+    ensures { OpensFiles (F.shows_bytes) (creating asked.now.clobber asked.now.to.now ∷ [])
+        (making asked.now.clobber (Some asked.now.to.now) asked.now.durability) (F.view files.old)
         (F.view files.new) (λ o. ((F.Out.view o.out).taken.contents ≡ Some [])
         × ((F.Out.view o.out).label ≡ asked.now.to.now)
         × IsFresh asked.now.clobber ((F.view files.old).entries asked.now.to.now))
@@ -136,16 +136,18 @@ pub(crate) fn open_both<F: FileSet>(
     asked: &Output<'_>,
 ) -> Result<(F::In, Taking<F>), Ending>
     ensures { OpensFiles (F.shows_bytes)
-        (Opened from.now ∷ (preparing (option_text asked.now.save) ++ Created asked.now.to.now ∷ []))
         (Opened from.now ∷ (preparing (option_text asked.now.save)
-        ++ making (Some asked.now.to.now) asked.now.durability))
+        ++ creating asked.now.clobber asked.now.to.now ∷ []))
+        (Opened from.now ∷ (preparing (option_text asked.now.save)
+        ++ making asked.now.clobber (Some asked.now.to.now) asked.now.durability))
         (F.view files.old) (F.view files.new)
         (λ both. ((is_some ((F.view files.old).entries from.now) ≡ true)
         × ((F.In.view both.0).supply.left ≡ (F.view files.old).entries from.now)
         × ((F.Out.view both.1.out).taken.contents ≡ Some [])
         × ((F.Out.view both.1.out).label ≡ asked.now.to.now))
         × IsFresh asked.now.clobber ((F.view files.old).entries asked.now.to.now))
-        (λ both. AreNew (ports (F.In.view both.0) (F.Out.view both.1.out)))
+        (λ both. AreNew (ports (F.In.view both.0) (F.Out.view both.1.out))
+        × IfSome (F.opened_as both.0) (λ n. n ≡ from.now))
         (SourceFails F.In.view) result }
 {
     let source = files.open(alloc, from)?;

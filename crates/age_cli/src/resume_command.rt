@@ -1,6 +1,6 @@
 //! The command that continues a decryption.
 
-ghost use Rattle.std.specs.Prelude.{◌≡◌, ◌⊎◌, [], ◌∷◌, ◌++◌, true, is_some, IfOk, IfErr, OnOk};
+ghost use Rattle.std.specs.Prelude.{◌≡◌, ◌⊎◌, [], ◌∷◌, ◌++◌, true, is_some, IfOk, IfErr, IfSome, OnOk};
 ghost use Rattle.age_fault.specs.declared.fault.FileFault.TheVariants.{Read, BadPosition};
 ghost use Rattle.age_fileset.specs.FileSet.{Opened, OpenFails};
 ghost use Rattle.age_fileset.specs.declared.files.OpenFault.TheVariants as OpenFault;
@@ -93,6 +93,7 @@ fn open_old<F: FileSet>(
     ensures found { IfOk result (λ s. F.shows_bytes ≡ true
         → (is_some (old_for position.now ((F.view files.old).entries name.now)) ≡ true)
         × ((F.In.view s).supply.left ≡ old_for position.now ((F.view files.old).entries name.now))) }
+    ensures named { IfOk result (λ s. IfSome (F.opened_as s) (λ n. n ≡ name.now)) }
     ensures noted { (F.view files.new).events ≡ (F.view files.old).events ++ Opened name.now ∷ [] }
     ensures faults { IfErr result (OpenFails (F.shows_bytes) Read) }
     ensures reason { F.shows_bytes ≡ true → IfErr result (λ f. f ≡ OpenFault.Fault Read
@@ -118,6 +119,8 @@ fn open_earlier<F: FileSet>(
         × (is_some (old_for both.0 ((F.view files.old).entries asked.now.old.now)) ≡ true)
         × ((F.In.view both.1).supply.left
         ≡ old_for both.0 ((F.view files.old).entries asked.now.old.now))) }
+    ensures named { IfOk result
+        (λ both. IfSome (F.opened_as both.1) (λ n. n ≡ asked.now.old.now)) }
     ensures noted { OnOk result ((F.view files.new).events ≡ (F.view files.old).events
         ++ Opened asked.now.position.now ∷ Opened asked.now.old.now ∷ []) }
     ensures follows { Follows (Opened asked.now.position.now ∷ Opened asked.now.old.now ∷ [])
@@ -257,9 +260,9 @@ fn resume_opened<F: FileSet, E: Sink, P: Meter>(
 ) -> Result<(), Ending>
     ensures announced { Tells announced.new result (E.view faults.old) (E.view faults.new)
         (faults.new ≡ faults.old) }
-    ensures opened { ResumesOpened (PortsOf F.In.view F.Out.view) (F.shows_bytes) asked.now identity
-        position.now (F.In.view old) (ports (F.In.view source) (F.Out.view out.out)) (F.view files.old)
-        (F.view files.new) (progress.new ≡ progress.old)
+    ensures opened { ResumesOpened (PortsOf F.In.view F.opened_as F.Out.view) (F.shows_bytes) asked.now
+        identity position.now (F.In.view old) (ports (F.In.view source) (F.Out.view out.out))
+        (F.view files.old) (F.view files.new) (progress.new ≡ progress.old)
         (ShowsProgress (F.shows_bytes) (P.shown progress.old) (P.shown progress.new)) result }
 {
     read_again::<Identity>();
@@ -304,7 +307,7 @@ pub fn resume_file<F: FileSet, E: Sink, P: Meter>(
 ) -> Result<(), Ending>
     ensures announced { Tells announced.new result (E.view faults.old) (E.view faults.new)
         (faults.new ≡ faults.old) }
-    ensures acts { Acts (PortsOf F.In.view F.Out.view) (F.shows_bytes) (Resume asked.now)
+    ensures acts { Acts (PortsOf F.In.view F.opened_as F.Out.view) (F.shows_bytes) (Resume asked.now)
         (F.view files.old) (F.view files.new) (SourceFails F.In.view)
         (progress.new ≡ progress.old)
         (ShowsProgress (F.shows_bytes) (P.shown progress.old) (P.shown progress.new)) result }

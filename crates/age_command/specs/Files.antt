@@ -5,7 +5,7 @@ use Rattle.clap.specs.Words.{Text}
 use Rattle.age_io.specs.Io.{SourceView}
 use Rattle.age_fault.specs.Faults.{HasRisen}
 use Rattle.age_fault.specs.declared.fault.FileFault.TheVariants.{Read, Write}
-use Rattle.age_fileset.specs.FileSet.{Event, Opened, Created}
+use Rattle.age_fileset.specs.FileSet.{Event, Opened, Created, Made}
 use Rattle.age_command.specs.declared.ending.Ending.{Ending}
 use Rattle.age_command.specs.declared.ending.Ending.TheVariants.{Fault}
 
@@ -46,11 +46,11 @@ pub record IsMissing (old : Files) (events : List Event) : Type 0 where
   pub last : events ≡ front ++ Opened name ∷ []
   pub missing : old name ≡ None
 
--- a file was to be created, and it wasn't, since nothing ended it
+-- a file was to be created or made, and it wasn't, since nothing ended it
 pub record IsUnmade (events : List Event) : Type 0 where
   pub front : List Event
   pub name : Text
-  pub last : events ≡ front ++ Created name ∷ []
+  pub last : (events ≡ front ++ Created name ∷ []) ⊎ (events ≡ front ++ Made name ∷ [])
 
 -- why a file can't be read; `SourceFailed` says that a source failed
 abbrev pub IsUnread : Files → List Event → Type 0 → Type 0

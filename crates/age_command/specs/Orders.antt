@@ -2,8 +2,10 @@
 use Rattle.std.specs.Prelude.{◌≡◌, List, [], ◌∷◌, ◌++◌, Option, Some, None, ◌⊎◌, codes}
 use Rattle.clap.specs.Words.{Text}
 use Rattle.age_io.specs.declared.durability.Durability.{Durability}
-use Rattle.age_fileset.specs.FileSet.{Event, Opened, Prepared, Created, Replaced, Closed}
+use Rattle.age_fileset.specs.FileSet.{Event, Opened, Prepared, Created, Made, Replaced, Closed}
 use Rattle.age_cli_args.specs.Requests.{option_text}
+use Rattle.age_cli_args.specs.declared.request.ClobberOption.{ClobberOption}
+use Rattle.age_cli_args.specs.declared.request.ClobberOption.TheVariants.{Allowed, Refused}
 use Rattle.age_cli_args.specs.declared.request.Request.{Request}
 use Rattle.age_cli_args.specs.declared.request.Request.TheVariants.{Inspect, Decrypt, Resume, Encrypt, Drill}
 
@@ -16,8 +18,8 @@ pub record Follows (order old new : List Event) : Type 0 where
   pub did : new ≡ old ++ done
   pub front : order ≡ done ++ rest
 
--- a file is opened, if one is named; one is prepared to be replaced; one is created and ended; one
--- is replaced; and what was written reaches the disk then or later
+-- a file is opened, if one is named; one is prepared to be replaced; one is created, or made if none
+-- may be there, and ended; one is replaced; and what was written reaches the disk then or later
 abbrev pub opening_event : Option Text → List Event
 opening_event (Some name) = Opened name ∷ []
 opening_event None = []
@@ -26,9 +28,13 @@ abbrev pub preparing : Option Text → List Event
 preparing (Some name) = Prepared name ∷ []
 preparing None = []
 
-abbrev pub making : Option Text → Durability → List Event
-making (Some name) durability = Created name ∷ Closed durability ∷ []
-making None durability = []
+abbrev pub creating : ClobberOption → Text → Event
+creating Allowed name = Created name
+creating Refused name = Made name
+
+abbrev pub making : ClobberOption → Option Text → Durability → List Event
+making clobber (Some name) durability = creating clobber name ∷ Closed durability ∷ []
+making clobber None durability = []
 
 abbrev pub replacing : Option Text → Durability → List Event
 replacing (Some name) durability = Replaced name durability ∷ []
@@ -90,11 +96,11 @@ random_name (Some name) = name
 -- output is none of the files that are read, the next position replaces no file but the position,
 -- and the old text isn't the input.
 abbrev pub writing_order : Option Text → Option Text → Option Text → Option Text → Option Text
-    → Option Text → Option Text → Durability → Order
-writing_order first second position old from to save durability =
+    → ClobberOption → Option Text → Option Text → Durability → Order
+writing_order first second position old from clobber to save durability =
     let judged = opening_event first ++ opening_event second in
     let done = judged ++ ((opening_event position ++ (opening_event old ++ opening_event from))
-    ++ (preparing save ++ making to durability)) in
+    ++ (preparing save ++ making clobber to durability)) in
     let read = from ∷ first ∷ second ∷ old ∷ [] in
     record {
       apart = apart_from to (position ∷ read) ∷ apart_from save (to ∷ read)
@@ -108,13 +114,13 @@ writing_order first second position old from to save durability =
 abbrev pub order_asked : Request → Order
 order_asked (Inspect file) = reading_order (opening_event (option_text file))
 order_asked (Encrypt e) = writing_order (Some e.pass.now) (Some (random_name (option_text e.random)))
-    None None (Some e.from.now) (Some e.to.now) None e.durability
+    None None (Some e.from.now) e.clobber (Some e.to.now) None e.durability
 order_asked (Decrypt d) = writing_order (option_text d.identity.pass) (option_text d.identity.shared)
-    None None (Some d.from.now) (Some d.to.now) (option_text d.save) d.durability
+    None None (Some d.from.now) d.clobber (Some d.to.now) (option_text d.save) d.durability
 order_asked (Resume r) =
     let d = r.decrypting in
     writing_order (option_text d.identity.pass) (option_text d.identity.shared) (Some r.position.now)
-    (Some r.old.now) (Some d.from.now) (Some d.to.now) (option_text d.save) d.durability
+    (Some r.old.now) (Some d.from.now) d.clobber (Some d.to.now) (option_text d.save) d.durability
 order_asked (Drill d) =
     reading_order (opening_event (option_text d.pass) ++ (opening_event (Some d.script.now)
     ++ opening_event (Some d.from.now)))

@@ -1,16 +1,17 @@
 -- What is known of a file while puts go on, and once it was ended.
 use Rattle.std.proofs.Common.{◌≡◌, ◌<◌, ℕ, List, [], ◌∷◌, ◌++◌, Bool, true, false, Option, Some, None}
 use Rattle.std.proofs.Common.{arith, sym, ap, ◌∙◌, refl, subst}
-use Rattle.std.specs.Prelude.{Result, Ok, Err, IfOk, OnOk, OnErr, MatchResult, is_ok}
+use Rattle.std.specs.Prelude.{Result, Ok, Err, IfOk, IfSome, OnOk, OnErr, MatchResult, is_ok}
 use Rattle.age_io.specs.Io.{one_more}
 use Rattle.age_io.specs.declared.durability.Durability.{Durability}
 use Rattle.age_io.specs.declared.durability.Durability.TheVariants.{Synced}
 use Rattle.age_machine.specs.Calls.{FileCall}
 use Rattle.age_machine.specs.Ends.{EndedFile, Closes}
-use Rattle.age_machine.specs.Outs.{OutFile, OutView, AllOn, LocksFirst, text_of}
-use Rattle.age_machine.specs.Saves.{IsSafe}
-use Rattle.age_disk.specs.Outputs.{sink_of}
+use Rattle.age_machine.specs.Outs.{OutFile, OutView, TouchesFile, text_of}
+use Rattle.age_machine.specs.Saves.{LeadsTo, IsSafe}
+use Rattle.age_disk.specs.Outputs.{HasNode, sink_of}
 use Rattle.age_disk.specs.Targets.{IsTaking}
+use Rattle.age_disk.specs.declared.names.FileId.{FileId}
 use Rattle.age_disk.specs.inner.Puts.{TargetPuts}
 
 first_none : (one other : List ℕ) → one ++ other ≡ [] → one ≡ []
@@ -51,32 +52,39 @@ taking_put (Some old) (Some new) before after ok part took later taking puts add
   ),
 )
 
+-- it goes by the same node
+pub node_put : (id : Option FileId) (old new : Option OutView) (ok : Bool) (part : List ℕ) → TargetPuts old new ok part
+    → IfSome old (λ (o : OutView). HasNode id o.file) → IfSome new (λ (o : OutView). HasNode id o.file)
+node_put id old None ok part puts has = tt
+node_put id None (Some new) ok part puts has = absurd puts
+node_put id (Some old) (Some new) ok part puts has = subst (λ (f : OutFile). HasNode id f) (sym puts.file) has
+
 -- ---- A regular file that was ended.
 
 module _ (durability : Durability) (out : OutView) (failed : ℕ) (failing : Bool) (took : List ℕ)
     (calls : List FileCall) (count : ℕ) (which : Option OutFile) (is : which ≡ Some out.file)
-    (taking : IsTaking (Some out) failed took) (on : AllOn out.file.path out.file.number calls × LocksFirst out.file.number calls) where
+    (taking : IsTaking (Some out) failed took) (within : TouchesFile out.file calls) where
   abbrev ended : Option OutFile → EndedFile
   ended file = record { took = took; is_closed = true; file = file; calls = calls; failed = count }
 
-  safe_at : {E : Type 0} (r : Result (Unit {0}) E) → OnOk r (out.is_lost ≡ false) → (durability ≡ Synced → out.file.is_waited ≡ true → out.failed ≡ 0
-      → OnOk r (IsSafe out.file.path (text_of out.calls) calls)) → durability ≡ Synced → failed ≡ 0
-      → OnOk r (out.file.is_waited ≡ true → IsSafe out.file.path took calls)
-  safe_at (Err e) sure safe synced none = tt
-  safe_at (Ok x) sure safe synced none = λ waited. subst (λ (t : List ℕ). IsSafe out.file.path t calls) taking.0
-      (safe synced waited (taking.1.0 none sure))
+  sure_of : {E : Type 0} (P : List ℕ → Type 0) (r : Result (Unit {0}) E) → OnOk r (out.is_lost ≡ false)
+      → (out.failed ≡ 0 → OnOk r (P (text_of out.calls))) → failed ≡ 0 → OnOk r (P took)
+  sure_of P (Err e) sure holds none = tt
+  sure_of P (Ok x) sure holds none = subst P taking.0 (holds (taking.1.0 none sure))
 
   pub file_closes : {E : Type 0} (r : Result (Unit {0}) E) → OnOk r (out.is_lost ≡ false)
-      → (durability ≡ Synced → out.file.is_waited ≡ true → out.failed ≡ 0
-      → OnOk r (IsSafe out.file.path (text_of out.calls) calls)) → OnErr r (0 < count)
+      → (durability ≡ Synced → out.failed ≡ 0
+      → OnOk r (IsSafe out.file.path (text_of out.calls) calls))
+      → (out.failed ≡ 0 → OnOk r (LeadsTo out.file.path out.file.number (text_of out.calls) calls)) → OnErr r (0 < count)
       → Closes durability (Some out.file) (sink_of failed failing took) r (ended which)
-  file_closes r sure safe caused =
+  file_closes r sure safe there caused =
       subst (λ (w : Option OutFile). Closes durability (Some out.file) (sink_of failed failing took) r
       (ended w)) (sym is) (record {
         took = refl;
         closed = refl;
         same = refl;
-        within = on;
-        safe = safe_at r sure safe;
+        within = within;
+        there = sure_of (λ t. LeadsTo out.file.path out.file.number t calls) r sure there;
+        safe = λ synced. sure_of (λ t. IsSafe out.file.path t calls) r sure (safe synced);
         caused = caused;
       })

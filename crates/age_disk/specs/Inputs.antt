@@ -3,6 +3,8 @@ use Rattle.std.specs.Prelude.{◌≡◌, ℕ, List, [], Bool, false, Option}
 use Rattle.age_disk.specs.declared.names.FileId.{FileId}
 
 pub record InputView : Type 0 where
+  -- the name under which it was opened
+  pub name : List ℕ
   -- how many pulls have failed, and whether the last one did
   pub failed : ℕ
   pub failing : Bool
@@ -12,8 +14,9 @@ pub record InputView : Type 0 where
   -- what tells it from other files, if that is known
   pub id : Option FileId
 
--- nothing was read of it yet
-pub record IsUnread (source : InputView) : Type 0 where
+-- it was opened under this name, and nothing was read of it yet
+pub record IsUnread (name : List ℕ) (source : InputView) : Type 0 where
+  pub named : source.name ≡ name
   pub failed : source.failed ≡ 0
   pub failing : source.failing ≡ false
   pub given : source.given ≡ []

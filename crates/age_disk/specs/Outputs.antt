@@ -1,8 +1,12 @@
 -- What contracts see of a file of the machine that is written.
-use Rattle.std.specs.Prelude.{◌≡◌, ◌≢◌, ℕ, List, [], Bool, true, false, Option, None, Some, Contains}
+use Rattle.std.specs.Prelude.{◌≡◌, ◌≢◌, ◌<◌, ◌^◌, ℕ, List, [], Bool, true, false, Option, None, Some}
+use Rattle.std.specs.Prelude.{IfSome, Contains}
 use Rattle.age_io.specs.Io.{SinkView}
+use Rattle.age_machine.specs.Numbers.{number_of}
 use Rattle.age_machine.specs.Outs.{OutFile}
+use Rattle.age_machine.specs.declared.node.Node.{Node}
 use Rattle.age_disk.specs.declared.names.FileId.{FileId}
+use Rattle.age_disk.specs.declared.names.FileId.TheVariants.{File}
 
 pub record OutputView : Type 0 where
   -- how many puts have failed, and whether the last call did
@@ -15,9 +19,17 @@ pub record OutputView : Type 0 where
   -- what tells it from other files, if that is known
   pub id : Option FileId
 
+-- a regular file has the id of the node whose number its calls have
+pub record HasNode (id : Option FileId) (file : OutFile) : Type 0 where
+  pub node : Node
+  pub fits : node.inode < 2 ^ 64
+  pub known : id ≡ Some (File node)
+  pub number : file.number ≡ number_of node
+
 -- a file that is none of these
-abbrev pub IsNoneOf : List FileId → Option FileId → Type 0
-IsNoneOf opened id = (one : FileId) → Contains opened one → id ≢ Some one
+pub record IsApart (opened : List FileId) (out : OutputView) : Type 0 where
+  pub none : (one : FileId) → Contains opened one → out.id ≢ Some one
+  pub node : IfSome out.file (HasNode out.id)
 
 -- the others have all of these
 abbrev pub HasAll : List FileId → List FileId → Type 0
@@ -43,10 +55,9 @@ pub record IsNew (out : OutputView) : Type 0 where
   pub failing : out.failing ≡ false
   pub took : out.took ≡ []
 
--- a regular file that opening made at a path, and whose name is waited for
+-- a regular file that opening made at a path
 pub record IsMadeAt (path : List ℕ) (out : OutputView) : Type 0 where
   pub file : OutFile
   pub is : out.file ≡ Some file
   pub at : file.path ≡ path
   pub made : file.is_made ≡ true
-  pub waited : file.is_waited ≡ true

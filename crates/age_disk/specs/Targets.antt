@@ -7,7 +7,7 @@ use Rattle.age_disk.specs.declared.output.Target.TheVariants as target
 -- the regular file among targets
 abbrev pub regular_of : Target → Option OutView
 regular_of (target.File out) = Some out
-regular_of (target.Device file) = None
+regular_of (target.Device device) = None
 regular_of (target.Output output witness) = None
 regular_of (target.Faults faults witness) = None
 

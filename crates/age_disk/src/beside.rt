@@ -1,8 +1,8 @@
 //! A file beside another one, whose place it is to take.
 
-ghost use Rattle.std.specs.Prelude.{◌≡◌, string_bytes};
+ghost use Rattle.std.specs.Prelude.{◌≡◌, [], string_bytes};
 ghost use Rattle.age_machine.specs.Numbers.{number_of};
-ghost use Rattle.age_disk.specs.inner.Besides.{IsKept};
+ghost use Rattle.age_machine.specs.Beside.{IsKept};
 
 use crate::names::FileId;
 use age_io::Durability;
@@ -27,9 +27,10 @@ pub(crate) struct Kept {
 }
 
 impl Model for Kept {
-    ghost use Rattle.std.specs.Prelude.{string_bytes};
+    ghost use Rattle.std.specs.Prelude.{[], string_bytes};
     ghost use Rattle.age_machine.specs.Numbers.{number_of};
-    ghost use Rattle.age_disk.specs.inner.Besides.{KeptView, IsKept};
+    ghost use Rattle.age_machine.specs.Beside.{IsKept};
+    ghost use Rattle.age_disk.specs.inner.Besides.{KeptView};
 
     ghost Value = { KeptView };
 
@@ -40,12 +41,8 @@ impl Model for Kept {
       calls = k.machine.calls;
     } };
 
-    ghost invariant = { λ k. IsKept (record {
-      path = string_bytes k.path;
-      from = string_bytes k.beside.path;
-      number = number_of k.beside.file.node;
-      calls = k.machine.calls;
-    }) };
+    ghost invariant = { λ k. IsKept (string_bytes k.path) (string_bytes k.beside.path)
+        (number_of k.beside.file.node) [] k.machine.calls };
 }
 
 impl Drop for Kept {
@@ -98,16 +95,13 @@ impl Kept {
     pub(crate) fn beside(&self) -> &Beside<HostFile>
         ensures path { string_bytes result.now.path ≡ self.now.from }
         ensures number { number_of result.now.file.node ≡ self.now.number }
-        ensures kept { IsKept self.now }
+        ensures kept { IsKept self.now.path self.now.from self.now.number [] self.now.calls }
     {
         &self.beside
     }
 
     /// Which file it is.
-    pub(crate) fn id(&self) -> Option<FileId> {
-        match self.beside.file.file().metadata() {
-            Ok(own) => FileId::of(&own),
-            Err(_) => None,
-        }
+    pub(crate) fn id(&self) -> FileId {
+        FileId::of_node(self.beside.file.node())
     }
 }

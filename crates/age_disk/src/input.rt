@@ -76,6 +76,7 @@ fn length_of(metadata: &Metadata) -> Option<u64> {
 #[derive(Drop)]
 pub struct HostIn {
     rt: HostRuntime,
+    name: Tape,
     origin: Origin,
     // How many bytes are still to come of a regular file.
     left: Option<u64>,
@@ -96,6 +97,7 @@ impl Model for HostIn {
     ghost Value = { InputView };
 
     ghost view = { λ s. record {
+      name = s.name;
       failed = s.failures.count;
       failing = s.failures.last;
       given = s.given;
@@ -107,32 +109,41 @@ impl Model for HostIn {
 impl HostIn {
     /// Opens what a name stands for. Standard output, standard error and folders can't be read.
     pub fn open(alloc: Global, rt: &HostRuntime, name: &str) -> io::Result<HostIn>
-        ensures { IfOk result IsUnread }
+        ensures { IfOk result (IsUnread name.now) }
     {
         match resolve(alloc, rt, name)? {
-            Resolved::Stream(stream) => HostIn::open_stream(rt, stream),
+            Resolved::Stream(stream) => HostIn::open_stream(rt, name, stream),
             Resolved::Path(_) => HostIn::open_path(rt, name),
         }
     }
 
     /// Like `open`, but a missing file counts as empty.
     pub fn open_or_empty(alloc: Global, rt: &HostRuntime, name: &str) -> io::Result<HostIn>
-        ensures { IfOk result IsUnread }
+        ensures { IfOk result (IsUnread name.now) }
     {
         match HostIn::open(alloc, rt, name) {
             Err(error) if error.kind() == io::ErrorKind::NotFound => {
-                Ok(HostIn::new(rt, Origin::Nothing, Some(0), None))
+                Ok(HostIn::new(rt, name, Origin::Nothing, Some(0), None))
             }
             opened => opened,
         }
     }
 
-    fn new(rt: &HostRuntime, origin: Origin, left: Option<u64>, id: Option<FileId>) -> HostIn
-        ensures unread { IsUnread result }
+    fn new(
+        rt: &HostRuntime,
+        name: &str,
+        origin: Origin,
+        left: Option<u64>,
+        id: Option<FileId>,
+    ) -> HostIn
+        ensures unread { IsUnread name.now result }
         ensures same { result.id ≡ id }
     {
+        let mut own = Tape::new();
+        own.note(name.as_bytes());
         HostIn {
             rt: *rt,
+            name: own,
             origin,
             left,
             is_cut_off: false,
@@ -198,19 +209,19 @@ impl HostIn {
         Ok(())
     }
 
-    fn open_stream(rt: &HostRuntime, stream: Stream) -> io::Result<HostIn>
-        ensures { IfOk result IsUnread }
+    fn open_stream(rt: &HostRuntime, name: &str, stream: Stream) -> io::Result<HostIn>
+        ensures { IfOk result (IsUnread name.now) }
     {
         let Stream::Input = stream else {
             return Err(io::Error::from(io::ErrorKind::Unsupported));
         };
         stream.check(rt)?;
         let id = FileId::of_open_stream(rt, stream)?;
-        Ok(HostIn::new(rt, Origin::Input(rt.stdin()), None, id))
+        Ok(HostIn::new(rt, name, Origin::Input(rt.stdin()), None, id))
     }
 
     fn open_path(rt: &HostRuntime, name: &str) -> io::Result<HostIn>
-        ensures { IfOk result IsUnread }
+        ensures { IfOk result (IsUnread name.now) }
     {
         let file = above_streams(File::open(rt, name)?)?;
         let metadata = file.metadata()?;
@@ -220,18 +231,8 @@ impl HostIn {
         if name == RANDOM && !is_random(&metadata) {
             return Err(io::Error::other("it isn't the system's random device"));
         }
-        Ok(HostIn::of_file(rt, file, &metadata))
-    }
-
-    fn of_file(rt: &HostRuntime, file: File, metadata: &Metadata) -> HostIn
-        ensures { IsUnread result }
-    {
-        HostIn::new(
-            rt,
-            Origin::File(file),
-            length_of(metadata),
-            FileId::of(metadata),
-        )
+        let (left, id) = (length_of(&metadata), FileId::of(&metadata));
+        Ok(HostIn::new(rt, name, Origin::File(file), left, id))
     }
 
     fn read(&mut self, into: &mut [u8]) -> io::Result<usize>

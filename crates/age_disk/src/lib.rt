@@ -3,7 +3,9 @@
 #![tactic(auto)]
 
 mod beside;
+mod device;
 mod input;
+mod laws;
 mod lock;
 mod names;
 mod output;
@@ -15,6 +17,7 @@ mod which;
 
 pub use age_machine::{Node, found_at};
 pub use input::HostIn;
+pub use laws::no_input_is_changed;
 pub use names::{FileId, Resolved, Stream, StreamId};
 pub use output::{Ended, HostOut};
 pub use prepare::Prepared;

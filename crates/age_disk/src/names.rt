@@ -1,5 +1,9 @@
 //! What the machine's names stand for: an inherited stream, or a file, whatever links lead to it.
 
+ghost use Rattle.std.specs.Prelude.{◌≡◌, ◌<◌, ◌^◌};
+ghost use Rattle.age_disk.specs.declared.names.FileId.TheVariants.{File};
+
+use age_machine::Node;
 use std::alloc::Global;
 use std::fs::{self, Metadata};
 use std::io;
@@ -123,8 +127,8 @@ fn joined(alloc: Global, path: &PathBuf, target: PathBuf) -> io::Result<Option<P
 /// Identifies a file, whatever its names.
 #[derive(Clone, Copy, PartialEq, Eq)]
 pub enum FileId {
-    /// A regular file or a pipe, by its device and inode.
-    File(u64, u64),
+    /// A regular file or a pipe.
+    File(Node),
     /// A block device, by its number.
     Block(u64),
 }
@@ -137,10 +141,18 @@ impl FileId {
         if kind.is_block_device() {
             Some(FileId::Block(metadata.rdev()))
         } else if kind.is_file() || kind.is_fifo() {
-            Some(FileId::File(metadata.dev(), metadata.ino()))
+            Some(FileId::of_node(Node::of(metadata)))
         } else {
             None
         }
+    }
+
+    /// The id of a regular file or a pipe.
+    pub(crate) fn of_node(node: Node) -> FileId
+        ensures known { result ≡ File node }
+        ensures fits { node.inode < 2 ^ 64 }
+    {
+        FileId::File(node)
     }
 
     /// The id of the file to which a name leads, if there is one.
@@ -176,8 +188,8 @@ pub enum StreamId {
     Input,
     /// A terminal, or another device that is read byte by byte, by its number.
     Device(u64),
-    /// A pipe, a socket or another file of their kind, by its device and inode.
-    Pipe(u64, u64),
+    /// A pipe, a socket or another file of their kind.
+    Pipe(Node),
 }
 
 /// The number of `/dev/tty`, which is the same terminal as another device.
@@ -218,7 +230,7 @@ impl StreamId {
         } else if kind.is_char_device() {
             StreamId::of_device(metadata.rdev())
         } else {
-            Some(StreamId::Pipe(metadata.dev(), metadata.ino()))
+            Some(StreamId::Pipe(Node::of(metadata)))
         }
     }
 

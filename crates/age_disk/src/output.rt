@@ -1,25 +1,27 @@
 //! A file of the machine that is written.
 
 ghost use Rattle.std.specs.Prelude.{◌≡◌, ◌≤◌, ◌<◌, [], ◌∷◌, ◌++◌, None, Some, true, false, length, is_ok};
-ghost use Rattle.std.specs.Prelude.{IfOk, OnErr, MatchResult, string_bytes, is_err, ℕ, List, option_map};
+ghost use Rattle.std.specs.Prelude.{IfOk, IfSome, OnErr, MatchResult, string_bytes, is_err, ℕ, List};
+ghost use Rattle.std.specs.Prelude.{option_map};
 ghost use Rattle.std.specs.Io.{WritesAtMost};
 ghost use Rattle.age_io.specs.Io.{one_more};
 ghost use Rattle.age_io.specs.Taken.{WriteAppends, Keeps};
 ghost use Rattle.age_machine.specs.Calls.{Opened};
-ghost use Rattle.age_machine.specs.Ends.{Closes, Discards};
+ghost use Rattle.age_machine.specs.Ends.{Closes, Discards, TouchesItself};
 ghost use Rattle.age_machine.specs.Numbers.{number_of};
 ghost use Rattle.age_machine.specs.Outs.{OutView};
-ghost use Rattle.age_disk.specs.Outputs.{IsNew, IsMadeAt, sink_of, as_sink};
+ghost use Rattle.age_disk.specs.Outputs.{IsNew, IsMadeAt, HasNode, sink_of, as_sink};
 ghost use Rattle.age_disk.specs.Targets.{regular_of, IsTaking};
-ghost use Rattle.age_disk.specs.inner.Puts.{part_of, TargetPuts};
+ghost use Rattle.age_disk.specs.inner.Puts.{opening_calls, part_of, TargetPuts};
 
+use crate::device::Device;
 use crate::names::{FileId, Resolved, Stream, resolve};
 use crate::sync::{Witness, close_stream, sync_file};
 use crate::which::Which;
 use age_io::{Durability, Failed, Failures, Sink, Tape};
 use age_machine::calls::close;
 use age_machine::{
-    HostFile, HostMachine, Machine, Opening, Out, TRIES, is_to_retry, too_many_tries,
+    HostFile, HostMachine, Kind, Machine, Opening, Out, TRIES, is_to_retry, too_many_tries,
 };
 use std::alloc::Global;
 use std::fs::File;
@@ -33,7 +35,7 @@ enum Target {
     /// A regular file that was opened.
     File(Out<HostMachine>),
     /// A pipe or a device that was opened.
-    Device(File),
+    Device(Device),
     /// Standard output, from where it stands, and what its disk is waited for by.
     Output(Stdout, Witness),
     /// Standard error, from where it stands.
@@ -62,7 +64,7 @@ impl Target {
         match self {
             Target::File(_) if from.is_empty() => Ok(0),
             Target::File(out) => out.put(from),
-            Target::Device(file) => write_to(rt, file, from),
+            Target::Device(device) => write_to(rt, &mut device.file, from),
             Target::Output(output, _) => write_to(rt, output, from),
             Target::Faults(faults, _) => write_to(rt, faults, from),
         }
@@ -74,7 +76,7 @@ impl Target {
     {
         match self {
             Target::File(out) => out.reach(),
-            Target::Device(file) => sync_file(file),
+            Target::Device(device) => sync_file(&device.file),
             Target::Output(_, witness) => witness.sync(),
             Target::Faults(_, witness) => witness.sync(),
         }
@@ -210,7 +212,7 @@ pub struct Ended {
     took: Tape,
     // It was closed with what was written, and not discarded.
     is_closed: bool,
-    which: Which,
+    which: Option<Which>,
     machine: HostMachine,
 }
 
@@ -245,8 +247,8 @@ pub struct HostOut {
 }
 
 impl Model for HostOut {
-    ghost use Rattle.age_disk.specs.Outputs.{OutputView};
-    ghost use Rattle.std.specs.Prelude.{option_map};
+    ghost use Rattle.age_disk.specs.Outputs.{OutputView, HasNode};
+    ghost use Rattle.std.specs.Prelude.{option_map, IfSome};
     ghost use Rattle.age_machine.specs.Outs.{OutView};
     ghost use Rattle.age_disk.specs.Targets.{regular_of, IsTaking};
 
@@ -260,7 +262,8 @@ impl Model for HostOut {
       id = s.id;
     } };
 
-    ghost invariant = { λ s. IsTaking (regular_of s.target) s.failures.count s.took };
+    ghost invariant = { λ s. IsTaking (regular_of s.target) s.failures.count s.took
+        × IfSome (regular_of s.target) (λ o. HasNode s.id o.file) };
 }
 
 /// How many bytes are written at least, and at most, between two waits for the disk. In between,
@@ -274,21 +277,27 @@ fn is_wait_due(taken: u64, settled: u64) -> bool {
     taken.saturating_sub(settled) >= settled.min(WAIT_MOST).max(WAIT_FIRST)
 }
 
-/// What was done to a device or a stream: no call for it was noted.
-fn unseen(rt: &HostRuntime, took: Tape, is_closed: bool) -> Ended
-    ensures { result ≡ record {
+/// What was done to a device or a stream: no call is noted but the one that opened it.
+fn unseen(rt: &HostRuntime, target: &Target, took: Tape, is_closed: bool) -> Ended
+    requires { regular_of target.now ≡ None }
+    ensures is { result ≡ record {
       took = took;
       is_closed = is_closed;
       file = None;
-      calls = [];
+      calls = opening_calls target.now;
       failed = 0;
     } }
+    ensures within { TouchesItself result }
 {
+    let machine = match target {
+        Target::Device(device) => device.machine.again(),
+        _ => HostMachine::new(rt),
+    };
     Ended {
         took,
         is_closed,
-        which: Which::none(),
-        machine: HostMachine::new(rt),
+        which: None,
+        machine,
     }
 }
 
@@ -303,7 +312,7 @@ fn end_file(
     ensures { Closes durability (Some out.file) (sink_of failures.count failures.last took) result.1
         result.0 }
 {
-    let which = Which::of(&out);
+    let which = Some(Which::of(&out));
     let age_machine::Ended { end, machine, .. } = out.end(durability);
     let ended = Ended {
         took,
@@ -324,7 +333,7 @@ fn discard_file(
     requires { IsTaking (Some out) failures.count took }
     ensures { Discards (Some out.file) (sink_of failures.count failures.last took) result }
 {
-    let which = Which::of(&out);
+    let which = Some(Which::of(&out));
     let machine = out.discard(durability);
     Ended {
         took,
@@ -366,7 +375,7 @@ fn end_stream(
     };
     let closed = match target {
         Target::File(_) => Ok(()),
-        Target::Device(file) => close(rt, file),
+        Target::Device(Device { file, .. }) => close(rt, file),
         Target::Output(..) => close_stream(rt, Stream::Output),
         Target::Faults(..) => close_stream(rt, Stream::Faults),
     };
@@ -376,7 +385,8 @@ fn end_stream(
 
 impl HostOut {
     fn new(rt: &HostRuntime, target: Target, id: Option<FileId>) -> HostOut
-        requires { IsTaking (regular_of target) 0 [] }
+        requires taking { IsTaking (regular_of target) 0 [] }
+        requires node { IfSome (regular_of target) (λ o. HasNode id o.file) }
         ensures fresh { IsNew result }
         ensures file { result.file ≡ option_map (λ (o : OutView). o.file) (regular_of target) }
     {
@@ -446,7 +456,7 @@ impl HostOut {
         let own = String::from_str(alloc, path)?;
         let mut machine = HostMachine::new(rt);
         match machine.open(name, own.as_str())? {
-            Some(file) => HostOut::of_opened(rt, machine, file, own, true),
+            Some(opened) => HostOut::of_opened(rt, machine, opened, own),
             None => HostOut::make_by(alloc, machine, rt, path),
         }
     }
@@ -465,13 +475,8 @@ impl HostOut {
         let mut machine = machine;
         let own = String::from_str(alloc, path)?;
         let file = machine.make_output(own.as_str())?;
-        let id = FileId::of(&file.file().metadata()?);
-        let opening = Opening {
-            is_made: true,
-            is_named: true,
-            is_waited: true,
-        };
-        let out = Out::new(machine, file, own, opening);
+        let id = Some(FileId::of_node(file.node()));
+        let out = Out::new(machine, file, own, Opening::New);
         Ok(HostOut::new(rt, Target::File(out), id))
     }
 
@@ -479,24 +484,25 @@ impl HostOut {
     fn of_opened(
         rt: &HostRuntime,
         machine: HostMachine,
-        file: HostFile,
+        opened: (HostFile, Kind),
         path: String,
-        is_waited: bool,
     ) -> io::Result<HostOut>
         requires unfailed { machine.failed ≡ 0 }
-        requires opened { machine.calls ≡ Opened (string_bytes path) (number_of file.node) ∷ [] }
+        requires opened { machine.calls
+            ≡ Opened (string_bytes path) (number_of opened.0.node) opened.1 ∷ [] }
         ensures { IfOk result IsNew }
     {
-        let sight = machine.look(&file)?;
-        let id = FileId::of(&file.file().metadata()?);
-        if !sight.is_regular {
-            return Ok(HostOut::new(rt, Target::Device(file.into_file()), id));
-        }
-        let opening = Opening {
-            is_made: false,
-            is_named: sight.is_named,
-            is_waited: is_waited && sight.is_named,
+        let (file, kind) = opened;
+        let Kind::Regular(is_waited) = kind else {
+            let id = FileId::of(&file.file().metadata()?);
+            let file = file.into_file();
+            return Ok(HostOut::new(rt, Target::Device(Device { file, machine }), id));
         };
+        let opening = Opening::Found {
+            is_named: file.is_named(),
+            is_waited,
+        };
+        let id = Some(FileId::of_node(file.node()));
         let out = Out::new(machine, file, path, opening);
         Ok(HostOut::new(rt, Target::File(out), id))
     }
@@ -506,8 +512,8 @@ impl HostOut {
     pub fn over(alloc: Global, rt: &HostRuntime, file: File, path: &str) -> io::Result<HostOut> {
         let own = String::from_str(alloc, path)?;
         let mut machine = HostMachine::new(rt);
-        let file = machine.adopt(file, own.as_str())?;
-        HostOut::of_opened(rt, machine, file, own, false)
+        let opened = machine.adopt(file, own.as_str())?;
+        HostOut::of_opened(rt, machine, opened, own)
     }
 
     /// A stream that can be written, from where it stands.
@@ -552,7 +558,8 @@ impl HostOut {
 
     /// Which file it is, if that is known.
     pub fn id(&self) -> Option<FileId>
-        ensures { result ≡ self.now.id }
+        ensures same { result ≡ self.now.id }
+        ensures node { IfSome self.now.file (HasNode self.now.id) }
     {
         self.id
     }
@@ -569,7 +576,7 @@ impl HostOut {
     pub fn is_terminal(&self) -> bool {
         match &self.target {
             Target::File(_) => false,
-            Target::Device(file) => file.is_terminal(),
+            Target::Device(device) => device.file.is_terminal(),
             Target::Output(output, _) => output.is_terminal(),
             Target::Faults(faults, _) => faults.is_terminal(),
         }
@@ -622,12 +629,13 @@ impl HostOut {
             }
             Target::File(out) => end_file(out, took, failures, durability),
             other => {
+                let unseen = unseen(rt, &other, took, true);
                 let ended = if has_only_failed {
                     Ok(())
                 } else {
                     end_stream(rt, other, pace, durability)
                 };
-                (unseen(rt, took, true), ended)
+                (unseen, ended)
             }
         }
     }
@@ -644,7 +652,7 @@ impl HostOut {
         } = self;
         match target {
             Target::File(out) => discard_file(out, took, failures, durability),
-            _ => unseen(rt, took, false),
+            other => unseen(rt, &other, took, false),
         }
     }
 }

@@ -1,11 +1,11 @@
 //! A file of the machine that is to be replaced later.
 
 use crate::beside::Kept;
-use crate::lock::{lock, remove_at};
+use crate::lock::remove_at;
 use crate::names::{FileId, Resolved, Stream, is_on_disk, resolve};
 use crate::paths::{make_file, open_at_once};
 use age_io::Durability;
-use age_machine::{Folder, Node, above_streams, check_same, folder_of, found_at};
+use age_machine::{Folder, Node, above_streams, check_same, folder_of, found_at, lock};
 use std::alloc::Global;
 use std::fs::{self, File, Metadata};
 use std::io;
@@ -70,10 +70,10 @@ impl Prepared {
 
     /// Takes the file that was found for this run alone. Fails if another run has it.
     pub fn claim(&self) -> io::Result<()> {
-        match &self.found {
-            Found::File(file) => lock(file),
-            _ => Ok(()),
+        if let Found::File(file) = &self.found {
+            lock(file)?;
         }
+        Ok(())
     }
 
     /// The file that was found, which this run has claimed, if it is this one.
@@ -142,7 +142,7 @@ impl Prepared {
     /// Whether this is the file that is there now, or the one that is to take its place.
     pub fn is_of(&self, rt: &HostRuntime, id: Option<FileId>) -> bool {
         let kept = match &self.kept {
-            Some(kept) => kept.id(),
+            Some(kept) => Some(kept.id()),
             None => None,
         };
         id.is_some() && (self.id(rt) == id || kept == id)

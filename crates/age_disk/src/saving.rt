@@ -3,8 +3,7 @@
 ghost use Rattle.std.specs.Prelude.{◌≡◌, None, Some};
 ghost use Rattle.age_machine.specs.Saved.{Saves};
 
-use crate::beside::Kept;
-use crate::lock::{lock, remove_own};
+use crate::lock::remove_own;
 use crate::names::{Resolved, is_on_disk};
 use crate::output::HostOut;
 use crate::paths::{make_file, open_at_once};
@@ -13,8 +12,8 @@ use crate::sync::sync_folder;
 use age_fault::write_all;
 use age_io::{Durability, Tape};
 use age_machine::{
-    HostMachine, Node, POSITION_MODE, Spot, Unplaced, found_at, made_meanwhile, open_to_write,
-    replace_by_kept, replace_by_new,
+    HostMachine, Node, POSITION_MODE, Spot, Unplaced, found_at, lock, made_meanwhile,
+    open_to_write, replace_by_kept, replace_by_new,
 };
 use std::alloc::Global;
 use std::fs::{self, File, Metadata};
@@ -68,34 +67,6 @@ impl Saved {
     }
 }
 
-/// Puts the file that was made beside a path when that was prepared, or a new one.
-fn replace_by(
-    alloc: Global,
-    prepared: &Prepared,
-    kept: &Kept,
-    to: Spot,
-    bytes: &[u8],
-    durability: Durability,
-    saved: &mut Saved,
-) -> Result<(), Unplaced>
-    ensures { Saves bytes.now durability result saved.new }
-{
-    let mut machine = kept.machine();
-    let path = kept.path();
-    let placed = replace_by_kept(
-        alloc,
-        &mut machine,
-        prepared.folder(),
-        kept.beside(),
-        path,
-        to,
-        bytes,
-        durability,
-    );
-    *saved = Saved::beside(path, machine);
-    placed
-}
-
 /// Puts a new file of these bytes to a path. It is the one that was made beside when this was
 /// prepared, unless that is gone, or can't be written over.
 fn replace_beside(
@@ -110,15 +81,32 @@ fn replace_beside(
 ) -> Result<(), Unplaced>
     ensures { Saves bytes.now durability result saved.new }
 {
-    if let Some(kept) = prepared.kept() {
-        return replace_by(alloc, prepared, kept, to, bytes, durability, saved);
-    }
-    let mut machine = HostMachine::new(rt);
-    let path = path.as_str();
     let folder = prepared.folder();
-    let placed = replace_by_new(alloc, &mut machine, folder, path, to, bytes, durability);
-    *saved = Saved::beside(path, machine);
-    placed
+    match prepared.kept() {
+        Some(kept) => {
+            let mut machine = kept.machine();
+            let path = kept.path();
+            let placed = replace_by_kept(
+                alloc,
+                &mut machine,
+                folder,
+                kept.beside(),
+                path,
+                to,
+                bytes,
+                durability,
+            );
+            *saved = Saved::beside(path, machine);
+            placed
+        }
+        None => {
+            let mut machine = HostMachine::new(rt);
+            let path = path.as_str();
+            let placed = replace_by_new(alloc, &mut machine, folder, path, to, bytes, durability);
+            *saved = Saved::beside(path, machine);
+            placed
+        }
+    }
 }
 
 /// Writes these bytes to what is open; they replace what it holds.

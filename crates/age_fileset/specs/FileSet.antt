@@ -14,13 +14,14 @@ use Rattle.age_fileset.specs.declared.mem_entry.MemEntry.{MemEntry}
 
 -- ---- What was done with a set of files.
 
--- a file was to be opened, prepared to be replaced later, created or replaced under this name,
--- whether that succeeded or not; the file that was created last was ended; what was made or
--- replaced was to reach the disk now or later
+-- a file was to be opened, prepared to be replaced later, created, made where none is, or replaced
+-- under this name, whether that succeeded or not; the file that was created or made last was ended;
+-- what was written or replaced was to reach the disk now or later
 pub data Event : Type 0 where
   Opened : List ℕ → Event
   Prepared : List ℕ → Event
   Created : List ℕ → Event
+  Made : List ℕ → Event
   Replaced : List ℕ → Durability → Event
   Closed : Durability → Event
 

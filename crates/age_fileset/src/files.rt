@@ -4,7 +4,7 @@ ghost use Rattle.std.specs.Prelude.{◌≡◌, ◌≢◌, ◌⊎◌, ℕ, Bool, 
 ghost use Rattle.std.specs.Prelude.{IfOk, IfErr, IsOkUnless, OnOk, OnErr, IfSome, ◌≤◌, is_some, option_map};
 ghost use Rattle.std.specs.Prelude.{length, Option, IsSomeAnd};
 ghost use Rattle.age_fileset.specs.FileSet.{FilesView, IsMemoryOr, OpenFails, or_empty, Opened};
-ghost use Rattle.age_fileset.specs.FileSet.{Prepared, Created, Replaced, Closed};
+ghost use Rattle.age_fileset.specs.FileSet.{Prepared, Created, Made, Replaced, Closed};
 ghost use Rattle.age_machine.specs.Ends.{Closes, Discards};
 ghost use Rattle.age_machine.specs.Saved.{Saves};
 ghost use Rattle.age_machine.specs.Outs.{OutFile};
@@ -58,6 +58,9 @@ pub trait FileSet {
     // What contracts see of a set: its entries, and what was done.
     ghost view: { Self → FilesView };
 
+    // Under which name a file that is read was opened; a set that shows its entries needn't tell.
+    ghost opened_as: { Self.In → Option (List ℕ) };
+
     // Which regular file of a disk a file that is written is, if it is one.
     ghost file: { Self.Out → Option OutFile };
 
@@ -89,6 +92,7 @@ pub trait FileSet {
         ensures noted { (view self.new).events ≡ (view self.old).events ++ Opened name.now ∷ [] }
         ensures unended { (view self.new).ended ≡ (view self.old).ended }
         ensures begun { IfOk result (λ s. (Self.In.view s).supply.given ≡ []) }
+        ensures named { IfOk result (λ s. IfSome (opened_as s) (λ own. own ≡ name.now)) }
         ensures found { IfOk result (λ s. shows_bytes ≡ true
             → (is_some ((view self.old).entries name.now) ≡ true)
             × ((Self.In.view s).supply.left ≡ (view self.old).entries name.now)) }
@@ -104,6 +108,7 @@ pub trait FileSet {
         ensures noted { (view self.new).events ≡ (view self.old).events ++ Opened name.now ∷ [] }
         ensures unended { (view self.new).ended ≡ (view self.old).ended }
         ensures begun { IfOk result (λ s. (Self.In.view s).supply.given ≡ []) }
+        ensures named { IfOk result (λ s. IfSome (opened_as s) (λ own. own ≡ name.now)) }
         ensures found { IfOk result (λ s. shows_bytes ≡ true
             → (Self.In.view s).supply.left ≡ or_empty ((view self.old).entries name.now)) }
         ensures shown { shows_bytes ≡ true → IfErr result (λ f. f ≡ Fault FileFault.Memory) }
@@ -167,7 +172,7 @@ pub trait FileSet {
         ensures begun { IfOk result (λ o. ((Self.Out.view o).taken.bytes ≡ [])
             × ((Self.Out.view o).failed ≡ 0)) }
         ensures absent { OnOk result (shows_bytes ≡ true → (view self.old).entries name.now ≡ None) }
-        ensures noted { (view self.new).events ≡ (view self.old).events ++ Created name.now ∷ [] }
+        ensures noted { (view self.new).events ≡ (view self.old).events ++ Made name.now ∷ [] }
         ensures unended { (view self.new).ended ≡ (view self.old).ended }
         ensures faults { IfErr result (OpenFails shows_bytes FileFault.Write) };
 

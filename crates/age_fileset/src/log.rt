@@ -3,7 +3,7 @@
 ghost use Rattle.std.specs.Prelude.{◌≡◌, [], ◌∷◌, ◌++◌, List};
 ghost use Rattle.std.specs.Borrow.{ftrue};
 ghost use Rattle.std.specs.Coded.{coded_list};
-ghost use Rattle.age_fileset.specs.FileSet.{Event, Opened, Prepared, Created, Replaced, Closed};
+ghost use Rattle.age_fileset.specs.FileSet.{Event, Opened, Prepared, Created, Made, Replaced, Closed};
 ghost use Rattle.age_fileset.specs.inner.Events.{coded_event, event_of};
 
 use age_io::Durability;
@@ -15,6 +15,7 @@ enum Action<'a> {
     Opened(&'a str),
     Prepared(&'a str),
     Created(&'a str),
+    Made(&'a str),
     Replaced(&'a str, Durability),
     Closed(Durability),
 }
@@ -87,6 +88,13 @@ impl Log {
         self.cell.note(&Action::Created(name));
     }
 
+    /// A file was to be made where none is.
+    pub fn made(&mut self, name: &str)
+        ensures { self.new ≡ self.old ++ Made name.now ∷ [] }
+    {
+        self.cell.note(&Action::Made(name));
+    }
+
     /// A file was to be replaced, and to reach the disk now or later.
     pub fn replaced(&mut self, name: &str, durability: Durability)
         ensures { self.new ≡ self.old ++ Replaced name.now durability ∷ [] }
@@ -94,7 +102,7 @@ impl Log {
         self.cell.note(&Action::Replaced(name, durability));
     }
 
-    /// A file that was created was ended, to reach the disk now or later.
+    /// A file that was created or made was ended, to reach the disk now or later.
     pub fn closed(&mut self, durability: Durability)
         ensures { self.new ≡ self.old ++ Closed durability ∷ [] }
     {

@@ -6,7 +6,7 @@ ghost use Rattle.std.specs.Prelude.{option_map, length, false};
 ghost use Rattle.age_io.specs.Taken.{WriteAppends, Keeps};
 ghost use Rattle.age_io.specs.Io.{Puts, Flushes, holds};
 ghost use Rattle.age_fileset.specs.FileSet.{entry_of, empty_with, PutsEntry, IsMemoryOr, OpenFails};
-ghost use Rattle.age_fileset.specs.FileSet.{or_empty, Opened, Prepared, Created, Replaced, Closed};
+ghost use Rattle.age_fileset.specs.FileSet.{or_empty, Opened, Prepared, Created, Made, Replaced, Closed};
 ghost use Rattle.age_fileset.specs.FileSet.{ended_with};
 ghost use Rattle.age_fileset.specs.declared.files.OpenFault.TheVariants.{Fault};
 
@@ -212,6 +212,18 @@ fn new_out(alloc: Global, name: &str, room: usize) -> Result<MemOut, FileFault>
     }
 }
 
+/// The same, unless the name is one that can't be written.
+fn open_out(alloc: Global, refused: &[Name], name: &str, room: usize) -> Result<MemOut, OpenFault>
+    ensures made { IfOk result (λ o. o ≡ (name.now, empty_with room)) }
+    ensures refused { IsErrOf result (Fault FileFault.Write) ↔ Contains refused.now name.now }
+    ensures faults { IfErr result (OpenFails true FileFault.Write) }
+{
+    if is_refused(refused, name) {
+        return Err(OpenFault::Fault(FileFault::Write));
+    }
+    Ok(new_out(alloc, name, room)?)
+}
+
 /// Puts a copy of bytes under a name. It refuses with `Memory` (28) alone.
 fn put_copy(
     entries: &mut Vec<MemEntry>,
@@ -247,6 +259,8 @@ impl FileSet for MemFiles {
       ended = f.ended;
       saved = record { path = None; calls = [] };
     } };
+
+    ghost opened_as = { λ _. None };
 
     ghost file = { λ _. None };
 
@@ -339,11 +353,7 @@ impl FileSet for MemFiles {
         ensures faults { IfErr result (OpenFails true FileFault.Write) }
     {
         self.log.created(name);
-        let refused = is_refused(self.refused.as_slice(), name);
-        if refused {
-            return Err(OpenFault::Fault(FileFault::Write));
-        }
-        Ok(new_out(alloc, name, self.room)?)
+        open_out(alloc, self.refused.as_slice(), name, self.room)
     }
 
     /// As `create`, but refuses with `Write` (27) exactly if the name is one that can't be written, or
@@ -354,14 +364,14 @@ impl FileSet for MemFiles {
             ↔ (Contains self.old.refused name.now
             ⊎ (is_some (entry_of self.old.entries name.now) ≡ true)) }
         ensures kept { self.new
-            ≡ record self.old { events = self.old.events ++ Created name.now ∷ [] } }
+            ≡ record self.old { events = self.old.events ++ Made name.now ∷ [] } }
         ensures faults { IfErr result (OpenFails true FileFault.Write) }
     {
+        self.log.made(name);
         if self.get(name).is_some() {
-            self.log.created(name);
             return Err(OpenFault::Fault(FileFault::Write));
         }
-        self.create(alloc, name)
+        open_out(alloc, self.refused.as_slice(), name, self.room)
     }
 
     /// All that the sink took.

@@ -1,10 +1,11 @@
 //! Files and streams whose failures are kept.
 
 ghost use Rattle.std.specs.Prelude.{◌≡◌, ◌≤◌, ◌<◌, None, length, true, IfOk, OnOk, MatchResult, is_err};
+ghost use Rattle.std.specs.Prelude.{IfSome};
 ghost use Rattle.age_io.specs.Io.{one_more};
 ghost use Rattle.age_io.specs.Taken.{WriteAppends, Keeps};
 ghost use Rattle.age_machine.specs.Ends.{Closes, Discards};
-ghost use Rattle.age_disk.specs.Outputs.{as_sink};
+ghost use Rattle.age_disk.specs.Outputs.{HasNode, as_sink};
 
 use age_disk::{Ended, FileId, HostIn, HostOut, Prepared};
 use age_io::{Durability, Failed, Sink, Source};
@@ -125,7 +126,8 @@ impl<'r, 'w> WatchedOut<'r, 'w> {
 
     /// Which file it is, if that is known.
     pub(crate) fn id(&self) -> Option<FileId>
-        ensures { result ≡ self.now.sink.id }
+        ensures same { result ≡ self.now.sink.id }
+        ensures node { IfSome self.now.sink.file (HasNode self.now.sink.id) }
     {
         self.sink.id()
     }

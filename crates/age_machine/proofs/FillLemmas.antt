@@ -1,5 +1,5 @@
 -- What a file holds while it is filled.
-use Rattle.std.proofs.Common.{◌≡◌, inl, inr, ℕ, ◌+◌, ◌-◌, ◌≤◌, ◌<◌, List, [], ◌∷◌, ◌++◌, length, take}
+use Rattle.std.proofs.Common.{◌≡◌, ◌⊎◌, inl, inr, ℕ, ◌+◌, ◌-◌, ◌≤◌, ◌<◌, List, [], ◌∷◌, ◌++◌, length, take}
 use Rattle.std.proofs.Common.{drop, not, refl, sym, ◌∙◌, ap, subst, arith, append_assoc}
 use Rattle.std.proofs.Common.{length-append, length-drop, take-add}
 use Rattle.std.specs.Prelude.{replicate}
@@ -42,9 +42,10 @@ pub about_waited : (n : ℕ) (old new : List FileCall) → Waited (Synced n) (Un
 about_waited n old new (inl synced) = about_more n (Synced n) old old new (about_none n old) synced refl
 about_waited n old new (inr unwaited) = about_more n (Unwaited n) old old new (about_none n old) unwaited refl
 
-pub sound_waited : (n : ℕ) (old new : List FileCall) → Waited (Synced n) (Unwaited n) old new → StaysSound n old new
-sound_waited n old new (inl synced) disk = ap (λ (l : List FileCall). (after_calls l disk).is_lost n) synced
-sound_waited n old new (inr unwaited) disk = ap (λ (l : List FileCall). (after_calls l disk).is_lost n) unwaited
+pub sound_settled : (n : ℕ) (old new : List FileCall) → (new ≡ old) ⊎ Waited (Synced n) (Unwaited n) old new → StaysSound n old new
+sound_settled n old new (inl same) disk = ap (λ (l : List FileCall). (after_calls l disk).is_lost n) same
+sound_settled n old new (inr (inl synced)) disk = ap (λ (l : List FileCall). (after_calls l disk).is_lost n) synced
+sound_settled n old new (inr (inr unwaited)) disk = ap (λ (l : List FileCall). (after_calls l disk).is_lost n) unwaited
 
 -- ---- What is written.
 

@@ -4,6 +4,7 @@ use Rattle.std.proofs.Common.{true, false, length, refl, sym, ◌∙◌, ap, sub
 use Rattle.std.proofs.lemmas.List.{append-nil, drop_all}
 use Rattle.age_machine.specs.Calls.{FileCall, Made, Opened, Wrote, Cut, Synced, Linked, Renamed, Removed}
 use Rattle.age_machine.specs.Calls.{SyncedNames, Locked}
+use Rattle.age_machine.specs.declared.machine.Kind.TheVariants.{Regular}
 use Rattle.age_machine.specs.Disk.{Disk, at_path, written, after_call, after_calls, IsAmong, MayLead, MayLeave}
 use Rattle.age_machine.specs.Saves.{AllAnswered, AtEachMoment, SavesWhole, IsSafe}
 use Rattle.age_machine.specs.Laws.{filled, renamed, linked, bare, bare_but, overwritten, put_out, HasOneLock}
@@ -107,11 +108,11 @@ module _ (n : ℕ) (path bytes : List ℕ) where
   there_already : (bare_but path n).file path ≡ Some n
   there_already = path_same path (Some n) bare.file
 
-  pub outs_answered : (AllAnswered path (overwritten n path bytes) (bare_but path n) × HasOneLock n (overwritten n path bytes) (Opened path n ∷ []))
-      × (AllAnswered path (put_out n path bytes) bare × HasOneLock n (put_out n path bytes) (Opened path n ∷ []))
+  pub outs_answered : (AllAnswered path (overwritten n path bytes) (bare_but path n) × HasOneLock n (overwritten n path bytes) (Opened path n (Regular true) ∷ []))
+      × (AllAnswered path (put_out n path bytes) bare × HasOneLock n (put_out n path bytes) (Opened path n (Regular true) ∷ []))
   outs_answered = (
     (
-      (tt, (tt, (tt, (tt, (tt, ((there_already, refl), tt)))))),
+      (tt, (tt, (tt, (tt, (tt, ((refl, there_already, refl), tt)))))),
       opened_beside n path (overwritten n path bytes) (4, omega arith, refl),
     ),
     (
@@ -136,9 +137,9 @@ module _ (n : ℕ) (path bytes : List ℕ) where
       (torn_out (after_calls (SyncedNames path ∷ Wrote n 0 bytes ∷ Locked n ∷ Made path n ∷ []) bare)
       (path_same path (Some n) bare.file) (file_same n false made.is_kept)))
 
-  pub cut_last : IsSafe path bytes (SyncedNames path ∷ Cut n (length bytes) ∷ Synced n ∷ Wrote n 0 bytes ∷ Locked n ∷ Opened path n ∷ []) → ⊥
+  pub cut_last : IsSafe path bytes (SyncedNames path ∷ Cut n (length bytes) ∷ Synced n ∷ Wrote n 0 bytes ∷ Locked n ∷ Opened path n (Regular true) ∷ []) → ⊥
   cut_last safe =
-      let synced : Disk = after_calls (Synced n ∷ Wrote n 0 bytes ∷ Locked n ∷ Opened path n ∷ []) (bare_but path n) in
-      other (safe (bare_but path n) (tt, (tt, (tt, (tt, (tt, ((there_already, refl), tt)))))) (Some (0 ∷ bytes))
+      let synced : Disk = after_calls (Synced n ∷ Wrote n 0 bytes ∷ Locked n ∷ Opened path n (Regular true) ∷ []) (bare_but path n) in
+      other (safe (bare_but path n) (tt, (tt, (tt, (tt, (tt, ((refl, there_already, refl), tt)))))) (Some (0 ∷ bytes))
       (torn_out (after_calls (SyncedNames path ∷ Cut n (length bytes) ∷ Synced n ∷ Wrote n 0 bytes
-      ∷ Locked n ∷ Opened path n ∷ []) (bare_but path n)) there_already (file_same n false synced.is_kept)))
+      ∷ Locked n ∷ Opened path n (Regular true) ∷ []) (bare_but path n)) there_already (file_same n false synced.is_kept)))

@@ -1,16 +1,20 @@
 -- Which calls came before a file was locked, and which after.
 use Rattle.std.proofs.Common.{◌≡◌, ◌⊎◌, inl, inr, ⊎_elim, ℕ, List, [], ◌∷◌, ◌++◌, Bool, true, false, refl, sym}
 use Rattle.std.proofs.Common.{◌∙◌, ap, subst, arith}
-use Rattle.std.specs.Prelude.{Contains, if◌then◌else◌}
+use Rattle.std.specs.Prelude.{Contains}
 use Rattle.std.proofs.lemmas.List.Elements.{Contains-append_cases, Contains-push_cases}
 use Rattle.age_machine.specs.Calls.{FileCall, Made, Opened, Wrote, Cut, Broke, Measured, Synced, Unwaited}
-use Rattle.age_machine.specs.Calls.{Locked, Unlockable, SyncedNames}
-use Rattle.age_machine.specs.Calls.{UnwaitedNames, IsOf, Waited}
+use Rattle.age_machine.specs.Calls.{Locked, Unlockable, Removed, SyncedNames, UnwaitedNames, IsOf, Waited}
+use Rattle.age_machine.specs.declared.in_place.Opening.{Opening}
+use Rattle.age_machine.specs.declared.in_place.Opening.TheVariants as way
+use Rattle.age_machine.specs.declared.machine.Kind.{Kind}
+use Rattle.age_machine.specs.declared.machine.Kind.TheVariants.{Regular}
 use Rattle.age_machine.specs.Disk.{Disk, after_call, after_calls}
-use Rattle.age_machine.specs.Saves.{HasMade}
-use Rattle.age_machine.specs.Outs.{text_of, IsOn, AllOn, MayChange, IsClaimed, LocksFirst}
+use Rattle.age_machine.specs.Saves.{IsAnswered, AllAnswered, HasMade}
+use Rattle.age_machine.specs.Outs.{OutFile, opening_of, is_making, text_of, IsOn, AllOn, MayChange, IsClaimed}
+use Rattle.age_machine.specs.Outs.{LocksFirst, TouchesFile}
 use Rattle.age_machine.specs.Laws.{HasOneLock, IsUnchanged}
-use Rattle.age_machine.specs.inner.Steps.{AllOf, IsAbout, IsHeld, StaysHeld}
+use Rattle.age_machine.specs.inner.Steps.{AllOf, IsAbout, IsHeld, StaysHeld, RemovesAt, is_waited}
 use Rattle.age_machine.proofs.DiskLemmas.{file_other}
 use Rattle.age_machine.proofs.SaveLemmas.{contains_first, contains_later}
 
@@ -31,46 +35,44 @@ claimed_later n call calls (inr held) = inr (contains_later call (Unlockable n) 
 -- ---- What only opening has done.
 
 module _ (path : List ℕ) (n : ℕ) where
-  abbrev opening : Bool → FileCall
-  opening is_made = if is_made then Made path n else Opened path n
+  no_lock : (opening : Opening) (call : FileCall) → (Made path n ≡ call → ⊥) → ((kind : Kind) → Opened path n kind ≡ call → ⊥)
+      → Contains (opening_of path n opening ∷ []) call → ⊥
+  no_lock way.New call made opened held = ⊎_elim made (contains_none call) (contains_cases call (Made path n) [] held)
+  no_lock (way.Found named waited) call made opened held =
+      ⊎_elim (opened (Regular waited)) (contains_none call) (contains_cases call (Opened path n (Regular waited)) [] held)
 
-  no_lock : (is_made : Bool) (call : FileCall) → (Made path n ≡ call → ⊥) → (Opened path n ≡ call → ⊥) → Contains (opening is_made ∷ []) call → ⊥
-  no_lock false call made opened held = ⊎_elim opened (contains_none call) (contains_cases call (Opened path n) [] held)
-  no_lock true call made opened held = ⊎_elim made (contains_none call) (contains_cases call (Made path n) [] held)
+  pub no_claim : (opening : Opening) → IsClaimed n (opening_of path n opening ∷ []) → ⊥
+  no_claim opening (inl held) = no_lock opening (Locked n) (λ same. cc) (λ kind same. cc) held
+  no_claim opening (inr held) = no_lock opening (Unlockable n) (λ same. cc) (λ kind same. cc) held
 
-  pub no_claim : (is_made : Bool) → IsClaimed n (opening is_made ∷ []) → ⊥
-  no_claim is_made (inl held) = no_lock is_made (Locked n) (λ same. cc) (λ same. cc) held
-  no_claim is_made (inr held) = no_lock is_made (Unlockable n) (λ same. cc) (λ same. cc) held
-
-  pub no_text : (is_made : Bool) → text_of (opening is_made ∷ []) ≡ []
-  no_text false = refl
-  no_text true = refl
-
-  pub no_change : (is_made : Bool) → LocksFirst n (opening is_made ∷ [])
-  no_change false = (λ may. absurd may, tt)
-  no_change true = (λ may. absurd may, tt)
+  pub no_text : (opening : Opening) → text_of (opening_of path n opening ∷ []) ≡ []
+  no_text way.New = refl
+  no_text (way.Found named waited) = refl
 
 -- ---- What stays so.
 
-pub held_more : (path : List ℕ) (n : ℕ) (call : FileCall) (calls : List FileCall) → IsOn path n call
-    → IsHeld path n calls → IsHeld path n (call ∷ calls)
-held_more path n call calls on held = record {
+pub held_more : (path : List ℕ) (n : ℕ) (opening call : FileCall) (calls : List FileCall) → IsOn path n call
+    → IsHeld path n opening calls → IsHeld path n opening (call ∷ calls)
+held_more path n opening call calls on held = record {
+  opened = contains_later call opening calls held.opened;
   on = (on, held.on);
   claimed = claimed_later n call calls held.claimed;
   locked = (λ may. held.claimed, held.locked);
 }
 
-pub held_same : (path : List ℕ) (n : ℕ) (old new : List FileCall) → new ≡ old → StaysHeld path n old new
-held_same path n old new same held = subst (λ (l : List FileCall). IsHeld path n l) (sym same) held
+pub held_same : (path : List ℕ) (n : ℕ) (opening : FileCall) (old new : List FileCall) → new ≡ old → StaysHeld path n opening old new
+held_same path n opening old new same held = subst (λ (l : List FileCall). IsHeld path n opening l) (sym same) held
 
-pub held_one : (path : List ℕ) (n : ℕ) (call : FileCall) (old new : List FileCall) → IsOn path n call → new ≡ call ∷ old → StaysHeld path n old new
-held_one path n call old new on is held = subst (λ (l : List FileCall). IsHeld path n l) (sym is) (held_more path n call old on held)
+pub held_one : (path : List ℕ) (n : ℕ) (opening call : FileCall) (old new : List FileCall) → IsOn path n call → new ≡ call ∷ old
+    → StaysHeld path n opening old new
+held_one path n opening call old new on is held =
+    subst (λ (l : List FileCall). IsHeld path n opening l) (sym is) (held_more path n opening call old on held)
 
-pub held_named : (path : List ℕ) (n : ℕ) (old new : List FileCall)
-    → (new ≡ old) ⊎ Waited (SyncedNames path) (UnwaitedNames path) old new → StaysHeld path n old new
-held_named path n old new (inl same) = held_same path n old new same
-held_named path n old new (inr (inl is)) = held_one path n (SyncedNames path) old new refl is
-held_named path n old new (inr (inr is)) = held_one path n (UnwaitedNames path) old new refl is
+pub held_named : (path : List ℕ) (n : ℕ) (opening : FileCall) (old new : List FileCall)
+    → (new ≡ old) ⊎ Waited (SyncedNames path) (UnwaitedNames path) old new → StaysHeld path n opening old new
+held_named path n opening old new (inl same) = held_same path n opening old new same
+held_named path n opening old new (inr (inl is)) = held_one path n opening (SyncedNames path) old new refl is
+held_named path n opening old new (inr (inr is)) = held_one path n opening (UnwaitedNames path) old new refl is
 
 on_of : (path : List ℕ) (n : ℕ) (call : FileCall) → IsOf n call → IsOn path n call
 on_of path n (Wrote m at part) of = of
@@ -83,12 +85,68 @@ on_of path n (Locked m) of = of
 on_of path n (Unlockable m) of = of
 on_of path n call of = absurd of
 
-held_all : (path : List ℕ) (n : ℕ) (since old : List FileCall) → AllOf n since → IsHeld path n old → IsHeld path n (since ++ old)
-held_all path n [] old all held = held
-held_all path n (call ∷ since) old all held = held_more path n call (since ++ old) (on_of path n call all.0) (held_all path n since old all.1 held)
+held_all : (path : List ℕ) (n : ℕ) (opening : FileCall) (since old : List FileCall) → AllOf n since → IsHeld path n opening old
+    → IsHeld path n opening (since ++ old)
+held_all path n opening [] old all held = held
+held_all path n opening (call ∷ since) old all held =
+    held_more path n opening call (since ++ old) (on_of path n call all.0) (held_all path n opening since old all.1 held)
 
-pub held_about : (path : List ℕ) (n : ℕ) (old new : List FileCall) → IsAbout n old new → StaysHeld path n old new
-held_about path n old new about held = subst (λ (l : List FileCall). IsHeld path n l) (sym about.are) (held_all path n about.since old about.all held)
+pub held_about : (path : List ℕ) (n : ℕ) (opening : FileCall) (old new : List FileCall) → IsAbout n old new → StaysHeld path n opening old new
+held_about path n opening old new about held =
+    subst (λ (l : List FileCall). IsHeld path n opening l) (sym about.are) (held_all path n opening about.since old about.all held)
+
+-- ---- What is known by the call that opened it.
+
+answered_in : (path : List ℕ) (call : FileCall) (calls : List FileCall) (disk : Disk) → Contains calls call
+    → AllAnswered path calls disk → (d : Disk) × IsAnswered path call d
+answered_in path call [] disk held answers = absurd (contains_none call held)
+answered_in path call (first ∷ calls) disk held answers =
+    ⊎_elim (λ same. (
+      after_calls calls disk,
+      subst (λ (c : FileCall). IsAnswered path c (after_calls calls disk)) same answers.0,
+    )) (λ later. answered_in path call calls disk later answers.1) (contains_cases call first calls held)
+
+-- A disk answers only for a file whose name is waited for.
+pub waited_for : (path : List ℕ) (n : ℕ) (opening : Opening) (calls : List FileCall) (disk : Disk)
+    → Contains calls (opening_of path n opening) → AllAnswered path calls disk → is_waited opening ≡ true
+waited_for path n way.New calls disk held answers = refl
+waited_for path n (way.Found named waited) calls disk held answers =
+    is_true (answered_in path (Opened path n (Regular waited)) calls disk held answers).1.0 where
+      is_true : Regular waited ≡ Regular true → waited ≡ true
+      is_true same = cc
+
+pub touches_held : (file : OutFile) (opening : Opening) (calls : List FileCall) → is_making opening ≡ file.is_made
+    → IsHeld file.path file.number (opening_of file.path file.number opening) calls → TouchesFile file calls
+touches_held file opening calls made held =
+    record { opening = opening; is_made = made; opened = held.opened; on = held.on; locked = held.locked }
+
+-- it is removed, or not
+module _ (file : OutFile) where
+  touches_more : (call : FileCall) (calls later : List FileCall) → IsOn file.path file.number call → (MayChange file.number call → ⊥)
+      → later ≡ call ∷ calls → TouchesFile file calls → TouchesFile file later
+  touches_more call calls later on quiet is touches =
+      subst (λ (l : List FileCall). TouchesFile file l) (sym is) (record {
+        opening = touches.opening;
+        is_made = touches.is_made;
+        opened = contains_later call (opening_of file.path file.number touches.opening) calls touches.opened;
+        on = (on, touches.on);
+        locked = (λ may. absurd (quiet may), touches.locked);
+      })
+
+  touches_same : (calls later : List FileCall) → later ≡ calls → TouchesFile file calls → TouchesFile file later
+  touches_same calls later same touches = subst (λ (l : List FileCall). TouchesFile file l) (sym same) touches
+
+  pub touches_removed : (calls later : List FileCall) → RemovesAt file.path calls later → TouchesFile file calls → TouchesFile file later
+  touches_removed calls later removes touches = named removes.named where
+    mid : TouchesFile file removes.mid
+    mid =
+        ⊎_elim (λ same. touches_same calls removes.mid same touches)
+        (λ is. touches_more (Removed file.path) calls removes.mid refl (λ may. may) is touches) removes.removed
+
+    named : (later ≡ removes.mid) ⊎ Waited (SyncedNames file.path) (UnwaitedNames file.path) removes.mid later → TouchesFile file later
+    named (inl same) = touches_same removes.mid later same mid
+    named (inr (inl is)) = touches_more (SyncedNames file.path) removes.mid later refl (λ may. may) is mid
+    named (inr (inr is)) = touches_more (UnwaitedNames file.path) removes.mid later refl (λ may. may) is mid
 
 -- ---- Two runs.
 
@@ -128,16 +186,16 @@ second_unchanged n one other lock = record {
   none : (call : FileCall) → Contains other call → MayChange n call → ⊥
   none = never_changed n other lock.first (⊎_elim (lock.once lock.has) lock.lockable)
 
-pub late : (n : ℕ) (path bytes : List ℕ) → LocksFirst n (Locked n ∷ Wrote n 0 bytes ∷ Opened path n ∷ []) → ⊥
-late n path bytes locks = no_claim path n false (locks.1.0 refl)
+pub late : (n : ℕ) (path bytes : List ℕ) → LocksFirst n (Locked n ∷ Wrote n 0 bytes ∷ Opened path n (Regular true) ∷ []) → ⊥
+late n path bytes locks = no_claim path n (way.Found true true) (locks.1.0 refl)
 
 -- another run that has only opened the file
-pub opened_beside : (n : ℕ) (path : List ℕ) (one : List FileCall) → Contains one (Locked n) → HasOneLock n one (Opened path n ∷ [])
+pub opened_beside : (n : ℕ) (path : List ℕ) (one : List FileCall) → Contains one (Locked n) → HasOneLock n one (Opened path n (Regular true) ∷ [])
 opened_beside n path one has = record {
   has = has;
-  once = λ held other. no_claim path n false (inl other);
-  lockable = λ other. no_claim path n false (inr other);
-  first = no_change path n false;
+  once = λ held other. no_claim path n (way.Found true true) (inl other);
+  lockable = λ other. no_claim path n (way.Found true true) (inr other);
+  first = (λ may. absurd may, tt);
 }
 
 -- ---- Other files.

@@ -8,8 +8,12 @@ use Rattle.age_machine.specs.Calls.{FileCall, Made, Opened, Wrote, Broke, Synced
 use Rattle.age_machine.specs.Calls.{Removed, SyncedNames, UnwaitedNames, MayHave, Waited}
 use Rattle.age_machine.specs.Disk.{Disk, sized, after_call, after_calls, IsAmong, MayLead, MayLeaveFile}
 use Rattle.age_machine.specs.Disk.{MayLeave}
-use Rattle.age_machine.specs.Saves.{SavesWhole, IsSafe}
-use Rattle.age_machine.specs.Outs.{OutFile, OutView, text_of, IsClaimed}
+use Rattle.age_machine.specs.Saves.{IsAnswered, SavesWhole, IsSafe, LeadsTo}
+use Rattle.age_machine.specs.Outs.{OutFile, OutView, opening_of, is_making, text_of, IsClaimed, TouchesFile}
+use Rattle.age_machine.specs.declared.in_place.Opening.{Opening}
+use Rattle.age_machine.specs.declared.in_place.Opening.TheVariants as way
+use Rattle.age_machine.specs.declared.machine.Kind.{Kind}
+use Rattle.age_machine.specs.declared.machine.Kind.TheVariants.{Regular}
 use Rattle.age_machine.specs.Held.{HasWritten, IsBegun, IsJustOpened, IsOut}
 use Rattle.age_machine.specs.inner.Steps.{Has, IsInPlace, IsHeld, StaysHeld, RemovesAt}
 use Rattle.age_machine.proofs.DiskLemmas.{path_same, file_same, file_other, led, leaves_synced}
@@ -17,7 +21,7 @@ use Rattle.age_machine.proofs.DiskLemmas.{leaves_kept}
 use Rattle.age_machine.proofs.FillLemmas.{sized_within}
 use Rattle.age_machine.proofs.LockLemmas.{claimed_later, no_claim, no_text, held_one}
 use Rattle.age_machine.proofs.PutLemmas.{safe_named}
-use Rattle.age_machine.proofs.SaveLemmas.{saves_none, saves_quietly, saves_loudly}
+use Rattle.age_machine.proofs.SaveLemmas.{contains_later, saves_none, saves_quietly, saves_loudly}
 
 -- ---- What it holds.
 
@@ -43,6 +47,35 @@ begun_wrote : (path : List ℕ) (n : ℕ) (is_stale : Bool) (text part : List �
     → IsBegun path n is_stale (text ++ part) (Wrote n (length text) part ∷ calls)
 begun_wrote path n is_stale text part calls begun disk answers = holds_wrote path n is_stale text (after_calls calls disk) (begun disk answers.1) part
 
+-- it stays so while something is waited for
+begun_waited : (path : List ℕ) (n : ℕ) (is_stale : Bool) (text : List ℕ) (waits cant : FileCall) (calls later : List FileCall)
+    → ((disk : Disk) → HasWritten path n is_stale text disk → HasWritten path n is_stale text (after_call waits disk))
+    → ((disk : Disk) → IsAnswered path cant disk → ⊥) → (later ≡ calls) ⊎ Waited waits cant calls later
+    → IsBegun path n is_stale text calls → IsBegun path n is_stale text later
+begun_waited path n is_stale text waits cant calls later keeps never (inl same) begun =
+    subst (λ (l : List FileCall). IsBegun path n is_stale text l) (sym same) begun
+begun_waited path n is_stale text waits cant calls later keeps never (inr (inl is)) begun =
+    subst (λ (l : List FileCall). IsBegun path n is_stale text l) (sym is) (λ disk answers. keeps (after_calls calls disk) (begun disk answers.1))
+begun_waited path n is_stale text waits cant calls later keeps never (inr (inr is)) begun =
+    subst (λ (l : List FileCall). IsBegun path n is_stale text l) (sym is) (λ disk answers. absurd (never (after_calls calls disk) answers.0))
+
+pub begun_settled : (path : List ℕ) (n : ℕ) (is_stale : Bool) (text : List ℕ) (calls later : List FileCall)
+    → (later ≡ calls) ⊎ Waited (Synced n) (Unwaited n) calls later → IsBegun path n is_stale text calls → IsBegun path n is_stale text later
+begun_settled path n is_stale text calls later =
+    begun_waited path n is_stale text (Synced n) (Unwaited n) calls later
+    (λ disk holds. record { file = holds.file; front = holds.front; whole = holds.whole; is_lost = holds.is_lost }) (λ disk never. never)
+
+pub begun_named : (path : List ℕ) (n : ℕ) (is_stale : Bool) (text : List ℕ) (calls later : List FileCall)
+    → (later ≡ calls) ⊎ Waited (SyncedNames path) (UnwaitedNames path) calls later
+    → IsBegun path n is_stale text calls → IsBegun path n is_stale text later
+begun_named path n is_stale text calls later =
+    begun_waited path n is_stale text (SyncedNames path) (UnwaitedNames path) calls later
+    (λ disk holds. record { file = holds.file; front = holds.front; whole = holds.whole; is_lost = holds.is_lost }) (λ disk never. never)
+
+pub begun_same : (path : List ℕ) (n : ℕ) (is_stale : Bool) (text : List ℕ) (calls later : List FileCall) → later ≡ calls
+    → IsBegun path n is_stale text calls → IsBegun path n is_stale text later
+begun_same path n is_stale text calls later same begun = subst (λ (l : List FileCall). IsBegun path n is_stale text l) (sym same) begun
+
 -- it has reached the disk
 pub place_waited : (path : List ℕ) (n : ℕ) (text : List ℕ) (calls waited later : List FileCall)
     → Waited (Synced n) (Unwaited n) calls waited → later ≡ waited → IsBegun path n false text calls → IsInPlace path n text later
@@ -61,13 +94,13 @@ place_waited path n text calls waited later (inr is) same begun =
 
 -- ---- What holds between the calls.
 
-module _ (file : OutFile) (is_stale is_lost is_claimed : Bool) (written failed : ℕ)
-    (calls : List FileCall) (out : IsOut file is_stale is_lost is_claimed written failed calls) where
-  abbrev n : ℕ
-  n = file.number
+module _ (path : List ℕ) (n : ℕ) (opening : Opening) (is_stale is_lost is_claimed : Bool) (written failed : ℕ)
+    (calls : List FileCall) (out : IsOut path n (opening_of path n opening) is_stale is_lost is_claimed written failed calls) where
+  abbrev call : FileCall
+  call = opening_of path n opening
 
   not_unclaimed : IsClaimed n calls → is_claimed ≡ false → ⊥
-  not_unclaimed claimed is = no_claim file.path n file.is_made (subst (λ (l : List FileCall). IsClaimed n l) (out.unclaimed is) claimed)
+  not_unclaimed claimed is = no_claim path n opening (subst (λ (l : List FileCall). IsClaimed n l) (out.unclaimed is) claimed)
 
   pub some_claimed : 0 < written → IsClaimed n calls
   some_claimed some = ⊎_elim out.claimed none (cases_Bool is_claimed) where
@@ -78,20 +111,21 @@ module _ (file : OutFile) (is_stale is_lost is_claimed : Bool) (written failed :
           some,
           out.written,
           ap (λ (l : List FileCall). length (text_of l)) (out.unclaimed is),
-          ap length (no_text file.path n file.is_made),
+          ap length (no_text path n opening),
         ))
 
   pub out_wrote : (part : List ℕ) (sum now : ℕ) (later : List FileCall) → IsClaimed n calls → later ≡ Wrote n written part ∷ calls → 0 < length part
-      → sum ≡ written + length part → now ≡ failed → IsOut file is_stale is_lost is_claimed sum now later
+      → sum ≡ written + length part → now ≡ failed → IsOut path n call is_stale is_lost is_claimed sum now later
   out_wrote part sum now later claimed is some added same =
-      subst (λ (l : List FileCall). IsOut file is_stale is_lost is_claimed sum now l) (sym is) (record {
+      subst (λ (l : List FileCall). IsOut path n call is_stale is_lost is_claimed sum now l) (sym is) (record {
+        opened = contains_later (Wrote n written part) call calls out.opened;
         on = (refl, out.on);
         written =
             length-append (text_of calls) part ∙ (ap (λ (k : ℕ). k + length part) out.written ∙ sym added);
         same = λ none. absurd (empty none);
         fresh = λ sound none. absurd (empty none);
-        begun = λ sound. subst (λ (k : ℕ). IsBegun file.path n is_stale (text_of calls ++ part) (Wrote n k part ∷ calls)) out.written
-            (begun_wrote file.path n is_stale (text_of calls) part calls (out.begun (sym same ∙ sound)));
+        begun = λ sound. subst (λ (k : ℕ). IsBegun path n is_stale (text_of calls ++ part) (Wrote n k part ∷ calls)) out.written
+            (begun_wrote path n is_stale (text_of calls) part calls (out.begun (sym same ∙ sound)));
         lost = λ is. omega (arith, out.lost is, same);
         locked = (λ may. claimed, out.locked);
         claimed = λ is. claimed_later n (Wrote n written part) calls claimed;
@@ -102,9 +136,10 @@ module _ (file : OutFile) (is_stale is_lost is_claimed : Bool) (written failed :
 
   -- a call has failed after which it may hold anything
   pub out_broke : (lost : Bool) (now : ℕ) (later : List FileCall) → IsClaimed n calls
-      → later ≡ Broke n ∷ calls → failed < now → IsOut file is_stale lost is_claimed written now later
+      → later ≡ Broke n ∷ calls → failed < now → IsOut path n call is_stale lost is_claimed written now later
   out_broke lost now later claimed is more =
-      subst (λ (l : List FileCall). IsOut file is_stale lost is_claimed written now l) (sym is) (record {
+      subst (λ (l : List FileCall). IsOut path n call is_stale lost is_claimed written now l) (sym is) (record {
+        opened = contains_later (Broke n) call calls out.opened;
         on = (refl, out.on);
         written = out.written;
         same = out.same;
@@ -116,44 +151,45 @@ module _ (file : OutFile) (is_stale is_lost is_claimed : Bool) (written failed :
         unclaimed = λ is. absurd (not_unclaimed claimed is);
       })
 
+  pub touches_now : (is_made : Bool) → is_making opening ≡ is_made
+      → TouchesFile (record { path = path; number = n; is_made = is_made }) calls
+  touches_now is_made made =
+      record { opening = opening; is_made = made; opened = out.opened; on = out.on; locked = out.locked }
+
+  pub out_held : IsClaimed n calls → IsHeld path n call calls
+  out_held claimed = record { opened = out.opened; on = out.on; claimed = claimed; locked = out.locked }
+
   -- after a call that changes nothing of what was written, which is something
   pub out_after : (stale lost : Bool) (now : ℕ) (later : List FileCall) → 0 < written
-      → StaysHeld file.path n calls later → text_of later ≡ text_of calls → (now ≡ 0 → IsBegun file.path n stale (text_of calls) later)
-      → (lost ≡ true → 0 < now) → IsOut file stale lost is_claimed written now later
+      → StaysHeld path n call calls later → text_of later ≡ text_of calls → (now ≡ 0 → IsBegun path n stale (text_of calls) later)
+      → (lost ≡ true → 0 < now) → IsOut path n call stale lost is_claimed written now later
   out_after stale lost now later some stays text begun caused = record {
+    opened = held.opened;
     on = held.on;
     written = ap length text ∙ out.written;
     same = λ none. absurd (empty none);
     fresh = λ sound none. absurd (empty none);
-    begun = λ sound. subst (λ (l : List ℕ). IsBegun file.path n stale l later) (sym text) (begun sound);
+    begun = λ sound. subst (λ (l : List ℕ). IsBegun path n stale l later) (sym text) (begun sound);
     lost = caused;
     locked = held.locked;
     claimed = λ is. held.claimed;
     unclaimed = λ is. absurd (not_unclaimed (some_claimed some) is);
   } where
-    held : IsHeld file.path n later
-    held = stays (record { on = out.on; claimed = some_claimed some; locked = out.locked })
+    held : IsHeld path n call later
+    held = stays (out_held (some_claimed some))
 
     empty : text_of later ≡ [] → ⊥
     empty none = omega (arith, ap length none, ap length text, out.written, some)
 
   -- it was waited for
   pub out_waited : (now : ℕ) (later : List FileCall) → 0 < written → Waited (Synced n) (Unwaited n) calls later → now ≡ failed
-      → IsOut file is_stale is_lost is_claimed written now later
+      → IsOut path n call is_stale is_lost is_claimed written now later
   out_waited now later some waited same =
       out_after is_stale is_lost now later some (held waited) (⊎_elim (λ is. ap text_of is) (λ is. ap text_of is) waited)
-      (λ sound. begun waited (out.begun (sym same ∙ sound))) (λ is. omega (arith, out.lost is, same)) where
-        held : Waited (Synced n) (Unwaited n) calls later → StaysHeld file.path n calls later
-        held (inl is) = held_one file.path n (Synced n) calls later refl is
-        held (inr is) = held_one file.path n (Unwaited n) calls later refl is
-
-        begun : Waited (Synced n) (Unwaited n) calls later → IsBegun file.path n is_stale (text_of calls) calls
-            → IsBegun file.path n is_stale (text_of calls) later
-        begun (inl is) so_far =
-            subst (λ (l : List FileCall). IsBegun file.path n is_stale (text_of calls) l) (sym is) (λ disk answers. let holds = so_far disk answers.1 in
-            record { file = holds.file; front = holds.front; whole = holds.whole; is_lost = holds.is_lost })
-        begun (inr is) so_far =
-            subst (λ (l : List FileCall). IsBegun file.path n is_stale (text_of calls) l) (sym is) (λ disk answers. absurd answers.0)
+      (λ sound. begun_settled _ _ _ _ _ _ (inr waited) (out.begun (sym same ∙ sound))) (λ is. omega (arith, out.lost is, same)) where
+        held : Waited (Synced n) (Unwaited n) calls later → StaysHeld path n call calls later
+        held (inl is) = held_one path n call (Synced n) calls later refl is
+        held (inr is) = held_one path n call (Unwaited n) calls later refl is
 
 -- ---- Where nothing was written.
 
@@ -185,8 +221,8 @@ module _ (path : List ℕ) (n : ℕ) (disk : Disk) (elsewhere : MayLead disk pat
 saves_made : (path : List ℕ) (n : ℕ) → SavesWhole path [] [] (Made path n ∷ [])
 saves_made path n = saves_loudly path [] [] (Made path n) [] (saves_none path [] []) (λ disk answers left. leaves_made path n disk answers.0.1 left)
 
-saves_opened : (path : List ℕ) (n : ℕ) → SavesWhole path [] [] (Opened path n ∷ [])
-saves_opened path n = saves_quietly path [] [] (Opened path n) [] (saves_none path [] []) (λ disk answers left leaves. leaves)
+saves_opened : (path : List ℕ) (n : ℕ) (kind : Kind) → SavesWhole path [] [] (Opened path n kind ∷ [])
+saves_opened path n kind = saves_quietly path [] [] (Opened path n kind) [] (saves_none path [] []) (λ disk answers left leaves. leaves)
 
 -- what was made where nothing was is removed
 module _ (path : List ℕ) (n : ℕ) (disk : Disk) (nothing : disk.file path ≡ None) (left : Option (List ℕ)) where
@@ -254,13 +290,13 @@ saves_named path calls later saves (inr (inr is)) =
     (saves_quietly path [] [] (UnwaitedNames path) calls saves (λ disk answers left leaves. leaves))
 
 -- nothing was written, and it is removed, or not
-pub saves_discarded : (path : List ℕ) (n : ℕ) (is_made is_waited : Bool) (calls later : List FileCall)
-    → IsJustOpened (record { path = path; number = n; is_made = is_made; is_waited = is_waited }) calls
-    → RemovesAt path calls later → (is_made ≡ false → later ≡ calls) → SavesWhole path [] [] later
-saves_discarded path n false is_waited calls later fresh removes same =
+pub saves_discarded : (path : List ℕ) (n : ℕ) (opening : Opening) (calls later : List FileCall)
+    → IsJustOpened n (opening_of path n opening) calls → RemovesAt path calls later → (is_making opening ≡ false → later ≡ calls)
+    → SavesWhole path [] [] later
+saves_discarded path n (way.Found named waited) calls later fresh removes same =
     subst (λ (l : List FileCall). SavesWhole path [] [] l) (sym (same refl))
-    (saves_claimed path n (Opened path n ∷ []) calls (saves_opened path n) fresh)
-saves_discarded path n true is_waited calls later fresh removes same =
+    (saves_claimed path n (Opened path n (Regular waited) ∷ []) calls (saves_opened path n (Regular waited)) fresh)
+saves_discarded path n way.New calls later fresh removes same =
     saves_named path removes.mid later (first removes.mid removes.removed) removes.named where
       first : (mid : List FileCall) → MayHave (Removed path) calls mid → SavesWhole path [] [] mid
       first mid (inl is) =
@@ -270,25 +306,28 @@ saves_discarded path n true is_waited calls later fresh removes same =
 -- ---- What is told by the text of a name.
 
 module _ (path text : List ℕ) (n : ℕ) (same : text ≡ path) where
-  pub ended_held : (calls finished closed : List FileCall) → StaysHeld path n calls finished
-      → StaysHeld text n finished closed → IsHeld path n calls → IsHeld path n closed
-  ended_held calls finished closed first second held =
-      subst (λ (p : List ℕ). IsHeld p n closed) same (second (subst (λ (p : List ℕ). IsHeld p n finished) (sym same) (first held)))
+  pub ended_held : (opening : FileCall) (calls finished closed : List FileCall) → StaysHeld path n opening calls finished
+      → StaysHeld text n opening finished closed → IsHeld path n opening calls → IsHeld path n opening closed
+  ended_held opening calls finished closed first second held =
+      subst (λ (p : List ℕ). IsHeld p n opening closed) same
+      (second (subst (λ (p : List ℕ). IsHeld p n opening finished) (sym same) (first held)))
 
   pub ended_safe : (bytes : List ℕ) (finished closed : List FileCall) → IsInPlace path n bytes finished
       → Waited (SyncedNames text) (UnwaitedNames text) finished closed → IsSafe path bytes closed
   ended_safe bytes finished closed put waited =
       safe_named path [] n bytes [] finished closed put (subst (λ (p : List ℕ). Waited (SyncedNames p) (UnwaitedNames p) finished closed) same waited)
 
--- what is done with it once it was claimed
-pub claimed_held : (is_stale is_lost is_claimed : Bool) (written : ℕ) (view : OutView)
-    → IsOut view.file is_stale is_lost is_claimed written view.failed view.calls → (now : OutView) (file : OutFile) → view ≡ now → now.file ≡ file
-    → IsClaimed now.file.number now.calls → (closed : List FileCall)
-    → StaysHeld view.file.path view.file.number view.calls closed → IsHeld file.path file.number closed
-claimed_held is_stale is_lost is_claimed written view out now file is same claimed closed stays =
-    subst (λ (f : OutFile). IsHeld f.path f.number closed) (ap (λ (v : OutView). v.file) is ∙ same)
-    (stays (record {
-      on = out.on;
-      claimed = subst (λ (v : OutView). IsClaimed v.file.number v.calls) (sym is) claimed;
-      locked = out.locked;
-    }))
+  pub ended_there : (bytes : List ℕ) (finished closed : List FileCall)
+      → ((bytes : List ℕ) → IsBegun text n false bytes finished → IsBegun text n false bytes closed)
+      → IsBegun path n false bytes finished → LeadsTo path n bytes closed
+  ended_there bytes finished closed keeps begun disk answers =
+      let kept = keeps bytes (subst (λ (p : List ℕ). IsBegun p n false bytes finished) (sym same) begun) in
+      let holds = subst (λ (p : List ℕ). IsBegun p n false bytes closed) same kept disk answers in
+      (holds.file, holds.whole refl, holds.is_lost)
+
+-- what holds of it once it was ended
+pub ended_as : (P : OutFile → List ℕ → Type 0) (view now : OutView) (file : OutFile) (text : List ℕ) → view ≡ now → now.file ≡ file
+    → text_of now.calls ≡ text → P view.file (text_of view.calls) → P file text
+ended_as P view now file text is same texts held =
+    subst (λ (t : List ℕ). P file t) (ap (λ (v : OutView). text_of v.calls) is ∙ texts)
+    (subst (λ (f : OutFile). P f (text_of view.calls)) (ap (λ (v : OutView). v.file) is ∙ same) held)

@@ -8,7 +8,7 @@ use Rattle.age_machine.specs.Calls.{FileCall, Missing, Linked, Renamed, Removed,
 use Rattle.age_machine.specs.Calls.{UnwaitedNames, MayHave, Waited}
 use Rattle.age_machine.specs.Disk.{after_call, after_calls}
 use Rattle.age_machine.specs.Saves.{AllAnswered, SavesWhole, IsSafe}
-use Rattle.age_machine.specs.Beside.{IsBeside, IsSound}
+use Rattle.age_machine.specs.Beside.{IsBeside, IsKept}
 use Rattle.age_machine.specs.inner.Steps.{IsAbout, Fills, IsFull, IsInPlace, IsReady, HasTried}
 use Rattle.age_machine.proofs.DiskLemmas.{path_same, path_other, file_renamed, leaves_renamed}
 use Rattle.age_machine.proofs.DiskLemmas.{file_linked, leaves_linked, leaves_removed}
@@ -224,10 +224,10 @@ module _ (path from : List ℕ) (n : ℕ) (bytes : List ℕ) (old : List FileCal
         subst (λ (l : List FileCall). HasTried to wanted path from n bytes old l) (sym same) (tried_ready to calls ready)
 
     -- it was filled
-    pub ready_filled : (calls new : List FileCall) → IsBeside path from n old calls → IsSound n calls
+    pub ready_filled : (calls new : List FileCall) → IsKept path from n old calls
         → IsAbout n calls new → (wanted ≡ wait.Synced → Fills n bytes calls new) → IsReady wanted path from n bytes old new
-    ready_filled calls new was sound about fills =
-        let beside = beside_about path from n old calls new was about in
+    ready_filled calls new kept about fills =
+        let beside = beside_about path from n old calls new kept.beside about in
         record {
           apart = beside.apart;
           has = beside.has;
@@ -236,7 +236,7 @@ module _ (path from : List ℕ) (n : ℕ) (bytes : List ℕ) (old : List FileCal
             apart = beside.apart;
             saves = beside.saves bytes;
             file = beside.file;
-            has = λ disk answers. (fills synced).on path disk answers (sound disk);
+            has = λ disk answers. (fills synced).on path disk answers (kept.sound disk);
           };
         }
 

@@ -2,15 +2,20 @@
 use Rattle.std.proofs.Common.{◌≡◌, ◌⊎◌, inl, inr, ⊎_elim, ℕ, List, [], ◌∷◌, ◌++◌, Option, Some}
 use Rattle.std.proofs.Common.{◌<◌, false, length, refl, sym, ◌∙◌, ap, subst, arith}
 use Rattle.std.proofs.Common.{append_assoc, length-append}
-use Rattle.std.specs.Prelude.{Contains}
+use Rattle.std.specs.Prelude.{Contains, Result, Err, OnOk}
 use Rattle.std.proofs.lemmas.List.Elements.{Contains-append_left, Contains-append_right}
 use Rattle.age_machine.specs.Calls.{FileCall, Made, Wrote, Cut, Broke, Measured, Synced, Unwaited, IsOf}
 use Rattle.age_machine.specs.Calls.{Locked, Unlockable, Linked, Renamed, Removed}
 use Rattle.age_machine.specs.Disk.{Disk, after_call, after_calls, MayLeave}
 use Rattle.age_machine.specs.Saves.{AllAnswered, AtEachMoment, Throughout, SavesWhole, SparesFile, IsLonger}
 use Rattle.age_machine.specs.Saves.{IsWithin, AllWithin, Touches}
-use Rattle.age_machine.specs.Beside.{HasBeside, IsBeside, IsSound}
-use Rattle.age_machine.specs.inner.Steps.{AllOf, IsAbout}
+use Rattle.age_machine.specs.Saves.{IsSafe}
+use Rattle.age_machine.specs.Saved.{Replaces}
+use Rattle.age_machine.specs.Beside.{HasBeside, IsBeside, IsKept}
+use Rattle.age_machine.specs.inner.Steps.{AllOf, IsAbout, HasTried}
+use Rattle.age_machine.specs.declared.replacing.Spot.{Spot}
+use Rattle.age_io.specs.declared.durability.Durability.{Durability}
+use Rattle.age_io.specs.declared.durability.Durability.TheVariants as wait
 use Rattle.age_machine.proofs.DiskLemmas.{path_same, file_same, apart_made}
 use Rattle.age_machine.proofs.DiskLemmas.{apart_of, led, leaves_apart}
 
@@ -198,38 +203,57 @@ module _ (path from : List ℕ) (n : ℕ) (old : List FileCall) where
       subst (λ (l : List FileCall). IsBeside path from n old l) (sym about.are) (beside_all about.since calls about.all beside)
 
   -- right after it was made
-  pub beside_made : (new : List FileCall) → IsLonger path from → new ≡ Made from n ∷ old → IsBeside path from n old new
-  beside_made new longer made =
-      subst (λ (l : List FileCall). IsBeside path from n old l) (sym made) there where
-        there : IsBeside path from n old (Made from n ∷ old)
+  pub kept_made : (new : List FileCall) → IsLonger path from → new ≡ Made from n ∷ old → IsKept path from n old new
+  kept_made new longer made =
+      subst (λ (l : List FileCall). IsKept path from n old l) (sym made) there where
+        there : IsKept path from n old (Made from n ∷ old)
         there = record {
-          has = record {
-            touches = record { since = Made from n ∷ []; are = refl; within = (longer, tt) };
-            made = contains_first (Made from n) [];
+          beside = record {
+            has = record {
+              touches = record { since = Made from n ∷ []; are = refl; within = (longer, tt) };
+              made = contains_first (Made from n) [];
+            };
+            apart = longer.2;
+            saves = λ bytes. saves_quietly path bytes old (Made from n) old (saves_none path bytes old)
+                (λ disk answers. leaves_apart n path (after_calls old disk) (after_call (Made from n) (after_calls old disk))
+                (apart_made n path from (after_calls old disk) longer.2) answers.0.1);
+            spares =
+                spares_quietly path old (Made from n) old (spares_none path old) (λ disk answers m is.
+                (apart_made n path from (after_calls old disk) longer.2).file ∙ is);
+            file = λ disk answers. path_same from (Some n) (after_calls old disk).file;
+            elsewhere = λ disk answers may. let apart = apart_made n path from (after_calls old disk) longer.2 in
+                answers.0.1 (led _ _ _ _ (Some n) apart.file apart.before may);
           };
-          apart = longer.2;
-          saves = λ bytes. saves_quietly path bytes old (Made from n) old (saves_none path bytes old)
-              (λ disk answers. leaves_apart n path (after_calls old disk) (after_call (Made from n) (after_calls old disk))
-              (apart_made n path from (after_calls old disk) longer.2) answers.0.1);
-          spares =
-              spares_quietly path old (Made from n) old (spares_none path old) (λ disk answers m is.
-              (apart_made n path from (after_calls old disk) longer.2).file ∙ is);
-          file = λ disk answers. path_same from (Some n) (after_calls old disk).file;
-          elsewhere = λ disk answers may. let apart = apart_made n path from (after_calls old disk) longer.2 in
-              answers.0.1 (led _ _ _ _ (Some n) apart.file apart.before may);
+          sound = λ disk. file_same n false (after_calls old disk).is_lost;
         }
 
-pub sound_made : (from : List ℕ) (n : ℕ) (old new : List FileCall) → new ≡ Made from n ∷ old → IsSound n new
-sound_made from n old new made disk =
-    subst (λ (l : List FileCall). (after_calls l disk).is_lost n ≡ false) (sym made) (file_same n false (after_calls old disk).is_lost)
+-- ---- Bytes that are put to a path.
 
--- ---- Where nothing was done.
+module _ {E : Type 0} (to : Spot) (path bytes : List ℕ) (wanted : Durability) (old new : List FileCall) where
+  -- nothing was done
+  pub replaces_none : (e : E) → new ≡ old → Replaces {E = E} to bytes wanted (Err e) old new path
+  replaces_none e same =
+      subst (λ (l : List FileCall). Replaces {E = E} to bytes wanted (Err e) old l path) (sym same) (record {
+        puts = record { whole = λ synced. saves_none path bytes old; safe = λ synced. tt; touches = touches_none path old };
+        spares = λ free. spares_none path old;
+      })
 
-pub saves_same : (path bytes : List ℕ) (old new : List FileCall) → new ≡ old → SavesWhole path bytes old new
-saves_same path bytes old new same = subst (λ (l : List FileCall). SavesWhole path bytes old l) (sym same) (saves_none path bytes old)
+  -- a file beside it got there
+  pub replaces_tried : (from : List ℕ) (n : ℕ) (r : Result (Unit {0}) E) → HasTried to wanted path from n bytes old new
+      → (wanted ≡ wait.Synced → OnOk r (IsSafe path bytes new)) → Replaces to bytes wanted r old new path
+  replaces_tried from n r tried safe = record {
+    puts = record { whole = tried.saves; safe = safe; touches = tried.has.touches };
+    spares = tried.spares;
+  }
 
-pub spares_same : (path : List ℕ) (old new : List FileCall) → new ≡ old → SparesFile path old new
-spares_same path old new same = subst (λ (l : List FileCall). SparesFile path old l) (sym same) (spares_none path old)
-
-pub touches_same : (path : List ℕ) (old new : List FileCall) → new ≡ old → Touches path old new
-touches_same path old new same = subst (λ (l : List FileCall). Touches path old l) (sym same) (touches_none path old)
+  -- another one did, after that was tried
+  pub replaces_again : (mid : List FileCall) (from : List ℕ) (n : ℕ) (r : Result (Unit {0}) E) → HasTried to wanted path from n bytes old mid
+      → Replaces to bytes wanted r mid new path → Replaces to bytes wanted r old new path
+  replaces_again mid from n r tried again = record {
+    puts = record {
+      whole = λ synced. saves_then path bytes old mid new (tried.saves synced) (again.puts.whole synced);
+      safe = again.puts.safe;
+      touches = touches_then path old mid new tried.has.touches again.puts.touches;
+    };
+    spares = λ free. spares_then path old mid new (tried.spares free) (again.spares free);
+  }

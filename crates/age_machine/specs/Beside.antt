@@ -19,6 +19,7 @@ pub record IsBeside (path from : List ℕ) (n : ℕ) (old calls : List FileCall)
   pub elsewhere : (disk : Disk) → AllAnswered path calls disk
       → MayLead (after_calls calls disk) path (Some n) → ⊥
 
--- no call about it has failed
-abbrev pub IsSound : ℕ → List FileCall → Type 0
-IsSound n calls = (disk : Disk) → (after_calls calls disk).is_lost n ≡ false
+-- and no call about it has failed
+pub record IsKept (path from : List ℕ) (n : ℕ) (old calls : List FileCall) : Type 0 where
+  pub beside : IsBeside path from n old calls
+  pub sound : (disk : Disk) → (after_calls calls disk).is_lost n ≡ false

@@ -1,13 +1,14 @@
 -- The calls of the system by which a file is written, or put in another's place.
-use Rattle.std.specs.Prelude.{◌≡◌, ◌⊎◌, ℕ, List, ◌∷◌}
+use Rattle.std.specs.Prelude.{◌≡◌, ◌⊎◌, ◌<◌, ℕ, List, ◌∷◌, Result, Ok, Err}
+use Rattle.age_machine.specs.declared.machine.Kind.{Kind}
 
 -- a call that succeeded, or that may have done something although it failed, or what a call showed;
 -- a file goes by its number, a name by its path
 pub data FileCall : Type 0 where
   -- an empty file was made at a path
   Made : List ℕ → ℕ → FileCall
-  -- the file at a path was opened
-  Opened : List ℕ → ℕ → FileCall
+  -- what is at a path was opened, and is of this kind
+  Opened : List ℕ → ℕ → Kind → FileCall
   -- bytes were written to a file, from this place on
   Wrote : ℕ → ℕ → List ℕ → FileCall
   -- a file was cut off after so many bytes
@@ -53,3 +54,8 @@ MayHave call old new = (new ≡ old) ⊎ (new ≡ call ∷ old)
 -- the call that waits was made, or the one that can't
 abbrev pub Waited : FileCall → FileCall → List FileCall → List FileCall → Type 0
 Waited waits cant old new = (new ≡ waits ∷ old) ⊎ (new ≡ cant ∷ old)
+
+-- it is counted if it failed, and only then
+abbrev pub CountsFailure : {X E : Type 0} → Result X E → ℕ → ℕ → Type 0
+CountsFailure (Ok x) old new = new ≡ old
+CountsFailure (Err e) old new = old < new

@@ -59,7 +59,7 @@ after_call (Made path n) disk = leading path (Some n) (record disk {
   is_kept = for_file n true disk.is_kept;
   is_lost = for_file n false disk.is_lost;
 })
-after_call (Opened path n) disk = disk
+after_call (Opened path n kind) disk = disk
 after_call (Wrote n at part) disk = changed n (written at part (disk.bytes n)) disk
 after_call (Cut n len) disk = changed n (sized len (disk.bytes n)) disk
 after_call (Broke n) disk = record disk {

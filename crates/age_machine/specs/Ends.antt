@@ -1,11 +1,13 @@
 -- What was done to an output that was ended.
-use Rattle.std.specs.Prelude.{◌≡◌, ◌<◌, ℕ, List, [], Bool, true, false, Option, IfSome, Result, OnOk, OnErr}
+use Rattle.std.specs.Prelude.{◌≡◌, ◌⊎◌, ◌<◌, ℕ, List, [], ◌∷◌, Bool, true, false, Option, IfSome}
+use Rattle.std.specs.Prelude.{MatchOption, Result, OnOk, OnErr}
 use Rattle.age_io.specs.Io.{SinkView}
 use Rattle.age_io.specs.declared.durability.Durability.{Durability}
 use Rattle.age_io.specs.declared.durability.Durability.TheVariants.{Synced}
-use Rattle.age_machine.specs.Calls.{FileCall}
-use Rattle.age_machine.specs.Outs.{OutFile, AllOn, LocksFirst, has_changed}
-use Rattle.age_machine.specs.Saves.{IsSafe, SavesWhole}
+use Rattle.age_machine.specs.Calls.{FileCall, Opened}
+use Rattle.age_machine.specs.declared.machine.Kind.TheVariants.{Device}
+use Rattle.age_machine.specs.Outs.{OutFile, TouchesFile, has_changed}
+use Rattle.age_machine.specs.Saves.{LeadsTo, IsSafe, SavesWhole}
 
 -- an output that was ended
 pub record EndedFile : Type 0 where
@@ -19,14 +21,24 @@ pub record EndedFile : Type 0 where
   pub calls : List FileCall
   pub failed : ℕ
 
--- nothing but its path and its file was touched, and that file only after this run had locked it, if
--- the system has locks
-abbrev pub TouchesItself : EndedFile → Type 0
-TouchesItself e = IfSome e.file (λ f. AllOn f.path f.number e.calls × LocksFirst f.number e.calls)
+-- whether one call was made, which opened what is no regular file
+abbrev pub opens_device : List FileCall → Bool
+opens_device (Opened path n Device ∷ []) = true
+opens_device calls = false
 
--- a power cut leaves at its path exactly what its sink took, if its name is waited for
+-- Nothing but its file was touched. Where it is none, no regular file was opened or made for it: it is
+-- a device, or a stream, of which no call is noted.
+abbrev pub TouchesItself : EndedFile → Type 0
+TouchesItself e =
+    MatchOption e.file ((e.calls ≡ []) ⊎ (opens_device e.calls ≡ true)) (λ f. TouchesFile f e.calls)
+
+-- its path leads to it, and it holds exactly what its sink took, whatever has reached the disk
+abbrev pub IsThere : EndedFile → Type 0
+IsThere e = IfSome e.file (λ f. LeadsTo f.path f.number e.took e.calls)
+
+-- a power cut leaves at its path exactly what its sink took
 abbrev pub IsOnDisk : EndedFile → Type 0
-IsOnDisk e = IfSome e.file (λ f. f.is_waited ≡ true → IsSafe f.path e.took e.calls)
+IsOnDisk e = IfSome e.file (λ f. IsSafe f.path e.took e.calls)
 
 -- No call has changed what it held, if it was there. If no put has failed, a power cut leaves at its
 -- path what it might have left before, or the empty file that was made.
@@ -41,6 +53,8 @@ pub record Closes {E : Type 0} (durability : Durability) (file : Option OutFile)
   pub closed : e.is_closed ≡ true
   pub same : e.file ≡ file
   pub within : TouchesItself e
+  -- It is there, if neither a put nor the end has failed.
+  pub there : sink.failed ≡ 0 → OnOk result (IsThere e)
   -- It is on the disk, if that was waited for, and neither a put nor the end has failed.
   pub safe : durability ≡ Synced → sink.failed ≡ 0 → OnOk result (IsOnDisk e)
   -- If the end of a regular file has failed, so has a call.

@@ -1,9 +1,10 @@
 -- What holds of a file that is written in place, between the calls of its methods.
 use Rattle.std.specs.Prelude.{◌≡◌, ◌⊎◌, ◌<◌, ℕ, List, [], ◌∷◌, length, take, Bool, true, false, Some}
+use Rattle.std.specs.Prelude.{Contains}
 use Rattle.age_machine.specs.Calls.{FileCall, Locked, Unlockable, Waited}
 use Rattle.age_machine.specs.Disk.{Disk, after_calls}
 use Rattle.age_machine.specs.Saves.{AllAnswered}
-use Rattle.age_machine.specs.Outs.{OutFile, opening_of, text_of, has_changed, AllOn, IsClaimed, LocksFirst}
+use Rattle.age_machine.specs.Outs.{text_of, has_changed, AllOn, IsClaimed, LocksFirst}
 
 -- it begins with what was written, on a disk
 pub record HasWritten (path : List ℕ) (n : ℕ) (is_stale : Bool) (text : List ℕ) (disk : Disk)
@@ -19,21 +20,22 @@ IsBegun path n is_stale text calls = (disk : Disk) → AllAnswered path calls di
     → HasWritten path n is_stale text (after_calls calls disk)
 
 -- it was opened, and perhaps claimed
-abbrev pub IsJustOpened : OutFile → List FileCall → Type 0
-IsJustOpened file calls = (calls ≡ opening_of file ∷ [])
-    ⊎ Waited (Locked file.number) (Unlockable file.number) (opening_of file ∷ []) calls
+abbrev pub IsJustOpened : ℕ → FileCall → List FileCall → Type 0
+IsJustOpened n opening calls = (calls ≡ opening ∷ [])
+    ⊎ Waited (Locked n) (Unlockable n) (opening ∷ []) calls
 
 -- what holds between the calls of its methods
-pub record IsOut (file : OutFile) (is_stale is_lost is_claimed : Bool) (count failed : ℕ)
-    (calls : List FileCall) : Type 0 where
-  pub on : AllOn file.path file.number calls
+pub record IsOut (path : List ℕ) (n : ℕ) (opening : FileCall) (is_stale is_lost is_claimed : Bool)
+    (count failed : ℕ) (calls : List FileCall) : Type 0 where
+  pub opened : Contains calls opening
+  pub on : AllOn path n calls
   pub written : length (text_of calls) ≡ count
   pub same : text_of calls ≡ [] → has_changed calls ≡ false
-  pub fresh : failed ≡ 0 → text_of calls ≡ [] → IsJustOpened file calls
-  pub begun : failed ≡ 0 → IsBegun file.path file.number is_stale (text_of calls) calls
+  pub fresh : failed ≡ 0 → text_of calls ≡ [] → IsJustOpened n opening calls
+  pub begun : failed ≡ 0 → IsBegun path n is_stale (text_of calls) calls
   -- a call has failed after which what it holds can't be relied on
   pub lost : is_lost ≡ true → 0 < failed
   -- It was claimed before it was changed.
-  pub locked : LocksFirst file.number calls
-  pub claimed : is_claimed ≡ true → IsClaimed file.number calls
-  pub unclaimed : is_claimed ≡ false → calls ≡ opening_of file ∷ []
+  pub locked : LocksFirst n calls
+  pub claimed : is_claimed ≡ true → IsClaimed n calls
+  pub unclaimed : is_claimed ≡ false → calls ≡ opening ∷ []

@@ -1,11 +1,15 @@
 -- What may become of a file that is put to a path, or written in place, with a call less, or with two
 -- in another order.
-use Rattle.std.specs.Prelude.{◌≡◌, ◌≢◌, ℕ, List, [], ◌∷◌, length, Some, None, true, false, Contains}
+use Rattle.std.specs.Prelude.{◌≡◌, ◌≢◌, ◌<◌, ◌^◌, ℕ, List, [], ◌∷◌, length, Some, None, true, false}
+use Rattle.std.specs.Prelude.{Contains}
 use Rattle.age_machine.specs.Calls.{FileCall, Made, Opened, Wrote, Cut, Measured, Synced, Locked, Unlockable}
 use Rattle.age_machine.specs.Calls.{Linked, Renamed, Removed, SyncedNames}
+use Rattle.age_machine.specs.declared.machine.Kind.TheVariants.{Regular}
 use Rattle.age_machine.specs.Disk.{Disk, at_path, after_calls, MayLeave}
 use Rattle.age_machine.specs.Saves.{AllAnswered, SavesWhole, IsSafe, HasMade}
 use Rattle.age_machine.specs.Outs.{AllOn, MayChange, LocksFirst}
+use Rattle.age_machine.specs.Numbers.{number_of}
+use Rattle.age_machine.specs.declared.node.Node.{Node}
 
 -- the calls of a replacement, the newest first
 abbrev pub filled : ℕ → List ℕ → List ℕ → List FileCall
@@ -59,7 +63,7 @@ bare_but path n = record bare { file = at_path path (Some n) bare.file }
 abbrev pub overwritten : ℕ → List ℕ → List ℕ → List FileCall
 overwritten n path bytes =
     SyncedNames path ∷ Synced n ∷ Cut n (length bytes) ∷ Wrote n 0 bytes ∷ Locked n
-    ∷ Opened path n ∷ []
+    ∷ Opened path n (Regular true) ∷ []
 
 abbrev pub put_out : ℕ → List ℕ → List ℕ → List FileCall
 put_out n path bytes = SyncedNames path ∷ Synced n ∷ Wrote n 0 bytes ∷ Locked n ∷ Made path n ∷ []
@@ -71,8 +75,8 @@ TornIfUnsynced = (n : ℕ) (path bytes : List ℕ)
 abbrev pub TornIfCutLast : Type 0
 TornIfCutLast = (n : ℕ) (path bytes : List ℕ)
     → IsSafe path bytes
-    (SyncedNames path ∷ Cut n (length bytes) ∷ Synced n ∷ Wrote n 0 bytes ∷ Locked n ∷ Opened path n
-    ∷ []) → ⊥
+    (SyncedNames path ∷ Cut n (length bytes) ∷ Synced n ∷ Wrote n 0 bytes ∷ Locked n
+    ∷ Opened path n (Regular true) ∷ []) → ⊥
 
 -- ---- A file that two runs open.
 
@@ -96,15 +100,20 @@ SecondRunIsHarmless = (n : ℕ) (one other : List FileCall) → HasOneLock n one
 abbrev pub OutsAreAnswered : Type 0
 OutsAreAnswered = (n : ℕ) (path bytes : List ℕ)
     → (AllAnswered path (overwritten n path bytes) (bare_but path n)
-    × HasOneLock n (overwritten n path bytes) (Opened path n ∷ []))
+    × HasOneLock n (overwritten n path bytes) (Opened path n (Regular true) ∷ []))
     × (AllAnswered path (put_out n path bytes) bare
-    × HasOneLock n (put_out n path bytes) (Opened path n ∷ []))
+    × HasOneLock n (put_out n path bytes) (Opened path n (Regular true) ∷ []))
 
 abbrev pub ChangedIfLockedLate : Type 0
 ChangedIfLockedLate = (n : ℕ) (path bytes : List ℕ)
-    → LocksFirst n (Locked n ∷ Wrote n 0 bytes ∷ Opened path n ∷ []) → ⊥
+    → LocksFirst n (Locked n ∷ Wrote n 0 bytes ∷ Opened path n (Regular true) ∷ []) → ⊥
 
 -- No file but the output's own is changed.
 abbrev pub OthersAreKept : Type 0
 OthersAreKept = (path : List ℕ) (n m : ℕ) (calls : List FileCall) → AllOn path n calls → m ≢ n
     → (disk : Disk) → (after_calls calls disk).bytes m ≡ disk.bytes m
+
+-- Two files have one number only if they are one: the inode of each fits into 64 bits.
+abbrev pub NumbersAreApart : Type 0
+NumbersAreApart = (one other : Node) → one.inode < 2 ^ 64 → other.inode < 2 ^ 64
+    → number_of one ≡ number_of other → one ≡ other

@@ -1,15 +1,17 @@
 -- A file that is written in place, by a machine that makes no other calls.
-use Rattle.std.specs.Prelude.{◌≡◌, ◌⊎◌, ℕ, List, [], ◌∷◌, ◌++◌, Bool, true, false, if◌then◌else◌}
+use Rattle.std.specs.Prelude.{◌≡◌, ◌⊎◌, ℕ, List, [], ◌∷◌, ◌++◌, Bool, true, false}
 use Rattle.std.specs.Prelude.{Contains}
 use Rattle.age_machine.specs.Calls.{FileCall, Made, Opened, Wrote, Cut, Broke, Locked, Unlockable, Removed}
 use Rattle.age_machine.specs.Calls.{SyncedNames, UnwaitedNames, IsOf}
+use Rattle.age_machine.specs.declared.in_place.Opening.{Opening}
+use Rattle.age_machine.specs.declared.in_place.Opening.TheVariants as way
+use Rattle.age_machine.specs.declared.machine.Kind.TheVariants.{Regular}
 
--- which file it is, and at which path; whether opening made it, and its name is waited for at the end
+-- which file it is, and at which path; whether opening made it
 pub record OutFile : Type 0 where
   pub path : List ℕ
   pub number : ℕ
   pub is_made : Bool
-  pub is_waited : Bool
 
 -- What contracts see: the file, the calls that were made, the newest first, how many have failed, and
 -- whether one has after which what it holds can't be relied on.
@@ -19,9 +21,14 @@ pub record OutView : Type 0 where
   pub failed : ℕ
   pub is_lost : Bool
 
--- the call that opened it
-abbrev pub opening_of : OutFile → FileCall
-opening_of file = if file.is_made then Made file.path file.number else Opened file.path file.number
+-- the call that opened it, and whether that made it
+abbrev pub opening_of : List ℕ → ℕ → Opening → FileCall
+opening_of path n way.New = Made path n
+opening_of path n (way.Found named waited) = Opened path n (Regular waited)
+
+abbrev pub is_making : Opening → Bool
+is_making way.New = true
+is_making (way.Found named waited) = false
 
 -- what was written, in order
 abbrev pub text_of : List FileCall → List ℕ
@@ -39,7 +46,7 @@ has_changed (call ∷ calls) = has_changed calls
 -- This call is about this path or this file; each of these is.
 abbrev pub IsOn : List ℕ → ℕ → FileCall → Type 0
 IsOn path n (Made p m) = (p ≡ path) × (m ≡ n)
-IsOn path n (Opened p m) = (p ≡ path) × (m ≡ n)
+IsOn path n (Opened p m kind) = (p ≡ path) × (m ≡ n)
 IsOn path n (Removed p) = p ≡ path
 IsOn path n (SyncedNames p) = p ≡ path
 IsOn path n (UnwaitedNames p) = p ≡ path
@@ -66,3 +73,12 @@ IsClaimed n calls = Contains calls (Locked n) ⊎ Contains calls (Unlockable n)
 abbrev pub LocksFirst : ℕ → List FileCall → Type 0
 LocksFirst n [] = Unit {0}
 LocksFirst n (call ∷ calls) = (MayChange n call → IsClaimed n calls) × LocksFirst n calls
+
+-- These calls opened or made a file, touched nothing but its path and it, and changed it only after
+-- this run had locked it, if the system has locks.
+pub record TouchesFile (file : OutFile) (calls : List FileCall) : Type 0 where
+  pub opening : Opening
+  pub is_made : is_making opening ≡ file.is_made
+  pub opened : Contains calls (opening_of file.path file.number opening)
+  pub on : AllOn file.path file.number calls
+  pub locked : LocksFirst file.number calls

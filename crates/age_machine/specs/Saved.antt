@@ -3,7 +3,9 @@ use Rattle.std.specs.Prelude.{◌≡◌, List, [], ℕ, Option, IfSome, Result, 
 use Rattle.age_io.specs.declared.durability.Durability.{Durability}
 use Rattle.age_io.specs.declared.durability.Durability.TheVariants.{Synced}
 use Rattle.age_machine.specs.Calls.{FileCall}
-use Rattle.age_machine.specs.Saves.{IsSafe, SavesWhole, Touches}
+use Rattle.age_machine.specs.Saves.{IsSafe, SavesWhole, SparesFile, Touches}
+use Rattle.age_machine.specs.declared.replacing.Spot.{Spot}
+use Rattle.age_machine.specs.declared.replacing.Spot.TheVariants.{Free}
 
 -- a file that was replaced
 pub record SavedFile : Type 0 where
@@ -12,17 +14,23 @@ pub record SavedFile : Type 0 where
   -- the calls that were made for it, the newest first
   pub calls : List FileCall
 
--- these bytes were put to that path at once
+-- these bytes were put to a path at once since the old calls, or that was tried
 pub record PutsAtOnce {E : Type 0} (bytes : List ℕ) (durability : Durability)
-    (result : Result (Unit {0}) E) (calls : List FileCall) (path : List ℕ) : Type 0 where
+    (result : Result (Unit {0}) E) (old calls : List FileCall) (path : List ℕ) : Type 0 where
   -- Whenever the power is cut, what is there is what there might have been before, or these bytes.
-  pub whole : durability ≡ Synced → SavesWhole path bytes [] calls
+  pub whole : durability ≡ Synced → SavesWhole path bytes old calls
   -- After success it is these bytes.
   pub safe : durability ≡ Synced → OnOk result (IsSafe path bytes calls)
   -- Only the path and new files beside it are touched.
-  pub touches : Touches path [] calls
+  pub touches : Touches path old calls
 
--- they were, unless they were written directly
+-- and what has come there stays, where nothing was
+pub record Replaces {E : Type 0} (to : Spot) (bytes : List ℕ) (durability : Durability)
+    (result : Result (Unit {0}) E) (old calls : List FileCall) (path : List ℕ) : Type 0 where
+  pub puts : PutsAtOnce bytes durability result old calls path
+  pub spares : to ≡ Free → SparesFile path old calls
+
+-- The bytes of a position were put there at once, unless they were written directly.
 abbrev pub Saves : {E : Type 0} → List ℕ → Durability → Result (Unit {0}) E → SavedFile → Type 0
 Saves bytes durability result saved =
-    IfSome saved.path (PutsAtOnce bytes durability result saved.calls)
+    IfSome saved.path (PutsAtOnce bytes durability result [] saved.calls)

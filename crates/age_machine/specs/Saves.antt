@@ -1,17 +1,19 @@
 -- What it means that a file is put to a path at once, whatever fails and whenever the power is cut.
-use Rattle.std.specs.Prelude.{◌≡◌, ◌≢◌, ◌⊎◌, ℕ, List, [], ◌∷◌, ◌++◌, length, Option, Some, None, false}
+use Rattle.std.specs.Prelude.{◌≡◌, ◌≢◌, ◌⊎◌, ℕ, List, [], ◌∷◌, ◌++◌, length, Option, Some, None, true, false}
 use Rattle.std.specs.Prelude.{Contains}
 use Rattle.age_machine.specs.Calls.{FileCall, Made, Opened, Wrote, Cut, Broke, Measured, Synced, Unwaited}
 use Rattle.age_machine.specs.Calls.{Locked, Unlockable, Missing, Linked, Renamed, Removed}
 use Rattle.age_machine.specs.Calls.{SyncedNames, UnwaitedNames}
+use Rattle.age_machine.specs.declared.machine.Kind.TheVariants.{Regular}
 use Rattle.age_machine.specs.Disk.{Disk, after_calls, MayLead, MayLeave}
 
 -- A disk on which this call is the next one answers as one that can be waited for. A file that is
--- made is a new one, to which the path may not lead, and comes where nothing is, as a link does. One
--- that is opened is the one at its path, and no call about it has failed.
+-- made is a new one, to which the path may not lead, and comes where nothing is, as a link does. What
+-- is opened is the regular file at its path, and no call about it has failed.
 abbrev pub IsAnswered : List ℕ → FileCall → Disk → Type 0
 IsAnswered path (Made p n) disk = (disk.file p ≡ None) × (MayLead disk path (Some n) → ⊥)
-IsAnswered path (Opened p n) disk = (disk.file p ≡ Some n) × (disk.is_lost n ≡ false)
+IsAnswered path (Opened p n kind) disk =
+    (kind ≡ Regular true) × (disk.file p ≡ Some n) × (disk.is_lost n ≡ false)
 IsAnswered path (Measured n len) disk = length (disk.bytes n) ≡ len
 IsAnswered path (Missing p) disk = disk.file p ≡ None
 IsAnswered path (Linked from to) disk = disk.file to ≡ None
@@ -48,6 +50,13 @@ abbrev pub IsSafe : List ℕ → List ℕ → List FileCall → Type 0
 IsSafe path bytes calls = (disk : Disk) → AllAnswered path calls disk
     → (left : Option (List ℕ)) → MayLeave (after_calls calls disk) path left → left ≡ Some bytes
 
+-- On each disk that answers, a path leads to this file, of just these bytes, about which no call has
+-- failed.
+abbrev pub LeadsTo : List ℕ → ℕ → List ℕ → List FileCall → Type 0
+LeadsTo path n bytes calls = (disk : Disk) → AllAnswered path calls disk
+    → ((after_calls calls disk).file path ≡ Some n) × ((after_calls calls disk).bytes n ≡ bytes)
+    × ((after_calls calls disk).is_lost n ≡ false)
+
 -- A file that was at a path after the old calls stays there.
 abbrev pub SparesFile : List ℕ → List FileCall → List FileCall → Type 0
 SparesFile path old = Throughout path (λ disk calls. (n : ℕ)
@@ -69,7 +78,7 @@ IsLonger path p = (more : List ℕ) × (p ≡ path ++ more) × (p ≢ path)
 -- After these calls, this one is about the path, a longer one beside it, or a file that they made.
 abbrev pub IsWithin : List ℕ → List FileCall → FileCall → Type 0
 IsWithin path calls (Made p n) = IsLonger path p
-IsWithin path calls (Opened p n) = ⊥
+IsWithin path calls (Opened p n kind) = ⊥
 IsWithin path calls (Wrote n at part) = HasMade n calls
 IsWithin path calls (Cut n len) = HasMade n calls
 IsWithin path calls (Broke n) = HasMade n calls

@@ -1,11 +1,11 @@
 //! A file beside another one, whose place it is to take.
 
-ghost use Rattle.std.specs.Prelude.{◌≡◌, ◌≢◌, ◌≤◌, ◌<◌, ◌∷◌, string_bytes, IfOk, IfErr, OnOk, OnErr};
+ghost use Rattle.std.specs.Prelude.{◌≡◌, ◌≢◌, ◌⊎◌, ◌≤◌, ◌<◌, ◌∷◌, string_bytes, IfOk, IfErr, OnOk, OnErr};
 ghost use Rattle.std.specs.Prelude.{MatchOption, length};
 ghost use Rattle.age_io.specs.declared.durability.Durability.TheVariants as wait;
 ghost use Rattle.age_machine.specs.Calls.{Made, Synced, Unwaited, Waited};
 ghost use Rattle.age_machine.specs.Saves.{IsLonger};
-ghost use Rattle.age_machine.specs.Beside.{IsBeside, IsSound};
+ghost use Rattle.age_machine.specs.Beside.{IsKept};
 ghost use Rattle.age_machine.specs.declared.beside.Unplaced.TheVariants.{Memory};
 ghost use Rattle.age_machine.specs.inner.Steps.{IsAbout, StaysSound, WritesOver};
 
@@ -103,8 +103,9 @@ pub(crate) fn settle<M: Machine>(
     durability: Durability,
 ) -> io::Result<()>
     ensures about { IsAbout (M.number file.now) (M.calls machine.old) (M.calls machine.new) }
-    ensures sound { OnOk result
-        (StaysSound (M.number file.now) (M.calls machine.old) (M.calls machine.new)) }
+    ensures either { OnOk result ((M.calls machine.new ≡ M.calls machine.old)
+        ⊎ Waited (Synced (M.number file.now)) (Unwaited (M.number file.now)) (M.calls machine.old)
+        (M.calls machine.new)) }
     ensures synced { OnOk result (durability ≡ wait.Synced
         → Waited (Synced (M.number file.now)) (Unwaited (M.number file.now))
         (M.calls machine.old) (M.calls machine.new)) }
@@ -147,11 +148,9 @@ pub fn prepare_beside<M: Machine>(
     room: &[u8],
     durability: Durability,
 ) -> io::Result<Option<Beside<M::File>>>
-    ensures beside { IfOk result (λ made. MatchOption made (M.calls machine.new ≡ M.calls machine.old)
-        (λ b. IsBeside path.now (string_bytes b.path) (M.number b.file) (M.calls machine.old)
+    ensures kept { IfOk result (λ made. MatchOption made (M.calls machine.new ≡ M.calls machine.old)
+        (λ b. IsKept path.now (string_bytes b.path) (M.number b.file) (M.calls machine.old)
         (M.calls machine.new))) }
-    ensures sound { IfOk result (λ made. MatchOption made (M.calls machine.new ≡ M.calls machine.old)
-        (λ b. IsSound (M.number b.file) (M.calls machine.new))) }
 {
     match make_beside(alloc, machine, path) {
         Ok(made) => match keep_room(machine, &made.file, room, durability) {

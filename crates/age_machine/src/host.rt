@@ -3,11 +3,12 @@
 ghost use Rattle.std.specs.Prelude.{◌≡◌, ◌+◌, ◌<◌, [], ◌∷◌, length, IfOk, OnOk, OnErr};
 ghost use Rattle.std.specs.Io.{WritesAtMost};
 ghost use Rattle.age_machine.specs.Calls.{Made, Opened, Broke, SyncedNames, UnwaitedNames, Waited};
+ghost use Rattle.age_machine.specs.Calls.{CountsFailure};
 ghost use Rattle.age_machine.specs.Numbers.{number_of};
 
 use crate::calls;
 use crate::folder::{Folder, check_same, folder_of};
-use crate::machine::{Machine, Shape, Sight};
+use crate::machine::{Kind, Machine, Shape, Sight};
 use crate::node::{Node, found_at, is_at};
 use crate::notes::{Calls, Failed, Word};
 use crate::retry::{TRIES, is_to_retry, too_many_tries};
@@ -101,7 +102,6 @@ fn sync_readable_folder(rt: &HostRuntime, path: &str) -> io::Result<bool> {
 fn sight_of(file: &File) -> io::Result<Sight> {
     let now = file.metadata()?;
     Ok(Sight {
-        is_regular: now.is_file(),
         is_named: now.nlink() > 0,
         len: now.len(),
     })
@@ -124,7 +124,7 @@ fn check(file: &File, shape: &Shape) -> io::Result<()> {
 
 /// Takes a regular file for this run alone, as long as it is open; `false` if the file system has no
 /// locks, so that every run may have it. Fails if another run has it.
-fn lock(file: &File) -> io::Result<bool> {
+pub fn lock(file: &File) -> io::Result<bool> {
     if !file.metadata()?.is_file() {
         return Ok(false);
     }
@@ -153,25 +153,52 @@ fn folder_at(rt: &HostRuntime, path: &str) -> io::Result<Option<Folder>> {
 pub struct HostFile {
     file: File,
     node: Node,
+    // It had a name as it was opened.
+    is_named: bool,
 }
 
 impl HostFile {
-    fn of(file: File) -> io::Result<HostFile> {
-        let node = Node::of(&file.metadata()?);
-        Ok(HostFile { file, node })
+    /// A file that is open, and what it is.
+    fn of(file: File) -> io::Result<(HostFile, Kind)> {
+        let found = file.metadata()?;
+        let node = Node::of(&found);
+        let is_named = found.nlink() > 0;
+        let kind = if found.is_file() {
+            Kind::Regular(is_named)
+        } else {
+            Kind::Device
+        };
+        let file = HostFile {
+            file,
+            node,
+            is_named,
+        };
+        Ok((file, kind))
     }
 
     /// Opens a file to be written without emptying it; `None` if there is none.
-    fn open(rt: &HostRuntime, name: &str) -> io::Result<Option<HostFile>> {
+    fn open(rt: &HostRuntime, name: &str) -> io::Result<Option<(HostFile, Kind)>> {
         match open_to_write(rt, name, OUTPUT_MODE)? {
             Some(file) => Ok(Some(HostFile::of(above_streams(file)?)?)),
             None => Ok(None),
         }
     }
 
+    /// Which file it is, whatever its names: calls about it go by this.
+    pub fn node(&self) -> Node
+        ensures { result ≡ self.now.node }
+    {
+        self.node
+    }
+
     /// The file itself.
     pub fn file(&self) -> &File {
         &self.file
+    }
+
+    /// Whether it had a name as it was opened.
+    pub fn is_named(&self) -> bool {
+        self.is_named
     }
 
     /// The same, to be kept.
@@ -183,11 +210,13 @@ impl HostFile {
 
 /// A file that was made at a path, if it was; it is removed if it can't be used.
 fn made_file(rt: &HostRuntime, made: io::Result<File>, path: &str) -> io::Result<HostFile> {
-    let file = HostFile::of(kept_above(rt, made?, path)?);
-    if file.is_err() {
-        let _ = calls::remove(rt, path);
+    match HostFile::of(kept_above(rt, made?, path)?) {
+        Ok((file, _)) => Ok(file),
+        Err(error) => {
+            let _ = calls::remove(rt, path);
+            Err(error)
+        }
     }
-    file
 }
 
 /// What is reported of a write that took nothing.
@@ -232,7 +261,7 @@ impl HostMachine {
 
     /// The same machine once more, after the same calls, for another replacement.
     pub fn again(&self) -> HostMachine
-        ensures { result.calls ≡ self.now.calls }
+        ensures { (result.calls ≡ self.now.calls) × (result.failed ≡ 0) }
     {
         HostMachine {
             rt: self.rt,
@@ -241,17 +270,20 @@ impl HostMachine {
         }
     }
 
-    /// Takes a file that is open to be written, to which a path leads.
-    pub fn adopt(&mut self, file: File, path: &str) -> io::Result<HostFile>
+    /// Takes a file that is open to be written. Its path may lead elsewhere by now.
+    pub fn adopt(&mut self, file: File, path: &str) -> io::Result<(HostFile, Kind)>
         ensures ok { IfOk result (λ f. self.new.calls
-            ≡ Opened path.now (number_of f.node) ∷ self.old.calls) }
-        ensures counted { OnOk result (self.new.failed ≡ self.old.failed) }
-        ensures failing { OnErr result (self.old.failed < self.new.failed) }
+            ≡ Opened path.now (number_of f.0.node) f.1 ∷ self.old.calls) }
+        ensures counted { CountsFailure result self.old.failed self.new.failed }
     {
         match HostFile::of(file) {
-            Ok(file) => {
-                self.calls.note(&Word::Opened(path, file.node));
-                Ok(file)
+            Ok((file, kind)) => {
+                let kind = match kind {
+                    Kind::Regular(_) => Kind::Regular(false),
+                    Kind::Device => Kind::Device,
+                };
+                self.calls.note(&Word::Opened(path, file.node, kind));
+                Ok((file, kind))
             }
             Err(error) => Err(self.fail(error)),
         }
@@ -262,8 +294,7 @@ impl HostMachine {
         ensures ok { IfOk result (λ f. self.new.calls
             ≡ Made path.now (number_of f.node) ∷ self.old.calls) }
         ensures err { OnErr result (self.new.calls ≡ self.old.calls) }
-        ensures counted { OnOk result (self.new.failed ≡ self.old.failed) }
-        ensures failing { OnErr result (self.old.failed < self.new.failed) }
+        ensures counted { CountsFailure result self.old.failed self.new.failed }
     {
         match made_file(&self.rt, made, path) {
             Ok(file) => {
@@ -279,8 +310,7 @@ impl HostMachine {
         ensures ok { OnOk result (Waited (SyncedNames path.now) (UnwaitedNames path.now)
             self.old.calls self.new.calls) }
         ensures err { OnErr result (self.new.calls ≡ self.old.calls) }
-        ensures counted { OnOk result (self.new.failed ≡ self.old.failed) }
-        ensures failing { OnErr result (self.old.failed < self.new.failed) }
+        ensures counted { CountsFailure result self.old.failed self.new.failed }
     {
         match synced {
             Ok(true) => {
@@ -335,11 +365,11 @@ impl Machine for HostMachine {
         self.note_made(path, made)
     }
 
-    fn open(&mut self, name: &str, path: &str) -> io::Result<Option<HostFile>> {
+    fn open(&mut self, name: &str, path: &str) -> io::Result<Option<(HostFile, Kind)>> {
         match HostFile::open(&self.rt, name) {
-            Ok(Some(file)) => {
-                self.calls.note(&Word::Opened(path, file.node));
-                Ok(Some(file))
+            Ok(Some((file, kind))) => {
+                self.calls.note(&Word::Opened(path, file.node, kind));
+                Ok(Some((file, kind)))
             }
             Ok(None) => Ok(None),
             Err(error) => Err(self.fail(error)),

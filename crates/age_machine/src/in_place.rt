@@ -5,11 +5,12 @@ ghost use Rattle.std.specs.Prelude.{string_bytes};
 ghost use Rattle.std.specs.Prelude.{true, false, is_some, IfOk, OnOk, OnErr};
 ghost use Rattle.std.specs.Io.{WritesAtMost};
 ghost use Rattle.age_io.specs.declared.durability.Durability.TheVariants as wait;
-ghost use Rattle.age_machine.specs.Calls.{Locked, Unlockable, SyncedNames, UnwaitedNames, Waited};
-ghost use Rattle.age_machine.specs.Saves.{SavesWhole, IsSafe};
-ghost use Rattle.age_machine.specs.Outs.{opening_of, text_of, has_changed, AllOn, IsClaimed, LocksFirst};
+ghost use Rattle.age_machine.specs.Calls.{FileCall, Locked, Unlockable, SyncedNames, UnwaitedNames};
+ghost use Rattle.age_machine.specs.Calls.{Waited};
+ghost use Rattle.age_machine.specs.Saves.{SavesWhole, IsSafe, LeadsTo};
+ghost use Rattle.age_machine.specs.Outs.{opening_of, is_making, text_of, has_changed, IsClaimed, TouchesFile};
 ghost use Rattle.age_machine.specs.Held.{IsBegun};
-ghost use Rattle.age_machine.specs.inner.Steps.{IsInPlace, StaysHeld, RemovesAt};
+ghost use Rattle.age_machine.specs.inner.Steps.{IsInPlace, StaysHeld, RemovesAt, is_waited};
 
 use crate::beside::settle;
 use crate::machine::{Machine, Shape};
@@ -26,13 +27,32 @@ const SIGHT_OF_MADE: u64 = 1 << 30;
 
 /// How a file was opened.
 #[derive(Clone, Copy)]
-pub struct Opening {
-    /// Opening made it.
-    pub is_made: bool,
-    /// It had a name then.
-    pub is_named: bool,
-    /// That name is waited for at the end.
-    pub is_waited: bool,
+pub enum Opening {
+    /// It was made.
+    New,
+    /// It was there.
+    Found {
+        /// It had a name then.
+        is_named: bool,
+        /// The path is known to lead to it, so the end waits for that name.
+        is_waited: bool,
+    },
+}
+
+impl Opening {
+    fn is_made(self) -> bool
+        ensures { result ≡ is_making self }
+    {
+        matches!(self, Opening::New)
+    }
+
+    /// Whether it had a name.
+    fn is_named(self) -> bool {
+        match self {
+            Opening::New => true,
+            Opening::Found { is_named, .. } => is_named,
+        }
+    }
 }
 
 /// A regular file that is written in place, from its beginning on, by a machine of its own.
@@ -62,14 +82,13 @@ pub struct Out<M: Machine> {
 #[derive(Drop)]
 pub struct Ended<M> {
     pub end: io::Result<()>,
-    pub path: String,
     /// The machine after all calls.
     pub machine: M,
 }
 
 impl<M: Machine> Model for Out<M> {
     ghost use Rattle.std.specs.Prelude.{◌≡◌, ◌<◌, ℕ, true, string_bytes, is_some};
-    ghost use Rattle.age_machine.specs.Outs.{OutView};
+    ghost use Rattle.age_machine.specs.Outs.{OutView, opening_of, is_making};
     ghost use Rattle.age_machine.specs.Held.{IsOut};
 
     ghost Value = { OutView };
@@ -78,20 +97,16 @@ impl<M: Machine> Model for Out<M> {
       file = record {
         path = string_bytes o.path;
         number = M.number o.file;
-        is_made = o.opening.is_made;
-        is_waited = o.opening.is_waited;
+        is_made = is_making o.opening;
       };
       calls = M.calls o.machine;
       failed = M.failed o.machine;
       is_lost = is_some o.lost;
     } };
 
-    ghost invariant = { λ o. IsOut (record {
-      path = string_bytes o.path;
-      number = M.number o.file;
-      is_made = o.opening.is_made;
-      is_waited = o.opening.is_waited;
-    }) o.is_stale (is_some o.lost) o.is_claimed o.written (M.failed o.machine) (M.calls o.machine) };
+    ghost invariant = { λ o. IsOut (string_bytes o.path) (M.number o.file)
+        (opening_of (string_bytes o.path) (M.number o.file) o.opening) o.is_stale (is_some o.lost)
+        o.is_claimed o.written (M.failed o.machine) (M.calls o.machine) };
 }
 
 /// Cuts off what a file held beyond the bytes that were written.
@@ -101,8 +116,8 @@ fn cut_stale<M: Machine>(
     is_stale: bool,
     written: u64,
 ) -> io::Result<()>
-    ensures held { (path : List ℕ) → StaysHeld path (M.number file.now) (M.calls machine.old)
-        (M.calls machine.new) }
+    ensures held { (path : List ℕ) (opening : FileCall) → StaysHeld path (M.number file.now) opening
+        (M.calls machine.old) (M.calls machine.new) }
     ensures cut { OnOk result ((path text : List ℕ) → length text ≡ written
         → IsBegun path (M.number file.now) is_stale text (M.calls machine.old)
         → IsBegun path (M.number file.now) false text (M.calls machine.new)) }
@@ -127,12 +142,15 @@ fn finish<M: Machine>(
     shape: &Shape,
     durability: Durability,
 ) -> io::Result<()>
-    ensures held { (path : List ℕ) → StaysHeld path (M.number file.now) (M.calls machine.old)
-        (M.calls machine.new) }
+    ensures held { (path : List ℕ) (opening : FileCall) → StaysHeld path (M.number file.now) opening
+        (M.calls machine.old) (M.calls machine.new) }
     ensures finished { OnOk result (durability ≡ wait.Synced → (path text : List ℕ)
         → length text ≡ shape.now.len
         → IsBegun path (M.number file.now) is_stale text (M.calls machine.old)
         → IsInPlace path (M.number file.now) text (M.calls machine.new)) }
+    ensures begun { OnOk result ((path text : List ℕ) → length text ≡ shape.now.len
+        → IsBegun path (M.number file.now) is_stale text (M.calls machine.old)
+        → IsBegun path (M.number file.now) false text (M.calls machine.new)) }
     ensures sure { OnOk result (is_some lost ≡ false) }
     ensures counted { M.failed machine.old ≤ M.failed machine.new }
     ensures caused { OnErr result ((is_some lost ≡ true)
@@ -155,7 +173,7 @@ fn settle_name<M: Machine>(
     opening: Opening,
     durability: Durability,
 ) -> io::Result<()>
-    ensures ok { OnOk result (durability ≡ wait.Synced → opening.is_waited ≡ true
+    ensures ok { OnOk result (durability ≡ wait.Synced → is_waited opening ≡ true
         → Waited (SyncedNames path.now) (UnwaitedNames path.now) (M.calls machine.old)
         (M.calls machine.new)) }
     ensures either { (M.calls machine.new ≡ M.calls machine.old) ⊎ Waited (SyncedNames path.now)
@@ -163,18 +181,15 @@ fn settle_name<M: Machine>(
     ensures counted { M.failed machine.old ≤ M.failed machine.new }
     ensures caused { OnErr result (M.failed machine.old < M.failed machine.new) }
 {
-    if !opening.is_waited {
-        return Ok(());
-    }
-    if opening.is_made {
-        return settle_names(machine, path, durability);
-    }
-    match durability {
-        Durability::Synced => {
-            machine.sync_readable_names(path)?;
-            Ok(())
-        }
-        Durability::Buffered => Ok(()),
+    match opening {
+        Opening::New => settle_names(machine, path, durability),
+        Opening::Found { is_waited, .. } => match durability {
+            Durability::Synced if is_waited => {
+                machine.sync_readable_names(path)?;
+                Ok(())
+            }
+            _ => Ok(()),
+        },
     }
 }
 
@@ -186,10 +201,14 @@ fn close_named<M: Machine>(
     opening: Opening,
     durability: Durability,
 ) -> io::Result<()>
-    ensures held { StaysHeld path.now (M.number file.now) (M.calls machine.old) (M.calls machine.new) }
-    ensures named { OnOk result (durability ≡ wait.Synced → opening.is_waited ≡ true
+    ensures held { (opened : FileCall) → StaysHeld path.now (M.number file.now) opened
+        (M.calls machine.old) (M.calls machine.new) }
+    ensures named { OnOk result (durability ≡ wait.Synced → is_waited opening ≡ true
         → Waited (SyncedNames path.now) (UnwaitedNames path.now) (M.calls machine.old)
         (M.calls machine.new)) }
+    ensures begun { OnOk result ((text : List ℕ)
+        → IsBegun path.now (M.number file.now) false text (M.calls machine.old)
+        → IsBegun path.now (M.number file.now) false text (M.calls machine.new)) }
     ensures counted { M.failed machine.old ≤ M.failed machine.new }
     ensures caused { OnErr result (M.failed machine.old < M.failed machine.new) }
 {
@@ -207,9 +226,9 @@ fn take_back<M: Machine>(
     durability: Durability,
 )
     ensures removed { RemovesAt path.now (M.calls machine.old) (M.calls machine.new) }
-    ensures there { opening.is_made ≡ false → M.calls machine.new ≡ M.calls machine.old }
+    ensures there { is_making opening ≡ false → M.calls machine.new ≡ M.calls machine.old }
 {
-    if !opening.is_made || !is_as_long(machine, file, 0) || !machine.is_alone(file) {
+    if !opening.is_made() || !is_as_long(machine, file, 0) || !machine.is_alone(file) {
         return;
     }
     machine.remove(file, path);
@@ -218,7 +237,7 @@ fn take_back<M: Machine>(
 
 /// How many bytes may be written before a file is looked at again.
 fn sight_of(opening: Opening) -> u64 {
-    if opening.is_made {
+    if opening.is_made() {
         SIGHT_OF_MADE
     } else {
         SIGHT_OF_FOUND
@@ -237,18 +256,13 @@ impl<M: Machine + Drop> Out<M> {
     /// A file that was opened to be written; what is written replaces what it holds.
     pub fn new(machine: M, file: M::File, path: String, opening: Opening) -> Out<M>
         requires unfailed { M.failed machine ≡ 0 }
-        requires opened { M.calls machine ≡ opening_of (record {
-          path = string_bytes path;
-          number = M.number file;
-          is_made = opening.is_made;
-          is_waited = opening.is_waited;
-        }) ∷ [] }
+        requires opened { M.calls machine
+            ≡ opening_of (string_bytes path) (M.number file) opening ∷ [] }
         ensures { result ≡ record {
           file = record {
             path = string_bytes path;
             number = M.number file;
-            is_made = opening.is_made;
-            is_waited = opening.is_waited;
+            is_made = is_making opening;
           };
           calls = M.calls machine;
           failed = 0;
@@ -261,7 +275,7 @@ impl<M: Machine + Drop> Out<M> {
             path,
             opening,
             is_claimed: false,
-            is_stale: !opening.is_made,
+            is_stale: !opening.is_made(),
             written: 0,
             seen: 0,
             has_length: true,
@@ -269,15 +283,24 @@ impl<M: Machine + Drop> Out<M> {
         }
     }
 
-    /// Whether its name is waited for at the end.
-    pub fn is_waited(&self) -> bool
-        ensures { result ≡ self.now.file.is_waited }
+    /// Whether opening made it.
+    pub fn is_made(&self) -> bool
+        ensures { result ≡ self.now.file.is_made }
     {
-        self.opening.is_waited
+        self.opening.is_made()
+    }
+
+    /// Where it is, at the end of all links.
+    pub fn path(&self) -> &str
+        ensures { result.now ≡ self.now.file.path }
+    {
+        self.path.as_str()
     }
 
     /// The file itself.
-    pub fn file(&self) -> &M::File {
+    pub fn file(&self) -> &M::File
+        ensures { M.number result.now ≡ self.now.file.number }
+    {
         &self.file
     }
 
@@ -310,7 +333,7 @@ impl<M: Machine + Drop> Out<M> {
             len: self.written,
             may_be_longer,
             has_length: self.has_length,
-            is_named: self.opening.is_named,
+            is_named: self.opening.is_named(),
         }
     }
 
@@ -444,7 +467,7 @@ impl<M: Machine + Drop> Out<M> {
     pub fn room(&self) -> u64 {
         match self.machine.look(&self.file) {
             Ok(_) if !self.has_length => u64::MAX,
-            Ok(now) if self.opening.is_named && !now.is_named => 0,
+            Ok(now) if self.opening.is_named() && !now.is_named => 0,
             Ok(now) => now.len,
             Err(_) => 0,
         }
@@ -462,13 +485,12 @@ impl<M: Machine + Drop> Out<M> {
     /// Ends it with what was written, and closes it, in either case. If nothing was written it is
     /// claimed first; if another run has it, it stays as it is.
     pub fn end(mut self, durability: Durability) -> Ended<M>
-        ensures safe { durability ≡ wait.Synced → self.file.is_waited ≡ true → self.failed ≡ 0
-            → OnOk result.end
+        ensures safe { durability ≡ wait.Synced → self.failed ≡ 0 → OnOk result.end
             (IsSafe self.file.path (text_of self.calls) (M.calls result.machine)) }
-        ensures path { string_bytes result.path ≡ self.file.path }
+        ensures there { self.failed ≡ 0 → OnOk result.end
+            (LeadsTo self.file.path self.file.number (text_of self.calls) (M.calls result.machine)) }
         ensures sure { OnOk result.end (self.is_lost ≡ false) }
-        ensures touches { AllOn self.file.path self.file.number (M.calls result.machine) }
-        ensures locked { LocksFirst self.file.number (M.calls result.machine) }
+        ensures within { TouchesFile self.file (M.calls result.machine) }
         ensures caused { OnErr result.end ((self.is_lost ≡ true)
             ⊎ (self.failed < M.failed result.machine)) }
         ensures failing { OnErr result.end (0 < M.failed result.machine) }
@@ -487,7 +509,6 @@ impl<M: Machine + Drop> Out<M> {
         if let Err(error) = claimed {
             return Ended {
                 end: Err(error),
-                path,
                 machine,
             };
         }
@@ -496,12 +517,10 @@ impl<M: Machine + Drop> Out<M> {
         match finished {
             Ok(()) => Ended {
                 end: closed,
-                path,
                 machine,
             },
             Err(error) => Ended {
                 end: Err(error),
-                path,
                 machine,
             },
         }
@@ -515,8 +534,7 @@ impl<M: Machine + Drop> Out<M> {
         ensures there { self.file.is_made ≡ false → M.calls result ≡ self.calls }
         ensures untouched { self.file.is_made ≡ false → text_of self.calls ≡ []
             → has_changed (M.calls result) ≡ false }
-        ensures touches { AllOn self.file.path self.file.number (M.calls result) }
-        ensures locked { LocksFirst self.file.number (M.calls result) }
+        ensures within { TouchesFile self.file (M.calls result) }
     {
         let Out {
             mut machine,

@@ -4,7 +4,7 @@
 ghost use Rattle.age_machine.specs.Laws.{WaitsAreAnswered, TornIfUnwaited, TornIfRenamedFirst};
 ghost use Rattle.age_machine.specs.Laws.{LostIfNamesUnwaited, OutsAreAnswered, TornIfUnsynced};
 ghost use Rattle.age_machine.specs.Laws.{TornIfCutLast, SecondRunIsHarmless, ChangedIfLockedLate};
-ghost use Rattle.age_machine.specs.Laws.{OthersAreKept};
+ghost use Rattle.age_machine.specs.Laws.{OthersAreKept, NumbersAreApart};
 
 /// There is a disk that answers the calls of a replacement, by a link or by a rename, and on which a
 /// power cut may leave the new file.
@@ -56,4 +56,9 @@ pub fn changed_if_locked_late()
 /// An output changes no other file.
 pub fn others_are_kept()
     ensures { OthersAreKept }
+{}
+
+/// Two files have one number only if they are one.
+pub fn numbers_are_apart()
+    ensures { NumbersAreApart }
 {}

@@ -4,14 +4,22 @@ ghost use Rattle.std.specs.Prelude.{◌≡◌, ◌≤◌, ◌<◌, ℕ, List, �
 ghost use Rattle.std.specs.Prelude.{OnOk, OnErr, MatchOption};
 ghost use Rattle.age_machine.specs.Calls.{FileCall, Made, Opened, Wrote, Cut, Broke, Measured, Synced};
 ghost use Rattle.age_machine.specs.Calls.{Unwaited, Locked, Unlockable, Missing, Linked, Renamed, Removed};
-ghost use Rattle.age_machine.specs.Calls.{SyncedNames, UnwaitedNames, MayHave, Waited};
+ghost use Rattle.age_machine.specs.Calls.{SyncedNames, UnwaitedNames, MayHave, Waited, CountsFailure};
 
 use std::io;
+
+/// What was opened.
+#[derive(Clone, Copy)]
+pub enum Kind {
+    /// A regular file; whether the path is known to lead to it.
+    Regular(bool),
+    /// No regular file: a device or a pipe.
+    Device,
+}
 
 /// What a file is now.
 #[derive(Clone, Copy)]
 pub struct Sight {
-    pub is_regular: bool,
     /// It has a name.
     pub is_named: bool,
     pub len: u64,
@@ -53,25 +61,22 @@ pub trait Machine {
         ensures ok { IfOk result
             (λ f. calls self.new ≡ Made path.now (number f) ∷ calls self.old) }
         ensures err { OnErr result (calls self.new ≡ calls self.old) }
-        ensures counted { OnOk result (failed self.new ≡ failed self.old) }
-        ensures failing { OnErr result (failed self.old < failed self.new) };
+        ensures counted { CountsFailure result (failed self.old) (failed self.new) };
 
     /// Makes an empty output, like `make`. Each write to it goes to its end.
     fn make_output(&mut self, path: &str) -> io::Result<Self::File>
         ensures ok { IfOk result
             (λ f. calls self.new ≡ Made path.now (number f) ∷ calls self.old) }
         ensures err { OnErr result (calls self.new ≡ calls self.old) }
-        ensures counted { OnOk result (failed self.new ≡ failed self.old) }
-        ensures failing { OnErr result (failed self.old < failed self.new) };
+        ensures counted { CountsFailure result (failed self.old) (failed self.new) };
 
-    /// Opens what a name leads to, without emptying it; `None` if that is nothing. The path is that
-    /// at the end of the name's links.
-    fn open(&mut self, name: &str, path: &str) -> io::Result<Option<Self::File>>
+    /// Opens what a name leads to, without emptying it, and says what it is; `None` if that is
+    /// nothing. The path is that at the end of the name's links.
+    fn open(&mut self, name: &str, path: &str) -> io::Result<Option<(Self::File, Kind)>>
         ensures ok { IfOk result (λ found. MatchOption found (calls self.new ≡ calls self.old)
-            (λ f. calls self.new ≡ Opened path.now (number f) ∷ calls self.old)) }
+            (λ f. calls self.new ≡ Opened path.now (number f.0) f.1 ∷ calls self.old)) }
         ensures err { OnErr result (calls self.new ≡ calls self.old) }
-        ensures counted { OnOk result (failed self.new ≡ failed self.old) }
-        ensures failing { OnErr result (failed self.old < failed self.new) };
+        ensures counted { CountsFailure result (failed self.old) (failed self.new) };
 
     /// What a file is now.
     fn look(&self, file: &Self::File) -> io::Result<Sight>;
@@ -79,8 +84,7 @@ pub trait Machine {
     /// Fails if a file doesn't look as it is to.
     fn check(&mut self, file: &Self::File, shape: &Shape) -> io::Result<()>
         ensures same { calls self.new ≡ calls self.old }
-        ensures counted { OnOk result (failed self.new ≡ failed self.old) }
-        ensures failing { OnErr result (failed self.old < failed self.new) };
+        ensures counted { CountsFailure result (failed self.old) (failed self.new) };
 
     /// Takes a file for this run alone, until it is ended, if the system has locks. Fails if another
     /// run has it.
@@ -88,8 +92,7 @@ pub trait Machine {
         ensures ok { OnOk result (Waited (Locked (number file.now)) (Unlockable (number file.now))
             (calls self.old) (calls self.new)) }
         ensures err { OnErr result (calls self.new ≡ calls self.old) }
-        ensures counted { OnOk result (failed self.new ≡ failed self.old) }
-        ensures failing { OnErr result (failed self.old < failed self.new) };
+        ensures counted { CountsFailure result (failed self.old) (failed self.new) };
 
     /// Whether this run alone has a file. It is taken for this run then.
     fn is_alone(&self, file: &Self::File) -> bool;
@@ -101,47 +104,41 @@ pub trait Machine {
         ensures ok { IfOk result (λ n. calls self.new
             ≡ Wrote (number file.now) at (take n bytes.now) ∷ calls self.old) }
         ensures err { OnErr result (calls self.new ≡ Broke (number file.now) ∷ calls self.old) }
-        ensures counted { OnOk result (failed self.new ≡ failed self.old) }
-        ensures failing { OnErr result (failed self.old < failed self.new) };
+        ensures counted { CountsFailure result (failed self.old) (failed self.new) };
 
     /// How many bytes a file has.
     fn len(&mut self, file: &Self::File) -> io::Result<u64>
         ensures ok { IfOk result (λ len. calls self.new
             ≡ Measured (number file.now) len ∷ calls self.old) }
         ensures err { OnErr result (calls self.new ≡ calls self.old) }
-        ensures counted { OnOk result (failed self.new ≡ failed self.old) }
-        ensures failing { OnErr result (failed self.old < failed self.new) };
+        ensures counted { CountsFailure result (failed self.old) (failed self.new) };
 
     /// Cuts a file off after this many bytes.
     fn cut(&mut self, file: &Self::File, len: u64) -> io::Result<()>
         ensures ok { OnOk result (calls self.new ≡ Cut (number file.now) len ∷ calls self.old) }
         ensures err { OnErr result (calls self.new ≡ Broke (number file.now) ∷ calls self.old) }
-        ensures counted { OnOk result (failed self.new ≡ failed self.old) }
-        ensures failing { OnErr result (failed self.old < failed self.new) };
+        ensures counted { CountsFailure result (failed self.old) (failed self.new) };
 
     /// Waits until what a file holds has reached the disk, if the system can.
     fn sync(&mut self, file: &Self::File) -> io::Result<()>
         ensures ok { OnOk result (Waited (Synced (number file.now)) (Unwaited (number file.now))
             (calls self.old) (calls self.new)) }
         ensures err { OnErr result (calls self.new ≡ Broke (number file.now) ∷ calls self.old) }
-        ensures counted { OnOk result (failed self.new ≡ failed self.old) }
-        ensures failing { OnErr result (failed self.old < failed self.new) };
+        ensures counted { CountsFailure result (failed self.old) (failed self.new) };
 
     /// Lets the system say whether what was written has failed, as it does when a file is closed. It
     /// stays open.
     fn close(&mut self, file: &Self::File) -> io::Result<()>
         ensures ok { OnOk result (calls self.new ≡ calls self.old) }
         ensures err { OnErr result (calls self.new ≡ Broke (number file.now) ∷ calls self.old) }
-        ensures counted { OnOk result (failed self.new ≡ failed self.old) }
-        ensures failing { OnErr result (failed self.old < failed self.new) };
+        ensures counted { CountsFailure result (failed self.old) (failed self.new) };
 
     /// Waits until the names in the folder of a path have reached the disk, if the system can.
     fn sync_names(&mut self, path: &str) -> io::Result<()>
         ensures ok { OnOk result (Waited (SyncedNames path.now) (UnwaitedNames path.now)
             (calls self.old) (calls self.new)) }
         ensures err { OnErr result (calls self.new ≡ calls self.old) }
-        ensures counted { OnOk result (failed self.new ≡ failed self.old) }
-        ensures failing { OnErr result (failed self.old < failed self.new) };
+        ensures counted { CountsFailure result (failed self.old) (failed self.new) };
 
     /// The same for a name that another program made: the system can't wait if the folder can't be
     /// read.
@@ -149,14 +146,12 @@ pub trait Machine {
         ensures ok { OnOk result (Waited (SyncedNames path.now) (UnwaitedNames path.now)
             (calls self.old) (calls self.new)) }
         ensures err { OnErr result (calls self.new ≡ calls self.old) }
-        ensures counted { OnOk result (failed self.new ≡ failed self.old) }
-        ensures failing { OnErr result (failed self.old < failed self.new) };
+        ensures counted { CountsFailure result (failed self.old) (failed self.new) };
 
     /// Fails if a path no longer leads into the same folder.
     fn check_folder(&mut self, folder: Option<&Self::Folder>, path: &str) -> io::Result<()>
         ensures same { calls self.new ≡ calls self.old }
-        ensures counted { OnOk result (failed self.new ≡ failed self.old) }
-        ensures failing { OnErr result (failed self.old < failed self.new) };
+        ensures counted { CountsFailure result (failed self.old) (failed self.new) };
 
     /// Whether nothing is at a path, not even a link.
     fn is_free(&mut self, path: &str) -> io::Result<bool>
@@ -164,8 +159,7 @@ pub trait Machine {
             → calls self.new ≡ Missing path.now ∷ calls self.old) }
         ensures taken { IfOk result (λ free. free ≡ false → calls self.new ≡ calls self.old) }
         ensures err { OnErr result (calls self.new ≡ calls self.old) }
-        ensures counted { OnOk result (failed self.new ≡ failed self.old) }
-        ensures failing { OnErr result (failed self.old < failed self.new) };
+        ensures counted { CountsFailure result (failed self.old) (failed self.new) };
 
     /// Whether a file is the one at a path, without following a link.
     fn is_at(&self, file: &Self::File, path: &str) -> bool;
@@ -175,16 +169,14 @@ pub trait Machine {
         ensures ok { OnOk result (calls self.new ≡ Linked from.now to.now ∷ calls self.old) }
         ensures err { OnErr result
             (MayHave (Linked from.now to.now) (calls self.old) (calls self.new)) }
-        ensures counted { OnOk result (failed self.new ≡ failed self.old) }
-        ensures failing { OnErr result (failed self.old < failed self.new) };
+        ensures counted { CountsFailure result (failed self.old) (failed self.new) };
 
     /// Gives a file another path, in place of what is there.
     fn rename(&mut self, from: &str, to: &str) -> io::Result<()>
         ensures ok { OnOk result (calls self.new ≡ Renamed from.now to.now ∷ calls self.old) }
         ensures err { OnErr result
             (MayHave (Renamed from.now to.now) (calls self.old) (calls self.new)) }
-        ensures counted { OnOk result (failed self.new ≡ failed self.old) }
-        ensures failing { OnErr result (failed self.old < failed self.new) };
+        ensures counted { CountsFailure result (failed self.old) (failed self.new) };
 
     /// Removes what is at a path, unless by now that is another file than this one.
     fn remove(&mut self, file: &Self::File, path: &str)

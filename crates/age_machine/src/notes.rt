@@ -6,14 +6,16 @@ ghost use Rattle.std.specs.Coded.{coded_list};
 ghost use Rattle.age_machine.specs.Calls.{FileCall};
 ghost use Rattle.age_machine.specs.inner.Calls.{coded_call, file_call_of};
 
+use crate::machine::Kind;
 use crate::node::Node;
+use age_io::Tape;
 use std::marker::Model;
 
 /// A call, as code has it.
 #[derive(Clone, Copy)]
 pub(crate) enum Word<'a> {
     Made(&'a str, Node),
-    Opened(&'a str, Node),
+    Opened(&'a str, Node, Kind),
     Wrote(Node, u64, &'a [u8]),
     Cut(Node, u64),
     Broke(Node),
@@ -103,38 +105,19 @@ impl Calls {
     }
 }
 
-// A number that no code holds: the proofs of `zero` and `raise` set it.
-#[derive(Drop)]
-struct Count {
-    pub ghost number: { ℕ },
-}
-
-impl Model for Count {
-    ghost also_owns = { λ _. ftrue };
-}
-
-impl Count {
-    fn zero() -> Count
-        ensures { result.number ≡ 0 }
-    {
-        Count {}
-    }
-
-    fn raise(&mut self)
-        ensures { self.new.number ≡ self.old.number + 1 }
-    {}
-}
-
-/// How many calls have failed, for contracts alone. It has no bytes at run time.
+/// How many calls have failed, for contracts alone: a byte for each, on a tape that has none at run
+/// time.
 #[derive(Drop)]
 pub(crate) struct Failed {
-    count: Count,
+    tape: Tape,
 }
 
 impl Model for Failed {
+    ghost use Rattle.std.specs.Prelude.{ℕ, length};
+
     ghost Value = { ℕ };
 
-    ghost view = { λ failed. failed.count.number };
+    ghost view = { λ failed. length failed.tape };
 }
 
 impl Failed {
@@ -142,15 +125,13 @@ impl Failed {
     pub(crate) fn new() -> Failed
         ensures { result ≡ 0 }
     {
-        Failed {
-            count: Count::zero(),
-        }
+        Failed { tape: Tape::new() }
     }
 
     /// One more call has failed.
     pub(crate) fn note(&mut self)
         ensures { self.new ≡ self.old + 1 }
     {
-        self.count.raise();
+        self.tape.note(&[0]);
     }
 }

@@ -4,8 +4,9 @@ ghost use Rattle.std.specs.Prelude.{◌≡◌, ◌≢◌, ◌⊎◌, ◌≤◌, 
 ghost use Rattle.std.specs.Prelude.{OnErr, Err};
 ghost use Rattle.age_io.specs.declared.durability.Durability.TheVariants as wait;
 ghost use Rattle.age_machine.specs.Calls.{FileCall, Renamed, SyncedNames, UnwaitedNames, MayHave, Waited};
-ghost use Rattle.age_machine.specs.Saves.{SavesWhole, IsSafe, SparesFile, Touches};
-ghost use Rattle.age_machine.specs.Beside.{IsBeside, IsSound};
+ghost use Rattle.age_machine.specs.Saves.{IsSafe};
+ghost use Rattle.age_machine.specs.Saved.{Replaces};
+ghost use Rattle.age_machine.specs.Beside.{IsKept};
 ghost use Rattle.age_machine.specs.declared.beside.Unplaced.{Unplaced};
 ghost use Rattle.age_machine.specs.declared.beside.Unplaced.TheVariants.{Memory};
 ghost use Rattle.age_machine.specs.declared.replacing.Spot.TheVariants as spot;
@@ -227,35 +228,7 @@ fn place<M: Machine>(
     Ok(())
 }
 
-/// Fills a file that was made beside a path, and puts it there.
-fn fill_and_place<M: Machine>(
-    machine: &mut M,
-    folder: Option<&M::Folder>,
-    new: &Beside<M::File>,
-    path: &str,
-    to: Spot,
-    bytes: &[u8],
-    durability: Durability,
-) -> Result<(), Unplaced>
-    ensures tried { (old : List FileCall)
-        → IsBeside path.now (string_bytes new.now.path) (M.number new.now.file) old
-        (M.calls machine.old)
-        → IsSound (M.number new.now.file) (M.calls machine.old)
-        → HasTried to durability path.now (string_bytes new.now.path) (M.number new.now.file)
-        bytes.now old (M.calls machine.new) }
-    ensures safe { durability ≡ wait.Synced → (old : List FileCall)
-        → IsBeside path.now (string_bytes new.now.path) (M.number new.now.file) old
-        (M.calls machine.old)
-        → IsSound (M.number new.now.file) (M.calls machine.old)
-        → OnOk result (IsSafe path.now bytes.now (M.calls machine.new)) }
-    ensures counted { M.failed machine.old ≤ M.failed machine.new }
-    ensures caused { OnErr result (M.failed machine.old < M.failed machine.new) }
-{
-    fill(machine, &new.file, bytes, durability)?;
-    place(machine, folder, new, path, to, durability)
-}
-
-/// Does the same, and removes the file if that fails.
+/// Fills a file that was made beside a path, and puts it there. The file is removed if that fails.
 fn place_or_remove<M: Machine>(
     machine: &mut M,
     folder: Option<&M::Folder>,
@@ -265,27 +238,21 @@ fn place_or_remove<M: Machine>(
     bytes: &[u8],
     durability: Durability,
 ) -> Result<(), Unplaced>
-    ensures tried { (old : List FileCall)
-        → IsBeside path.now (string_bytes new.now.path) (M.number new.now.file) old
-        (M.calls machine.old)
-        → IsSound (M.number new.now.file) (M.calls machine.old)
-        → HasTried to durability path.now (string_bytes new.now.path) (M.number new.now.file)
-        bytes.now old (M.calls machine.new) }
-    ensures safe { durability ≡ wait.Synced → (old : List FileCall)
-        → IsBeside path.now (string_bytes new.now.path) (M.number new.now.file) old
-        (M.calls machine.old)
-        → IsSound (M.number new.now.file) (M.calls machine.old)
-        → OnOk result (IsSafe path.now bytes.now (M.calls machine.new)) }
+    ensures replaces { (old : List FileCall)
+        → IsKept path.now (string_bytes new.now.path) (M.number new.now.file) old (M.calls machine.old)
+        → Replaces to bytes.now durability result old (M.calls machine.new) path.now }
     ensures counted { M.failed machine.old ≤ M.failed machine.new }
     ensures caused { OnErr result (M.failed machine.old < M.failed machine.new) }
 {
-    match fill_and_place(machine, folder, new, path, to, bytes, durability) {
-        Ok(()) => Ok(()),
-        Err(unplaced) => {
-            machine.remove(&new.file, new.path.as_str());
-            Err(unplaced)
-        }
-    }
+    let why = match fill(machine, &new.file, bytes, durability) {
+        Ok(()) => match place(machine, folder, new, path, to, durability) {
+            Ok(()) => return Ok(()),
+            Err(why) => why,
+        },
+        Err(error) => Unplaced::Failed(error),
+    };
+    machine.remove(&new.file, new.path.as_str());
+    Err(why)
 }
 
 /// Puts a new file of these bytes to a path. What is there stays as it is until the new one is
@@ -300,14 +267,8 @@ pub fn replace_by_new<M: Machine>(
     bytes: &[u8],
     durability: Durability,
 ) -> Result<(), Unplaced>
-    // Whatever fails, and whenever the power is cut.
-    ensures whole { durability ≡ wait.Synced
-        → SavesWhole path.now bytes.now (M.calls machine.old) (M.calls machine.new) }
-    ensures safe { durability ≡ wait.Synced
-        → OnOk result (IsSafe path.now bytes.now (M.calls machine.new)) }
-    ensures spares { to ≡ spot.Free
-        → SparesFile path.now (M.calls machine.old) (M.calls machine.new) }
-    ensures touches { Touches path.now (M.calls machine.old) (M.calls machine.new) }
+    ensures replaces { Replaces to bytes.now durability result (M.calls machine.old)
+        (M.calls machine.new) path.now }
     ensures counted { M.failed machine.old ≤ M.failed machine.new }
     ensures caused { (why : Unplaced) → result ≡ Err why → why ≢ Memory
         → M.failed machine.old < M.failed machine.new }
@@ -331,26 +292,10 @@ pub fn replace_by_kept<M: Machine>(
     durability: Durability,
 ) -> Result<(), Unplaced>
     // The old calls are those before the file was made.
-    ensures whole { durability ≡ wait.Synced → (old : List FileCall)
-        → IsBeside path.now (string_bytes kept.now.path) (M.number kept.now.file) old
+    ensures replaces { (old : List FileCall)
+        → IsKept path.now (string_bytes kept.now.path) (M.number kept.now.file) old
         (M.calls machine.old)
-        → IsSound (M.number kept.now.file) (M.calls machine.old)
-        → SavesWhole path.now bytes.now old (M.calls machine.new) }
-    ensures safe { durability ≡ wait.Synced → (old : List FileCall)
-        → IsBeside path.now (string_bytes kept.now.path) (M.number kept.now.file) old
-        (M.calls machine.old)
-        → IsSound (M.number kept.now.file) (M.calls machine.old)
-        → OnOk result (IsSafe path.now bytes.now (M.calls machine.new)) }
-    ensures spares { to ≡ spot.Free → (old : List FileCall)
-        → IsBeside path.now (string_bytes kept.now.path) (M.number kept.now.file) old
-        (M.calls machine.old)
-        → IsSound (M.number kept.now.file) (M.calls machine.old)
-        → SparesFile path.now old (M.calls machine.new) }
-    ensures touches { (old : List FileCall)
-        → IsBeside path.now (string_bytes kept.now.path) (M.number kept.now.file) old
-        (M.calls machine.old)
-        → IsSound (M.number kept.now.file) (M.calls machine.old)
-        → Touches path.now old (M.calls machine.new) }
+        → Replaces to bytes.now durability result old (M.calls machine.new) path.now }
     ensures caused { (why : Unplaced) → result ≡ Err why → why ≢ Memory
         → M.failed machine.old < M.failed machine.new }
 {

@@ -21,7 +21,7 @@ use Rattle.age_command.specs.declared.ending.Ending.{Ending}
 use Rattle.age_command.specs.declared.ending.Ending.TheVariants.{Unsaved}
 use Rattle.age_command.specs.Orders.{Follows, replacing}
 use Rattle.age_command.specs.Files.{SparesBut, SparesBoth}
-use Rattle.age_machine.specs.Ends.{EndedFile, TouchesItself, IsOnDisk, IsUntouched}
+use Rattle.age_machine.specs.Ends.{EndedFile, TouchesItself, IsThere, IsOnDisk, IsUntouched}
 use Rattle.age_cli.specs.Acts.{EndsOf, IsEndingOf, HasSaved}
 use Rattle.age_cli.specs.declared.interruption.Interruption.{Interruption}
 
@@ -79,6 +79,10 @@ pub record EndsFile {E : Type 0} (durability : Durability) (sink : SinkView)
     : Type 0 where
   pub took : out.took ≡ sink.taken.bytes
   pub within : TouchesItself out
+  -- Ok says that it was closed.
+  pub closed : OnOk result (out.is_closed ≡ true)
+  -- It is there, if no put has failed.
+  pub there : sink.failed ≡ 0 → OnOk result (IsThere out)
   -- It is on the disk, if that was waited for and no put has failed.
   pub safe : durability ≡ Synced → sink.failed ≡ 0 → OnOk result (IsOnDisk out)
   -- After a stop it is untouched, if nothing was taken.

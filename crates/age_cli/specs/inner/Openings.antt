@@ -31,10 +31,10 @@ IsReadAs d name = (d.from.now ≡ name)
 -- ---- The position that is saved.
 
 -- the position stands in the file of this name, if both are there, and nothing differs if one isn't
-abbrev pub Stands : Option Text → Option Position → Files → Files → Type 0
-Stands (Some name) (Some position) old new = new name ≡ Some (position_text position)
-Stands None position old new = new ≡ old
-Stands (Some name) None old new = new ≡ old
+abbrev pub IsStored : Option Text → Option Position → Files → Files → Type 0
+IsStored (Some name) (Some position) old new = new name ≡ Some (position_text position)
+IsStored None position old new = new ≡ old
+IsStored (Some name) None old new = new ≡ old
 
 -- ---- How files are opened and made before anything is written.
 

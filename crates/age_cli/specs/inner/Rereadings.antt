@@ -93,12 +93,12 @@ pub record HoldsInput (d : Decrypting) (before : Ports) (old : FilesView) : Type
 
 -- What was opened was decrypted, and OUT was ended. `decrypted` is how it ended; of a stop, it has
 -- the position that is saved, if contracts see the files and IN and OUT are two of them.
-pub record DecryptsOpened (IsPorts : Ports → Type 0) (shows : Bool) (d : Decrypting)
+pub record DecryptsOpened (IsPorts : Option (List ℕ) → Ports → Type 0) (shows : Bool) (d : Decrypting)
     (identity : Identity) (before : Ports) (old new : FilesView) (Unshown : Type 0)
     (Progress : Option (List ℕ) → Result (Unit {0}) Ending → Type 0)
     (result : Result (Unit {0}) Ending) : Type 0 where
   pub after : Ports
-  pub after_is : IsPorts after
+  pub after_is : IsPorts None after
   pub decrypted : Result Done Stopped
   pub run : Option Run
   pub done : IfOk decrypted
@@ -115,15 +115,15 @@ pub record DecryptsOpened (IsPorts : Ports → Type 0) (shows : Bool) (d : Decry
       → (shows ≡ true → before.source.supply.left ≡ input) → Progress input result
 
 -- The same of what was opened and resumed from a position, after the old text of a source.
-pub record ResumesOpened (IsPorts : Ports → Type 0) (shows : Bool) (d : Decrypting)
+pub record ResumesOpened (IsPorts : Option (List ℕ) → Ports → Type 0) (shows : Bool) (d : Decrypting)
     (identity : Identity) (from : Position) (first : SourceView) (before : Ports)
     (old new : FilesView) (Unshown : Type 0)
     (Progress : Option (List ℕ) → Result (Unit {0}) Ending → Type 0)
     (result : Result (Unit {0}) Ending) : Type 0 where
   pub after : Ports
-  pub after_is : IsPorts after
+  pub after_is : IsPorts None after
   pub last : SourceView
-  pub last_is : IsPorts (ports last after.sink)
+  pub last_is : IsPorts None (ports last after.sink)
   pub resumed : Result Done Stopped
   pub run : Option Run
   pub done : IfOk resumed (λ done. IsSomeAnd run (ResumeEnds (allows_by identity) from

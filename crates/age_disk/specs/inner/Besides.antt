@@ -1,7 +1,6 @@
 -- A file that was made beside a path, to be put there later.
-use Rattle.std.specs.Prelude.{ℕ, List, []}
+use Rattle.std.specs.Prelude.{ℕ, List}
 use Rattle.age_machine.specs.Calls.{FileCall}
-use Rattle.age_machine.specs.Beside.{IsBeside, IsSound}
 
 -- the path that it is to have, its own one, which file it is, and the calls that made it
 pub record KeptView : Type 0 where
@@ -9,8 +8,3 @@ pub record KeptView : Type 0 where
   pub from : List ℕ
   pub number : ℕ
   pub calls : List FileCall
-
--- these calls made it there, and none about it has failed
-pub record IsKept (kept : KeptView) : Type 0 where
-  pub beside : IsBeside kept.path kept.from kept.number [] kept.calls
-  pub sound : IsSound kept.number kept.calls

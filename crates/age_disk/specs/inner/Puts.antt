@@ -1,7 +1,15 @@
--- What a put does to a file that is written. Private: no public contract cites this module.
+-- What is done to a file that is written. Private: no public contract cites this module.
 use Rattle.std.specs.Prelude.{◌≡◌, ℕ, List, [], ◌++◌, take, Bool, true, false, Option, Some, None}
 use Rattle.std.specs.Prelude.{Result, Ok, Err}
+use Rattle.age_machine.specs.Calls.{FileCall}
 use Rattle.age_machine.specs.Outs.{OutView, text_of}
+use Rattle.age_disk.specs.declared.output.Target.{Target}
+use Rattle.age_disk.specs.declared.output.Target.TheVariants as target
+
+-- the calls that opened what is no regular file
+abbrev pub opening_calls : Target → List FileCall
+opening_calls (target.Device device) = device.machine.calls
+opening_calls other = []
 
 -- what a put took of these bytes
 abbrev pub part_of : {E : Type 0} → Result ℕ E → List ℕ → List ℕ

@@ -1,18 +1,20 @@
 -- How code notes calls. Private: no public contract cites this module.
-use Rattle.std.specs.Prelude.{◌≡◌, ◌⊎◌, ℕ, List, refl}
-use Rattle.std.specs.Coded.{Coded, coded_ℕ, coded_list, coded⊎, coded×, code_by}
+use Rattle.std.specs.Prelude.{◌≡◌, ◌⊎◌, ℕ, List, Bool, Option, Some, None, refl}
+use Rattle.std.specs.Coded.{Coded, coded_ℕ, coded_bool, coded_list, coded⊎, coded×, coded_option, code_by}
 use mathlib.Core.Logic.{inl, inr}
 use Rattle.age_machine.specs.Calls.{FileCall, Made, Opened, Wrote, Cut, Broke, Measured, Synced, Unwaited}
 use Rattle.age_machine.specs.Calls.{Locked, Unlockable, Missing, Linked, Renamed, Removed}
 use Rattle.age_machine.specs.Calls.{SyncedNames, UnwaitedNames}
 use Rattle.age_machine.specs.Numbers.{number_of}
+use Rattle.age_machine.specs.declared.machine.Kind.{Kind}
+use Rattle.age_machine.specs.declared.machine.Kind.TheVariants.{Regular, Device}
 use Rattle.age_machine.specs.declared.notes.Word.{Word}
 use Rattle.age_machine.specs.declared.notes.Word.TheVariants as word
 
 -- the call that a word says
 abbrev pub file_call_of : Word → FileCall
 file_call_of (word.Made path node) = Made path.now (number_of node)
-file_call_of (word.Opened path node) = Opened path.now (number_of node)
+file_call_of (word.Opened path node kind) = Opened path.now (number_of node) kind
 file_call_of (word.Wrote node at bytes) = Wrote (number_of node) at bytes.now
 file_call_of (word.Cut node len) = Cut (number_of node) len
 file_call_of (word.Broke node) = Broke (number_of node)
@@ -36,7 +38,7 @@ abbrev FileParts : Type 0
 FileParts = (Text × ℕ) ⊎ ((ℕ × (ℕ × Text)) ⊎ ((ℕ × ℕ) ⊎ (ℕ ⊎ ((ℕ × ℕ) ⊎ (ℕ ⊎ (ℕ ⊎ (ℕ ⊎ ℕ)))))))
 
 abbrev NameParts : Type 0
-NameParts = Text ⊎ ((Text × Text) ⊎ ((Text × Text) ⊎ (Text ⊎ (Text ⊎ (Text ⊎ (Text × ℕ))))))
+NameParts = Text ⊎ ((Text × Text) ⊎ ((Text × Text) ⊎ (Text ⊎ (Text ⊎ (Text ⊎ (Text × (ℕ × Option Bool)))))))
 
 abbrev parts_of : FileCall → FileParts ⊎ NameParts
 parts_of (Made path n) = inl (inl (path, n))
@@ -54,7 +56,13 @@ parts_of (Renamed from to) = inr (inr (inr (inl (from, to))))
 parts_of (Removed path) = inr (inr (inr (inr (inl path))))
 parts_of (SyncedNames path) = inr (inr (inr (inr (inr (inl path)))))
 parts_of (UnwaitedNames path) = inr (inr (inr (inr (inr (inr (inl path))))))
-parts_of (Opened path n) = inr (inr (inr (inr (inr (inr (inr (path, n)))))))
+parts_of (Opened path n (Regular is_named)) =
+    inr (inr (inr (inr (inr (inr (inr (path, (n, Some is_named))))))))
+parts_of (Opened path n Device) = inr (inr (inr (inr (inr (inr (inr (path, (n, None))))))))
+
+abbrev kind_of : Option Bool → Kind
+kind_of (Some is_named) = Regular is_named
+kind_of None = Device
 
 abbrev from_parts : FileParts ⊎ NameParts → FileCall
 from_parts (inl (inl made)) = Made made.0 made.1
@@ -72,7 +80,8 @@ from_parts (inr (inr (inr (inl renamed)))) = Renamed renamed.0 renamed.1
 from_parts (inr (inr (inr (inr (inl path))))) = Removed path
 from_parts (inr (inr (inr (inr (inr (inl path)))))) = SyncedNames path
 from_parts (inr (inr (inr (inr (inr (inr (inl path))))))) = UnwaitedNames path
-from_parts (inr (inr (inr (inr (inr (inr (inr opened))))))) = Opened opened.0 opened.1
+from_parts (inr (inr (inr (inr (inr (inr (inr opened))))))) =
+    Opened opened.0 opened.1.0 (kind_of opened.1.1)
 
 pub from_parts-parts_of : (call : FileCall) → from_parts (parts_of call) ≡ call
 from_parts-parts_of (Made path n) = refl
@@ -90,7 +99,8 @@ from_parts-parts_of (Renamed from to) = refl
 from_parts-parts_of (Removed path) = refl
 from_parts-parts_of (SyncedNames path) = refl
 from_parts-parts_of (UnwaitedNames path) = refl
-from_parts-parts_of (Opened path n) = refl
+from_parts-parts_of (Opened path n (Regular is_named)) = refl
+from_parts-parts_of (Opened path n Device) = refl
 
 abbrev coded_text : Coded (List ℕ)
 coded_text = coded_list coded_ℕ
@@ -102,5 +112,5 @@ coded_call = code_by (FileParts ⊎ NameParts)
     (coded⊎ coded_ℕ (coded⊎ coded_ℕ (coded⊎ coded_ℕ coded_ℕ))))))))
     (coded⊎ coded_text (coded⊎ (coded× coded_text coded_text)
     (coded⊎ (coded× coded_text coded_text) (coded⊎ coded_text (coded⊎ coded_text (coded⊎ coded_text
-    (coded× coded_text coded_ℕ))))))))
+    (coded× coded_text (coded× coded_ℕ (coded_option coded_bool))))))))))
     parts_of from_parts from_parts-parts_of

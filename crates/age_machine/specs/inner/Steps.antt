@@ -1,5 +1,6 @@
 -- What the steps of a replacement do. Private: no public contract cites this module.
-use Rattle.std.specs.Prelude.{◌≡◌, ◌≢◌, ◌⊎◌, ℕ, List, [], ◌∷◌, ◌++◌, take, drop, true, false, Some}
+use Rattle.std.specs.Prelude.{◌≡◌, ◌≢◌, ◌⊎◌, ℕ, List, [], ◌∷◌, ◌++◌, take, drop, Bool, true, false, Some}
+use Rattle.std.specs.Prelude.{Contains}
 use Rattle.age_io.specs.declared.durability.Durability.{Durability}
 use Rattle.age_io.specs.declared.durability.Durability.TheVariants as wait
 use Rattle.age_machine.specs.Calls.{FileCall, Removed, SyncedNames, UnwaitedNames, IsOf, MayHave, Waited}
@@ -7,6 +8,8 @@ use Rattle.age_machine.specs.Disk.{Disk, after_calls}
 use Rattle.age_machine.specs.Saves.{AllAnswered, SavesWhole, SparesFile}
 use Rattle.age_machine.specs.Beside.{HasBeside}
 use Rattle.age_machine.specs.Outs.{AllOn, IsClaimed, LocksFirst}
+use Rattle.age_machine.specs.declared.in_place.Opening.{Opening}
+use Rattle.age_machine.specs.declared.in_place.Opening.TheVariants as way
 use Rattle.age_machine.specs.declared.replacing.Spot.{Spot}
 use Rattle.age_machine.specs.declared.replacing.Spot.TheVariants as spot
 
@@ -50,14 +53,20 @@ pub record Fills (n : ℕ) (bytes : List ℕ) (old new : List FileCall) : Type 0
 
 -- ---- A file that is written in place.
 
--- all calls are about one path and one file, which was claimed before it was changed
-pub record IsHeld (path : List ℕ) (n : ℕ) (calls : List FileCall) : Type 0 where
+-- all calls are about one path and one file, which was opened and then claimed before it was changed
+pub record IsHeld (path : List ℕ) (n : ℕ) (opening : FileCall) (calls : List FileCall) : Type 0 where
+  pub opened : Contains calls opening
   pub on : AllOn path n calls
   pub claimed : IsClaimed n calls
   pub locked : LocksFirst n calls
 
-abbrev pub StaysHeld : List ℕ → ℕ → List FileCall → List FileCall → Type 0
-StaysHeld path n old new = IsHeld path n old → IsHeld path n new
+-- the name of a file that was opened so is waited for
+abbrev pub is_waited : Opening → Bool
+is_waited way.New = true
+is_waited (way.Found named waited) = waited
+
+abbrev pub StaysHeld : List ℕ → ℕ → FileCall → List FileCall → List FileCall → Type 0
+StaysHeld path n opening old new = IsHeld path n opening old → IsHeld path n opening new
 
 -- what is at a path is removed, and its name waited for, or not
 pub record RemovesAt (path : List ℕ) (old new : List FileCall) : Type 0 where

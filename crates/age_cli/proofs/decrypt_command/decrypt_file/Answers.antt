@@ -1,9 +1,9 @@
 use Rattle.std.proofs.Common.{◌∙◌, ◌++◌, ◌∷◌, [], ap, inl, inr, refl, sym, subst, true≢false, Some}
 use Rattle.age_file.specs.Runs.{ports}
-use Rattle.age_fileset.specs.FileSet.{Opened, Created}
+use Rattle.age_fileset.specs.FileSet.{Opened}
 use Rattle.age_cli_args.specs.Requests.{option_text}
 use Rattle.age_cli_args.specs.declared.request.Request.TheVariants.{Decrypt}
-use Rattle.age_command.specs.Orders.{identity_order, preparing, making}
+use Rattle.age_command.specs.Orders.{creating, identity_order, preparing, making}
 use Rattle.age_command.specs.Files.{Files, SourceFails}
 use Rattle.age_command.specs.declared.ending.Ending.{Ending}
 use Rattle.age_command.specs.declared.ending.Ending.TheVariants.{Usage}
@@ -34,7 +34,7 @@ returns-in_err-secret-clause-acts g c =
     let e : Ending = c.in_err-secret.field-0.0 in
     let judged = in_order _ _ _ _ _ _ _ _ _ _ c.in_ok-choice.ensures.chooses.order c.in_err-secret.ensures in
     acts_early _ _ (Decrypt d) _ _ _ _ _ c.from_residual-in_err-secret.result e c.from_residual-in_err-secret.ensures judged.kept (inl judged.early, inl judged.unended) (λ shown. judged.early) judged.reason
-    (longer _ (Opened d.from.now ∷ (preparing (option_text d.save) ++ making (Some d.to.now) d.durability)) _ _ judged.followed) (λ shown usage. judged.followed)
+    (longer _ (Opened d.from.now ∷ (preparing (option_text d.save) ++ making d.clobber (Some d.to.now) d.durability)) _ _ judged.followed) (λ shown usage. judged.followed)
     (λ twice. judged.apart (c.names_a_file_twice-is_file_named_twice.ensures.twice twice))
     (λ shown usage. let named = judged.blamed shown usage in inl (named.0, c.names_a_file_twice-is_file_named_twice.ensures.shown shown named.1)) refl
 
@@ -47,7 +47,7 @@ returns-in_err-identity-clause-acts g c =
     let e : Ending = Usage c.in_err-identity.field-0.0 in
     let judged = in_order _ _ _ _ _ _ _ _ _ _ c.in_ok-choice.ensures.chooses.order c.in_ok-secret.ensures in
     acts_early _ _ (Decrypt d) _ _ _ _ _ c.from_residual-in_err-identity.result e c.from_residual-in_err-identity.ensures judged.kept (inl tt, inl judged.unended) (λ shown. tt) (λ shown. tt)
-    (longer _ (Opened d.from.now ∷ (preparing (option_text d.save) ++ making (Some d.to.now) d.durability)) _ _ judged.followed) (λ shown usage. judged.followed)
+    (longer _ (Opened d.from.now ∷ (preparing (option_text d.save) ++ making d.clobber (Some d.to.now) d.durability)) _ _ judged.followed) (λ shown usage. judged.followed)
     (λ twice. absurd (judged.apart (c.names_a_file_twice-is_file_named_twice.ensures.twice twice)).1)
     (λ shown usage. inr (
       ap Usage (c.in_err-identity.ensures.blame ∙ c.in_ok-choice.ensures.chooses.blame),
@@ -67,7 +67,7 @@ returns-in_err-source-clause-acts g c =
     acts_early _ _ (Decrypt d) _ _ _ _ _ c.from_residual-in_err-source.result e c.from_residual-in_err-source.ensures (both.kept ∙ judged.kept) (inl both.early, spared_then _ _ _ judged.unended both.spared) (λ shown. both.early)
     (λ shown. reason_at _ _ (g.F.FileSet.view c.open_both.new.files).events (SourceFails g.F.In.Source.view) e judged.kept (both.reason shown))
     (then_follows _ _ _ (identity_order (option_text d.identity.pass) (option_text d.identity.shared))
-    (Opened d.from.now ∷ (preparing (option_text d.save) ++ making (Some d.to.now) d.durability)) judged.noted both.followed)
+    (Opened d.from.now ∷ (preparing (option_text d.save) ++ making d.clobber (Some d.to.now) d.durability)) judged.noted both.followed)
     (λ shown usage. absurd (true≢false (sym usage ∙ both.fault shown)))
     (λ twice. absurd (judged.apart (c.names_a_file_twice-is_file_named_twice.ensures.twice twice)).1)
     (λ shown usage. absurd (true≢false (sym usage ∙ both.fault shown))) refl
@@ -83,12 +83,12 @@ returns-clause-acts g c =
     let both = c.in_ok-source.ensures in
     let before = ports (g.F.In.Source.view c.in_ok-source.source) (g.F.Out.Sink.view c.in_ok-source.out.out) in
     decrypt_acts _ _ (view c.args.files.now) (view c.open_both.new.files) (view c.decrypt_opened.new.files) _ _ _ before
-    (record { source = c.in_ok-source.source; sink = c.in_ok-source.out.out; is = refl }) c.decrypt_opened.result (both.kept ∙ judged.kept) d
-    c.in_ok-identity.identity both.begun
+    c.decrypt_opened.result (both.kept ∙ judged.kept) d
+    c.in_ok-identity.identity (record { source = c.in_ok-source.source; sink = c.in_ok-source.out.out; is = refl; named = both.begun.1 }) both.begun.0
     (found_by _ d _ _ _ c.in_ok-choice.ensures.chooses c.in_ok-identity.ensures.makes (view c.args.files.now).entries (λ shown. (judged.read shown).0))
     (λ shown. subst (λ (f : Files). Found (paths_of d) f before) judged.kept (both.opened shown).0) c.decrypt_opened.ensures.opened
     (then_did _ _ _ (identity_order (option_text d.identity.pass) (option_text d.identity.shared))
-    (Opened d.from.now ∷ (preparing (option_text d.save) ++ Created d.to.now ∷ [])) judged.noted both.noted)
+    (Opened d.from.now ∷ (preparing (option_text d.save) ++ creating d.clobber d.to.now ∷ [])) judged.noted both.noted)
     (λ twice. absurd (judged.apart (c.names_a_file_twice-is_file_named_twice.ensures.twice twice)).1)
     (λ shown. subst (λ (f : Files). IsFresh d.clobber (f d.to.now)) judged.kept (both.opened shown).1)
 

@@ -12,7 +12,7 @@ returns-clause-opened g c =
     let once = c.open_text-opened in
     let ended = c.conclude_decryption in
     opened_by _ _ c.args.asked.now c.args.identity (ports (In c.args.source) (Out c.args.out.out)) (ports (In once.result.source) (Out once.new.out.out))
-    (record { source = once.result.source; sink = once.new.out.out; is = refl }) (view c.args.files.now) (view ended.new.files) _ _
+    (record { source = once.result.source; sink = once.new.out.out; is = refl; named = tt }) (view c.args.files.now) (view ended.new.files) _ _
     (λ silent. ended.ensures.silent silent ∙ once.ensures.silent silent) c.read_again.ensures.decrypted c.can_reread-is_reread.result once.result.end
     once.result.key _ ended.result c.can_reread-is_reread.ensures c.positions_at_first.ensures.dropped c.positions_at_first.ensures.kept once.ensures.opened
     (λ asked input same. shown_twice _ _ _ _ _ _ ended.result (run_of _ _ _ _ _ _ same (once.ensures.shown asked)) ended.ensures.whole ended.ensures.shown)

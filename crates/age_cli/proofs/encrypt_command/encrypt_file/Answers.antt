@@ -1,12 +1,12 @@
 use Rattle.std.proofs.Common.{◌∙◌, ◌∷◌, [], inl, inr, refl, ap, sym, subst, true≢false, Some, None, Result, OnOk}
 use Rattle.age_io.specs.Supply.{IsAtEnd}
 use Rattle.age_file.specs.Runs.{ports}
-use Rattle.age_fileset.specs.FileSet.{Opened, Created}
+use Rattle.age_fileset.specs.FileSet.{Opened}
 use Rattle.age_cli_args.specs.Requests.{option_text}
 use Rattle.age_cli_args.specs.declared.request.Request.TheVariants.{Encrypt}
 use Rattle.age_command.specs.declared.ending.Ending.{Ending}
 use Rattle.age_command.specs.declared.ending.Ending.TheVariants.{Usage}
-use Rattle.age_command.specs.Orders.{making, random_name}
+use Rattle.age_command.specs.Orders.{creating, making, random_name}
 use Rattle.age_command.specs.Files.{Files, SourceFails}
 use Rattle.age_command.proofs.EventLemmas.{longer, then_did, then_follows}
 use Rattle.age_cli.specs.inner.Openings.{IsFresh}
@@ -26,7 +26,7 @@ returns-in_err-material-clause-acts g c =
     let e : Ending = c.in_err-material.field-0.0 in
     let judged = c.in_err-material.ensures in
     acts_early _ _ (Encrypt a) _ _ _ _ _ c.from_residual.result e c.from_residual.ensures judged.kept (inl judged.early, inl judged.unended) (λ shown. judged.early) judged.reason
-    (longer _ (Opened a.from.now ∷ making (Some a.to.now) a.durability) _ _ judged.followed) (λ shown usage. judged.followed)
+    (longer _ (Opened a.from.now ∷ making a.clobber (Some a.to.now) a.durability) _ _ judged.followed) (λ shown usage. judged.followed)
     (λ twice. judged.apart twice) judged.blamed refl
 
 pub returns-in_err-material-clause-announced : goal.returns-in_err-material-clause-announced
@@ -38,7 +38,7 @@ returns-in_err-secret-clause-acts g c =
     let e : Ending = Usage c.in_err-secret.field-0.0 in
     let judged = c.in_ok-material.ensures in
     acts_early _ _ (Encrypt a) _ _ _ _ _ c.from_residual-in_err-secret.result e c.from_residual-in_err-secret.ensures judged.kept (inl tt, inl judged.unended) (λ shown. tt) (λ shown. tt)
-    (longer _ (Opened a.from.now ∷ making (Some a.to.now) a.durability) _ _ judged.followed) (λ shown usage. judged.followed)
+    (longer _ (Opened a.from.now ∷ making a.clobber (Some a.to.now) a.durability) _ _ judged.followed) (λ shown usage. judged.followed)
     (λ twice. absurd (judged.apart twice).1) (λ shown usage. let none = c.in_err-secret.ensures.none in
     inr (inl (ap Usage none.0, none.1 (g.F.FileSet.view c.args.files.now).entries (judged.read shown)))) refl
 
@@ -53,7 +53,7 @@ returns-in_err-source-clause-acts g c =
     let both = c.in_err-source.ensures in
     acts_early _ _ (Encrypt a) _ _ _ _ _ c.from_residual-in_err-source.result e c.from_residual-in_err-source.ensures (both.kept ∙ judged.kept) (inl both.early, spared_then _ _ _ judged.unended both.spared) (λ shown. both.early)
     (λ shown. reason_at _ _ (g.F.FileSet.view c.open_both.new.files).events (SourceFails g.F.In.Source.view) e judged.kept (both.reason shown))
-    (then_follows _ _ _ (Opened a.pass.now ∷ Opened (random_name (option_text a.random)) ∷ []) (Opened a.from.now ∷ making (Some a.to.now) a.durability)
+    (then_follows _ _ _ (Opened a.pass.now ∷ Opened (random_name (option_text a.random)) ∷ []) (Opened a.from.now ∷ making a.clobber (Some a.to.now) a.durability)
     judged.noted both.followed) (λ shown usage. absurd (true≢false (sym usage ∙ both.fault shown)))
     (λ twice. absurd (judged.apart twice).1) (λ shown usage. absurd (true≢false (sym usage ∙ both.fault shown))) refl
 
@@ -73,12 +73,12 @@ returns-clause-acts g c =
     let before = ports (In c.in_ok-source.source) (Out c.in_ok-source.out.out) in
     let after = ports (In run.result.source) (Out run.new.out.out) in
     encrypt_acts _ _ (view c.args.files.now) (view c.open_both.new.files) (view c.conclude.new.files) _ _ _ before after
-    (record { source = c.in_ok-source.source; sink = c.in_ok-source.out.out; is = refl }) (record { source = run.result.source; sink = run.new.out.out; is = refl })
-    c.sealing_end.result c.conclude.result (both.kept ∙ judged.kept) a c.in_ok-secret.secret run.result.end both.begun
+    (record { source = run.result.source; sink = run.new.out.out; is = refl; named = tt })
+    c.sealing_end.result c.conclude.result (both.kept ∙ judged.kept) a c.in_ok-secret.secret run.result.end (record { source = c.in_ok-source.source; sink = c.in_ok-source.out.out; is = refl; named = both.begun.1 }) both.begun.0
     (λ shown. c.in_ok-secret.ensures.makes (view c.args.files.now).entries (judged.read shown))
     (λ shown. subst (λ (f : Files). Found paths f before) judged.kept (both.opened shown).0)
     c.sealing_end.ensures run.ensures.done run.ensures.fails run.ensures.named c.conclude.ensures.concludes
-    (then_did _ _ _ (Opened a.pass.now ∷ Opened (random_name (option_text a.random)) ∷ []) (Opened a.from.now ∷ Created a.to.now ∷ []) judged.noted both.noted)
+    (then_did _ _ _ (Opened a.pass.now ∷ Opened (random_name (option_text a.random)) ∷ []) (Opened a.from.now ∷ creating a.clobber a.to.now ∷ []) judged.noted both.noted)
     (λ twice. absurd (judged.apart twice).1) (λ shown. subst (λ (f : Files). IsFresh a.clobber (f a.to.now)) judged.kept (both.opened shown).1) (
       run.ensures.silent,
       λ asked. shown_once _ _ _ _ _ c.conclude.result

@@ -1,10 +1,11 @@
 use Rattle.std.proofs.Common.{◌∙◌, ◌∷◌, refl, sym, [], inl}
-use Rattle.age_fileset.specs.FileSet.{Created, Closed}
+use Rattle.age_fileset.specs.FileSet.{Closed}
 use Rattle.age_command.specs.Endings.{EndsEarly}
+use Rattle.age_command.specs.Orders.{creating}
 use Rattle.age_command.specs.inner.Endings.{ending_of}
 use Rattle.age_command.specs.declared.ending.Ending.{Ending}
 use Rattle.age_cli.proofs.FileLemmas.{spared_by}
-use Rattle.age_cli.proofs.CommandLemmas.{no_value, not_well, this_error, an_error, created_early, created_fault, made_reason}
+use Rattle.age_cli.proofs.CommandLemmas.{no_value, not_well, this_error, an_error, created_early, created_fault, created_last, made_reason}
 use Rattle.age_command.proofs.EventLemmas.{followed, then_did}
 use Rattle.age_cli.proofs.output.create_out.Goals as goal
 
@@ -22,13 +23,13 @@ returns-in_err-out g c =
       spared = inl c.in_err-out.ensures.unended;
       noted = not_well r e is _;
       followed = an_error r _ (record {
-        done = Created a.to.now ∷ [];
+        done = creating a.clobber a.to.now ∷ [];
         rest = Closed a.durability ∷ [];
         did = c.in_err-out.ensures.noted;
         front = refl;
       });
       early = this_error r e is EndsEarly (created_early _ _ faults);
-      reason = λ shown. this_error r e is _ (made_reason _ _ _ _ _ faults (record { front = _; name = a.to.now; last = c.in_err-out.ensures.noted }));
+      reason = λ shown. this_error r e is _ (made_reason _ _ _ _ _ faults (record { front = _; name = a.to.now; last = created_last a.clobber _ _ _ c.in_err-out.ensures.noted }));
       fault = λ shown. this_error r e is _ (created_fault _ _ _ faults shown);
     }
 
@@ -42,7 +43,7 @@ returns-in-Some g c =
       begun = tt;
       spared = spared_by _ _ _ _ created.begun.0 created.begun.1 c.discard.ensures.discarded;
       noted = tt;
-      followed = followed _ _ _ (then_did _ _ _ (Created a.to.now ∷ []) (Closed a.durability ∷ []) created.noted c.discard.ensures.noted);
+      followed = followed _ _ _ (then_did _ _ _ (creating a.clobber a.to.now ∷ []) (Closed a.durability ∷ []) created.noted c.discard.ensures.noted);
       early = tt;
       reason = λ shown. tt;
       fault = λ shown. let never = sym c.in-Some.is ∙ c.refusal_of.ensures shown in cc;

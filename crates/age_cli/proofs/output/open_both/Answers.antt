@@ -1,7 +1,7 @@
 use Rattle.std.proofs.Common.{◌∙◌, ◌++◌, ◌∷◌, [], subst, Some, inl}
-use Rattle.age_fileset.specs.FileSet.{Opened, Created}
+use Rattle.age_fileset.specs.FileSet.{Opened}
 use Rattle.age_cli_args.specs.Requests.{option_text}
-use Rattle.age_command.specs.Orders.{preparing, making}
+use Rattle.age_command.specs.Orders.{creating, preparing, making}
 use Rattle.age_command.specs.Endings.{EndsEarly}
 use Rattle.age_command.specs.Files.{Files, SourceFails}
 use Rattle.age_cli.specs.inner.Openings.{IsFresh}
@@ -24,7 +24,7 @@ returns-in_err-source g c =
       opened = no_value r e is _;
       begun = no_value r e is _;
       noted = not_well r e is _;
-      followed = an_error r _ (longer (Opened c.args.from.now ∷ []) (preparing (option_text a.save) ++ making (Some a.to.now) a.durability) _ _
+      followed = an_error r _ (longer (Opened c.args.from.now ∷ []) (preparing (option_text a.save) ++ making a.clobber (Some a.to.now) a.durability) _ _
           (followed _ _ _ c.in_err-source.ensures.noted));
       early = this_error r e is EndsEarly (opened_early _ _ c.in_err-source.ensures.faults);
       reason = λ shown. this_error r e is _ (open_reason _ _ _ _ _ c.in_err-source.ensures.faults
@@ -45,8 +45,8 @@ returns-in_err-prepare_save g c =
       opened = no_value r e is _;
       begun = no_value r e is _;
       noted = not_well r e is _;
-      followed = an_error r _ (then_follows _ _ _ (Opened c.args.from.now ∷ []) (preparing (option_text a.save) ++ making (Some a.to.now) a.durability)
-          c.in_ok-source.ensures.noted (longer (preparing (option_text a.save)) (making (Some a.to.now) a.durability) _ _ (followed _ _ _ prepared.noted)));
+      followed = an_error r _ (then_follows _ _ _ (Opened c.args.from.now ∷ []) (preparing (option_text a.save) ++ making a.clobber (Some a.to.now) a.durability)
+          c.in_ok-source.ensures.noted (longer (preparing (option_text a.save)) (making a.clobber (Some a.to.now) a.durability) _ _ (followed _ _ _ prepared.noted)));
       early = this_error r e is EndsEarly prepared.early;
       reason = λ shown. this_error r e is _ (reason_at _ _ (g.F.FileSet.view c.prepare_save.new.files).events (SourceFails g.F.In.Source.view) e c.in_ok-source.ensures.kept (prepared.reason shown));
       fault = λ shown. this_error r e is _ (prepared.fault shown);
@@ -66,8 +66,8 @@ returns-in_err-out g c =
       opened = no_value r e is _;
       begun = no_value r e is _;
       noted = not_well r e is _;
-      followed = an_error r _ (then_follows _ _ _ (Opened c.args.from.now ∷ []) (preparing (option_text a.save) ++ making (Some a.to.now) a.durability)
-          c.in_ok-source.ensures.noted (then_follows _ _ _ (preparing (option_text a.save)) (making (Some a.to.now) a.durability) prepared.noted out.followed));
+      followed = an_error r _ (then_follows _ _ _ (Opened c.args.from.now ∷ []) (preparing (option_text a.save) ++ making a.clobber (Some a.to.now) a.durability)
+          c.in_ok-source.ensures.noted (then_follows _ _ _ (preparing (option_text a.save)) (making a.clobber (Some a.to.now) a.durability) prepared.noted out.followed));
       early = this_error r e is EndsEarly out.early;
       reason = λ shown. this_error r e is _ (reason_at _ _ (g.F.FileSet.view c.create_out.new.files).events (SourceFails g.F.In.Source.view) e (prepared.kept ∙ c.in_ok-source.ensures.kept) (out.reason shown));
       fault = λ shown. this_error r e is _ (out.fault shown);
@@ -86,9 +86,9 @@ returns g c =
             (found.0, found.1, made.0, made.1),
             subst (λ (f : Files). IsFresh a.clobber (f a.to.now)) (prepared.kept ∙ c.in_ok-source.ensures.kept) made.2,
           );
-      begun = record { given = c.in_ok-source.ensures.begun; taken = out.begun.0; failed = out.begun.1 };
-      noted = then_did _ _ _ (Opened c.args.from.now ∷ []) (preparing (option_text a.save) ++ Created a.to.now ∷ []) c.in_ok-source.ensures.noted
-          (then_did _ _ _ (preparing (option_text a.save)) (Created a.to.now ∷ []) prepared.noted out.noted);
+      begun = (record { given = c.in_ok-source.ensures.begun; taken = out.begun.0; failed = out.begun.1 }, c.in_ok-source.ensures.named);
+      noted = then_did _ _ _ (Opened c.args.from.now ∷ []) (preparing (option_text a.save) ++ creating a.clobber a.to.now ∷ []) c.in_ok-source.ensures.noted
+          (then_did _ _ _ (preparing (option_text a.save)) (creating a.clobber a.to.now ∷ []) prepared.noted out.noted);
       followed = tt;
       early = tt;
       reason = λ shown. tt;

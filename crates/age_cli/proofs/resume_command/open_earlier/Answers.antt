@@ -16,6 +16,7 @@ returns-in_err-position g c =
       kept = c.in_err-position.ensures.kept;
       unended = c.in_err-position.ensures.unended;
       found = no_value r e is _;
+      named = no_value r e is _;
       noted = not_well r e is _;
       follows = record {
         done = Opened c.args.asked.now.position.now ∷ [];
@@ -38,6 +39,7 @@ returns-in_err-old g c =
       kept = c.in_err-old.ensures.kept ∙ c.in_ok-position.ensures.kept;
       unended = c.in_err-old.ensures.unended ∙ c.in_ok-position.ensures.unended;
       found = no_value r e is _;
+      named = no_value r e is _;
       noted = not_well r e is _;
       follows = followed _ _ _ (then_did _ _ _ (Opened a.position.now ∷ []) (Opened a.old.now ∷ []) c.in_ok-position.ensures.noted
           c.in_err-old.ensures.noted);
@@ -57,6 +59,7 @@ returns g c =
       unended = c.in_ok-old.ensures.unended ∙ position.unended;
       found = λ shown. let found = c.in_ok-old.ensures.found shown in
           (position.read shown, ap (λ f. is_some (old_for p (f a.old.now))) (sym position.kept) ∙ found.0, found.1 ∙ ap (λ f. old_for p (f a.old.now)) position.kept);
+      named = c.in_ok-old.ensures.named;
       noted = events;
       follows = followed _ _ _ events;
       faults = tt;

@@ -1,9 +1,9 @@
 use Rattle.std.proofs.Common.{◌≡◌, ◌∙◌, ◌++◌, ◌∷◌, [], ap, inl, inr, refl, sym, subst, true≢false, Some}
 use Rattle.age_file.specs.Runs.{ports}
-use Rattle.age_fileset.specs.FileSet.{Opened, Created}
+use Rattle.age_fileset.specs.FileSet.{Opened}
 use Rattle.age_cli_args.specs.Requests.{option_text}
 use Rattle.age_cli_args.specs.declared.request.Request.TheVariants.{Resume}
-use Rattle.age_command.specs.Orders.{identity_order, preparing, making}
+use Rattle.age_command.specs.Orders.{creating, identity_order, preparing, making}
 use Rattle.age_command.specs.Files.{Files, SourceFails}
 use Rattle.age_command.specs.declared.ending.Ending.{Ending}
 use Rattle.age_command.specs.declared.ending.Ending.TheVariants.{Usage}
@@ -40,7 +40,7 @@ returns-in_err-secret-clause-acts g c =
     let e : Ending = c.in_err-secret.field-0.0 in
     let judged = in_order _ _ _ _ _ _ _ _ _ _ c.in_ok-choice.ensures.chooses.order c.in_err-secret.ensures in
     acts_early _ _ (Resume r) _ _ _ _ _ c.from_residual-in_err-secret.result e c.from_residual-in_err-secret.ensures judged.kept (inl judged.early, inl judged.unended) (λ shown. inl judged.early) judged.reason
-    (longer _ (Opened r.position.now ∷ Opened r.old.now ∷ Opened d.from.now ∷ (preparing (option_text d.save) ++ making (Some d.to.now) d.durability)) _ _ judged.followed)
+    (longer _ (Opened r.position.now ∷ Opened r.old.now ∷ Opened d.from.now ∷ (preparing (option_text d.save) ++ making d.clobber (Some d.to.now) d.durability)) _ _ judged.followed)
     (λ shown usage. judged.followed) (λ twice. judged.apart (c.names_one_twice-is_file_named_twice.ensures.twice twice))
     (λ shown usage. let named = judged.blamed shown usage in inl (named.0, c.names_one_twice-is_file_named_twice.ensures.shown shown named.1)) refl
 
@@ -54,7 +54,7 @@ returns-in_err-identity-clause-acts g c =
     let e : Ending = Usage c.in_err-identity.field-0.0 in
     let judged = in_order _ _ _ _ _ _ _ _ _ _ c.in_ok-choice.ensures.chooses.order c.in_ok-secret.ensures in
     acts_early _ _ (Resume r) _ _ _ _ _ c.from_residual-in_err-identity.result e c.from_residual-in_err-identity.ensures judged.kept (inl tt, inl judged.unended) (λ shown. inl tt) (λ shown. tt)
-    (longer _ (Opened r.position.now ∷ Opened r.old.now ∷ Opened d.from.now ∷ (preparing (option_text d.save) ++ making (Some d.to.now) d.durability)) _ _ judged.followed)
+    (longer _ (Opened r.position.now ∷ Opened r.old.now ∷ Opened d.from.now ∷ (preparing (option_text d.save) ++ making d.clobber (Some d.to.now) d.durability)) _ _ judged.followed)
     (λ shown usage. judged.followed) (λ twice. absurd (judged.apart (c.names_one_twice-is_file_named_twice.ensures.twice twice)).1)
     (λ shown usage. inr (
       ap Usage (c.in_err-identity.ensures.blame ∙ c.in_ok-choice.ensures.chooses.blame),
@@ -76,8 +76,8 @@ returns-in_err-position-clause-acts g c =
     (λ shown. bad_position _ _ _ earlier.faults (subst (λ (f : Files). c.in_err-position.field-0.0 ≡ create.Fault BadPosition → HoldsNoPosition (f r.position.now))
     judged.kept (earlier.bad shown)))
     (λ shown. reason_at _ _ (g.F.FileSet.view c.open_earlier.new.files).events (SourceFails g.F.In.Source.view) e judged.kept (position_reason _ _ _ _ _ earlier.faults (earlier.reason shown)))
-    (then_follows _ _ _ (identity_order (option_text d.identity.pass) (option_text d.identity.shared)) (Opened r.position.now ∷ Opened r.old.now ∷ Opened d.from.now ∷ (preparing (option_text d.save) ++ making (Some d.to.now) d.durability)) judged.noted
-    (longer (Opened r.position.now ∷ Opened r.old.now ∷ []) (Opened d.from.now ∷ (preparing (option_text d.save) ++ making (Some d.to.now) d.durability)) _ _
+    (then_follows _ _ _ (identity_order (option_text d.identity.pass) (option_text d.identity.shared)) (Opened r.position.now ∷ Opened r.old.now ∷ Opened d.from.now ∷ (preparing (option_text d.save) ++ making d.clobber (Some d.to.now) d.durability)) judged.noted
+    (longer (Opened r.position.now ∷ Opened r.old.now ∷ []) (Opened d.from.now ∷ (preparing (option_text d.save) ++ making d.clobber (Some d.to.now) d.durability)) _ _
     earlier.follows)) (λ shown usage. absurd (true≢false (sym usage ∙ position_fault _ _ earlier.faults shown)))
     (λ twice. absurd (judged.apart (c.names_one_twice-is_file_named_twice.ensures.twice twice)).1)
     (λ shown usage. absurd (true≢false (sym usage ∙ position_fault _ _ earlier.faults shown))) refl
@@ -96,9 +96,9 @@ returns-in_err-source-clause-acts g c =
     acts_early _ _ (Resume r) _ _ _ _ _ c.from_residual-in_err-source.result e c.from_residual-in_err-source.ensures (both.kept ∙ (earlier.kept ∙ judged.kept)) (inl both.early, spared_then _ _ _ (earlier.unended ∙ judged.unended) both.spared)
     (λ shown. inl both.early)
     (λ shown. reason_at _ _ (g.F.FileSet.view c.open_both.new.files).events (SourceFails g.F.In.Source.view) e (earlier.kept ∙ judged.kept) (both.reason shown))
-    (then_follows _ _ _ (identity_order (option_text d.identity.pass) (option_text d.identity.shared)) (Opened r.position.now ∷ Opened r.old.now ∷ Opened d.from.now ∷ (preparing (option_text d.save) ++ making (Some d.to.now) d.durability)) judged.noted
+    (then_follows _ _ _ (identity_order (option_text d.identity.pass) (option_text d.identity.shared)) (Opened r.position.now ∷ Opened r.old.now ∷ Opened d.from.now ∷ (preparing (option_text d.save) ++ making d.clobber (Some d.to.now) d.durability)) judged.noted
     (then_follows _ _ _ (Opened r.position.now ∷ Opened r.old.now ∷ [])
-    (Opened d.from.now ∷ (preparing (option_text d.save) ++ making (Some d.to.now) d.durability)) earlier.noted both.followed))
+    (Opened d.from.now ∷ (preparing (option_text d.save) ++ making d.clobber (Some d.to.now) d.durability)) earlier.noted both.followed))
     (λ shown usage. absurd (true≢false (sym usage ∙ both.fault shown)))
     (λ twice. absurd (judged.apart (c.names_one_twice-is_file_named_twice.ensures.twice twice)).1)
     (λ shown usage. absurd (true≢false (sym usage ∙ both.fault shown))) refl
@@ -119,15 +119,15 @@ returns-clause-acts g c =
     let first = c.in_ok-position.old in
     let before = ports (In c.in_ok-source.source) (Out c.in_ok-source.out.out) in
     resume_acts _ _ (view c.args.files.now) (view c.open_both.new.files) (view c.resume_opened.new.files) _ _ _ before
-    (record { source = c.in_ok-source.source; sink = c.in_ok-source.out.out; is = refl }) c.resume_opened.result (both.kept ∙ (earlier.kept ∙ judged.kept)) r
-    c.in_ok-identity.identity c.in_ok-position.position (In first) both.begun
+    c.resume_opened.result (both.kept ∙ (earlier.kept ∙ judged.kept)) r
+    c.in_ok-identity.identity c.in_ok-position.position (In first) (record { source = c.in_ok-source.source; sink = c.in_ok-source.out.out; is = refl; named = both.begun.1 }) both.begun.0
     (found_by _ d _ _ _ c.in_ok-choice.ensures.chooses c.in_ok-identity.ensures.makes (view c.args.files.now).entries (λ shown. (judged.read shown).0))
     (λ shown. subst (λ (f : Files). WasEarlier r c.in_ok-position.position f (In first)) judged.kept (earlier.found shown))
-    (record { source = first; sink = c.in_ok-source.out.out; is = refl })
+    (record { source = first; sink = c.in_ok-source.out.out; is = refl; named = earlier.named })
     (λ shown. subst (λ (f : Files). Found (paths_of d) f before) (earlier.kept ∙ judged.kept) (both.opened shown).0) c.resume_opened.ensures.opened
     (then_did _ _ _ (identity_order (option_text d.identity.pass) (option_text d.identity.shared))
-    (Opened r.position.now ∷ Opened r.old.now ∷ Opened d.from.now ∷ (preparing (option_text d.save) ++ Created d.to.now ∷ [])) judged.noted
-    (then_did _ _ _ (Opened r.position.now ∷ Opened r.old.now ∷ []) (Opened d.from.now ∷ (preparing (option_text d.save) ++ Created d.to.now ∷ [])) earlier.noted
+    (Opened r.position.now ∷ Opened r.old.now ∷ Opened d.from.now ∷ (preparing (option_text d.save) ++ creating d.clobber d.to.now ∷ [])) judged.noted
+    (then_did _ _ _ (Opened r.position.now ∷ Opened r.old.now ∷ []) (Opened d.from.now ∷ (preparing (option_text d.save) ++ creating d.clobber d.to.now ∷ [])) earlier.noted
     both.noted)) (λ twice. absurd (judged.apart (c.names_one_twice-is_file_named_twice.ensures.twice twice)).1)
     (λ shown. subst (λ (f : Files). IsFresh d.clobber (f d.to.now)) (earlier.kept ∙ judged.kept) (both.opened shown).1)
 

@@ -12,8 +12,8 @@ returns-clause-opened g c =
     let once = c.resume_text-resumed in
     let ended = c.conclude_decryption in
     resumed_by _ _ c.args.asked.now c.args.identity c.args.position.now (In c.args.old) (In once.new.old) (ports (In c.args.source) (Out c.args.out.out))
-    (ports (In once.result.source) (Out once.new.out.out)) (record { source = once.result.source; sink = once.new.out.out; is = refl })
-    (record { source = once.new.old; sink = once.new.out.out; is = refl }) (view c.args.files.now) (view ended.new.files) _ _
+    (ports (In once.result.source) (Out once.new.out.out)) (record { source = once.result.source; sink = once.new.out.out; is = refl; named = tt })
+    (record { source = once.new.old; sink = once.new.out.out; is = refl; named = tt }) (view c.args.files.now) (view ended.new.files) _ _
     (λ silent. ended.ensures.silent silent ∙ once.ensures.silent silent) c.read_again.ensures.resumed c.can_reread-is_reread.result once.result.end
     once.result.standing _ ended.result c.can_reread-is_reread.ensures c.positions_at_first.ensures.dropped c.positions_at_first.ensures.kept
     once.ensures.resumed

@@ -1,5 +1,5 @@
 use Rattle.std.proofs.Common.{refl}
-use Rattle.age_machine.proofs.FillLemmas.{about_none, about_more, about_waited, sound_waited}
+use Rattle.age_machine.proofs.FillLemmas.{about_none, about_more, about_waited}
 use Rattle.age_machine.proofs.beside.settle.Goals as goal
 
 pub returns-in_err-sync-in-Synced-clause-about : goal.returns-in_err-sync-in-Synced-clause-about
@@ -7,6 +7,3 @@ returns-in_err-sync-in-Synced-clause-about g c = about_more _ _ _ _ _ (about_non
 
 pub returns-in_ok-sync-in-Synced-clause-about : goal.returns-in_ok-sync-in-Synced-clause-about
 returns-in_ok-sync-in-Synced-clause-about g c = about_waited _ _ _ c.in_ok-sync-in-Synced.ensures.ok
-
-pub returns-in_ok-sync-in-Synced-clause-sound : goal.returns-in_ok-sync-in-Synced-clause-sound
-returns-in_ok-sync-in-Synced-clause-sound g c = sound_waited _ _ _ c.in_ok-sync-in-Synced.ensures.ok

@@ -1,7 +1,9 @@
-use Rattle.age_disk.proofs.TargetLemmas.{noted_well, taking_put}
+use Rattle.age_disk.proofs.TargetLemmas.{noted_well, taking_put, node_put}
 use Rattle.age_disk.proofs.output.HostOutSink.put.Goals as goal
 
 pub invariant_of-self : goal.invariant_of-self
-invariant_of-self c =
-    taking_put _ _ _ _ _ _ _ _ c.self.invariant c.write_paced-put.ensures.goes c.note_put-taken.ensures.took
-    (noted_well _ _ _ _ c.note.ensures.counted c.note_put-taken.ensures.ok)
+invariant_of-self c = (
+  taking_put _ _ _ _ _ _ _ _ c.self.invariant.0 c.write_paced-put.ensures.goes c.note_put-taken.ensures.took
+      (noted_well _ _ _ _ c.note.ensures.counted c.note_put-taken.ensures.ok),
+  node_put _ _ _ _ _ c.write_paced-put.ensures.goes c.self.invariant.1,
+)

@@ -1,0 +1,21 @@
+use Rattle.std.proofs.Common.{◌≡◌, ◌<◌, ◌^◌, List, Option, Some, sym, ◌∙◌, ap, subst}
+use Rattle.std.specs.Prelude.{Contains, IfSome}
+use Rattle.age_machine.specs.Laws.{NumbersAreApart}
+use Rattle.age_machine.specs.Numbers.{number_of}
+use Rattle.age_machine.specs.Outs.{OutFile}
+use Rattle.age_machine.specs.declared.node.Node.{Node}
+use Rattle.age_disk.specs.Outputs.{OutputView, HasNode, IsApart}
+use Rattle.age_disk.specs.declared.names.FileId.{FileId}
+use Rattle.age_disk.specs.declared.names.FileId.TheVariants.{File}
+use Rattle.age_disk.proofs.laws.no_input_is_changed.Goals as goal
+
+-- no input has the number of an output that is none of them
+no_number : NumbersAreApart → (opened : List FileId) (out : OutputView) (file : OutFile) → IsApart opened out
+    → out.file ≡ Some file → (input : Node) → input.inode < 2 ^ 64 → Contains opened (File input) → number_of input ≡ file.number → ⊥
+no_number numbers opened out file apart is input fits held same =
+    let has = subst (λ (o : Option OutFile). IfSome o (HasNode out.id)) is apart.node in
+    apart.none (File input) held (has.known ∙ ap (λ (n : Node). Some (File n)) (sym (numbers input has.node fits has.fits (same ∙ has.number))))
+
+pub returns : goal.returns
+returns c = λ opened out file calls apart is on input fits held disk. c.others_are_kept.ensures file.path file.number (number_of input) calls on
+    (no_number c.numbers_are_apart.ensures opened out file apart is input fits held) disk

@@ -1,0 +1,18 @@
+-- What follows for the files that are read.
+use Rattle.std.specs.Prelude.{◌≡◌, ◌<◌, ◌^◌, List, Some, Contains}
+use Rattle.age_machine.specs.Calls.{FileCall}
+use Rattle.age_machine.specs.Disk.{Disk, after_calls}
+use Rattle.age_machine.specs.Numbers.{number_of}
+use Rattle.age_machine.specs.Outs.{OutFile, AllOn}
+use Rattle.age_machine.specs.declared.node.Node.{Node}
+use Rattle.age_disk.specs.Outputs.{OutputView, IsApart}
+use Rattle.age_disk.specs.declared.names.FileId.{FileId}
+use Rattle.age_disk.specs.declared.names.FileId.TheVariants.{File}
+
+-- The calls of a regular output that is none of the files that were opened leave on every disk what
+-- these hold.
+abbrev pub NoInputIsChanged : Type 0
+NoInputIsChanged = (opened : List FileId) (out : OutputView) (file : OutFile) (calls : List FileCall)
+    → IsApart opened out → out.file ≡ Some file → AllOn file.path file.number calls
+    → (input : Node) → input.inode < 2 ^ 64 → Contains opened (File input) → (disk : Disk)
+    → (after_calls calls disk).bytes (number_of input) ≡ disk.bytes (number_of input)

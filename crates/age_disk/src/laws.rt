@@ -1,0 +1,13 @@
+//! What follows for the files that are read.
+
+ghost use Rattle.age_disk.specs.Laws.{NoInputIsChanged};
+
+use age_machine::{numbers_are_apart, others_are_kept};
+
+/// An output that is none of the files that were opened changes none of them.
+pub fn no_input_is_changed()
+    ensures { NoInputIsChanged }
+{
+    numbers_are_apart();
+    others_are_kept();
+}
