@@ -1,9 +1,9 @@
 -- What a command did, from what its steps did.
-use Rattle.std.proofs.Common.{◌≡◌, ◌∙◌, ◌⊎◌, ◌++◌, Option, None, ap, sym, inl, inr, Bool, true, false, true≢false, List, ℕ, refl, Result, Ok, Err, OnOk}
+use Rattle.std.proofs.Common.{⊎_elim, ◌≡◌, ◌∙◌, ◌⊎◌, ◌++◌, Option, None, ap, sym, inl, inr, Bool, true, false, true≢false, List, ℕ, refl, Result, Ok, Err, OnOk}
 use Rattle.std.proofs.Common.{IfErr}
 use Rattle.std.specs.Prelude.{IsErr, IsErrAnd, is_some}
 use Rattle.age_file.specs.Runs.{Ports}
-use Rattle.age_fileset.specs.FileSet.{Event, FilesView}
+use Rattle.age_fileset.specs.FileSet.{Event, FilesView, Reading}
 use Rattle.age_cli_args.specs.Requests.{option_text}
 use Rattle.age_cli_args.specs.declared.request.ProgressOption.{ProgressOption}
 use Rattle.age_cli_args.specs.declared.request.ProgressOption.TheVariants.{Shown, Silent}
@@ -15,7 +15,7 @@ use Rattle.age_command.specs.Endings.{is_usage}
 use Rattle.age_command.specs.Files.{HasReason}
 use Rattle.age_command.specs.declared.ending.Ending.{Ending}
 use Rattle.age_cli.specs.inner.Openings.{IsFresh}
-use Rattle.age_cli.specs.Acts.{Acts, clobber_of, out_of, EndsBefore, HasEngineEnded, HasEngineStopped, HasNotBegun, HasSaved, durability_of, IsBlamed, OfEngine, Spares, progress_of, input_of, IsUsage, LeavesOut, WritesOut}
+use Rattle.age_cli.specs.Acts.{Acts, clobber_of, out_of, EndsBefore, HasEngineEnded, HasEngineStopped, HasNotBegun, HasSaved, SavesNone, durability_of, IsBlamed, OfEngine, Spares, progress_of, input_of, IsUsage, LeavesOut, WritesOut}
 use Rattle.age_cli.proofs.CommandLemmas.{not_well, this_error, just_error}
 use Rattle.age_command.proofs.EventLemmas.{longer}
 use Rattle.std.proofs.lemmas.Result.{IfErr-weaker}
@@ -36,10 +36,10 @@ whole_of (Resume r) old new f = longer _ (replacing (option_text r.decrypting.sa
 whole_of (Inspect file) old new f = f
 whole_of (Drill d) old new f = f
 
-module _ (IsPorts : Option (List ℕ) → Ports → Type 0) (shows : Bool) (asked : Request) (before after : FilesView) (Failed Unshown : Type 0)
+module _ (IsPorts : Ports → Type 0) (IsOver : Reading → Type 0) (shows : Bool) (asked : Request) (before after : FilesView) (Failed Unshown : Type 0)
     (Progress : Option (List ℕ) → Result (Unit {0}) Ending → Type 0) (r : Result (Unit {0}) Ending) where
   abbrev pub Acted : Type 0
-  Acted = Acts IsPorts shows asked before after Failed Unshown Progress r
+  Acted = Acts IsPorts IsOver shows asked before after Failed Unshown Progress r
 
   either_shown : {A B : Type 0} (p : ProgressOption) → (p ≡ Silent → A) → (p ≡ Shown → B) → A ⊎ B
   either_shown Silent a b = inl (a refl)
@@ -59,7 +59,7 @@ module _ (IsPorts : Option (List ℕ) → Ports → Type 0) (shows : Bool) (aske
   acts_early e is kept spared early reason follows judged apart blamed silent = record {
     done = not_well r e is _;
     stopped = this_error r e is _ (inl spared);
-    saved = this_error r e is _ (inl follows);
+    saved = this_error r e is _ (inl (follows, inl spared));
     stops = λ shown. this_error r e is _ (inl (kept, early shown, reason shown));
     keeps = λ shown refused there. (is.0, kept);
     usage = this_error r e is _ (λ usage. kept);
@@ -76,11 +76,12 @@ module _ (IsPorts : Option (List ℕ) → Ports → Type 0) (shows : Bool) (aske
   }
 
   -- a command ended once its engine had run
-  pub acts_concluded : OnOk r (OfEngine IsPorts shows asked before.entries (λ engine paths. HasEngineEnded IsPorts engine paths (durability_of asked) after.ended
+  pub acts_concluded : OnOk r (OfEngine IsPorts IsOver shows asked before.entries (λ engine paths. HasEngineEnded IsPorts IsOver engine paths (durability_of asked) after.ended
       × (shows ≡ true → WritesOut IsPorts engine paths before.entries after.entries)))
-      → IfErr r (λ e. OfEngine IsPorts shows asked before.entries (λ engine paths. HasEngineStopped IsPorts engine paths e after.ended))
-      → IfErr r (λ e. Follows (order_asked asked).done before.events after.events ⊎ HasSaved (durability_of asked) e after.saved)
-      → (shows ≡ true → IfErr r (λ e. OfEngine IsPorts shows asked before.entries (λ engine paths. LeavesOut IsPorts engine paths before.entries after.entries e)))
+      → IfErr r (λ e. OfEngine IsPorts IsOver shows asked before.entries (λ engine paths. HasEngineStopped IsPorts IsOver engine paths e after.ended))
+      → IfErr r (λ e. (Follows (order_asked asked).done before.events after.events
+      × OfEngine IsPorts IsOver shows asked before.entries (λ engine paths. SavesNone IsPorts IsOver engine paths e after.ended)) ⊎ OfEngine IsPorts IsOver shows asked before.entries (λ engine paths. HasSaved IsPorts IsOver engine paths (durability_of asked) e after))
+      → (shows ≡ true → IfErr r (λ e. OfEngine IsPorts IsOver shows asked before.entries (λ engine paths. LeavesOut IsPorts engine paths before.entries after.entries e)))
       → IfErr r (λ e. is_usage e ≡ false) → (shows ≡ true → Spares asked before.entries after.entries)
       → Follows (order_asked asked).whole before.events after.events → OnOk r (after.events ≡ before.events ++ (order_asked asked).done)
       → (NamesTwice (order_asked asked).apart → ⊥) → (shows ≡ true → IsFresh (clobber_of asked) (out_of asked before.entries))
@@ -91,7 +92,7 @@ module _ (IsPorts : Option (List ℕ) → Ports → Type 0) (shows : Bool) (aske
       record {
         done = done;
         stopped = IfErr-weaker r _ _ (λ e s. inr s) stopped;
-        saved = saved;
+        saved = IfErr-weaker r _ _ (λ e s. ⊎_elim (λ none. inl (none.0, inr none.1)) (λ put. inr put) s) saved;
         stops = λ shown. IfErr-weaker r _ _ (λ e s. inr s) (stops shown);
         keeps = λ shown refused there. absurd (true≢false (sym there ∙ ap is_some (fresh shown refused)));
         usage = impossible _;

@@ -6,13 +6,14 @@ use Rattle.std.specs.Io.KnownBytes as known
 use Rattle.age_io.specs.Supply.{Supply, Consumes}
 use Rattle.age_fault.specs.declared.fault.FileFault.{FileFault}
 use Rattle.age_fault.specs.declared.fault.FileFault.TheVariants.{Read, Write, Memory, BadPosition}
-use Rattle.age_fileset.specs.FileSet.{IsMemoryOr, OpenFails, Event, Opened, Created, Made, FilesView}
+use Rattle.age_fileset.specs.FileSet.{IsMemoryOr, OpenFails, Event, Opened, Created, Made, FilesView, Reading, ReadsOn, ReadSince}
 use Rattle.age_fileset.specs.declared.files.OpenFault.{OpenFault}
 use Rattle.age_fileset.specs.declared.files.OpenFault.TheVariants.{SameFile}
 use Rattle.age_fileset.specs.declared.files.OpenFault.TheVariants as create
 use Rattle.age_command.specs.Endings.{EndsEarly, is_usage}
 use Rattle.age_command.specs.Files.{HasReason, IsUnmade, IsUnread}
-use Rattle.age_command.specs.Identities.{Chooses, IsSecretIn, Makes, file_of}
+use Rattle.age_command.specs.Identities.{Chooses, IsSecretGiven, IsSecretIn, Makes, file_of}
+use Rattle.age_fileset.proofs.ReadingLemmas.{all_as, one_since, reads_one}
 use Rattle.age_command.specs.Files.{Files}
 use Rattle.age_command.specs.declared.choice.Choice.{Choice}
 use Rattle.age_command.specs.declared.identity.Identity.{Identity}
@@ -160,14 +161,40 @@ pub in_order : {A : Type 0} (shows : Bool) (a b : List Event) (old new : FilesVi
     → Judges shows a old new IsRead IsTwice Blame Failed r → Judges shows b old new IsRead IsTwice Blame Failed r
 in_order shows a b old new IsRead IsTwice Blame Failed r same judged = subst (λ (order : List Event). Judges shows order old new IsRead IsTwice Blame Failed r) same judged
 
-secret_in : (name : Option Text) (held : Option (List ℕ)) → IsSecretIn (λ q. held) name held
-secret_in (Some name) (Some bytes) = refl
-secret_in (Some name) None = tt
-secret_in None held = tt
+-- what a choice made of what its file gave is what the options make of it, and with these files, if contracts see them
+pub found_by : (IsOver : Reading → Type 0) (shows : Bool) (d : Decrypting) (choice : Choice) (held : Option (List ℕ)) (identity : Identity)
+    → Chooses d.identity choice → Makes choice held identity → (old : Files) → (shows ≡ true → IsSecretIn old (file_of choice) held)
+    → IsSecretGiven IsOver (file_of choice) held → OpensOf IsOver shows d old identity
+found_by IsOver shows d choice held identity chooses makes old is given = record {
+  given = held;
+  read = subst (λ (n : Option Text). IsSecretGiven IsOver n held) chooses.file given;
+  makes = chooses.makes held identity makes;
+  held = λ shown. chooses.opens old held identity (is shown) makes;
+}
 
--- what a choice made is what the options and these files make, or, if contracts don't see them, some
-pub found_by : (shows : Bool) (d : Decrypting) (choice : Choice) (held : Option (List ℕ)) (identity : Identity) → Chooses d.identity choice → Makes choice held identity
-    → (old : Files) → (shows ≡ true → IsSecretIn old (file_of choice) held) → OpensOf shows d old identity
-found_by true d choice held identity chooses makes old is = (old, (λ shown. refl), chooses.opens old held identity (is refl) makes)
-found_by false d choice held identity chooses makes old is =
-    (λ q. held, (λ shown. absurd (true≢false (sym shown))), chooses.opens (λ q. held) held identity (secret_in (file_of choice) held) makes)
+-- what was given by then is given later
+pub secret_as : (Over Later : Reading → Type 0) → ((r : Reading) → Over r → Later r) → (name : Option Text) (held : Option (List ℕ))
+    → IsSecretGiven Over name held → IsSecretGiven Later name held
+secret_as Over Later so (Some name) (Some bytes) given = all_as Over Later so name bytes given
+secret_as Over Later so (Some name) None given = tt
+secret_as Over Later so None held given = tt
+
+-- a reading is over since a set had read these
+pub over_since : (old mid new : List Reading) (r : Reading) → mid ≡ old → new ≡ mid ++ r ∷ [] → ReadSince old new r
+over_since old mid new r same is = one_since old new r (is ∙ ap (λ x. x ++ r ∷ []) same)
+
+pub reads_over : (old mid new : List Reading) (r : Reading) → mid ≡ old → new ≡ mid ++ r ∷ [] → ReadsOn old new
+reads_over old mid new r same is = reads_one old new r (is ∙ ap (λ x. x ++ r ∷ []) same)
+
+-- what was read until one of the readings was over
+pub reads_by : (old new : List Reading) (r : Reading) → ReadSince old new r → ReadsOn old new
+reads_by old new r s = record { more = s.before ++ r ∷ s.later; is = s.is }
+
+-- more was read before, or nothing
+pub then_none : (old mid new : List Reading) → ReadsOn old mid → new ≡ mid → ReadsOn old new
+then_none old mid new more same = record { more = more.more; is = same ∙ more.is }
+
+-- as much was read before, and no more later
+pub over_between : (first old new last : List Reading) (r : Reading) → old ≡ first → last ≡ new → ReadSince old new r → ReadSince first last r
+over_between first old new last r before after s =
+    record { before = s.before; later = s.later; is = after ∙ (s.is ∙ ap (λ x. x ++ (s.before ++ r ∷ s.later)) before) }

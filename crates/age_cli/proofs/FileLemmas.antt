@@ -58,6 +58,7 @@ spared_then first middle last same (inl is) = inl (is ∙ same)
 spared_then first middle last same (inr spared) = inr spared
 
 -- after the close nothing was replaced, or a position was saved
-pub put_closed : {P : Type 0} (old mid new : List Event) (closed : List Event) → mid ≡ old ++ closed → (new ≡ mid) ⊎ P → (new ≡ old ++ closed) ⊎ P
-put_closed old mid new closed noted (inl same) = inl (same ∙ noted)
+pub put_closed : {Q P : Type 0} (old mid new : List Event) (closed : List Event) → mid ≡ old ++ closed → ((new ≡ mid) × Q) ⊎ P
+    → ((new ≡ old ++ closed) × Q) ⊎ P
+put_closed old mid new closed noted (inl (same, due)) = inl (same ∙ noted, due)
 put_closed old mid new closed noted (inr put) = inr put

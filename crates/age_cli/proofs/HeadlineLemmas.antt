@@ -28,8 +28,9 @@ use Rattle.age_cli_args.proofs.SimpleLemmas.{no_command}
 use Rattle.age_cli_args.proofs.NumberLemmas.{one_number}
 use Rattle.age_command.specs.Files.{Files}
 use Rattle.age_command.specs.declared.identity.Identity.{Identity}
-use Rattle.age_command.specs.Identities.{IsIdentity, OpensBy, allows_by, refuses_by}
+use Rattle.age_command.specs.Identities.{IsIdentity, OpensBy, allows_by, refuses_by, either_name, held_for, identity_file}
 use Rattle.age_command.specs.declared.ending.Ending.{Ending}
+use Rattle.age_fileset.specs.FileSet.{Reading}
 use Rattle.age_cli.specs.Acts.{Acts, EndsBefore, HasEngineEnded, OfEngine, OpensOf, decrypt_engine, resume_engine, IsLeft, Ran, IsUnclosed, LeavesOut}
 use Rattle.age_cli.specs.Acts.{WritesOut, kept_for}
 use Rattle.age_cli.specs.Runs.{World, Obeys, Prints}
@@ -71,9 +72,9 @@ abbrev HoldsNoMore : Option (List ℕ) → Option (List ℕ) → List ℕ → Ty
 HoldsNoMore old new text = (new ≡ old) ⊎ ((bytes : List ℕ) × (new ≡ Some bytes) × IsPrefixOf bytes text)
 
 -- OUT, if it is whole
-whole_out : (IsPorts : Option (List ℕ) → Ports → Type 0) (name : List ℕ) (keep : PositionPolicy) (identity : Identity) (input new : Option (List ℕ)) (text : List ℕ) → is_some input ≡ true
-    → ((r : Run) → IsFromStart r → IsRead identity input r → IsAuthenticRun r text) → Ran IsPorts name (decrypt_engine keep identity).ends input new → new ≡ Some text
-whole_out IsPorts name keep identity input new text there auth o =
+whole_out : (IsPorts : Ports → Type 0) (IsOver : Reading → Type 0) (name : List ℕ) (keep : PositionPolicy) (identity : Identity) (input new : Option (List ℕ)) (text : List ℕ) → is_some input ≡ true
+    → ((r : Run) → IsFromStart r → IsRead identity input r → IsAuthenticRun r text) → Ran IsPorts (decrypt_engine IsOver name keep identity).ends input new → new ≡ Some text
+whole_out IsPorts IsOver name keep identity input new text there auth o =
     let done = o.promise.0 in
     let r = o.promise.1 in
     let ends = o.promise.2 in
@@ -83,18 +84,18 @@ whole_out IsPorts name keep identity input new text there auth o =
     o.took ∙ (appended o.before.sink.taken.contents o.after.sink.taken.contents (held r) o.empty is.wrote.contents ∙ ap Some all)
 
 -- OUT, if the run stopped
-held_stop : (IsPorts : Option (List ℕ) → Ports → Type 0) (name : List ℕ) (keep : PositionPolicy) (identity : Identity) (input old new : Option (List ℕ)) (position : Option Position)
+held_stop : (IsPorts : Ports → Type 0) (IsOver : Reading → Type 0) (name : List ℕ) (keep : PositionPolicy) (identity : Identity) (input old new : Option (List ℕ)) (position : Option Position)
     (fault : FileFault) (text : List ℕ) → is_some input ≡ true → ((r : Run) → IsFromStart r → IsRead identity input r → IsAuthenticRun r text)
-    → IsLeft IsPorts (decrypt_engine keep identity) name position fault input old new ⊎ IsUnclosed IsPorts (decrypt_engine keep identity) name position fault input old new
+    → IsLeft IsPorts (decrypt_engine IsOver name keep identity) position fault input old new ⊎ IsUnclosed IsPorts (decrypt_engine IsOver name keep identity) position fault input old new
     → HoldsNoMore old new text
-held_stop IsPorts name keep identity input old new position fault text there auth (inl (taken, s, left)) =
+held_stop IsPorts IsOver name keep identity input old new position fault text there auth (inl (taken, s, left)) =
     let written = s.promise.0 in
     let stopped : Stopped = record { fault = fault; written = written; position = position } in
     let w = stop_wrote keep (allows_by identity) (refuses_by identity) s.before s.after stopped s.promise.1 s.promise.2 in
     let begins : IsPrefixOf w.0 text = w.2 text (λ r from is. auth r from (is_read identity input s.before s.after written r s.coming there is)) in
     ⊎_elim (λ same. inl same) (λ put. inr (w.0, put.0 ∙ (s.took ∙ appended s.before.sink.taken.contents s.after.sink.taken.contents w.0 s.empty w.1.0.contents), begins)) left
-held_stop IsPorts name keep identity input old new position fault text there auth (inr (taken, ran, left, none, write)) =
-    ⊎_elim (λ same. inl same) (λ put. inr (text, put ∙ whole_out IsPorts name keep identity input taken text there auth ran, ([], append-nil text))) left
+held_stop IsPorts IsOver name keep identity input old new position fault text there auth (inr (taken, ran, left, none, write)) =
+    ⊎_elim (λ same. inl same) (λ put. inr (text, put ∙ whole_out IsPorts IsOver name keep identity input taken text there auth ran, ([], append-nil text))) left
 
 -- ---- A decryption from a position.
 
@@ -154,34 +155,34 @@ module _ (identity : Identity) (p : Position) (input old_text : Option (List ℕ
       }
 
   -- OUT, if it is whole
-  whole_resumed : (IsPorts : Option (List ℕ) → Ports → Type 0) (name old_name : List ℕ) (keep : PositionPolicy) (new : Option (List ℕ)) → Ran IsPorts name (resume_engine IsPorts keep identity p old_name old_text).ends input new
+  whole_resumed : (IsPorts : Ports → Type 0) (IsOver : Reading → Type 0) (name old_name : List ℕ) (keep : PositionPolicy) (new : Option (List ℕ)) → Ran IsPorts (resume_engine IsPorts IsOver name keep identity p old_name old_text).ends input new
       → new ≡ Some text
-  whole_resumed IsPorts name old_name keep new o =
+  whole_resumed IsPorts IsOver name old_name keep new o =
       let first = o.promise.0 in
       let last = o.promise.1 in
-      let done = o.promise.5.0 in
-      let r = o.promise.5.1 in
-      let ends = o.promise.5.2 in
+      let done = o.promise.6.0 in
+      let r = o.promise.6.1 in
+      let ends = o.promise.6.2 in
       let is = ends.2.is in
       let all : held r ≡ text = writes_all r (omega (arith, ends.0.index, p.within)) ends.2.whole ends.2.done text
-      (authentic_run (resume_ports o.before first) (resume_ports o.after last) done.written r o.coming o.promise.4 ends.0 is) in
+      (authentic_run (resume_ports o.before first) (resume_ports o.after last) done.written r o.coming o.promise.5 ends.0 is) in
       o.took ∙ (appended o.before.sink.taken.contents o.after.sink.taken.contents (held r) o.empty is.wrote.contents ∙ ap Some all)
 
   -- OUT, if the run stopped
-  resumed_stop : (IsPorts : Option (List ℕ) → Ports → Type 0) (name old_name : List ℕ) (keep : PositionPolicy) (old new : Option (List ℕ)) (position : Option Position) (fault : FileFault)
-      → IsLeft IsPorts (resume_engine IsPorts keep identity p old_name old_text) name position fault input old new
-      ⊎ IsUnclosed IsPorts (resume_engine IsPorts keep identity p old_name old_text) name position fault input old new → HoldsNoMore old new text
-  resumed_stop IsPorts name old_name keep old new position fault (inl (taken, s, left)) =
+  resumed_stop : (IsPorts : Ports → Type 0) (IsOver : Reading → Type 0) (name old_name : List ℕ) (keep : PositionPolicy) (old new : Option (List ℕ)) (position : Option Position) (fault : FileFault)
+      → IsLeft IsPorts (resume_engine IsPorts IsOver name keep identity p old_name old_text) position fault input old new
+      ⊎ IsUnclosed IsPorts (resume_engine IsPorts IsOver name keep identity p old_name old_text) position fault input old new → HoldsNoMore old new text
+  resumed_stop IsPorts IsOver name old_name keep old new position fault (inl (taken, s, left)) =
       let before = resume_ports s.before s.promise.0 in
       let after = resume_ports s.after s.promise.1 in
-      let written = s.promise.5.0 in
+      let written = s.promise.6.0 in
       let stopped : Stopped = record { fault = fault; written = written; position = position } in
-      let w = resume_wrote keep (allows_by identity) p (refuses_by identity) before after stopped s.promise.5.1 s.promise.5.2 in
-      let front : IsPrefixOf w.0 text = w.2 text (begins_with before.old.supply s.promise.4) (λ r from is. authentic_run before after written
-      r s.coming s.promise.4 from is) in
+      let w = resume_wrote keep (allows_by identity) p (refuses_by identity) before after stopped s.promise.6.1 s.promise.6.2 in
+      let front : IsPrefixOf w.0 text = w.2 text (begins_with before.old.supply s.promise.5) (λ r from is. authentic_run before after written
+      r s.coming s.promise.5 from is) in
       ⊎_elim (λ same. inl same) (λ put. inr (w.0, put.0 ∙ (s.took ∙ appended s.before.sink.taken.contents s.after.sink.taken.contents w.0 s.empty w.1.0.contents), front)) left
-  resumed_stop IsPorts name old_name keep old new position fault (inr (taken, ran, left, none, write)) =
-      ⊎_elim (λ same. inl same) (λ put. inr (text, put ∙ whole_resumed IsPorts name old_name keep taken ran, ([], append-nil text))) left
+  resumed_stop IsPorts IsOver name old_name keep old new position fault (inr (taken, ran, left, none, write)) =
+      ⊎_elim (λ same. inl same) (λ put. inr (text, put ∙ whole_resumed IsPorts IsOver name old_name keep taken ran, ([], append-nil text))) left
 
 -- ---- what the words ask for
 
@@ -202,10 +203,10 @@ same_text a b o p q = ap (λ (x : Option Text). option_map_or (λ t. t) x []) (p
 same_opens : (rows : List Row) (u v : IdentityOptions) → IsIdentityOptions rows u → IsIdentityOptions rows v → (old : Files) (identity : Identity)
     → OpensBy old u identity → OpensBy old v identity
 same_opens rows u v a b old identity opens =
-    subst (λ (n : ℕ). IsIdentity old (option_text v.pass) (option_text v.file_key) (option_text v.shared) n identity) (one_number 22 _ u.max_log v.max_log a.max_log b.max_log)
-    (subst (λ (t : Option Text). IsIdentity old (option_text v.pass) (option_text v.file_key) t u.max_log identity) (a.shared ∙ sym b.shared)
-    (subst (λ (t : Option Text). IsIdentity old (option_text v.pass) t (option_text u.shared) u.max_log identity) (a.file_key ∙ sym b.file_key)
-    (subst (λ (t : Option Text). IsIdentity old t (option_text u.file_key) (option_text u.shared) u.max_log identity) (a.pass ∙ sym b.pass) opens)))
+    subst (λ (n : ℕ). IsIdentity (held_for old (identity_file v)) (option_text v.pass) (option_text v.file_key) (option_text v.shared) n identity) (one_number 22 _ u.max_log v.max_log a.max_log b.max_log)
+    (subst (λ (t : Option Text). IsIdentity (held_for old (either_name (option_text v.pass) t)) (option_text v.pass) (option_text v.file_key) t u.max_log identity) (a.shared ∙ sym b.shared)
+    (subst (λ (t : Option Text). IsIdentity (held_for old (either_name (option_text v.pass) (option_text u.shared))) (option_text v.pass) t (option_text u.shared) u.max_log identity) (a.file_key ∙ sym b.file_key)
+    (subst (λ (t : Option Text). IsIdentity (held_for old (either_name t (option_text u.shared))) t (option_text u.file_key) (option_text u.shared) u.max_log identity) (a.pass ∙ sym b.pass) opens)))
 
 -- two requests that the same words make ask for the same
 pub record IsSame (d e : Decrypting) : Type 0 where
@@ -276,7 +277,7 @@ kept_whole old new status text whole = record { safe = inr (text, whole, ([], ap
 kept_stopped : (old new : Option (List ℕ)) (status : ℕ) (text : List ℕ) → (status ≡ 0 → ⊥) → HoldsNoMore old new text → KeepsOut old new status text
 kept_stopped old new status text failed safe = record { safe = safe; whole = λ zero. absurd (failed zero) }
 
-module _ (words : List Text) (shows : Bool) (IsPorts : Option (List ℕ) → Ports → Type 0) (before after : World) (Failed Unread Unprinted Unshown : Type 0)
+module _ (words : List Text) (shows : Bool) (IsPorts : Ports → Type 0) (IsOver : Reading → Type 0) (before after : World) (Failed Unread Unprinted Unshown : Type 0)
     (Progress : Option (List ℕ) → Result (Unit {0}) Ending → Type 0) (status : ℕ) (text : List ℕ) (shown : shows ≡ true) where
   abbrev pub old : Files
   old = before.files.entries
@@ -285,8 +286,8 @@ module _ (words : List Text) (shows : Bool) (IsPorts : Option (List ℕ) → Por
   new = after.files.entries
 
   -- what opened the input is what the files make
-  opened_by : (d : Decrypting) (identity : Identity) → OpensOf shows d old identity → OpensBy old d.identity identity
-  opened_by d identity by = subst (λ (f : Files). OpensBy f d.identity identity) (by.1 shown) by.2
+  opened_by : (d : Decrypting) (identity : Identity) → OpensOf IsOver shows d old identity → OpensBy old d.identity identity
+  opened_by d identity by = by.held shown
 
   -- with no request nothing differs, and with status 0 help was asked for
   declined : (r : Result (Unit {0}) Ending) → OnErr r (status ≡ 0 → ⊥) → OnOk r (IsForHelp words × Prints before.output after.output) → refusals words ≡ [] → after.files ≡ before.files → (to : Text)
@@ -296,24 +297,24 @@ module _ (words : List Text) (shows : Bool) (IsPorts : Option (List ℕ) → Por
 
   module _ (e : Decrypting) (auth : IsWritersInput e old text) where
     decrypted : (r : Result (Unit {0}) Ending) → OnErr r (status ≡ 0 → ⊥)
-        → OnOk r (OfEngine IsPorts shows (Decrypt e) old (λ engine paths. HasEngineEnded IsPorts engine paths e.durability after.files.ended × (shows ≡ true → WritesOut IsPorts engine paths old new)))
+        → OnOk r (OfEngine IsPorts IsOver shows (Decrypt e) old (λ engine paths. HasEngineEnded IsPorts IsOver engine paths e.durability after.files.ended × (shows ≡ true → WritesOut IsPorts engine paths old new)))
         → IfErr r (λ ending. ((new ≡ old) × EndsBefore (Decrypt e) old ending × HasReason old after.files.events Failed ending)
-        ⊎ OfEngine IsPorts shows (Decrypt e) old (λ engine paths. LeavesOut IsPorts engine paths old new ending))
+        ⊎ OfEngine IsPorts IsOver shows (Decrypt e) old (λ engine paths. LeavesOut IsPorts engine paths old new ending))
         → KeepsOut (old e.to.now) (new e.to.now) status text
     decrypted (Ok done) failed did stopped =
         let wrote = did.2.1 shown in
         kept_whole (old e.to.now) (new e.to.now) status text
-        (whole_out IsPorts e.from.now (kept_for (option_text e.save)) did.0 (old e.from.now) (new e.to.now) text wrote.there (auth did.0 (opened_by e did.0 did.1)) wrote.output)
+        (whole_out IsPorts IsOver e.from.now (kept_for (option_text e.save)) did.0 (old e.from.now) (new e.to.now) text wrote.there (auth did.0 (opened_by e did.0 did.1)) wrote.output)
     decrypted (Err ending) failed wrote (inl same) =
         kept_stopped (old e.to.now) (new e.to.now) status text failed (inl (ap (λ (f : Files). f e.to.now) same.0))
     decrypted (Err ending) failed wrote (inr did) =
         kept_stopped (old e.to.now) (new e.to.now) status text failed
-        (held_stop IsPorts e.from.now (kept_for (option_text e.save)) did.0 (old e.from.now) (old e.to.now) (new e.to.now) did.2.position did.2.fault text did.2.there
+        (held_stop IsPorts IsOver e.from.now (kept_for (option_text e.save)) did.0 (old e.from.now) (old e.to.now) (new e.to.now) did.2.position did.2.fault text did.2.there
         (auth did.0 (opened_by e did.0 did.1)) did.2.output)
 
   -- of what is asked, whichever request was made of the words
   pub headline_of : (r : Result (Unit {0}) Ending) → OnErr r (status ≡ 0 → ⊥)
-      → Obeys words shows IsPorts before after Failed Unread Unprinted Unshown Progress r → (d : Decrypting) → Requests words (Decrypt d)
+      → Obeys words shows IsPorts IsOver before after Failed Unread Unprinted Unshown Progress r → (d : Decrypting) → Requests words (Decrypt d)
       → IsWritersInput d old text → KeepsOut (old d.to.now) (new d.to.now) status text
   headline_of r failed (inl o) d (name, rows, asks, is) auth = absurd (no_command words name rows o.none asks)
   headline_of r failed (inr (inr o)) d (name, rows, asks, is) auth = declined r failed o.done asks.taken o.untouched d.to.now
@@ -323,7 +324,7 @@ module _ (words : List Text) (shows : Bool) (IsPorts : Option (List ℕ) → Por
       let same = only.2 in
       let mine : IsWritersInput e old text = λ identity opens run from read.
       auth identity (same.opens old identity opens) run from (subst (λ (t : Text). IsRead identity (old t) run) same.from read) in
-      let acts = subst (λ (q : Request). Acts IsPorts shows q before.files after.files Failed Unshown Progress r) only.1 o.acts in
+      let acts = subst (λ (q : Request). Acts IsPorts IsOver shows q before.files after.files Failed Unshown Progress r) only.1 o.acts in
       subst (λ (t : Text). KeepsOut (old t) (new t) status text) same.to (decrypted e mine r failed acts.done (acts.stops shown))
 
   module _ (s : Resuming) (auth : IsWritersResumption s old text) where
@@ -333,31 +334,31 @@ module _ (words : List Text) (shows : Bool) (IsPorts : Option (List ℕ) → Por
     fronts p old_text at is all same = old_front p (old s.old.now) text (λ all held. auth.old_text p at all held) all (sym is ∙ same)
 
     resumed : (r : Result (Unit {0}) Ending) → OnErr r (status ≡ 0 → ⊥)
-        → OnOk r (OfEngine IsPorts shows (Resume s) old (λ engine paths. HasEngineEnded IsPorts engine paths s.decrypting.durability after.files.ended × (shows ≡ true → WritesOut IsPorts engine paths old new)))
+        → OnOk r (OfEngine IsPorts IsOver shows (Resume s) old (λ engine paths. HasEngineEnded IsPorts IsOver engine paths s.decrypting.durability after.files.ended × (shows ≡ true → WritesOut IsPorts engine paths old new)))
         → IfErr r (λ ending. ((new ≡ old) × EndsBefore (Resume s) old ending × HasReason old after.files.events Failed ending)
-        ⊎ OfEngine IsPorts shows (Resume s) old (λ engine paths. LeavesOut IsPorts engine paths old new ending))
+        ⊎ OfEngine IsPorts IsOver shows (Resume s) old (λ engine paths. LeavesOut IsPorts engine paths old new ending))
         → KeepsOut (old s.decrypting.to.now) (new s.decrypting.to.now) status text
     resumed (Ok done) failed did stopped =
         let d = s.decrypting in
         let p = did.2 in
-        let was = did.4 shown in
-        let wrote = did.5.1 shown in
+        let was = did.5 shown in
+        let wrote = did.6.1 shown in
         kept_whole (old d.to.now) (new d.to.now) status text
-        (whole_resumed did.0 p (old d.from.now) did.3 text wrote.there was.2 auth.few (fronts p did.3 was.0 was.1)
-        (auth.rest p was.0 did.0 (opened_by d did.0 did.1)) IsPorts d.from.now s.old.now (kept_for (option_text d.save)) (new d.to.now) wrote.output)
+        (whole_resumed did.0 p (old d.from.now) did.4 text wrote.there was.2 auth.few (fronts p did.4 was.0 was.1)
+        (auth.rest p was.0 did.0 (opened_by d did.0 did.1)) IsPorts IsOver d.from.now s.old.now (kept_for (option_text d.save)) (new d.to.now) wrote.output)
     resumed (Err ending) failed wrote (inl same) =
         kept_stopped (old s.decrypting.to.now) (new s.decrypting.to.now) status text failed (inl (ap (λ (f : Files). f s.decrypting.to.now) same.0))
     resumed (Err ending) failed wrote (inr did) =
         let d = s.decrypting in
         let p = did.2 in
-        let was = did.4 shown in
+        let was = did.5 shown in
         kept_stopped (old d.to.now) (new d.to.now) status text failed
-        (resumed_stop did.0 p (old d.from.now) did.3 text did.5.there was.2 auth.few (fronts p did.3 was.0 was.1)
+        (resumed_stop did.0 p (old d.from.now) did.4 text did.6.there was.2 auth.few (fronts p did.4 was.0 was.1)
         (auth.rest p was.0 did.0 (opened_by d did.0 did.1))
-        IsPorts d.from.now s.old.now (kept_for (option_text d.save)) (old d.to.now) (new d.to.now) did.5.position did.5.fault did.5.output)
+        IsPorts IsOver d.from.now s.old.now (kept_for (option_text d.save)) (old d.to.now) (new d.to.now) did.6.position did.6.fault did.6.output)
 
   pub resumed_headline_of : (r : Result (Unit {0}) Ending) → OnErr r (status ≡ 0 → ⊥)
-      → Obeys words shows IsPorts before after Failed Unread Unprinted Unshown Progress r → (a : Resuming) → Requests words (Resume a)
+      → Obeys words shows IsPorts IsOver before after Failed Unread Unprinted Unshown Progress r → (a : Resuming) → Requests words (Resume a)
       → IsWritersResumption a old text → KeepsOut (old a.decrypting.to.now) (new a.decrypting.to.now) status text
   resumed_headline_of r failed (inl o) a (name, rows, asks, is) auth = absurd (no_command words name rows o.none asks)
   resumed_headline_of r failed (inr (inr o)) a (name, rows, asks, is) auth = declined r failed o.done asks.taken o.untouched a.decrypting.to.now
@@ -374,5 +375,5 @@ module _ (words : List Text) (shows : Bool) (IsPorts : Option (List ℕ) → Por
         rest = λ p is identity opens run from read. auth.rest p (at p is) identity (d.opens old identity opens) run from
             (subst (λ (t : Text). IsRead identity (old t) run) d.from read);
       } in
-      let acts = subst (λ (q : Request). Acts IsPorts shows q before.files after.files Failed Unshown Progress r) only.1 o.acts in
+      let acts = subst (λ (q : Request). Acts IsPorts IsOver shows q before.files after.files Failed Unshown Progress r) only.1 o.acts in
       subst (λ (t : Text). KeepsOut (old t) (new t) status text) d.to (resumed s mine r failed acts.done (acts.stops shown))

@@ -15,7 +15,7 @@ use Rattle.age_cli_args.specs.Requests.{IsForHelp, refusals, Requests}
 use Rattle.age_cli_args.specs.declared.request.Request.TheVariants.{Inspect, Encrypt, Decrypt, Resume, Drill}
 use Rattle.age_cli_args.specs.declared.request.Drilling.{Drilling}
 use Rattle.age_file.specs.Runs.{Ports}
-use Rattle.age_fileset.specs.FileSet.{FilesView}
+use Rattle.age_fileset.specs.FileSet.{FilesView, Reading}
 use Rattle.age_command.specs.Endings.{is_usage}
 use Rattle.age_command.specs.Orders.{Follows, order_asked}
 use Rattle.age_command.specs.declared.ending.Ending.{Ending}
@@ -105,16 +105,16 @@ every_fault : {A : Type 0} (r : Result A Ending) (P : Ending → Type 0) → ((e
 every_fault (Ok x) P h = tt
 every_fault (Err e) P h = h e
 
-module _ (IsPorts : Option (List ℕ) → Ports → Type 0) (shows : Bool) (before after : FilesView) (Failed Unshown : Type 0)
+module _ (IsPorts : Ports → Type 0) (IsOver : Reading → Type 0) (shows : Bool) (before after : FilesView) (Failed Unshown : Type 0)
     (Progress : Option (List ℕ) → Result (Unit {0}) Ending → Type 0) (r : Result (Unit {0}) Ending)
     (kept : after.entries ≡ before.entries) (silent : Unshown) where
   -- of a drill
   pub drill_acts : (d : Drilling) → Follows (order_asked (Drill d)).whole before.events after.events
-      → OnOk r (after.events ≡ before.events ++ (order_asked (Drill d)).done) → Acts IsPorts shows (Drill d) before after Failed Unshown Progress r
+      → OnOk r (after.events ≡ before.events ++ (order_asked (Drill d)).done) → Acts IsPorts IsOver shows (Drill d) before after Failed Unshown Progress r
   drill_acts d whole finished = record {
     done = always r _ tt;
     stopped = every_fault r _ (λ e. inr tt);
-    saved = every_fault r _ (λ e. inl whole);
+    saved = every_fault r _ (λ e. inl (whole, inr tt));
     stops = λ shown. every_fault r _ (λ e. inr tt);
     keeps = λ shown refused there. absurd (true≢false (sym there));
     usage = every_fault r _ (λ e usage. kept);
@@ -132,14 +132,14 @@ module _ (IsPorts : Option (List ℕ) → Ports → Type 0) (shows : Bool) (befo
 
   -- of a report: a file is opened, or none, and no fault is one of the words
   pub inspect_acts : (file : Option (Bor Text)) → after.events ≡ before.events ++ (order_asked (Inspect file)).done → IfErr r (λ e. is_usage e ≡ false)
-      → Acts IsPorts shows (Inspect file) before after Failed Unshown Progress r
+      → Acts IsPorts IsOver shows (Inspect file) before after Failed Unshown Progress r
   inspect_acts file noted fault =
       let impossible : (P : Type 0) → IfErr r (λ e. IsUsage e → P) =
       λ P. IfErr-weaker r _ _ (λ e no usage. absurd (true≢false (sym usage ∙ no))) fault in
       record {
         done = always r _ tt;
         stopped = every_fault r _ (λ e. inr tt);
-        saved = every_fault r _ (λ e. inl (followed before.events after.events _ noted));
+        saved = every_fault r _ (λ e. inl (followed before.events after.events _ noted, inr tt));
         stops = λ shown. every_fault r _ (λ e. inr tt);
         keeps = λ shown refused there. absurd (true≢false (sym there));
         usage = impossible _;
@@ -155,13 +155,13 @@ module _ (IsPorts : Option (List ℕ) → Ports → Type 0) (shows : Bool) (befo
         shown = always r _ (λ asked. absurd (shown_not_silent (sym asked)));
       }
 
-module _ (words : List Text) (shows : Bool) (IsPorts : Option (List ℕ) → Ports → Type 0) (before after : World) (Failed Unread Unprinted Unshown : Type 0)
+module _ (words : List Text) (shows : Bool) (IsPorts : Ports → Type 0) (IsOver : Reading → Type 0) (before after : World) (Failed Unread Unprinted Unshown : Type 0)
     (Progress : Option (List ℕ) → Result (Unit {0}) Ending → Type 0) (r : Result (Unit {0}) Ending) where
   -- a report isn't refused
   unblamed : (held : Option (List ℕ)) → IfErr r (FailsReport held) → IfErr r (λ e. IsUsage e → Unprinted)
   unblamed held fails = IfErr-weaker r _ _ (λ e no usage. absurd (no usage)) (reported_accepts r held fails)
 
-  answered : (asked : Request) → DoesOther words shows IsPorts before after Failed Unread Unprinted Unshown Progress r asked
+  answered : (asked : Request) → DoesOther words shows IsPorts IsOver before after Failed Unread Unprinted Unshown Progress r asked
       → IfErr r (λ e. IsUsage e → Unprinted)
   answered (Inspect None) a = unblamed _ a.stops
   answered (Inspect (Some name)) a = unblamed _ a.1.stops
@@ -171,7 +171,7 @@ module _ (words : List Text) (shows : Bool) (IsPorts : Option (List ℕ) → Por
   answered (Drill d) a = a.2
 
   -- a run that refuses its words writes nothing
-  pub refused_silently : Obeys words shows IsPorts before after Failed Unread Unprinted Unshown Progress r → IfErr r (λ e. IsUsage e → Unprinted)
+  pub refused_silently : Obeys words shows IsPorts IsOver before after Failed Unread Unprinted Unshown Progress r → IfErr r (λ e. IsUsage e → Unprinted)
   refused_silently (inl report) = unblamed _ report.report.stops
   refused_silently (inr (inl did)) = answered did.asked did.answers
   refused_silently (inr (inr declined)) = refused_unprinted r _ _ before.output after.output declined.stops

@@ -4,7 +4,7 @@ use Rattle.std.proofs.Common.{◌≡◌, ◌∙◌, ◌⊎◌, ℕ, List, Option
 use Rattle.std.specs.Prelude.{option_map, IsOk, IsSomeAnd}
 use Rattle.std.proofs.lemmas.Result.{on_ok_weaker}
 use Rattle.age_io.specs.Supply.{Supply, IsAtEnd}
-use Rattle.age_io.specs.Io.{Shown, Adds, Begins, Ends, Origin, CountsSince}
+use Rattle.age_io.specs.Io.{Shown, Adds, Begins, Ends, Lending, CountsSince}
 use Rattle.age_io.proofs.MeterLemmas.{begins_since, reading_of}
 use Rattle.age_file.specs.Runs.{Ports, Run}
 use Rattle.age_file.specs.Encrypts.{SecretView, Encrypts}
@@ -26,10 +26,10 @@ use Rattle.age_cli.specs.inner.Endings.{sealing_end, opening_end}
 pub shows_run : {P : Type 0} (shown_by : P → Option (List Shown)) (shows : Bool) (name : GName) (coming left : Supply) (before ended : Option (List Shown))
     (began counted given : P) (lent : GName)
     → (size : Option ℕ) × (shows ≡ true → size ≡ option_map length coming.left) × Adds before (shown_by began) (Begins size)
-    → ((from : Origin) → (name ≡ from.meter) × CountsSince from coming (shown_by began) → (lent ≡ from.meter) × CountsSince from left (shown_by counted))
+    → ((from : Lending) → (name ≡ from.meter) × CountsSince from coming (shown_by began) → (lent ≡ from.meter) × CountsSince from left (shown_by counted))
     → (name ≡ lent → given ≡ counted) → Adds (shown_by given) ended Ends → ShowsRun shows coming.left left before ended
 shows_run shown_by shows name coming left before ended began counted given lent begun counts back ends =
-    let from : Origin = record { meter = name; coming = coming; shown = shown_by began } in
+    let from : Lending = record { meter = name; coming = coming; shown = shown_by began } in
     let kept = counts from (refl, begins_since name coming (shown_by began)) in
     let ends_so = subst (λ p. Adds (shown_by p) ended Ends) (back (sym kept.0)) ends in (
       coming,

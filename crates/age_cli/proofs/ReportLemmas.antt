@@ -9,7 +9,7 @@ use Rattle.age_fault.specs.declared.fault.FileFault.{FileFault}
 use Rattle.age_fault.specs.declared.fault.FileFault.TheVariants.{Head, Key, NonceCut, Stream, BadPosition, OtherFile, ShortText, Read, Write, Memory}
 use Rattle.age_fault.specs.declared.fault.FileFault.TheVariants.{ReadNeverEnds, PositionForged, OldTextDiffers}
 use Rattle.age_file.proofs.ByteLemmas.{fault_of_all, sound_too}
-use Rattle.age_file.specs.Reports.{Inspects, IsReport}
+use Rattle.age_file.specs.Reports.{Inspects, InspectsFront, IsReport}
 use Rattle.age_file.specs.Runs.{HeadFails, InHeader, NoHeadFault}
 use Rattle.age_file.specs.declared.report.Report.{Report}
 use Rattle.age_command.specs.Endings.{Announces, ReportsEnding, ReportsRest, TakesLine, Tells, fault_line}
@@ -97,7 +97,7 @@ all_read bytes (Some left) read consumed at_end = consumed ∙ (ap (λ (rest : L
 
 pub to_end_so : (old new : Supply) (r : Report) → Inspects old new r → IsInspected None old new r
 to_end_so old new r is = record {
-  to_end = is;
+  reports = is;
   whole = λ bytes there size. subst (λ (b : List ℕ). IsReport b r)
       (sym (all_read bytes new.left is.0 (subst (λ (o : Option (List ℕ)). std_bytes.Consumes o new.left is.0) there is.1.left) is.2.1)) is.3;
 }
@@ -128,9 +128,9 @@ to_end_all size old new (Ok r) none is = subst (λ (o : Option ℕ). IsInspected
 to_end_all size old new (Err f) none is = tt
 
 pub sized_all : (size : Option ℕ) (n : ℕ) (old new : Supply) (x : Result Report FileFault) → size ≡ Some n
-    → ((bytes : List ℕ) → old.left ≡ Some bytes → n ≡ length bytes → IfOk x (IsReport bytes)) → IfOk x (IsInspected size old new)
-sized_all size n old new (Ok r) is whole = subst (λ (o : Option ℕ). IsInspected o old new r) (sym is) (record { to_end = tt; whole = whole })
-sized_all size n old new (Err f) is whole = tt
+    → IfOk x (InspectsFront n old new) → ((bytes : List ℕ) → old.left ≡ Some bytes → n ≡ length bytes → IfOk x (IsReport bytes)) → IfOk x (IsInspected size old new)
+sized_all size n old new (Ok r) is front whole = subst (λ (o : Option ℕ). IsInspected o old new r) (sym is) (record { reports = front; whole = whole })
+sized_all size n old new (Err f) is front whole = tt
 
 pub any_head_alone : (old new : SourceView) (x : Result Report FileFault) → IfErr x (HeadFails InHeader old new) → IfErr x (HeadFails NoHeadFault old new)
 any_head_alone old new (Ok r) fails = tt

@@ -11,7 +11,7 @@ use Rattle.age_file.specs.declared.position.Position.{Position}
 use Rattle.age_fileset.specs.FileSet.{Event}
 use Rattle.age_cli.specs.declared.interruption.Interruption.{Interruption}
 use Rattle.age_cli.specs.inner.Endings.{IsBeyond}
-use Rattle.age_cli.specs.inner.Rereadings.{start_of}
+use Rattle.age_cli.specs.Acts.{start_of}
 
 -- it is as long as what was written
 pub at_least : (before after : Taken) (text : List ℕ) (settled : ℕ) → before.contents ≡ Some [] → Appends before after text

@@ -8,6 +8,7 @@ use Rattle.age_file.specs.Decrypts.{DecryptStops}
 use Rattle.age_file.specs.Resumes.{ResumePorts, resume_ports, ResumeStops, InOldFails, InSkippedFails}
 use Rattle.age_file.specs.declared.position.Position.{Position}
 use Rattle.age_io.specs.Io.{SourceView}
+use Rattle.age_fileset.specs.FileSet.{Reading}
 use Rattle.age_stanza.specs.declared.header.Header.{Header}
 use Rattle.age_stanza.specs.declared.fault.HeadFault.{HeadFault}
 use Rattle.age_keys.specs.declared.fault.KeyFault.{KeyFault}
@@ -64,9 +65,9 @@ in_skipped Allows p old new skipped = not_later (InSkippedFails Allows p old new
 
 -- ---- A decryption that is done.
 
-module _ (IsPorts : Option (List ℕ) → Ports → Type 0) (p : Paths) (identity : Identity) (keep : PositionPolicy) where
-  pub leaves_text : (durability : Durability) (ended : Option EndedFile) → HasEngineEnded IsPorts (decrypt_engine keep identity) p durability ended
-      → LeavesText IsPorts (GivesFile identity) p durability ended
+module _ (IsPorts : Ports → Type 0) (IsOver : Reading → Type 0) (p : Paths) (identity : Identity) (keep : PositionPolicy) where
+  pub leaves_text : (durability : Durability) (ended : Option EndedFile) → HasEngineEnded IsPorts IsOver (decrypt_engine IsOver p.from keep identity) p durability ended
+      → LeavesText IsPorts IsOver (GivesFile identity) p durability ended
   leaves_text durability ended e =
       let gave = done_gave_file (allows_by identity) e.run.before e.run.after (Ok e.promise.0) (Some e.promise.1) e.promise.2 in
       record {
@@ -79,20 +80,20 @@ module _ (IsPorts : Option (List ℕ) → Ports → Type 0) (p : Paths) (identit
         safe = e.safe;
       }
 
-module _ (IsPorts : Option (List ℕ) → Ports → Type 0) (p : Paths) (identity : Identity) (keep : PositionPolicy) (from : Position) (old_name : List ℕ)
+module _ (IsPorts : Ports → Type 0) (IsOver : Reading → Type 0) (p : Paths) (identity : Identity) (keep : PositionPolicy) (from : Position) (old_name : List ℕ)
     (old_text : Option (List ℕ)) where
   pub leaves_resumed : (durability : Durability) (ended : Option EndedFile)
-      → HasEngineEnded IsPorts (resume_engine IsPorts keep identity from old_name old_text) p durability ended
-      → LeavesText IsPorts (GivesRest IsPorts old_name identity from) p durability ended
+      → HasEngineEnded IsPorts IsOver (resume_engine IsPorts IsOver p.from keep identity from old_name old_text) p durability ended
+      → LeavesText IsPorts IsOver (GivesRest IsPorts IsOver old_name identity from) p durability ended
   leaves_resumed durability ended e =
       let first = e.promise.0 in
       let last = e.promise.1 in
-      let gave = done_gave_rest (allows_by identity) from (resume_ports e.run.before first) (resume_ports e.run.after last) (Ok e.promise.5.0)
-      (Some e.promise.5.1) e.promise.5.2 in
+      let gave = done_gave_rest (allows_by identity) from (resume_ports e.run.before first) (resume_ports e.run.after last) (Ok e.promise.6.0)
+      (Some e.promise.6.1) e.promise.6.2 in
       record {
         run = e.run;
         text = gave.0;
-        gave = (first, last, e.promise.2, gave.1, gave.2);
+        gave = (first, last, e.promise.2, e.promise.4, gave.1, gave.2);
         took = e.run.took ∙ (gave.3.0.bytes ∙ ap (λ (l : List ℕ). l ++ gave.0) e.run.new.taken);
         closed = e.closed;
         there = e.there;
@@ -101,7 +102,7 @@ module _ (IsPorts : Option (List ℕ) → Ports → Type 0) (p : Paths) (identit
 
 -- ---- One that stopped before it wrote.
 
-module _ (IsPorts : Option (List ℕ) → Ports → Type 0) (p : Paths) (old ended : Option EndedFile) (run : Returned IsPorts p ended) where
+module _ (IsPorts : Ports → Type 0) (IsOver : Reading → Type 0) (p : Paths) (old ended : Option EndedFile) (run : Returned IsPorts IsOver p ended) where
   abbrev Untouched : Type 0
   Untouched = run.out.took ≡ [] → IsUntouched run.after.sink.failed run.out
 
@@ -142,25 +143,25 @@ module _ (IsPorts : Option (List ℕ) → Ports → Type 0) (p : Paths) (old end
       spared_rest identity from first last fault early halts.0 halts.1 halts.2 halts.3 halts.4 so
 
 -- by what an engine promises of a stop
-pub spares_before : (IsPorts : Option (List ℕ) → Ports → Type 0) (p : Paths) (engine : Engine) (old ended : Option EndedFile) (ending : Ending) (fault : FileFault) → IsEndingOf fault ending
-    → IsBeforeText fault → (stopped : HasEngineStopped IsPorts engine p ending ended)
+pub spares_before : (IsPorts : Ports → Type 0) (IsOver : Reading → Type 0) (p : Paths) (engine : Engine) (old ended : Option EndedFile) (ending : Ending) (fault : FileFault) → IsEndingOf fault ending
+    → IsBeforeText fault → (stopped : HasEngineStopped IsPorts IsOver engine p ending ended)
     → ((f : FileFault) → IsBeforeText f → engine.halts f stopped.run.before stopped.run.after
     → (stopped.run.out.took ≡ [] → IsUntouched stopped.run.after.sink.failed stopped.run.out) → SparesOut old ended) → SparesOut old ended
-spares_before IsPorts p engine old ended ending fault is early s so =
+spares_before IsPorts IsOver p engine old ended ending fault is early s so =
     let mine : IsBeforeText s.fault = subst IsBeforeText (same_fault fault s.fault ending is s.reported) early in
     ⊎_elim (λ stop. so s.fault mine stop.0 stop.1) (λ unclosed. absurd (subst IsBeforeText unclosed.1 mine)) s.cause
 
 -- of what was asked
-pub spares_of_request : (IsPorts : Option (List ℕ) → Ports → Type 0) (shows : Bool) (asked : Request) (files : Files) (old ended : Option EndedFile) (ending : Ending) (fault : FileFault)
+pub spares_of_request : (IsPorts : Ports → Type 0) (IsOver : Reading → Type 0) (shows : Bool) (asked : Request) (files : Files) (old ended : Option EndedFile) (ending : Ending) (fault : FileFault)
     → IsForText asked → IsEndingOf fault ending → IsBeforeText fault
-    → HasNotBegun ending old ended ⊎ OfEngine IsPorts shows asked files (λ engine paths. HasEngineStopped IsPorts engine paths ending ended) → SparesOut old ended
-spares_of_request IsPorts shows asked files old ended ending fault text is early (inl unbegun) = unbegun.1
-spares_of_request IsPorts shows (Decrypt d) files old ended ending fault text is early (inr stop) =
-    spares_before IsPorts _ _ old ended ending fault is early stop.2
-    (λ f before halts so. spares_decryption IsPorts _ old ended stop.2.run stop.0 f before halts so)
-spares_of_request IsPorts shows (Resume r) files old ended ending fault text is early (inr stop) =
-    spares_before IsPorts _ _ old ended ending fault is early stop.5
-    (λ f before halts so. spares_resumption IsPorts _ old ended stop.5.run stop.0 stop.2 halts.0 halts.1 f before halts.5 so)
-spares_of_request IsPorts shows (Encrypt e) files old ended ending fault text is early (inr stop) = absurd text
-spares_of_request IsPorts shows (Inspect file) files old ended ending fault text is early (inr stop) = absurd text
-spares_of_request IsPorts shows (Drill d) files old ended ending fault text is early (inr stop) = absurd text
+    → HasNotBegun ending old ended ⊎ OfEngine IsPorts IsOver shows asked files (λ engine paths. HasEngineStopped IsPorts IsOver engine paths ending ended) → SparesOut old ended
+spares_of_request IsPorts IsOver shows asked files old ended ending fault text is early (inl unbegun) = unbegun.1
+spares_of_request IsPorts IsOver shows (Decrypt d) files old ended ending fault text is early (inr stop) =
+    spares_before IsPorts IsOver _ _ old ended ending fault is early stop.2
+    (λ f before halts so. spares_decryption IsPorts IsOver _ old ended stop.2.run stop.0 f before halts so)
+spares_of_request IsPorts IsOver shows (Resume r) files old ended ending fault text is early (inr stop) =
+    spares_before IsPorts IsOver _ _ old ended ending fault is early stop.6
+    (λ f before halts so. spares_resumption IsPorts IsOver _ old ended stop.6.run stop.0 stop.2 halts.0 halts.1 f before halts.6 so)
+spares_of_request IsPorts IsOver shows (Encrypt e) files old ended ending fault text is early (inr stop) = absurd text
+spares_of_request IsPorts IsOver shows (Inspect file) files old ended ending fault text is early (inr stop) = absurd text
+spares_of_request IsPorts IsOver shows (Drill d) files old ended ending fault text is early (inr stop) = absurd text

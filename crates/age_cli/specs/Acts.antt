@@ -1,12 +1,14 @@
 -- What a command does with files, done or stopped.
 use Rattle.std.specs.Prelude.{◌≡◌, ℕ, true, Result, Ok, Err, if◌then◌else◌, List, [], Option, Some, ◌⊎◌}
 use Rattle.std.specs.Prelude.{is_some, None, Bool, ◌++◌, OnOk, IfErr, IsErr, IsErrAnd, ◌≢◌, option_map}
-use Rattle.std.specs.Prelude.{length, IfSome, IsSomeAnd, ◌<◌}
+use Rattle.std.specs.Prelude.{length, IfSome, IsSomeAnd, ◌<◌, ◌*◌, min, nat_lt}
 use Rattle.clap.specs.Words.{Text}
 use Rattle.age_io.specs.Io.{SourceView, SinkView, Shown as ShownOne, ShowsReading}
 use Rattle.age_io.specs.Supply.{Supply, IsAtEnd}
 use Rattle.age_fault.specs.declared.fault.FileFault.{FileFault}
 use Rattle.age_fault.specs.declared.fault.FileFault.TheVariants.{Read, Write, BadPosition}
+use Rattle.age_chunk.specs.Payload.{chunk_length}
+use Rattle.age_file.specs.Again.{IsTextBefore, IsFoundAgain}
 use Rattle.age_file.specs.Runs.{Ports, ports, Run}
 use Rattle.age_file.specs.Encrypts.{SecretView, Encrypts, EncryptFails}
 use Rattle.age_file.specs.Decrypts.{DecryptEnds, DecryptStops}
@@ -21,7 +23,7 @@ use Rattle.age_io.specs.declared.durability.Durability.TheVariants.{Buffered, Sy
 use Rattle.age_machine.specs.Ends.{EndedFile, TouchesItself, IsThere, IsOnDisk, IsUntouched}
 use Rattle.age_machine.specs.Saved.{SavedFile, Saves}
 use Rattle.age_file.specs.declared.decryption.Stopped.{Stopped}
-use Rattle.age_fileset.specs.FileSet.{IsMemoryOr, FilesView}
+use Rattle.age_fileset.specs.FileSet.{IsMemoryOr, FilesView, Reading, HasGivenAll}
 use Rattle.age_cli_args.specs.Requests.{option_text}
 use Rattle.age_cli_args.specs.declared.request.ClobberOption.{ClobberOption}
 use Rattle.age_cli_args.specs.declared.request.ClobberOption.TheVariants.{Allowed, Refused}
@@ -37,10 +39,11 @@ use Rattle.age_command.specs.declared.ending.Ending.TheVariants.{Usage, Fault, U
 use Rattle.age_command.specs.declared.ending.Usage.TheVariants.{SameFile, BadPassphraseFile, BadRandomFile}
 use Rattle.age_command.specs.Files.{HasReason, Files, SparesBut, SparesBoth}
 use Rattle.age_command.specs.declared.identity.Identity.{Identity}
-use Rattle.age_command.specs.Identities.{allows_by, refuses_by, OpensBy, blame_by}
+use Rattle.age_command.specs.Identities.{allows_by, refuses_by, OpensBy, blame_by, identity_file}
+use Rattle.age_command.specs.Identities.{IsSecretGiven, MakesBy}
 use Rattle.age_command.specs.Orders.{Follows, NamesTwice, order_asked, random_name}
-use Rattle.age_cli.specs.Commands.{MakesSecret, HoldsNoPassphrase, HoldsNoPosition, HoldsNoRandom}
-use Rattle.age_cli.specs.Commands.{IsPositionIn, old_for}
+use Rattle.age_cli.specs.Commands.{HoldsNoPassphrase, HoldsNoPosition, HoldsNoRandom}
+use Rattle.age_cli.specs.Commands.{HasSecret, IsPositionIn, WasRead, old_for}
 
 -- ---- How a command or a run ended: with all done, or with an ending.
 
@@ -66,11 +69,12 @@ status_by (Err e) = ending_status e
 -- ---- What the engine of a command promises of its source and its sink, before and after.
 
 -- what it promises if it ends, if it stops with a position and a fault, and if it stops with a
--- fault, whether it was to make a position or not
+-- fault, whether it was to make a position or not; and of a position that is saved after a stop
 pub record Engine : Type 1 where
   pub ends : Ports → Ports → Type 0
   pub stops : Option Position → FileFault → Ports → Ports → Type 0
   pub halts : FileFault → Ports → Ports → Type 0
+  pub stands : Position → Ports → Ports → Type 0
 
 -- that of `encrypt`, which has no position
 abbrev pub encrypt_engine : SecretView → Engine
@@ -78,7 +82,31 @@ encrypt_engine secret = record {
   ends = λ before after. (written : Written) × Encrypts secret before after written;
   stops = λ position fault before after. EncryptFails secret before after fault;
   halts = λ fault before after. EncryptFails secret before after fault;
+  stands = λ position before after. ⊥;
 }
+
+-- where a second reading begins: at the position that the run began from, unless that is beyond what
+-- OUT holds for certain
+abbrev pub start_of : ℕ → Option Position → Option Position
+start_of settled None = None
+start_of settled (Some p) = if nat_lt settled (p.index * chunk_length) then None else Some p
+
+-- a second reading, from one source to the other, finds this position by the key of the payload, once
+-- this many bytes are written
+abbrev pub Finds : Option Position → List ℕ → (first last : SourceView) → ℕ → Position → Type 0
+Finds from key first last written p = (copied : List ℕ) → IsTextBefore from copied
+    → IsFoundAgain (λ _ k. k ≡ key) from copied first last written p
+
+-- IN was read once more, and this position was found: after as many bytes of the text as the set of
+-- files says that OUT holds for certain, but not beyond where this run had stopped, which began from
+-- that position
+pub record FindsAgain (IsOver : Reading → Type 0) (name : Text) (from : Option Position) (r : Run)
+    (stopped : Stopped) (p : Position) : Type 0 where
+  pub settled : ℕ
+  pub first : SourceView
+  pub last : SourceView
+  pub reading : WasRead IsOver name first last
+  pub found : Finds (start_of settled from) r.file.key first last (min stopped.written settled) p
 
 -- it stopped with this fault, whether it was to make a position or not
 abbrev pub HaltsDecryption : Identity → Ports → Ports → FileFault → Type 0
@@ -90,25 +118,43 @@ HaltsResumption i from before after fault = (policy : PositionPolicy) × (run : 
     × (stop : Stopped) × (stop.fault ≡ fault)
     × ResumeStops (allows_by i) from before after policy (refuses_by i) run stop
 
--- that of `decrypt`, which names its run
-abbrev pub decrypt_engine : PositionPolicy → Identity → Engine
-decrypt_engine keep i = record {
+-- it stopped at this position, or dropped it, and it was found by reading IN once more
+abbrev pub StandsDecryption : (IsOver : Reading → Type 0) → Text → Identity → Position → Ports → Ports
+    → Type 0
+StandsDecryption IsOver name i p before after =
+    ((policy : PositionPolicy) × (run : Option Run) × (stop : Stopped) × (stop.position ≡ Some p)
+    × DecryptStops policy (allows_by i) (refuses_by i) before after run stop)
+    ⊎ ((r : Run) × (stop : Stopped)
+    × DecryptStops Dropped (allows_by i) (refuses_by i) before after (Some r) stop
+    × FindsAgain IsOver name None r stop p)
+
+abbrev pub StandsResumption : (IsOver : Reading → Type 0) → Text → Identity → (from p : Position)
+    → ResumePorts → ResumePorts → Type 0
+StandsResumption IsOver name i from p before after =
+    ((policy : PositionPolicy) × (run : Option Run) × (stop : Stopped) × (stop.position ≡ Some p)
+    × ResumeStops (allows_by i) from before after policy (refuses_by i) run stop)
+    ⊎ ((r : Run) × (stop : Stopped)
+    × ResumeStops (allows_by i) from before after Dropped (refuses_by i) (Some r) stop
+    × FindsAgain IsOver name (Some from) r stop p)
+
+-- that of `decrypt`, which names its run and IN
+abbrev pub decrypt_engine : (IsOver : Reading → Type 0) → Text → PositionPolicy → Identity → Engine
+decrypt_engine IsOver name keep i = record {
   ends = λ before after. (done : Done) × (run : Run)
       × DecryptEnds (allows_by i) before after done run;
   stops = λ position fault before after. (written : ℕ) × (run : Option Run)
       × DecryptStops keep (allows_by i) (refuses_by i) before after run
       (record { fault = fault; written = written; position = position });
   halts = λ fault before after. HaltsDecryption i before after fault;
+  stands = StandsDecryption IsOver name i;
 }
 
--- The ports of a source and a sink of one set of files: what they show, and how often they failed. If a
--- name is given, the source was opened under it, as far as the set tells.
-pub record PortsOf {In Out : Type 0} (read : In → SourceView) (opened_as : In → Option (List ℕ))
-    (wrote : Out → SinkView) (name : Option (List ℕ)) (p : Ports) : Type 0 where
+-- the ports of a source and a sink of one set of files: what they show, and how often they failed
+pub record PortsOf {In Out : Type 0} (read : In → SourceView) (wrote : Out → SinkView) (p : Ports)
+    : Type 0 where
   pub source : In
   pub sink : Out
   pub is : p ≡ ports (read source) (wrote sink)
-  pub named : IfSome name (λ own. IfSome (opened_as source) (λ n. n ≡ own))
 
 -- a source that gave nothing so far, and a sink that took nothing, and of which no call failed
 pub record AreNew (p : Ports) : Type 0 where
@@ -116,34 +162,35 @@ pub record AreNew (p : Ports) : Type 0 where
   pub taken : p.sink.taken.bytes ≡ []
   pub failed : p.sink.failed ≡ 0
 
-module _ (IsPorts : Option (List ℕ) → Ports → Type 0) where
-  -- a second source of the set, which was opened under this name, gives the old text
+-- `IsOver` says which readings of files are over.
+module _ (IsPorts : Ports → Type 0) (IsOver : Reading → Type 0) where
+  -- a second source of the set, that of the file of this name, gives the old text
   abbrev pub Beside : Text → Option (List ℕ) → (ResumePorts → ResumePorts → Type 0)
       → Ports → Ports → Type 0
   Beside old_name old_text Promise before after =
-      (first : SourceView) × (last : SourceView) × IsPorts (Some old_name) (ports first before.sink)
-      × IsPorts None (ports last after.sink) × (old_text ≡ first.supply.left)
-      × Promise (resume_ports before first) (resume_ports after last)
+      (first : SourceView) × (last : SourceView) × IsPorts (ports first before.sink)
+      × IsPorts (ports last after.sink) × WasRead IsOver old_name first last
+      × (old_text ≡ first.supply.left) × Promise (resume_ports before first) (resume_ports after last)
 
   -- the engine of `resume`, from a position and the old text of a file
-  abbrev pub resume_engine : PositionPolicy → Identity → Position → Text → Option (List ℕ) → Engine
-  resume_engine keep i from old_name old_text = record {
+  abbrev pub resume_engine : Text → PositionPolicy → Identity → Position → Text → Option (List ℕ) → Engine
+  resume_engine name keep i from old_name old_text = record {
     ends = Beside old_name old_text (λ before after. (done : Done) × (run : Run)
         × ResumeEnds (allows_by i) from before after done run);
     stops = λ position fault. Beside old_name old_text (λ before after. (written : ℕ) × (run : Option Run)
         × ResumeStops (allows_by i) from before after keep (refuses_by i) run
         (record { fault = fault; written = written; position = position }));
     halts = λ fault. Beside old_name old_text (λ before after. HaltsResumption i from before after fault);
+    stands = λ p. Beside old_name old_text (StandsResumption IsOver name i from p);
   }
 
-  -- the engine ran: it read from this input, which has this name, and wrote this to an output that was
-  -- empty
-  pub record Ran (name : Text) (Promise : Ports → Ports → Type 0) (input taken : Option (List ℕ))
-      : Type 0 where
+module _ (IsPorts : Ports → Type 0) where
+  -- the engine ran: it read from this input, and wrote this to an output that was empty
+  pub record Ran (Promise : Ports → Ports → Type 0) (input taken : Option (List ℕ)) : Type 0 where
     pub before : Ports
     pub after : Ports
-    pub before_is : IsPorts (Some name) before
-    pub after_is : IsPorts None after
+    pub before_is : IsPorts before
+    pub after_is : IsPorts after
     pub coming : input ≡ before.source.supply.left
     pub empty : before.sink.taken.contents ≡ Some []
     pub took : taken ≡ after.sink.taken.contents
@@ -183,24 +230,23 @@ pub record Paths : Type 0 where
   pub to : Text
   pub save : Option Text
 
-module _ (IsPorts : Option (List ℕ) → Ports → Type 0) (engine : Engine) where
+module _ (IsPorts : Ports → Type 0) (engine : Engine) where
   -- all is done: the engine ended, OUT holds what the sink took, and no other file differs
   pub record WritesOut (p : Paths) (old new : Files) : Type 0 where
     pub there : is_some (old p.from) ≡ true
-    pub output : Ran IsPorts p.from engine.ends (old p.from) (new p.to)
+    pub output : Ran IsPorts engine.ends (old p.from) (new p.to)
     pub others : SparesBut p.to old new
 
   -- the engine stopped, and OUT is as it was, or holds what the sink took, if it took anything
-  abbrev pub IsLeft : Text → Option Position → FileFault → (input old new : Option (List ℕ)) → Type 0
-  IsLeft name position fault input old new = (taken : Option (List ℕ))
-      × Ran IsPorts name (engine.stops position fault) input taken
+  abbrev pub IsLeft : Option Position → FileFault → (input old new : Option (List ℕ)) → Type 0
+  IsLeft position fault input old new = (taken : Option (List ℕ))
+      × Ran IsPorts (engine.stops position fault) input taken
       × ((new ≡ old) ⊎ ((new ≡ taken) × (taken ≢ Some [])))
 
   -- the engine ended, but OUT could not be closed, and is as it was or whole
-  abbrev pub IsUnclosed : Text → Option Position → FileFault → (input old new : Option (List ℕ))
-      → Type 0
-  IsUnclosed name position fault input old new = (taken : Option (List ℕ))
-      × Ran IsPorts name engine.ends input taken × ((new ≡ old) ⊎ (new ≡ taken))
+  abbrev pub IsUnclosed : Option Position → FileFault → (input old new : Option (List ℕ)) → Type 0
+  IsUnclosed position fault input old new = (taken : Option (List ℕ))
+      × Ran IsPorts engine.ends input taken × ((new ≡ old) ⊎ (new ≡ taken))
       × (position ≡ None) × (fault ≡ Write)
 
   -- the command stopped in one of these ways, and then the position was saved
@@ -208,8 +254,8 @@ module _ (IsPorts : Option (List ℕ) → Ports → Type 0) (engine : Engine) wh
     pub there : is_some (old p.from) ≡ true
     pub position : Option Position
     pub fault : FileFault
-    pub output : IsLeft p.from position fault (old p.from) (old p.to) (new p.to)
-        ⊎ IsUnclosed p.from position fault (old p.from) (old p.to) (new p.to)
+    pub output : IsLeft position fault (old p.from) (old p.to) (new p.to)
+        ⊎ IsUnclosed position fault (old p.from) (old p.to) (new p.to)
     pub ends : EndsOf fault p.save position old new ending
 
 -- ---- What a command does of what it is asked.
@@ -225,11 +271,14 @@ Spares (Resume r) old new =
     SparesBoth (Some r.decrypting.to.now) (option_text r.decrypting.save) old new
 Spares other old new = SparesBoth None None old new
 
--- the options and what their file holds, which may be anything if contracts don't see it, make what
--- opens the input
-abbrev pub OpensOf : Bool → Decrypting → Files → Identity → Type 0
-OpensOf shows d old identity =
-    (held : Files) × (shows ≡ true → held ≡ old) × OpensBy held d.identity identity
+-- The options make what opens the input, with all that the file gave that they name: that is what it
+-- holds, if contracts see it.
+pub record OpensOf (IsOver : Reading → Type 0) (shows : Bool) (d : Decrypting) (old : Files)
+    (identity : Identity) : Type 0 where
+  pub given : Option (List ℕ)
+  pub read : IsSecretGiven IsOver (identity_file d.identity) given
+  pub makes : MakesBy given d.identity identity
+  pub held : shows ≡ true → OpensBy old d.identity identity
 
 -- whether progress is shown
 abbrev pub progress_of : Request → ProgressOption
@@ -315,14 +364,14 @@ pub record ShowsProgress (shows : Bool) (old new : Option (List ShownOne)) (inpu
   pub again : (new ≡ middle)
       ⊎ ((input : Option (List ℕ)) × (left : Supply) × ShowsRun shows input left middle new)
 
--- A position was put to its file, at once if that was a new one beside it, and the ending says whether
--- that failed.
-abbrev pub HasSaved : Durability → Ending → SavedFile → Type 0
-HasSaved durability (Fault fault) saved =
-    (p : Position) × Saves {E = FileFault} (position_text p) durability (Ok tt) saved
-HasSaved durability (Unsaved fault second) saved =
-    (p : Position) × Saves (position_text p) durability (Err second) saved
-HasSaved durability other saved = ⊥
+-- The position was put to its file, at once if that was a new one beside it, and the ending says
+-- whether that failed.
+abbrev pub HasPut : Durability → Option Position → Ending → SavedFile → Type 0
+HasPut durability (Some p) (Fault fault) saved =
+    Saves {E = FileFault} (position_text p) durability (Ok tt) saved
+HasPut durability (Some p) (Unsaved fault second) saved =
+    Saves (position_text p) durability (Err second) saved
+HasPut durability position other saved = ⊥
 
 -- no output was ended, or one that took nothing and is untouched
 abbrev pub SparesOut : (before after : Option EndedFile) → Type 0
@@ -334,34 +383,35 @@ abbrev pub HasNotBegun : Ending → (before after : Option EndedFile) → Type 0
 HasNotBegun ending before after =
     (EndsEarly ending ⊎ (ending ≡ Fault BadPosition)) × SparesOut before after
 
-module _ (IsPorts : Option (List ℕ) → Ports → Type 0) where
-  -- what is asked and what the files hold make an engine, and this holds of it and of the names;
-  -- files that contracts don't see may hold anything
+module _ (IsPorts : Ports → Type 0) (IsOver : Reading → Type 0) where
+  -- what is asked and what was read of the files make an engine, and this holds of it and of the names
   abbrev pub OfEngine : Bool → Request → Files → (Engine → Paths → Type 0) → Type 0
   OfEngine shows (Encrypt e) old P =
-      (secret : SecretView) × (shows ≡ true → MakesSecret e old secret)
+      (secret : SecretView) × HasSecret IsOver shows e old secret
       × P (encrypt_engine secret) (record { from = e.from.now; to = e.to.now; save = None })
   OfEngine shows (Decrypt d) old P =
-      (identity : Identity) × OpensOf shows d old identity
-      × P (decrypt_engine (kept_for (option_text d.save)) identity) (paths_of d)
+      (identity : Identity) × OpensOf IsOver shows d old identity
+      × P (decrypt_engine IsOver d.from.now (kept_for (option_text d.save)) identity) (paths_of d)
   OfEngine shows (Resume r) old P =
       let d = r.decrypting in
-      (identity : Identity) × OpensOf shows d old identity
-      × (position : Position) × (old_text : Option (List ℕ))
+      (identity : Identity) × OpensOf IsOver shows d old identity
+      × (position : Position) × HasGivenAll IsOver r.position.now (position_text position)
+      × (old_text : Option (List ℕ))
       × (shows ≡ true → IsPositionIn (old r.position.now) position
       × (old_text ≡ old_for position (old r.old.now)) × (is_some old_text ≡ true))
-      × P (resume_engine IsPorts (kept_for (option_text d.save)) identity position r.old.now old_text)
-      (paths_of d)
+      × P (resume_engine IsPorts IsOver d.from.now (kept_for (option_text d.save)) identity position
+      r.old.now old_text) (paths_of d)
   OfEngine shows other old P = Unit {0}
 
-  -- an engine returned, over a source of IN and a sink of the files which were new, and the output
-  -- that was ended last had taken what its sink took
+  -- An engine returned, over a source and a sink of the files that were new. The source was IN's, whose
+  -- reading is over, and the output that was ended last had taken what the sink took.
   pub record Returned (p : Paths) (ended : Option EndedFile) : Type 0 where
     pub before : Ports
     pub after : Ports
-    pub before_is : IsPorts (Some p.from) before
-    pub after_is : IsPorts None after
+    pub before_is : IsPorts before
+    pub after_is : IsPorts after
     pub new : AreNew before
+    pub input : WasRead IsOver p.from before.source after.source
     pub out : EndedFile
     pub is : ended ≡ Some out
     pub took : out.took ≡ after.sink.taken.bytes
@@ -389,6 +439,22 @@ module _ (IsPorts : Option (List ℕ) → Ports → Type 0) where
         ⊎ (engine.ends run.before run.after × (fault ≡ Write)
         × IfSome run.out.file (λ f. 0 < run.out.failed))
 
+  -- no position is saved: no file is named for it, the engine stopped without one, or ended and OUT
+  -- couldn't be; or the ending says that it isn't
+  abbrev pub SavesNone : Engine → Paths → Ending → Option EndedFile → Type 0
+  SavesNone engine p (Fault fault) ended = (p.save ≡ None) ⊎ ((run : Returned p ended)
+      × (engine.stops None fault run.before run.after
+      ⊎ (engine.ends run.before run.after × (fault ≡ Write))))
+  SavesNone engine p other ended = Unit {0}
+
+  -- it stopped, and the position where it stands was put to its file
+  pub record HasSaved (engine : Engine) (p : Paths) (durability : Durability) (ending : Ending)
+      (after : FilesView) : Type 0 where
+    pub run : Returned p after.ended
+    pub position : Position
+    pub stands : engine.stands position run.before run.after
+    pub put : HasPut durability (Some position) ending after.saved
+
   -- What stands before and after a command; `shows` says whether contracts see the files, `Failed`
   -- that a source of these failed, `Unshown` that the progress is as it was, and `Progress` what was
   -- shown of it, by what IN holds and by how the command ended.
@@ -404,9 +470,13 @@ module _ (IsPorts : Option (List ℕ) → Ports → Type 0) where
     pub stopped : IfErr ended (λ ending. HasNotBegun ending before.ended after.ended
         ⊎ OfEngine shows asked before.entries
         (λ engine paths. HasEngineStopped engine paths ending after.ended))
-    -- After a stop nothing was replaced, or a position was saved.
-    pub saved : IfErr ended (λ ending. Follows (order_asked asked).done before.events after.events
-        ⊎ HasSaved (durability_of asked) ending after.saved)
+    -- After a stop its position was saved; or nothing was replaced, since there is none, or no file
+    -- for it, or as the ending says.
+    pub saved : IfErr ended (λ ending. (Follows (order_asked asked).done before.events after.events
+        × (HasNotBegun ending before.ended after.ended ⊎ OfEngine shows asked before.entries
+        (λ engine paths. SavesNone engine paths ending after.ended)))
+        ⊎ OfEngine shows asked before.entries
+        (λ engine paths. HasSaved engine paths (durability_of asked) ending after))
     -- Nothing differs, and 26 and 27 have a reason; or OUT holds what the engine promises for a
     -- stop, and the file of `--save` its position.
     pub stops : shows ≡ true → IfErr ended (λ ending. ((after.entries ≡ before.entries)

@@ -1,8 +1,9 @@
 -- What commands find in the options and the files, and what `inspect` reports.
-use Rattle.std.specs.Prelude.{◌≡◌, ℕ, List, ◌++◌, length, Option, Some, ◌⊎◌, ◌<◌, ◌==◌, IfSome}
+use Rattle.std.specs.Prelude.{◌≡◌, ℕ, List, [], ◌++◌, length, Option, Some, ◌⊎◌, ◌<◌, ◌==◌, IfSome}
 use Rattle.std.specs.Prelude.{if◌then◌else◌, codes, None, Bool, true, false}
 use Rattle.std.specs.List.{flat_map}
 use Rattle.std.specs.Fmt.{decimal}
+use Rattle.age_io.specs.Io.{SourceView}
 use Rattle.age_io.specs.Supply.{Supply}
 use Rattle.age_io.specs.Taken.{Taken, Appends}
 use Rattle.age_keys.specs.Scrypt.{IsAllowed}
@@ -16,14 +17,23 @@ use Rattle.age_file.specs.Reports as file
 use Rattle.age_file.specs.declared.position.Position.{Position}
 use Rattle.age_file.specs.declared.report.Report.{Report}
 use Rattle.age_file.specs.declared.report.StanzaReport.{StanzaReport}
-use Rattle.age_fileset.specs.FileSet.{or_empty}
+use Rattle.age_fileset.specs.FileSet.{or_empty, Reading, reading_of, HasGiven, HasGivenAll}
 use Rattle.age_cli_args.specs.Requests.{option_text}
 use Rattle.age_cli_args.specs.declared.request.Encrypting.{Encrypting}
 use Rattle.age_command.specs.declared.ending.Ending.{Ending}
 use Rattle.age_command.specs.declared.ending.Ending.TheVariants.{Fault}
 use Rattle.age_command.specs.Orders.{random_name}
 use Rattle.age_command.specs.Identities.{IsPassphraseIn}
+use Rattle.clap.specs.Words.{Text}
 use Rattle.age_command.specs.Files.{Files}
+
+-- ---- What was read of a file.
+
+-- One of the readings that are over is of the file of this name. Its source was this one at first, of
+-- which nothing was read so far, and that one at the end.
+pub record WasRead (IsOver : Reading → Type 0) (name : Text) (first last : SourceView) : Type 0 where
+  pub unread : first.supply.given ≡ []
+  pub over : IsOver (reading_of name last)
 
 -- ---- What `encrypt` makes a file of.
 
@@ -35,13 +45,26 @@ pub record IsRandomIn (held : Option (List ℕ)) (s : SecretView) : Type 0 where
   pub salt_length : length s.salt ≡ 16
   pub nonce_length : length s.nonce ≡ 16
 
--- the passphrase and the random bytes in the files that are asked for, and the work factor, make
--- the secret
-pub record MakesSecret (asked : Encrypting) (old : Files) (secret : SecretView) : Type 0 where
-  pub passphrase : IsPassphraseIn (old asked.pass.now) secret.pass
+-- a passphrase and random bytes, in what was read of two files, and the work factor that is asked for
+-- make the secret
+pub record MakesSecret (asked : Encrypting) (pass random : Option (List ℕ)) (secret : SecretView)
+    : Type 0 where
+  pub passphrase : IsPassphraseIn pass secret.pass
   pub log_is : secret.log ≡ asked.log
   pub within : IsAllowed secret.pass secret.log
-  pub random_is : IsRandomIn (old (random_name (option_text asked.random))) secret
+  pub random_is : IsRandomIn random secret
+
+-- all that the file of the passphrase gave, and what that of the random bytes gave, make the secret:
+-- that is what they hold, if contracts see it
+pub record HasSecret (IsOver : Reading → Type 0) (shows : Bool) (asked : Encrypting) (old : Files)
+    (secret : SecretView) : Type 0 where
+  pub pass : List ℕ
+  pub random : List ℕ
+  pub pass_given : HasGivenAll IsOver asked.pass.now pass
+  pub random_given : HasGiven IsOver (random_name (option_text asked.random)) random
+  pub makes : MakesSecret asked (Some pass) (Some random) secret
+  pub held : shows ≡ true → MakesSecret asked (old asked.pass.now)
+      (old (random_name (option_text asked.random))) secret
 
 -- a file holds no passphrase that may be used with this work factor, and no random bytes
 abbrev pub HoldsNoPassphrase : Option (List ℕ) → ℕ → Type 0
@@ -95,11 +118,23 @@ Reports input_old input_new output_old output_new =
 abbrev pub IsReportOf : Option (List ℕ) → Report → Type 0
 IsReportOf held r = (bytes : List ℕ) × (held ≡ Some bytes) × IsReport bytes r
 
--- a report was written, which is the file's if contracts see the files
-abbrev pub ReportsFile : Bool → Option (List ℕ) → Taken → Taken → Type 0
-ReportsFile shows held output_old output_new =
-    (r : Report) × (shows ≡ true → IsReportOf held r)
-    × Appends output_old output_new (report_text r)
+-- the report of an input that was read to its end, or, if its length is known, of its header and that
+abbrev pub ReportsAs : Option ℕ → Supply → Supply → Report → Type 0
+ReportsAs None old new r = file.Inspects old new r
+ReportsAs (Some size) old new r = file.InspectsFront size old new r
+
+-- A report was written: that of what the file of this name gave, which is the file's, if contracts see
+-- that.
+pub record ReportsFile (IsOver : Reading → Type 0) (shows : Bool) (name : Text) (held : Option (List ℕ))
+    (output_old output_new : Taken) : Type 0 where
+  pub r : Report
+  pub size : Option ℕ
+  pub first : SourceView
+  pub last : SourceView
+  pub reading : WasRead IsOver name first last
+  pub reports : ReportsAs size first.supply last.supply r
+  pub whole : shows ≡ true → IsReportOf held r
+  pub wrote : Appends output_old output_new (report_text r)
 
 -- what contracts see of a file
 abbrev pub seen : Bool → Option (List ℕ) → Option (List ℕ)

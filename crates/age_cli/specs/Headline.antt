@@ -21,7 +21,9 @@ use Rattle.age_fault.specs.declared.fault.FileFault.TheVariants.{Head, Key, Nonc
 use Rattle.age_fault.specs.declared.fault.FileFault.TheVariants.{PositionForged}
 use Rattle.age_cli_args.specs.declared.request.Request.{Request}
 use Rattle.age_file.specs.InARow.{GaveFile, GaveOld, GaveRest}
-use Rattle.age_fileset.specs.FileSet.{FilesView}
+use Rattle.age_fileset.specs.FileSet.{FilesView, Reading, ReadSince, HasGivenAll}
+use Rattle.age_file.specs.Resumes.{position_text}
+use Rattle.age_cli.specs.Commands.{WasRead}
 use Rattle.age_io.specs.declared.durability.Durability.{Durability}
 use Rattle.age_io.specs.declared.durability.Durability.TheVariants.{Synced}
 use Rattle.age_machine.specs.Ends.{EndedFile, IsThere, IsOnDisk}
@@ -106,16 +108,16 @@ ResumeKeepsOut words before after status =
     (after.files.entries r.decrypting.to.now) status text
 
 -- A run over files that contracts see does so: of these ports, with a meter and sinks and a source
--- of these types.
-abbrev pub RunsKeepOut : (Option (List ℕ) → Ports → Type 0)
-    → (Failed Input Output Faults Progress : Type 0) → Type 0
+-- of these types. `gave` is what was read of files before it, and by its end.
+abbrev pub RunsKeepOut : (Ports → Type 0) → (Failed Input Output Faults Progress : Type 0) → Type 0
 RunsKeepOut IsPorts Failed Input Output Faults Progress =
-    (words : List Text) (before after : World) (faults_old faults_new : SinkView)
+    (words : List Text) (gave : List Reading × List Reading) (before after : World)
+    (faults_old faults_new : SinkView)
     (input : Input × Input) (output : Output × Output) (faults : Faults × Faults)
     (progress : Progress × Progress) (shown : Option (List Shown) × Option (List Shown))
     (status : ℕ)
-    → Runs words true IsPorts before after faults_old faults_new Failed (faults.1 ≡ faults.0)
-    (input.1 ≡ input.0) (output.1 ≡ output.0) (progress.1 ≡ progress.0)
+    → Runs words true IsPorts (ReadSince gave.0 gave.1) before after faults_old faults_new Failed
+    (faults.1 ≡ faults.0) (input.1 ≡ input.0) (output.1 ≡ output.0) (progress.1 ≡ progress.0)
     (ShowsProgress true shown.0 shown.1) status
     → DecryptKeepsOut words before after status × ResumeKeepsOut words before after status
 
@@ -123,17 +125,17 @@ RunsKeepOut IsPorts Failed Input Output Faults Progress =
 
 -- Words that ask neither for help nor for the version, and make no request, are refused, or memory
 -- is, and nothing is written; nor does any run write that refuses its words.
-abbrev pub RefusesInSilence : Bool → (Option (List ℕ) → Ports → Type 0)
-    → (Failed Input Output Progress : Type 0) → Type 0
+abbrev pub RefusesInSilence : Bool → (Ports → Type 0) → (Failed Input Output Progress : Type 0) → Type 0
 RefusesInSilence shows IsPorts Failed Input Output Progress =
-    (words : List Text) (before after : World) (input : Input × Input) (output : Output × Output)
+    (words : List Text) (gave : List Reading × List Reading) (before after : World)
+    (input : Input × Input) (output : Output × Output)
     (progress : Progress × Progress) (shown : Option (List Shown) × Option (List Shown))
     (ended : Result (Unit {0}) Ending)
-    → (Declines words shows IsPorts before after Failed (input.1 ≡ input.0) (output.1 ≡ output.0)
-    (progress.1 ≡ progress.0) (ShowsProgress shows shown.0 shown.1) ended
+    → (Declines words shows IsPorts (ReadSince gave.0 gave.1) before after Failed (input.1 ≡ input.0)
+    (output.1 ≡ output.0) (progress.1 ≡ progress.0) (ShowsProgress shows shown.0 shown.1) ended
     → (IsForHelp words → ⊥) → IsErrAnd ended IsRefusal × (output.1 ≡ output.0))
-    × (Obeys words shows IsPorts before after Failed (input.1 ≡ input.0) (output.1 ≡ output.0)
-    (progress.1 ≡ progress.0) (ShowsProgress shows shown.0 shown.1) ended
+    × (Obeys words shows IsPorts (ReadSince gave.0 gave.1) before after Failed (input.1 ≡ input.0)
+    (output.1 ≡ output.0) (progress.1 ≡ progress.0) (ShowsProgress shows shown.0 shown.1) ended
     → IfErr ended (λ e. IsUsage e → output.1 ≡ output.0))
 
 -- A report that fails doesn't blame the command line.
@@ -150,19 +152,19 @@ GivesFile identity before after =
 
 -- the earlier output gave a text's chunks before a position, and IN the rest of its payload, in the
 -- position's file, which an identity opens
-abbrev pub GivesRest : (Option (List ℕ) → Ports → Type 0) → Text → Identity → Position
+abbrev pub GivesRest : (Ports → Type 0) → (Reading → Type 0) → Text → Identity → Position
     → Ports → Ports → List ℕ → Type 0
-GivesRest IsPorts old_name identity from before after text =
-    (first : SourceView) × (last : SourceView) × IsPorts (Some old_name) (ports first before.sink)
-    × GaveOld from first.supply last.supply text
+GivesRest IsPorts IsOver old_name identity from before after text =
+    (first : SourceView) × (last : SourceView) × IsPorts (ports first before.sink)
+    × WasRead IsOver old_name first last × GaveOld from first.supply last.supply text
     × GaveRest (allows_by identity) from before.source.supply after.source.supply text
 
 -- What was read gave a text. OUT was closed with just that: it is at its path, and on the disk, if that
 -- was to be waited for.
-pub record LeavesText (IsPorts : Option (List ℕ) → Ports → Type 0)
+pub record LeavesText (IsPorts : Ports → Type 0) (IsOver : Reading → Type 0)
     (Gave : Ports → Ports → List ℕ → Type 0) (p : Paths) (durability : Durability)
     (ended : Option EndedFile) : Type 0 where
-  pub run : Returned IsPorts p ended
+  pub run : Returned IsPorts IsOver p ended
   pub text : List ℕ
   pub gave : Gave run.before run.after text
   pub took : run.out.took ≡ text
@@ -185,32 +187,37 @@ IsForText (Decrypt d) = Unit {0}
 IsForText (Resume r) = Unit {0}
 IsForText other = ⊥
 
-module _ (shows : Bool) (IsPorts : Option (List ℕ) → Ports → Type 0) (Failed Progress : Type 0) where
+-- `gave` is what was read of files before a command, and by its end.
+module _ (shows : Bool) (IsPorts : Ports → Type 0) (Failed Progress : Type 0) where
   -- a command did this, with a meter of this type, and ended so
-  abbrev pub Obeyed : Request → FilesView → FilesView → Result (Unit {0}) Ending → Type 0
-  Obeyed asked before after ended = (progress : Progress × Progress)
+  abbrev pub Obeyed : (gave : List Reading × List Reading) → Request → FilesView → FilesView
+      → Result (Unit {0}) Ending → Type 0
+  Obeyed gave asked before after ended = (progress : Progress × Progress)
       × (shown : Option (List Shown) × Option (List Shown))
-      × Acts IsPorts shows asked before after Failed (progress.1 ≡ progress.0)
+      × Acts IsPorts (ReadSince gave.0 gave.1) shows asked before after Failed (progress.1 ≡ progress.0)
       (ShowsProgress shows shown.0 shown.1) ended
 
   -- If a decryption is done, OUT is the text whose age file IN gave.
   abbrev pub DoneLeavesText : Type 0
-  DoneLeavesText = (d : Decrypting) (before after : FilesView)
-      → Obeyed (Decrypt d) before after (Ok tt)
-      → (identity : Identity) × OpensOf shows d before.entries identity
-      × LeavesText IsPorts (GivesFile identity) (paths_of d) d.durability after.ended
+  DoneLeavesText = (d : Decrypting) (gave : List Reading × List Reading) (before after : FilesView)
+      → Obeyed gave (Decrypt d) before after (Ok tt)
+      → let IsOver = ReadSince gave.0 gave.1 in
+      (identity : Identity) × OpensOf IsOver shows d before.entries identity
+      × LeavesText IsPorts IsOver (GivesFile identity) (paths_of d) d.durability after.ended
 
   -- If a resumed one is, it is the text whose first chunks the earlier output gave, and the rest of
   -- whose payload IN gave.
   abbrev pub ResumedLeavesText : Type 0
-  ResumedLeavesText = (r : Resuming) (before after : FilesView)
-      → Obeyed (Resume r) before after (Ok tt)
-      → (identity : Identity) × OpensOf shows r.decrypting before.entries identity × (from : Position)
-      × LeavesText IsPorts (GivesRest IsPorts r.old.now identity from) (paths_of r.decrypting)
+  ResumedLeavesText = (r : Resuming) (gave : List Reading × List Reading) (before after : FilesView)
+      → Obeyed gave (Resume r) before after (Ok tt)
+      → let IsOver = ReadSince gave.0 gave.1 in
+      (identity : Identity) × OpensOf IsOver shows r.decrypting before.entries identity
+      × (from : Position) × HasGivenAll IsOver r.position.now (position_text from)
+      × LeavesText IsPorts IsOver (GivesRest IsPorts IsOver r.old.now identity from) (paths_of r.decrypting)
       r.decrypting.durability after.ended
 
   -- After a fault that comes before the text OUT is as it was, or the empty file that was made.
   abbrev pub EarlyFaultsSpareOut : Type 0
-  EarlyFaultsSpareOut = (asked : Request) (before after : FilesView) (ending : Ending)
-      (fault : FileFault) → IsForText asked → Obeyed asked before after (Err ending)
+  EarlyFaultsSpareOut = (asked : Request) (gave : List Reading × List Reading) (before after : FilesView)
+      (ending : Ending) (fault : FileFault) → IsForText asked → Obeyed gave asked before after (Err ending)
       → IsEndingOf fault ending → IsBeforeText fault → SparesOut before.ended after.ended

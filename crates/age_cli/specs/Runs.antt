@@ -8,7 +8,7 @@ use Rattle.age_io.specs.Io.{SinkView}
 use Rattle.age_fault.specs.Faults.{HasRisen}
 use Rattle.age_fault.specs.declared.fault.FileFault.TheVariants.{Read, Write, Memory}
 use Rattle.age_file.specs.Runs.{Ports}
-use Rattle.age_fileset.specs.FileSet.{FilesView}
+use Rattle.age_fileset.specs.FileSet.{FilesView, Reading}
 use Rattle.age_cli_args.specs.Requests.{IsForHelp, Requests, option_text}
 use Rattle.age_cli_args.specs.declared.request.Request.{Request}
 use Rattle.age_cli_args.specs.declared.request.Request.TheVariants.{Inspect, Drill}
@@ -54,11 +54,11 @@ pub record Reported (ended : Result (Unit {0}) Ending) (Report Unprinted : Type 
   pub stops : IfErr ended (FailsReport held)
   pub unprinted : IfErr ended (λ e. FailsWriting output_old output_new e ⊎ Unprinted)
 
--- `shows` says whether contracts see the files, `IsPorts` which are the ports of those, and
--- `Failed` that a source of them failed. `Unread`, `Unprinted` and `Unshown` say that the input, the
--- output and the progress are as they were, and `Progress` what was shown of the progress, by what
--- IN holds and by how the run ended.
-module _ (words : List Text) (shows : Bool) (IsPorts : Option (List ℕ) → Ports → Type 0)
+-- `shows` says whether contracts see the files, `IsPorts` which are the ports of those, `IsOver` which
+-- readings of them are over by then, and `Failed` that a source of them failed. `Unread`, `Unprinted`
+-- and `Unshown` say that the input, the output and the progress are as they were, and `Progress` what
+-- was shown of the progress, by what IN holds and by how the run ended.
+module _ (words : List Text) (shows : Bool) (IsPorts : Ports → Type 0) (IsOver : Reading → Type 0)
     (before after : World) (Failed Unread Unprinted Unshown : Type 0)
     (Progress : Option (List ℕ) → Result (Unit {0}) Ending → Type 0)
     (ended : Result (Unit {0}) Ending) where
@@ -82,7 +82,7 @@ module _ (words : List Text) (shows : Bool) (IsPorts : Option (List ℕ) → Por
   DoesOther (Inspect None) =
       Reported ended (Reports before.input after.input before.output.taken after.output.taken)
       Unprinted before.input.left before.output after.output
-  DoesOther (Inspect (Some name)) = Unread × Reported ended (ReportsFile shows
+  DoesOther (Inspect (Some name)) = Unread × Reported ended (ReportsFile IsOver shows name.now
       (before.files.entries name.now) before.output.taken after.output.taken) Unprinted
       (seen shows (before.files.entries name.now)) before.output after.output
       × (shows ≡ true → IfErr ended (λ e. e ≡ Fault Read
@@ -99,7 +99,7 @@ module _ (words : List Text) (shows : Bool) (IsPorts : Option (List ℕ) → Por
     pub asked : Request
     pub made : Requests words asked
     -- What was done with files.
-    pub acts : Acts IsPorts shows asked before.files after.files Failed Unshown Progress ended
+    pub acts : Acts IsPorts IsOver shows asked before.files after.files Failed Unshown Progress ended
     -- What was written to the output.
     pub answers : DoesOther asked
 
@@ -127,11 +127,11 @@ module _ (words : List Text) (shows : Bool) (IsPorts : Option (List ℕ) → Por
 -- ---- What a run did.
 
 -- What stands before and after a run with this status, of its words, and what was put to `faults`.
--- `Failed` says that a source of the files failed; `Quiet`, `Unread`, `Unprinted` and `Unshown` say
--- that `faults`, the input, the output and the progress are as they were, and `Progress` what was
--- shown of the progress.
-pub record Runs (words : List Text) (shows : Bool) (IsPorts : Option (List ℕ) → Ports → Type 0)
-    (before after : World) (faults_old faults_new : SinkView)
+-- `IsOver` says which readings of files are over, `Failed` that a source of the files failed; `Quiet`,
+-- `Unread`, `Unprinted` and `Unshown` say that `faults`, the input, the output and the progress are as
+-- they were, and `Progress` what was shown of the progress.
+pub record Runs (words : List Text) (shows : Bool) (IsPorts : Ports → Type 0)
+    (IsOver : Reading → Type 0) (before after : World) (faults_old faults_new : SinkView)
     (Failed Quiet Unread Unprinted Unshown : Type 0)
     (Progress : Option (List ℕ) → Result (Unit {0}) Ending → Type 0) (status : ℕ) : Type 0 where
   -- How it ended, which the status says: 0 means that all was done, 2 that the words are refused,
@@ -143,4 +143,4 @@ pub record Runs (words : List Text) (shows : Bool) (IsPorts : Option (List ℕ) 
   -- Otherwise the line of a fault does, or the lines of two, unless the sink fails.
   pub reported : IfErr ended
       (λ e. ReportsEnding e faults_old.taken faults_new.taken faults_old.failed faults_new.failed)
-  pub obeys : Obeys words shows IsPorts before after Failed Unread Unprinted Unshown Progress ended
+  pub obeys : Obeys words shows IsPorts IsOver before after Failed Unread Unprinted Unshown Progress ended

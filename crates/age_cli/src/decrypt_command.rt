@@ -1,13 +1,15 @@
 //! The command that decrypts a file.
 
-ghost use Rattle.std.specs.Prelude.{◌≡◌, true, Some};
+ghost use Rattle.std.specs.Prelude.{◌≡◌, true, ℕ, List, Some, IfOk};
 ghost use Rattle.age_file.specs.Decrypts.{DecryptsKeyed};
 ghost use Rattle.age_file.specs.Runs.{ports};
 ghost use Rattle.age_cli_args.specs.Requests.{option_text};
 ghost use Rattle.age_cli_args.specs.declared.request.ProgressOption.TheVariants.{Silent, Shown};
 ghost use Rattle.age_cli_args.specs.declared.request.Request.TheVariants.{Decrypt};
 ghost use Rattle.age_command.specs.Identities.{IsEnough, IsSecretIn, file_bytes, file_of, allows_by};
-ghost use Rattle.age_command.specs.Identities.{refuses_by};
+ghost use Rattle.age_command.specs.Identities.{refuses_by, IsSecretGiven};
+ghost use Rattle.age_io.specs.Io.{Named};
+ghost use Rattle.age_fileset.specs.FileSet.{ReadsOn, ReadSince};
 ghost use Rattle.age_command.specs.Orders.{opening_event, NamesTwice, order_asked};
 ghost use Rattle.age_command.specs.Endings.{Tells};
 ghost use Rattle.age_command.specs.Files.{SourceFails};
@@ -78,7 +80,10 @@ pub(crate) fn read_secret<F: FileSet>(
     is_file_named_twice: bool,
     read: &[Option<&str>],
 ) -> Result<Option<Vec<u8>>, Ending>
-    ensures { Judges (F.shows_bytes) (opening_event (file_of choice.now)) (F.view files.old)
+    ensures reads { ReadsOn (F.gave files.old) (F.gave files.new) }
+    ensures given { IfOk result (λ secret. IsSecretGiven (ReadSince (F.gave files.old)
+        (F.gave files.new)) (file_of choice.now) (file_bytes secret)) }
+    ensures judges { Judges (F.shows_bytes) (opening_event (file_of choice.now)) (F.view files.old)
         (F.view files.new) (λ secret. IsSecretIn (F.view files.old).entries (file_of choice.now)
         (file_bytes secret) × IsEnough (F.view files.old).entries choice.now (file_bytes secret))
         (is_file_named_twice ≡ true) (BlamesNames is_file_named_twice) (SourceFails F.In.view) result }
@@ -112,6 +117,8 @@ fn open_text<F: FileSet, P: Meter>(
     ensures opened { DecryptsKeyed positions (allows_by identity) (refuses_by identity)
         (ports (F.In.view source) (F.Out.view out.old.out))
         (ports (F.In.view result.source) (F.Out.view out.new.out)) result.end result.key }
+    ensures began { (name : List ℕ) → F.In.began source (Named name)
+        → F.In.began result.source (Named name) }
     ensures silent { asked.now.progress ≡ Silent → progress.new ≡ progress.old }
     ensures shown { asked.now.progress ≡ Shown → ShowsRun (F.shows_bytes)
         (F.In.view source).supply.left (F.In.view result.source).supply (P.shown progress.old)
@@ -153,9 +160,11 @@ fn decrypt_opened<F: FileSet, E: Sink, P: Meter>(
     announced: &mut Announcement,
     progress: &mut P,
 ) -> Result<(), Ending>
+    requires { F.In.began source (Named asked.now.from.now) }
     ensures announced { Tells announced.new result (E.view faults.old) (E.view faults.new)
         (faults.new ≡ faults.old) }
-    ensures opened { DecryptsOpened (PortsOf F.In.view F.opened_as F.Out.view) (F.shows_bytes) asked.now
+    ensures opened { DecryptsOpened (PortsOf F.In.view F.Out.view)
+        (ReadSince (F.gave files.old) (F.gave files.new)) (F.shows_bytes) asked.now
         identity (ports (F.In.view source) (F.Out.view out.out)) (F.view files.old) (F.view files.new)
         (progress.new ≡ progress.old)
         (ShowsProgress (F.shows_bytes) (P.shown progress.old) (P.shown progress.new)) result }
@@ -196,7 +205,8 @@ pub fn decrypt_file<F: FileSet, E: Sink, P: Meter>(
 ) -> Result<(), Ending>
     ensures announced { Tells announced.new result (E.view faults.old) (E.view faults.new)
         (faults.new ≡ faults.old) }
-    ensures acts { Acts (PortsOf F.In.view F.opened_as F.Out.view) (F.shows_bytes) (Decrypt asked.now)
+    ensures acts { Acts (PortsOf F.In.view F.Out.view)
+        (ReadSince (F.gave files.old) (F.gave files.new)) (F.shows_bytes) (Decrypt asked.now)
         (F.view files.old) (F.view files.new) (SourceFails F.In.view)
         (progress.new ≡ progress.old)
         (ShowsProgress (F.shows_bytes) (P.shown progress.old) (P.shown progress.new)) result }

@@ -1,9 +1,10 @@
 //! The command that encrypts a file.
 
-ghost use Rattle.std.specs.Prelude.{◌≡◌, ◌<◌, ◌++◌, [], ◌∷◌, ℕ, List, length};
+ghost use Rattle.std.specs.Prelude.{◌≡◌, ◌<◌, ◌++◌, [], ◌∷◌, ℕ, List, Option, length};
 ghost use Rattle.std.specs.Prelude.{Some, true, IfOk, IfErr, IfSome, IfNone};
+ghost use Rattle.age_io.specs.Io.{Named, Origin};
 ghost use Rattle.age_io.specs.Supply.{Consumes};
-ghost use Rattle.age_fileset.specs.FileSet.{Event, Opened};
+ghost use Rattle.age_fileset.specs.FileSet.{Event, Opened, ReadsOn, ReadSince, HasGiven, HasGivenAll};
 ghost use Rattle.age_cli_args.specs.Requests.{option_text};
 ghost use Rattle.age_cli_args.specs.declared.request.Request.TheVariants.{Encrypt};
 ghost use Rattle.age_command.specs.Endings.{EndsEarly, is_usage, Tells};
@@ -13,14 +14,14 @@ ghost use Rattle.age_file.specs.Runs.{ports};
 ghost use Rattle.age_cli_args.specs.declared.request.ProgressOption.TheVariants.{Silent, Shown};
 ghost use Rattle.age_command.specs.Files.{Files};
 ghost use Rattle.age_command.specs.Identities.{IsPassphraseIn, file_bytes};
-ghost use Rattle.age_command.specs.Lines.{without_line_feed};
+ghost use Rattle.age_command.specs.Files.{without_line_feed};
 ghost use Rattle.age_keys.specs.Scrypt.{IsAllowed};
 ghost use Rattle.age_command.specs.Orders.{NamesTwice, order_asked, random_name};
 ghost use Rattle.age_command.specs.declared.ending.Ending.TheVariants.{Usage as UsageEnding};
 ghost use Rattle.age_command.specs.declared.ending.Usage.TheVariants.{BadPassphraseFile, BadRandomFile};
 ghost use Rattle.age_cli.specs.Acts.{Acts, IsBlamed, PortsOf, ShowsProgress, ShowsRun};
 ghost use Rattle.age_cli.specs.Commands.{HoldsNoPassphrase, HoldsNoRandom, MakesSecret};
-ghost use Rattle.age_cli.specs.inner.Openings.{Judges, IsRandom, IsMaterialIn};
+ghost use Rattle.age_cli.specs.inner.Openings.{Judges, IsRandom, IsMaterialIn, IsMaterialGiven};
 
 use crate::interruption::sealing_end;
 use crate::output::{Content, Output, begin_meter, conclude, end_meter, open_both};
@@ -51,6 +52,7 @@ fn random_in<S: Source>(alloc: Global, source: &mut S) -> Result<FileRandom, End
         (S.view source.new).supply bytes × IsRandom bytes r) }
     ensures short { IfErr result (λ e. is_usage e ≡ true → (e ≡ UsageEnding BadRandomFile)
         × ((bytes : List ℕ) → (S.view source.old).supply.left ≡ Some bytes → length bytes < 48)) }
+    ensures began { (from : Origin) → S.began source.old from → S.began source.new from }
     ensures early { IfErr result EndsEarly }
     ensures reason { IfErr result (λ e. (old : Files) (events : List Event)
         → HasReason old events (SourceFails S.view) e) }
@@ -66,6 +68,10 @@ fn random_in<S: Source>(alloc: Global, source: &mut S) -> Result<FileRandom, End
 fn read_random<F: FileSet>(alloc: Global, files: &mut F, name: &str) -> Result<FileRandom, Ending>
     ensures kept { (F.view files.new).entries ≡ (F.view files.old).entries }
     ensures unended { (F.view files.new).ended ≡ (F.view files.old).ended }
+    ensures reads { ReadsOn (F.gave files.old) (F.gave files.new) }
+    ensures given { IfOk result (λ r. (bytes : List ℕ)
+        × HasGiven (ReadSince (F.gave files.old) (F.gave files.new)) name.now bytes
+        × IsRandom bytes r) }
     ensures read { IfOk result (λ r. F.shows_bytes ≡ true
         → (bytes : List ℕ) × (rest : List ℕ)
         × ((F.view files.old).entries name.now ≡ Some (bytes ++ rest)) × IsRandom bytes r) }
@@ -77,7 +83,9 @@ fn read_random<F: FileSet>(alloc: Global, files: &mut F, name: &str) -> Result<F
         (F.view files.new).events (SourceFails F.In.view)) }
 {
     let mut source = files.open(alloc, name)?;
-    random_in(alloc, &mut source)
+    let random = random_in(alloc, &mut source);
+    files.finish(source);
+    random
 }
 
 /// The bytes of a file, if they hold a passphrase for this work factor.
@@ -111,6 +119,9 @@ fn read_pass<F: FileSet>(
     ensures early { IfErr result EndsEarly }
     ensures reason { F.shows_bytes ≡ true → IfErr result (HasReason (F.view files.old).entries
         (F.view files.new).events (SourceFails F.In.view)) }
+    ensures reads { ReadsOn (F.gave files.old) (F.gave files.new) }
+    ensures given { IfOk result (λ v. HasGivenAll (ReadSince (F.gave files.old) (F.gave files.new))
+        asked.now.pass.now v.items) }
     ensures read { IfOk result
         (λ v. F.shows_bytes ≡ true → (F.view files.old).entries asked.now.pass.now ≡ Some v.items) }
     ensures refused { F.shows_bytes ≡ true → IfErr result (λ e. is_usage e ≡ true
@@ -160,9 +171,14 @@ fn read_material<F: FileSet>(
     files: &mut F,
     asked: &Encrypting<'_>,
 ) -> Result<Material, Ending>
-    ensures { Judges (F.shows_bytes)
+    ensures reads { ReadsOn (F.gave files.old) (F.gave files.new) }
+    ensures given { IfOk result
+        (IsMaterialGiven (ReadSince (F.gave files.old) (F.gave files.new)) asked.now) }
+    ensures judges { Judges (F.shows_bytes)
         (Opened asked.now.pass.now ∷ Opened (random_name (option_text asked.now.random)) ∷ [])
-        (F.view files.old) (F.view files.new) (IsMaterialIn asked.now (F.view files.old).entries)
+        (F.view files.old) (F.view files.new)
+        (IsMaterialIn ((F.view files.old).entries asked.now.pass.now)
+        ((F.view files.old).entries (random_name (option_text asked.now.random))))
         (NamesTwice (order_asked (Encrypt asked.now)).apart)
         (IsBlamed (Encrypt asked.now) (F.view files.old).entries) (SourceFails F.In.view) result }
 {
@@ -181,11 +197,11 @@ fn read_material<F: FileSet>(
 
 /// The secret of a work factor and of what it is made of.
 fn secret_of<'a>(asked: &Encrypting<'_>, material: &'a Material) -> Result<Secret<'a>, Usage>
-    ensures makes { IfOk result (λ secret. (old : Files) → IsMaterialIn asked.now old material.now
-        → MakesSecret asked.now old secret) }
-    ensures none { IfErr result (λ usage. (usage ≡ BadPassphraseFile) × ((old : Files)
-        → IsMaterialIn asked.now old material.now
-        → HoldsNoPassphrase (old asked.now.pass.now) asked.now.log)) }
+    ensures makes { IfOk result (λ secret. (pass random : Option (List ℕ))
+        → IsMaterialIn pass random material.now → MakesSecret asked.now pass random secret) }
+    ensures none { IfErr result (λ usage. (usage ≡ BadPassphraseFile)
+        × ((pass random : Option (List ℕ)) → IsMaterialIn pass random material.now
+        → HoldsNoPassphrase pass asked.now.log)) }
 {
     match Secret::new(
         trimmed(material.pass.as_slice()),
@@ -223,6 +239,8 @@ fn seal_text<F: FileSet, P: Meter>(
         (ports (F.In.view source) (F.Out.view out.old.out))
         (ports (F.In.view result.source) (F.Out.view out.new.out))) }
     ensures named { (F.Out.view out.new.out).label ≡ (F.Out.view out.old.out).label }
+    ensures began { (name : List ℕ) → F.In.began source (Named name)
+        → F.In.began result.source (Named name) }
     ensures silent { asked.now.progress ≡ Silent → progress.new ≡ progress.old }
     ensures shown { asked.now.progress ≡ Shown → ShowsRun (F.shows_bytes)
         (F.In.view source).supply.left (F.In.view result.source).supply (P.shown progress.old)
@@ -262,7 +280,8 @@ pub fn encrypt_file<F: FileSet, E: Sink, P: Meter>(
 ) -> Result<(), Ending>
     ensures announced { Tells announced.new result (E.view faults.old) (E.view faults.new)
         (faults.new ≡ faults.old) }
-    ensures acts { Acts (PortsOf F.In.view F.opened_as F.Out.view) (F.shows_bytes) (Encrypt asked.now)
+    ensures acts { Acts (PortsOf F.In.view F.Out.view)
+        (ReadSince (F.gave files.old) (F.gave files.new)) (F.shows_bytes) (Encrypt asked.now)
         (F.view files.old) (F.view files.new) (SourceFails F.In.view)
         (progress.new ≡ progress.old)
         (ShowsProgress (F.shows_bytes) (P.shown progress.old) (P.shown progress.new)) result }
@@ -279,7 +298,10 @@ pub fn encrypt_file<F: FileSet, E: Sink, P: Meter>(
         content: Content::AgeFile,
     };
     let (source, mut out) = open_both(alloc, files, asked.from, &output)?;
-    let sealed = seal_text(alloc, files, asked, &secret, source, &mut out, progress);
+    let Sealed { end, source } = seal_text(
+        alloc, files, asked, &secret, source, &mut out, progress,
+    );
+    files.finish(source);
     conclude(
         alloc,
         files,
@@ -288,6 +310,6 @@ pub fn encrypt_file<F: FileSet, E: Sink, P: Meter>(
         output.durability,
         faults,
         announced,
-        sealing_end(sealed.end),
+        sealing_end(end),
     )
 }

@@ -6,7 +6,8 @@ ghost use Rattle.age_io.specs.Taken.{Appends};
 ghost use Rattle.age_file.specs.Runs.{HeadFails, NoHeadFault};
 ghost use Rattle.age_file.specs.declared.report.Report.{Report};
 ghost use Rattle.age_command.specs.declared.ending.Ending.TheVariants.{Fault};
-ghost use Rattle.age_fileset.specs.FileSet.{Opened};
+ghost use Rattle.age_io.specs.Io.{Origin};
+ghost use Rattle.age_fileset.specs.FileSet.{Opened, ReadSince};
 ghost use Rattle.age_cli.specs.Commands.{Reports, ReportsFile, FailsReport, report_text, seen};
 ghost use Rattle.age_cli.specs.inner.Reported.{IsInspected};
 ghost use Rattle.age_cli.specs.Runs.{FailsWriting};
@@ -29,6 +30,7 @@ fn inspect_as<I: Source>(
     ensures ok { IfOk result (IsInspected length (I.view input.old).supply
         (I.view input.new).supply) }
     ensures fails { IfErr result (HeadFails NoHeadFault (I.view input.old) (I.view input.new)) }
+    ensures began { (from : Origin) → I.began input.old from → I.began input.new from }
 {
     match length {
         Some(len) => inspect_sized(alloc, len, input),
@@ -48,6 +50,7 @@ fn write_report<I: Source, O: Sink>(
         × Appends (O.view output.old).taken (O.view output.new).taken (report_text r)) }
     ensures fails { IfErr result (λ f. FailsReport (I.view input.old).supply.left (Fault f)) }
     ensures sent { OnOk result ((O.view output.new).settled ≡ true) }
+    ensures began { (from : Origin) → I.began input.old from → I.began input.new from }
     ensures unprinted { IfErr result (λ f.
         FailsWriting (O.view output.old) (O.view output.new) (Fault f)
         ⊎ (output.new ≡ output.old)) }
@@ -71,6 +74,7 @@ fn report_as<I: Source, O: Sink>(
         × IsInspected length (I.view input.old).supply (I.view input.new).supply r
         × Appends (O.view output.old).taken (O.view output.new).taken (report_text r)) }
     ensures fails { IfErr result (FailsReport (I.view input.old).supply.left) }
+    ensures began { (from : Origin) → I.began input.old from → I.began input.new from }
     ensures sent { OnOk result ((O.view output.new).settled ≡ true) }
     ensures unprinted { IfErr result (λ e. FailsWriting (O.view output.old) (O.view output.new) e
         ⊎ (output.new ≡ output.old)) }
@@ -90,6 +94,7 @@ pub(crate) fn report<I: Source, O: Sink>(
         (Reports (I.view input.old).supply (I.view input.new).supply (O.view output.old).taken
         (O.view output.new).taken) }
     ensures fails { IfErr result (FailsReport (I.view input.old).supply.left) }
+    ensures began { (from : Origin) → I.began input.old from → I.began input.new from }
     ensures sent { OnOk result ((O.view output.new).settled ≡ true) }
     ensures unprinted { IfErr result (λ e. FailsWriting (O.view output.old) (O.view output.new) e
         ⊎ (output.new ≡ output.old)) }
@@ -121,7 +126,8 @@ pub(crate) fn report_file<F: FileSet, O: Sink>(
     ensures kept { (F.view files.new).entries ≡ (F.view files.old).entries }
     ensures unended { (F.view files.new).ended ≡ (F.view files.old).ended }
     ensures noted { (F.view files.new).events ≡ (F.view files.old).events ++ Opened name.now ∷ [] }
-    ensures done { OnOk result (ReportsFile (F.shows_bytes) ((F.view files.old).entries name.now)
+    ensures done { OnOk result (ReportsFile (ReadSince (F.gave files.old) (F.gave files.new))
+        (F.shows_bytes) name.now ((F.view files.old).entries name.now)
         (O.view output.old).taken (O.view output.new).taken) }
     ensures fails { IfErr result (FailsReport
         (seen (F.shows_bytes) ((F.view files.old).entries name.now))) }
@@ -138,5 +144,7 @@ pub(crate) fn report_file<F: FileSet, O: Sink>(
         Err(OpenFault::SameFile) => return Err(Ending::Fault(FileFault::Read)),
     };
     let length = known_length(files, &source);
-    report_as(alloc, length, &mut source, output)
+    let reported = report_as(alloc, length, &mut source, output);
+    files.finish(source);
+    reported
 }

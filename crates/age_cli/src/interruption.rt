@@ -1,15 +1,16 @@
 //! How a command that writes a text stops, and where its position goes.
 
-ghost use Rattle.std.specs.Prelude.{◌≡◌, ◌⊎◌, true, false, None, OnOk, IfErr, IfSome, IsErr, is_some};
+ghost use Rattle.std.specs.Prelude.{◌≡◌, ◌⊎◌, true, false, None, OnOk, IfErr, IfSome, IsErr};
+ghost use Rattle.std.specs.Prelude.{IsSomeAnd, is_some};
 ghost use Rattle.age_cli_args.specs.Requests.{option_text};
 ghost use Rattle.age_command.specs.Endings.{is_usage, Announces};
-ghost use Rattle.age_cli.specs.Acts.{SaveFails, EndsOf, IsEndingOf, HasSaved};
+ghost use Rattle.age_cli.specs.Acts.{SaveFails, EndsOf, IsEndingOf, HasPut};
 ghost use Rattle.age_command.specs.Orders.{Follows, replacing};
 ghost use Rattle.age_command.specs.Files.{SparesBoth};
 ghost use Rattle.age_cli.specs.inner.Endings.{sealing_end, opening_end, IsBeyond, IsUnsaved};
+ghost use Rattle.age_cli.specs.inner.Endings.{IsNotDue, LacksOne};
 ghost use Rattle.age_cli.specs.inner.Openings.{IsStored};
 ghost use Rattle.age_machine.specs.Saved.{Saves};
-ghost use Rattle.age_file.specs.declared.position.Position.{Position};
 ghost use Rattle.age_file.specs.Resumes.{position_text};
 
 use age_command::{Announcement, Ending, announce};
@@ -84,8 +85,10 @@ pub(crate) fn save<F: FileSet>(
     ensures noted { Follows (replacing (option_text name.entry) durability)
         (F.view files.old).events (F.view files.new).events }
     ensures unended { (F.view files.new).ended ≡ (F.view files.old).ended }
-    ensures put { ((F.view files.new).events ≡ (F.view files.old).events) ⊎ ((p : Position)
-        × Saves (position_text p) durability result (F.view files.new).saved) }
+    ensures unread { F.gave files.new ≡ F.gave files.old }
+    ensures put { (((F.view files.new).events ≡ (F.view files.old).events)
+        × OnOk result (LacksOne (option_text name.entry) position)) ⊎ IsSomeAnd position
+        (λ p. Saves (position_text p) durability result (F.view files.new).saved) }
     ensures others { F.shows_bytes ≡ true → SparesBoth None (option_text name.entry)
         (F.view files.old).entries (F.view files.new).entries }
 {
@@ -122,8 +125,10 @@ pub(crate) fn end_of<F: FileSet, E: Sink>(
     ensures noted { Follows (replacing (option_text name.entry) durability)
         (F.view files.old).events (F.view files.new).events }
     ensures unended { (F.view files.new).ended ≡ (F.view files.old).ended }
-    ensures put { ((F.view files.new).events ≡ (F.view files.old).events)
-        ⊎ HasSaved durability result (F.view files.new).saved }
+    ensures unread { F.gave files.new ≡ F.gave files.old }
+    ensures put { (((F.view files.new).events ≡ (F.view files.old).events)
+        × IsNotDue result (option_text name.entry) stop.position)
+        ⊎ HasPut durability stop.position result (F.view files.new).saved }
     ensures others { F.shows_bytes ≡ true → SparesBoth None (option_text name.entry)
         (F.view files.old).entries (F.view files.new).entries }
 {

@@ -13,13 +13,13 @@ use age_io::Meter;
 /// as it was or holds a beginning of the plaintext, while no block of IN opens except as its writer
 /// sealed it; and 0 means all of the plaintext.
 pub fn runs_keep_out<F: FileSet, I: Source, O: Sink, E: Sink, P: Meter>()
-    ensures { RunsKeepOut (PortsOf F.In.view F.opened_as F.Out.view) (SourceFails F.In.view) I O E P }
+    ensures { RunsKeepOut (PortsOf F.In.view F.Out.view) (SourceFails F.In.view) I O E P }
 {}
 
 /// What is refused writes nothing to the output, and a report that fails doesn't blame the command
 /// line.
 pub fn refusals_are_silent<F: FileSet, I: Source, O: Sink, P: Meter>()
-    ensures silent { RefusesInSilence (F.shows_bytes) (PortsOf F.In.view F.opened_as F.Out.view)
+    ensures silent { RefusesInSilence (F.shows_bytes) (PortsOf F.In.view F.Out.view)
         (SourceFails F.In.view) I O P }
     ensures reported { ReportsAccept }
 {}
@@ -31,10 +31,10 @@ pub fn refusals_are_silent<F: FileSet, I: Source, O: Sink, P: Meter>()
 /// cut leaves nothing else there. After a fault that comes before the text, also of a wrong
 /// passphrase, OUT is as it was, or the empty file that was made.
 pub fn decryptions_leave_text<F: FileSet, P: Meter>()
-    ensures done { DoneLeavesText (F.shows_bytes) (PortsOf F.In.view F.opened_as F.Out.view)
+    ensures done { DoneLeavesText (F.shows_bytes) (PortsOf F.In.view F.Out.view)
         (SourceFails F.In.view) P }
     ensures resumed { ResumedLeavesText (F.shows_bytes)
-        (PortsOf F.In.view F.opened_as F.Out.view) (SourceFails F.In.view) P }
-    ensures spared { EarlyFaultsSpareOut (F.shows_bytes) (PortsOf F.In.view F.opened_as F.Out.view)
+        (PortsOf F.In.view F.Out.view) (SourceFails F.In.view) P }
+    ensures spared { EarlyFaultsSpareOut (F.shows_bytes) (PortsOf F.In.view F.Out.view)
         (SourceFails F.In.view) P }
 {}

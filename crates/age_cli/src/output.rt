@@ -2,7 +2,7 @@
 
 ghost use Rattle.std.specs.Prelude.{◌≡◌, [], ◌∷◌, ◌++◌, Some, None, true, false, is_some, IfErr, ℕ};
 ghost use Rattle.std.specs.Prelude.{Option, option_map, length, OnErr, IfOk, IfSome, IsErrAnd, IsSomeAnd};
-ghost use Rattle.age_io.specs.Io.{Adds, Begins, Ends};
+ghost use Rattle.age_io.specs.Io.{Adds, Begins, Ends, Named};
 ghost use Rattle.age_fault.specs.declared.fault.FileFault.TheVariants.{Write};
 ghost use Rattle.age_fileset.specs.FileSet.{Opened, Closed, OpenFails};
 ghost use Rattle.age_cli_args.specs.Requests.{option_text};
@@ -69,6 +69,7 @@ fn make_out<F: FileSet>(
 ) -> Result<F::Out, OpenFault>
     ensures kept { (F.view files.new).entries ≡ (F.view files.old).entries }
     ensures unended { (F.view files.new).ended ≡ (F.view files.old).ended }
+    ensures unread { F.gave files.new ≡ F.gave files.old }
     ensures made { IfOk result (λ o. F.shows_bytes ≡ true
         → ((F.Out.view o).taken.contents ≡ Some []) × ((F.Out.view o).label ≡ asked.now.to.now)
         × IsFresh asked.now.clobber ((F.view files.old).entries asked.now.to.now)) }
@@ -91,7 +92,8 @@ fn create_out<F: FileSet>(
     files: &mut F,
     asked: &Output<'_>,
 ) -> Result<Taking<F>, Ending>
-    ensures { OpensFiles (F.shows_bytes) (creating asked.now.clobber asked.now.to.now ∷ [])
+    ensures unread { F.gave files.new ≡ F.gave files.old }
+    ensures opens { OpensFiles (F.shows_bytes) (creating asked.now.clobber asked.now.to.now ∷ [])
         (making asked.now.clobber (Some asked.now.to.now) asked.now.durability) (F.view files.old)
         (F.view files.new) (λ o. ((F.Out.view o.out).taken.contents ≡ Some [])
         × ((F.Out.view o.out).label ≡ asked.now.to.now)
@@ -114,6 +116,7 @@ fn create_out<F: FileSet>(
 fn prepare_save<F: FileSet>(alloc: Global, files: &mut F, asked: &Output<'_>) -> Result<(), Ending>
     ensures kept { (F.view files.new).entries ≡ (F.view files.old).entries }
     ensures unended { (F.view files.new).ended ≡ (F.view files.old).ended }
+    ensures unread { F.gave files.new ≡ F.gave files.old }
     ensures noted { (F.view files.new).events
         ≡ (F.view files.old).events ++ preparing (option_text asked.now.save) }
     ensures early { IfErr result EndsEarly }
@@ -135,7 +138,8 @@ pub(crate) fn open_both<F: FileSet>(
     from: &str,
     asked: &Output<'_>,
 ) -> Result<(F::In, Taking<F>), Ending>
-    ensures { OpensFiles (F.shows_bytes)
+    ensures unread { F.gave files.new ≡ F.gave files.old }
+    ensures opens { OpensFiles (F.shows_bytes)
         (Opened from.now ∷ (preparing (option_text asked.now.save)
         ++ creating asked.now.clobber asked.now.to.now ∷ []))
         (Opened from.now ∷ (preparing (option_text asked.now.save)
@@ -147,7 +151,7 @@ pub(crate) fn open_both<F: FileSet>(
         × ((F.Out.view both.1.out).label ≡ asked.now.to.now))
         × IsFresh asked.now.clobber ((F.view files.old).entries asked.now.to.now))
         (λ both. AreNew (ports (F.In.view both.0) (F.Out.view both.1.out))
-        × IfSome (F.opened_as both.0) (λ n. n ≡ from.now))
+        × F.In.began both.0 (Named from.now))
         (SourceFails F.In.view) result }
 {
     let source = files.open(alloc, from)?;
@@ -182,6 +186,7 @@ pub(crate) fn leave<F: FileSet>(files: &mut F, out: Taking<F>, durability: Durab
     ensures noted { (F.view files.new).events
         ≡ (F.view files.old).events ++ Closed durability ∷ [] }
     ensures ended { IsSomeAnd (F.view files.new).ended (LeavesFile (F.Out.view out.out)) }
+    ensures unread { F.gave files.new ≡ F.gave files.old }
 {
     let Taking { out, is_empty } = out;
     if is_empty {
@@ -199,7 +204,8 @@ fn end_out<F: FileSet>(
     durability: Durability,
     engine: Result<(), Interruption>,
 ) -> Result<(), Interruption>
-    ensures { EndsOut (F.shows_bytes) durability (F.Out.view out.out) engine (F.view files.old)
+    ensures unread { F.gave files.new ≡ F.gave files.old }
+    ensures ends { EndsOut (F.shows_bytes) durability (F.Out.view out.out) engine (F.view files.old)
         (F.view files.new) result }
 {
     match engine {
@@ -220,6 +226,7 @@ fn settle_stop<F: FileSet>(
     engine: &Result<(), Interruption>,
 ) -> u64
     ensures kept { F.view files.new ≡ F.view files.old }
+    ensures unread { F.gave files.new ≡ F.gave files.old }
     ensures same { F.Out.view out.new.out ≡ F.Out.view out.old.out }
     ensures all { is_some (option_text save.entry) ≡ true → OnErr engine.now
         (IsCertain (F.shows_bytes) (F.Out.view out.old.out).taken.contents result) }
@@ -246,6 +253,7 @@ fn conclude_settled<F: FileSet, E: Sink>(
 ) -> Result<(), Ending>
     ensures announced { Tells announced.new result (E.view faults.old) (E.view faults.new)
         (faults.new ≡ faults.old) }
+    ensures unread { F.gave files.new ≡ F.gave files.old }
     ensures concludes { Concludes (F.shows_bytes) (option_text save.entry) durability
         (F.Out.view out.out) engine (F.view files.old) (F.view files.new) result }
     ensures beyond { IfErr engine (λ stop. IfSome stop.position (λ p. IsBeyond settled p
@@ -273,6 +281,7 @@ pub(crate) fn conclude<F: FileSet, E: Sink>(
 ) -> Result<(), Ending>
     ensures announced { Tells announced.new result (E.view faults.old) (E.view faults.new)
         (faults.new ≡ faults.old) }
+    ensures unread { F.gave files.new ≡ F.gave files.old }
     ensures concludes { Concludes (F.shows_bytes) (option_text save.entry) durability
         (F.Out.view out.out) engine (F.view files.old) (F.view files.new) result }
 {

@@ -10,6 +10,7 @@ ghost use Rattle.age_cli.specs.Acts.{PortsOf, ending_status, ShowsProgress};
 ghost use Rattle.age_cli.specs.Runs.{world, IsRefusal, Obeys, Prints, FailsWriting, Runs};
 ghost use Rattle.age_command.specs.Endings.{Tells};
 ghost use Rattle.age_command.specs.Files.{SourceFails};
+ghost use Rattle.age_fileset.specs.FileSet.{ReadSince};
 ghost use Rattle.age_cli.specs.inner.Endings.{IsForOutput};
 
 use crate::decrypt_command::decrypt_file;
@@ -59,7 +60,8 @@ fn obey<F: FileSet, I: Source, O: Sink, E: Sink, P: Meter>(
 ) -> Result<(), Ending>
     ensures announced { Tells announced.new result (E.view faults.old) (E.view faults.new)
         (faults.new ≡ faults.old) }
-    ensures obeys { Obeys (texts words.now) (F.shows_bytes) (PortsOf F.In.view F.opened_as F.Out.view)
+    ensures obeys { Obeys (texts words.now) (F.shows_bytes) (PortsOf F.In.view F.Out.view)
+        (ReadSince (F.gave files.old) (F.gave files.new))
         (world (F.view files.old) (I.view input.old).supply (O.view output.old))
         (world (F.view files.new) (I.view input.new).supply (O.view output.new))
         (SourceFails F.In.view) (input.new ≡ input.old) (output.new ≡ output.old)
@@ -116,7 +118,8 @@ pub fn run<F: FileSet, I: Source, O: Sink, E: Sink, P: Meter>(
     faults: &mut E,
     progress: &mut P,
 ) -> u8
-    ensures { Runs (texts words.now) (F.shows_bytes) (PortsOf F.In.view F.opened_as F.Out.view)
+    ensures { Runs (texts words.now) (F.shows_bytes) (PortsOf F.In.view F.Out.view)
+        (ReadSince (F.gave files.old) (F.gave files.new))
         (world (F.view files.old) (I.view input.old).supply (O.view output.old))
         (world (F.view files.new) (I.view input.new).supply (O.view output.new))
         (E.view faults.old) (E.view faults.new) (SourceFails F.In.view) (faults.new ≡ faults.old)

@@ -1,17 +1,17 @@
 //! How the position of a stop is found by reading the input once more.
 
 ghost use Rattle.std.specs.Prelude.{◌≡◌, ◌⊎◌, ℕ, List, Option, true, false, is_some, IfOk, IfErr, OnOk, min};
-ghost use Rattle.age_io.specs.Io.{Origin};
+ghost use Rattle.age_io.specs.Io.{Named, Origin};
 ghost use Rattle.age_io.specs.Supply.{Supply};
 ghost use Rattle.age_fault.specs.declared.fault.FileFault.TheVariants.{Read};
 ghost use Rattle.age_file.specs.declared.position.PositionPolicy.TheVariants.{Dropped};
-ghost use Rattle.age_fileset.specs.FileSet.{IsMemoryOr};
+ghost use Rattle.age_fileset.specs.FileSet.{IsMemoryOr, ReadSince, reading_of};
 ghost use Rattle.age_cli_args.specs.Requests.{option_text};
 ghost use Rattle.age_cli_args.specs.declared.request.ProgressOption.TheVariants.{Silent};
 ghost use Rattle.age_command.specs.Endings.{Announces, Tells};
-ghost use Rattle.age_cli.specs.Acts.{ShowsRun, kept_for};
-ghost use Rattle.age_cli.specs.inner.Rereadings.{IsFoundIn, ConcludesAgain, ConcludesDecryption};
-ghost use Rattle.age_cli.specs.inner.Rereadings.{ConcludesFound, again_of, start_of};
+ghost use Rattle.age_cli.specs.Acts.{Finds, ShowsRun, kept_for, start_of};
+ghost use Rattle.age_cli.specs.inner.Rereadings.{IsFoundIn, ConcludesAgain, ConcludesDecryption, again_of};
+ghost use Rattle.age_cli.specs.inner.Rereadings.{ConcludesFound};
 
 use crate::interruption::{opening_end, save};
 use crate::output::{begin_meter, conclude, end_meter, leave};
@@ -99,9 +99,9 @@ fn position_in<S: Source>(
     written: u128,
     source: &mut S,
 ) -> Result<Position, FileFault>
-    ensures found { IfOk result (IsFoundIn from.now (S.view source.old).supply.left key.now written) }
+    ensures found { IfOk result (Finds from.now key.now (S.view source.old) (S.view source.new) written) }
     ensures faults { IfErr result (IsMemoryOr Read) }
-    ensures metered { (began : Origin) → S.metered source.old began → S.metered source.new began }
+    ensures began { (from : Origin) → S.began source.old from → S.began source.new from }
 {
     position_after(alloc, key, from, written, source)
 }
@@ -121,19 +121,73 @@ fn start_of(from: Option<Position>, settled: u64) -> Option<Position>
     }
 }
 
+/// What a second reading of the input found, with the input.
+#[derive(Drop)]
+struct Found<S: Source> {
+    position: Result<Position, FileFault>,
+    source: S,
+}
+
+/// The position after this many bytes of the text, by an input that was set back to its start.
+fn find_in<F: FileSet, P: Meter>(
+    alloc: Global,
+    files: &F,
+    asked: &Decrypting<'_>,
+    from: &Option<Position>,
+    key: &KnownKey,
+    written: u128,
+    mut source: F::In,
+    progress: &mut P,
+) -> Found<F::In>
+    ensures found { IfOk result.position (Finds from.now key.now (F.In.view source)
+        (F.In.view result.source) written) }
+    ensures faults { IfErr result.position (IsMemoryOr Read) }
+    ensures began { (name : List ℕ) → F.In.began source (Named name)
+        → F.In.began result.source (Named name) }
+    ensures silent { asked.now.progress ≡ Silent → progress.new ≡ progress.old }
+    ensures shown { (P.shown progress.new ≡ P.shown progress.old)
+        ⊎ ((input : Option (List ℕ)) × (left : Supply) × ShowsRun (F.shows_bytes) input left
+        (P.shown progress.old) (P.shown progress.new)) }
+{
+    match asked.progress {
+        ProgressOption::Silent => {
+            let position = position_in(alloc, from, key, written, &mut source);
+            Found { position, source }
+        }
+        ProgressOption::Shown => {
+            begin_meter(files, &source, &mut *progress);
+            let mut metered = Metered {
+                source,
+                meter: &mut *progress,
+            };
+            let position = position_in(alloc, from, key, written, &mut metered);
+            let Metered {
+                source,
+                meter: _meter,
+            } = metered;
+            end_meter(&mut *progress);
+            Found { position, source }
+        }
+    }
+}
+
 /// The position of a stop, or of an earlier one at what OUT holds for certain, by reading the input
 /// once more.
 fn find_again<F: FileSet, P: Meter>(
     alloc: Global,
-    files: &F,
+    files: &mut F,
     asked: &Decrypting<'_>,
     again: Again<F::In>,
     settled: u64,
     progress: &mut P,
 ) -> Result<Position, FileFault>
-    ensures found { F.shows_bytes ≡ true → IfOk result (IsFoundIn (start_of settled again.from)
-        ((F.view files.now).entries asked.now.from.now) again.key
-        (min again.stopped.written settled)) }
+    requires { F.In.began again.source (Named asked.now.from.now) }
+    ensures kept { F.view files.new ≡ F.view files.old }
+    ensures over { ReadSince (F.gave files.old) (F.gave files.new)
+        (reading_of asked.now.from.now (F.In.view again.source)) }
+    ensures found { IfOk result (IsFoundIn (ReadSince (F.gave files.old) (F.gave files.new))
+        (F.shows_bytes ≡ true) asked.now.from.now ((F.view files.old).entries asked.now.from.now)
+        (start_of settled again.from) again.key (min again.stopped.written settled)) }
     ensures faults { IfErr result (IsMemoryOr Read) }
     ensures silent { asked.now.progress ≡ Silent → progress.new ≡ progress.old }
     ensures shown { (P.shown progress.new ≡ P.shown progress.old)
@@ -149,23 +203,10 @@ fn find_again<F: FileSet, P: Meter>(
     let written = stopped.written.min(u128::from(settled));
     let from = start_of(from, settled);
     files.reread(alloc, asked.from, &mut source)?;
-    match asked.progress {
-        ProgressOption::Silent => position_in(alloc, &from, &key, written, &mut source),
-        ProgressOption::Shown => {
-            begin_meter(files, &source, &mut *progress);
-            let mut metered = Metered {
-                source,
-                meter: &mut *progress,
-            };
-            let found = position_in(alloc, &from, &key, written, &mut metered);
-            let Metered {
-                source: _source,
-                meter: _meter,
-            } = metered;
-            end_meter(&mut *progress);
-            found
-        }
-    }
+    let found = find_in(alloc, files, asked, &from, &key, written, source, progress);
+    let Found { position, source } = found;
+    files.finish(source);
+    position
 }
 
 /// Ends the output of a decryption that stopped and dropped its position, puts the line of its
@@ -182,9 +223,13 @@ fn conclude_found<F: FileSet, E: Sink, P: Meter>(
     announced: &mut Announcement,
     progress: &mut P,
 ) -> Ending
-    requires { is_some (option_text asked.now.save) ≡ true }
+    requires save { is_some (option_text asked.now.save) ≡ true }
+    requires input { F.In.began again.source (Named asked.now.from.now) }
+    ensures over { ReadSince (F.gave files.old) (F.gave files.new)
+        (reading_of asked.now.from.now (F.In.view again.source)) }
     ensures announced { Announces announced.new result (E.view faults.old) (E.view faults.new) ⊥ }
-    ensures again { ConcludesFound (F.shows_bytes) asked.now (F.Out.view out.out) again.from
+    ensures again { ConcludesFound (ReadSince (F.gave files.old) (F.gave files.new))
+        (F.shows_bytes) asked.now (F.Out.view out.out) again.from
         again.stopped again.key (F.view files.old) (F.view files.new) result settled }
     ensures silent { asked.now.progress ≡ Silent → progress.new ≡ progress.old }
     ensures shown { (P.shown progress.new ≡ P.shown progress.old)
@@ -222,9 +267,13 @@ fn conclude_again<F: FileSet, E: Sink, P: Meter>(
     announced: &mut Announcement,
     progress: &mut P,
 ) -> Ending
-    requires { is_some (option_text asked.now.save) ≡ true }
+    requires save { is_some (option_text asked.now.save) ≡ true }
+    requires input { F.In.began again.source (Named asked.now.from.now) }
+    ensures over { ReadSince (F.gave files.old) (F.gave files.new)
+        (reading_of asked.now.from.now (F.In.view again.source)) }
     ensures announced { Announces announced.new result (E.view faults.old) (E.view faults.new) ⊥ }
-    ensures again { ConcludesAgain (F.shows_bytes) asked.now (F.Out.view out.out) again.from
+    ensures again { ConcludesAgain (ReadSince (F.gave files.old) (F.gave files.new))
+        (F.shows_bytes) asked.now (F.Out.view out.out) again.from
         again.stopped again.key (F.view files.old) (F.view files.new) result }
     ensures silent { asked.now.progress ≡ Silent → progress.new ≡ progress.old }
     ensures shown { (P.shown progress.new ≡ P.shown progress.old)
@@ -250,10 +299,14 @@ pub(crate) fn conclude_decryption<F: FileSet, E: Sink, P: Meter>(
     announced: &mut Announcement,
     progress: &mut P,
 ) -> Result<(), Ending>
-    requires { is_reread ≡ true → is_some (option_text asked.now.save) ≡ true }
+    requires save { is_reread ≡ true → is_some (option_text asked.now.save) ≡ true }
+    requires input { F.In.began decrypted.source (Named asked.now.from.now) }
+    ensures over { ReadSince (F.gave files.old) (F.gave files.new)
+        (reading_of asked.now.from.now (F.In.view decrypted.source)) }
     ensures announced { Tells announced.new result (E.view faults.old) (E.view faults.new)
         (faults.new ≡ faults.old) }
-    ensures concludes { ConcludesDecryption (F.shows_bytes) asked.now (F.Out.view out.out)
+    ensures concludes { ConcludesDecryption (ReadSince (F.gave files.old) (F.gave files.new))
+        (F.shows_bytes) asked.now (F.Out.view out.out)
         decrypted.from decrypted.end (again_of is_reread decrypted.end decrypted.key)
         (F.view files.old) (F.view files.new) result }
     ensures silent { asked.now.progress ≡ Silent → progress.new ≡ progress.old }
@@ -278,15 +331,18 @@ pub(crate) fn conclude_decryption<F: FileSet, E: Sink, P: Meter>(
             };
             Err(conclude_again(alloc, files, out, asked, again, faults, announced, progress))
         }
-        None => conclude(
-            alloc,
-            files,
-            out,
-            asked.save,
-            asked.durability,
-            faults,
-            announced,
-            opening_end(end),
-        ),
+        None => {
+            files.finish(source);
+            conclude(
+                alloc,
+                files,
+                out,
+                asked.save,
+                asked.durability,
+                faults,
+                announced,
+                opening_end(end),
+            )
+        }
     }
 }

@@ -1,12 +1,13 @@
 //! The command that continues a decryption.
 
-ghost use Rattle.std.specs.Prelude.{◌≡◌, ◌⊎◌, [], ◌∷◌, ◌++◌, true, is_some, IfOk, IfErr, IfSome, OnOk};
+ghost use Rattle.std.specs.Prelude.{◌≡◌, ◌⊎◌, [], ◌∷◌, ◌++◌, true, ℕ, List, is_some, IfOk, IfErr, OnOk};
 ghost use Rattle.age_fault.specs.declared.fault.FileFault.TheVariants.{Read, BadPosition};
-ghost use Rattle.age_fileset.specs.FileSet.{Opened, OpenFails};
+ghost use Rattle.age_io.specs.Io.{Named, Origin};
+ghost use Rattle.age_fileset.specs.FileSet.{Opened, OpenFails, ReadsOn, ReadSince, HasGivenAll};
 ghost use Rattle.age_fileset.specs.declared.files.OpenFault.TheVariants as OpenFault;
 ghost use Rattle.age_cli_args.specs.declared.request.ProgressOption.TheVariants.{Silent, Shown};
 ghost use Rattle.age_cli_args.specs.declared.request.Request.TheVariants.{Resume};
-ghost use Rattle.age_file.specs.Resumes.{resume_ports, ResumesKeyed};
+ghost use Rattle.age_file.specs.Resumes.{resume_ports, position_text, ResumesKeyed};
 ghost use Rattle.age_file.specs.Runs.{ports};
 ghost use Rattle.age_command.specs.Identities.{allows_by, refuses_by};
 ghost use Rattle.age_command.specs.Orders.{Follows, NamesTwice, order_asked};
@@ -41,6 +42,9 @@ fn read_position<F: FileSet>(
 ) -> Result<Position, OpenFault>
     ensures kept { (F.view files.new).entries ≡ (F.view files.old).entries }
     ensures unended { (F.view files.new).ended ≡ (F.view files.old).ended }
+    ensures reads { ReadsOn (F.gave files.old) (F.gave files.new) }
+    ensures given { IfOk result (λ p. HasGivenAll (ReadSince (F.gave files.old) (F.gave files.new))
+        name.now (position_text p)) }
     ensures read { IfOk result
         (λ p. F.shows_bytes ≡ true → IsPositionIn ((F.view files.old).entries name.now) p) }
     ensures noted { (F.view files.new).events ≡ (F.view files.old).events ++ Opened name.now ∷ [] }
@@ -93,7 +97,9 @@ fn open_old<F: FileSet>(
     ensures found { IfOk result (λ s. F.shows_bytes ≡ true
         → (is_some (old_for position.now ((F.view files.old).entries name.now)) ≡ true)
         × ((F.In.view s).supply.left ≡ old_for position.now ((F.view files.old).entries name.now))) }
-    ensures named { IfOk result (λ s. IfSome (F.opened_as s) (λ n. n ≡ name.now)) }
+    ensures unread { F.gave files.new ≡ F.gave files.old }
+    ensures begun { IfOk result (λ s. (F.In.view s).supply.given ≡ []) }
+    ensures named { IfOk result (λ s. F.In.began s (Named name.now)) }
     ensures noted { (F.view files.new).events ≡ (F.view files.old).events ++ Opened name.now ∷ [] }
     ensures faults { IfErr result (OpenFails (F.shows_bytes) Read) }
     ensures reason { F.shows_bytes ≡ true → IfErr result (λ f. f ≡ OpenFault.Fault Read
@@ -119,8 +125,11 @@ fn open_earlier<F: FileSet>(
         × (is_some (old_for both.0 ((F.view files.old).entries asked.now.old.now)) ≡ true)
         × ((F.In.view both.1).supply.left
         ≡ old_for both.0 ((F.view files.old).entries asked.now.old.now))) }
-    ensures named { IfOk result
-        (λ both. IfSome (F.opened_as both.1) (λ n. n ≡ asked.now.old.now)) }
+    ensures reads { ReadsOn (F.gave files.old) (F.gave files.new) }
+    ensures given { IfOk result (λ both. HasGivenAll (ReadSince (F.gave files.old)
+        (F.gave files.new)) asked.now.position.now (position_text both.0)) }
+    ensures begun { IfOk result (λ both. (F.In.view both.1).supply.given ≡ []) }
+    ensures named { IfOk result (λ both. F.In.began both.1 (Named asked.now.old.now)) }
     ensures noted { OnOk result ((F.view files.new).events ≡ (F.view files.old).events
         ++ Opened asked.now.position.now ∷ Opened asked.now.old.now ∷ []) }
     ensures follows { Follows (Opened asked.now.position.now ∷ Opened asked.now.old.now ∷ [])
@@ -192,6 +201,9 @@ fn resume_text<F: FileSet, P: Meter>(
         (resume_ports (ports (F.In.view source) (F.Out.view out.old.out)) (F.In.view old.old))
         (resume_ports (ports (F.In.view result.source) (F.Out.view out.new.out)) (F.In.view old.new))
         result.end result.standing }
+    ensures began { (name : List ℕ) → F.In.began source (Named name)
+        → F.In.began result.source (Named name) }
+    ensures old_began { (from : Origin) → F.In.began old.old from → F.In.began old.new from }
     ensures silent { asked.now.progress ≡ Silent → progress.new ≡ progress.old }
     ensures shown { asked.now.progress ≡ Shown → ShowsRun (F.shows_bytes)
         (F.In.view source).supply.left (F.In.view result.source).supply (P.shown progress.old)
@@ -248,7 +260,7 @@ fn resume_text<F: FileSet, P: Meter>(
 fn resume_opened<F: FileSet, E: Sink, P: Meter>(
     alloc: Global,
     files: &mut F,
-    asked: &Decrypting<'_>,
+    asked: &Resuming<'_>,
     identity: Identity,
     position: &Position,
     mut old: F::In,
@@ -258,20 +270,25 @@ fn resume_opened<F: FileSet, E: Sink, P: Meter>(
     announced: &mut Announcement,
     progress: &mut P,
 ) -> Result<(), Ending>
+    requires input { F.In.began source (Named asked.now.decrypting.from.now) }
+    requires old { F.In.began old (Named asked.now.old.now) }
     ensures announced { Tells announced.new result (E.view faults.old) (E.view faults.new)
         (faults.new ≡ faults.old) }
-    ensures opened { ResumesOpened (PortsOf F.In.view F.opened_as F.Out.view) (F.shows_bytes) asked.now
-        identity position.now (F.In.view old) (ports (F.In.view source) (F.Out.view out.out))
+    ensures opened { ResumesOpened (PortsOf F.In.view F.Out.view)
+        (ReadSince (F.gave files.old) (F.gave files.new)) (F.shows_bytes) asked.now.decrypting
+        asked.now.old.now identity position.now (F.In.view old)
+        (ports (F.In.view source) (F.Out.view out.out))
         (F.view files.old) (F.view files.new) (progress.new ≡ progress.old)
         (ShowsProgress (F.shows_bytes) (P.shown progress.old) (P.shown progress.new)) result }
 {
     read_again::<Identity>();
-    let is_reread = can_reread(files, &source, asked.save);
+    let wanted = &asked.decrypting;
+    let is_reread = can_reread(files, &source, wanted.save);
     let resumed = resume_text(
         alloc,
         files,
-        asked,
-        positions_at_first(is_reread, asked.save),
+        wanted,
+        positions_at_first(is_reread, wanted.save),
         identity,
         position,
         source,
@@ -284,6 +301,7 @@ fn resume_opened<F: FileSet, E: Sink, P: Meter>(
         standing,
         source,
     } = resumed;
+    files.finish(old);
     let decrypted = Decrypted {
         end: placed(is_reread, &standing, position, end),
         key: key_of(standing),
@@ -291,7 +309,7 @@ fn resume_opened<F: FileSet, E: Sink, P: Meter>(
         from: Some(*position),
     };
     conclude_decryption(
-        alloc, files, out, asked, is_reread, decrypted, faults, announced, progress,
+        alloc, files, out, wanted, is_reread, decrypted, faults, announced, progress,
     )
 }
 
@@ -307,7 +325,8 @@ pub fn resume_file<F: FileSet, E: Sink, P: Meter>(
 ) -> Result<(), Ending>
     ensures announced { Tells announced.new result (E.view faults.old) (E.view faults.new)
         (faults.new ≡ faults.old) }
-    ensures acts { Acts (PortsOf F.In.view F.opened_as F.Out.view) (F.shows_bytes) (Resume asked.now)
+    ensures acts { Acts (PortsOf F.In.view F.Out.view)
+        (ReadSince (F.gave files.old) (F.gave files.new)) (F.shows_bytes) (Resume asked.now)
         (F.view files.old) (F.view files.new) (SourceFails F.In.view)
         (progress.new ≡ progress.old)
         (ShowsProgress (F.shows_bytes) (P.shown progress.old) (P.shown progress.new)) result }
@@ -336,6 +355,6 @@ pub fn resume_file<F: FileSet, E: Sink, P: Meter>(
     };
     let (source, out) = open_both(alloc, files, wanted.from, &output)?;
     resume_opened(
-        alloc, files, wanted, identity, &position, old, source, out, faults, announced, progress,
+        alloc, files, asked, identity, &position, old, source, out, faults, announced, progress,
     )
 }

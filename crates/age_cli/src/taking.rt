@@ -32,6 +32,7 @@ impl<F: FileSet> Taking<F> {
     /// How many of the bytes that it took it holds for certain.
     pub(crate) fn settle(&mut self, files: &mut F, durability: Durability) -> u64
         ensures kept { F.view files.new ≡ F.view files.old }
+        ensures unread { F.gave files.new ≡ F.gave files.old }
         ensures same { F.Out.view self.new.out ≡ F.Out.view self.old.out }
         ensures all { IsCertain (F.shows_bytes) (F.Out.view self.old.out).taken.contents result }
     {

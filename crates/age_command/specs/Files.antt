@@ -1,4 +1,5 @@
 -- What a command changes under which names, and why it may end before its output is written.
+use Rattle.std.specs.Prelude.{◌-◌, ◌==◌, ◌&&◌, nat_lt, take, slice_index, if◌then◌else◌}
 use Rattle.std.specs.Prelude.{◌≡◌, ◌⊎◌, ℕ, ◌<◌, ◌≤◌, List, [], ◌∷◌, ◌++◌, length, Option, Some, None}
 use Rattle.age_io.specs.Supply.{Supply, Consumes, IsAtEnd}
 use Rattle.clap.specs.Words.{Text}
@@ -23,13 +24,19 @@ abbrev pub SparesBoth : Option Text → Option Text → Files → Files → Type
 SparesBoth to save old new = (q : Text) → (to ≡ Some q → ⊥) → (save ≡ Some q → ⊥)
     → new q ≡ old q
 
--- ---- The first bytes of a source.
+-- ---- The first bytes of a source, and what a file of one line holds.
 
 -- this many bytes, or all that came before the end
 pub record AreFirst (old new : Supply) (most : ℕ) (bytes : List ℕ) : Type 0 where
   pub read : Consumes old new bytes
   pub within : length bytes ≤ most
   pub at_end : length bytes < most → IsAtEnd new
+
+-- the bytes without one line feed at their end
+abbrev pub without_line_feed : List ℕ → List ℕ
+without_line_feed xs =
+    if nat_lt 0 (length xs) && (slice_index xs (length xs - 1) == 10) then take (length xs - 1) xs
+    else xs
 
 -- ---- Why a command ends before its output is written, if contracts see the files.
 

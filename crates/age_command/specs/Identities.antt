@@ -7,11 +7,11 @@ use Rattle.age_keys.specs.Keys.{SpellsKey}
 use Rattle.age_keys.specs.Scrypt.{IsAllowed, IsPassphraseKey, PassphraseRefuses, passphrase_steps}
 use Rattle.age_keys.specs.X25519.{Shared, IsSharedKey, SharedRefuses}
 use Rattle.age_keys.specs.declared.fault.KeyFault.{KeyFault}
+use Rattle.age_fileset.specs.FileSet.{Reading, HasGivenAll}
 use Rattle.age_cli_args.specs.Requests.{option_text}
 use Rattle.age_cli_args.specs.declared.request.IdentityOptions.{IdentityOptions}
-use Rattle.age_command.specs.Files.{Files}
+use Rattle.age_command.specs.Files.{Files, without_line_feed}
 use Rattle.age_command.specs.Orders.{opening_event, identity_order}
-use Rattle.age_command.specs.Lines.{without_line_feed}
 use Rattle.age_command.specs.declared.choice.Choice.{Choice}
 use Rattle.age_command.specs.declared.choice.Choice.TheVariants.{PassphraseFile, FileKey, SharedFile}
 use Rattle.age_command.specs.declared.ending.Usage.{Usage}
@@ -50,19 +50,34 @@ pub record IsSharedIn (held : Option (List ℕ)) (shared : Shared) : Type 0 wher
   pub secret_length : length shared.secret ≡ 32
   pub recipient_length : length shared.recipient ≡ 32
 
--- the one option that says what opens the file, and the file that it names, make this
-abbrev pub IsIdentity : Files → Option Text → Option Text → Option Text → ℕ → Identity → Type 0
-IsIdentity old (Some pass) None None max_log (ByPassphrase words) =
-    IsPassphraseIn (old pass) words.pass
+-- the one option that says what opens the file, and what the file holds that it names, make this
+abbrev pub IsIdentity : Option (List ℕ) → Option Text → Option Text → Option Text → ℕ → Identity → Type 0
+IsIdentity held (Some pass) None None max_log (ByPassphrase words) = IsPassphraseIn held words.pass
     × (words.max_log ≡ max_log) × IsAllowed words.pass words.max_log
-IsIdentity old None (Some digits) None max_log (ByFileKey known) = SpellsKey digits known
-IsIdentity old None None (Some name) max_log (ByShared shared) = IsSharedIn (old name) shared
-IsIdentity old pass file_key shared max_log identity = ⊥
+IsIdentity held None (Some digits) None max_log (ByFileKey known) = SpellsKey digits known
+IsIdentity held None None (Some name) max_log (ByShared shared) = IsSharedIn held shared
+IsIdentity held pass file_key shared max_log identity = ⊥
 
--- the options, and the file that they name, make what opens the input
+-- the file of the passphrase or of the shared secret, if one is named
+abbrev pub either_name : Option Text → Option Text → Option Text
+either_name None other = other
+either_name (Some name) other = Some name
+
+abbrev pub identity_file : IdentityOptions → Option Text
+identity_file u = either_name (option_text u.pass) (option_text u.shared)
+
+-- the options, and what the file holds that they name, make what opens the input
+abbrev pub MakesBy : Option (List ℕ) → IdentityOptions → Identity → Type 0
+MakesBy held u identity = IsIdentity held (option_text u.pass) (option_text u.file_key)
+    (option_text u.shared) u.max_log identity
+
+-- what the file of this name holds, if a name is given
+abbrev pub held_for : Files → Option Text → Option (List ℕ)
+held_for old (Some name) = old name
+held_for old None = None
+
 abbrev pub OpensBy : Files → IdentityOptions → Identity → Type 0
-OpensBy old u identity = IsIdentity old (option_text u.pass) (option_text u.file_key) (option_text u.shared)
-    u.max_log identity
+OpensBy old u = MakesBy (held_for old (identity_file u)) u
 
 -- what is to blame if these options open nothing: the file or the key that the one of them gives, or
 -- that there isn't one
@@ -98,10 +113,10 @@ abbrev pub IsSecretIn : Files → Option Text → Option (List ℕ) → Type 0
 IsSecretIn old (Some name) (Some bytes) = old name ≡ Some bytes
 IsSecretIn old name bytes = Unit {0}
 
--- what the file of this name holds, if a name is given
-abbrev pub held_for : Files → Option Text → Option (List ℕ)
-held_for old (Some name) = old name
-held_for old None = None
+-- these bytes, if there are any, are all that the file of this name gave, if there is a name
+abbrev pub IsSecretGiven : (IsOver : Reading → Type 0) → Option Text → Option (List ℕ) → Type 0
+IsSecretGiven IsOver (Some name) (Some bytes) = HasGivenAll IsOver name bytes
+IsSecretGiven IsOver name bytes = Unit {0}
 
 -- what a choice makes of the bytes of its file
 abbrev pub Makes : Choice → Option (List ℕ) → Identity → Type 0
@@ -121,9 +136,12 @@ pub record Chooses (options : IdentityOptions) (choice : Choice) : Type 0 where
   -- Its file is the one that the options name.
   pub order : opening_event (file_of choice)
       ≡ identity_order (option_text options.pass) (option_text options.shared)
+  pub file : file_of choice ≡ identity_file options
   -- If it makes nothing, that is to blame which is if the options open nothing.
   pub blame : blame_in choice ≡ blame_by options
-  -- What it makes of the bytes of its file is what the options and the files make.
+  -- What it makes of the bytes of its file is what the options make of them, and with the files.
+  pub makes : (held : Option (List ℕ)) (identity : Identity) → Makes choice held identity
+      → MakesBy held options identity
   pub opens : (old : Files) (held : Option (List ℕ)) (identity : Identity)
       → IsSecretIn old (file_of choice) held → Makes choice held identity
       → OpensBy old options identity

@@ -4,11 +4,12 @@ ghost use Rattle.std.specs.Prelude.{◌≡◌, ◌++◌, true, IfOk, IfErr, IfSo
 ghost use Rattle.age_keys.specs.Scrypt.{IsAllowed, PassphraseIdentity};
 ghost use Rattle.age_keys.specs.X25519.{Shared};
 ghost use Rattle.age_fault.specs.declared.fault.FileFault.TheVariants.{Read};
-ghost use Rattle.age_fileset.specs.FileSet.{OpenFails};
+ghost use Rattle.age_fileset.specs.FileSet.{OpenFails, ReadsOn, ReadSince};
 ghost use Rattle.age_command.specs.Orders.{opening_event};
 ghost use Rattle.age_command.specs.Identities.{IsPassphraseIn, IsSharedIn, OpensBy, file_of};
 ghost use Rattle.age_command.specs.Identities.{blame_by, blame_in};
 ghost use Rattle.age_command.specs.Identities.{file_bytes, IsSecretIn, Makes, Chooses, IsEnough};
+ghost use Rattle.age_command.specs.Identities.{IsSecretGiven};
 ghost use Rattle.age_command.specs.Files.{SourceFails, IsUnread};
 ghost use Rattle.age_fileset.specs.declared.files.OpenFault.TheVariants.{Fault};
 ghost use Rattle.age_command.specs.Files.{Files};
@@ -68,6 +69,9 @@ impl<'a> Choice<'a> {
         ensures reason { F.shows_bytes ≡ true → IfErr result (λ f. f ≡ Fault Read
             → IsUnread (F.view files.old).entries (F.view files.new).events
             (SourceFails F.In.view)) }
+        ensures reads { ReadsOn (F.gave files.old) (F.gave files.new) }
+        ensures given { IfOk result (λ o. IsSecretGiven (ReadSince (F.gave files.old)
+            (F.gave files.new)) (file_of self.now) (file_bytes o)) }
         ensures read { IfOk result (λ o. F.shows_bytes ≡ true
             → IsSecretIn (F.view files.old).entries (file_of self.now) (file_bytes o)) }
         ensures enough { IfOk result (λ o. F.shows_bytes ≡ true

@@ -4,7 +4,9 @@ ghost use Rattle.std.specs.Prelude.{◌≡◌, ◌^◌, ◌<◌, ◌≤◌, [], 
 ghost use Rattle.std.specs.Prelude.{IfSome, IfNone, Some, true, ◌∷◌, ◌++◌};
 ghost use Rattle.age_fileset.specs.FileSet.{Opened, IsMemoryOr, OpenFails};
 ghost use Rattle.age_fault.specs.declared.fault.FileFault.TheVariants.{Read};
+ghost use Rattle.age_io.specs.Io.{Origin};
 ghost use Rattle.age_io.specs.Supply.{Consumes, IsAtEnd};
+ghost use Rattle.age_fileset.specs.FileSet.{ReadsOn, ReadSince, HasGivenAll};
 ghost use Rattle.age_fileset.specs.declared.files.OpenFault.TheVariants.{Fault};
 ghost use Rattle.age_command.specs.Files.{AreFirst, SourceFails, IsUnread};
 ghost use Rattle.age_command.specs.inner.Pieces.{IsPiece};
@@ -30,6 +32,7 @@ fn pull_some<S: Source>(
         IsPiece (S.view source.old).supply (S.view source.new).supply most n buffer.new) }
     ensures fault { IfErr result (λ f. f ≡ Read) }
     ensures failed { IfErr result (λ _. SourceFails S.view) }
+    ensures began { (from : Origin) → S.began source.old from → S.began source.new from }
 {
     match source.pull(&mut buffer[..most]) {
         Ok(n) => Ok(n),
@@ -49,6 +52,7 @@ pub fn fill_first<S: Source>(
         (AreFirst (S.view source.old).supply (S.view source.new).supply most held.new.items) }
     ensures faults { IfErr result (IsMemoryOr Read) }
     ensures failed { IfErr result (λ f. f ≡ Read → SourceFails S.view) }
+    ensures began { (from : Origin) → S.began source.old from → S.began source.new from }
 {
     let mut buffer = [0; ROOM];
     'pieces: while held.len() < most {
@@ -71,6 +75,7 @@ pub fn read_first<S: Source>(
         (λ v. AreFirst (S.view source.old).supply (S.view source.new).supply most v.items) }
     ensures faults { IfErr result (IsMemoryOr Read) }
     ensures failed { IfErr result (λ f. f ≡ Read → SourceFails S.view) }
+    ensures began { (from : Origin) → S.began source.old from → S.began source.new from }
 {
     // A vector that grows leaves copies behind, so that of a passphrase's file never does.
     let mut held = Vec::with_capacity(alloc, most.min(PASSPHRASE_FILE_MAX + 1))?;
@@ -93,6 +98,7 @@ pub fn read_up_to<S: Source>(
         → (S.view source.old).supply.left ≡ Some bytes → most < length bytes)) }
     ensures faults { IfErr result (IsMemoryOr Read) }
     ensures failed { IfErr result (λ f. f ≡ Read → SourceFails S.view) }
+    ensures began { (from : Origin) → S.began source.old from → S.began source.new from }
 {
     let first = read_first(alloc, source, most + 1)?;
     if first.len() > most {
@@ -102,7 +108,7 @@ pub fn read_up_to<S: Source>(
 }
 
 /// All bytes of a file; `None` if it has more than `most`, which has to be below 2^32. At most one
-/// byte more is pulled.
+/// byte more is pulled. Then its reading is over.
 pub fn read_file<F: FileSet>(
     alloc: Global,
     files: &mut F,
@@ -113,6 +119,9 @@ pub fn read_file<F: FileSet>(
     ensures kept { (F.view files.new).entries ≡ (F.view files.old).entries }
     ensures unended { (F.view files.new).ended ≡ (F.view files.old).ended }
     ensures noted { (F.view files.new).events ≡ (F.view files.old).events ++ Opened name.now ∷ [] }
+    ensures reads { ReadsOn (F.gave files.old) (F.gave files.new) }
+    ensures given { IfOk result (λ o. IfSome o (λ v.
+        HasGivenAll (ReadSince (F.gave files.old) (F.gave files.new)) name.now v.items)) }
     ensures all { IfOk result (λ o. IfSome o (λ v. F.shows_bytes ≡ true
         → (F.view files.old).entries name.now ≡ Some v.items)) }
     ensures long { IfOk result (λ o. IfNone o (F.shows_bytes ≡ true → (bytes : List ℕ)
@@ -122,5 +131,7 @@ pub fn read_file<F: FileSet>(
         → IsUnread (F.view files.old).entries (F.view files.new).events (SourceFails F.In.view)) }
 {
     let mut source = files.open(alloc, name)?;
-    Ok(read_up_to(alloc, &mut source, most)?)
+    let read = read_up_to(alloc, &mut source, most);
+    files.finish(source);
+    Ok(read?)
 }

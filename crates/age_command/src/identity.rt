@@ -6,7 +6,7 @@ ghost use Rattle.age_keys.specs.Scrypt.{IsAllowed};
 ghost use Rattle.age_keys.specs.X25519.{Shared};
 ghost use Rattle.age_command.specs.Endings.{EndsEarly, is_usage};
 ghost use Rattle.age_command.specs.Identities.{IsPassphraseIn, IsSharedIn};
-ghost use Rattle.age_command.specs.Lines.{without_line_feed};
+ghost use Rattle.age_command.specs.Files.{without_line_feed};
 
 use crate::first_bytes::read_file;
 use crate::secret::OwnPassphrase;

@@ -1,7 +1,7 @@
 //! A passphrase whose bytes are overwritten once it isn't needed.
 
 ghost use Rattle.age_keys.specs.Scrypt.{IsAllowed, IsPassphraseKey, PassphraseRefuses, passphrase_steps};
-ghost use Rattle.age_command.specs.Lines.{without_line_feed};
+ghost use Rattle.age_command.specs.Files.{without_line_feed};
 ghost use Rattle.std.specs.Prelude.{◌≡◌, IfSome, IfNone};
 
 use crate::identity::trimmed;
@@ -49,7 +49,7 @@ pub struct OwnPassphrase {
 
 impl Model for OwnPassphrase {
     ghost use Rattle.age_keys.specs.Scrypt.{PassphraseIdentity, IsAllowed};
-    ghost use Rattle.age_command.specs.Lines.{without_line_feed};
+    ghost use Rattle.age_command.specs.Files.{without_line_feed};
 
     ghost Value = { PassphraseIdentity };
 

@@ -1,5 +1,6 @@
 -- What contracts see of a file of the machine that is read.
-use Rattle.std.specs.Prelude.{◌≡◌, ℕ, List, [], Bool, false, Option}
+use Rattle.std.specs.Prelude.{◌≡◌, ℕ, List, [], Bool, false, Option, None}
+use Rattle.age_io.specs.Io.{SourceView}
 use Rattle.age_disk.specs.declared.names.FileId.{FileId}
 
 pub record InputView : Type 0 where
@@ -21,3 +22,15 @@ pub record IsUnread (name : List ℕ) (source : InputView) : Type 0 where
   pub failing : source.failing ≡ false
   pub given : source.given ≡ []
   pub is_at_end : source.is_at_end ≡ false
+
+-- it is a source, which doesn't show what is to come
+abbrev pub as_source : InputView → SourceView
+as_source source = record {
+  supply = record {
+    given = source.given;
+    left = None;
+    is_at_end = source.is_at_end;
+  };
+  failed = source.failed;
+  failing = source.failing;
+}

@@ -1,8 +1,9 @@
 //! A file of the machine that is read.
 
-ghost use Rattle.std.specs.Prelude.{◌≡◌, None, IfOk};
+ghost use Rattle.std.specs.Prelude.{◌≡◌, IfOk, [], false};
 ghost use Rattle.std.specs.Io.{ReadsAtMost};
-ghost use Rattle.age_disk.specs.Inputs.{IsUnread};
+ghost use Rattle.age_io.specs.Io.{IsNamed};
+ghost use Rattle.age_disk.specs.Inputs.{IsUnread, as_source};
 
 use crate::names::{FileId, Resolved, Stream, is_on_disk, is_random, resolve};
 use age_io::{Failed, Failures, Source, Tape};
@@ -162,6 +163,34 @@ impl HostIn {
         self.id
     }
 
+    /// The name under which it was opened, as bytes.
+    pub fn name(&self) -> &Tape
+        ensures { result.now ≡ self.now.name }
+    {
+        &self.name
+    }
+
+    /// What it gave since it was opened, or was set back to its start.
+    pub fn given(&self) -> &Tape
+        ensures { result.now ≡ self.now.given }
+    {
+        &self.given
+    }
+
+    /// Whether a pull found that no bytes are left.
+    pub fn is_at_end(&self) -> bool
+        ensures { result ≡ self.now.is_at_end }
+    {
+        self.is_at_end
+    }
+
+    /// Whether the last pull failed.
+    pub fn is_failing(&self) -> bool
+        ensures { result ≡ self.now.failing }
+    {
+        self.failures.last
+    }
+
     /// What the machine answered to the last pull that failed.
     pub fn error(&self) -> io::Error {
         self.error
@@ -200,7 +229,11 @@ impl HostIn {
     }
 
     /// Sets it back to its start, by its descriptor: its name isn't looked up again.
-    pub fn reread(&mut self) -> io::Result<()> {
+    pub fn reread(&mut self) -> io::Result<()>
+        ensures { self.new ≡ record self.old { given = []; is_at_end = false } }
+    {
+        self.given = Tape::new();
+        self.is_at_end = false;
         let Origin::File(file) = &mut self.origin else {
             return Err(io::Error::from(io::ErrorKind::Unsupported));
         };
@@ -244,15 +277,9 @@ impl HostIn {
 }
 
 impl Source for HostIn {
-    ghost view = { λ s. record {
-      supply = record {
-        given = s.given;
-        left = None;
-        is_at_end = s.is_at_end;
-      };
-      failed = s.failed;
-      failing = s.failing;
-    } };
+    ghost view = { as_source };
+
+    ghost began = { λ s. IsNamed s.name };
 
     fn pull(&mut self, into: &mut [u8]) -> Result<usize, Failed> {
         let pulled = match self.read(into) {

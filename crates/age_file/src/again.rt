@@ -79,7 +79,7 @@ fn decrypt_again<U: Unlock, S: Source, O: Sink>(
     ensures found { (copied : List ℕ) → IsTextBefore from.now copied
         → IfErr result (λ stopped. IfSome stopped.position (IsFoundAgain (U.allows unlock.now)
         from.now copied (S.view reader.old) (S.view reader.new) stopped.written)) }
-    ensures metered { (began : Origin) → S.metered reader.old began → S.metered reader.new began }
+    ensures began { (from : Origin) → S.began reader.old from → S.began reader.new from }
 {
     let Ok(mut intake) = Intake::new(alloc) else {
         return Err(Stopped::early(FileFault::Memory));
@@ -123,7 +123,7 @@ pub fn position_after<U: Unlock, S: Source>(
         → IfOk result (IsFoundAgain (U.allows unlock.now) from.now copied (S.view reader.old)
         (S.view reader.new) written) }
     ensures faults { IfErr result (λ fault. (fault ≡ Read) ⊎ (fault ≡ Memory)) }
-    ensures metered { (began : Origin) → S.metered reader.old began → S.metered reader.new began }
+    ensures began { (from : Origin) → S.began reader.old from → S.began reader.new from }
 {
     let Some(left) = written.checked_sub(Tally::before(from).written) else {
         return Err(FileFault::Read);

@@ -4,6 +4,7 @@ ghost use Rattle.std.specs.Prelude.{◌≡◌, ◌<◌, []};
 ghost use Rattle.age_file.specs.declared.position.PositionPolicy.TheVariants.{Kept};
 ghost use Rattle.age_file.specs.inner.Bindings.{chain_if};
 ghost use Rattle.age_file.specs.inner.Readers.{view_of_reader, view_of_writer, SameReader, SameWriter};
+ghost use Rattle.age_file.specs.inner.Readers.{KeepsOrigin};
 ghost use Rattle.age_file.specs.inner.Copies.{CanCopy, CopiesChunk, CopiesAll};
 ghost use Rattle.age_chunk.specs.Payload.{chunk_length, chunk_limit};
 
@@ -24,6 +25,7 @@ fn copy_chunk<S: Source, O: Sink>(
         (view_of_reader S.view reader.new) (view_of_writer O.view writer.old)
         (view_of_writer O.view writer.new) result }
     ensures same_reader { SameReader reader.old reader.new }
+    ensures began { KeepsOrigin S.began reader.old reader.new }
     ensures same_writer { SameWriter writer.old writer.new }
 {
     let Some(chain) = writer.tally.chain else {
@@ -61,6 +63,7 @@ pub(crate) fn copy_chunks<S: Source, O: Sink>(
         (view_of_reader S.view reader.new) (view_of_writer O.view writer.old)
         (view_of_writer O.view writer.new) result }
     ensures same_reader { SameReader reader.old reader.new }
+    ensures began { KeepsOrigin S.began reader.old reader.new }
     ensures same_writer { SameWriter writer.old writer.new }
 {
     for _copied in 0..chunks {

@@ -8,7 +8,7 @@ ghost use Rattle.age_file.specs.declared.position.PositionPolicy.TheVariants.{Ke
 ghost use Rattle.age_file.specs.Decrypts.{Decrypts, DecryptsKeyed};
 ghost use Rattle.age_file.specs.inner.Decrypts.{PositionAt, EndsAs, OpensPayload};
 ghost use Rattle.age_file.specs.inner.Payloads.{HasPlace};
-ghost use Rattle.age_file.specs.inner.Readers.{stage_of, SameReader, KeepsMeter, SameWriter};
+ghost use Rattle.age_file.specs.inner.Readers.{stage_of, SameReader, KeepsOrigin, SameWriter};
 
 use crate::intake::Intake;
 use crate::lent::Lent;
@@ -112,7 +112,7 @@ pub(crate) fn open_payload<S: Source, O: Sink>(
         (stage_of S.view O.view reader.old writer.old)
         (stage_of S.view O.view reader.new writer.new) result }
     ensures same_reader { SameReader reader.old reader.new }
-    ensures metered { KeepsMeter S.metered reader.old reader.new }
+    ensures began { KeepsOrigin S.began reader.old reader.new }
     ensures same_writer { SameWriter writer.old writer.new }
 {
     let key = payload_key(&unlocked.key, &unlocked.nonce);
@@ -131,7 +131,7 @@ pub fn decrypt<U: Unlock, S: Source, O: Sink>(
     ensures decrypts { Decrypts Kept (U.allows unlock.now) (U.refuses unlock.now)
         (ports (S.view reader.old) (O.view writer.old))
         (ports (S.view reader.new) (O.view writer.new)) result }
-    ensures metered { (from : Origin) → S.metered reader.old from → S.metered reader.new from }
+    ensures began { (from : Origin) → S.began reader.old from → S.began reader.new from }
 {
     decrypt_with(alloc, PositionPolicy::Kept, unlock, reader, writer)
 }
@@ -155,7 +155,7 @@ pub fn decrypt_with<U: Unlock, S: Source, O: Sink>(
     ensures decrypts { Decrypts positions (U.allows unlock.now) (U.refuses unlock.now)
         (ports (S.view reader.old) (O.view writer.old))
         (ports (S.view reader.new) (O.view writer.new)) result }
-    ensures metered { (from : Origin) → S.metered reader.old from → S.metered reader.new from }
+    ensures began { (from : Origin) → S.began reader.old from → S.began reader.new from }
 {
     decrypt_keyed(alloc, positions, Lent { unlock }, reader, writer).0
 }
@@ -173,7 +173,7 @@ pub fn decrypt_keyed<U: Unlock + Drop, S: Source, O: Sink>(
     ensures decrypts { DecryptsKeyed positions (U.allows unlock) (U.refuses unlock)
         (ports (S.view reader.old) (O.view writer.old))
         (ports (S.view reader.new) (O.view writer.new)) result.0 result.1 }
-    ensures metered { (from : Origin) → S.metered reader.old from → S.metered reader.new from }
+    ensures began { (from : Origin) → S.began reader.old from → S.began reader.new from }
 {
     let Ok(mut intake) = Intake::new(alloc) else {
         return (Err(Stopped::early(FileFault::Memory)), None);

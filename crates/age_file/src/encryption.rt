@@ -81,7 +81,7 @@ pub fn encrypt<S: Source, O: Sink>(
         (ports (S.view reader.new) (O.view writer.new))) }
     ensures settled { OnOk result ((O.view writer.new).settled ≡ true) }
     ensures named { (O.view writer.new).label ≡ (O.view writer.old).label }
-    ensures metered { (from : Origin) → S.metered reader.old from → S.metered reader.new from }
+    ensures began { (from : Origin) → S.began reader.old from → S.began reader.new from }
 {
     let mut intake = Intake::new(alloc)?;
     let mut reader = Reader {

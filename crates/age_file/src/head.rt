@@ -2,7 +2,7 @@
 
 ghost use Rattle.std.specs.Prelude.{◌≡◌, ℕ, List, [], IfOk, IfErr};
 ghost use Rattle.age_file.specs.Runs.{HeadFails, InHeader};
-ghost use Rattle.age_file.specs.inner.Readers.{view_of_reader, SameReader, KeepsMeter, ReadsHead, IsReading};
+ghost use Rattle.age_file.specs.inner.Readers.{view_of_reader, SameReader, KeepsOrigin, ReadsHead, IsReading};
 ghost use Rattle.age_file.specs.inner.Readers.{IsFront, TakesFront, head_of};
 
 use crate::intake::Intake;
@@ -85,7 +85,7 @@ impl HeadReader {
         ensures fails { IfErr result (HeadFails InHeader (S.view reader.old.source.now)
             (S.view reader.new.source.now)) }
         ensures same { SameReader reader.old reader.new }
-        ensures metered { KeepsMeter S.metered reader.old reader.new }
+        ensures began { KeepsOrigin S.began reader.old reader.new }
     {
         'pieces: while reader.intake.refill(reader.source)? {
             if let Some(header) = self.take(reader.intake)? {
@@ -107,7 +107,7 @@ pub(crate) fn read_head<S: Source>(
     ensures fails { IfErr result (HeadFails InHeader (S.view reader.old.source.now)
         (S.view reader.new.source.now)) }
     ensures same { SameReader reader.old reader.new }
-    ensures metered { KeepsMeter S.metered reader.old reader.new }
+    ensures began { KeepsOrigin S.began reader.old reader.new }
 {
     let mut front = HeadReader::new(alloc);
     let header = front.read(reader)?;

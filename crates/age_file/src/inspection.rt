@@ -1,8 +1,10 @@
 //! Reads a file to its end, or its header alone, and reports what it holds.
 
 ghost use Rattle.std.specs.Prelude.{◌≡◌, ◌^◌, ◌<◌, ◌≤◌, ℕ, List, length, Some, IfOk, IfErr, OnOk, map};
+ghost use Rattle.age_io.specs.Io.{Origin};
 ghost use Rattle.age_file.specs.Runs.{HeadFails, InHeader, NoHeadFault};
-ghost use Rattle.age_file.specs.inner.Readers.{view_of_reader, SameReader, CountsRest, RestFails};
+ghost use Rattle.age_file.specs.inner.Readers.{view_of_reader, SameReader, KeepsOrigin};
+ghost use Rattle.age_file.specs.inner.Readers.{CountsRest, RestFails};
 ghost use Rattle.age_file.specs.Reports.{stanza_report, IsPlainOf, IsReport, Inspects, InspectsFront};
 
 use crate::head::read_head;
@@ -27,6 +29,7 @@ fn count_rest<S: Source>(reader: &mut Reader<'_, S>) -> Result<u128, FileFault>
     ensures fails { IfErr result (RestFails (view_of_reader S.view reader.old)
         (view_of_reader S.view reader.new)) }
     ensures same { SameReader reader.old reader.new }
+    ensures began { KeepsOrigin S.began reader.old reader.new }
 {
     let mut count = reader.intake.bytes().len() as u128;
     reader.intake.use_all();
@@ -89,6 +92,7 @@ pub fn inspect<S: Source>(alloc: Global, source: &mut S) -> Result<Report, FileF
     ensures ok { IfOk result (Inspects (S.view source.old).supply
         (S.view source.new).supply) }
     ensures unfailed { OnOk result ((S.view source.new).failed ≡ (S.view source.old).failed) }
+    ensures began { (from : Origin) → S.began source.old from → S.began source.new from }
     // When each fault comes.
     ensures fails { IfErr result (HeadFails NoHeadFault (S.view source.old) (S.view source.new)) }
 {
@@ -124,6 +128,7 @@ pub fn inspect_sized<S: Source>(
     ensures whole { (bytes : List ℕ) → (S.view source.old).supply.left ≡ Some bytes
         → len ≡ length bytes → IfOk result (IsReport bytes) }
     ensures unfailed { OnOk result ((S.view source.new).failed ≡ (S.view source.old).failed) }
+    ensures began { (from : Origin) → S.began source.old from → S.began source.new from }
     // When each fault comes.
     ensures fails { IfErr result (HeadFails InHeader (S.view source.old) (S.view source.new)) }
 {

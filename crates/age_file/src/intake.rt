@@ -97,7 +97,7 @@ impl Intake {
         requires { self.old.bytes ≡ [] }
         ensures refills { Refills (reader_view (S.view source.old) self.old)
             (reader_view (S.view source.new) self.new) result }
-        ensures metered { (from : Origin) → S.metered source.old from → S.metered source.new from }
+        ensures began { (from : Origin) → S.began source.old from → S.began source.new from }
     {
         if self.pulls == MOST_PULLS {
             return Err(FileFault::ReadNeverEnds);

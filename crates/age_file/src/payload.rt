@@ -5,7 +5,7 @@ ghost use Rattle.age_stream.specs.Opener.{has_failed};
 ghost use Rattle.age_file.specs.inner.Decrypts.{opens};
 ghost use Rattle.age_file.specs.inner.Payloads.{FeedsOnce, FeedsPiece, ClosesPayload, HasPlace};
 ghost use Rattle.age_file.specs.inner.Payloads.{DecryptsPayload};
-ghost use Rattle.age_file.specs.inner.Readers.{view_of_writer, stage_of, SameReader, KeepsMeter, SameWriter};
+ghost use Rattle.age_file.specs.inner.Readers.{view_of_writer, stage_of, SameReader, KeepsOrigin, SameWriter};
 ghost use Rattle.age_chunk.specs.Payload.{chunk_length, chunk_limit};
 
 use crate::reader::{Reader, Writer};
@@ -103,7 +103,7 @@ pub(crate) fn decrypt_payload<S: Source, O: Sink>(
         (stage_of S.view O.view reader.old writer.old)
         (stage_of S.view O.view reader.new writer.new) result }
     ensures same_reader { SameReader reader.old reader.new }
-    ensures metered { KeepsMeter S.metered reader.old reader.new }
+    ensures began { KeepsOrigin S.began reader.old reader.new }
     ensures same_writer { SameWriter writer.old writer.new }
 {
     let mut opener = PayloadOpener::at(key, index);

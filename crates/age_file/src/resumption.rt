@@ -6,7 +6,7 @@ ghost use Rattle.age_io.specs.Io.{Origin};
 ghost use Rattle.age_file.specs.declared.standing.Standing.TheVariants.{Before, Skipping};
 ghost use Rattle.age_file.specs.inner.Decrypts.{EndsAs};
 ghost use Rattle.age_file.specs.inner.Readers.{view_of_reader, view_of_writer, stage_of, SameReader};
-ghost use Rattle.age_file.specs.inner.Readers.{KeepsMeter, SameWriter};
+ghost use Rattle.age_file.specs.inner.Readers.{KeepsOrigin, SameWriter};
 ghost use Rattle.age_file.specs.inner.Copies.{CopiesText, CopiesBefore};
 ghost use Rattle.age_file.specs.Runs.{ports};
 ghost use Rattle.age_file.specs.declared.position.PositionPolicy.TheVariants.{Kept};
@@ -77,7 +77,7 @@ fn start_for<U: Unlock + Drop, S: Source>(
     ensures fails { IfErr result (StartForFails (U.allows unlock) (U.refuses unlock)
         position.now (S.view reader.old.source.now) (view_of_reader S.view reader.new)) }
     ensures same { SameReader reader.old reader.new }
-    ensures metered { KeepsMeter S.metered reader.old reader.new }
+    ensures began { KeepsOrigin S.began reader.old reader.new }
 {
     let unlocked = start_once(alloc, unlock, reader)?;
     verify(&unlocked, position)?;
@@ -97,6 +97,7 @@ fn copy_old<L: Source, O: Sink>(
         (view_of_reader L.view reader.old) (view_of_reader L.view reader.new)
         (view_of_writer O.view writer.old) (view_of_writer O.view writer.new) result }
     ensures same_reader { SameReader reader.old reader.new }
+    ensures began { KeepsOrigin L.began reader.old reader.new }
     ensures same_writer { SameWriter writer.old writer.new }
 {
     copy_chunks(reader, position.index, writer)?;
@@ -122,6 +123,7 @@ fn copy_before<L: Source, O: Sink>(
     ensures copied { CopiesBefore positions position.now (L.view source.old) (L.view source.new)
         intake.old intake.new (view_of_writer O.view writer.old) (view_of_writer O.view writer.new)
         result }
+    ensures began { (from : Origin) → L.began source.old from → L.began source.new from }
     ensures same_writer { SameWriter writer.old writer.new }
 {
     old_intake.count_on(intake);
@@ -146,7 +148,7 @@ fn resume_rest<S: Source, O: Sink>(
         (stage_of S.view O.view reader.old writer.old)
         (stage_of S.view O.view reader.new writer.new) result.0 result.1 }
     ensures same_reader { SameReader reader.old reader.new }
-    ensures metered { KeepsMeter S.metered reader.old reader.new }
+    ensures began { KeepsOrigin S.began reader.old reader.new }
     ensures same_writer { SameWriter writer.old writer.new }
 {
     match skip_blocks(reader, position.index) {
@@ -172,7 +174,9 @@ pub fn resume<U: Unlock, S: Source, L: Source, O: Sink>(
         (resume_ports (ports (S.view reader.old) (O.view writer.old)) (L.view old_reader.old))
         (resume_ports (ports (S.view reader.new) (O.view writer.new)) (L.view old_reader.new))
         result }
-    ensures metered { (from : Origin) → S.metered reader.old from → S.metered reader.new from }
+    ensures began { (from : Origin) → S.began reader.old from → S.began reader.new from }
+    ensures old_began { (from : Origin) → L.began old_reader.old from
+        → L.began old_reader.new from }
 {
     resume_with(
         alloc,
@@ -210,7 +214,9 @@ pub fn resume_with<U: Unlock, S: Source, L: Source, O: Sink>(
         (resume_ports (ports (S.view reader.old) (O.view writer.old)) (L.view old_reader.old))
         (resume_ports (ports (S.view reader.new) (O.view writer.new)) (L.view old_reader.new))
         result }
-    ensures metered { (from : Origin) → S.metered reader.old from → S.metered reader.new from }
+    ensures began { (from : Origin) → S.began reader.old from → S.began reader.new from }
+    ensures old_began { (from : Origin) → L.began old_reader.old from
+        → L.began old_reader.new from }
 {
     let unlock = Lent { unlock };
     resume_keyed(
@@ -235,7 +241,9 @@ pub fn resume_keyed<U: Unlock + Drop, S: Source, L: Source, O: Sink>(
         (resume_ports (ports (S.view reader.old) (O.view writer.old)) (L.view old_reader.old))
         (resume_ports (ports (S.view reader.new) (O.view writer.new)) (L.view old_reader.new))
         result.0 result.1 }
-    ensures metered { (from : Origin) → S.metered reader.old from → S.metered reader.new from }
+    ensures began { (from : Origin) → S.began reader.old from → S.began reader.new from }
+    ensures old_began { (from : Origin) → L.began old_reader.old from
+        → L.began old_reader.new from }
 {
     let (Ok(mut intake), Ok(old_intake)) = (Intake::new(alloc), Intake::new(alloc)) else {
         return nowhere(Stopped::early(FileFault::Memory));

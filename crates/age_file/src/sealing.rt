@@ -2,7 +2,7 @@
 
 ghost use Rattle.std.specs.Prelude.{◌≡◌, ◌^◌, ◌≤◌, [], length, OnOk, true};
 ghost use Rattle.age_file.specs.inner.Decrypts.{seals};
-ghost use Rattle.age_file.specs.inner.Readers.{view_of_writer, ports_of, SameReader, KeepsMeter, SameWriter};
+ghost use Rattle.age_file.specs.inner.Readers.{view_of_writer, ports_of, SameReader, KeepsOrigin, SameWriter};
 ghost use Rattle.age_file.specs.inner.Seals.{IsFeeding, HasRoom, SealsOnce, SealsPiece, SealsRest};
 ghost use Rattle.age_file.specs.inner.Seals.{SealsSource};
 ghost use Rattle.age_chunk.specs.Payload.{chunk_length};
@@ -101,7 +101,7 @@ pub(crate) fn seal_all<S: Source, O: Sink>(
         (ports_of S.view O.view reader.new writer.new) writer.old.tally.written
         writer.new.tally.written result }
     ensures same_reader { SameReader reader.old reader.new }
-    ensures metered { KeepsMeter S.metered reader.old reader.new }
+    ensures began { KeepsOrigin S.began reader.old reader.new }
     ensures same_writer { SameWriter writer.old writer.new }
 {
     let mut sealer = PayloadSealer::new(key);

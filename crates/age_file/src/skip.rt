@@ -1,7 +1,7 @@
 //! Passes over the blocks of a payload that were opened before.
 
 ghost use Rattle.age_file.specs.inner.Copies.{SkipsBlocks};
-ghost use Rattle.age_file.specs.inner.Readers.{view_of_reader, SameReader, KeepsMeter};
+ghost use Rattle.age_file.specs.inner.Readers.{view_of_reader, SameReader, KeepsOrigin};
 ghost use Rattle.age_chunk.specs.Payload.{block_length};
 
 use crate::reader::Reader;
@@ -18,7 +18,7 @@ pub(crate) fn skip_blocks<S: Source>(
     ensures skipped { SkipsBlocks block_length blocks (view_of_reader S.view reader.old)
         (view_of_reader S.view reader.new) result }
     ensures same { SameReader reader.old reader.new }
-    ensures metered { KeepsMeter S.metered reader.old reader.new }
+    ensures began { KeepsOrigin S.began reader.old reader.new }
 {
     let all = u128::from(blocks) * BLOCK_LEN as u128;
     let mut left = all;

@@ -2,7 +2,7 @@
 
 ghost use Rattle.std.specs.Prelude.{◌≡◌, ◌+◌, ◌-◌, ◌≤◌, [], ◌++◌, length, take, min, IfOk, IfErr};
 ghost use Rattle.age_file.specs.Decrypts.{StartFails};
-ghost use Rattle.age_file.specs.inner.Readers.{view_of_reader, SameReader, KeepsMeter};
+ghost use Rattle.age_file.specs.inner.Readers.{view_of_reader, SameReader, KeepsOrigin};
 ghost use Rattle.age_file.specs.inner.Copies.{Uses, SomeAnswers, NonceFails, TakesNonce, ReadsNonce};
 ghost use Rattle.age_file.specs.inner.Copies.{StartsAt};
 ghost use Rattle.age_file.specs.Runs.{pull_room};
@@ -32,7 +32,7 @@ pub(crate) fn has_bytes<S: Source>(reader: &mut Reader<'_, S>) -> Result<bool, F
         (view_of_reader S.view reader.new) result }
     ensures uses { Uses (view_of_reader S.view reader.old) (view_of_reader S.view reader.new) [] }
     ensures same { SameReader reader.old reader.new }
-    ensures metered { KeepsMeter S.metered reader.old reader.new }
+    ensures began { KeepsOrigin S.began reader.old reader.new }
 {
     if !reader.intake.bytes().is_empty() {
         return Ok(true);
@@ -59,7 +59,7 @@ fn take_nonce<S: Source>(reader: &mut Reader<'_, S>) -> Result<[u8; PAYLOAD_NONC
     ensures fails { IfErr result (NonceFails (view_of_reader S.view reader.old)
         (view_of_reader S.view reader.new)) }
     ensures same { SameReader reader.old reader.new }
-    ensures metered { KeepsMeter S.metered reader.old reader.new }
+    ensures began { KeepsOrigin S.began reader.old reader.new }
 {
     let mut nonce = [0; PAYLOAD_NONCE_LEN];
     let mut have = 0;
@@ -86,7 +86,7 @@ fn read_nonce<S: Source>(
     ensures fails { IfErr result (NonceFails (view_of_reader S.view reader.old)
         (view_of_reader S.view reader.new)) }
     ensures same { SameReader reader.old reader.new }
-    ensures metered { KeepsMeter S.metered reader.old reader.new }
+    ensures began { KeepsOrigin S.began reader.old reader.new }
 {
     let nonce = take_nonce(reader)?;
     let id = file_id(digest, &nonce);
@@ -105,7 +105,7 @@ pub(crate) fn start<U: Unlock, S: Source>(
     ensures fails { IfErr result (StartFails (U.allows unlock.now) (U.refuses unlock.now)
         (S.view reader.old.source.now) (S.view reader.new.source.now)) }
     ensures same { SameReader reader.old reader.new }
-    ensures metered { KeepsMeter S.metered reader.old reader.new }
+    ensures began { KeepsOrigin S.began reader.old reader.new }
 {
     let head = read_head(alloc, reader)?;
     let key = open_header(alloc, &head.header, unlock, &mut Steps::new())?;
@@ -124,7 +124,7 @@ pub(crate) fn start_once<U: Unlock + Drop, S: Source>(
     ensures fails { IfErr result (StartFails (U.allows unlock) (U.refuses unlock)
         (S.view reader.old.source.now) (S.view reader.new.source.now)) }
     ensures same { SameReader reader.old reader.new }
-    ensures metered { KeepsMeter S.metered reader.old reader.new }
+    ensures began { KeepsOrigin S.began reader.old reader.new }
 {
     let started = start(alloc, &unlock, reader);
     drop(unlock);

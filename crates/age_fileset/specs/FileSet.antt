@@ -1,8 +1,9 @@
 -- What contracts see of a set of files, and what a set over memory does.
 use Rattle.std.specs.Prelude.{ℕ, List, ◌≡◌, ◌⊎◌, Bool, false, [], Option, Some, None, ◌≢◌, ◌-◌, ◌^◌}
-use Rattle.std.specs.Prelude.{find, option_map, Result, OnOk, OnErr}
+use Rattle.std.specs.Prelude.{true, ◌++◌, ◌∷◌}
+use Rattle.std.specs.Prelude.{find, length, nat_eq, option_map, Result, OnOk, OnErr}
 use Rattle.std.specs.Str.{bytes_eq}
-use Rattle.age_io.specs.Io.{Holding}
+use Rattle.age_io.specs.Io.{Feeding, Holding, SourceView}
 use Rattle.age_io.specs.declared.durability.Durability.{Durability}
 use Rattle.age_machine.specs.Ends.{EndedFile}
 use Rattle.age_machine.specs.Saved.{SavedFile}
@@ -24,6 +25,52 @@ pub data Event : Type 0 where
   Made : List ℕ → Event
   Replaced : List ℕ → Durability → Event
   Closed : Durability → Event
+
+-- ---- What was read of files.
+
+-- what a file gave that was opened under this name, once its reading is over; whether a pull found its
+-- end, and whether the last pull failed
+pub record Reading : Type 0 where
+  pub name : List ℕ
+  pub given : List ℕ
+  pub is_at_end : Bool
+  pub failing : Bool
+
+abbrev pub reading_of : List ℕ → SourceView → Reading
+reading_of name source = record {
+  name = name;
+  given = source.supply.given;
+  is_at_end = source.supply.is_at_end;
+  failing = source.failing;
+}
+
+-- what was done with a set of files, and what was read of them, in order
+pub record Doings : Type 0 where
+  pub events : List Event
+  pub gave : List Reading
+
+-- files were read since, or none
+pub record ReadsOn (old new : List Reading) : Type 0 where
+  pub more : List Reading
+  pub is : new ≡ old ++ more
+
+-- this reading is one of those since
+pub record ReadSince (old new : List Reading) (reading : Reading) : Type 0 where
+  pub before : List Reading
+  pub later : List Reading
+  pub is : new ≡ old ++ (before ++ reading ∷ later)
+
+-- of the readings that are over, one of this name gave these bytes
+pub record HasGiven (IsOver : Reading → Type 0) (name bytes : List ℕ) : Type 0 where
+  pub reading : Reading
+  pub over : IsOver reading
+  pub named : reading.name ≡ name
+  pub given : reading.given ≡ bytes
+
+-- and found its end: they are all that the file had to give
+pub record HasGivenAll (IsOver : Reading → Type 0) (name bytes : List ℕ) : Type 0 where
+  pub gave : HasGiven IsOver name bytes
+  pub whole : gave.reading.is_at_end ≡ true
 
 -- ---- What contracts see of a set of files, the faults that it returns, and what it reads of a
 -- file that may be missing.
@@ -82,10 +129,22 @@ pub record Shelf : Type 0 where
   pub refused : List (List ℕ)
   -- how many bytes a file that is written can hold
   pub room : ℕ
-  -- what was done
+  -- what was done, and what was read
   pub events : List Event
+  pub gave : List Reading
   -- the output that was ended last, if one was
   pub ended : Option EndedFile
+
+-- once the reading of this file is over
+abbrev pub with_gave : List ℕ → Feeding → Shelf → Shelf
+with_gave name source old = record old {
+  gave = old.gave ++ record {
+    name = name;
+    given = source.given;
+    is_at_end = nat_eq (length source.left) 0;
+    failing = source.failing;
+  } ∷ [];
+}
 
 -- what contracts see of one that was ended: it is on no disk
 abbrev pub ended_with : List ℕ → Bool → EndedFile

@@ -5,6 +5,8 @@ ghost use Rattle.std.specs.Prelude.{IfOk, IfErr, IsOkUnless, OnOk, OnErr, IfSome
 ghost use Rattle.std.specs.Prelude.{length, Option, IsSomeAnd};
 ghost use Rattle.age_fileset.specs.FileSet.{FilesView, IsMemoryOr, OpenFails, or_empty, Opened};
 ghost use Rattle.age_fileset.specs.FileSet.{Prepared, Created, Made, Replaced, Closed};
+ghost use Rattle.age_fileset.specs.FileSet.{Reading, reading_of};
+ghost use Rattle.age_io.specs.Io.{Named, Origin};
 ghost use Rattle.age_machine.specs.Ends.{Closes, Discards};
 ghost use Rattle.age_machine.specs.Saved.{Saves};
 ghost use Rattle.age_machine.specs.Outs.{OutFile};
@@ -46,7 +48,7 @@ impl From<FileFault> for OpenFault {
 /// - two names that are one file are refused as such, by `is_same` before the second is opened, or
 ///   else by `prepare` and `create`; and `replace` writes over none that was opened or created.
 pub trait FileSet {
-    /// A file that is read.
+    /// A file that is read. Its `began` says under which name it was opened: of one name alone.
     type In: Source + Drop;
 
     /// A file that is written.
@@ -58,8 +60,8 @@ pub trait FileSet {
     // What contracts see of a set: its entries, and what was done.
     ghost view: { Self → FilesView };
 
-    // Under which name a file that is read was opened; a set that shows its entries needn't tell.
-    ghost opened_as: { Self.In → Option (List ℕ) };
+    // What was read of each file whose reading is over, in order.
+    ghost gave: { Self → List Reading };
 
     // Which regular file of a disk a file that is written is, if it is one.
     ghost file: { Self.Out → Option OutFile };
@@ -91,8 +93,9 @@ pub trait FileSet {
         ensures kept { (view self.new).entries ≡ (view self.old).entries }
         ensures noted { (view self.new).events ≡ (view self.old).events ++ Opened name.now ∷ [] }
         ensures unended { (view self.new).ended ≡ (view self.old).ended }
+        ensures unread { gave self.new ≡ gave self.old }
         ensures begun { IfOk result (λ s. (Self.In.view s).supply.given ≡ []) }
-        ensures named { IfOk result (λ s. IfSome (opened_as s) (λ own. own ≡ name.now)) }
+        ensures named { IfOk result (λ s. Self.In.began s (Named name.now)) }
         ensures found { IfOk result (λ s. shows_bytes ≡ true
             → (is_some ((view self.old).entries name.now) ≡ true)
             × ((Self.In.view s).supply.left ≡ (view self.old).entries name.now)) }
@@ -107,8 +110,9 @@ pub trait FileSet {
         ensures kept { (view self.new).entries ≡ (view self.old).entries }
         ensures noted { (view self.new).events ≡ (view self.old).events ++ Opened name.now ∷ [] }
         ensures unended { (view self.new).ended ≡ (view self.old).ended }
+        ensures unread { gave self.new ≡ gave self.old }
         ensures begun { IfOk result (λ s. (Self.In.view s).supply.given ≡ []) }
-        ensures named { IfOk result (λ s. IfSome (opened_as s) (λ own. own ≡ name.now)) }
+        ensures named { IfOk result (λ s. Self.In.began s (Named name.now)) }
         ensures found { IfOk result (λ s. shows_bytes ≡ true
             → (Self.In.view s).supply.left ≡ or_empty ((view self.old).entries name.now)) }
         ensures shown { shows_bytes ≡ true → IfErr result (λ f. f ≡ Fault FileFault.Memory) }
@@ -125,16 +129,29 @@ pub trait FileSet {
         false
     }
 
-    /// Sets a file that was opened under this name back to its start. It is the file that was
-    /// opened, whatever the name stands for now. Nothing changes in the set. Refuses with `Read`
-    /// (26) if it can't, and with `Memory` (28). A set that shows its entries refuses with `Read`
-    /// only if there is no such file.
-    fn reread(&self, alloc: Global, name: &str, source: &mut Self::In) -> Result<(), FileFault>
+    /// Ends a reading of a file that was opened under this name, and sets it back to its start. It is
+    /// the file that was opened, whatever the name stands for now. Refuses with `Read` (26) if it
+    /// can't, and with `Memory` (28). A set that shows its entries refuses with `Read` only if there
+    /// is no such file.
+    fn reread(&mut self, alloc: Global, name: &str, source: &mut Self::In) -> Result<(), FileFault>
+        ensures same { view self.new ≡ view self.old }
+        ensures over { Self.In.began source.old (Named name.now) → gave self.new
+            ≡ gave self.old ++ reading_of name.now (Self.In.view source.old) ∷ [] }
+        ensures begun { OnOk result ((Self.In.view source.new).supply.given ≡ []) }
+        ensures began { (from : Origin) → Self.In.began source.old from
+            → Self.In.began source.new from }
         ensures again { OnOk result (shows_bytes ≡ true
-            → (Self.In.view source.new).supply.left ≡ (view self.now).entries name.now) }
+            → (Self.In.view source.new).supply.left ≡ (view self.old).entries name.now) }
         ensures missing { shows_bytes ≡ true → IfErr result (λ f. f ≡ FileFault.Read
-            → (view self.now).entries name.now ≡ None) }
+            → (view self.old).entries name.now ≡ None) }
         ensures faults { IfErr result (IsMemoryOr FileFault.Read) };
+
+    /// The reading of a file that was opened is over: contracts see from now on what it gave. Of a
+    /// source that is dropped they don't.
+    fn finish(&mut self, source: Self::In)
+        ensures same { view self.new ≡ view self.old }
+        ensures over { (name : List ℕ) → Self.In.began source (Named name) → gave self.new
+            ≡ gave self.old ++ reading_of name (Self.In.view source) ∷ [] };
 
     /// Prepares for a file to be replaced later, once the files to be read are open: checks that it
     /// can be, as far as this changes nothing. Refuses with `Write` (27) if it can't, with `Memory`
@@ -145,6 +162,7 @@ pub trait FileSet {
         ensures kept { (view self.new).entries ≡ (view self.old).entries }
         ensures noted { (view self.new).events ≡ (view self.old).events ++ Prepared name.now ∷ [] }
         ensures unended { (view self.new).ended ≡ (view self.old).ended }
+        ensures unread { gave self.new ≡ gave self.old }
         ensures shown { shows_bytes ≡ true → IfErr result (λ f. f ≡ Fault FileFault.Memory) }
         ensures faults { IfErr result (OpenFails shows_bytes FileFault.Write) };
 
@@ -161,6 +179,7 @@ pub trait FileSet {
             × ((Self.Out.view o).failed ≡ 0)) }
         ensures noted { (view self.new).events ≡ (view self.old).events ++ Created name.now ∷ [] }
         ensures unended { (view self.new).ended ≡ (view self.old).ended }
+        ensures unread { gave self.new ≡ gave self.old }
         ensures faults { IfErr result (OpenFails shows_bytes FileFault.Write) };
 
     /// Makes a file to be written, as `create` does, and refuses one that is there too, with `Write`
@@ -174,6 +193,7 @@ pub trait FileSet {
         ensures absent { OnOk result (shows_bytes ≡ true → (view self.old).entries name.now ≡ None) }
         ensures noted { (view self.new).events ≡ (view self.old).events ++ Made name.now ∷ [] }
         ensures unended { (view self.new).ended ≡ (view self.old).ended }
+        ensures unread { gave self.new ≡ gave self.old }
         ensures faults { IfErr result (OpenFails shows_bytes FileFault.Write) };
 
     /// Whether a file that was created is standard error's, which the lines of progress and of
@@ -196,6 +216,7 @@ pub trait FileSet {
     /// entries holds them all. Nothing changes in the set.
     fn settle(&mut self, out: &mut Self::Out, durability: Durability) -> u64
         ensures kept { view self.new ≡ view self.old }
+        ensures unread { gave self.new ≡ gave self.old }
         ensures same { Self.Out.view out.new ≡ Self.Out.view out.old }
         ensures most { IfSome (Self.Out.view out.old).taken.contents (λ taken. result ≤ length taken) }
         ensures shown { shows_bytes ≡ true
@@ -214,6 +235,7 @@ pub trait FileSet {
             ⊎ (shows_bytes ≡ true
             → (view self.new).entries (Self.Out.view out).label ≡ (Self.Out.view out).taken.contents)) }
         ensures noted { (view self.new).events ≡ (view self.old).events ++ Closed durability ∷ [] }
+        ensures unread { gave self.new ≡ gave self.old }
         ensures closed { IsSomeAnd (view self.new).ended
             (Closes durability (file out) (Self.Out.view out) result) }
         ensures faults { IsOkUnless result FileFault.Write };
@@ -226,6 +248,7 @@ pub trait FileSet {
         ensures others { (q : List ℕ) → q ≢ (Self.Out.view out).label
             → (view self.new).entries q ≡ (view self.old).entries q }
         ensures noted { (view self.new).events ≡ (view self.old).events ++ Closed durability ∷ [] }
+        ensures unread { gave self.new ≡ gave self.old }
         ensures discarded { IsSomeAnd (view self.new).ended
             (Discards (file out) (Self.Out.view out)) };
 
@@ -249,5 +272,6 @@ pub trait FileSet {
             ≡ (view self.old).events ++ Replaced name.now durability ∷ [] }
         ensures saved { Saves bytes.now durability result (view self.new).saved }
         ensures unended { (view self.new).ended ≡ (view self.old).ended }
+        ensures unread { gave self.new ≡ gave self.old }
         ensures faults { IfErr result (IsMemoryOr FileFault.Write) };
 }

@@ -11,4 +11,4 @@ mod mem_files;
 
 pub use files::{FileSet, OpenFault};
 pub use log::Log;
-pub use mem_files::{MemFiles, MemOut};
+pub use mem_files::{MemFiles, MemIn, MemOut};

@@ -1,12 +1,11 @@
 //! What was done with a set of files, for contracts alone.
 
-ghost use Rattle.std.specs.Prelude.{◌≡◌, [], ◌∷◌, ◌++◌, List};
+ghost use Rattle.std.specs.Prelude.{◌≡◌, [], ◌∷◌, ◌++◌};
 ghost use Rattle.std.specs.Borrow.{ftrue};
-ghost use Rattle.std.specs.Coded.{coded_list};
-ghost use Rattle.age_fileset.specs.FileSet.{Event, Opened, Prepared, Created, Made, Replaced, Closed};
-ghost use Rattle.age_fileset.specs.inner.Events.{coded_event, event_of};
+ghost use Rattle.age_fileset.specs.FileSet.{Doings, Opened, Prepared, Created, Made, Replaced, Closed};
+ghost use Rattle.age_fileset.specs.inner.Events.{once_done, coded_doings};
 
-use age_io::Durability;
+use age_io::{Durability, Tape};
 use std::marker::Model;
 
 /// What is done with a file.
@@ -18,12 +17,13 @@ enum Action<'a> {
     Made(&'a str),
     Replaced(&'a str, Durability),
     Closed(Durability),
+    Gave(&'a Tape, &'a Tape, bool, bool),
 }
 
-// Events that no code holds: the proof of `note` adds one.
+// Doings that no code holds: the proof of `note` adds one.
 #[derive(Debug, Drop)]
 struct Cell {
-    pub ghost events: { List Event } by { coded_list coded_event },
+    pub ghost done: { Doings } by { coded_doings },
 }
 
 impl Model for Cell {
@@ -32,35 +32,35 @@ impl Model for Cell {
 
 impl Cell {
     fn empty() -> Cell
-        ensures { result.events ≡ [] }
+        ensures { result.done ≡ record { events = []; gave = [] } }
     {
         Cell {}
     }
 
     fn note(&mut self, _action: &Action<'_>)
-        ensures { self.new.events ≡ self.old.events ++ event_of _action.now ∷ [] }
+        ensures { self.new.done ≡ once_done _action.now self.old.done }
     {}
 }
 
-/// What was done with a set of files, in order, for contracts alone, which see it as a list of
-/// events. It has no bytes at run time.
+/// What was done with a set of files, and what was read of them, in order, for contracts alone. It
+/// has no bytes at run time.
 #[derive(Debug, Drop)]
 pub struct Log {
     cell: Cell,
 }
 
 impl Model for Log {
-    ghost Value = { List Event };
+    ghost Value = { Doings };
 
-    ghost coded = { coded_list coded_event };
+    ghost coded = { coded_doings };
 
-    ghost view = { λ log. log.cell.events };
+    ghost view = { λ log. log.cell.done };
 }
 
 impl Log {
     /// Nothing was done so far.
     pub fn new() -> Log
-        ensures { result ≡ [] }
+        ensures { result ≡ record { events = []; gave = [] } }
     {
         Log {
             cell: Cell::empty(),
@@ -69,43 +69,61 @@ impl Log {
 
     /// A file was to be opened.
     pub fn opened(&mut self, name: &str)
-        ensures { self.new ≡ self.old ++ Opened name.now ∷ [] }
+        ensures { self.new ≡ record self.old { events = self.old.events ++ Opened name.now ∷ [] } }
     {
         self.cell.note(&Action::Opened(name));
     }
 
     /// A file was to be prepared.
     pub fn prepared(&mut self, name: &str)
-        ensures { self.new ≡ self.old ++ Prepared name.now ∷ [] }
+        ensures { self.new ≡ record self.old { events = self.old.events ++ Prepared name.now ∷ [] } }
     {
         self.cell.note(&Action::Prepared(name));
     }
 
     /// A file was to be created.
     pub fn created(&mut self, name: &str)
-        ensures { self.new ≡ self.old ++ Created name.now ∷ [] }
+        ensures { self.new ≡ record self.old { events = self.old.events ++ Created name.now ∷ [] } }
     {
         self.cell.note(&Action::Created(name));
     }
 
     /// A file was to be made where none is.
     pub fn made(&mut self, name: &str)
-        ensures { self.new ≡ self.old ++ Made name.now ∷ [] }
+        ensures { self.new ≡ record self.old { events = self.old.events ++ Made name.now ∷ [] } }
     {
         self.cell.note(&Action::Made(name));
     }
 
     /// A file was to be replaced, and to reach the disk now or later.
     pub fn replaced(&mut self, name: &str, durability: Durability)
-        ensures { self.new ≡ self.old ++ Replaced name.now durability ∷ [] }
+        ensures { self.new ≡ record self.old {
+          events = self.old.events ++ Replaced name.now durability ∷ [];
+        } }
     {
         self.cell.note(&Action::Replaced(name, durability));
     }
 
     /// A file that was created or made was ended, to reach the disk now or later.
     pub fn closed(&mut self, durability: Durability)
-        ensures { self.new ≡ self.old ++ Closed durability ∷ [] }
+        ensures { self.new ≡ record self.old { events = self.old.events ++ Closed durability ∷ [] } }
     {
         self.cell.note(&Action::Closed(durability));
+    }
+
+    /// The reading of a file is over that was opened under this name: it gave these bytes. Whether a
+    /// pull found its end, and whether the last pull failed.
+    pub fn gave(&mut self, name: &Tape, given: &Tape, is_at_end: bool, is_failing: bool)
+        ensures { self.new ≡ record self.old {
+          gave = self.old.gave ++ record {
+            name = name.now;
+            given = given.now;
+            is_at_end = is_at_end;
+            failing = is_failing;
+          } ∷ [];
+        } }
+    {
+        self.cell
+            .note(&Action::Gave(name, given, is_at_end, is_failing));
     }
 }

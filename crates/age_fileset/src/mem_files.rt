@@ -4,17 +4,18 @@ ghost use Rattle.std.specs.Prelude.{◌≡◌, ◌↔◌, ◌⊎◌, ◌++◌, �
 ghost use Rattle.std.specs.Prelude.{OnErr, IfOk, IsErrOf, IsOk, IfErr, IsOkUnless, Contains, is_some};
 ghost use Rattle.std.specs.Prelude.{option_map, length, false};
 ghost use Rattle.age_io.specs.Taken.{WriteAppends, Keeps};
-ghost use Rattle.age_io.specs.Io.{Puts, Flushes, holds};
+ghost use Rattle.age_io.specs.Io.{Puts, Pulls, Flushes, holds, memory_supply, IsNamed};
+ghost use Rattle.age_io.specs.Supply.{ReadConsumes};
 ghost use Rattle.age_fileset.specs.FileSet.{entry_of, empty_with, PutsEntry, IsMemoryOr, OpenFails};
 ghost use Rattle.age_fileset.specs.FileSet.{or_empty, Opened, Prepared, Created, Made, Replaced, Closed};
-ghost use Rattle.age_fileset.specs.FileSet.{ended_with};
+ghost use Rattle.age_fileset.specs.FileSet.{ended_with, with_gave};
 ghost use Rattle.age_fileset.specs.declared.files.OpenFault.TheVariants.{Fault};
 
 use crate::files::{FileSet, OpenFault};
 use crate::log::Log;
 use crate::mem_entry::{MemEntry, Name, bytes_of, put_entry};
 use age_fault::FileFault;
-use age_io::{Durability, Failed, MemSink, MemSource, Memory, Sink, Tape};
+use age_io::{Durability, Failed, MemSink, MemSource, Memory, Sink, Source, Tape};
 use age_stanza::Bytes;
 use std::alloc::Global;
 use std::marker::Model;
@@ -61,9 +62,50 @@ impl Model for MemFiles {
       entries = f.entries.items;
       refused = f.refused.items;
       room = f.room;
-      events = f.log;
+      events = f.log.events;
+      gave = f.log.gave;
       ended = f.ended;
     } };
+}
+
+/// A file over memory that is read. A contract sees its name and its source.
+#[derive(Debug, Drop)]
+pub struct MemIn {
+    name: Name,
+    source: MemSource,
+}
+
+impl Model for MemIn {
+    ghost use Rattle.std.specs.Prelude.{ℕ, List};
+    ghost use Rattle.age_io.specs.Io.{Feeding};
+
+    ghost Value = { List ℕ × Feeding };
+
+    ghost view = { λ i. (i.name, i.source) };
+}
+
+impl Source for MemIn {
+    ghost view = { λ i. record {
+      supply = memory_supply i.1.given i.1.left;
+      failed = i.1.failures;
+      failing = i.1.failing;
+    } };
+
+    ghost began = { λ i. IsNamed i.0 };
+
+    fn pull(&mut self, into: &mut [u8]) -> Result<usize, Failed>
+        ensures bound { IfOk result (λ n. n ≤ length into.new) }
+        ensures bytes { ReadConsumes (memory_supply self.old.1.given self.old.1.left)
+            (memory_supply self.new.1.given self.new.1.left) result into.new }
+        ensures named { self.new.0 ≡ self.old.0 }
+        ensures plan { Pulls self.old.1 (length into.new) result self.new.1 }
+    {
+        self.source.pull(into)
+    }
+
+    fn failures(&self) -> u64 {
+        self.source.failures()
+    }
 }
 
 /// A file over memory that is written. A contract sees its name and its sink.
@@ -122,6 +164,7 @@ impl MemFiles {
           refused = [];
           room = room;
           events = [];
+          gave = [];
           ended = None;
         } }
     {
@@ -153,6 +196,18 @@ impl MemFiles {
         ensures { option_map (λ s. s.now) result ≡ entry_of self.now.entries name.now }
     {
         bytes_of(self.entries.as_slice(), name)
+    }
+
+    /// Notes that a reading is over.
+    fn log_reading(&mut self, source: &MemIn)
+        ensures { self.new ≡ with_gave source.now.0 source.now.1 self.old }
+    {
+        let (mut name, mut given) = (Tape::new(), Tape::new());
+        name.note(source.name.as_str().as_bytes());
+        given.note(source.source.given());
+        let is_at_end = source.source.remaining() == 0;
+        let is_failing = source.source.is_failing();
+        self.log.gave(&name, &given, is_at_end, is_failing);
     }
 
     /// Refuses each later attempt to create or replace a file of this name. If memory is refused
@@ -196,6 +251,19 @@ fn source_of(alloc: Global, bytes: &[u8]) -> Result<MemSource, FileFault>
     ensures memory { OnErr result (result ≡ Err FileFault.Memory) }
 {
     Ok(MemSource::new(bytes.to_vec(alloc)?, usize::MAX, None))
+}
+
+/// The same, under this name.
+fn new_in(alloc: Global, name: &str, bytes: &[u8]) -> Result<MemIn, FileFault>
+    ensures bytes { IfOk result (λ s. s.1.left ≡ bytes.now) }
+    ensures begun { IfOk result (λ s. (s.0 ≡ name.now) × (s.1.given ≡ [])) }
+    ensures memory { OnErr result (result ≡ Err FileFault.Memory) }
+{
+    let Ok(name) = Name::new(alloc, name) else {
+        return Err(FileFault::Memory);
+    };
+    let source = source_of(alloc, bytes)?;
+    Ok(MemIn { name, source })
 }
 
 /// An empty sink for a file of this name.
@@ -247,7 +315,7 @@ fn put_copy(
 }
 
 impl FileSet for MemFiles {
-    type In = MemSource;
+    type In = MemIn;
 
     type Out = MemOut;
 
@@ -260,51 +328,51 @@ impl FileSet for MemFiles {
       saved = record { path = None; calls = [] };
     } };
 
-    ghost opened_as = { λ _. None };
+    ghost gave = { λ f. f.gave };
 
     ghost file = { λ _. None };
 
     /// Opens a copy of a file's bytes. Refuses with `Read` (26) exactly if no file has the name.
-    fn open(&mut self, alloc: Global, name: &str) -> Result<MemSource, OpenFault>
+    fn open(&mut self, alloc: Global, name: &str) -> Result<MemIn, OpenFault>
         ensures kept { self.new
             ≡ record self.old { events = self.old.events ++ Opened name.now ∷ [] } }
-        ensures found { IfOk result (λ s. entry_of self.old.entries name.now ≡ Some s.left) }
-        ensures begun { IfOk result (λ s. s.given ≡ []) }
+        ensures found { IfOk result (λ s. entry_of self.old.entries name.now ≡ Some s.1.left) }
+        ensures begun { IfOk result (λ s. (s.0 ≡ name.now) × (s.1.given ≡ [])) }
         ensures missing { IsErrOf result (Fault FileFault.Read)
             ↔ (entry_of self.old.entries name.now ≡ None) }
         ensures faults { IfErr result (OpenFails true FileFault.Read) }
     {
         self.log.opened(name);
         match bytes_of(self.entries.as_slice(), name) {
-            Some(bytes) => Ok(source_of(alloc, bytes)?),
+            Some(bytes) => Ok(new_in(alloc, name, bytes)?),
             None => Err(OpenFault::Fault(FileFault::Read)),
         }
     }
 
     /// Opens a copy of a file's bytes, or of none if no file has the name.
-    fn open_or_empty(&mut self, alloc: Global, name: &str) -> Result<MemSource, OpenFault>
+    fn open_or_empty(&mut self, alloc: Global, name: &str) -> Result<MemIn, OpenFault>
         ensures kept { self.new
             ≡ record self.old { events = self.old.events ++ Opened name.now ∷ [] } }
         ensures found { IfOk result
-            (λ s. Some s.left ≡ or_empty (entry_of self.old.entries name.now)) }
-        ensures begun { IfOk result (λ s. s.given ≡ []) }
+            (λ s. Some s.1.left ≡ or_empty (entry_of self.old.entries name.now)) }
+        ensures begun { IfOk result (λ s. (s.0 ≡ name.now) × (s.1.given ≡ [])) }
         ensures faults { OnErr result (result ≡ Err (Fault FileFault.Memory)) }
     {
         self.log.opened(name);
         match bytes_of(self.entries.as_slice(), name) {
-            Some(bytes) => Ok(source_of(alloc, bytes)?),
-            None => Ok(source_of(alloc, &[])?),
+            Some(bytes) => Ok(new_in(alloc, name, bytes)?),
+            None => Ok(new_in(alloc, name, &[])?),
         }
     }
 
     /// Exactly as many bytes as are still to come.
-    fn length(&self, source: &MemSource) -> Option<u64>
-        ensures { result ≡ Some (length source.now.left) }
+    fn length(&self, source: &MemIn) -> Option<u64>
+        ensures { result ≡ Some (length source.now.1.left) }
     {
-        Some(source.remaining() as u64)
+        Some(source.source.remaining() as u64)
     }
 
-    fn can_reread(&self, _source: &MemSource) -> bool
+    fn can_reread(&self, _source: &MemIn) -> bool
         ensures { result ≡ true }
     {
         true
@@ -312,19 +380,29 @@ impl FileSet for MemFiles {
 
     /// Opens a copy of the file's bytes once more. Refuses with `Read` (26) exactly if no file has
     /// the name.
-    fn reread(&self, alloc: Global, name: &str, source: &mut MemSource) -> Result<(), FileFault>
-        ensures again { OnOk result (entry_of self.now.entries name.now ≡ Some source.new.left) }
+    fn reread(&mut self, alloc: Global, name: &str, source: &mut MemIn) -> Result<(), FileFault>
+        ensures over { self.new ≡ with_gave source.old.0 source.old.1 self.old }
+        ensures named { source.new.0 ≡ source.old.0 }
+        ensures begun { OnOk result (source.new.1.given ≡ []) }
+        ensures again { OnOk result (entry_of self.old.entries name.now ≡ Some source.new.1.left) }
         ensures missing { IsErrOf result FileFault.Read
-            ↔ (entry_of self.now.entries name.now ≡ None) }
+            ↔ (entry_of self.old.entries name.now ≡ None) }
         ensures faults { IfErr result (IsMemoryOr FileFault.Read) }
     {
+        self.log_reading(source);
         match bytes_of(self.entries.as_slice(), name) {
             Some(bytes) => {
-                *source = source_of(alloc, bytes)?;
+                source.source = source_of(alloc, bytes)?;
                 Ok(())
             }
             None => Err(FileFault::Read),
         }
+    }
+
+    fn finish(&mut self, source: MemIn)
+        ensures over { self.new ≡ with_gave source.0 source.1 self.old }
+    {
+        self.log_reading(&source);
     }
 
     /// Tries nothing: a name that can't be written is refused when it is replaced.

@@ -8,6 +8,7 @@ ghost use Rattle.age_fileset.specs.declared.files.OpenFault.TheVariants.{SameFil
 ghost use Rattle.age_disk.specs.declared.names.FileId.{FileId};
 ghost use Rattle.age_disk.specs.Inputs.{IsUnread};
 ghost use Rattle.age_disk.specs.Outputs.{IsApart, IsMadeAt, HasAll, as_sink};
+ghost use Rattle.age_io.specs.Io.{IsNamed, Named};
 ghost use Rattle.age_machine.specs.Saved.{Saves};
 
 use crate::watched::{WatchedIn, WatchedOut};
@@ -427,12 +428,12 @@ impl<'r, 'w> FileSet for HostFiles<'r, 'w> {
 
     ghost view = { λ f. record {
       entries = λ _. None;
-      events = f.log;
+      events = f.log.events;
       ended = f.ended;
       saved = f.saved;
     } };
 
-    ghost opened_as = { λ s. Some s.source.name };
+    ghost gave = { λ f. f.log.gave };
 
     ghost file = { λ o. o.sink.file };
 
@@ -459,10 +460,11 @@ impl<'r, 'w> FileSet for HostFiles<'r, 'w> {
     }
 
     fn open(&mut self, alloc: Global, name: &str) -> Result<WatchedIn<'r, 'w>, OpenFault>
-        ensures noted { self.new.log ≡ self.old.log ++ Opened name.now ∷ [] }
+        ensures noted { self.new.log.events ≡ self.old.log.events ++ Opened name.now ∷ [] }
+        ensures unread { self.new.log.gave ≡ self.old.log.gave }
         ensures unended { self.new.ended ≡ self.old.ended }
         ensures begun { IfOk result (λ s. s.source.given ≡ []) }
-        ensures named { IfOk result (λ s. s.source.name ≡ name.now) }
+        ensures named { IfOk result (λ s. IsNamed s.source.name (Named name.now)) }
         ensures found { IfOk result (λ s. false ≡ true → (false ≡ true)
             × (◌≡◌ {A = Option (List ℕ)} None None)) }
         ensures missing { false ≡ true → IfErr result (λ f. f ≡ Fault Read
@@ -477,10 +479,11 @@ impl<'r, 'w> FileSet for HostFiles<'r, 'w> {
     }
 
     fn open_or_empty(&mut self, alloc: Global, name: &str) -> Result<WatchedIn<'r, 'w>, OpenFault>
-        ensures noted { self.new.log ≡ self.old.log ++ Opened name.now ∷ [] }
+        ensures noted { self.new.log.events ≡ self.old.log.events ++ Opened name.now ∷ [] }
+        ensures unread { self.new.log.gave ≡ self.old.log.gave }
         ensures unended { self.new.ended ≡ self.old.ended }
         ensures begun { IfOk result (λ s. s.source.given ≡ []) }
-        ensures named { IfOk result (λ s. s.source.name ≡ name.now) }
+        ensures named { IfOk result (λ s. IsNamed s.source.name (Named name.now)) }
         ensures found { IfOk result (λ s. false ≡ true
             → ◌≡◌ {A = Option (List ℕ)} None (Some [])) }
         ensures shown { false ≡ true → IfErr result (λ f. f ≡ Fault Memory) }
@@ -504,11 +507,12 @@ impl<'r, 'w> FileSet for HostFiles<'r, 'w> {
     }
 
     fn reread(
-        &self,
+        &mut self,
         _alloc: Global,
         _name: &str,
         source: &mut WatchedIn<'r, 'w>,
     ) -> Result<(), FileFault> {
+        source.log_to(&mut self.log);
         match source.reread() {
             Ok(()) => {
                 announce_rereading(self.rt, self.failures);
@@ -516,6 +520,10 @@ impl<'r, 'w> FileSet for HostFiles<'r, 'w> {
             }
             Err(error) => Err(fault_of(error, FileFault::Read)),
         }
+    }
+
+    fn finish(&mut self, source: WatchedIn<'r, 'w>) {
+        source.log_to(&mut self.log);
     }
 
     fn prepare(
@@ -536,7 +544,8 @@ impl<'r, 'w> FileSet for HostFiles<'r, 'w> {
     }
 
     fn create(&mut self, alloc: Global, name: &str) -> Result<WatchedOut<'r, 'w>, OpenFault>
-        ensures noted { self.new.log ≡ self.old.log ++ Created name.now ∷ [] }
+        ensures noted { self.new.log.events ≡ self.old.log.events ++ Created name.now ∷ [] }
+        ensures unread { self.new.log.gave ≡ self.old.log.gave }
         ensures unended { self.new.ended ≡ self.old.ended }
         ensures made { IfOk result (λ o. false ≡ true
             → ((as_sink o.sink).taken.contents ≡ Some []) × ((as_sink o.sink).label ≡ name.now)) }
@@ -552,7 +561,8 @@ impl<'r, 'w> FileSet for HostFiles<'r, 'w> {
     }
 
     fn create_new(&mut self, alloc: Global, name: &str) -> Result<WatchedOut<'r, 'w>, OpenFault>
-        ensures noted { self.new.log ≡ self.old.log ++ Made name.now ∷ [] }
+        ensures noted { self.new.log.events ≡ self.old.log.events ++ Made name.now ∷ [] }
+        ensures unread { self.new.log.gave ≡ self.old.log.gave }
         ensures unended { self.new.ended ≡ self.old.ended }
         ensures made { IfOk result (λ o. false ≡ true
             → ((as_sink o.sink).taken.contents ≡ Some []) × ((as_sink o.sink).label ≡ name.now)) }

@@ -1,13 +1,16 @@
 //! Files and streams whose failures are kept.
 
-ghost use Rattle.std.specs.Prelude.{◌≡◌, ◌≤◌, ◌<◌, None, length, true, IfOk, OnOk, MatchResult, is_err};
-ghost use Rattle.std.specs.Prelude.{IfSome};
-ghost use Rattle.age_io.specs.Io.{one_more};
+ghost use Rattle.std.specs.Prelude.{◌≡◌, ◌≤◌, ◌<◌, [], ◌∷◌, ◌++◌, length, true, IfOk, OnOk};
+ghost use Rattle.std.specs.Prelude.{IfSome, MatchResult, is_err, false};
+ghost use Rattle.age_io.specs.Io.{one_more, IsNamed};
 ghost use Rattle.age_io.specs.Taken.{WriteAppends, Keeps};
 ghost use Rattle.age_machine.specs.Ends.{Closes, Discards};
+ghost use Rattle.age_disk.specs.Inputs.{as_source};
 ghost use Rattle.age_disk.specs.Outputs.{HasNode, as_sink};
+ghost use Rattle.age_fileset.specs.FileSet.{reading_of};
 
 use age_disk::{Ended, FileId, HostIn, HostOut, Prepared};
+use age_fileset::Log;
 use age_io::{Durability, Failed, Sink, Source};
 use age_messages::{Action, Failures};
 use std::io::{self, Read, Write};
@@ -44,7 +47,9 @@ impl<'r, 'w> WatchedIn<'r, 'w> {
 
     /// Sets it back to its start. If the second reading ends elsewhere and no pull fails, the file
     /// isn't what it was.
-    pub(crate) fn reread(&mut self) -> io::Result<()> {
+    pub(crate) fn reread(&mut self) -> io::Result<()>
+        ensures { self.new.source ≡ record self.old.source { given = []; is_at_end = false } }
+    {
         let result = self.source.reread();
         self.is_again = true;
         let error = match result {
@@ -72,6 +77,21 @@ impl<'r, 'w> WatchedIn<'r, 'w> {
         }
     }
 
+    /// Notes that a reading is over.
+    pub(crate) fn log_to(&self, log: &mut Log)
+        ensures { log.new ≡ record log.old {
+          gave = log.old.gave ++ reading_of self.now.source.name (as_source self.now.source) ∷ [];
+        } }
+    {
+        let source = &self.source;
+        log.gave(
+            source.name(),
+            source.given(),
+            source.is_at_end(),
+            source.is_failing(),
+        );
+    }
+
     /// How many bytes a regular file still has to give.
     pub(crate) fn length(&self) -> Option<u64> {
         self.source.length()
@@ -79,15 +99,9 @@ impl<'r, 'w> WatchedIn<'r, 'w> {
 }
 
 impl<'r, 'w> Source for WatchedIn<'r, 'w> {
-    ghost view = { λ s. record {
-      supply = record {
-        given = s.source.given;
-        left = None;
-        is_at_end = s.source.is_at_end;
-      };
-      failed = s.source.failed;
-      failing = s.source.failing;
-    } };
+    ghost view = { λ s. as_source s.source };
+
+    ghost began = { λ s. IsNamed s.source.name };
 
     fn pull(&mut self, into: &mut [u8]) -> Result<usize, Failed> {
         let pulled = self.source.pull(into);

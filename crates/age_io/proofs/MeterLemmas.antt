@@ -6,7 +6,7 @@ use Rattle.std.proofs.lemmas.List.Sums.{sum_by-append}
 use Rattle.age_io.proofs.SupplyLemmas.{Consumes-trans, Consumes-nil}
 use Rattle.std.specs.List.{sum}
 use Rattle.age_io.specs.Supply.{Supply, Consumes}
-use Rattle.age_io.specs.Io.{Adds, Shown, Advances, Begins, Ends, Origin, CountsSince, ShowsReading}
+use Rattle.age_io.specs.Io.{Adds, Shown, Advances, Begins, Ends, Lending, CountsSince, ShowsReading}
 
 -- it is shown one count more
 shown_more : (before : List Shown) (counts : List ℕ) (n : ℕ) → before ++ map Advances counts ++ Advances n ∷ []
@@ -21,7 +21,7 @@ grown : (now : Option (List Shown)) (shown : List Shown) (more : Shown) → Adds
 grown None shown more a = absurd a
 grown (Some now) shown more a = ap Some a
 
-abbrev from : GName → Supply → Option (List Shown) → Origin
+abbrev from : GName → Supply → Option (List Shown) → Lending
 from meter coming shown = record { meter = meter; coming = coming; shown = shown }
 
 since_more : (meter : GName) (coming : Supply) (before : Option (List Shown)) (left after : Supply) (shown now : Option (List Shown))
@@ -39,7 +39,7 @@ since_more meter coming (Some before) left after shown now n into most read adds
     )
 
 -- what a pull gave is counted
-pub pulls_since : (from : Origin) (left after : Supply) (shown now : Option (List Shown)) (n : ℕ) (into : List ℕ)
+pub pulls_since : (from : Lending) (left after : Supply) (shown now : Option (List Shown)) (n : ℕ) (into : List ℕ)
     → n ≤ length into → Consumes left after (take n into) → Adds shown now (Advances n)
     → CountsSince from left shown → CountsSince from after now
 pulls_since from = since_more from.meter from.coming from.shown

@@ -67,18 +67,34 @@ abbrev pub AddsPull : {E : Type 0} → Option (List Shown) → Option (List Show
 AddsPull old new (Ok bytes) = Adds old new (Advances bytes)
 AddsPull old new (Err failed) = new ≡ old
 
--- how a source that has a meter began: the name by which the meter is lent to it, the bytes that
--- were to come, if they are shown, and what the meter was shown by then
-pub record Origin : Type 0 where
+-- a meter that is lent to a source: the name by which it is, the bytes that were to come then, if they
+-- are shown, and what the meter was shown by then
+pub record Lending : Type 0 where
   pub meter : GName
   pub coming : Supply
   pub shown : Option (List Shown)
 
--- since this origin a source gave some bytes, and its meter was shown as many and nothing else
-abbrev pub CountsSince : Origin → Supply → Option (List Shown) → Type 0
+-- how a source began: with the file of this name, or with a meter
+pub data Origin : Type 0 where
+  Named : List ℕ → Origin
+  Metered : Lending → Origin
+
+-- a source of the file of this name began so
+abbrev pub IsNamed : List ℕ → Origin → Type 0
+IsNamed own (Named name) = name ≡ own
+IsNamed own (Metered from) = ⊥
+
+-- since it was lent a meter a source gave some bytes, and the meter was shown as many and nothing else
+abbrev pub CountsSince : Lending → Supply → Option (List Shown) → Type 0
 CountsSince from left shown = IfSome from.shown (λ before.
     (bytes : List ℕ) × (counts : List ℕ) × Consumes from.coming left bytes
     × (length bytes ≡ sum counts) × (shown ≡ Some (before ++ map Advances counts)))
+
+-- a source that hands on what another one gives began so: with the file of that, which `Began` says, or
+-- with its own meter
+abbrev pub BeganWith : (Began : Origin → Type 0) → GName → Supply → Option (List Shown) → Origin → Type 0
+BeganWith Began lent left shown (Named name) = Began (Named name)
+BeganWith Began lent left shown (Metered from) = (lent ≡ from.meter) × CountsSince from left shown
 
 -- a meter was shown a whole reading: that it begins, with its length if that is known; how many
 -- bytes the source gave; and that it is over

@@ -63,6 +63,20 @@ impl MemSource {
         }
     }
 
+    /// The bytes that it gave.
+    pub fn given(&self) -> &[u8]
+        ensures { result.now ≡ self.now.given }
+    {
+        &self.bytes[..self.at]
+    }
+
+    /// Whether the last pull failed.
+    pub fn is_failing(&self) -> bool
+        ensures { result ≡ self.now.failing }
+    {
+        self.failures.last
+    }
+
     /// How many bytes are still to come.
     pub fn remaining(&self) -> usize
         ensures { result ≡ length self.now.left }

@@ -2,7 +2,7 @@
 
 ghost use Rattle.std.specs.Prelude.{◌≡◌, ◌≤◌, length, IfOk, MatchResult, is_err};
 ghost use Rattle.age_io.specs.Supply.{ReadConsumes};
-ghost use Rattle.age_io.specs.Io.{one_more, pulled, AddsPull, CountsSince, Origin};
+ghost use Rattle.age_io.specs.Io.{one_more, pulled, AddsPull, BeganWith, Origin};
 
 use crate::failed::Failed;
 use crate::meter::Meter;
@@ -21,8 +21,8 @@ pub struct Metered<'m, S: Source, M: Meter> {
 impl<'m, S: Source, M: Meter> Source for Metered<'m, S, M> {
     ghost view = { λ s. S.view s.source };
 
-    ghost metered = { λ s from. (s.meter.ghost_name ≡ from.meter)
-        × CountsSince from (S.view s.source).supply (M.shown s.meter.now) };
+    ghost began = { λ s. BeganWith (S.began s.source) s.meter.ghost_name (S.view s.source).supply
+        (M.shown s.meter.now) };
 
     /// Does what the source's own pull does, and reports to the meter how many bytes it gave;
     /// nothing if it failed.
@@ -36,10 +36,11 @@ impl<'m, S: Source, M: Meter> Source for Metered<'m, S, M> {
         ensures last { (S.view self.new.source).failing ≡ is_err result }
         ensures metered { M.count self.new.meter.now ≡ pulled result (M.count self.old.meter.now) }
         ensures shown { AddsPull (M.shown self.old.meter.now) (M.shown self.new.meter.now) result }
-        ensures since { (from : Origin) → (self.old.meter.ghost_name ≡ from.meter)
-            × CountsSince from (S.view self.old.source).supply (M.shown self.old.meter.now)
-            → (self.new.meter.ghost_name ≡ from.meter)
-            × CountsSince from (S.view self.new.source).supply (M.shown self.new.meter.now) }
+        ensures since { (from : Origin)
+            → BeganWith (S.began self.old.source) self.old.meter.ghost_name
+            (S.view self.old.source).supply (M.shown self.old.meter.now) from
+            → BeganWith (S.began self.new.source) self.new.meter.ghost_name
+            (S.view self.new.source).supply (M.shown self.new.meter.now) from }
     {
         let n = self.source.pull(into)?;
         self.meter.advance(n as u64);

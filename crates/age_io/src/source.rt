@@ -18,9 +18,9 @@ pub trait Source {
     // have failed, and whether the last one did.
     ghost view: { Self → SourceView };
 
-    // If it has a meter, the meter was shown what the source gave since it began as the `Origin`
-    // says. Every call that pulls keeps this.
-    ghost metered: { Self → Origin → Type 0 } = { λ _ _. Unit {0} };
+    // It began as the `Origin` says: its file was opened under that name; or it has that meter, which
+    // was shown what it gave since. Every call that pulls keeps this.
+    ghost began: { Self → Origin → Type 0 } = { λ _ _. Unit {0} };
 
     /// Puts the next bytes at the beginning of a slice, and returns how many: none only at the end,
     /// or if the slice is empty. A pull that fails moves no bytes.
@@ -32,7 +32,7 @@ pub trait Source {
             (λ _. (view self.new).failed ≡ (view self.old).failed)
             (λ _. (view self.new).failed ≡ one_more (view self.old).failed) }
         ensures last { (view self.new).failing ≡ is_err result }
-        ensures metered { (from : Origin) → metered self.old from → metered self.new from };
+        ensures began { (from : Origin) → began self.old from → began self.new from };
 
     /// How many pulls have failed.
     fn failures(&self) -> u64

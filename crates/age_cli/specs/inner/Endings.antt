@@ -18,11 +18,11 @@ use Rattle.age_file.specs.declared.position.Position.{Position}
 use Rattle.age_fileset.specs.FileSet.{Closed, FilesView}
 use Rattle.age_command.specs.Endings.{is_usage}
 use Rattle.age_command.specs.declared.ending.Ending.{Ending}
-use Rattle.age_command.specs.declared.ending.Ending.TheVariants.{Unsaved}
+use Rattle.age_command.specs.declared.ending.Ending.TheVariants.{Fault, Unsaved}
 use Rattle.age_command.specs.Orders.{Follows, replacing}
 use Rattle.age_command.specs.Files.{SparesBut, SparesBoth}
 use Rattle.age_machine.specs.Ends.{EndedFile, TouchesItself, IsThere, IsOnDisk, IsUntouched}
-use Rattle.age_cli.specs.Acts.{EndsOf, IsEndingOf, HasSaved}
+use Rattle.age_cli.specs.Acts.{EndsOf, IsEndingOf, HasPut}
 use Rattle.age_cli.specs.declared.interruption.Interruption.{Interruption}
 
 -- a refusal that isn't one: help or the version is asked for
@@ -62,6 +62,11 @@ Left (Err cause) taken old new stop = (stop ≡ cause) × IsPut taken old new
 Left (Ok done) taken old new stop = (stop ≡ record { fault = Write; position = None })
     × ((new ≡ old) ⊎ (new ≡ taken))
 
+-- the position of a stop, if it has one
+abbrev pub position_of : Result (Unit {0}) Interruption → Option Position
+position_of (Ok done) = None
+position_of (Err stop) = stop.position
+
 -- the fault of a stop: the engine's, or that of the end of OUT
 abbrev pub IsFaultOf : Result (Unit {0}) Interruption → FileFault → Type 0
 IsFaultOf (Ok done) fault = fault ≡ Write
@@ -90,6 +95,15 @@ pub record EndsFile {E : Type 0} (durability : Durability) (sink : SinkView)
   -- If it couldn't be ended, a call has failed.
   pub caused : OnOk engine (OnErr result (IfSome out.file (λ f. 0 < out.failed)))
 
+-- a name and a position aren't both there, or the ending says that the position isn't saved
+abbrev pub LacksOne : Option Text → Option Position → Type 0
+LacksOne (Some name) (Some p) = ⊥
+LacksOne save position = Unit {0}
+
+abbrev pub IsNotDue : Ending → Option Text → Option Position → Type 0
+IsNotDue (Fault fault) save position = LacksOne save position
+IsNotDue other save position = Unit {0}
+
 -- OUT was ended, whose sink is this: whole, or as a stop leaves it
 pub record EndsOut (shows : Bool) (durability : Durability) (sink : SinkView)
     (engine : Result (Unit {0}) Interruption) (old new : FilesView) (result : Result (Unit {0}) Interruption)
@@ -108,6 +122,7 @@ pub record EndsOut (shows : Bool) (durability : Durability) (sink : SinkView)
   -- What was done to its file, and with which fault that stopped.
   pub ended : IsSomeAnd new.ended (EndsFile durability sink engine result)
   pub fault : IfErr result (λ stop. IsFaultOf engine stop.fault)
+  pub position : IfErr result (λ stop. stop.position ≡ position_of engine)
 
 -- and then the position of a stop was saved
 pub record Concludes (shows : Bool) (save : Option Text) (durability : Durability)
@@ -133,6 +148,7 @@ pub record Concludes (shows : Bool) (save : Option Text) (durability : Durabilit
   pub ended : IsSomeAnd new.ended (EndsFile durability sink engine result)
   pub reported : IfErr result
       (λ ending. (fault : FileFault) × IsFaultOf engine fault × IsEndingOf fault ending)
-  -- After a stop nothing was replaced, or a position was saved.
-  pub saved : IfErr result (λ ending. (new.events ≡ old.events ++ Closed durability ∷ [])
-      ⊎ HasSaved durability ending new.saved)
+  -- After a stop its position was saved, if there is one and a file for it.
+  pub saved : IfErr result (λ ending. ((new.events ≡ old.events ++ Closed durability ∷ [])
+      × IsNotDue ending save (position_of engine))
+      ⊎ HasPut durability (position_of engine) ending new.saved)

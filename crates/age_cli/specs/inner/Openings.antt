@@ -6,7 +6,7 @@ use Rattle.clap.specs.Words.{Text}
 use Rattle.age_keys.specs.declared.random.FileRandom.{FileRandom}
 use Rattle.age_file.specs.Resumes.{position_text}
 use Rattle.age_file.specs.declared.position.Position.{Position}
-use Rattle.age_fileset.specs.FileSet.{Event, FilesView}
+use Rattle.age_fileset.specs.FileSet.{Event, FilesView, Reading, HasGiven, HasGivenAll}
 use Rattle.age_cli_args.specs.Requests.{option_text}
 use Rattle.age_cli_args.specs.declared.request.ClobberOption.{ClobberOption}
 use Rattle.age_cli_args.specs.declared.request.ClobberOption.TheVariants.{Refused}
@@ -102,10 +102,17 @@ pub record IsRandom (bytes : List ℕ) (r : FileRandom) : Type 0 where
   pub salt_length : length r.salt ≡ 16
   pub nonce_length : length r.payload_nonce ≡ 16
 
--- what stands under the names of the passphrase and of the random bytes is this
-pub record IsMaterialIn (asked : Encrypting) (old : Files) (m : Material) : Type 0 where
-  pub pass_is : old asked.pass.now ≡ Some m.pass.items
+-- what two files hold, or gave, is this: a passphrase's, and one with random bytes at its beginning
+pub record IsMaterialIn (pass random : Option (List ℕ)) (m : Material) : Type 0 where
+  pub pass_is : pass ≡ Some m.pass.items
   pub bytes : List ℕ
   pub rest : List ℕ
-  pub random_held : old (random_name (option_text asked.random)) ≡ Some (bytes ++ rest)
+  pub random_held : random ≡ Some (bytes ++ rest)
+  pub random_is : IsRandom bytes m.random
+
+-- that is all that the file of the passphrase gave, and what that of the random bytes gave
+pub record IsMaterialGiven (IsOver : Reading → Type 0) (asked : Encrypting) (m : Material) : Type 0 where
+  pub pass : HasGivenAll IsOver asked.pass.now m.pass.items
+  pub bytes : List ℕ
+  pub random : HasGiven IsOver (random_name (option_text asked.random)) bytes
   pub random_is : IsRandom bytes m.random

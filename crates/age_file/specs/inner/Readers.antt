@@ -71,10 +71,9 @@ SameReader old new = (new.source.ghost_name ≡ old.source.ghost_name)
 abbrev pub SameWriter : {O : Type 0} → Writer O → Writer O → Type 0
 SameWriter old new = new.sink.ghost_name ≡ old.sink.ghost_name
 
--- a source's meter is still shown what the source gave, if it was before
-abbrev pub KeepsMeter : {S : Type 0} → (S → Origin → Type 0) → Reader S → Reader S → Type 0
-KeepsMeter metered old new = (from : Origin) → metered old.source.now from
-    → metered new.source.now from
+-- a source still began as it did
+abbrev pub KeepsOrigin : {S : Type 0} → (S → Origin → Type 0) → Reader S → Reader S → Type 0
+KeepsOrigin began old new = (from : Origin) → began old.source.now from → began new.source.now from
 
 -- ---- What pulls into the intake did.
 

@@ -1,21 +1,33 @@
 -- How code notes what was done with a set of files. Private: no public contract cites this module.
-use Rattle.std.specs.Prelude.{◌≡◌, ◌⊎◌, ℕ, List, refl}
-use Rattle.std.specs.Coded.{Coded, coded_ℕ, coded_list, coded⊎, code_by}
+use Rattle.std.specs.Prelude.{◌≡◌, ◌⊎◌, ℕ, Bool, List, [], ◌∷◌, ◌++◌, refl}
+use Rattle.std.specs.Coded.{Coded, coded_ℕ, coded_bool, coded_list, coded⊎, coded×, code_by}
 use base.Stored.{coded_unit}
 use mathlib.Core.Logic.{inl, inr}
 use Rattle.age_io.specs.declared.durability.Durability.TheVariants.{Synced, Buffered}
 use Rattle.age_fileset.specs.FileSet.{Event, Opened, Prepared, Created, Made, Replaced, Closed}
+use Rattle.age_fileset.specs.FileSet.{Reading, Doings}
 use Rattle.age_fileset.specs.declared.log.Action.{Action}
 use Rattle.age_fileset.specs.declared.log.Action.TheVariants as action
 
--- the event that an action is
-abbrev pub event_of : Action → Event
-event_of (action.Opened name) = Opened name.now
-event_of (action.Prepared name) = Prepared name.now
-event_of (action.Created name) = Created name.now
-event_of (action.Made name) = Made name.now
-event_of (action.Replaced name durability) = Replaced name.now durability
-event_of (action.Closed durability) = Closed durability
+abbrev did : Event → Doings → Doings
+did event old = record old { events = old.events ++ event ∷ [] }
+
+-- what was done by then, once an action is
+abbrev pub once_done : Action → Doings → Doings
+once_done (action.Opened name) old = did (Opened name.now) old
+once_done (action.Prepared name) old = did (Prepared name.now) old
+once_done (action.Created name) old = did (Created name.now) old
+once_done (action.Made name) old = did (Made name.now) old
+once_done (action.Replaced name durability) old = did (Replaced name.now durability) old
+once_done (action.Closed durability) old = did (Closed durability) old
+once_done (action.Gave name given is_at_end is_failing) old =
+    let reading : Reading = record {
+      name = name.now;
+      given = given.now;
+      is_at_end = is_at_end;
+      failing = is_failing;
+    } in
+    record old { gave = old.gave ++ reading ∷ [] }
 
 -- an event as a choice among sums, the form in which ghost state is kept
 abbrev Parts : Type 0
@@ -54,7 +66,19 @@ join-split (Closed Buffered) = refl
 abbrev coded_named : Coded (List ℕ)
 coded_named = coded_list coded_ℕ
 
-abbrev pub coded_event : Coded Event
+abbrev coded_event : Coded Event
 coded_event = code_by Parts (coded⊎ coded_named (coded⊎ coded_named (coded⊎ coded_named
     (coded⊎ coded_named (coded⊎ coded_named (coded⊎ coded_named (coded⊎ coded_unit coded_unit)))))))
     split join join-split
+
+-- a reading as a tuple, and what was done as a pair of lists
+abbrev coded_reading : Coded Reading
+coded_reading = code_by (List ℕ × (List ℕ × (Bool × Bool)))
+    (coded× coded_named (coded× coded_named (coded× coded_bool coded_bool)))
+    (λ r. (r.name, (r.given, (r.is_at_end, r.failing))))
+    (λ t. record { name = t.0; given = t.1.0; is_at_end = t.1.1.0; failing = t.1.1.1 }) (λ r. refl)
+
+abbrev pub coded_doings : Coded Doings
+coded_doings = code_by (List Event × List Reading)
+    (coded× (coded_list coded_event) (coded_list coded_reading)) (λ d. (d.events, d.gave))
+    (λ t. record { events = t.0; gave = t.1 }) (λ d. refl)

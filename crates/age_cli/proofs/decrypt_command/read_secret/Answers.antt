@@ -6,8 +6,8 @@ use Rattle.age_cli.proofs.CommandLemmas.{no_value, not_well, this_error, created
 use Rattle.age_command.proofs.EventLemmas.{followed, none_done}
 use Rattle.age_cli.proofs.decrypt_command.read_secret.Goals as goal
 
-pub returns-then-is_file_named_twice : goal.returns-then-is_file_named_twice
-returns-then-is_file_named_twice g c = record {
+pub returns-then-is_file_named_twice-clause-judges : goal.returns-then-is_file_named_twice-clause-judges
+returns-then-is_file_named_twice-clause-judges g c = record {
   kept = refl;
   unended = refl;
   read = tt;
@@ -19,8 +19,8 @@ returns-then-is_file_named_twice g c = record {
   reason = λ shown. tt;
 }
 
-pub returns-in_err-check_streams : goal.returns-in_err-check_streams
-returns-in_err-check_streams g c =
+pub returns-in_err-check_streams-clause-judges : goal.returns-in_err-check_streams-clause-judges
+returns-in_err-check_streams-clause-judges g c =
     let r = c.from_residual.result in
     let e : Ending = ending_of c.in_err-check_streams.field-0.0 in
     let is = c.from_residual.ensures in
@@ -37,8 +37,8 @@ returns-in_err-check_streams g c =
       reason = λ shown. this_error r e is _ (streams_reason _ _ _ _ _ fails);
     }
 
-pub returns-in_err-read : goal.returns-in_err-read
-returns-in_err-read g c =
+pub returns-in_err-read-clause-judges : goal.returns-in_err-read-clause-judges
+returns-in_err-read-clause-judges g c =
     let r = c.from_residual-in_err-read.result in
     let e : Ending = ending_of c.in_err-read.field-0.0 in
     let is = c.from_residual-in_err-read.ensures in
@@ -55,8 +55,8 @@ returns-in_err-read g c =
       reason = λ shown. this_error r e is _ (open_reason _ _ _ _ _ read.faults (read.reason shown));
     }
 
-pub returns : goal.returns
-returns g c =
+pub returns-clause-judges : goal.returns-clause-judges
+returns-clause-judges g c =
     let read = c.in_ok-read.ensures in
     record {
       kept = read.kept;

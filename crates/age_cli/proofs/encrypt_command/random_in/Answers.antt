@@ -12,6 +12,7 @@ returns-in_err-bytes g c =
     let is = c.from_residual.ensures in
     record {
       read = no_value r e is _;
+      began = c.in_err-bytes.ensures.began;
       short = this_error r e is _ (λ usage. absurd (true≢false (sym usage)));
       early = this_error r e is EndsEarly (early_fault _ c.in_err-bytes.ensures.faults);
       reason = this_error r e is _ (λ old events. source_reason _ _ _ _ c.in_err-bytes.ensures.faults c.in_err-bytes.ensures.failed);

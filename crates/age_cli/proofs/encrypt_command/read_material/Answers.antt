@@ -9,11 +9,14 @@ use Rattle.age_command.specs.Orders.{random_name}
 use Rattle.age_command.specs.Files.{Files}
 use Rattle.age_cli.specs.Commands.{HoldsNoRandom}
 use Rattle.age_cli.proofs.CommandLemmas.{no_value, not_well, this_error, created_fault, streams_early, streams_reason, reason_at}
+use Rattle.clap.specs.Words.{Text}
+use Rattle.age_fileset.specs.FileSet.{ReadSince, HasGiven}
+use Rattle.age_fileset.proofs.ReadingLemmas.{all_as, given_as, reads_then, since_then, then_since}
 use Rattle.age_command.proofs.EventLemmas.{followed, none_done, then_did}
 use Rattle.age_cli.proofs.encrypt_command.read_material.Goals as goal
 
-pub returns-then-names_out_twice : goal.returns-then-names_out_twice
-returns-then-names_out_twice g c = record {
+pub returns-then-names_out_twice-clause-judges : goal.returns-then-names_out_twice-clause-judges
+returns-then-names_out_twice-clause-judges g c = record {
   kept = refl;
   unended = refl;
   read = tt;
@@ -25,8 +28,8 @@ returns-then-names_out_twice g c = record {
   reason = λ shown. tt;
 }
 
-pub returns-in_err-check_streams : goal.returns-in_err-check_streams
-returns-in_err-check_streams g c =
+pub returns-in_err-check_streams-clause-judges : goal.returns-in_err-check_streams-clause-judges
+returns-in_err-check_streams-clause-judges g c =
     let r = c.from_residual.result in
     let e : Ending = ending_of c.in_err-check_streams.field-0.0 in
     let is = c.from_residual.ensures in
@@ -43,8 +46,8 @@ returns-in_err-check_streams g c =
       reason = λ shown. this_error r e is _ (streams_reason _ _ _ _ _ fails);
     }
 
-pub returns-in_err-pass : goal.returns-in_err-pass
-returns-in_err-pass g c =
+pub returns-in_err-pass-clause-judges : goal.returns-in_err-pass-clause-judges
+returns-in_err-pass-clause-judges g c =
     let a = c.args.asked.now in
     let r = c.from_residual-in_err-pass.result in
     let e = c.in_err-pass.field-0.0 in
@@ -66,8 +69,8 @@ returns-in_err-pass g c =
       reason = λ shown. this_error r e is _ (c.in_err-pass.ensures.reason shown);
     }
 
-pub returns-in_err-random : goal.returns-in_err-random
-returns-in_err-random g c =
+pub returns-in_err-random-clause-judges : goal.returns-in_err-random-clause-judges
+returns-in_err-random-clause-judges g c =
     let a = c.args.asked.now in
     let r = c.from_residual-in_err-random.result in
     let e = c.in_err-random.field-0.0 in
@@ -90,8 +93,8 @@ returns-in_err-random g c =
       reason = λ shown. this_error r e is _ (reason_at _ _ (g.F.FileSet.view c.read_random.new.files).events (SourceFails g.F.In.Source.view) e c.in_ok-pass.ensures.kept (c.in_err-random.ensures.reason shown));
     }
 
-pub returns : goal.returns
-returns g c =
+pub returns-clause-judges : goal.returns-clause-judges
+returns-clause-judges g c =
     let a = c.args.asked.now in
     let name = c.random_name-random_name.ensures in
     let events = then_did _ _ _ (Opened a.pass.now ∷ []) (Opened c.random_name-random_name.result.now ∷ []) c.in_ok-pass.ensures.noted c.in_ok-random.ensures.noted
@@ -114,4 +117,25 @@ returns g c =
       blamed = λ shown. tt;
       early = tt;
       reason = λ shown. tt;
+    }
+
+pub returns-in_err-random-clause-reads : goal.returns-in_err-random-clause-reads
+returns-in_err-random-clause-reads g c = reads_then _ _ _ c.in_ok-pass.ensures.reads c.in_err-random.ensures.reads
+
+pub returns-clause-reads : goal.returns-clause-reads
+returns-clause-reads g c = reads_then _ _ _ c.in_ok-pass.ensures.reads c.in_ok-random.ensures.reads
+
+pub returns-clause-given : goal.returns-clause-given
+returns-clause-given g c =
+    let gave = g.F.FileSet.gave in
+    let first = gave c.args.files.now in
+    let mid = gave c.read_pass.new.files in
+    let last = gave c.read_random.new.files in
+    let random = c.in_ok-random.ensures.given in
+    record {
+      pass = all_as (ReadSince first mid) (ReadSince first last) (λ r. since_then first mid last c.in_ok-random.ensures.reads r) _ _ c.in_ok-pass.ensures.given;
+      bytes = random.0;
+      random = subst (λ (n : Text). HasGiven (ReadSince first last) n random.0) c.random_name-random_name.ensures
+          (given_as (ReadSince mid last) (ReadSince first last) (λ r. then_since first mid last c.in_ok-pass.ensures.reads r) _ _ random.1);
+      random_is = random.2;
     }

@@ -1,12 +1,12 @@
 use Rattle.std.proofs.Common.{◌∙◌, ap, sym, subst}
 use Rattle.age_keys.specs.Scrypt.{IsAllowed}
 use Rattle.age_file.specs.Encrypts.{SecretView}
-use Rattle.age_command.specs.Lines.{without_line_feed}
+use Rattle.age_command.specs.Files.{without_line_feed}
 use Rattle.age_cli.proofs.EncryptionLemmas.{random_in}
 use Rattle.age_cli.proofs.encrypt_command.secret_of.Goals as goal
 
 pub returns-in-Some-clause-makes : goal.returns-in-Some-clause-makes
-returns-in-Some-clause-makes c = λ old of. let secret = c.in-Some.secret in
+returns-in-Some-clause-makes c = λ pass random of. let secret = c.in-Some.secret in
     let is = c.in-Some.ensures.1 in
     record {
       passphrase = (

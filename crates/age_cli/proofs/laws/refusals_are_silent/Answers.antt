@@ -3,9 +3,9 @@ use Rattle.age_cli.proofs.laws.refusals_are_silent.Goals as goal
 
 pub returns-clause-silent : goal.returns-clause-silent
 returns-clause-silent g c =
-    λ words before after input output progress shown ended. (
+    λ words gave before after input output progress shown ended. (
       λ d. no_help ended _ _ _ before.output after.output d.done d.stops,
-      refused_silently words _ _ before after _ _ _ _ _ ended,
+      refused_silently words _ _ _ before after _ _ _ _ _ ended,
     )
 
 pub returns-clause-reported : goal.returns-clause-reported

@@ -5,8 +5,8 @@ use Rattle.age_cli.proofs.laws.runs_keep_out.Goals as goal
 
 pub returns : goal.returns
 returns g c =
-    λ words before after faults_old faults_new input output faults progress shown status ran.
+    λ words gave before after faults_old faults_new input output faults progress shown status ran.
     let failed = failed_by ran.ended status ran.status_is in (
-      λ d text made auth. headline_of words true _ before after _ _ _ _ _ status text refl ran.ended failed ran.obeys d made auth,
-      λ r text made auth. resumed_headline_of words true _ before after _ _ _ _ _ status text refl ran.ended failed ran.obeys r made auth,
+      λ d text made auth. headline_of words true _ _ before after _ _ _ _ _ status text refl ran.ended failed ran.obeys d made auth,
+      λ r text made auth. resumed_headline_of words true _ _ before after _ _ _ _ _ status text refl ran.ended failed ran.obeys r made auth,
     )

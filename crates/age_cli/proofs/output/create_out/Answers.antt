@@ -9,8 +9,8 @@ use Rattle.age_cli.proofs.CommandLemmas.{no_value, not_well, this_error, an_erro
 use Rattle.age_command.proofs.EventLemmas.{followed, then_did}
 use Rattle.age_cli.proofs.output.create_out.Goals as goal
 
-pub returns-in_err-out : goal.returns-in_err-out
-returns-in_err-out g c =
+pub returns-in_err-out-clause-opens : goal.returns-in_err-out-clause-opens
+returns-in_err-out-clause-opens g c =
     let r = c.from_residual.result in
     let a = c.args.asked.now in
     let e : Ending = ending_of c.in_err-out.field-0.0 in
@@ -33,8 +33,8 @@ returns-in_err-out g c =
       fault = λ shown. this_error r e is _ (created_fault _ _ _ faults shown);
     }
 
-pub returns-in-Some : goal.returns-in-Some
-returns-in-Some g c =
+pub returns-in-Some-clause-opens : goal.returns-in-Some-clause-opens
+returns-in-Some-clause-opens g c =
     let created = c.in_ok-out.ensures in
     let a = c.args.asked.now in
     record {
@@ -49,8 +49,8 @@ returns-in-Some g c =
       fault = λ shown. let never = sym c.in-Some.is ∙ c.refusal_of.ensures shown in cc;
     }
 
-pub returns-in-None : goal.returns-in-None
-returns-in-None g c = record {
+pub returns-in-None-clause-opens : goal.returns-in-None-clause-opens
+returns-in-None-clause-opens g c = record {
   kept = c.in_ok-out.ensures.kept;
   opened = rw c.new.ensures c.in_ok-out.ensures.made;
   begun = rw c.new.ensures c.in_ok-out.ensures.begun;

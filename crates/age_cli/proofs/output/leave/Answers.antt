@@ -15,6 +15,7 @@ returns-then-is_empty g c =
           (discarded.kept (λ same. took_none sink.taken.contents c.args.out.is_empty (c.args.out.knows.1 shown) c.if-is_empty.true)));
       others = discarded.others;
       noted = discarded.noted;
+      unread = discarded.unread;
       ended = some_and {Q = LeavesFile sink} _ (λ out d. record { took = d.took; within = d.within; untouched = d.untouched }) discarded.discarded;
     }
 
@@ -28,6 +29,7 @@ returns-else-is_empty g c =
           (λ left. ⊎_elim (λ kept. inl (ap (λ (f : Files). f sink.label) kept)) (λ put. inr (put shown, some)) left);
       others = closed.others;
       noted = closed.noted;
+      unread = closed.unread;
       ended = some_and {Q = LeavesFile sink} _ (λ out d. record {
         took = d.took;
         within = d.within;

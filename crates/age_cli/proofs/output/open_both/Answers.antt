@@ -12,8 +12,8 @@ use Rattle.age_cli.proofs.CommandLemmas.{no_value, not_well, this_error, an_erro
 use Rattle.age_command.proofs.EventLemmas.{followed, longer, then_did, then_follows}
 use Rattle.age_cli.proofs.output.open_both.Goals as goal
 
-pub returns-in_err-source : goal.returns-in_err-source
-returns-in_err-source g c =
+pub returns-in_err-source-clause-opens : goal.returns-in_err-source-clause-opens
+returns-in_err-source-clause-opens g c =
     let r = c.from_residual.result in
     let a = c.args.asked.now in
     let e : Ending = ending_of c.in_err-source.field-0.0 in
@@ -32,8 +32,8 @@ returns-in_err-source g c =
       fault = λ shown. this_error r e is _ (created_fault _ _ _ c.in_err-source.ensures.faults shown);
     }
 
-pub returns-in_err-prepare_save : goal.returns-in_err-prepare_save
-returns-in_err-prepare_save g c =
+pub returns-in_err-prepare_save-clause-opens : goal.returns-in_err-prepare_save-clause-opens
+returns-in_err-prepare_save-clause-opens g c =
     let r = c.from_residual-in_err-prepare_save.result in
     let a = c.args.asked.now in
     let e = c.in_err-prepare_save.field-0.0 in
@@ -52,14 +52,14 @@ returns-in_err-prepare_save g c =
       fault = λ shown. this_error r e is _ (prepared.fault shown);
     }
 
-pub returns-in_err-out : goal.returns-in_err-out
-returns-in_err-out g c =
+pub returns-in_err-out-clause-opens : goal.returns-in_err-out-clause-opens
+returns-in_err-out-clause-opens g c =
     let r = c.from_residual-in_err-out.result in
     let a = c.args.asked.now in
     let e = c.in_err-out.field-0.0 in
     let is = c.from_residual-in_err-out.ensures in
     let prepared = c.in_ok-prepare_save.ensures in
-    let out = c.in_err-out.ensures in
+    let out = c.in_err-out.ensures.opens in
     record {
       kept = out.kept ∙ (prepared.kept ∙ c.in_ok-source.ensures.kept);
       spared = spared_then _ _ _ (prepared.unended ∙ c.in_ok-source.ensures.unended) out.spared;
@@ -73,11 +73,11 @@ returns-in_err-out g c =
       fault = λ shown. this_error r e is _ (out.fault shown);
     }
 
-pub returns : goal.returns
-returns g c =
+pub returns-clause-opens : goal.returns-clause-opens
+returns-clause-opens g c =
     let a = c.args.asked.now in
     let prepared = c.in_ok-prepare_save.ensures in
-    let out = c.in_ok-out.ensures in
+    let out = c.in_ok-out.ensures.opens in
     record {
       kept = out.kept ∙ (prepared.kept ∙ c.in_ok-source.ensures.kept);
       spared = spared_then _ _ _ (prepared.unended ∙ c.in_ok-source.ensures.unended) out.spared;

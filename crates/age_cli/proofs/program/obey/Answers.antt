@@ -58,7 +58,7 @@ returns-in-Inspect-Some-clause-obeys g c =
     inr (inl (record {
       asked = Inspect (Some here.name);
       made = subst (Requests (texts c.args.words.now)) (here.is ∙ ap Inspect (rw here.is at here.field-0-is)) (rw c.in-Ok-Some.field-0-is at c.in-Ok-Some.ensures.asked);
-      acts = inspect_acts _ _ _ _ _ _ _ c.report_file.result did.kept refl (Some here.name) did.noted (IfErr-weaker c.report_file.result _ _ (report_fault _) did.fails);
+      acts = inspect_acts _ _ _ _ _ _ _ _ c.report_file.result did.kept refl (Some here.name) did.noted (IfErr-weaker c.report_file.result _ _ (report_fault _) did.fails);
       answers = (refl, record { done = both_done _ _ c.report_file.result did.done did.sent; stops = did.fails; unprinted = did.unprinted }, did.unread, did.unended);
     }))
 
@@ -72,7 +72,7 @@ returns-in-Inspect-None-clause-obeys g c =
     inr (inl (record {
       asked = Inspect None;
       made = subst (Requests (texts c.args.words.now)) (here.is ∙ ap Inspect (rw here.is at here.field-0-is)) (rw c.in-Ok-Some.field-0-is at c.in-Ok-Some.ensures.asked);
-      acts = inspect_acts _ _ _ _ _ _ _ c.report-in-Inspect-None.result refl refl None (sym (append-nil _)) (IfErr-weaker c.report-in-Inspect-None.result _ _ (report_fault _) did.fails);
+      acts = inspect_acts _ _ _ _ _ _ _ _ c.report-in-Inspect-None.result refl refl None (sym (append-nil _)) (IfErr-weaker c.report-in-Inspect-None.result _ _ (report_fault _) did.fails);
       answers = record { done = both_done _ _ c.report-in-Inspect-None.result did.done did.sent; stops = did.fails; unprinted = did.unprinted };
     }))
 
@@ -125,7 +125,7 @@ returns-in-Drill-clause-obeys g c =
     inr (inl (record {
       asked = Drill here.asked;
       made = subst (Requests (texts c.args.words.now)) here.is (rw c.in-Ok-Some.field-0-is at c.in-Ok-Some.ensures.asked);
-      acts = drill_acts _ _ _ _ _ _ _ c.drill_file.result did.kept refl here.asked did.order did.order_done;
+      acts = drill_acts _ _ _ _ _ _ _ _ c.drill_file.result did.kept refl here.asked did.order did.order_done;
       answers = (refl, did.sent, did.silent, did.one, did.unended);
     }))
 

@@ -1,9 +1,10 @@
-use Rattle.std.proofs.Common.{◌∙◌, ◌∷◌, [], inl, refl, ap, sym, subst}
+use Rattle.std.proofs.Common.{◌∙◌, ◌∷◌, [], inl, refl, ap, sym, subst, List}
 use Rattle.std.specs.Prelude.{is_some}
-use Rattle.age_fileset.specs.FileSet.{Opened}
+use Rattle.age_file.specs.Resumes.{position_text}
+use Rattle.age_fileset.specs.FileSet.{Opened, Reading, ReadSince, HasGivenAll}
 use Rattle.age_cli.specs.Commands.{old_for}
 use Rattle.age_command.specs.Files.{Files, IsUnread, SourceFails}
-use Rattle.age_cli.proofs.CommandLemmas.{no_value, not_well, this_error, not_bad}
+use Rattle.age_cli.proofs.CommandLemmas.{no_value, not_well, this_error, not_bad, then_none}
 use Rattle.age_command.proofs.EventLemmas.{followed, then_did}
 use Rattle.age_cli.proofs.resume_command.open_earlier.Goals as goal
 
@@ -15,6 +16,9 @@ returns-in_err-position g c =
     record {
       kept = c.in_err-position.ensures.kept;
       unended = c.in_err-position.ensures.unended;
+      reads = c.in_err-position.ensures.reads;
+      given = no_value r e is _;
+      begun = no_value r e is _;
       found = no_value r e is _;
       named = no_value r e is _;
       noted = not_well r e is _;
@@ -38,6 +42,9 @@ returns-in_err-old g c =
     record {
       kept = c.in_err-old.ensures.kept ∙ c.in_ok-position.ensures.kept;
       unended = c.in_err-old.ensures.unended ∙ c.in_ok-position.ensures.unended;
+      reads = then_none _ _ _ c.in_ok-position.ensures.reads c.in_err-old.ensures.unread;
+      given = no_value r e is _;
+      begun = no_value r e is _;
       found = no_value r e is _;
       named = no_value r e is _;
       noted = not_well r e is _;
@@ -59,6 +66,10 @@ returns g c =
       unended = c.in_ok-old.ensures.unended ∙ position.unended;
       found = λ shown. let found = c.in_ok-old.ensures.found shown in
           (position.read shown, ap (λ f. is_some (old_for p (f a.old.now))) (sym position.kept) ∙ found.0, found.1 ∙ ap (λ f. old_for p (f a.old.now)) position.kept);
+      reads = then_none _ _ _ position.reads c.in_ok-old.ensures.unread;
+      given = subst (λ (l : List Reading). HasGivenAll (ReadSince (g.F.FileSet.gave c.args.files.now) l) a.position.now (position_text p))
+          (sym c.in_ok-old.ensures.unread) position.given;
+      begun = c.in_ok-old.ensures.begun;
       named = c.in_ok-old.ensures.named;
       noted = events;
       follows = followed _ _ _ events;

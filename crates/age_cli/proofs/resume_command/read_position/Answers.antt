@@ -10,6 +10,8 @@ returns-in_err-text g c =
     record {
       kept = c.in_err-text.ensures.kept;
       unended = c.in_err-text.ensures.unended;
+      reads = c.in_err-text.ensures.reads;
+      given = no_value r e is _;
       read = no_value r e is _;
       noted = c.in_err-text.ensures.noted;
       faults = this_error r e is _ (inl c.in_err-text.ensures.faults);

@@ -11,6 +11,7 @@ pieces-preserved g c =
     let items = c.in_ok-extend_from_slice.ensures.items in
     record {
       read = rw items (Consumes-trans _ _ _ c.pieces.held.items (take n buffer) kept.read c.in_ok-n.ensures.piece.read);
+      began = λ from so. c.in_ok-n.ensures.began from (kept.began from so);
       within = omega (
         arith,
         kept.within,

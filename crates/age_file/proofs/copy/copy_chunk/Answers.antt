@@ -18,6 +18,7 @@ pub parts-init : goal.parts-init
 parts-init g c =
     record {
       same_reader = (refl, refl);
+      began = λ from so. so;
       same_writer = refl;
       copied = [];
       size = omega arith;
@@ -124,6 +125,7 @@ parts-preserved g c =
     c.use_front.ensures.pulls c.bytes-in-parts.ensures.bytes c.use_front.ensures.bytes in
     record {
       same_reader = (c.in_ok-has_bytes.ensures.same.0 ∙ kept.same_reader.0, c.in_ok-has_bytes.ensures.same.1 ∙ kept.same_reader.1);
+      began = λ from so. c.in_ok-has_bytes.ensures.began from (kept.began from so);
       same_writer = kept.same_writer;
       copied = kept.copied ++ take n bytes;
       size = omega (

@@ -2,7 +2,7 @@ use Rattle.std.proofs.Common.{◌≡◌, ◌+◌, ◌++◌, ℕ, List, Some, len
 use Rattle.age_io.specs.Taken.{Appends}
 use Rattle.sha2.specs.Hashers.{Holds256}
 use Rattle.age_file.specs.inner.Copies.{Passes}
-use Rattle.age_file.specs.inner.Readers.{view_of_reader, SameReader, SameWriter}
+use Rattle.age_file.specs.inner.Readers.{view_of_reader, SameReader, KeepsOrigin, SameWriter}
 use Rattle.age_chunk.specs.Payload.{chunk_length}
 use Rattle.age_file.proofs.copy.copy_chunk.Given as goal
 
@@ -10,6 +10,7 @@ use Rattle.age_file.proofs.copy.copy_chunk.Given as goal
 abbrev pub invariant-parts : goal.invariant-parts
 invariant-parts g l = record {
   same_reader : SameReader l.fn.reader l.reader;
+  began : KeepsOrigin g.S.Source.began l.fn.reader l.reader;
   same_writer : SameWriter l.fn.writer l.writer;
   copied : List ℕ;
   size : length copied + l.left ≡ chunk_length;

@@ -38,6 +38,7 @@ returns-in_err-copy_chunk-clause-copied g c =
 pub loop-copied-init : goal.loop-copied-init
 loop-copied-init g c = record {
   same_reader = (refl, refl);
+  began = λ from so. so;
   same_writer = refl;
   out = [];
   size = omega arith;
@@ -63,6 +64,7 @@ loop-copied-preserved g c =
     ∙ ap (λ (k : ℕ). chain_if Kept (first_chunks chunk_length k (kept.out ++ step.out))) next in
     record {
       same_reader = (c.in_ok-copy_chunk.ensures.same_reader.0 ∙ kept.same_reader.0, c.in_ok-copy_chunk.ensures.same_reader.1 ∙ kept.same_reader.1);
+      began = λ from so. c.in_ok-copy_chunk.ensures.began from (kept.began from so);
       same_writer = c.in_ok-copy_chunk.ensures.same_writer ∙ kept.same_writer;
       out = kept.out ++ step.out;
       size = omega (arith, kept.size, goes.0, length-append kept.out step.out);

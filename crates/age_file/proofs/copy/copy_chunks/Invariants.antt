@@ -4,7 +4,7 @@ use Rattle.std.specs.Simd.{first_chunks}
 use Rattle.age_file.specs.inner.Bindings.{chain_if}
 use Rattle.age_file.specs.declared.position.PositionPolicy.TheVariants.{Kept}
 use Rattle.age_file.specs.inner.Copies.{Passes}
-use Rattle.age_file.specs.inner.Readers.{view_of_reader, SameReader, SameWriter}
+use Rattle.age_file.specs.inner.Readers.{view_of_reader, SameReader, KeepsOrigin, SameWriter}
 use Rattle.age_chunk.specs.Payload.{chunk_length}
 use Rattle.age_file.proofs.copy.copy_chunks.Given as goal
 
@@ -12,6 +12,7 @@ use Rattle.age_file.proofs.copy.copy_chunks.Given as goal
 abbrev pub invariant-loop-copied : goal.invariant-loop-copied
 invariant-loop-copied g l = record {
   same_reader : SameReader l.fn.reader l.reader;
+  began : KeepsOrigin g.S.Source.began l.fn.reader l.reader;
   same_writer : SameWriter l.fn.writer l.writer;
   out : List ℕ;
   size : length out ≡ l._copied * chunk_length;

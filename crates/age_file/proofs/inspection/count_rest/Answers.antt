@@ -30,6 +30,7 @@ pulls-preserved g c =
     let same = c.use_all-in-pulls.ensures.pulls in
     record {
       same = kept.same;
+      began = λ from so. c.in_ok-refill.ensures.began from (kept.began from so);
       passed = kept.passed ++ fresh;
       count_is = omega (arith, kept.count_is, length-append kept.passed fresh);
       small = omega (arith, kept.small, c.bytes-in-pulls.ensures.most, same, r.answered.3);

@@ -14,7 +14,7 @@ turns-init g c =
     let old = stage_of g.S.Source.view g.O.Sink.view c.args.reader.now c.args.writer.now in
     record {
       same_reader = (refl, refl);
-      metered = λ from began. began;
+      began = λ from so. so;
       same_writer = refl;
       goes = begins opens chunk_length c.at-opener.result old (omega (arith, ap (λ o. length o.held) c.at-opener.ensures.view, c.requires.room.0))
           c.requires.room.1 (ap (λ o. has_failed o.status) c.at-opener.ensures.view);
@@ -43,7 +43,7 @@ turns-preserved g c =
     c.use_all.ensures.bytes c.in_ok-feed_piece.ensures.fed in
     record {
       same_reader = c.turns.invariant.same_reader;
-      metered = λ from began. c.in_ok-refill.ensures.metered from (c.turns.invariant.metered from began);
+      began = λ from so. c.in_ok-refill.ensures.began from (c.turns.invariant.began from so);
       same_writer = c.in_ok-feed_piece.ensures.same ∙ c.turns.invariant.same_writer;
       goes = pulled_more opens chunk_length _ c.use_all.ensures.bytes goes (rw c.if-not-branch.false at c.in_ok-refill.ensures.refills);
     }

@@ -1,6 +1,6 @@
 use Rattle.std.proofs.Common.{◌-◌, ◌^◌}
 use Rattle.age_file.specs.inner.Decrypts.{opens}
-use Rattle.age_file.specs.inner.Readers.{stage_of, SameReader, KeepsMeter, SameWriter}
+use Rattle.age_file.specs.inner.Readers.{stage_of, SameReader, KeepsOrigin, SameWriter}
 use Rattle.age_file.proofs.FlowLemmas.{GoesOn}
 use Rattle.age_chunk.specs.Payload.{chunk_length}
 use Rattle.age_file.proofs.payload.decrypt_payload.Given as goal
@@ -11,7 +11,7 @@ invariant-turns g l =
     let now = stage_of g.S.Source.view g.O.Sink.view l.reader l.writer in
     record {
       same_reader : SameReader l.fn.reader l.reader;
-      metered : KeepsMeter g.S.Source.metered l.fn.reader l.reader;
+      began : KeepsOrigin g.S.Source.began l.fn.reader l.reader;
       same_writer : SameWriter l.fn.writer l.writer;
       goes : GoesOn opens chunk_length l.initial.opener l.opener old now;
     }

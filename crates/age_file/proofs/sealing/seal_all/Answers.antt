@@ -27,7 +27,7 @@ pulls-init g c =
       feeding = rw c.new-sealer.ensures (record { unfinished = refl; sound = refl });
       fresh = rw c.new-sealer.ensures (record { index = refl; held = refl });
       same_reader = (refl, refl);
-      metered = λ from began. began;
+      began = λ from so. so;
       same_writer = refl;
       text = [];
       pulled = record {
@@ -139,7 +139,7 @@ pulls-preserved g c =
       feeding = kept.feeding;
       fresh = kept.fresh;
       same_reader = kept.same_reader;
-      metered = λ from began. c.in_ok-refill.ensures.metered from (kept.metered from began);
+      began = λ from so. c.in_ok-refill.ensures.began from (kept.began from so);
       same_writer = c.in_ok-seal_piece.ensures.same_writer ∙ kept.same_writer;
       text = kept.text ++ piece;
       pulled = subst (λ (k : ℕ). Pulled (start_at (g.S.Source.view c.args.reader.now.source.now).supply)

@@ -1,7 +1,7 @@
 use Rattle.std.proofs.Common.{◌-◌, ◌^◌, ◌≡◌, ℕ, [], List, length}
 use Rattle.age_stream.specs.Sealer.{Holds}
 use Rattle.age_file.specs.inner.Decrypts.{seals}
-use Rattle.age_file.specs.inner.Readers.{start_at, Pulled, view_of_writer, SameReader, KeepsMeter, SameWriter}
+use Rattle.age_file.specs.inner.Readers.{start_at, Pulled, view_of_writer, SameReader, KeepsOrigin, SameWriter}
 use Rattle.age_file.specs.inner.Seals.{IsFeeding, Wrote, GoesOn, front_of}
 use Rattle.age_chunk.specs.Payload.{chunk_length}
 use Rattle.age_file.proofs.sealing.seal_all.Given as goal
@@ -12,7 +12,7 @@ invariant-pulls g l = record {
   feeding : IsFeeding l.initial.sealer;
   fresh : Holds chunk_length l.initial.sealer [];
   same_reader : SameReader l.fn.reader l.reader;
-  metered : KeepsMeter g.S.Source.metered l.fn.reader l.reader;
+  began : KeepsOrigin g.S.Source.began l.fn.reader l.reader;
   same_writer : SameWriter l.fn.writer l.writer;
   text : List ℕ;
   pulled : Pulled (start_at (g.S.Source.view l.fn.reader.source.now).supply)

@@ -41,7 +41,7 @@ pieces-preserved g c =
     c.use_front.ensures.pulls c.bytes.ensures.bytes c.use_front.ensures.bytes in
     record {
       same = (c.in_ok-has_bytes.ensures.same.0 ∙ kept.same.0, c.in_ok-has_bytes.ensures.same.1 ∙ kept.same.1);
-      metered = λ from began. c.in_ok-has_bytes.ensures.metered from (kept.metered from began);
+      began = λ from so. c.in_ok-has_bytes.ensures.began from (kept.began from so);
       passed = kept.passed ++ take n piece;
       size = omega (arith, kept.size, c.min-n.ensures, length-append kept.passed (take n piece), length-take n piece);
       passes = passes_then kept.passed (take n piece) (passes_same {z = there} kept.passes

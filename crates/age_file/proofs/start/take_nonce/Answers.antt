@@ -51,7 +51,7 @@ parts-preserved g c =
     c.use_front.ensures.bytes in
     record {
       same = (c.in_ok-has_bytes.ensures.same.0 ∙ kept.same.0, c.in_ok-has_bytes.ensures.same.1 ∙ kept.same.1);
-      metered = λ from began. c.in_ok-has_bytes.ensures.metered from (kept.metered from began);
+      began = λ from so. c.in_ok-has_bytes.ensures.began from (kept.began from so);
       most = omega (arith, kept.most, c.copy_some-n.ensures.count);
       few = omega (arith, r.2, ap length c.use_front.ensures.bytes, length-drop n c.has_bytes.new.reader.intake.now.bytes);
       room = c.copy_some-n.array_long;

@@ -74,7 +74,7 @@ pieces-preserved g c =
     let goes = rw c.in_default.is at (c.in_ok-header.ensures kept.held kept.front) in
     record {
       same = kept.same;
-      metered = λ from began. c.in_ok-refill.ensures.metered from (kept.metered from began);
+      began = λ from so. c.in_ok-refill.ensures.began from (kept.began from so);
       held = kept.held ++ c.refill.new.self.bytes;
       front = goes.0;
       pulled = rw goes.2 (c.refill.ensures.refills.pulled (start_at old.supply) kept.held kept.pulled);
@@ -82,5 +82,5 @@ pieces-preserved g c =
       unfailed = r.4 ∙ kept.unfailed;
     }
 
-pub returns-in_err-header-clause-metered : goal.returns-in_err-header-clause-metered
-returns-in_err-header-clause-metered g c from began = c.in_ok-refill.ensures.metered from (c.pieces.invariant.metered from began)
+pub returns-in_err-header-clause-began : goal.returns-in_err-header-clause-began
+returns-in_err-header-clause-began g c from so = c.in_ok-refill.ensures.began from (c.pieces.invariant.began from so)

@@ -1,11 +1,11 @@
 use Rattle.std.proofs.Common.{◌-◌, ◌^◌, ◌≡◌, ℕ, [], List}
-use Rattle.age_file.specs.inner.Readers.{start_at, IsFront, Pulled, SameReader, KeepsMeter}
+use Rattle.age_file.specs.inner.Readers.{start_at, IsFront, Pulled, SameReader, KeepsOrigin}
 use Rattle.age_file.proofs.head.HeadReader.read.Given as goal
 
 abbrev pub invariant-pieces : goal.invariant-pieces
 invariant-pieces g l = record {
   same : SameReader l.fn.reader l.reader;
-  metered : KeepsMeter g.S.Source.metered l.fn.reader l.reader;
+  began : KeepsOrigin g.S.Source.began l.fn.reader l.reader;
   held : List ℕ;
   front : IsFront l.self held;
   pulled : Pulled (start_at (g.S.Source.view l.fn.reader.source.now).supply)

@@ -1,8 +1,8 @@
 -- An action is noted: the code does nothing, and the walk gives the borrow back with one more
--- event.
-use Rattle.std.proofs.Common.{◌++◌, [], ◌∷◌, refl}
+-- doing.
+use Rattle.std.proofs.Common.{[], ◌∷◌, refl}
 use Rattle.std.proofs.raw_atomic.Walks.{proved}
-use Rattle.age_fileset.specs.inner.Events.{event_of}
+use Rattle.age_fileset.specs.inner.Events.{once_done}
 use base.Fml.{ftrue, flft}
 use base.Logic.{id⊢}
 use mir.Syntax.{named}
@@ -38,7 +38,7 @@ note_spec 𝓤 𝓛 𝓜 𝓡 wired =
       (shr_Tells (named 1) κs.1.0 (Action (named_lft 3 2 tt κs)), tt),
     )) (λ κs qs bounds a _ are. let b = a.0.ref_ptr.0 in let o = a.0.ref_ptr.1 in let vs = mut_vals a.0 in
     let ws = shr_vals a.1.0 in
-    let next = record a.0.now { events = a.0.now.events ++ event_of a.1.0.now ∷ [] } in
+    let next = record a.0.now { done = once_done a.1.0.now a.0.now.done } in
     qed 𝓛 ((((‵ (flft κs.0 qs.0)) ⊛ (‵ (flft κs.1.0 qs.1.0) ⊛ ‵ (flft κs.1.1.0 qs.1.1.0) ⊛ ‵ ftrue))
     ⊛ ‵ ((MutRef (named 0) κs.0 R).own_val a.0 vs) ⊛ ‵ ((ShrRef (named 1) κs.1.0 (Action (named_lft 3 2 tt κs))).own_val a.1.0 ws) ⊛ ‵ ftrue)
     ∷ ‵ ftrue ∷ []) ∵ split ! $ split ! $ move ! (2 ∷ []) $ split ! $ keep ! (0 ∷ 2 ∷ 3 ∷ []) $

@@ -1,8 +1,10 @@
+use Rattle.age_io.specs.Io.{Named, Metered}
 use Rattle.age_io.proofs.MeterLemmas.{pulls_since}
 use Rattle.age_io.proofs.metered.MeteredSource.pull.Goals as goal
 
 pub returns-clause-since : goal.returns-clause-since
-returns-clause-since g c from since = (
+returns-clause-since g c (Named name) so = c.pull.ensures.began (Named name) so
+returns-clause-since g c (Metered from) since = (
   since.0,
   pulls_since from (g.S.Source.view c.args.self.now.source).supply (g.S.Source.view c.pull.new.self).supply
       (g.M.Meter.shown c.args.self.now.meter.now) (g.M.Meter.shown c.advance.new.self) c.in_ok-n.n c.pull.new.into
