@@ -1,32 +1,30 @@
--- What a command did, from what its steps did.
-use Rattle.std.proofs.Common.{⊎_elim, ◌≡◌, ◌∙◌, ◌⊎◌, ◌++◌, Option, None, ap, sym, inl, inr, Bool, true, false, true≢false, List, ℕ, refl, Result, Ok, Err, OnOk}
-use Rattle.std.proofs.Common.{IfErr}
-use Rattle.std.specs.Prelude.{IsErr, IsErrAnd, is_some}
+-- What a command did whose engine didn't run, from what its steps did.
+use Rattle.std.proofs.Common.{◌≡◌, ◌∙◌, ◌⊎◌, ◌++◌, ◌∷◌, [], ⊎_elim, ap, sym, subst, inl, inr, List, ℕ, Option, Some, None, Result, Ok, Err, refl, append_assoc, append-nil}
+use Rattle.std.specs.Prelude.{IsErr, IsErrAnd}
+use Rattle.clap.specs.Words.{Text}
+use Rattle.age_io.specs.declared.durability.Durability.{Durability}
 use Rattle.age_file.specs.Runs.{Ports}
-use Rattle.age_fileset.specs.FileSet.{Event, FilesView, Reading}
+use Rattle.age_fileset.specs.FileSet.{Event, Closed, FilesView, CameSince, Does, Unfit}
+use Rattle.age_fileset.proofs.OutcomeLemmas.{did_ended, did_events, grows_by, grows_then, then_came}
 use Rattle.age_cli_args.specs.Requests.{option_text}
-use Rattle.age_cli_args.specs.declared.request.ProgressOption.{ProgressOption}
-use Rattle.age_cli_args.specs.declared.request.ProgressOption.TheVariants.{Shown, Silent}
+use Rattle.age_cli_args.specs.declared.request.ClobberOption.{ClobberOption}
 use Rattle.age_cli_args.specs.declared.request.Request.{Request}
 use Rattle.age_cli_args.specs.declared.request.Request.TheVariants.{Inspect, Decrypt, Resume, Encrypt, Drill}
-use Rattle.age_command.specs.Orders.{Follows, replacing, NamesTwice, order_asked}
-use Rattle.age_command.specs.Files.{Files}
-use Rattle.age_command.specs.Endings.{is_usage}
+use Rattle.age_command.specs.Endings.{EndsEarly}
 use Rattle.age_command.specs.Files.{HasReason}
+use Rattle.age_command.specs.Orders.{Begins, Follows, creating, making, replacing, NamesTwice, order_asked}
 use Rattle.age_command.specs.declared.ending.Ending.{Ending}
-use Rattle.age_cli.specs.inner.Openings.{IsFresh}
-use Rattle.age_cli.specs.Acts.{Acts, clobber_of, out_of, EndsBefore, HasEngineEnded, HasEngineStopped, HasNotBegun, HasSaved, SavesNone, durability_of, IsBlamed, OfEngine, Spares, progress_of, input_of, IsUsage, LeavesOut, WritesOut}
-use Rattle.age_cli.proofs.CommandLemmas.{not_well, this_error, just_error}
-use Rattle.age_command.proofs.EventLemmas.{longer}
-use Rattle.std.proofs.lemmas.Result.{IfErr-weaker}
+use Rattle.age_command.specs.declared.ending.Ending.TheVariants.{Usage}
+use Rattle.age_command.specs.declared.ending.Usage.{Usage as Why}
+use Rattle.age_command.proofs.EventLemmas.{follows_by, longer, then_did, then_follows}
+use Rattle.age_command.proofs.ResultLemmas.{not_well, this_error, just_error}
+use Rattle.age_cli.specs.Acts.{Acts, EndsBefore, GivesNone, HasNotBegun, IsBlamed, IsUnfit, IsUsage}
+use Rattle.age_cli.specs.inner.Openings.{Judges, OpensFiles}
+use Rattle.age_cli.proofs.CommandLemmas.{reason_as}
+use Rattle.age_cli.proofs.FileLemmas.{spared_then}
+use Rattle.age_cli.proofs.OpeningLemmas.{unfit_as}
 
--- if no file differs, none but the outputs does
-pub spares_kept : (asked : Request) (old new : Files) → new ≡ old → Spares asked old new
-spares_kept (Encrypt e) old new kept = λ q to save. ap (λ (f : Files). f q) kept
-spares_kept (Decrypt d) old new kept = λ q to save. ap (λ (f : Files). f q) kept
-spares_kept (Resume r) old new kept = λ q to save. ap (λ (f : Files). f q) kept
-spares_kept (Inspect file) old new kept = λ q to save. ap (λ (f : Files). f q) kept
-spares_kept (Drill d) old new kept = λ q to save. ap (λ (f : Files). f q) kept
+-- ---- The events of a command, in order.
 
 -- what begins the order of a success begins the whole order
 pub whole_of : (asked : Request) (old new : List Event) → Follows (order_asked asked).done old new → Follows (order_asked asked).whole old new
@@ -36,77 +34,133 @@ whole_of (Resume r) old new f = longer _ (replacing (option_text r.decrypting.sa
 whole_of (Inspect file) old new f = f
 whole_of (Drill d) old new f = f
 
-module _ (IsPorts : Ports → Type 0) (IsOver : Reading → Type 0) (shows : Bool) (asked : Request) (before after : FilesView) (Failed Unshown : Type 0)
+-- the output was created last, and then it was ended, and the file of the position may have been replaced
+pub then_concluded : (xs ys : List Event) (clobber : ClobberOption) (to : Text) (d : Durability) (rest old mid new : List Event) → mid ≡ old ++ (xs ++ (ys ++ creating clobber to ∷ []))
+    → Follows (Closed d ∷ rest) mid new → Follows ((xs ++ (ys ++ making clobber (Some to) d)) ++ rest) old new
+then_concluded xs ys clobber to d rest old mid new m f =
+    let b = creating clobber to in
+    let c = Closed d in
+    let same : (xs ++ (ys ++ b ∷ [])) ++ c ∷ rest ≡ (xs ++ (ys ++ b ∷ c ∷ [])) ++ rest =
+    append_assoc xs (ys ++ b ∷ []) (c ∷ rest)
+    ∙ (ap (λ t. xs ++ t) (append_assoc ys (b ∷ []) (c ∷ rest) ∙ sym (append_assoc ys (b ∷ c ∷ []) rest)) ∙ sym (append_assoc xs (ys ++ b ∷ c ∷ []) rest)) in
+    subst (λ order. Follows order old new) same (then_follows old mid new _ _ m f)
+
+-- and nothing more
+pub then_closed : (xs ys : List Event) (clobber : ClobberOption) (to : Text) (d : Durability) (old mid new : List Event) → mid ≡ old ++ (xs ++ (ys ++ creating clobber to ∷ []))
+    → new ≡ mid ++ Closed d ∷ [] → new ≡ old ++ (xs ++ (ys ++ making clobber (Some to) d))
+then_closed xs ys clobber to d old mid new m n =
+    let b = creating clobber to in
+    let c = Closed d in
+    then_did old mid new _ _ m n
+    ∙ ap (λ t. old ++ t) (append_assoc xs (ys ++ b ∷ []) (c ∷ []) ∙ ap (λ t. xs ++ t) (append_assoc ys (b ∷ []) (c ∷ [])))
+
+-- ---- A command that ended before its engine ran.
+
+module _ (IsPorts : Ports → Type 0) (asked : Request) (before after : FilesView) (Failed Unshown : Type 0)
     (Progress : Option (List ℕ) → Result (Unit {0}) Ending → Type 0) (r : Result (Unit {0}) Ending) where
   abbrev pub Acted : Type 0
-  Acted = Acts IsPorts IsOver shows asked before after Failed Unshown Progress r
+  Acted = Acts IsPorts asked before after Failed Unshown Progress r
 
-  either_shown : {A B : Type 0} (p : ProgressOption) → (p ≡ Silent → A) → (p ≡ Shown → B) → A ⊎ B
-  either_shown Silent a b = inl (a refl)
-  either_shown Shown a b = inr (b refl)
-
-  always_ok : {P : Type 0} (x : Result (Unit {0}) Ending) → P → OnOk x P
-  always_ok (Ok done) p = p
-  always_ok (Err e) p = tt
-
-  -- a command ended early, with this ending
-  pub acts_early : (e : Ending) → IsErr r × IsErrAnd r (λ x. x ≡ e) → after.entries ≡ before.entries → HasNotBegun e before.ended after.ended
-      → (shows ≡ true → EndsBefore asked before.entries e) → (shows ≡ true → HasReason before.entries after.events Failed e)
+  -- with this ending
+  pub acts_before : (e : Ending) → IsErr r × IsErrAnd r (λ x. x ≡ e) → HasNotBegun asked e before after Failed
       → Follows (order_asked asked).done before.events after.events
-      → (shows ≡ true → IsUsage e → Follows (order_asked asked).judged before.events after.events)
+      → (IsUsage e → Follows (order_asked asked).judged before.events after.events ⊎ CameSince before after Unfit)
       → (NamesTwice (order_asked asked).apart → (after.events ≡ before.events) × IsUsage e)
-      → (shows ≡ true → IsUsage e → IsBlamed asked before.entries e) → Unshown → Acted
-  acts_early e is kept spared early reason follows judged apart blamed silent = record {
+      → (IsUsage e → IsBlamed (CameSince before after) asked e) → Unshown → Acted
+  acts_before e is none follows judged apart blamed silent = record {
     done = not_well r e is _;
-    stopped = this_error r e is _ (inl spared);
-    saved = this_error r e is _ (inl (follows, inl spared));
-    stops = λ shown. this_error r e is _ (inl (kept, early shown, reason shown));
-    keeps = λ shown refused there. (is.0, kept);
-    usage = this_error r e is _ (λ usage. kept);
-    blamed = λ shown. this_error r e is _ (blamed shown);
-    spares = λ shown. spares_kept asked before.entries after.entries kept;
+    stopped = this_error r e is _ (inl none);
+    saved = this_error r e is _ (inl none);
+    replaced = this_error r e is _ (inl follows);
+    blamed = this_error r e is _ blamed;
     order = whole_of asked before.events after.events follows;
     order_done = not_well r e is _;
     order_usage = this_error r e is _ (λ usage. follows);
-    order_shown = λ shown. this_error r e is _ (judged shown);
+    order_judged = this_error r e is _ judged;
     apart = λ twice. let refused = apart twice in (refused.0, just_error r e is IsUsage refused.1);
     silent = λ unasked. silent;
     progress = inl silent;
     shown = not_well r e is _;
   }
 
-  -- a command ended once its engine had run
-  pub acts_concluded : OnOk r (OfEngine IsPorts IsOver shows asked before.entries (λ engine paths. HasEngineEnded IsPorts IsOver engine paths (durability_of asked) after.ended
-      × (shows ≡ true → WritesOut IsPorts engine paths before.entries after.entries)))
-      → IfErr r (λ e. OfEngine IsPorts IsOver shows asked before.entries (λ engine paths. HasEngineStopped IsPorts IsOver engine paths e after.ended))
-      → IfErr r (λ e. (Follows (order_asked asked).done before.events after.events
-      × OfEngine IsPorts IsOver shows asked before.entries (λ engine paths. SavesNone IsPorts IsOver engine paths e after.ended)) ⊎ OfEngine IsPorts IsOver shows asked before.entries (λ engine paths. HasSaved IsPorts IsOver engine paths (durability_of asked) e after))
-      → (shows ≡ true → IfErr r (λ e. OfEngine IsPorts IsOver shows asked before.entries (λ engine paths. LeavesOut IsPorts engine paths before.entries after.entries e)))
-      → IfErr r (λ e. is_usage e ≡ false) → (shows ≡ true → Spares asked before.entries after.entries)
-      → Follows (order_asked asked).whole before.events after.events → OnOk r (after.events ≡ before.events ++ (order_asked asked).done)
-      → (NamesTwice (order_asked asked).apart → ⊥) → (shows ≡ true → IsFresh (clobber_of asked) (out_of asked before.entries))
-      → (progress_of asked ≡ Silent → Unshown) × (progress_of asked ≡ Shown → Progress (input_of asked before.entries) r) → Acted
-  acts_concluded done stopped saved stops fault spares order finished apart fresh shown =
-      let impossible : (P : Type 0) → IfErr r (λ e. IsUsage e → P) =
-      λ P. IfErr-weaker r _ _ (λ e no usage. absurd (true≢false (sym usage ∙ no))) fault in
-      record {
-        done = done;
-        stopped = IfErr-weaker r _ _ (λ e s. inr s) stopped;
-        saved = IfErr-weaker r _ _ (λ e s. ⊎_elim (λ none. inl (none.0, inr none.1)) (λ put. inr put) s) saved;
-        stops = λ shown. IfErr-weaker r _ _ (λ e s. inr s) (stops shown);
-        keeps = λ shown refused there. absurd (true≢false (sym there ∙ ap is_some (fresh shown refused)));
-        usage = impossible _;
-        blamed = λ shown. IfErr-weaker r _ _ (λ e no usage. absurd (true≢false (sym usage ∙ no))) fault;
-        spares = spares;
-        order = order;
-        order_done = finished;
-        order_usage = impossible _;
-        order_shown = λ shown. impossible _;
-        apart = λ twice. absurd (apart twice);
-        silent = shown.0;
-        progress = either_shown (progress_of asked) shown.0 shown.1;
-        shown = always_ok r shown.1;
-      }
+  module _ (early : (e : Ending) → EndsEarly e → EndsBefore (CameSince before after) asked e) where
+    module _ (more : List Event) (done_is : (order_asked asked).done ≡ (order_asked asked).judged ++ more) where
+      done_so : Follows (order_asked asked).judged before.events after.events → Follows (order_asked asked).done before.events after.events
+      done_so f = subst (λ (order : List Event). Follows order before.events after.events) (sym done_is)
+          (longer (order_asked asked).judged more before.events after.events f)
 
-pub shown_not_silent : Shown ≡ Silent → ⊥
-shown_not_silent is = cc
+      -- the files by which it is judged can't be read, or it is refused for its names
+      pub acts_judged : {A : Type 0} (e : Ending) → IsErr r × IsErrAnd r (λ x. x ≡ e)
+          → Judges {A = A} (order_asked asked).judged before after (NamesTwice (order_asked asked).apart) (IsBlamed (CameSince before after) asked) Failed (Err e)
+          → Unshown → Acted
+      acts_judged e is j silent =
+          acts_before e is (record {
+            early = early e j.early;
+            reason = j.reason;
+            spared = inl (did_ended j.followed.done before after j.followed.did);
+            none = grows_by j.followed.done before after j.followed.did;
+          }) (done_so (follows_by (order_asked asked).judged before after j.followed))
+          (λ usage. inl (follows_by (order_asked asked).judged before after j.followed)) j.apart
+          (λ usage. ⊎_elim (λ blamed. blamed) (λ unfit. inr (inr unfit)) (j.blamed usage)) silent
+
+      -- or for what these hold
+      pub acts_refused : {A : Type 0} (x : A) (why : Why) → IsErr r × IsErrAnd r (λ y. y ≡ Usage why)
+          → Judges (order_asked asked).judged before after (NamesTwice (order_asked asked).apart) (IsBlamed (CameSince before after) asked) Failed (Ok x)
+          → GivesNone (CameSince before after) asked (Usage why) → Unshown → Acted
+      acts_refused x why is j none silent =
+          acts_before (Usage why) is (record {
+            early = early (Usage why) tt;
+            reason = tt;
+            spared = inl (did_ended j.followed.done before after j.followed.did);
+            none = grows_by j.followed.done before after j.followed.did;
+          }) (done_so (follows_by (order_asked asked).judged before after j.followed))
+          (λ usage. inl (follows_by (order_asked asked).judged before after j.followed)) (λ twice. absurd (j.apart twice).1)
+          (λ usage. inr (inl none)) silent
+
+    -- it names nothing that opens its input
+    pub acts_unchosen : (why : Why) → IsErr r × IsErrAnd r (λ y. y ≡ Usage why) → Does [] before after → GivesNone (CameSince before after) asked (Usage why) → Unshown → Acted
+    acts_unchosen why is did none silent =
+        let noted = did_events [] before after did in
+        let begins : (order : List Event) → Follows order before.events after.events = λ order. record { done = []; rest = order; did = noted; front = refl } in
+        acts_before (Usage why) is (record {
+          early = early (Usage why) tt;
+          reason = tt;
+          spared = inl (did_ended [] before after did);
+          none = grows_by [] before after did;
+        }) (begins (order_asked asked).done) (λ usage. inl (begins (order_asked asked).judged)) (λ twice. (noted ∙ append-nil before.events, refl)) (λ usage. inr (inl none)) silent
+
+    -- its input or what it writes can't be opened
+    pub acts_unopened : {A : Type 0} (done order whole : List Event) (mid : FilesView) (IsNew : A → Type 0) (e : Ending) → IsErr r × IsErrAnd r (λ x. x ≡ e)
+        → (order_asked asked).done ≡ done ++ whole → Does done before mid → OpensFiles order whole mid after IsNew Failed (Err e)
+        → (NamesTwice (order_asked asked).apart → ⊥) → Unshown → Acted
+    acts_unopened done order whole mid IsNew e is done_is did opens apart silent =
+        let unfit : IsUsage e → IsUnfit (CameSince before after) e =
+        λ usage. unfit_as (CameSince mid after) (CameSince before after) (then_came [] before mid after (grows_by done before mid did)) e
+        (opens.fault usage) in
+        acts_before e is (record {
+          early = early e opens.early;
+          reason = reason_as (CameSince mid after) (CameSince before after) (then_came [] before mid after (grows_by done before mid did)) Failed e opens.reason;
+          spared = spared_then before.ended mid.ended after.ended (did_ended done before mid did) opens.spared;
+          none = grows_then [] [] before mid after (grows_by done before mid did) opens.none;
+        }) (subst (λ (o : List Event). Follows o before.events after.events) (sym done_is)
+        (then_follows before.events mid.events after.events done whole (did_events done before mid did) opens.followed))
+        (λ usage. inr (unfit usage).1) (λ twice. absurd (apart twice)) (λ usage. inr (inr (unfit usage))) silent
+
+  -- another file that it reads can't be opened, or doesn't hold what it has to
+  pub acts_unread : (done order more : List Event) (mid : FilesView) (e : Ending) → IsErr r × IsErrAnd r (λ x. x ≡ e)
+      → (order_asked asked).done ≡ done ++ (order ++ more) → Does done before mid → Begins order mid after → EndsBefore (CameSince before after) asked e
+      → HasReason (CameSince mid after) Failed e → (IsUsage e → IsUnfit (CameSince mid after) e)
+      → (NamesTwice (order_asked asked).apart → ⊥) → Unshown → Acted
+  acts_unread done order more mid e is done_is did begins early reason unfit apart silent =
+      let opened = grows_by done before mid did in
+      let later : IsUsage e → IsUnfit (CameSince before after) e =
+      λ usage. unfit_as (CameSince mid after) (CameSince before after) (then_came [] before mid after opened) e (unfit usage) in
+      acts_before e is (record {
+        early = early;
+        reason = reason_as (CameSince mid after) (CameSince before after) (then_came [] before mid after opened) Failed e reason;
+        spared = inl (did_ended begins.done mid after begins.did ∙ did_ended done before mid did);
+        none = grows_then [] [] before mid after opened (grows_by begins.done mid after begins.did);
+      }) (subst (λ (o : List Event). Follows o before.events after.events) (sym done_is)
+      (then_follows before.events mid.events after.events done (order ++ more) (did_events done before mid did)
+      (longer order more mid.events after.events (follows_by order mid after begins))))
+      (λ usage. inr (later usage).1) (λ twice. absurd (apart twice)) (λ usage. inr (inr (later usage))) silent

@@ -1,200 +1,151 @@
--- What holds if a command or a step of one ends early, and of what a step read.
-use Rattle.std.proofs.Common.{◌≡◌, ◌∙◌, ◌⊎◌, ◌++◌, ◌∷◌, [], inl, inr, ap, sym, subst, refl, Bool, true, false, true≢false, append-nil, List, ℕ, Option, Some}
-use Rattle.std.proofs.Common.{None, Result, Ok, Err, IfOk, IfErr, OnOk}
-use Rattle.std.specs.Prelude.{IsErr, IsErrAnd, is_some, OnErr}
-use Rattle.std.specs.Io.KnownBytes as known
-use Rattle.age_io.specs.Supply.{Supply, Consumes}
+-- What came in a part of a command came in the whole, and what that says of how it ended.
+use Rattle.std.proofs.Common.{◌≡◌, ◌∙◌, ◌⊎◌, [], inl, inr, ⊎_elim, ap, sym, subst, refl, true, true≢false, Bool, List, ℕ, Option, Some, None, Result, append-nil}
+use Rattle.std.specs.Prelude.{IsSomeAnd}
+use Rattle.std.proofs.lemmas.Result.{on_ok_weaker, IfErr-weaker}
+use Rattle.clap.specs.Words.{Text}
 use Rattle.age_fault.specs.declared.fault.FileFault.{FileFault}
-use Rattle.age_fault.specs.declared.fault.FileFault.TheVariants.{Read, Write, Memory, BadPosition}
-use Rattle.age_fileset.specs.FileSet.{IsMemoryOr, OpenFails, Event, Opened, Created, Made, FilesView, Reading, ReadsOn, ReadSince}
+use Rattle.age_fault.specs.declared.fault.FileFault.TheVariants.{Head, Key, NonceCut, Stream, BadPosition, OtherFile, ShortText, Read, Write, Memory}
+use Rattle.age_fault.specs.declared.fault.FileFault.TheVariants.{ReadNeverEnds, PositionForged, OldTextDiffers}
 use Rattle.age_fileset.specs.declared.files.OpenFault.{OpenFault}
 use Rattle.age_fileset.specs.declared.files.OpenFault.TheVariants.{SameFile}
 use Rattle.age_fileset.specs.declared.files.OpenFault.TheVariants as create
-use Rattle.age_command.specs.Endings.{EndsEarly, is_usage}
-use Rattle.age_command.specs.Files.{HasReason, IsUnmade, IsUnread}
-use Rattle.age_command.specs.Identities.{Chooses, IsSecretGiven, IsSecretIn, Makes, file_of}
-use Rattle.age_fileset.proofs.ReadingLemmas.{all_as, one_since, reads_one}
-use Rattle.age_command.specs.Files.{Files}
-use Rattle.age_command.specs.declared.choice.Choice.{Choice}
-use Rattle.age_command.specs.declared.identity.Identity.{Identity}
-use Rattle.clap.specs.Words.{Text}
-use Rattle.age_command.specs.inner.Endings.{ending_of}
-use Rattle.age_command.specs.declared.ending.Ending.{Ending}
-use Rattle.age_command.specs.declared.ending.Ending.TheVariants.{Fault}
-use Rattle.age_cli_args.specs.declared.request.ClobberOption.{ClobberOption}
-use Rattle.age_cli_args.specs.declared.request.ClobberOption.TheVariants.{Allowed, Refused}
+use Rattle.age_fileset.specs.FileSet.{OpenFails, Event, Outcome, Unread, Unwritten, Unfit, FilesView, Does, CameSince}
+use Rattle.age_fileset.proofs.OutcomeLemmas.{does_then, did_events, grows_by, came_then, then_came, given_as, all_as}
 use Rattle.age_cli_args.specs.declared.request.Decrypting.{Decrypting}
-use Rattle.age_command.specs.Orders.{creating}
-use Rattle.age_cli.specs.Acts.{OpensOf}
-use Rattle.age_cli.specs.Commands.{HoldsNoPosition}
-use Rattle.age_cli.specs.inner.Openings.{Judges}
+use Rattle.age_cli_args.specs.declared.request.IdentityOptions.{IdentityOptions}
+use Rattle.age_cli_args.specs.declared.request.Request.{Request}
+use Rattle.age_command.specs.declared.choice.Choice.{Choice}
+use Rattle.age_command.specs.declared.choice.Choice.TheVariants.{PassphraseFile, FileKey, SharedFile}
+use Rattle.age_command.specs.declared.ending.Ending.{Ending}
+use Rattle.age_command.specs.declared.ending.Ending.TheVariants.{Words, Usage, Fault, Unsaved}
+use Rattle.age_command.specs.declared.identity.Identity.{Identity}
+use Rattle.age_command.specs.declared.identity.Identity.TheVariants.{ByPassphrase, ByFileKey, ByShared}
+use Rattle.age_command.specs.Endings.{EndsEarly, is_usage}
+use Rattle.age_command.specs.inner.Endings.{ending_of}
+use Rattle.age_command.specs.Files.{HasReason, HoldsOnly, IsUnread}
+use Rattle.age_command.specs.Identities.{Chooses, IsEnough, IsSecretGiven, Makes, MakesBy, MakesNone, file_of, identity_file}
+use Rattle.age_command.specs.Orders.{NamesTwice, order_asked}
+use Rattle.age_command.proofs.EventLemmas.{begins_then}
+use Rattle.age_cli.specs.Acts.{IsBlamed, IsUnfit, OpensOf}
+use Rattle.age_cli.specs.inner.Openings.{BlamesNames, Compares, Judges}
+use Rattle.age_cli.proofs.OpeningLemmas.{unfit_as}
 
--- what is so of a result that is this error
-pub no_value : {T E : Type 0} (r : Result T E) (e : E) → IsErr r × IsErrAnd r (λ x. x ≡ e) → (P : T → Type 0) → IfOk r P
-no_value (Ok x) e is P = absurd is.1
-no_value (Err x) e is P = tt
+-- ---- What came in a part came in the whole.
 
-pub not_well : {T E : Type 0} (r : Result T E) (e : E) → IsErr r × IsErrAnd r (λ x. x ≡ e) → (P : Type 0) → OnOk r P
-not_well (Ok x) e is P = absurd is.1
-not_well (Err x) e is P = tt
+module _ (Came Later : Outcome → Type 0) (so : (o : Outcome) → Came o → Later o) where
+  unread_as : (Failed : Type 0) → IsUnread Came Failed → IsUnread Later Failed
+  unread_as Failed (inl (name, came)) = inl (name, so (Unread name) came)
+  unread_as Failed (inr failed) = inr failed
 
-pub this_error : {T E : Type 0} (r : Result T E) (e : E) → IsErr r × IsErrAnd r (λ x. x ≡ e) → (P : E → Type 0) → P e → IfErr r P
-this_error (Ok x) e is P h = tt
-this_error (Err x) e is P h = subst P (sym is.1) h
+  -- why a command ended
+  pub reason_as : (Failed : Type 0) (e : Ending) → HasReason Came Failed e → HasReason Later Failed e
+  reason_as Failed (Words t) h = tt
+  reason_as Failed (Usage u) h = tt
+  reason_as Failed (Unsaved f s) h = tt
+  reason_as Failed (Fault Read) h = unread_as Failed h
+  reason_as Failed (Fault Write) (name, came) = (name, so (Unwritten name) came)
+  reason_as Failed (Fault Memory) h = tt
+  reason_as Failed (Fault (Head f)) h = tt
+  reason_as Failed (Fault (Key f)) h = tt
+  reason_as Failed (Fault (Stream f)) h = tt
+  reason_as Failed (Fault NonceCut) h = tt
+  reason_as Failed (Fault BadPosition) h = tt
+  reason_as Failed (Fault OtherFile) h = tt
+  reason_as Failed (Fault ShortText) h = tt
+  reason_as Failed (Fault ReadNeverEnds) h = tt
+  reason_as Failed (Fault PositionForged) h = tt
+  reason_as Failed (Fault OldTextDiffers) h = tt
 
-pub just_error : {T E : Type 0} (r : Result T E) (e : E) → IsErr r × IsErrAnd r (λ x. x ≡ e) → (P : E → Type 0) → P e → IsErrAnd r P
-just_error (Ok x) e is P h = absurd is.1
-just_error (Err x) e is P h = subst P (sym is.1) h
+  -- what a file holds; and so if it is said in other words
+  pub holds_as : (name : Text) (P Q : List ℕ → Type 0) → ((bytes : List ℕ) → P bytes → Q bytes) → HoldsOnly Came name P → HoldsOnly Later name Q
+  holds_as name P Q then (bytes, inl (all, p)) = (bytes, inl (all_as Came Later so name bytes all, then bytes p))
+  holds_as name P Q then (bytes, inr (given, p)) = (bytes, inr (given_as Came Later so name bytes given, (λ rest. then _ (p rest))))
 
-pub an_error : {T E : Type 0} (r : Result T E) (P : Type 0) → P → OnErr r P
-an_error (Ok x) P h = tt
-an_error (Err x) P h = h
+  -- what the file gave that a choice names
+  pub secret_as : (name : Option Text) (held : Option (List ℕ)) → IsSecretGiven Came name held → IsSecretGiven Later name held
+  secret_as (Some name) (Some bytes) given = all_as Came Later so name bytes given
+  secret_as (Some name) None given = tt
+  secret_as None held given = tt
 
--- a fault of a file that is read is one that a command may end by early
-pub early_fault : (f : FileFault) → IsMemoryOr Read f → EndsEarly (Fault f)
-early_fault f (inl read) = inl read
-early_fault f (inr memory) = inr (inr memory)
+  -- what a choice made of it is what the options make
+  pub opens_by : (d : Decrypting) (choice : Choice) (held : Option (List ℕ)) (identity : Identity) → Chooses d.identity choice → Makes choice held identity
+      → IsSecretGiven Came (file_of choice) held → OpensOf Later d identity
+  opens_by d choice held identity chooses makes given = record {
+    given = held;
+    read = subst (λ (n : Option Text). IsSecretGiven Later n held) chooses.file (secret_as (file_of choice) held given);
+    makes = chooses.makes held identity makes;
+  }
 
--- and so is one of an output that can't be made
-pub created_early : (shows : Bool) (f : OpenFault) → OpenFails shows Write f → EndsEarly (ending_of f)
-created_early shows SameFile fails = tt
-created_early shows (create.Fault f) (inl write) = inr (inl write)
-created_early shows (create.Fault f) (inr memory) = inr (inr memory)
+  any_held : (known : List ℕ) (held other : Option (List ℕ)) (identity : Identity) → Makes (FileKey known) held identity → Makes (FileKey known) other identity
+  any_held known held other (ByFileKey key) makes = makes
+  any_held known held other (ByPassphrase words) makes = absurd makes
+  any_held known held other (ByShared shared) makes = absurd makes
 
--- and one of a file that can't be opened to be read
-pub opened_early : (shows : Bool) (f : OpenFault) → OpenFails shows Read f → EndsEarly (ending_of f)
-opened_early shows SameFile fails = tt
-opened_early shows (create.Fault f) fails = early_fault f fails
+  file_none : (u : IdentityOptions) (choice : Choice) (name : Text) (file : Option Text) → Some name ≡ file
+      → ((held : Option (List ℕ)) (identity : Identity) → MakesBy held u identity → Makes choice held identity)
+      → HoldsOnly Came name (λ bytes. (identity : Identity) → Makes choice (Some bytes) identity → ⊥)
+      → IsSomeAnd file (λ name. HoldsOnly Later name (λ bytes. (identity : Identity) → MakesBy (Some bytes) u identity → ⊥))
+  file_none u choice name file is only holds =
+      subst (λ (o : Option Text). IsSomeAnd o (λ name. HoldsOnly Later name (λ bytes. (identity : Identity) → MakesBy (Some bytes) u identity → ⊥))) is
+      (holds_as name (λ bytes. (identity : Identity) → Makes choice (Some bytes) identity → ⊥) (λ bytes. (identity : Identity) → MakesBy (Some bytes) u identity → ⊥)
+      (λ bytes none identity makes. none identity (only (Some bytes) identity makes)) holds)
 
--- and a refusal of names of one stream
-pub streams_early : (shows : Bool) (f : OpenFault) → OpenFails shows Memory f → EndsEarly (ending_of f)
-streams_early shows SameFile fails = tt
-streams_early shows (create.Fault f) (inl memory) = inr (inr memory)
-streams_early shows (create.Fault f) (inr memory) = inr (inr memory)
+  -- and if it makes nothing of it, the options make nothing
+  pub makes_none : (u : IdentityOptions) (choice : Choice) (held : Option (List ℕ)) → Chooses u choice → IsEnough Came choice held
+      → ((identity : Identity) → Makes choice held identity → ⊥) → MakesNone Later u
+  makes_none u (FileKey known) held chooses enough none = inl (λ other identity makes. none identity (any_held known other held identity (chooses.only other identity makes)))
+  makes_none u (PassphraseFile name most) held chooses enough none = inr (file_none u (PassphraseFile name most) name.now (identity_file u) chooses.file chooses.only (enough none))
+  makes_none u (SharedFile name) held chooses enough none = inr (file_none u (SharedFile name) name.now (identity_file u) chooses.file chooses.only (enough none))
 
-module _ (old : Files) (events : List Event) (Failed : Type 0) where
-  -- a fault of a source has a reason, and so does the fault of a file that can't be opened, made or
-  -- told from another
-  pub source_reason : (f : FileFault) → IsMemoryOr Read f → (f ≡ Read → Failed) → HasReason old events Failed (Fault f)
-  source_reason f (inl read) failed = subst (λ (x : FileFault). HasReason old events Failed (Fault x)) (sym read) (inr (failed read))
-  source_reason f (inr memory) failed = subst (λ (x : FileFault). HasReason old events Failed (Fault x)) (sym memory) tt
+-- ---- How a command is judged, whose names were compared first.
 
-  pub open_reason : (shows : Bool) (f : OpenFault) → OpenFails shows Read f → (f ≡ create.Fault Read → IsUnread old events Failed) → HasReason old events Failed (ending_of f)
-  open_reason shows SameFile fails unread = tt
-  open_reason shows (create.Fault f) (inl read) unread =
-      subst (λ (x : FileFault). HasReason old events Failed (Fault x)) (sym read) (unread (ap create.Fault read))
-  open_reason shows (create.Fault f) (inr memory) unread = subst (λ (x : FileFault). HasReason old events Failed (Fault x)) (sym memory) tt
+module _ {A : Type 0} (asked : Request) (a order : List Event) (old mid new : FilesView) (twice : Bool) (Failed : Type 0) (r : Result A Ending) where
+  named_so : Compares old mid twice (NamesTwice (order_asked asked).apart) → Does [] mid new ⊎ ((o : Outcome) → CameSince old mid o → CameSince old new o)
+      → (e : Ending) → BlamesNames twice e → IsBlamed (CameSince old new) asked e
+  named_so c (inl does) e named = ⊎_elim (λ same. inl (named.0, same))
+      (λ unfit. inr (inr (inl named.0, came_then [] old mid new (grows_by [] mid new does) Unfit unfit))) (c.found named.1)
+  named_so c (inr so) e named = ⊎_elim (λ same. inl (named.0, same)) (λ unfit. inr (inr (inl named.0, so Unfit unfit))) (c.found named.1)
 
-  pub made_reason : (shows : Bool) (f : OpenFault) → OpenFails shows Write f → IsUnmade events → HasReason old events Failed (ending_of f)
-  made_reason shows SameFile fails unmade = tt
-  made_reason shows (create.Fault f) (inl write) unmade = subst (λ (x : FileFault). HasReason old events Failed (Fault x)) (sym write) unmade
-  made_reason shows (create.Fault f) (inr memory) unmade = subst (λ (x : FileFault). HasReason old events Failed (Fault x)) (sym memory) tt
+  pub judges_from : a ≡ order → Compares old mid twice (NamesTwice (order_asked asked).apart) → Judges a mid new (twice ≡ true) (BlamesNames twice) Failed r
+      → Judges order old new (NamesTwice (order_asked asked).apart) (IsBlamed (CameSince old new) asked) Failed r
+  judges_from is c j =
+      let before : (o : Outcome) → CameSince old mid o → CameSince old new o = came_then [] old mid new (grows_by _ mid new j.followed.did) in
+      let later : (o : Outcome) → CameSince mid new o → CameSince old new o = then_came [] old mid new (grows_by [] old mid c.does) in
+      subst (λ (o : List Event). Judges o old new (NamesTwice (order_asked asked).apart) (IsBlamed (CameSince old new) asked) Failed r) is (record {
+        noted = on_ok_weaker r (λ d. does_then [] a old mid new c.does d) j.noted;
+        followed = begins_then [] a old mid new c.does j.followed;
+        apart = λ same. let at = j.apart (c.twice same) in
+            (at.0 ∙ (did_events [] old mid c.does ∙ append-nil old.events), at.1);
+        blamed = IfErr-weaker r _ _
+            (λ e blame usage. ⊎_elim (λ named. inl (named_so c (inr before) e named))
+            (λ unfit. inr (unfit_as (CameSince mid new) (CameSince old new) later e unfit)) (blame usage)) j.blamed;
+        early = j.early;
+        reason = IfErr-weaker r _ _ (reason_as (CameSince mid new) (CameSince old new) later Failed) j.reason;
+      })
 
-  pub streams_reason : (shows : Bool) (f : OpenFault) → OpenFails shows Memory f → HasReason old events Failed (ending_of f)
-  streams_reason shows SameFile fails = tt
-  streams_reason shows (create.Fault f) (inl memory) = subst (λ (x : FileFault). HasReason old events Failed (Fault x)) (sym memory) tt
-  streams_reason shows (create.Fault f) (inr memory) = subst (λ (x : FileFault). HasReason old events Failed (Fault x)) (sym memory) tt
+-- ---- How `resume` ends if its position or the earlier output can't be read.
 
-  pub position_reason : (shows : Bool) (f : OpenFault) → OpenFails shows Read f ⊎ (f ≡ create.Fault BadPosition)
-      → (f ≡ create.Fault Read → IsUnread old events Failed) → HasReason old events Failed (ending_of f)
-  position_reason shows f (inl early) unread = open_reason shows f early unread
-  position_reason shows f (inr bad) unread = subst (λ (x : OpenFault). HasReason old events Failed (ending_of x)) (sym bad) tt
+module _ (f : OpenFault) where
+  abbrev pub Unopened : Type 0
+  Unopened = OpenFails Read f ⊎ (f ≡ create.Fault BadPosition)
 
--- a reason is one of the same files under another name
-pub reason_at : (old now : Files) (events : List Event) (Failed : Type 0) (e : Ending) → now ≡ old → HasReason now events Failed e → HasReason old events Failed e
-reason_at old now events Failed e kept reason = subst (λ (f : Files). HasReason f events Failed e) kept reason
+early_so : (f : OpenFault) → OpenFails Read f → EndsEarly (ending_of f)
+early_so SameFile fails = tt
+early_so (create.Fault f) (inl read) = inl read
+early_so (create.Fault f) (inr memory) = inr (inr memory)
 
--- a file that is opened last and isn't there can't be read
-pub last_missing : (old : Files) (Failed : Type 0) (before after : List Event) (name : Text) → after ≡ before ++ Opened name ∷ [] → old name ≡ None
-    → IsUnread old after Failed
-last_missing old Failed before after name last missing = inl (record { front = before; name = name; last = last; missing = missing })
+pub position_early : (P : Type 0) (f : OpenFault) → Unopened f → (f ≡ create.Fault BadPosition → P) → EndsEarly (ending_of f) ⊎ ((ending_of f ≡ Fault BadPosition) × P)
+position_early P f (inl fails) bad = inl (early_so f fails)
+position_early P f (inr is) bad = inr (ap ending_of is, bad is)
 
--- an output was to be created or made last
-pub created_last : (clobber : ClobberOption) (before after : List Event) (name : Text) → after ≡ before ++ creating clobber name ∷ []
-    → (after ≡ before ++ Created name ∷ []) ⊎ (after ≡ before ++ Made name ∷ [])
-created_last Allowed before after name last = inl last
-created_last Refused before after name last = inr last
+pub position_reason : (Came : Outcome → Type 0) (Failed : Type 0) (f : OpenFault) → Unopened f → (f ≡ create.Fault Read → IsUnread Came Failed) → HasReason Came Failed (ending_of f)
+position_reason Came Failed SameFile fails unread = tt
+position_reason Came Failed (create.Fault f) (inl (inl read)) unread =
+    subst (λ (x : FileFault). HasReason Came Failed (Fault x)) (sym read) (unread (ap create.Fault read))
+position_reason Came Failed (create.Fault f) (inl (inr memory)) unread = subst (λ (x : FileFault). HasReason Came Failed (Fault x)) (sym memory) tt
+position_reason Came Failed (create.Fault f) (inr bad) unread = subst (λ (x : OpenFault). HasReason Came Failed (ending_of x)) (sym bad) tt
 
--- it isn't the command line's if contracts see the files
-pub created_fault : (shows : Bool) (other : FileFault) (f : OpenFault) → OpenFails shows other f → shows ≡ true → is_usage (ending_of f) ≡ false
-created_fault shows other SameFile fails shown = absurd (true≢false (sym shown ∙ fails))
-created_fault shows other (create.Fault f) fails shown = refl
-
--- what was read from a file that is there is at its front
-pub front_read : (old new : Supply) (bytes : List ℕ) → is_some old.left ≡ true → Consumes old new bytes
-    → (rest : List ℕ) × (old.left ≡ Some (bytes ++ rest))
-front_read old new bytes there read = front old.left new.left there read.left where
-  front : (a b : Option (List ℕ)) → is_some a ≡ true → known.Consumes a b bytes → (rest : List ℕ) × (a ≡ Some (bytes ++ rest))
-  front None b there read = absurd (true≢false (sym there))
-  front (Some xs) None there read = absurd read
-  front (Some xs) (Some ys) there read = (ys, ap Some read)
-
--- a fault of the position or of the old text ends `resume` before its output is made
-pub bad_position : (shows : Bool) (f : OpenFault) (held : Option (List ℕ)) → OpenFails shows Read f ⊎ (f ≡ create.Fault BadPosition)
-    → (f ≡ create.Fault BadPosition → HoldsNoPosition held) → EndsEarly (ending_of f) ⊎ ((ending_of f ≡ Fault BadPosition) × HoldsNoPosition held)
-bad_position shows f held (inl early) none = inl (opened_early shows f early)
-bad_position shows f held (inr bad) none = inr (ap ending_of bad, none bad)
-
-pub bad_early : (shows : Bool) (f : OpenFault) → OpenFails shows Read f ⊎ (f ≡ create.Fault BadPosition) → EndsEarly (ending_of f) ⊎ (ending_of f ≡ Fault BadPosition)
-bad_early shows f (inl early) = inl (opened_early shows f early)
-bad_early shows f (inr bad) = inr (ap ending_of bad)
-
--- a file that can't be opened says nothing of a position
-pub not_bad : (shows : Bool) (f : OpenFault) → OpenFails shows Read f → f ≡ create.Fault BadPosition → ⊥
-not_bad shows SameFile fails bad = cc
-not_bad shows (create.Fault f) (inl read) bad = let same = ap create.Fault (sym read) ∙ bad in cc
-not_bad shows (create.Fault f) (inr memory) bad = let same = ap create.Fault (sym memory) ∙ bad in cc
-
--- and isn't the command line's if contracts see the files
-pub position_fault : (shows : Bool) (f : OpenFault) → OpenFails shows Read f ⊎ (f ≡ create.Fault BadPosition) → shows ≡ true → is_usage (ending_of f) ≡ false
-position_fault shows f (inl early) shown = created_fault shows Read f early shown
-position_fault shows f (inr bad) shown = ap (λ (x : OpenFault). is_usage (ending_of x)) bad
-
--- what follows from a result that is well and from one that isn't
-pub either_way : {T E : Type 0} (r : Result T E) (P Q R : Type 0) → OnOk r P → OnErr r Q → (P → R) → (Q → R) → R
-either_way (Ok x) P Q R p q well bad = well p
-either_way (Err e) P Q R p q well bad = bad q
-
--- what is asked of a choice is asked of what the options say
-pub in_order : {A : Type 0} (shows : Bool) (a b : List Event) (old new : FilesView) (IsRead : A → Type 0) (IsTwice : Type 0) (Blame : Ending → Type 0)
-    (Failed : Type 0) (r : Result A Ending) → a ≡ b
-    → Judges shows a old new IsRead IsTwice Blame Failed r → Judges shows b old new IsRead IsTwice Blame Failed r
-in_order shows a b old new IsRead IsTwice Blame Failed r same judged = subst (λ (order : List Event). Judges shows order old new IsRead IsTwice Blame Failed r) same judged
-
--- what a choice made of what its file gave is what the options make of it, and with these files, if contracts see them
-pub found_by : (IsOver : Reading → Type 0) (shows : Bool) (d : Decrypting) (choice : Choice) (held : Option (List ℕ)) (identity : Identity)
-    → Chooses d.identity choice → Makes choice held identity → (old : Files) → (shows ≡ true → IsSecretIn old (file_of choice) held)
-    → IsSecretGiven IsOver (file_of choice) held → OpensOf IsOver shows d old identity
-found_by IsOver shows d choice held identity chooses makes old is given = record {
-  given = held;
-  read = subst (λ (n : Option Text). IsSecretGiven IsOver n held) chooses.file given;
-  makes = chooses.makes held identity makes;
-  held = λ shown. chooses.opens old held identity (is shown) makes;
-}
-
--- what was given by then is given later
-pub secret_as : (Over Later : Reading → Type 0) → ((r : Reading) → Over r → Later r) → (name : Option Text) (held : Option (List ℕ))
-    → IsSecretGiven Over name held → IsSecretGiven Later name held
-secret_as Over Later so (Some name) (Some bytes) given = all_as Over Later so name bytes given
-secret_as Over Later so (Some name) None given = tt
-secret_as Over Later so None held given = tt
-
--- a reading is over since a set had read these
-pub over_since : (old mid new : List Reading) (r : Reading) → mid ≡ old → new ≡ mid ++ r ∷ [] → ReadSince old new r
-over_since old mid new r same is = one_since old new r (is ∙ ap (λ x. x ++ r ∷ []) same)
-
-pub reads_over : (old mid new : List Reading) (r : Reading) → mid ≡ old → new ≡ mid ++ r ∷ [] → ReadsOn old new
-reads_over old mid new r same is = reads_one old new r (is ∙ ap (λ x. x ++ r ∷ []) same)
-
--- what was read until one of the readings was over
-pub reads_by : (old new : List Reading) (r : Reading) → ReadSince old new r → ReadsOn old new
-reads_by old new r s = record { more = s.before ++ r ∷ s.later; is = s.is }
-
--- more was read before, or nothing
-pub then_none : (old mid new : List Reading) → ReadsOn old mid → new ≡ mid → ReadsOn old new
-then_none old mid new more same = record { more = more.more; is = same ∙ more.is }
-
--- as much was read before, and no more later
-pub over_between : (first old new last : List Reading) (r : Reading) → old ≡ first → last ≡ new → ReadSince old new r → ReadSince first last r
-over_between first old new last r before after s =
-    record { before = s.before; later = s.later; is = after ∙ (s.is ∙ ap (λ x. x ++ (s.before ++ r ∷ s.later)) before) }
+pub position_unfit : (Came : Outcome → Type 0) (f : OpenFault) → (f ≡ SameFile → Came Unfit) → is_usage (ending_of f) ≡ true
+    → IsUnfit Came (ending_of f)
+position_unfit Came SameFile unfit usage = (inl refl, unfit refl)
+position_unfit Came (create.Fault f) unfit usage = absurd (true≢false (sym usage))

@@ -1,40 +1,41 @@
 -- What each arm of the part that obeys the words promises, from what its callee does.
-use Rattle.std.proofs.Common.{◌≡◌, ◌∙◌, ◌++◌, ap, sym, subst, refl, inl, inr, List, [], ◌∷◌, Bool, true, false, true≢false, Option, Some, None, Result, Ok, Err, length}
-use Rattle.std.proofs.Common.{rules}
+use Rattle.std.proofs.Common.{◌≡◌, ◌∙◌, ◌⊎◌, sym, subst, refl, inl, inr, List, [], ◌∷◌, ℕ, Bool, true, false, true≢false, Option, Result, Ok, Err, length}
 use Rattle.std.specs.Borrow.{Bor}
-use Rattle.std.specs.Prelude.{OnOk, IfErr, IsOk, IsErrAnd, ◌==◌}
-use Rattle.std.proofs.lemmas.List.{nil_from_length}
-use Rattle.std.proofs.lemmas.Result.{IfErr-weaker}
+use Rattle.std.specs.Prelude.{OnOk, IfErr, IsOk, ◌==◌}
+use Rattle.std.proofs.lemmas.Result.{IfErr-weaker, on_ok_weaker}
 use Rattle.clap.specs.Words.{Text}
 use Rattle.clap.specs.Walk.{texts}
-use Rattle.clap.specs.Kinds.{IsAmong, HasKind}
+use Rattle.clap.specs.Kinds.{IsAmong, HasKind, Kinds}
 use Rattle.clap.specs.Values.{kind_of}
 use Rattle.clap.specs.declared.error.Error.{Error}
 use Rattle.clap.specs.declared.error.kind.ErrorKind.{ErrorKind}
-use Rattle.age_cli_args.specs.Requests.{IsForHelp, refusals, Requests}
-use Rattle.age_cli_args.specs.declared.request.Request.TheVariants.{Inspect, Encrypt, Decrypt, Resume, Drill}
-use Rattle.age_cli_args.specs.declared.request.Drilling.{Drilling}
-use Rattle.age_file.specs.Runs.{Ports}
-use Rattle.age_fileset.specs.FileSet.{FilesView, Reading}
-use Rattle.age_command.specs.Endings.{is_usage}
-use Rattle.age_command.specs.Orders.{Follows, order_asked}
-use Rattle.age_command.specs.declared.ending.Ending.{Ending}
-use Rattle.age_cli.specs.Acts.{Acts, IsUsage}
-use Rattle.age_cli.specs.Runs.{DoesOther, FailsWriting, IsRefusal, Obeys, World}
-use Rattle.age_io.specs.Io.{SinkView}
-use Rattle.age_cli.specs.Commands.{FailsReport}
-use Rattle.age_cli_args.specs.declared.request.Request.{Request}
-use Rattle.age_command.specs.declared.ending.Ending.TheVariants.{Words, Usage, Fault, Unsaved}
-use Rattle.clap.specs.Kinds.{Kinds}
 use Rattle.clap.specs.declared.error.kind.ErrorKind.TheVariants.{OutOfMemory}
-use Rattle.std.proofs.Common.{ℕ, ◌⊎◌}
+use Rattle.age_io.specs.Io.{SinkView}
+use Rattle.age_io.proofs.TakenLemmas.{Appends-trans}
+use Rattle.age_fault.specs.Faults.{HasRisen}
+use Rattle.age_fault.specs.declared.fault.FileFault.{FileFault}
+use Rattle.age_stanza.specs.declared.fault.HeadFault.{HeadFault}
+use Rattle.age_cli_args.specs.Requests.{IsForHelp, refusals, Requests}
+use Rattle.age_cli_args.specs.declared.request.Drilling.{Drilling}
+use Rattle.age_cli_args.specs.declared.request.ProgressOption.TheVariants.{Shown, Silent}
+use Rattle.age_cli_args.specs.declared.request.Request.{Request}
+use Rattle.age_cli_args.specs.declared.request.Request.TheVariants.{Inspect, Drill}
+use Rattle.age_file.specs.Runs.{Ports}
+use Rattle.age_fileset.specs.FileSet.{FilesView, Does}
+use Rattle.age_fileset.proofs.OutcomeLemmas.{did_events}
+use Rattle.age_command.specs.Endings.{Announces, ReportsEnding, ReportsRest, TakesLine, is_usage, fault_line}
+use Rattle.age_command.specs.Orders.{Begins, order_asked}
+use Rattle.age_command.specs.declared.ending.Announcement.{Announcement}
+use Rattle.age_command.specs.declared.ending.Announcement.TheVariants.{Unmade, Made, Failed}
+use Rattle.age_command.specs.declared.ending.Ending.{Ending}
+use Rattle.age_command.specs.declared.ending.Ending.TheVariants.{Words, Usage, Fault, Unsaved}
+use Rattle.age_command.proofs.EventLemmas.{begun, follows_by}
+use Rattle.age_cli.specs.Acts.{Acts, IsUsage}
+use Rattle.age_cli.specs.Commands.{FailsReport}
+use Rattle.age_cli.specs.Runs.{FailsWriting, IsRefusal}
 use Rattle.age_cli.specs.inner.Endings.{IsForOutput}
-use Rattle.age_cli.proofs.ActLemmas.{shown_not_silent, spares_kept}
-use Rattle.age_command.proofs.EventLemmas.{followed}
 
--- whether there are words
-pub no_words : (ws : List (Bor Text)) (test : Bool) → test ≡ (length ws == 0) → test ≡ true → texts ws ≡ []
-no_words ws test is true_here = let short : length ws ≡ 0 = search rules in ap texts (nil_from_length ws short)
+-- ---- The words.
 
 some_texts : (ws : List (Bor Text)) → texts ws ≡ [] → length ws ≡ 0
 some_texts [] none = refl
@@ -63,39 +64,23 @@ help_fails (Ok x) Unprinted Asked Help old new help fails = tt
 help_fails (Err e) Unprinted Asked Help old new help (inl refused) = inl refused
 help_fails (Err e) Unprinted Asked Help old new help (inr (asked, writing)) = inr (help asked, writing)
 
--- what is refused isn't printed
-pub refused_unprinted : (r : Result (Unit {0}) Ending) (Help Unprinted : Type 0) (old new : SinkView)
-    → IfErr r (λ e. (IsRefusal e × Unprinted) ⊎ (Help × FailsWriting old new e)) → IfErr r (λ e. IsUsage e → Unprinted)
-refused_unprinted (Ok x) Help Unprinted old new fails = tt
-refused_unprinted (Err e) Help Unprinted old new (inl (refused, unprinted)) = λ usage. unprinted
-refused_unprinted (Err e) Help Unprinted old new (inr (help, writing)) = λ usage. absurd (true≢false (sym usage ∙ ap is_usage writing.0))
-
--- and without a call for help all is refused
-pub no_help : (r : Result (Unit {0}) Ending) (Help Printed Unprinted : Type 0) (old new : SinkView) → OnOk r (Help × Printed)
-    → IfErr r (λ e. (IsRefusal e × Unprinted) ⊎ (Help × FailsWriting old new e)) → (Help → ⊥) → IsErrAnd r IsRefusal × Unprinted
-no_help (Ok x) Help Printed Unprinted old new done fails unasked = absurd (unasked done.0)
-no_help (Err e) Help Printed Unprinted old new done (inl refused) unasked = refused
-no_help (Err e) Help Printed Unprinted old new done (inr (help, writing)) unasked = absurd (unasked help)
-
 -- words that make a request are refused only if memory was
 pub asked_fails : (words : List Text) (e : Error) → HasKind (refusals words) e → (asked : Request) → Requests words asked → kind_of e ≡ OutOfMemory
 asked_fails words e (inl memory) asked made = memory
 asked_fails words e (inr among) asked (name, rows, asks, is) = absurd (subst (λ (ks : Kinds). IsAmong (kind_of e) ks) asks.taken among)
 
+-- ---- What a report and a drill do with files.
+
 -- a report that failed doesn't blame the command line
-pub report_fault : (held : Option (List ℕ)) (e : Ending) → FailsReport held e → is_usage e ≡ false
-report_fault held (Fault fault) fails = refl
-report_fault held (Words text) fails = absurd fails
-report_fault held (Usage usage) fails = absurd fails
-report_fault held (Unsaved fault second) fails = absurd fails
+report_fault : (IsOfHeader : HeadFault → Type 0) (e : Ending) → FailsReport IsOfHeader e → is_usage e ≡ false
+report_fault IsOfHeader (Fault fault) fails = refl
+report_fault IsOfHeader (Words text) fails = absurd fails
+report_fault IsOfHeader (Usage usage) fails = absurd fails
+report_fault IsOfHeader (Unsaved fault second) fails = absurd fails
 
 pub both_done : (P Q : Type 0) (r : Result (Unit {0}) Ending) → OnOk r P → OnOk r Q → OnOk r (P × Q)
 both_done P Q (Ok x) p q = (p, q)
 both_done P Q (Err e) p q = tt
-
--- a report doesn't blame the command line
-pub reported_accepts : (r : Result (Unit {0}) Ending) (held : Option (List ℕ)) → IfErr r (FailsReport held) → IfErr r (λ e. IsUsage e → ⊥)
-reported_accepts r held fails = IfErr-weaker r _ _ (λ e f usage. true≢false (sym usage ∙ report_fault held e f)) fails
 
 always : {A : Type 0} (r : Result A Ending) (P : Type 0) → P → OnOk r P
 always (Ok x) P p = p
@@ -105,73 +90,76 @@ every_fault : {A : Type 0} (r : Result A Ending) (P : Ending → Type 0) → ((e
 every_fault (Ok x) P h = tt
 every_fault (Err e) P h = h e
 
-module _ (IsPorts : Ports → Type 0) (IsOver : Reading → Type 0) (shows : Bool) (before after : FilesView) (Failed Unshown : Type 0)
-    (Progress : Option (List ℕ) → Result (Unit {0}) Ending → Type 0) (r : Result (Unit {0}) Ending)
-    (kept : after.entries ≡ before.entries) (silent : Unshown) where
-  -- of a drill
-  pub drill_acts : (d : Drilling) → Follows (order_asked (Drill d)).whole before.events after.events
-      → OnOk r (after.events ≡ before.events ++ (order_asked (Drill d)).done) → Acts IsPorts IsOver shows (Drill d) before after Failed Unshown Progress r
-  drill_acts d whole finished = record {
-    done = always r _ tt;
-    stopped = every_fault r _ (λ e. inr tt);
-    saved = every_fault r _ (λ e. inl (whole, inr tt));
-    stops = λ shown. every_fault r _ (λ e. inr tt);
-    keeps = λ shown refused there. absurd (true≢false (sym there));
-    usage = every_fault r _ (λ e usage. kept);
-    blamed = λ shown. every_fault r _ (λ e usage. inr tt);
-    spares = λ shown. spares_kept (Drill d) before.entries after.entries kept;
-    order = whole;
-    order_done = finished;
-    order_usage = every_fault r _ (λ e usage. whole);
-    order_shown = λ shown. every_fault r _ (λ e usage. whole);
-    apart = λ twice. absurd twice;
-    silent = λ asked. silent;
-    progress = inl silent;
-    shown = always r _ (λ asked. absurd (shown_not_silent (sym asked)));
-  }
+shown_not_silent : Silent ≡ Shown → ⊥
+shown_not_silent is = cc
 
-  -- of a report: a file is opened, or none, and no fault is one of the words
-  pub inspect_acts : (file : Option (Bor Text)) → after.events ≡ before.events ++ (order_asked (Inspect file)).done → IfErr r (λ e. is_usage e ≡ false)
-      → Acts IsPorts IsOver shows (Inspect file) before after Failed Unshown Progress r
-  inspect_acts file noted fault =
-      let impossible : (P : Type 0) → IfErr r (λ e. IsUsage e → P) =
-      λ P. IfErr-weaker r _ _ (λ e no usage. absurd (true≢false (sym usage ∙ no))) fault in
+module _ (IsPorts : Ports → Type 0) (before after : FilesView) (Failed Unshown : Type 0) (Progress : Option (List ℕ) → Result (Unit {0}) Ending → Type 0)
+    (r : Result (Unit {0}) Ending) (silent : Unshown) where
+  pub drill_acts : (d : Drilling) → Begins (order_asked (Drill d)).whole before after → OnOk r (Does (order_asked (Drill d)).done before after)
+      → Acts IsPorts (Drill d) before after Failed Unshown Progress r
+  drill_acts d whole finished =
+      let follows = follows_by (order_asked (Drill d)).whole before after whole in
       record {
         done = always r _ tt;
         stopped = every_fault r _ (λ e. inr tt);
-        saved = every_fault r _ (λ e. inl (followed before.events after.events _ noted, inr tt));
-        stops = λ shown. every_fault r _ (λ e. inr tt);
-        keeps = λ shown refused there. absurd (true≢false (sym there));
-        usage = impossible _;
-        blamed = λ shown. IfErr-weaker r _ _ (λ e no usage. absurd (true≢false (sym usage ∙ no))) fault;
-        spares = λ shown. spares_kept (Inspect file) before.entries after.entries kept;
-        order = followed before.events after.events _ noted;
-        order_done = always r _ noted;
-        order_usage = impossible _;
-        order_shown = λ shown. impossible _;
+        saved = every_fault r _ (λ e. inr (inl tt));
+        replaced = every_fault r _ (λ e. inl follows);
+        blamed = every_fault r _ (λ e usage. inr (inl tt));
+        order = follows;
+        order_done = on_ok_weaker r (λ did. did_events (order_asked (Drill d)).done before after did) finished;
+        order_usage = every_fault r _ (λ e usage. follows);
+        order_judged = every_fault r _ (λ e usage. inl follows);
         apart = λ twice. absurd twice;
         silent = λ asked. silent;
         progress = inl silent;
-        shown = always r _ (λ asked. absurd (shown_not_silent (sym asked)));
+        shown = always r _ (λ asked. absurd (shown_not_silent asked));
       }
 
-module _ (words : List Text) (shows : Bool) (IsPorts : Ports → Type 0) (IsOver : Reading → Type 0) (before after : World) (Failed Unread Unprinted Unshown : Type 0)
-    (Progress : Option (List ℕ) → Result (Unit {0}) Ending → Type 0) (r : Result (Unit {0}) Ending) where
-  -- a report isn't refused
-  unblamed : (held : Option (List ℕ)) → IfErr r (FailsReport held) → IfErr r (λ e. IsUsage e → Unprinted)
-  unblamed held fails = IfErr-weaker r _ _ (λ e no usage. absurd (no usage)) (reported_accepts r held fails)
+  -- a file is opened, or none, and no fault is one of the words
+  pub inspect_acts : (file : Option (Bor Text)) (IsOfHeader : HeadFault → Type 0) → Does (order_asked (Inspect file)).done before after → IfErr r (FailsReport IsOfHeader)
+      → Acts IsPorts (Inspect file) before after Failed Unshown Progress r
+  inspect_acts file IsOfHeader did fails =
+      let impossible : (P : Type 0) → IfErr r (λ e. IsUsage e → P) =
+      λ P. IfErr-weaker r _ _ (λ e f usage. absurd (true≢false (sym usage ∙ report_fault IsOfHeader e f))) fails in
+      record {
+        done = always r _ tt;
+        stopped = every_fault r _ (λ e. inr tt);
+        saved = every_fault r _ (λ e. inr (inl tt));
+        replaced = every_fault r _ (λ e. inr tt);
+        blamed = IfErr-weaker r _ _ (λ e f usage. absurd (true≢false (sym usage ∙ report_fault IsOfHeader e f))) fails;
+        order = follows_by (order_asked (Inspect file)).whole before after (begun (order_asked (Inspect file)).whole before after did);
+        order_done = always r _ (did_events (order_asked (Inspect file)).done before after did);
+        order_usage = impossible _;
+        order_judged = impossible _;
+        apart = λ twice. absurd twice;
+        silent = λ asked. silent;
+        progress = inl silent;
+        shown = always r _ (λ asked. absurd (shown_not_silent asked));
+      }
 
-  answered : (asked : Request) → DoesOther words shows IsPorts IsOver before after Failed Unread Unprinted Unshown Progress r asked
-      → IfErr r (λ e. IsUsage e → Unprinted)
-  answered (Inspect None) a = unblamed _ a.stops
-  answered (Inspect (Some name)) a = unblamed _ a.1.stops
-  answered (Encrypt e) a = every_fault r _ (λ e usage. a.1)
-  answered (Decrypt d) a = every_fault r _ (λ e usage. a.1)
-  answered (Resume d) a = every_fault r _ (λ e usage. a.1)
-  answered (Drill d) a = a.2
+-- ---- What is put to the sink of faults.
 
-  -- a run that refuses its words writes nothing
-  pub refused_silently : Obeys words shows IsPorts IsOver before after Failed Unread Unprinted Unshown Progress r → IfErr r (λ e. IsUsage e → Unprinted)
-  refused_silently (inl report) = unblamed _ report.report.stops
-  refused_silently (inr (inl did)) = answered did.asked did.answers
-  refused_silently (inr (inr declined)) = refused_unprinted r _ _ before.output after.output declined.stops
+-- what an ending leaves of these two views
+abbrev pub Leaves : Ending → SinkView → SinkView → Type 0
+Leaves e old new = ReportsEnding e old.taken new.taken old.failed new.failed
+
+failed_whole : (e : Ending) (old new : SinkView) → HasRisen old.failed new.failed → Leaves e old new
+failed_whole (Fault fault) old new risen = inr risen
+failed_whole (Unsaved fault second) old new risen = inr risen
+failed_whole (Words text) old new risen = tt
+failed_whole (Usage usage) old new risen = tt
+
+second_whole : (fault second : FileFault) (old mid new : SinkView) → TakesLine fault old mid → TakesLine second mid new ⊎ HasRisen mid.failed new.failed
+    → Leaves (Unsaved fault second) old new
+second_whole fault second old mid new first (inl took) = inl (Appends-trans old.taken mid.taken new.taken (fault_line fault) (fault_line second) first.0 took.0)
+second_whole fault second old mid new first (inr risen) = inr (subst (λ (n : ℕ). HasRisen n new.failed) first.1 risen)
+
+-- what was announced and the rest are the whole report
+pub reported_whole : (a : Announcement) (e : Ending) (old mid new : SinkView) (Quiet : Type 0) → (Quiet → mid ≡ old) → Announces a e old mid Quiet
+    → ReportsRest a e mid new → Leaves e old new
+reported_whole Unmade e old mid new Quiet same quiet rest = subst (λ (s : SinkView). Leaves e s new) (same quiet) rest
+reported_whole Made (Fault fault) old mid new Quiet same first rest = subst (λ (s : SinkView). Leaves (Fault fault) old s) (sym rest) (inl first.0)
+reported_whole Made (Unsaved fault second) old mid new Quiet same first rest = second_whole fault second old mid new first rest
+reported_whole Made (Words text) old mid new Quiet same first rest = tt
+reported_whole Made (Usage usage) old mid new Quiet same first rest = tt
+reported_whole Failed e old mid new Quiet same risen rest = subst (λ (s : SinkView). Leaves e old s) (sym rest) (failed_whole e old mid risen)

@@ -1,13 +1,13 @@
 -- What a resumed decryption did whose position was found by reading the rest of the input once more.
-use Rattle.std.proofs.Common.{◌≡◌, ◌∙◌, ℕ, List, Option, Some, None, Bool, true, false}
-use Rattle.std.proofs.Common.{Result, Ok, Err, OnOk, IfOk, IfErr, subst, sym, refl, inl, inr, ⊎_elim, arith}
-use Rattle.std.specs.Prelude.{◌≢◌, is_some, IfSome, IsSomeAnd, length, min}
-use Rattle.std.proofs.lemmas.List.{length-append}
-use Rattle.std.proofs.lemmas.Option.{none-some}
+use Rattle.std.proofs.Common.{◌≡◌, ℕ, List, Option, Some, None, Bool, true, false}
+use Rattle.std.proofs.Common.{Result, Ok, Err, OnOk, IfOk, IfErr, subst, refl, inl, inr, ⊎_elim}
+use Rattle.std.specs.Prelude.{is_some, IfSome, IsSomeAnd, min}
+use Rattle.std.proofs.lemmas.Result.{IfErr-weaker}
+use Rattle.clap.specs.Words.{Text}
 use Rattle.age_io.specs.Io.{SourceView}
+use Rattle.age_io.specs.Supply.{Supply, IsAtEnd}
 use Rattle.age_file.proofs.AgainLawLemmas.{rest_kept}
 use Rattle.age_file.specs.Resumes.{ResumePorts, resume_ports, ResumesKeyed, ResumeStops, StandsAt, StopsInSkipped, ResumeEnds}
-use Rattle.age_file.specs.Again.{RestReadAgain, IsFoundAgain}
 use Rattle.age_file.specs.Runs.{Ports, ports, Run, IsPositionOf}
 use Rattle.age_file.specs.declared.decryption.Done.{Done}
 use Rattle.age_file.specs.declared.decryption.Stopped.{Stopped}
@@ -16,23 +16,18 @@ use Rattle.age_file.specs.declared.position.PositionPolicy.{PositionPolicy}
 use Rattle.age_file.specs.declared.position.PositionPolicy.TheVariants.{Kept, Dropped}
 use Rattle.age_file.specs.declared.standing.Standing.{Standing}
 use Rattle.age_file.specs.declared.standing.Standing.TheVariants.{Before, Skipping, InPayload}
-use Rattle.age_fileset.specs.FileSet.{FilesView, Reading, reading_of}
-use Rattle.clap.specs.Words.{Text}
+use Rattle.age_fileset.specs.FileSet.{FilesView, CameSince, Gave, Settled, reading_of}
 use Rattle.age_cli_args.specs.Requests.{option_text}
 use Rattle.age_cli_args.specs.declared.request.Decrypting.{Decrypting}
 use Rattle.age_cli_args.specs.declared.request.ProgressOption.TheVariants.{Silent, Shown}
 use Rattle.age_command.specs.Identities.{allows_by, refuses_by}
 use Rattle.age_command.specs.declared.ending.Ending.{Ending}
 use Rattle.age_command.specs.declared.identity.Identity.{Identity}
-use Rattle.age_cli.specs.Acts.{kept_for, start_of, Finds, StandsResumption}
+use Rattle.age_cli.specs.Acts.{kept_for, start_of, Finds, HaltsResumption, StandsResumption}
 use Rattle.age_cli.specs.inner.Endings.{Concludes, opening_end}
-use Rattle.age_cli.specs.inner.Rereadings.{again_of, key_of, placed, ConcludesAgain, ConcludesDecryption, HoldsInput, IsFoundIn, ResumesOpened, stopped_at}
-use Rattle.age_io.specs.Supply.{IsAtEnd}
-use Rattle.age_cli.proofs.ProgressLemmas.{at_end_of, resuming_at_end}
-use Rattle.age_cli.specs.Acts.{HaltsResumption}
-use Rattle.std.proofs.lemmas.Result.{IfErr-weaker}
-use Rattle.age_cli.proofs.RereadLemmas.{if_some, kept_some, some_of}
-use Rattle.age_cli.proofs.SettledLemmas.{all_written, at_least, starts_there}
+use Rattle.age_cli.specs.inner.Rereadings.{again_of, key_of, placed, ConcludesDecryption, ConcludesFound, IsFoundIn, ResumesOpened, stopped_at}
+use Rattle.age_cli.proofs.ReadingsLemmas.{ended_with, resuming_whole}
+use Rattle.age_cli.proofs.RereadLemmas.{if_some, kept_some, lacks_none}
 
 -- a stop in the skipped blocks, had positions been kept
 skipping_kept : (i : Identity) (from : Position) (before after : ResumePorts) (s : Stopped) → StopsInSkipped (allows_by i) from before after Dropped s
@@ -67,24 +62,31 @@ module _ (i : Identity) (from : Position) (before after : ResumePorts) where
   skipping_as None s stands = inr (inr (skipping_kept i from before after s stands))
   skipping_as (Some r) s stands = absurd stands
 
-module _ (IsPorts : Ports → Type 0) (IsOver : Reading → Type 0) (shows : Bool) (d : Decrypting) (old_name : Text) (i : Identity) (from : Position) (first last : SourceView)
-    (before after : Ports) (after_is : IsPorts after) (last_is : IsPorts (ports last after.sink)) (over : IsOver (reading_of d.from.now after.source))
-    (last_over : IsOver (reading_of old_name last)) (old new : FilesView) (Unshown : Type 0) (Progress : Option (List ℕ) → Result (Unit {0}) Ending → Type 0)
-    (silent : d.progress ≡ Silent → Unshown) where
+module _ (IsPorts : Ports → Type 0) (d : Decrypting) (old_name : Text) (i : Identity) (from : Position) (first last : SourceView)
+    (before after : Ports) (after_is : IsPorts after) (last_is : IsPorts (ports last after.sink)) (old new : FilesView)
+    (over : CameSince old new (Gave (reading_of d.from.now after.source))) (last_over : CameSince old new (Gave (reading_of old_name last)))
+    (Unshown : Type 0) (Progress : Supply → Supply → Result (Unit {0}) Ending → Type 0) (silent : d.progress ≡ Silent → Unshown) where
   abbrev Did : PositionPolicy → Result Done Stopped → Standing → Type 0
   Did keep end standing = ResumesKeyed keep (allows_by i) (refuses_by i) from (resume_ports before first) (resume_ports after last) end standing
 
   abbrev Shows : Result (Unit {0}) Ending → Type 0
-  Shows r = d.progress ≡ Shown → (input : Option (List ℕ)) → (shows ≡ true → before.source.supply.left ≡ input)
-      → OnOk r (IsAtEnd after.source.supply) → Progress input r
+  Shows r = d.progress ≡ Shown → OnOk r (IsAtEnd after.source.supply) → Progress before.source.supply after.source.supply r
+
+  abbrev Certain : ℕ → Type 0
+  Certain n = CameSince old new (Settled after.sink.taken.bytes n)
+
+  abbrev Resumes : Result (Unit {0}) Ending → Type 0
+  Resumes r = ResumesOpened IsPorts (CameSince old new) d old_name i from first before old new Unshown Progress r
+
+  abbrev Concluded : Result (Unit {0}) Ending → Result Done Stopped → Option (Stopped × List ℕ) → Type 0
+  Concluded r end again = ConcludesDecryption Certain d after.sink (Some from) end again old new r
 
   -- one that isn't read again ended as if positions had been kept, if one is to be saved
   resumed_once : (run : Option Run) (end : Result Done Stopped) (r : Result (Unit {0}) Ending) → after.sink.label ≡ before.sink.label
       → IfOk end (λ done. IsSomeAnd run (ResumeEnds (allows_by i) from (resume_ports before first) (resume_ports after last) done))
       → IfErr end (Stops i from (resume_ports before first) (resume_ports after last) (kept_for (option_text d.save)) run)
       → IfErr end (λ s. HaltsResumption i from (resume_ports before first) (resume_ports after last) s.fault) → Shows r
-      → Concludes shows (option_text d.save) d.durability after.sink (opening_end end) old new r
-      → ResumesOpened IsPorts IsOver shows d old_name i from first before old new Unshown Progress r
+      → Concluded r end None → Resumes r
   resumed_once run end r named done stops halted shown concludes = record {
     after = after;
     after_is = after_is;
@@ -95,18 +97,20 @@ module _ (IsPorts : Ports → Type 0) (IsOver : Reading → Type 0) (shows : Boo
     resumed = end;
     run = run;
     done = done;
-    stopped = λ shown holds. stops;
     halted = halted;
     stands = IfErr-weaker end _ _ (λ s so. if_some s.position (λ p is. inl (kept_for (option_text d.save), run, s, is, so))) stops;
     unplaced = IfErr-weaker end _ _ (λ s so none. so) stops;
     named = named;
-    concludes = concludes;
+    settled = concludes.0;
+    certain = concludes.2;
+    concludes = concludes.1;
     silent = silent;
-    shown = λ asked input same. shown asked input same
-        (at_end_of _ (opening_end end) r _ (resuming_at_end (allows_by i) from (resume_ports before first) (resume_ports after last) run end done) concludes.done);
+    shown = λ asked. shown asked
+        (ended_with _ (opening_end end) r _ (resuming_whole (allows_by i) from (resume_ports before first) (resume_ports after last) run end done)
+        concludes.1.done);
   }
 
-  module _ (law : RestReadAgain Identity allows_by refuses_by) (s : Stopped) (key : List ℕ) (saves : is_some (option_text d.save) ≡ true) (ending : Ending)
+  module _ (s : Stopped) (key : List ℕ) (saves : is_some (option_text d.save) ≡ true) (ending : Ending)
       (did : Did Dropped (Err s) (InPayload key)) (shown : Shows (Err ending)) where
     abbrev At : PositionPolicy → Option Run → Position → Type 0
     At keep run p = ResumeStops (allows_by i) from (resume_ports before first) (resume_ports after last) keep (refuses_by i) run (stopped_at s p)
@@ -118,35 +122,20 @@ module _ (IsPorts : Ports → Type 0) (IsOver : Reading → Type 0) (shows : Boo
     Here run = StandsAt (allows_by i) from (resume_ports before first) (resume_ports after last) Dropped (refuses_by i) run (Err s) (InPayload key)
 
     abbrev Again : ℕ → Position → Type 0
-    Again settled p = IsFoundIn IsOver ((shows ≡ true) × (d.from.now ≢ after.sink.label)) d.from.now (old.entries d.from.now) (start_of settled (Some from)) key
-        (min s.written settled) p
-
-    found_so : (run : Option Run) (p : Position) (settled : ℕ) → Here run → Dropping run → HoldsInput d before old
-        → IsSomeAnd after.sink.taken.contents (λ bytes. settled ≡ length bytes)
-        → (found : Again settled p) → found.first.supply.left ≡ old.entries d.from.now → At Kept run p
-    found_so None p settled stands stops holds all found coming = absurd stands
-    found_so (Some r) p settled stands stops holds all found coming =
-        let wrote = stops.2.is.wrote in
-        let most = at_least _ _ _ _ holds.empty wrote all in
-        let there = starts_there from settled (omega (arith, most, length-append r.copied r.out, stops.0.old_text.size)) in
-        let again = subst (λ (n : ℕ). Finds (Some from) key found.first found.last n p)
-        (all_written _ _ _ _ _ holds.empty wrote stops.2.is.count all)
-        (subst (λ (o : Option Position). Finds o key found.first found.last (min s.written settled) p) there found.found) in
-        let bytes = some_of (old.entries d.from.now) holds.there in
-        law i from (resume_ports before first) (resume_ports after last) r s found.first found.last bytes.0 p stops (holds.gives ∙ bytes.1) (coming ∙ bytes.1)
-        (subst (λ (k : List ℕ). IsFoundAgain (λ _ z. z ≡ k) (Some from) r.copied found.first found.last s.written p) stands (again r.copied stops.0.old_text))
+    Again settled p = IsFoundIn (CameSince old new) d.from.now (start_of settled (Some from)) key (min s.written settled) p
 
     abbrev StandsThere : Position → Type 0
-    StandsThere p = StandsResumption IsOver d.from.now i from p (resume_ports before first) (resume_ports after last)
+    StandsThere p = StandsResumption (CameSince old new) d.from.now i from p (resume_ports before first) (resume_ports after last)
 
-    found_stands : (run : Option Run) (p : Position) (settled : ℕ) → Here run → Dropping run → Again settled p → StandsThere p
-    found_stands None p settled stands stops found = absurd stands
-    found_stands (Some r) p settled stands stops found = inr (
+    found_stands : (run : Option Run) (p : Position) (settled : ℕ) → Certain settled → Here run → Dropping run → Again settled p → StandsThere p
+    found_stands None p settled certain stands stops found = absurd stands
+    found_stands (Some r) p settled certain stands stops found = inr (
       r,
       s,
       stops,
       record {
         settled = settled;
+        certain = certain;
         first = found.first;
         last = found.last;
         reading = found.reading;
@@ -159,10 +148,10 @@ module _ (IsPorts : Ports → Type 0) (IsOver : Reading → Type 0) (shows : Boo
     due_so (Some r) stands due stops =
         (due.0, rest_kept (allows_by i) (refuses_by i) from (resume_ports before first) (resume_ports after last) r s due.0 stops due.1)
 
-    opened_at : (p : Position) → StandsThere p → (shows ≡ true → HoldsInput d before old → At Kept did.is.run p)
-        → Concludes shows (option_text d.save) d.durability after.sink (opening_end (Err (stopped_at s p))) old new (Err ending)
-        → ResumesOpened IsPorts IsOver shows d old_name i from first before old new Unshown Progress (Err ending)
-    opened_at p stands stops concludes = record {
+    resumed_at : (p : Position) (settled : ℕ) → Certain settled → StandsThere p
+        → Concludes (option_text d.save) d.durability after.sink settled (opening_end (Err (stopped_at s p))) old new (Err ending)
+        → Resumes (Err ending)
+    resumed_at p settled certain stands concludes = record {
       after = after;
       after_is = after_is;
       over = over;
@@ -172,67 +161,69 @@ module _ (IsPorts : Ports → Type 0) (IsOver : Reading → Type 0) (shows : Boo
       resumed = Err (stopped_at s p);
       run = did.is.run;
       done = tt;
-      stopped = λ shown holds. subst (λ (keep : PositionPolicy). At keep did.is.run p) (kept_some (option_text d.save) saves) (stops shown holds);
       halted = (Dropped, did.is.run, s, refl, did.is.stopped);
       stands = stands;
-      unplaced = λ none. absurd (none-some p (sym none));
+      unplaced = λ lacks. absurd (lacks_none (option_text d.save) p saves lacks);
       named = did.is.named;
+      settled = settled;
+      certain = λ failed there. certain;
       concludes = concludes;
       silent = silent;
-      shown = λ asked input same. shown asked input same tt;
+      shown = λ asked. shown asked tt;
     }
 
-    resumed_again : ConcludesAgain IsOver shows d after.sink (Some from) s key old new ending
-        → ResumesOpened IsPorts IsOver shows d old_name i from first before old new Unshown Progress (Err ending)
-    resumed_again (settled, is, inl (p, found, concludes)) =
-        opened_at p (found_stands did.is.run p settled did.stands did.is.stopped found) (λ shown holds. found_so did.is.run p settled did.stands did.is.stopped holds (is shown)
-        found (found.coming (shown, λ e. holds.other (e ∙ did.is.named)))) concludes
-    resumed_again (settled, is, inr all) =
+    resumed_again : (settled : ℕ) → Certain settled → ConcludesFound d after.sink (Some from) s key old new ending settled → Resumes (Err ending)
+    resumed_again settled certain (inl (p, found, concludes)) =
+        resumed_at p settled certain (found_stands did.is.run p settled certain did.stands did.is.stopped found) concludes
+    resumed_again settled certain (inr all) =
         let due = due_so did.is.run did.stands did.due did.is.stopped in
-        opened_at due.0 (inl (Kept, did.is.run, stopped_at s due.0, refl, due.1)) (λ shown holds. due.1) (all due.0)
-
-  abbrev Concluded : Result (Unit {0}) Ending → Result Done Stopped → Option (Stopped × List ℕ) → Type 0
-  Concluded r end again = ConcludesDecryption IsOver shows d after.sink (Some from) end again old new r
+        resumed_at due.0 settled certain (inl (Kept, did.is.run, stopped_at s due.0, refl, due.1)) (all due.0)
 
   as_kept : (s : Stopped) (standing : Standing) (keep : PositionPolicy) (r : Result (Unit {0}) Ending) → keep ≡ kept_for (option_text d.save)
-      → Did keep (Err s) standing → Shows r → Concluded r (Err s) None → ResumesOpened IsPorts IsOver shows d old_name i from first before old new Unshown Progress r
+      → Did keep (Err s) standing → Shows r → Concluded r (Err s) None → Resumes r
   as_kept s standing keep r kept did shown concludes =
       resumed_once did.is.run (Err s) r did.is.named tt
       (subst (λ (x : PositionPolicy). Stops i from (resume_ports before first) (resume_ports after last) x did.is.run s) kept did.is.stopped)
       (keep, did.is.run, s, refl, did.is.stopped) shown concludes
 
-  by : RestReadAgain Identity allows_by refuses_by → (reread : Bool) (end : Result Done Stopped) (standing : Standing) (keep : PositionPolicy)
+  by : (reread : Bool) (end : Result Done Stopped) (standing : Standing) (keep : PositionPolicy)
       (r : Result (Unit {0}) Ending) → (reread ≡ true → is_some (option_text d.save) ≡ true) → (reread ≡ true → keep ≡ Dropped)
       → (reread ≡ false → keep ≡ kept_for (option_text d.save)) → Did keep end standing → Shows r
-      → Concluded r (placed reread standing from end) (again_of reread (placed reread standing from end) (key_of standing))
-      → ResumesOpened IsPorts IsOver shows d old_name i from first before old new Unshown Progress r
-  by law false (Ok x) standing keep r saves dropped kept did shown concludes = resumed_once did.is.run (Ok x) r did.is.named did.is.done tt tt shown concludes
-  by law true (Ok x) Before keep r saves dropped kept did shown concludes = resumed_once did.is.run (Ok x) r did.is.named did.is.done tt tt shown concludes
-  by law true (Ok x) Skipping keep r saves dropped kept did shown concludes = resumed_once did.is.run (Ok x) r did.is.named did.is.done tt tt shown concludes
-  by law true (Ok x) (InPayload k) keep r saves dropped kept did shown concludes = resumed_once did.is.run (Ok x) r did.is.named did.is.done tt tt shown concludes
-  by law false (Err s) Before keep r saves dropped kept did shown concludes = as_kept s Before keep r (kept refl) did shown concludes
-  by law false (Err s) Skipping keep r saves dropped kept did shown concludes = as_kept s Skipping keep r (kept refl) did shown concludes
-  by law false (Err s) (InPayload k) keep r saves dropped kept did shown concludes = as_kept s (InPayload k) keep r (kept refl) did shown concludes
-  by law true (Err s) Before keep r saves dropped kept did shown concludes =
+      → Concluded r (placed reread standing from end) (again_of reread (placed reread standing from end) (key_of standing)) → Resumes r
+  by false (Ok x) standing keep r saves dropped kept did shown concludes =
+      resumed_once did.is.run (Ok x) r did.is.named did.is.done tt tt shown concludes
+  by true (Ok x) Before keep r saves dropped kept did shown concludes =
+      resumed_once did.is.run (Ok x) r did.is.named did.is.done tt tt shown concludes
+  by true (Ok x) Skipping keep r saves dropped kept did shown concludes =
+      resumed_once did.is.run (Ok x) r did.is.named did.is.done tt tt shown concludes
+  by true (Ok x) (InPayload k) keep r saves dropped kept did shown concludes =
+      resumed_once did.is.run (Ok x) r did.is.named did.is.done tt tt shown concludes
+  by false (Err s) Before keep r saves dropped kept did shown concludes = as_kept s Before keep r (kept refl) did shown concludes
+  by false (Err s) Skipping keep r saves dropped kept did shown concludes = as_kept s Skipping keep r (kept refl) did shown concludes
+  by false (Err s) (InPayload k) keep r saves dropped kept did shown concludes = as_kept s (InPayload k) keep r (kept refl) did shown concludes
+  by true (Err s) Before keep r saves dropped kept did shown concludes =
       resumed_once did.is.run (Err s) r did.is.named tt
       (before_as i from (resume_ports before first) (resume_ports after last) keep (kept_for (option_text d.save)) did.is.run s did.stands)
       (keep, did.is.run, s, refl, did.is.stopped) shown concludes
-  by law true (Err s) Skipping keep r saves dropped kept did shown concludes =
+  by true (Err s) Skipping keep r saves dropped kept did shown concludes =
       resumed_once did.is.run (Err (stopped_at s from)) r did.is.named tt
-      (subst (λ (x : PositionPolicy). Stops i from (resume_ports before first) (resume_ports after last) x did.is.run (stopped_at s from)) (kept_some (option_text d.save) (saves refl))
+      (subst (λ (x : PositionPolicy). Stops i from (resume_ports before first) (resume_ports after last) x did.is.run (stopped_at s from))
+      (kept_some (option_text d.save) (saves refl))
       (skipping_as i from (resume_ports before first) (resume_ports after last) did.is.run s
-      (subst (λ (x : PositionPolicy). Stands i from (resume_ports before first) (resume_ports after last) x did.is.run (Err s) Skipping) (dropped refl) did.stands)))
+      (subst (λ (x : PositionPolicy). Stands i from (resume_ports before first) (resume_ports after last) x did.is.run (Err s) Skipping)
+      (dropped refl) did.stands)))
       (keep, did.is.run, s, refl, did.is.stopped) shown concludes
-  by law true (Err s) (InPayload k) keep (Ok x) saves dropped kept did shown concludes = absurd concludes
-  by law true (Err s) (InPayload k) keep (Err e) saves dropped kept did shown concludes =
-      resumed_again law s k (saves refl) e (subst (λ (x : PositionPolicy). Did x (Err s) (InPayload k)) (dropped refl) did) shown concludes
+  by true (Err s) (InPayload k) keep (Ok x) saves dropped kept did shown concludes = absurd concludes
+  by true (Err s) (InPayload k) keep (Err e) saves dropped kept did shown concludes =
+      resumed_again s k (saves refl) e (subst (λ (x : PositionPolicy). Did x (Err s) (InPayload k)) (dropped refl) did) shown
+      concludes.0 concludes.1 concludes.2
 
-  pub resumed_by : RestReadAgain Identity allows_by refuses_by → (reread : Bool) (end : Result Done Stopped) (standing : Standing) (keep : PositionPolicy)
+  pub resumed_by : (reread : Bool) (end : Result Done Stopped) (standing : Standing) (keep : PositionPolicy)
       (r : Result (Unit {0}) Ending) → (reread ≡ true → is_some (option_text d.save) ≡ true) → (reread ≡ true → keep ≡ Dropped)
       → (reread ≡ false → keep ≡ kept_for (option_text d.save)) → Did keep end standing → Shows r
       → (end' : Result Done Stopped) (key : Option (List ℕ)) → end' ≡ placed reread standing from end → key ≡ key_of standing
-      → Concluded r end' (again_of reread end' key) → ResumesOpened IsPorts IsOver shows d old_name i from first before old new Unshown Progress r
-  resumed_by law reread end standing keep r saves dropped kept did shown end' key at is concludes =
-      by law reread end standing keep r saves dropped kept did shown
+      → Concluded r end' (again_of reread end' key) → Resumes r
+  resumed_by reread end standing keep r saves dropped kept did shown end' key at is concludes =
+      by reread end standing keep r saves dropped kept did shown
       (subst (λ (e : Result Done Stopped). Concluded r e (again_of reread e (key_of standing))) at
       (subst (λ (k : Option (List ℕ)). Concluded r end' (again_of reread end' k)) is concludes))

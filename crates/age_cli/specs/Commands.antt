@@ -1,6 +1,6 @@
 -- What commands find in the options and the files, and what `inspect` reports.
 use Rattle.std.specs.Prelude.{◌≡◌, ℕ, List, [], ◌++◌, length, Option, Some, ◌⊎◌, ◌<◌, ◌==◌, IfSome}
-use Rattle.std.specs.Prelude.{if◌then◌else◌, codes, None, Bool, true, false}
+use Rattle.std.specs.Prelude.{if◌then◌else◌, codes, None}
 use Rattle.std.specs.List.{flat_map}
 use Rattle.std.specs.Fmt.{decimal}
 use Rattle.age_io.specs.Io.{SourceView}
@@ -9,15 +9,16 @@ use Rattle.age_io.specs.Taken.{Taken, Appends}
 use Rattle.age_keys.specs.Scrypt.{IsAllowed}
 use Rattle.age_fault.specs.declared.fault.FileFault.TheVariants.{Head}
 use Rattle.age_file.specs.Encrypts.{SecretView}
-use Rattle.age_file.specs.Resumes.{position_text, NoPosition}
+use Rattle.age_file.specs.Resumes.{NoPosition}
 use Rattle.age_file.specs.Decrypts.{StopsOutside}
-use Rattle.age_file.specs.Runs.{IsHeadFault}
+use Rattle.age_file.specs.Runs.{ReportsFault}
+use Rattle.age_stanza.specs.declared.fault.HeadFault.{HeadFault}
 use Rattle.age_file.specs.Reports.{IsReport}
 use Rattle.age_file.specs.Reports as file
 use Rattle.age_file.specs.declared.position.Position.{Position}
 use Rattle.age_file.specs.declared.report.Report.{Report}
 use Rattle.age_file.specs.declared.report.StanzaReport.{StanzaReport}
-use Rattle.age_fileset.specs.FileSet.{or_empty, Reading, reading_of, HasGiven, HasGivenAll}
+use Rattle.age_fileset.specs.FileSet.{Outcome, Found, FoundOrEmpty, Gave, reading_of, HasGiven, HasGivenAll}
 use Rattle.age_cli_args.specs.Requests.{option_text}
 use Rattle.age_cli_args.specs.declared.request.Encrypting.{Encrypting}
 use Rattle.age_command.specs.declared.ending.Ending.{Ending}
@@ -25,15 +26,16 @@ use Rattle.age_command.specs.declared.ending.Ending.TheVariants.{Fault}
 use Rattle.age_command.specs.Orders.{random_name}
 use Rattle.age_command.specs.Identities.{IsPassphraseIn}
 use Rattle.clap.specs.Words.{Text}
-use Rattle.age_command.specs.Files.{Files}
 
 -- ---- What was read of a file.
 
--- One of the readings that are over is of the file of this name. Its source was this one at first, of
--- which nothing was read so far, and that one at the end.
-pub record WasRead (IsOver : Reading → Type 0) (name : Text) (first last : SourceView) : Type 0 where
+-- A file of this name was found so, and its reading is over. Its source was this one at first, of which
+-- nothing was read so far, and that one at the end.
+pub record WasRead (Came : Outcome → Type 0) (How : Option (List ℕ) → Outcome) (name : Text)
+    (first last : SourceView) : Type 0 where
   pub unread : first.supply.given ≡ []
-  pub over : IsOver (reading_of name last)
+  pub found : Came (How first.supply.left)
+  pub over : Came (Gave (reading_of name last))
 
 -- ---- What `encrypt` makes a file of.
 
@@ -54,39 +56,32 @@ pub record MakesSecret (asked : Encrypting) (pass random : Option (List ℕ)) (s
   pub within : IsAllowed secret.pass secret.log
   pub random_is : IsRandomIn random secret
 
--- all that the file of the passphrase gave, and what that of the random bytes gave, make the secret:
--- that is what they hold, if contracts see it
-pub record HasSecret (IsOver : Reading → Type 0) (shows : Bool) (asked : Encrypting) (old : Files)
-    (secret : SecretView) : Type 0 where
+-- all that the file of the passphrase gave, and what that of the random bytes gave, make the secret
+pub record HasSecret (Came : Outcome → Type 0) (asked : Encrypting) (secret : SecretView) : Type 0 where
   pub pass : List ℕ
   pub random : List ℕ
-  pub pass_given : HasGivenAll IsOver asked.pass.now pass
-  pub random_given : HasGiven IsOver (random_name (option_text asked.random)) random
+  pub pass_given : HasGivenAll Came asked.pass.now pass
+  pub random_given : HasGiven Came (random_name (option_text asked.random)) random
   pub makes : MakesSecret asked (Some pass) (Some random) secret
-  pub held : shows ≡ true → MakesSecret asked (old asked.pass.now)
-      (old (random_name (option_text asked.random))) secret
 
--- a file holds no passphrase that may be used with this work factor, and no random bytes
-abbrev pub HoldsNoPassphrase : Option (List ℕ) → ℕ → Type 0
-HoldsNoPassphrase held log = (pass : List ℕ) → IsPassphraseIn held pass → IsAllowed pass log → ⊥
+-- these bytes hold no passphrase that may be used with this work factor, and no random bytes
+abbrev pub HoldsNoPassphrase : ℕ → List ℕ → Type 0
+HoldsNoPassphrase log held = (pass : List ℕ) → IsPassphraseIn (Some held) pass → IsAllowed pass log → ⊥
 
-abbrev pub HoldsNoRandom : Option (List ℕ) → Type 0
-HoldsNoRandom held = (secret : SecretView) → IsRandomIn held secret → ⊥
+abbrev pub HoldsNoRandom : List ℕ → Type 0
+HoldsNoRandom held = (secret : SecretView) → IsRandomIn (Some held) secret → ⊥
 
 -- ---- Where `resume` begins.
 
--- the position in a file
-abbrev pub IsPositionIn : Option (List ℕ) → Position → Type 0
-IsPositionIn held position = held ≡ Some (position_text position)
+-- these bytes are no position: none is longer than 256 bytes
+abbrev pub HoldsNoPosition : List ℕ → Type 0
+HoldsNoPosition held = (256 < length held) ⊎ NoPosition held
 
--- a file holds no position: none is longer than 256 bytes
-abbrev pub HoldsNoPosition : Option (List ℕ) → Type 0
-HoldsNoPosition held = IfSome held (λ bytes. (256 < length bytes) ⊎ NoPosition bytes)
-
--- the old text, of what stands under the name of its file: at chunk 0 nothing of it is needed, and
--- a file that isn't there counts as empty
-abbrev pub old_for : Position → Option (List ℕ) → Option (List ℕ)
-old_for position held = if position.index == 0 then or_empty held else held
+-- the earlier output is found; at chunk 0 nothing of it is needed, and one that isn't there counts as
+-- empty
+abbrev pub old_found : Position → Text → Option (List ℕ) → Outcome
+old_found position name left =
+    if position.index == 0 then FoundOrEmpty name left else Found name left
 
 -- ---- How a report is printed: lines that end with LF, numbers in decimal.
 
@@ -114,36 +109,31 @@ Reports input_old input_new output_old output_new =
     (r : Report) × file.Inspects input_old input_new r
     × Appends output_old output_new (report_text r)
 
--- the report of what a file holds
-abbrev pub IsReportOf : Option (List ℕ) → Report → Type 0
-IsReportOf held r = (bytes : List ℕ) × (held ≡ Some bytes) × IsReport bytes r
-
 -- the report of an input that was read to its end, or, if its length is known, of its header and that
 abbrev pub ReportsAs : Option ℕ → Supply → Supply → Report → Type 0
 ReportsAs None old new r = file.Inspects old new r
 ReportsAs (Some size) old new r = file.InspectsFront size old new r
 
--- A report was written: that of what the file of this name gave, which is the file's, if contracts see
--- that.
-pub record ReportsFile (IsOver : Reading → Type 0) (shows : Bool) (name : Text) (held : Option (List ℕ))
-    (output_old output_new : Taken) : Type 0 where
+-- A report was written: that of what the file of this name gave, and of all that it had to give, if
+-- contracts see that.
+pub record ReportsFile (Came : Outcome → Type 0) (name : Text) (output_old output_new : Taken)
+    : Type 0 where
   pub r : Report
   pub size : Option ℕ
   pub first : SourceView
   pub last : SourceView
-  pub reading : WasRead IsOver name first last
+  pub reading : WasRead Came (Found name) name first last
+  pub whole : IfSome first.supply.left (λ bytes. IsReport bytes r)
   pub reports : ReportsAs size first.supply last.supply r
-  pub whole : shows ≡ true → IsReportOf held r
   pub wrote : Appends output_old output_new (report_text r)
 
--- what contracts see of a file
-abbrev pub seen : Bool → Option (List ℕ) → Option (List ℕ)
-seen true held = held
-seen false held = None
+-- the file of this name gave bytes that have this fault
+abbrev pub GaveFault : (Came : Outcome → Type 0) → Text → HeadFault → Type 0
+GaveFault Came name fault = (first : SourceView) × (last : SourceView)
+    × WasRead Came (Found name) name first last × ReportsFault first.supply last.supply fault
 
--- how a report of these bytes fails: with the fault of their header, or since reading, writing or
--- memory failed
-abbrev pub FailsReport : Option (List ℕ) → Ending → Type 0
-FailsReport held (Fault (Head fault)) = IfSome held (λ bytes. IsHeadFault bytes fault)
-FailsReport held (Fault fault) = StopsOutside fault
-FailsReport held other = ⊥
+-- how a report fails: with a fault of the header that came, or since reading, writing or memory failed
+abbrev pub FailsReport : (HeadFault → Type 0) → Ending → Type 0
+FailsReport IsOfHeader (Fault (Head fault)) = IsOfHeader fault
+FailsReport IsOfHeader (Fault fault) = StopsOutside fault
+FailsReport IsOfHeader other = ⊥

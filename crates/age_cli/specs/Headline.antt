@@ -1,6 +1,6 @@
 -- When OUT holds nothing but what the file's writer wrote: the headline at the command line.
 use Rattle.std.specs.Prelude.{◌≡◌, ◌⊎◌, ℕ, ◌*◌, ◌≤◌, true, List, [], ◌++◌, length, take, Option}
-use Rattle.std.specs.Prelude.{Some, Bool, Result, Ok, Err, IfErr, IsErrAnd}
+use Rattle.std.specs.Prelude.{Some, None, Result, Ok, Err, IfErr, IsErrAnd}
 use Rattle.clap.specs.Words.{Text}
 use Rattle.age_stanza.specs.Grammar.{HeadText}
 use Rattle.age_chunk.specs.Payload.{chunk_count, chunk_length, block_length, chunk_limit}
@@ -9,29 +9,44 @@ use Rattle.age_stream.specs.Headline.{IsPrefixOf}
 use Rattle.age_keys.specs.Keys.{Opens}
 use Rattle.age_file.specs.Runs.{Ports, ports, Run, IsFromStart, IsTexts, IsAuthenticRun, HasId, HasTag}
 use Rattle.age_file.specs.declared.position.Position.{Position}
-use Rattle.age_cli_args.specs.Requests.{Requests, IsForHelp}
+use Rattle.age_cli_args.specs.Requests.{Requests, IsForHelp, option_text}
 use Rattle.age_cli_args.specs.declared.request.Decrypting.{Decrypting}
-use Rattle.age_cli_args.specs.declared.request.Request.TheVariants.{Decrypt, Resume}
+use Rattle.age_cli_args.specs.declared.request.Request.TheVariants.{Encrypt, Decrypt, Resume}
 use Rattle.age_cli_args.specs.declared.request.Resuming.{Resuming}
-use Rattle.age_command.specs.Files.{Files}
-use Rattle.age_command.specs.Identities.{allows_by, OpensBy}
+use Rattle.age_command.specs.Identities.{allows_by, identity_file, MakesBy}
+use Rattle.age_cli_args.specs.declared.request.IdentityOptions.{IdentityOptions}
 use Rattle.age_command.specs.declared.identity.Identity.{Identity}
 use Rattle.age_fault.specs.declared.fault.FileFault.{FileFault}
 use Rattle.age_fault.specs.declared.fault.FileFault.TheVariants.{Head, Key, NonceCut, OtherFile}
 use Rattle.age_fault.specs.declared.fault.FileFault.TheVariants.{PositionForged}
 use Rattle.age_cli_args.specs.declared.request.Request.{Request}
 use Rattle.age_file.specs.InARow.{GaveFile, GaveOld, GaveRest}
-use Rattle.age_fileset.specs.FileSet.{FilesView, Reading, ReadSince, HasGivenAll}
+use Rattle.age_fileset.specs.FileSet.{Files, FilesView, Outcome, CameSince, HasGivenAll, Shelf}
+use Rattle.age_fileset.specs.FileSet.{seen_in, entry_of}
 use Rattle.age_file.specs.Resumes.{position_text}
-use Rattle.age_cli.specs.Commands.{WasRead}
+use Rattle.age_cli.specs.Commands.{WasRead, old_found}
 use Rattle.age_io.specs.declared.durability.Durability.{Durability}
 use Rattle.age_io.specs.declared.durability.Durability.TheVariants.{Synced}
 use Rattle.age_machine.specs.Ends.{EndedFile, IsThere, IsOnDisk}
 use Rattle.age_cli.specs.Acts.{Acts, IsEndingOf, OpensOf, Paths, paths_of, Returned, ShowsProgress}
 use Rattle.age_cli.specs.Acts.{SparesOut, IsUsage}
 use Rattle.age_cli.specs.Runs.{World, Runs, Declines, Obeys, IsRefusal}
-use Rattle.age_cli.specs.Commands.{IsPositionIn, FailsReport}
+use Rattle.age_cli.specs.Commands.{FailsReport}
 use Rattle.age_command.specs.declared.ending.Ending.{Ending}
+
+-- ---- What the options and the files make, in memory.
+
+-- what the file of this name holds, if a name is given
+abbrev pub held_for : Files → Option Text → Option (List ℕ)
+held_for old (Some name) = old name
+held_for old None = None
+
+abbrev pub OpensBy : Files → IdentityOptions → Identity → Type 0
+OpensBy old u = MakesBy (held_for old (identity_file u)) u
+
+-- the position in a file
+abbrev pub IsPositionIn : Option (List ℕ) → Position → Type 0
+IsPositionIn held position = held ≡ Some (position_text position)
 
 -- ---- A decryption from the start.
 
@@ -91,57 +106,75 @@ pub record IsWritersResumption (asked : Resuming) (old : Files) (text : List ℕ
 
 -- Whatever the status, OUT is as it was or holds a beginning of the plaintext, while no block of IN
 -- opens except as its writer sealed it; and 0 means all of the plaintext.
-abbrev pub DecryptKeepsOut : List Text → (before after : World) → ℕ → Type 0
-DecryptKeepsOut words before after status =
-    (d : Decrypting) (text : List ℕ) → Requests words (Decrypt d)
-    → IsWritersInput d before.files.entries text
-    → KeepsOut (before.files.entries d.to.now) (after.files.entries d.to.now) status text
+abbrev pub DecryptKeepsOut : List Text → (old new : Files) → ℕ → Type 0
+DecryptKeepsOut words old new status =
+    (d : Decrypting) (text : List ℕ) → Requests words (Decrypt d) → IsWritersInput d old text
+    → KeepsOut (old d.to.now) (new d.to.now) status text
 
 -- Whatever the status, `resume` leaves OUT as it was or with a beginning of the plaintext, while no
 -- block of IN opens except as its writer sealed it and the old text begins with the chunks of the
 -- plaintext before the position; and 0 means all of the plaintext.
-abbrev pub ResumeKeepsOut : List Text → (before after : World) → ℕ → Type 0
-ResumeKeepsOut words before after status =
-    (r : Resuming) (text : List ℕ) → Requests words (Resume r)
-    → IsWritersResumption r before.files.entries text
-    → KeepsOut (before.files.entries r.decrypting.to.now)
-    (after.files.entries r.decrypting.to.now) status text
+abbrev pub ResumeKeepsOut : List Text → (old new : Files) → ℕ → Type 0
+ResumeKeepsOut words old new status =
+    (r : Resuming) (text : List ℕ) → Requests words (Resume r) → IsWritersResumption r old text
+    → KeepsOut (old r.decrypting.to.now) (new r.decrypting.to.now) status text
 
--- A run over files that contracts see does so: of these ports, with a meter and sinks and a source
--- of these types. `gave` is what was read of files before it, and by its end.
-abbrev pub RunsKeepOut : (Ports → Type 0) → (Failed Input Output Faults Progress : Type 0) → Type 0
-RunsKeepOut IsPorts Failed Input Output Faults Progress =
-    (words : List Text) (gave : List Reading × List Reading) (before after : World)
-    (faults_old faults_new : SinkView)
+-- OUT and the file of `--save`, if what is asked has them
+abbrev pub out_of : Request → Option Text
+out_of (Encrypt e) = Some e.to.now
+out_of (Decrypt d) = Some d.to.now
+out_of (Resume r) = Some r.decrypting.to.now
+out_of other = None
+
+abbrev pub save_of : Request → Option Text
+save_of (Decrypt d) = option_text d.save
+save_of (Resume r) = option_text r.decrypting.save
+save_of other = None
+
+-- only OUT and the file of `--save` differ, if what is asked has them; and none, if the command line is
+-- refused
+abbrev pub SparesOthers : List Text → (old new : Files) → ℕ → Type 0
+SparesOthers words old new status = ((asked : Request) → Requests words asked
+    → (q : Text) → (out_of asked ≡ Some q → ⊥) → (save_of asked ≡ Some q → ⊥) → new q ≡ old q)
+    × (status ≡ 2 → (q : Text) → new q ≡ old q)
+
+-- A run over files in memory does so: of these ports, with a meter and sinks and a source of these
+-- types.
+abbrev pub RunsKeepOut : (Ports → Type 0) → (Failed Input Output Faults Progress : Type 0)
+    → (old new : Shelf) → Type 0
+RunsKeepOut IsPorts Failed Input Output Faults Progress old new =
+    (words : List Text) (before after : World) (faults_old faults_new : SinkView)
     (input : Input × Input) (output : Output × Output) (faults : Faults × Faults)
     (progress : Progress × Progress) (shown : Option (List Shown) × Option (List Shown))
-    (status : ℕ)
-    → Runs words true IsPorts (ReadSince gave.0 gave.1) before after faults_old faults_new Failed
-    (faults.1 ≡ faults.0) (input.1 ≡ input.0) (output.1 ≡ output.0) (progress.1 ≡ progress.0)
-    (ShowsProgress true shown.0 shown.1) status
-    → DecryptKeepsOut words before after status × ResumeKeepsOut words before after status
+    (status : ℕ) → before.files ≡ seen_in old → after.files ≡ seen_in new
+    → Runs words IsPorts before after faults_old faults_new Failed (faults.1 ≡ faults.0)
+    (input.1 ≡ input.0) (output.1 ≡ output.0) (progress.1 ≡ progress.0)
+    (ShowsProgress (CameSince before.files after.files) shown.0 shown.1) status
+    → let was = entry_of old.entries in let is = entry_of new.entries in
+    DecryptKeepsOut words was is status × ResumeKeepsOut words was is status
+    × SparesOthers words was is status
 
 -- ---- What follows for a run from what its parts promise.
 
 -- Words that ask neither for help nor for the version, and make no request, are refused, or memory
 -- is, and nothing is written; nor does any run write that refuses its words.
-abbrev pub RefusesInSilence : Bool → (Ports → Type 0) → (Failed Input Output Progress : Type 0) → Type 0
-RefusesInSilence shows IsPorts Failed Input Output Progress =
-    (words : List Text) (gave : List Reading × List Reading) (before after : World)
+abbrev pub RefusesInSilence : (Ports → Type 0) → (Failed Input Output Progress : Type 0) → Type 0
+RefusesInSilence IsPorts Failed Input Output Progress = (words : List Text) (before after : World)
     (input : Input × Input) (output : Output × Output)
     (progress : Progress × Progress) (shown : Option (List Shown) × Option (List Shown))
     (ended : Result (Unit {0}) Ending)
-    → (Declines words shows IsPorts (ReadSince gave.0 gave.1) before after Failed (input.1 ≡ input.0)
-    (output.1 ≡ output.0) (progress.1 ≡ progress.0) (ShowsProgress shows shown.0 shown.1) ended
+    → let Showing = ShowsProgress (CameSince before.files after.files) shown.0 shown.1 in
+    (Declines words IsPorts before after Failed (input.1 ≡ input.0)
+    (output.1 ≡ output.0) (progress.1 ≡ progress.0) Showing ended
     → (IsForHelp words → ⊥) → IsErrAnd ended IsRefusal × (output.1 ≡ output.0))
-    × (Obeys words shows IsPorts (ReadSince gave.0 gave.1) before after Failed (input.1 ≡ input.0)
-    (output.1 ≡ output.0) (progress.1 ≡ progress.0) (ShowsProgress shows shown.0 shown.1) ended
+    × (Obeys words IsPorts before after Failed (input.1 ≡ input.0)
+    (output.1 ≡ output.0) (progress.1 ≡ progress.0) Showing ended
     → IfErr ended (λ e. IsUsage e → output.1 ≡ output.0))
 
 -- A report that fails doesn't blame the command line.
 abbrev pub ReportsAccept : Type 0
-ReportsAccept = (ended : Result (Unit {0}) Ending) (held : Option (List ℕ))
-    → IfErr ended (FailsReport held) → IfErr ended (λ e. IsUsage e → ⊥)
+ReportsAccept = (ended : Result (Unit {0}) Ending)
+    → IfErr ended (FailsReport (λ fault. Unit {0})) → IfErr ended (λ e. IsUsage e → ⊥)
 
 -- ---- A decryption over any set of files, the machine's among them.
 
@@ -152,19 +185,19 @@ GivesFile identity before after =
 
 -- the earlier output gave a text's chunks before a position, and IN the rest of its payload, in the
 -- position's file, which an identity opens
-abbrev pub GivesRest : (Ports → Type 0) → (Reading → Type 0) → Text → Identity → Position
+abbrev pub GivesRest : (Ports → Type 0) → (Outcome → Type 0) → Text → Identity → Position
     → Ports → Ports → List ℕ → Type 0
-GivesRest IsPorts IsOver old_name identity from before after text =
+GivesRest IsPorts Came old_name identity from before after text =
     (first : SourceView) × (last : SourceView) × IsPorts (ports first before.sink)
-    × WasRead IsOver old_name first last × GaveOld from first.supply last.supply text
+    × WasRead Came (old_found from old_name) old_name first last × GaveOld from first.supply last.supply text
     × GaveRest (allows_by identity) from before.source.supply after.source.supply text
 
 -- What was read gave a text. OUT was closed with just that: it is at its path, and on the disk, if that
 -- was to be waited for.
-pub record LeavesText (IsPorts : Ports → Type 0) (IsOver : Reading → Type 0)
+pub record LeavesText (IsPorts : Ports → Type 0) (Came : Outcome → Type 0)
     (Gave : Ports → Ports → List ℕ → Type 0) (p : Paths) (durability : Durability)
     (ended : Option EndedFile) : Type 0 where
-  pub run : Returned IsPorts IsOver p ended
+  pub run : Returned IsPorts Came p ended
   pub text : List ℕ
   pub gave : Gave run.before run.after text
   pub took : run.out.took ≡ text
@@ -187,37 +220,33 @@ IsForText (Decrypt d) = Unit {0}
 IsForText (Resume r) = Unit {0}
 IsForText other = ⊥
 
--- `gave` is what was read of files before a command, and by its end.
-module _ (shows : Bool) (IsPorts : Ports → Type 0) (Failed Progress : Type 0) where
+module _ (IsPorts : Ports → Type 0) (Failed Progress : Type 0) where
   -- a command did this, with a meter of this type, and ended so
-  abbrev pub Obeyed : (gave : List Reading × List Reading) → Request → FilesView → FilesView
-      → Result (Unit {0}) Ending → Type 0
-  Obeyed gave asked before after ended = (progress : Progress × Progress)
+  abbrev pub Obeyed : Request → FilesView → FilesView → Result (Unit {0}) Ending → Type 0
+  Obeyed asked before after ended = (progress : Progress × Progress)
       × (shown : Option (List Shown) × Option (List Shown))
-      × Acts IsPorts (ReadSince gave.0 gave.1) shows asked before after Failed (progress.1 ≡ progress.0)
-      (ShowsProgress shows shown.0 shown.1) ended
+      × Acts IsPorts asked before after Failed (progress.1 ≡ progress.0)
+      (ShowsProgress (CameSince before after) shown.0 shown.1) ended
 
   -- If a decryption is done, OUT is the text whose age file IN gave.
   abbrev pub DoneLeavesText : Type 0
-  DoneLeavesText = (d : Decrypting) (gave : List Reading × List Reading) (before after : FilesView)
-      → Obeyed gave (Decrypt d) before after (Ok tt)
-      → let IsOver = ReadSince gave.0 gave.1 in
-      (identity : Identity) × OpensOf IsOver shows d before.entries identity
-      × LeavesText IsPorts IsOver (GivesFile identity) (paths_of d) d.durability after.ended
+  DoneLeavesText = (d : Decrypting) (before after : FilesView) → Obeyed (Decrypt d) before after (Ok tt)
+      → let Came = CameSince before after in
+      (identity : Identity) × OpensOf Came d identity
+      × LeavesText IsPorts Came (GivesFile identity) (paths_of d) d.durability after.ended
 
   -- If a resumed one is, it is the text whose first chunks the earlier output gave, and the rest of
   -- whose payload IN gave.
   abbrev pub ResumedLeavesText : Type 0
-  ResumedLeavesText = (r : Resuming) (gave : List Reading × List Reading) (before after : FilesView)
-      → Obeyed gave (Resume r) before after (Ok tt)
-      → let IsOver = ReadSince gave.0 gave.1 in
-      (identity : Identity) × OpensOf IsOver shows r.decrypting before.entries identity
-      × (from : Position) × HasGivenAll IsOver r.position.now (position_text from)
-      × LeavesText IsPorts IsOver (GivesRest IsPorts IsOver r.old.now identity from) (paths_of r.decrypting)
+  ResumedLeavesText = (r : Resuming) (before after : FilesView) → Obeyed (Resume r) before after (Ok tt)
+      → let Came = CameSince before after in
+      (identity : Identity) × OpensOf Came r.decrypting identity
+      × (from : Position) × HasGivenAll Came r.position.now (position_text from)
+      × LeavesText IsPorts Came (GivesRest IsPorts Came r.old.now identity from) (paths_of r.decrypting)
       r.decrypting.durability after.ended
 
   -- After a fault that comes before the text OUT is as it was, or the empty file that was made.
   abbrev pub EarlyFaultsSpareOut : Type 0
-  EarlyFaultsSpareOut = (asked : Request) (gave : List Reading × List Reading) (before after : FilesView)
-      (ending : Ending) (fault : FileFault) → IsForText asked → Obeyed gave asked before after (Err ending)
+  EarlyFaultsSpareOut = (asked : Request) (before after : FilesView) (ending : Ending) (fault : FileFault)
+      → IsForText asked → Obeyed asked before after (Err ending)
       → IsEndingOf fault ending → IsBeforeText fault → SparesOut before.ended after.ended

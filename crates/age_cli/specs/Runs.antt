@@ -1,14 +1,15 @@
 -- What a run does with its words, its files and its streams, and what its status says.
-use Rattle.std.specs.Prelude.{◌≡◌, ◌⊎◌, ℕ, Bool, true, List, [], Option, Some, None, is_some}
+use Rattle.std.specs.Prelude.{◌≡◌, ◌⊎◌, ◌∷◌, ℕ, true, List, [], Option, Some, None, is_some}
 use Rattle.std.specs.Prelude.{Result, OnOk, IfErr, IsErrAnd}
 use Rattle.age_io.specs.Supply.{Supply}
 use Rattle.age_io.specs.Taken.{Appends}
 use Rattle.clap.specs.Words.{Text}
 use Rattle.age_io.specs.Io.{SinkView}
+use Rattle.age_stanza.specs.declared.fault.HeadFault.{HeadFault}
 use Rattle.age_fault.specs.Faults.{HasRisen}
 use Rattle.age_fault.specs.declared.fault.FileFault.TheVariants.{Read, Write, Memory}
-use Rattle.age_file.specs.Runs.{Ports}
-use Rattle.age_fileset.specs.FileSet.{FilesView, Reading}
+use Rattle.age_file.specs.Runs.{Ports, ReportsFault}
+use Rattle.age_fileset.specs.FileSet.{FilesView, CameSince, Does, Opened, Unfit}
 use Rattle.age_cli_args.specs.Requests.{IsForHelp, Requests, option_text}
 use Rattle.age_cli_args.specs.declared.request.Request.{Request}
 use Rattle.age_cli_args.specs.declared.request.Request.TheVariants.{Inspect, Drill}
@@ -17,8 +18,9 @@ use Rattle.age_command.specs.declared.ending.Ending.{Ending}
 use Rattle.age_command.specs.declared.ending.Ending.TheVariants.{Words, Usage, Fault, Unsaved}
 use Rattle.age_command.specs.declared.ending.Usage.TheVariants as why
 use Rattle.age_command.specs.Files.{IsUnread}
+use Rattle.age_command.specs.Orders.{Begins, order_asked}
 use Rattle.age_cli.specs.Acts.{Acts, IsUsage, status_by}
-use Rattle.age_cli.specs.Commands.{Reports, ReportsFile, FailsReport, seen}
+use Rattle.age_cli.specs.Commands.{Reports, ReportsFile, FailsReport, GaveFault}
 
 -- ---- What a run does of what its words ask for.
 
@@ -46,52 +48,51 @@ FailsWriting old new ending = (ending ≡ Fault Write) × HasRisen old.failed ne
 abbrev pub Prints : (old new : SinkView) → Type 0
 Prints old new = (text : List ℕ) × Appends old.taken new.taken text × (new.settled ≡ true)
 
--- a report was written, and sent on; or it failed with a fault of what was to be reported, and
--- nothing was written, unless writing failed
+-- a report was written, and sent on; or it failed with a fault of the header that came, and nothing was
+-- written, unless writing failed
 pub record Reported (ended : Result (Unit {0}) Ending) (Report Unprinted : Type 0)
-    (held : Option (List ℕ)) (output_old output_new : SinkView) : Type 0 where
+    (IsOfHeader : HeadFault → Type 0) (output_old output_new : SinkView) : Type 0 where
   pub done : OnOk ended (Report × (output_new.settled ≡ true))
-  pub stops : IfErr ended (FailsReport held)
+  pub stops : IfErr ended (FailsReport IsOfHeader)
   pub unprinted : IfErr ended (λ e. FailsWriting output_old output_new e ⊎ Unprinted)
 
--- `shows` says whether contracts see the files, `IsPorts` which are the ports of those, `IsOver` which
--- readings of them are over by then, and `Failed` that a source of them failed. `Unread`, `Unprinted`
--- and `Unshown` say that the input, the output and the progress are as they were, and `Progress` what
--- was shown of the progress, by what IN holds and by how the run ended.
-module _ (words : List Text) (shows : Bool) (IsPorts : Ports → Type 0) (IsOver : Reading → Type 0)
-    (before after : World) (Failed Unread Unprinted Unshown : Type 0)
-    (Progress : Option (List ℕ) → Result (Unit {0}) Ending → Type 0)
-    (ended : Result (Unit {0}) Ending) where
+-- `IsPorts` says which are the ports of the files, and `Failed` that a source of them failed. `Unread`,
+-- `Unprinted` and `Unshown` say that the input, the output and the progress are as they were, and
+-- `Progress` what was shown of the progress, by the name of IN and by how the run ended.
+module _ (words : List Text) (IsPorts : Ports → Type 0) (before after : World)
+    (Failed Unread Unprinted Unshown : Type 0)
+    (Progress : Option Text → Result (Unit {0}) Ending → Type 0) (ended : Result (Unit {0}) Ending) where
   -- Without words the input is reported.
   pub record ReportsInput : Type 0 where
     pub none : words ≡ []
     -- It was read to its end, and its report was written.
     pub report : Reported ended
         (Reports before.input after.input before.output.taken after.output.taken) Unprinted
-        before.input.left before.output after.output
+        (ReportsFault before.input after.input) before.output after.output
     -- No file was opened, made or changed.
     pub untouched : after.files ≡ before.files
     -- No progress was shown.
     pub silent : Unshown
 
-  -- `inspect` reported the input, or its file, which 26 says can't be read. A drill sent on what it
-  -- wrote, and wrote nothing if it is refused; with both or neither of `--clear` and `--pass` it is
-  -- refused before a file is opened. Neither ends an output. Other commands write nothing to the
-  -- output, and none of them reads the input.
+  -- `inspect` reported the input, or its file, and 26 has a reason. A drill sent on what it wrote, and
+  -- wrote nothing if it is refused; with both or neither of `--clear` and `--pass` it is refused before a
+  -- file is opened. Neither puts anything under a name. Other commands write nothing to the output, and
+  -- none of them reads the input.
   abbrev pub DoesOther : Request → Type 0
   DoesOther (Inspect None) =
       Reported ended (Reports before.input after.input before.output.taken after.output.taken)
-      Unprinted before.input.left before.output after.output
-  DoesOther (Inspect (Some name)) = Unread × Reported ended (ReportsFile IsOver shows name.now
-      (before.files.entries name.now) before.output.taken after.output.taken) Unprinted
-      (seen shows (before.files.entries name.now)) before.output after.output
-      × (shows ≡ true → IfErr ended (λ e. e ≡ Fault Read
-      → IsUnread before.files.entries after.files.events Failed))
-      × (after.files.ended ≡ before.files.ended)
+      Unprinted (ReportsFault before.input after.input) before.output after.output
+      × (after.files ≡ before.files)
+  DoesOther (Inspect (Some name)) =
+      let Came = CameSince before.files after.files in
+      Unread × Reported ended (ReportsFile Came name.now before.output.taken after.output.taken)
+      Unprinted (GaveFault Came name.now) before.output after.output
+      × IfErr ended (λ e. e ≡ Fault Read → IsUnread Came Failed ⊎ Came Unfit)
+      × Does (Opened name.now ∷ []) before.files after.files
   DoesOther (Drill d) = Unread × OnOk ended (after.output.settled ≡ true)
       × IfErr ended (λ e. IsUsage e → Unprinted) × (d.clear ≡ is_some (option_text d.pass)
       → (after.files.events ≡ before.files.events) × IsErrAnd ended IsUsage)
-      × (after.files.ended ≡ before.files.ended)
+      × Begins (order_asked (Drill d)).whole before.files after.files
   DoesOther other = Unread × Unprinted
 
   -- Words that make a request are obeyed.
@@ -99,7 +100,7 @@ module _ (words : List Text) (shows : Bool) (IsPorts : Ports → Type 0) (IsOver
     pub asked : Request
     pub made : Requests words asked
     -- What was done with files.
-    pub acts : Acts IsPorts IsOver shows asked before.files after.files Failed Unshown Progress ended
+    pub acts : Acts IsPorts asked before.files after.files Failed Unshown Progress ended
     -- What was written to the output.
     pub answers : DoesOther asked
 
@@ -127,13 +128,12 @@ module _ (words : List Text) (shows : Bool) (IsPorts : Ports → Type 0) (IsOver
 -- ---- What a run did.
 
 -- What stands before and after a run with this status, of its words, and what was put to `faults`.
--- `IsOver` says which readings of files are over, `Failed` that a source of the files failed; `Quiet`,
--- `Unread`, `Unprinted` and `Unshown` say that `faults`, the input, the output and the progress are as
--- they were, and `Progress` what was shown of the progress.
-pub record Runs (words : List Text) (shows : Bool) (IsPorts : Ports → Type 0)
-    (IsOver : Reading → Type 0) (before after : World) (faults_old faults_new : SinkView)
-    (Failed Quiet Unread Unprinted Unshown : Type 0)
-    (Progress : Option (List ℕ) → Result (Unit {0}) Ending → Type 0) (status : ℕ) : Type 0 where
+-- `Failed` says that a source of the files failed; `Quiet`, `Unread`, `Unprinted` and `Unshown` that
+-- `faults`, the input, the output and the progress are as they were, and `Progress` what was shown of
+-- the progress.
+pub record Runs (words : List Text) (IsPorts : Ports → Type 0) (before after : World)
+    (faults_old faults_new : SinkView) (Failed Quiet Unread Unprinted Unshown : Type 0)
+    (Progress : Option Text → Result (Unit {0}) Ending → Type 0) (status : ℕ) : Type 0 where
   -- How it ended, which the status says: 0 means that all was done, 2 that the words are refused,
   -- and 1 that it stopped.
   pub ended : Result (Unit {0}) Ending
@@ -143,4 +143,4 @@ pub record Runs (words : List Text) (shows : Bool) (IsPorts : Ports → Type 0)
   -- Otherwise the line of a fault does, or the lines of two, unless the sink fails.
   pub reported : IfErr ended
       (λ e. ReportsEnding e faults_old.taken faults_new.taken faults_old.failed faults_new.failed)
-  pub obeys : Obeys words shows IsPorts IsOver before after Failed Unread Unprinted Unshown Progress ended
+  pub obeys : Obeys words IsPorts before after Failed Unread Unprinted Unshown Progress ended

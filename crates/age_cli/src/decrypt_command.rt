@@ -6,15 +6,15 @@ ghost use Rattle.age_file.specs.Runs.{ports};
 ghost use Rattle.age_cli_args.specs.Requests.{option_text};
 ghost use Rattle.age_cli_args.specs.declared.request.ProgressOption.TheVariants.{Silent, Shown};
 ghost use Rattle.age_cli_args.specs.declared.request.Request.TheVariants.{Decrypt};
-ghost use Rattle.age_command.specs.Identities.{IsEnough, IsSecretIn, file_bytes, file_of, allows_by};
-ghost use Rattle.age_command.specs.Identities.{refuses_by, IsSecretGiven};
+ghost use Rattle.age_command.specs.Identities.{IsEnough, IsSecretGiven, file_bytes, file_of, allows_by};
+ghost use Rattle.age_command.specs.Identities.{refuses_by};
 ghost use Rattle.age_io.specs.Io.{Named};
-ghost use Rattle.age_fileset.specs.FileSet.{ReadsOn, ReadSince};
+ghost use Rattle.age_fileset.specs.FileSet.{CameSince};
 ghost use Rattle.age_command.specs.Orders.{opening_event, NamesTwice, order_asked};
 ghost use Rattle.age_command.specs.Endings.{Tells};
 ghost use Rattle.age_command.specs.Files.{SourceFails};
-ghost use Rattle.age_cli.specs.Acts.{Acts, PortsOf, ShowsProgress, ShowsRun};
-ghost use Rattle.age_cli.specs.inner.Openings.{BlamesNames, IsReadAs, Judges};
+ghost use Rattle.age_cli.specs.Acts.{Acts, PortsOf, ShowsProgress, ShowsReadings, ShowsRun};
+ghost use Rattle.age_cli.specs.inner.Openings.{BlamesNames, Compares, IsReadAs, Judges};
 ghost use Rattle.age_cli.specs.inner.Rereadings.{DecryptsOpened};
 
 use crate::output::{Content, Output, begin_meter, end_meter, open_both};
@@ -29,9 +29,9 @@ use age_keys::KnownKey;
 use std::alloc::Global;
 
 /// Whether a name is given, and stands for the same file as another.
-pub(crate) fn is_given_as<F: FileSet>(files: &F, given: Option<&str>, name: &str) -> bool
-    ensures same { option_text given.entry ≡ Some name.now → result ≡ true }
-    ensures shown { F.shows_bytes ≡ true → result ≡ true → option_text given.entry ≡ Some name.now }
+pub(crate) fn is_given_as<F: FileSet>(files: &mut F, given: Option<&str>, name: &str) -> bool
+    ensures { Compares (F.view files.old) (F.view files.new) result
+        (option_text given.entry ≡ Some name.now) }
 {
     match given {
         Some(given) => files.is_same(given, name),
@@ -41,11 +41,8 @@ pub(crate) fn is_given_as<F: FileSet>(files: &F, given: Option<&str>, name: &str
 
 /// Whether a name stands for a file that a decryption reads: its input, or the file of what opens
 /// that.
-fn is_read<F: FileSet>(files: &F, asked: &Decrypting<'_>, name: &str) -> bool
-    ensures from { asked.now.from.now ≡ name.now → result ≡ true }
-    ensures pass { option_text asked.now.identity.pass ≡ Some name.now → result ≡ true }
-    ensures shared { option_text asked.now.identity.shared ≡ Some name.now → result ≡ true }
-    ensures shown { F.shows_bytes ≡ true → result ≡ true → IsReadAs asked.now name.now }
+fn is_read<F: FileSet>(files: &mut F, asked: &Decrypting<'_>, name: &str) -> bool
+    ensures { Compares (F.view files.old) (F.view files.new) result (IsReadAs asked.now name.now) }
 {
     files.is_same(asked.from, name)
         || is_given_as(files, asked.identity.pass, name)
@@ -54,10 +51,9 @@ fn is_read<F: FileSet>(files: &F, asked: &Decrypting<'_>, name: &str) -> bool
 
 /// Whether two files that have to differ are one: OUT must differ from each file that is read, and
 /// the file of `--save` from all of these and from OUT.
-pub(crate) fn names_a_file_twice<F: FileSet>(files: &F, asked: &Decrypting<'_>) -> bool
-    ensures twice { NamesTwice (order_asked (Decrypt asked.now)).apart → result ≡ true }
-    ensures shown { F.shows_bytes ≡ true → result ≡ true
-        → NamesTwice (order_asked (Decrypt asked.now)).apart }
+pub(crate) fn names_a_file_twice<F: FileSet>(files: &mut F, asked: &Decrypting<'_>) -> bool
+    ensures { Compares (F.view files.old) (F.view files.new) result
+        (NamesTwice (order_asked (Decrypt asked.now)).apart) }
 {
     if is_read(files, asked, asked.to) {
         return true;
@@ -80,12 +76,11 @@ pub(crate) fn read_secret<F: FileSet>(
     is_file_named_twice: bool,
     read: &[Option<&str>],
 ) -> Result<Option<Vec<u8>>, Ending>
-    ensures reads { ReadsOn (F.gave files.old) (F.gave files.new) }
-    ensures given { IfOk result (λ secret. IsSecretGiven (ReadSince (F.gave files.old)
-        (F.gave files.new)) (file_of choice.now) (file_bytes secret)) }
-    ensures judges { Judges (F.shows_bytes) (opening_event (file_of choice.now)) (F.view files.old)
-        (F.view files.new) (λ secret. IsSecretIn (F.view files.old).entries (file_of choice.now)
-        (file_bytes secret) × IsEnough (F.view files.old).entries choice.now (file_bytes secret))
+    ensures given { IfOk result (λ secret. IsSecretGiven (CameSince (F.view files.old)
+        (F.view files.new)) (file_of choice.now) (file_bytes secret)) }
+    ensures enough { IfOk result (λ secret. IsEnough (CameSince (F.view files.old)
+        (F.view files.new)) choice.now (file_bytes secret)) }
+    ensures judges { Judges (opening_event (file_of choice.now)) (F.view files.old) (F.view files.new)
         (is_file_named_twice ≡ true) (BlamesNames is_file_named_twice) (SourceFails F.In.view) result }
 {
     if is_file_named_twice {
@@ -120,9 +115,8 @@ fn open_text<F: FileSet, P: Meter>(
     ensures began { (name : List ℕ) → F.In.began source (Named name)
         → F.In.began result.source (Named name) }
     ensures silent { asked.now.progress ≡ Silent → progress.new ≡ progress.old }
-    ensures shown { asked.now.progress ≡ Shown → ShowsRun (F.shows_bytes)
-        (F.In.view source).supply.left (F.In.view result.source).supply (P.shown progress.old)
-        (P.shown progress.new) }
+    ensures shown { asked.now.progress ≡ Shown → ShowsRun (F.In.view source).supply
+        (F.In.view result.source).supply (P.shown progress.old) (P.shown progress.new) }
 {
     match asked.progress {
         ProgressOption::Silent => {
@@ -164,10 +158,10 @@ fn decrypt_opened<F: FileSet, E: Sink, P: Meter>(
     ensures announced { Tells announced.new result (E.view faults.old) (E.view faults.new)
         (faults.new ≡ faults.old) }
     ensures opened { DecryptsOpened (PortsOf F.In.view F.Out.view)
-        (ReadSince (F.gave files.old) (F.gave files.new)) (F.shows_bytes) asked.now
-        identity (ports (F.In.view source) (F.Out.view out.out)) (F.view files.old) (F.view files.new)
-        (progress.new ≡ progress.old)
-        (ShowsProgress (F.shows_bytes) (P.shown progress.old) (P.shown progress.new)) result }
+        (CameSince (F.view files.old) (F.view files.new)) asked.now identity
+        (ports (F.In.view source) (F.Out.view out.out)) (F.view files.old) (F.view files.new)
+        (progress.new ≡ progress.old) (λ coming left ended. ShowsReadings coming left
+        (P.shown progress.old) (P.shown progress.new) ended) result }
 {
     read_again::<Identity>();
     let is_reread = can_reread(files, &source, asked.save);
@@ -205,11 +199,10 @@ pub fn decrypt_file<F: FileSet, E: Sink, P: Meter>(
 ) -> Result<(), Ending>
     ensures announced { Tells announced.new result (E.view faults.old) (E.view faults.new)
         (faults.new ≡ faults.old) }
-    ensures acts { Acts (PortsOf F.In.view F.Out.view)
-        (ReadSince (F.gave files.old) (F.gave files.new)) (F.shows_bytes) (Decrypt asked.now)
-        (F.view files.old) (F.view files.new) (SourceFails F.In.view)
-        (progress.new ≡ progress.old)
-        (ShowsProgress (F.shows_bytes) (P.shown progress.old) (P.shown progress.new)) result }
+    ensures acts { Acts (PortsOf F.In.view F.Out.view) (Decrypt asked.now) (F.view files.old)
+        (F.view files.new) (SourceFails F.In.view) (progress.new ≡ progress.old)
+        (ShowsProgress (CameSince (F.view files.old) (F.view files.new)) (P.shown progress.old)
+        (P.shown progress.new)) result }
 {
     *announced = Announcement::Unmade;
     let is_file_named_twice = names_a_file_twice(files, asked);

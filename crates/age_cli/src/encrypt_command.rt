@@ -1,27 +1,26 @@
 //! The command that encrypts a file.
 
-ghost use Rattle.std.specs.Prelude.{◌≡◌, ◌<◌, ◌++◌, [], ◌∷◌, ℕ, List, Option, length};
+ghost use Rattle.std.specs.Prelude.{◌≡◌, ◌⊎◌, ◌<◌, [], ◌∷◌, ℕ, List, length};
 ghost use Rattle.std.specs.Prelude.{Some, true, IfOk, IfErr, IfSome, IfNone};
 ghost use Rattle.age_io.specs.Io.{Named, Origin};
-ghost use Rattle.age_io.specs.Supply.{Consumes};
-ghost use Rattle.age_fileset.specs.FileSet.{Event, Opened, ReadsOn, ReadSince, HasGiven, HasGivenAll};
+ghost use Rattle.age_io.specs.Supply.{Consumes, IsAtEnd};
+ghost use Rattle.age_fileset.specs.FileSet.{Opened, Does, CameSince, HasGiven, HasGivenAll};
 ghost use Rattle.age_cli_args.specs.Requests.{option_text};
 ghost use Rattle.age_cli_args.specs.declared.request.Request.TheVariants.{Encrypt};
 ghost use Rattle.age_command.specs.Endings.{EndsEarly, is_usage, Tells};
-ghost use Rattle.age_command.specs.Files.{SourceFails, HasReason};
+ghost use Rattle.age_command.specs.Files.{SourceFails, HasReason, HoldsOnly};
 ghost use Rattle.age_file.specs.Encrypts.{Encrypts, EncryptFails};
 ghost use Rattle.age_file.specs.Runs.{ports};
 ghost use Rattle.age_cli_args.specs.declared.request.ProgressOption.TheVariants.{Silent, Shown};
-ghost use Rattle.age_command.specs.Files.{Files};
 ghost use Rattle.age_command.specs.Identities.{IsPassphraseIn, file_bytes};
 ghost use Rattle.age_command.specs.Files.{without_line_feed};
 ghost use Rattle.age_keys.specs.Scrypt.{IsAllowed};
 ghost use Rattle.age_command.specs.Orders.{NamesTwice, order_asked, random_name};
 ghost use Rattle.age_command.specs.declared.ending.Ending.TheVariants.{Usage as UsageEnding};
 ghost use Rattle.age_command.specs.declared.ending.Usage.TheVariants.{BadPassphraseFile, BadRandomFile};
-ghost use Rattle.age_cli.specs.Acts.{Acts, IsBlamed, PortsOf, ShowsProgress, ShowsRun};
+ghost use Rattle.age_cli.specs.Acts.{Acts, IsBlamed, IsUnfit, PortsOf, ShowsProgress, ShowsRun};
 ghost use Rattle.age_cli.specs.Commands.{HoldsNoPassphrase, HoldsNoRandom, MakesSecret};
-ghost use Rattle.age_cli.specs.inner.Openings.{Judges, IsRandom, IsMaterialIn, IsMaterialGiven};
+ghost use Rattle.age_cli.specs.inner.Openings.{Compares, Judges, IsRandom, IsMaterialGiven};
 
 use crate::interruption::sealing_end;
 use crate::output::{Content, Output, begin_meter, conclude, end_meter, open_both};
@@ -51,11 +50,11 @@ fn random_in<S: Source>(alloc: Global, source: &mut S) -> Result<FileRandom, End
     ensures read { IfOk result (λ r. (bytes : List ℕ) × Consumes (S.view source.old).supply
         (S.view source.new).supply bytes × IsRandom bytes r) }
     ensures short { IfErr result (λ e. is_usage e ≡ true → (e ≡ UsageEnding BadRandomFile)
-        × ((bytes : List ℕ) → (S.view source.old).supply.left ≡ Some bytes → length bytes < 48)) }
+        × ((bytes : List ℕ) × Consumes (S.view source.old).supply (S.view source.new).supply bytes
+        × IsAtEnd (S.view source.new).supply × (length bytes < 48))) }
     ensures began { (from : Origin) → S.began source.old from → S.began source.new from }
     ensures early { IfErr result EndsEarly }
-    ensures reason { IfErr result (λ e. (old : Files) (events : List Event)
-        → HasReason old events (SourceFails S.view) e) }
+    ensures reason { IfErr result (HasReason (λ _. ⊥) (SourceFails S.view)) }
 {
     let bytes = read_first(alloc, source, RANDOM_LEN)?;
     match random_of(bytes.as_slice()) {
@@ -66,21 +65,16 @@ fn random_in<S: Source>(alloc: Global, source: &mut S) -> Result<FileRandom, End
 
 /// The random parts, from the first 48 bytes of a file.
 fn read_random<F: FileSet>(alloc: Global, files: &mut F, name: &str) -> Result<FileRandom, Ending>
-    ensures kept { (F.view files.new).entries ≡ (F.view files.old).entries }
-    ensures unended { (F.view files.new).ended ≡ (F.view files.old).ended }
-    ensures reads { ReadsOn (F.gave files.old) (F.gave files.new) }
+    ensures does { Does (Opened name.now ∷ []) (F.view files.old) (F.view files.new) }
     ensures given { IfOk result (λ r. (bytes : List ℕ)
-        × HasGiven (ReadSince (F.gave files.old) (F.gave files.new)) name.now bytes
+        × HasGiven (CameSince (F.view files.old) (F.view files.new)) name.now bytes
         × IsRandom bytes r) }
-    ensures read { IfOk result (λ r. F.shows_bytes ≡ true
-        → (bytes : List ℕ) × (rest : List ℕ)
-        × ((F.view files.old).entries name.now ≡ Some (bytes ++ rest)) × IsRandom bytes r) }
-    ensures short { F.shows_bytes ≡ true → IfErr result (λ e. is_usage e ≡ true
-        → (e ≡ UsageEnding BadRandomFile) × HoldsNoRandom ((F.view files.old).entries name.now)) }
-    ensures noted { (F.view files.new).events ≡ (F.view files.old).events ++ Opened name.now ∷ [] }
+    ensures short { IfErr result (λ e. is_usage e ≡ true → ((e ≡ UsageEnding BadRandomFile)
+        × HoldsOnly (CameSince (F.view files.old) (F.view files.new)) name.now HoldsNoRandom)
+        ⊎ IsUnfit (CameSince (F.view files.old) (F.view files.new)) e) }
     ensures early { IfErr result EndsEarly }
-    ensures reason { F.shows_bytes ≡ true → IfErr result (HasReason (F.view files.old).entries
-        (F.view files.new).events (SourceFails F.In.view)) }
+    ensures reason { IfErr result (HasReason (CameSince (F.view files.old) (F.view files.new))
+        (SourceFails F.In.view)) }
 {
     let mut source = files.open(alloc, name)?;
     let random = random_in(alloc, &mut source);
@@ -112,21 +106,16 @@ fn read_pass<F: FileSet>(
     files: &mut F,
     asked: &Encrypting<'_>,
 ) -> Result<Vec<u8>, Ending>
-    ensures kept { (F.view files.new).entries ≡ (F.view files.old).entries }
-    ensures unended { (F.view files.new).ended ≡ (F.view files.old).ended }
-    ensures noted { (F.view files.new).events
-        ≡ (F.view files.old).events ++ Opened asked.now.pass.now ∷ [] }
+    ensures does { Does (Opened asked.now.pass.now ∷ []) (F.view files.old) (F.view files.new) }
     ensures early { IfErr result EndsEarly }
-    ensures reason { F.shows_bytes ≡ true → IfErr result (HasReason (F.view files.old).entries
-        (F.view files.new).events (SourceFails F.In.view)) }
-    ensures reads { ReadsOn (F.gave files.old) (F.gave files.new) }
-    ensures given { IfOk result (λ v. HasGivenAll (ReadSince (F.gave files.old) (F.gave files.new))
+    ensures reason { IfErr result (HasReason (CameSince (F.view files.old) (F.view files.new))
+        (SourceFails F.In.view)) }
+    ensures given { IfOk result (λ v. HasGivenAll (CameSince (F.view files.old) (F.view files.new))
         asked.now.pass.now v.items) }
-    ensures read { IfOk result
-        (λ v. F.shows_bytes ≡ true → (F.view files.old).entries asked.now.pass.now ≡ Some v.items) }
-    ensures refused { F.shows_bytes ≡ true → IfErr result (λ e. is_usage e ≡ true
-        → (e ≡ UsageEnding BadPassphraseFile)
-        × HoldsNoPassphrase ((F.view files.old).entries asked.now.pass.now) asked.now.log) }
+    ensures refused { IfErr result (λ e. is_usage e ≡ true → ((e ≡ UsageEnding BadPassphraseFile)
+        × HoldsOnly (CameSince (F.view files.old) (F.view files.new)) asked.now.pass.now
+        (HoldsNoPassphrase asked.now.log))
+        ⊎ IsUnfit (CameSince (F.view files.old) (F.view files.new)) e) }
 {
     let choice = Choice::PassphraseFile(asked.pass, asked.log);
     let held = choice.read(alloc, files)?;
@@ -154,10 +143,9 @@ fn random_name<'a>(asked: &Encrypting<'a>) -> &'a str
 }
 
 /// Whether the output is one of the files that are read.
-fn names_out_twice<F: FileSet>(files: &F, asked: &Encrypting<'_>) -> bool
-    ensures twice { NamesTwice (order_asked (Encrypt asked.now)).apart → result ≡ true }
-    ensures shown { F.shows_bytes ≡ true → result ≡ true
-        → NamesTwice (order_asked (Encrypt asked.now)).apart }
+fn names_out_twice<F: FileSet>(files: &mut F, asked: &Encrypting<'_>) -> bool
+    ensures { Compares (F.view files.old) (F.view files.new) result
+        (NamesTwice (order_asked (Encrypt asked.now)).apart) }
 {
     files.is_same(asked.from, asked.to)
         || files.is_same(asked.pass, asked.to)
@@ -171,16 +159,13 @@ fn read_material<F: FileSet>(
     files: &mut F,
     asked: &Encrypting<'_>,
 ) -> Result<Material, Ending>
-    ensures reads { ReadsOn (F.gave files.old) (F.gave files.new) }
     ensures given { IfOk result
-        (IsMaterialGiven (ReadSince (F.gave files.old) (F.gave files.new)) asked.now) }
-    ensures judges { Judges (F.shows_bytes)
+        (IsMaterialGiven (CameSince (F.view files.old) (F.view files.new)) asked.now) }
+    ensures judges { Judges
         (Opened asked.now.pass.now ∷ Opened (random_name (option_text asked.now.random)) ∷ [])
-        (F.view files.old) (F.view files.new)
-        (IsMaterialIn ((F.view files.old).entries asked.now.pass.now)
-        ((F.view files.old).entries (random_name (option_text asked.now.random))))
-        (NamesTwice (order_asked (Encrypt asked.now)).apart)
-        (IsBlamed (Encrypt asked.now) (F.view files.old).entries) (SourceFails F.In.view) result }
+        (F.view files.old) (F.view files.new) (NamesTwice (order_asked (Encrypt asked.now)).apart)
+        (IsBlamed (CameSince (F.view files.old) (F.view files.new)) (Encrypt asked.now))
+        (SourceFails F.In.view) result }
 {
     if names_out_twice(files, asked) {
         return Err(Ending::Usage(Usage::SameFile));
@@ -197,11 +182,10 @@ fn read_material<F: FileSet>(
 
 /// The secret of a work factor and of what it is made of.
 fn secret_of<'a>(asked: &Encrypting<'_>, material: &'a Material) -> Result<Secret<'a>, Usage>
-    ensures makes { IfOk result (λ secret. (pass random : Option (List ℕ))
-        → IsMaterialIn pass random material.now → MakesSecret asked.now pass random secret) }
+    ensures makes { IfOk result (λ secret. (random : List ℕ) → IsRandom random material.now.random
+        → MakesSecret asked.now (Some material.now.pass.items) (Some random) secret) }
     ensures none { IfErr result (λ usage. (usage ≡ BadPassphraseFile)
-        × ((pass random : Option (List ℕ)) → IsMaterialIn pass random material.now
-        → HoldsNoPassphrase pass asked.now.log)) }
+        × HoldsNoPassphrase asked.now.log material.now.pass.items) }
 {
     match Secret::new(
         trimmed(material.pass.as_slice()),
@@ -242,9 +226,8 @@ fn seal_text<F: FileSet, P: Meter>(
     ensures began { (name : List ℕ) → F.In.began source (Named name)
         → F.In.began result.source (Named name) }
     ensures silent { asked.now.progress ≡ Silent → progress.new ≡ progress.old }
-    ensures shown { asked.now.progress ≡ Shown → ShowsRun (F.shows_bytes)
-        (F.In.view source).supply.left (F.In.view result.source).supply (P.shown progress.old)
-        (P.shown progress.new) }
+    ensures shown { asked.now.progress ≡ Shown → ShowsRun (F.In.view source).supply
+        (F.In.view result.source).supply (P.shown progress.old) (P.shown progress.new) }
 {
     match asked.progress {
         ProgressOption::Silent => {
@@ -280,11 +263,10 @@ pub fn encrypt_file<F: FileSet, E: Sink, P: Meter>(
 ) -> Result<(), Ending>
     ensures announced { Tells announced.new result (E.view faults.old) (E.view faults.new)
         (faults.new ≡ faults.old) }
-    ensures acts { Acts (PortsOf F.In.view F.Out.view)
-        (ReadSince (F.gave files.old) (F.gave files.new)) (F.shows_bytes) (Encrypt asked.now)
-        (F.view files.old) (F.view files.new) (SourceFails F.In.view)
-        (progress.new ≡ progress.old)
-        (ShowsProgress (F.shows_bytes) (P.shown progress.old) (P.shown progress.new)) result }
+    ensures acts { Acts (PortsOf F.In.view F.Out.view) (Encrypt asked.now) (F.view files.old)
+        (F.view files.new) (SourceFails F.In.view) (progress.new ≡ progress.old)
+        (ShowsProgress (CameSince (F.view files.old) (F.view files.new)) (P.shown progress.old)
+        (P.shown progress.new)) result }
 {
     *announced = Announcement::Unmade;
     let material = read_material(alloc, files, asked)?;

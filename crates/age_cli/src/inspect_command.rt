@@ -1,14 +1,13 @@
 //! The command that reports what a file holds.
 
-ghost use Rattle.std.specs.Prelude.{◌≡◌, ◌⊎◌, [], ◌∷◌, ◌++◌, true, IfOk, OnOk, IfErr, IfSome, Some};
-ghost use Rattle.std.specs.Prelude.{option_map, length};
+ghost use Rattle.std.specs.Prelude.{◌≡◌, ◌⊎◌, [], ◌∷◌, IfOk, OnOk, IfErr, IfSome, length, true};
 ghost use Rattle.age_io.specs.Taken.{Appends};
-ghost use Rattle.age_file.specs.Runs.{HeadFails, NoHeadFault};
+ghost use Rattle.age_file.specs.Runs.{HeadFails, NoHeadFault, ReportsFault};
 ghost use Rattle.age_file.specs.declared.report.Report.{Report};
 ghost use Rattle.age_command.specs.declared.ending.Ending.TheVariants.{Fault};
 ghost use Rattle.age_io.specs.Io.{Origin};
-ghost use Rattle.age_fileset.specs.FileSet.{Opened, ReadSince};
-ghost use Rattle.age_cli.specs.Commands.{Reports, ReportsFile, FailsReport, report_text, seen};
+ghost use Rattle.age_fileset.specs.FileSet.{Opened, Unfit, Does, CameSince};
+ghost use Rattle.age_cli.specs.Commands.{Reports, ReportsFile, FailsReport, GaveFault, report_text};
 ghost use Rattle.age_cli.specs.inner.Reported.{IsInspected};
 ghost use Rattle.age_cli.specs.Runs.{FailsWriting};
 ghost use Rattle.age_command.specs.Files.{IsUnread, SourceFails};
@@ -48,7 +47,8 @@ fn write_report<I: Source, O: Sink>(
     ensures done { OnOk result ((r : Report)
         × IsInspected length (I.view input.old).supply (I.view input.new).supply r
         × Appends (O.view output.old).taken (O.view output.new).taken (report_text r)) }
-    ensures fails { IfErr result (λ f. FailsReport (I.view input.old).supply.left (Fault f)) }
+    ensures fails { IfErr result (λ f. FailsReport (ReportsFault (I.view input.old).supply
+        (I.view input.new).supply) (Fault f)) }
     ensures sent { OnOk result ((O.view output.new).settled ≡ true) }
     ensures began { (from : Origin) → I.began input.old from → I.began input.new from }
     ensures unprinted { IfErr result (λ f.
@@ -73,7 +73,8 @@ fn report_as<I: Source, O: Sink>(
     ensures done { OnOk result ((r : Report)
         × IsInspected length (I.view input.old).supply (I.view input.new).supply r
         × Appends (O.view output.old).taken (O.view output.new).taken (report_text r)) }
-    ensures fails { IfErr result (FailsReport (I.view input.old).supply.left) }
+    ensures fails { IfErr result (FailsReport (ReportsFault (I.view input.old).supply
+        (I.view input.new).supply)) }
     ensures began { (from : Origin) → I.began input.old from → I.began input.new from }
     ensures sent { OnOk result ((O.view output.new).settled ≡ true) }
     ensures unprinted { IfErr result (λ e. FailsWriting (O.view output.old) (O.view output.new) e
@@ -93,7 +94,8 @@ pub(crate) fn report<I: Source, O: Sink>(
     ensures done { OnOk result
         (Reports (I.view input.old).supply (I.view input.new).supply (O.view output.old).taken
         (O.view output.new).taken) }
-    ensures fails { IfErr result (FailsReport (I.view input.old).supply.left) }
+    ensures fails { IfErr result (FailsReport (ReportsFault (I.view input.old).supply
+        (I.view input.new).supply)) }
     ensures began { (from : Origin) → I.began input.old from → I.began input.new from }
     ensures sent { OnOk result ((O.view output.new).settled ≡ true) }
     ensures unprinted { IfErr result (λ e. FailsWriting (O.view output.old) (O.view output.new) e
@@ -106,8 +108,8 @@ pub(crate) fn report<I: Source, O: Sink>(
 
 /// How long an input is, if that can be believed: a file of no length may give bytes, as in /proc.
 fn known_length<F: FileSet>(files: &F, source: &F::In) -> Option<u64>
-    ensures { F.shows_bytes ≡ true
-        → IfSome result (λ n. option_map length (F.In.view source.now).supply.left ≡ Some n) }
+    ensures { IfSome (F.In.view source.now).supply.left
+        (λ bytes. IfSome result (λ n. n ≡ length bytes)) }
 {
     match files.length(source) {
         Some(len) if len > 0 => Some(len),
@@ -123,19 +125,17 @@ pub(crate) fn report_file<F: FileSet, O: Sink>(
     name: &str,
     output: &mut O,
 ) -> Result<(), Ending>
-    ensures kept { (F.view files.new).entries ≡ (F.view files.old).entries }
-    ensures unended { (F.view files.new).ended ≡ (F.view files.old).ended }
-    ensures noted { (F.view files.new).events ≡ (F.view files.old).events ++ Opened name.now ∷ [] }
-    ensures done { OnOk result (ReportsFile (ReadSince (F.gave files.old) (F.gave files.new))
-        (F.shows_bytes) name.now ((F.view files.old).entries name.now)
+    ensures does { Does (Opened name.now ∷ []) (F.view files.old) (F.view files.new) }
+    ensures done { OnOk result (ReportsFile (CameSince (F.view files.old) (F.view files.new)) name.now
         (O.view output.old).taken (O.view output.new).taken) }
-    ensures fails { IfErr result (FailsReport
-        (seen (F.shows_bytes) ((F.view files.old).entries name.now))) }
+    ensures fails { IfErr result
+        (FailsReport (GaveFault (CameSince (F.view files.old) (F.view files.new)) name.now)) }
     ensures sent { OnOk result ((O.view output.new).settled ≡ true) }
     ensures unprinted { IfErr result (λ e. FailsWriting (O.view output.old) (O.view output.new) e
         ⊎ (output.new ≡ output.old)) }
-    ensures unread { F.shows_bytes ≡ true → IfErr result (λ e. e ≡ Fault Read
-        → IsUnread (F.view files.old).entries (F.view files.new).events (SourceFails F.In.view)) }
+    ensures unread { IfErr result (λ e. e ≡ Fault Read
+        → IsUnread (CameSince (F.view files.old) (F.view files.new)) (SourceFails F.In.view)
+        ⊎ CameSince (F.view files.old) (F.view files.new) Unfit) }
 {
     let mut source = match files.open(alloc, name) {
         Ok(source) => source,

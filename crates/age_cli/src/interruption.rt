@@ -1,15 +1,15 @@
 //! How a command that writes a text stops, and where its position goes.
 
-ghost use Rattle.std.specs.Prelude.{◌≡◌, ◌⊎◌, true, false, None, OnOk, IfErr, IfSome, IsErr};
+ghost use Rattle.std.specs.Prelude.{◌≡◌, ◌⊎◌, ◌++◌, [], ◌≤◌, ◌*◌, List, true, false, None, OnOk, IfErr};
 ghost use Rattle.std.specs.Prelude.{IsSomeAnd, is_some};
+ghost use Rattle.age_chunk.specs.Payload.{chunk_length};
+ghost use Rattle.age_fault.specs.declared.fault.FileFault.TheVariants.{Write};
+ghost use Rattle.age_fileset.specs.FileSet.{Entry, PutsOnly, IsMemoryOr, put_as};
 ghost use Rattle.age_cli_args.specs.Requests.{option_text};
 ghost use Rattle.age_command.specs.Endings.{is_usage, Announces};
-ghost use Rattle.age_cli.specs.Acts.{SaveFails, EndsOf, IsEndingOf, HasPut};
+ghost use Rattle.age_cli.specs.Acts.{IsEndingOf, LacksOne};
 ghost use Rattle.age_command.specs.Orders.{Follows, replacing};
-ghost use Rattle.age_command.specs.Files.{SparesBoth};
-ghost use Rattle.age_cli.specs.inner.Endings.{sealing_end, opening_end, IsBeyond, IsUnsaved};
-ghost use Rattle.age_cli.specs.inner.Endings.{IsNotDue, LacksOne};
-ghost use Rattle.age_cli.specs.inner.Openings.{IsStored};
+ghost use Rattle.age_cli.specs.inner.Endings.{sealing_end, opening_end, IsStored, IsNotDue};
 ghost use Rattle.age_machine.specs.Saved.{Saves};
 ghost use Rattle.age_file.specs.Resumes.{position_text};
 
@@ -75,22 +75,17 @@ pub(crate) fn save<F: FileSet>(
     settled: u64,
     durability: Durability,
 ) -> Result<(), FileFault>
-    ensures saved { OnOk result (F.shows_bytes ≡ true → IsStored (option_text name.entry) position
-        (F.view files.old).entries (F.view files.new).entries) }
-    ensures unsaved { IfErr result (λ second. SaveFails (option_text name.entry) position
-        (F.view files.old).entries (F.view files.new).entries second) }
-    ensures beyond { IfSome position (λ p. IsBeyond settled p
-        → is_some (option_text name.entry) ≡ true
-        → IsErr result × ((F.view files.new).events ≡ (F.view files.old).events)) }
     ensures noted { Follows (replacing (option_text name.entry) durability)
         (F.view files.old).events (F.view files.new).events }
     ensures unended { (F.view files.new).ended ≡ (F.view files.old).ended }
-    ensures unread { F.gave files.new ≡ F.gave files.old }
-    ensures put { (((F.view files.new).events ≡ (F.view files.old).events)
+    ensures put { ((F.view files.new ≡ F.view files.old)
         × OnOk result (LacksOne (option_text name.entry) position)) ⊎ IsSomeAnd position
-        (λ p. Saves (position_text p) durability result (F.view files.new).saved) }
-    ensures others { F.shows_bytes ≡ true → SparesBoth None (option_text name.entry)
-        (F.view files.old).entries (F.view files.new).entries }
+        (λ p. Saves (position_text p) durability result (F.view files.new).saved
+        × (p.index * chunk_length ≤ settled)
+        × IsSomeAnd (option_text name.entry) (λ to. (F.view files.new).outcomes
+        ≡ (F.view files.old).outcomes ++ put_as to (position_text p) result)) }
+    ensures unsaved { IfErr result (λ second. IsMemoryOr Write second
+        × (is_some (option_text name.entry) ≡ true) × (is_some position ≡ true)) }
 {
     let (Some(name), Some(position)) = (name, position) else {
         return Ok(());
@@ -117,20 +112,14 @@ pub(crate) fn end_of<F: FileSet, E: Sink>(
     ensures announced { Announces announced.new result (E.view faults.old) (E.view faults.new) ⊥ }
     ensures fault { is_usage result ≡ false }
     ensures reported { IsEndingOf stop.fault result }
-    ensures ends { F.shows_bytes ≡ true → EndsOf stop.fault (option_text name.entry) stop.position
-        (F.view files.old).entries (F.view files.new).entries result }
-    ensures beyond { IfSome stop.position (λ p. IsBeyond settled p
-        → is_some (option_text name.entry) ≡ true
-        → IsUnsaved result × ((F.view files.new).events ≡ (F.view files.old).events)) }
     ensures noted { Follows (replacing (option_text name.entry) durability)
         (F.view files.old).events (F.view files.new).events }
     ensures unended { (F.view files.new).ended ≡ (F.view files.old).ended }
-    ensures unread { F.gave files.new ≡ F.gave files.old }
-    ensures put { (((F.view files.new).events ≡ (F.view files.old).events)
+    ensures put { (rest : List Entry) × PutsOnly rest (F.view files.old) (F.view files.new)
+        × (((rest ≡ []) × ((F.view files.new).events ≡ (F.view files.old).events)
         × IsNotDue result (option_text name.entry) stop.position)
-        ⊎ HasPut durability stop.position result (F.view files.new).saved }
-    ensures others { F.shows_bytes ≡ true → SparesBoth None (option_text name.entry)
-        (F.view files.old).entries (F.view files.new).entries }
+        ⊎ IsStored durability (option_text name.entry) settled stop.position result rest
+        (F.view files.new).saved) }
 {
     *announced = announce(faults, stop.fault);
     match save(alloc, files, name, stop.position, settled, durability) {

@@ -1,19 +1,22 @@
 //! How the input and the output of a command are opened, and how the output is ended.
 
-ghost use Rattle.std.specs.Prelude.{◌≡◌, [], ◌∷◌, ◌++◌, Some, None, true, false, is_some, IfErr, ℕ};
-ghost use Rattle.std.specs.Prelude.{Option, option_map, length, OnErr, IfOk, IfSome, IsErrAnd, IsSomeAnd};
+ghost use Rattle.std.specs.Prelude.{◌≡◌, ◌⊎◌, [], ◌∷◌, ◌++◌, Some, true, is_some, IfErr, ℕ, List};
+ghost use Rattle.std.specs.Prelude.{Option, length, OnOk, OnErr, IfOk, IfSome, IsSomeAnd};
 ghost use Rattle.age_io.specs.Io.{Adds, Begins, Ends, Named};
 ghost use Rattle.age_fault.specs.declared.fault.FileFault.TheVariants.{Write};
-ghost use Rattle.age_fileset.specs.FileSet.{Opened, Closed, OpenFails};
+ghost use Rattle.age_fileset.specs.FileSet.{Opened, Closed, Found, Absent, Unwritten, Settled, Unfit};
+ghost use Rattle.age_fileset.specs.FileSet.{Entry, Does, PutsOnly, CameSince, OpenFails};
+ghost use Rattle.age_fileset.specs.declared.files.OpenFault.TheVariants.{SameFile, Fault};
 ghost use Rattle.age_cli_args.specs.Requests.{option_text};
+ghost use Rattle.age_cli_args.specs.declared.request.ClobberOption.TheVariants.{Refused};
 ghost use Rattle.age_command.specs.Endings.{EndsEarly, is_usage, Tells};
-ghost use Rattle.age_command.specs.Files.{SourceFails, HasReason, SparesBut};
+ghost use Rattle.age_command.specs.Files.{SourceFails, HasReason};
+ghost use Rattle.age_command.specs.declared.ending.Usage.TheVariants as usage;
 ghost use Rattle.age_command.specs.Orders.{creating, preparing, making};
 ghost use Rattle.age_file.specs.Runs.{ports};
-ghost use Rattle.age_cli.specs.Acts.{AreNew};
-ghost use Rattle.age_cli.specs.inner.Endings.{Concludes, EndsOut, IsBeyond, IsPut, IsCertain, IsUnsaved};
-ghost use Rattle.age_cli.specs.inner.Endings.{LeavesFile};
-ghost use Rattle.age_cli.specs.inner.Openings.{IsFresh, OpensFiles};
+ghost use Rattle.age_cli.specs.Acts.{AreNew, IsUnfit};
+ghost use Rattle.age_cli.specs.inner.Endings.{Concludes, EndsOut, IsPut, LeavesFile};
+ghost use Rattle.age_cli.specs.inner.Openings.{OpensFiles};
 
 use crate::interruption::{Interruption, end_of};
 use crate::taking::Taking;
@@ -49,16 +52,31 @@ pub(crate) struct Output<'a> {
     pub(crate) content: Content,
 }
 
-/// Why what was opened can't be the output: it is a terminal, which is no place for an age file, or
-/// progress and faults go there.
-fn refusal_of<F: FileSet>(files: &F, out: &F::Out, content: Content) -> Option<Usage>
-    ensures { F.shows_bytes ≡ true → result ≡ None }
+/// Whether an output is a terminal, which can't show what it is to hold.
+fn is_unshown<F: FileSet>(files: &mut F, out: &F::Out, content: Content) -> bool
+    ensures does { Does [] (F.view files.old) (F.view files.new) }
+    ensures unfit { result ≡ true → CameSince (F.view files.old) (F.view files.new) Unfit }
 {
     match content {
-        Content::AgeFile if files.is_terminal(out) => Some(Usage::OutIsTerminal),
-        _ if files.is_for_faults(out) => Some(Usage::SameFile),
-        _ => None,
+        Content::AgeFile => files.is_terminal(out),
+        Content::Plaintext => false,
     }
+}
+
+/// Why what was opened can't be the output: it is a terminal, which is no place for an age file, or
+/// progress and faults go there.
+fn refusal_of<F: FileSet>(files: &mut F, out: &F::Out, content: Content) -> Option<Usage>
+    ensures does { Does [] (F.view files.old) (F.view files.new) }
+    ensures unfit { IfSome result (λ u. ((u ≡ usage.SameFile) ⊎ (u ≡ usage.OutIsTerminal))
+        × CameSince (F.view files.old) (F.view files.new) Unfit) }
+{
+    if is_unshown(files, out, content) {
+        return Some(Usage::OutIsTerminal);
+    }
+    if files.is_for_faults(out) {
+        return Some(Usage::SameFile);
+    }
+    None
 }
 
 /// Opens the output, or makes it if one that is there is refused.
@@ -67,17 +85,17 @@ fn make_out<F: FileSet>(
     files: &mut F,
     asked: &Output<'_>,
 ) -> Result<F::Out, OpenFault>
-    ensures kept { (F.view files.new).entries ≡ (F.view files.old).entries }
-    ensures unended { (F.view files.new).ended ≡ (F.view files.old).ended }
-    ensures unread { F.gave files.new ≡ F.gave files.old }
-    ensures made { IfOk result (λ o. F.shows_bytes ≡ true
-        → ((F.Out.view o).taken.contents ≡ Some []) × ((F.Out.view o).label ≡ asked.now.to.now)
-        × IsFresh asked.now.clobber ((F.view files.old).entries asked.now.to.now)) }
+    ensures does { Does (creating asked.now.clobber asked.now.to.now ∷ []) (F.view files.old)
+        (F.view files.new) }
     ensures begun { IfOk result (λ o. ((F.Out.view o).taken.bytes ≡ [])
-        × ((F.Out.view o).failed ≡ 0)) }
-    ensures noted { (F.view files.new).events
-        ≡ (F.view files.old).events ++ creating asked.now.clobber asked.now.to.now ∷ [] }
-    ensures faults { IfErr result (OpenFails (F.shows_bytes) Write) }
+        × ((F.Out.view o).failed ≡ 0) × ((F.Out.view o).label ≡ asked.now.to.now)) }
+    ensures fresh { OnOk result (asked.now.clobber ≡ Refused
+        → CameSince (F.view files.old) (F.view files.new) (Absent asked.now.to.now)) }
+    ensures faults { IfErr result (OpenFails Write) }
+    ensures reason { IfErr result (λ f. f ≡ Fault Write
+        → CameSince (F.view files.old) (F.view files.new) (Unwritten asked.now.to.now)) }
+    ensures unfit { IfErr result (λ f. f ≡ SameFile
+        → CameSince (F.view files.old) (F.view files.new) Unfit) }
 {
     match asked.clobber {
         ClobberOption::Allowed => files.create(alloc, asked.to),
@@ -92,13 +110,12 @@ fn create_out<F: FileSet>(
     files: &mut F,
     asked: &Output<'_>,
 ) -> Result<Taking<F>, Ending>
-    ensures unread { F.gave files.new ≡ F.gave files.old }
-    ensures opens { OpensFiles (F.shows_bytes) (creating asked.now.clobber asked.now.to.now ∷ [])
-        (making asked.now.clobber (Some asked.now.to.now) asked.now.durability) (F.view files.old)
-        (F.view files.new) (λ o. ((F.Out.view o.out).taken.contents ≡ Some [])
-        × ((F.Out.view o.out).label ≡ asked.now.to.now)
-        × IsFresh asked.now.clobber ((F.view files.old).entries asked.now.to.now))
-        (λ o. ((F.Out.view o.out).taken.bytes ≡ []) × ((F.Out.view o.out).failed ≡ 0))
+    ensures { OpensFiles (creating asked.now.clobber asked.now.to.now ∷ [])
+        (making asked.now.clobber (Some asked.now.to.now) asked.now.durability)
+        (F.view files.old) (F.view files.new)
+        (λ o. ((F.Out.view o.out).taken.bytes ≡ []) × ((F.Out.view o.out).failed ≡ 0)
+        × ((F.Out.view o.out).label ≡ asked.now.to.now) × (asked.now.clobber ≡ Refused
+        → CameSince (F.view files.old) (F.view files.new) (Absent asked.now.to.now)))
         (SourceFails F.In.view) result }
 {
     let out = make_out(alloc, files, asked)?;
@@ -114,15 +131,12 @@ fn create_out<F: FileSet>(
 /// Prepares the file of `save`, if there is one, unless it turns out to be a file that is read,
 /// other than the file of the position.
 fn prepare_save<F: FileSet>(alloc: Global, files: &mut F, asked: &Output<'_>) -> Result<(), Ending>
-    ensures kept { (F.view files.new).entries ≡ (F.view files.old).entries }
-    ensures unended { (F.view files.new).ended ≡ (F.view files.old).ended }
-    ensures unread { F.gave files.new ≡ F.gave files.old }
-    ensures noted { (F.view files.new).events
-        ≡ (F.view files.old).events ++ preparing (option_text asked.now.save) }
+    ensures does { Does (preparing (option_text asked.now.save)) (F.view files.old) (F.view files.new) }
     ensures early { IfErr result EndsEarly }
-    ensures reason { F.shows_bytes ≡ true → IfErr result (HasReason (F.view files.old).entries
-        (F.view files.new).events (SourceFails F.In.view)) }
-    ensures fault { F.shows_bytes ≡ true → IfErr result (λ e. is_usage e ≡ false) }
+    ensures reason { IfErr result (HasReason (CameSince (F.view files.old) (F.view files.new))
+        (SourceFails F.In.view)) }
+    ensures fault { IfErr result (λ e. is_usage e ≡ true
+        → IsUnfit (CameSince (F.view files.old) (F.view files.new)) e) }
 {
     match asked.save {
         Some(save) => Ok(files.prepare(alloc, save, asked.position)?),
@@ -138,20 +152,17 @@ pub(crate) fn open_both<F: FileSet>(
     from: &str,
     asked: &Output<'_>,
 ) -> Result<(F::In, Taking<F>), Ending>
-    ensures unread { F.gave files.new ≡ F.gave files.old }
-    ensures opens { OpensFiles (F.shows_bytes)
+    ensures { OpensFiles
         (Opened from.now ∷ (preparing (option_text asked.now.save)
         ++ creating asked.now.clobber asked.now.to.now ∷ []))
         (Opened from.now ∷ (preparing (option_text asked.now.save)
         ++ making asked.now.clobber (Some asked.now.to.now) asked.now.durability))
         (F.view files.old) (F.view files.new)
-        (λ both. ((is_some ((F.view files.old).entries from.now) ≡ true)
-        × ((F.In.view both.0).supply.left ≡ (F.view files.old).entries from.now)
-        × ((F.Out.view both.1.out).taken.contents ≡ Some [])
-        × ((F.Out.view both.1.out).label ≡ asked.now.to.now))
-        × IsFresh asked.now.clobber ((F.view files.old).entries asked.now.to.now))
         (λ both. AreNew (ports (F.In.view both.0) (F.Out.view both.1.out))
-        × F.In.began both.0 (Named from.now))
+        × F.In.began both.0 (Named from.now) × ((F.Out.view both.1.out).label ≡ asked.now.to.now)
+        × CameSince (F.view files.old) (F.view files.new) (Found from.now (F.In.view both.0).supply.left)
+        × (asked.now.clobber ≡ Refused
+        → CameSince (F.view files.old) (F.view files.new) (Absent asked.now.to.now)))
         (SourceFails F.In.view) result }
 {
     let source = files.open(alloc, from)?;
@@ -162,8 +173,8 @@ pub(crate) fn open_both<F: FileSet>(
 
 /// Shows a meter that a reading of an input begins, with its length if the set of files can say it.
 pub(crate) fn begin_meter<F: FileSet, M: Meter>(files: &F, source: &F::In, meter: &mut M)
-    ensures { (size : Option ℕ) × (F.shows_bytes ≡ true
-        → size ≡ option_map length (F.In.view source.now).supply.left)
+    ensures { (size : Option ℕ)
+        × IfSome (F.In.view source.now).supply.left (λ bytes. size ≡ Some (length bytes))
         × Adds (M.shown meter.old) (M.shown meter.new) (Begins size) }
 {
     meter.begin(files.length(source));
@@ -178,15 +189,11 @@ pub(crate) fn end_meter<M: Meter>(meter: &mut M)
 
 /// Ends the output of an engine that stopped: with what was written, or as it was, if nothing was.
 pub(crate) fn leave<F: FileSet>(files: &mut F, out: Taking<F>, durability: Durability)
-    ensures left { F.shows_bytes ≡ true → IsPut (F.Out.view out.out).taken.contents
-        ((F.view files.old).entries (F.Out.view out.out).label)
-        ((F.view files.new).entries (F.Out.view out.out).label) }
-    ensures others { SparesBut (F.Out.view out.out).label (F.view files.old).entries
-        (F.view files.new).entries }
+    ensures puts { (puts : List Entry) × PutsOnly puts (F.view files.old) (F.view files.new)
+        × IsPut (F.Out.view out.out) puts }
     ensures noted { (F.view files.new).events
         ≡ (F.view files.old).events ++ Closed durability ∷ [] }
     ensures ended { IsSomeAnd (F.view files.new).ended (LeavesFile (F.Out.view out.out)) }
-    ensures unread { F.gave files.new ≡ F.gave files.old }
 {
     let Taking { out, is_empty } = out;
     if is_empty {
@@ -204,9 +211,8 @@ fn end_out<F: FileSet>(
     durability: Durability,
     engine: Result<(), Interruption>,
 ) -> Result<(), Interruption>
-    ensures unread { F.gave files.new ≡ F.gave files.old }
-    ensures ends { EndsOut (F.shows_bytes) durability (F.Out.view out.out) engine (F.view files.old)
-        (F.view files.new) result }
+    ensures { EndsOut durability (F.Out.view out.out) engine (F.view files.old) (F.view files.new)
+        result }
 {
     match engine {
         Ok(()) => Ok(files.close(out.into_out(), durability)?),
@@ -225,11 +231,11 @@ fn settle_stop<F: FileSet>(
     durability: Durability,
     engine: &Result<(), Interruption>,
 ) -> u64
-    ensures kept { F.view files.new ≡ F.view files.old }
-    ensures unread { F.gave files.new ≡ F.gave files.old }
+    ensures does { Does [] (F.view files.old) (F.view files.new) }
     ensures same { F.Out.view out.new.out ≡ F.Out.view out.old.out }
-    ensures all { is_some (option_text save.entry) ≡ true → OnErr engine.now
-        (IsCertain (F.shows_bytes) (F.Out.view out.old.out).taken.contents result) }
+    ensures certain { is_some (option_text save.entry) ≡ true → OnErr engine.now
+        (CameSince (F.view files.old) (F.view files.new)
+        (Settled (F.Out.view out.old.out).taken.bytes result)) }
 {
     if save.is_some() && engine.is_err() {
         out.settle(files, durability)
@@ -253,12 +259,8 @@ fn conclude_settled<F: FileSet, E: Sink>(
 ) -> Result<(), Ending>
     ensures announced { Tells announced.new result (E.view faults.old) (E.view faults.new)
         (faults.new ≡ faults.old) }
-    ensures unread { F.gave files.new ≡ F.gave files.old }
-    ensures concludes { Concludes (F.shows_bytes) (option_text save.entry) durability
-        (F.Out.view out.out) engine (F.view files.old) (F.view files.new) result }
-    ensures beyond { IfErr engine (λ stop. IfSome stop.position (λ p. IsBeyond settled p
-        → is_some (option_text save.entry) ≡ true → IsErrAnd result IsUnsaved
-        × ((F.view files.new).events ≡ (F.view files.old).events ++ Closed durability ∷ []))) }
+    ensures concludes { Concludes (option_text save.entry) durability (F.Out.view out.out) settled
+        engine (F.view files.old) (F.view files.new) result }
 {
     match end_out(files, out, durability, engine) {
         Ok(()) => Ok(()),
@@ -281,9 +283,11 @@ pub(crate) fn conclude<F: FileSet, E: Sink>(
 ) -> Result<(), Ending>
     ensures announced { Tells announced.new result (E.view faults.old) (E.view faults.new)
         (faults.new ≡ faults.old) }
-    ensures unread { F.gave files.new ≡ F.gave files.old }
-    ensures concludes { Concludes (F.shows_bytes) (option_text save.entry) durability
-        (F.Out.view out.out) engine (F.view files.old) (F.view files.new) result }
+    ensures concludes { (settled : ℕ) × Concludes (option_text save.entry) durability
+        (F.Out.view out.out) settled engine (F.view files.old) (F.view files.new) result
+        × (is_some (option_text save.entry) ≡ true → OnErr engine
+        (CameSince (F.view files.old) (F.view files.new)
+        (Settled (F.Out.view out.out).taken.bytes settled))) }
 {
     let settled = settle_stop(files, &mut out, save, durability, &engine);
     conclude_settled(

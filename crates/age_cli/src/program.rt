@@ -10,7 +10,7 @@ ghost use Rattle.age_cli.specs.Acts.{PortsOf, ending_status, ShowsProgress};
 ghost use Rattle.age_cli.specs.Runs.{world, IsRefusal, Obeys, Prints, FailsWriting, Runs};
 ghost use Rattle.age_command.specs.Endings.{Tells};
 ghost use Rattle.age_command.specs.Files.{SourceFails};
-ghost use Rattle.age_fileset.specs.FileSet.{ReadSince};
+ghost use Rattle.age_fileset.specs.FileSet.{CameSince};
 ghost use Rattle.age_cli.specs.inner.Endings.{IsForOutput};
 
 use crate::decrypt_command::decrypt_file;
@@ -60,13 +60,13 @@ fn obey<F: FileSet, I: Source, O: Sink, E: Sink, P: Meter>(
 ) -> Result<(), Ending>
     ensures announced { Tells announced.new result (E.view faults.old) (E.view faults.new)
         (faults.new ≡ faults.old) }
-    ensures obeys { Obeys (texts words.now) (F.shows_bytes) (PortsOf F.In.view F.Out.view)
-        (ReadSince (F.gave files.old) (F.gave files.new))
+    ensures obeys { Obeys (texts words.now) (PortsOf F.In.view F.Out.view)
         (world (F.view files.old) (I.view input.old).supply (O.view output.old))
         (world (F.view files.new) (I.view input.new).supply (O.view output.new))
         (SourceFails F.In.view) (input.new ≡ input.old) (output.new ≡ output.old)
         (progress.new ≡ progress.old)
-        (ShowsProgress (F.shows_bytes) (P.shown progress.old) (P.shown progress.new)) result }
+        (ShowsProgress (CameSince (F.view files.old) (F.view files.new)) (P.shown progress.old)
+        (P.shown progress.new)) result }
 {
     *announced = Announcement::Unmade;
     if words.is_empty() {
@@ -118,13 +118,13 @@ pub fn run<F: FileSet, I: Source, O: Sink, E: Sink, P: Meter>(
     faults: &mut E,
     progress: &mut P,
 ) -> u8
-    ensures { Runs (texts words.now) (F.shows_bytes) (PortsOf F.In.view F.Out.view)
-        (ReadSince (F.gave files.old) (F.gave files.new))
+    ensures { Runs (texts words.now) (PortsOf F.In.view F.Out.view)
         (world (F.view files.old) (I.view input.old).supply (O.view output.old))
         (world (F.view files.new) (I.view input.new).supply (O.view output.new))
         (E.view faults.old) (E.view faults.new) (SourceFails F.In.view) (faults.new ≡ faults.old)
         (input.new ≡ input.old) (output.new ≡ output.old) (progress.new ≡ progress.old)
-        (ShowsProgress (F.shows_bytes) (P.shown progress.old) (P.shown progress.new)) result }
+        (ShowsProgress (CameSince (F.view files.old) (F.view files.new)) (P.shown progress.old)
+        (P.shown progress.new)) result }
 {
     let mut announced = Announcement::Unmade;
     match obey(

@@ -1,17 +1,16 @@
 //! How the position of a stop is found by reading the input once more.
 
-ghost use Rattle.std.specs.Prelude.{◌≡◌, ◌⊎◌, ℕ, List, Option, true, false, is_some, IfOk, IfErr, OnOk, min};
+ghost use Rattle.std.specs.Prelude.{◌≡◌, ◌⊎◌, [], ℕ, List, true, false, is_some, IfOk, IfErr, OnOk, min};
 ghost use Rattle.age_io.specs.Io.{Named, Origin};
 ghost use Rattle.age_io.specs.Supply.{Supply};
 ghost use Rattle.age_fault.specs.declared.fault.FileFault.TheVariants.{Read};
 ghost use Rattle.age_file.specs.declared.position.PositionPolicy.TheVariants.{Dropped};
-ghost use Rattle.age_fileset.specs.FileSet.{IsMemoryOr, ReadSince, reading_of};
+ghost use Rattle.age_fileset.specs.FileSet.{IsMemoryOr, Does, CameSince, Gave, Settled, reading_of};
 ghost use Rattle.age_cli_args.specs.Requests.{option_text};
 ghost use Rattle.age_cli_args.specs.declared.request.ProgressOption.TheVariants.{Silent};
 ghost use Rattle.age_command.specs.Endings.{Announces, Tells};
 ghost use Rattle.age_cli.specs.Acts.{Finds, ShowsRun, kept_for, start_of};
-ghost use Rattle.age_cli.specs.inner.Rereadings.{IsFoundIn, ConcludesAgain, ConcludesDecryption, again_of};
-ghost use Rattle.age_cli.specs.inner.Rereadings.{ConcludesFound};
+ghost use Rattle.age_cli.specs.inner.Rereadings.{IsFoundIn, ConcludesDecryption, ConcludesFound, again_of};
 
 use crate::interruption::{opening_end, save};
 use crate::output::{begin_meter, conclude, end_meter, leave};
@@ -146,7 +145,7 @@ fn find_in<F: FileSet, P: Meter>(
         → F.In.began result.source (Named name) }
     ensures silent { asked.now.progress ≡ Silent → progress.new ≡ progress.old }
     ensures shown { (P.shown progress.new ≡ P.shown progress.old)
-        ⊎ ((input : Option (List ℕ)) × (left : Supply) × ShowsRun (F.shows_bytes) input left
+        ⊎ ((coming : Supply) × (left : Supply) × ShowsRun coming left
         (P.shown progress.old) (P.shown progress.new)) }
 {
     match asked.progress {
@@ -182,16 +181,16 @@ fn find_again<F: FileSet, P: Meter>(
     progress: &mut P,
 ) -> Result<Position, FileFault>
     requires { F.In.began again.source (Named asked.now.from.now) }
-    ensures kept { F.view files.new ≡ F.view files.old }
-    ensures over { ReadSince (F.gave files.old) (F.gave files.new)
-        (reading_of asked.now.from.now (F.In.view again.source)) }
-    ensures found { IfOk result (IsFoundIn (ReadSince (F.gave files.old) (F.gave files.new))
-        (F.shows_bytes ≡ true) asked.now.from.now ((F.view files.old).entries asked.now.from.now)
-        (start_of settled again.from) again.key (min again.stopped.written settled)) }
+    ensures does { Does [] (F.view files.old) (F.view files.new) }
+    ensures over { CameSince (F.view files.old) (F.view files.new)
+        (Gave (reading_of asked.now.from.now (F.In.view again.source))) }
+    ensures found { IfOk result (IsFoundIn (CameSince (F.view files.old) (F.view files.new))
+        asked.now.from.now (start_of settled again.from) again.key
+        (min again.stopped.written settled)) }
     ensures faults { IfErr result (IsMemoryOr Read) }
     ensures silent { asked.now.progress ≡ Silent → progress.new ≡ progress.old }
     ensures shown { (P.shown progress.new ≡ P.shown progress.old)
-        ⊎ ((input : Option (List ℕ)) × (left : Supply) × ShowsRun (F.shows_bytes) input left
+        ⊎ ((coming : Supply) × (left : Supply) × ShowsRun coming left
         (P.shown progress.old) (P.shown progress.new)) }
 {
     let Again {
@@ -225,15 +224,14 @@ fn conclude_found<F: FileSet, E: Sink, P: Meter>(
 ) -> Ending
     requires save { is_some (option_text asked.now.save) ≡ true }
     requires input { F.In.began again.source (Named asked.now.from.now) }
-    ensures over { ReadSince (F.gave files.old) (F.gave files.new)
-        (reading_of asked.now.from.now (F.In.view again.source)) }
+    ensures over { CameSince (F.view files.old) (F.view files.new)
+        (Gave (reading_of asked.now.from.now (F.In.view again.source))) }
     ensures announced { Announces announced.new result (E.view faults.old) (E.view faults.new) ⊥ }
-    ensures again { ConcludesFound (ReadSince (F.gave files.old) (F.gave files.new))
-        (F.shows_bytes) asked.now (F.Out.view out.out) again.from
-        again.stopped again.key (F.view files.old) (F.view files.new) result settled }
+    ensures again { ConcludesFound asked.now (F.Out.view out.out) again.from again.stopped again.key
+        (F.view files.old) (F.view files.new) result settled }
     ensures silent { asked.now.progress ≡ Silent → progress.new ≡ progress.old }
     ensures shown { (P.shown progress.new ≡ P.shown progress.old)
-        ⊎ ((input : Option (List ℕ)) × (left : Supply) × ShowsRun (F.shows_bytes) input left
+        ⊎ ((coming : Supply) × (left : Supply) × ShowsRun coming left
         (P.shown progress.old) (P.shown progress.new)) }
 {
     let fault = again.stopped.fault;
@@ -269,15 +267,16 @@ fn conclude_again<F: FileSet, E: Sink, P: Meter>(
 ) -> Ending
     requires save { is_some (option_text asked.now.save) ≡ true }
     requires input { F.In.began again.source (Named asked.now.from.now) }
-    ensures over { ReadSince (F.gave files.old) (F.gave files.new)
-        (reading_of asked.now.from.now (F.In.view again.source)) }
+    ensures over { CameSince (F.view files.old) (F.view files.new)
+        (Gave (reading_of asked.now.from.now (F.In.view again.source))) }
     ensures announced { Announces announced.new result (E.view faults.old) (E.view faults.new) ⊥ }
-    ensures again { ConcludesAgain (ReadSince (F.gave files.old) (F.gave files.new))
-        (F.shows_bytes) asked.now (F.Out.view out.out) again.from
-        again.stopped again.key (F.view files.old) (F.view files.new) result }
+    ensures again { (settled : ℕ) × CameSince (F.view files.old) (F.view files.new)
+        (Settled (F.Out.view out.out).taken.bytes settled)
+        × ConcludesFound asked.now (F.Out.view out.out) again.from again.stopped again.key
+        (F.view files.old) (F.view files.new) result settled }
     ensures silent { asked.now.progress ≡ Silent → progress.new ≡ progress.old }
     ensures shown { (P.shown progress.new ≡ P.shown progress.old)
-        ⊎ ((input : Option (List ℕ)) × (left : Supply) × ShowsRun (F.shows_bytes) input left
+        ⊎ ((coming : Supply) × (left : Supply) × ShowsRun coming left
         (P.shown progress.old) (P.shown progress.new)) }
 {
     let settled = out.settle(files, asked.durability);
@@ -301,18 +300,19 @@ pub(crate) fn conclude_decryption<F: FileSet, E: Sink, P: Meter>(
 ) -> Result<(), Ending>
     requires save { is_reread ≡ true → is_some (option_text asked.now.save) ≡ true }
     requires input { F.In.began decrypted.source (Named asked.now.from.now) }
-    ensures over { ReadSince (F.gave files.old) (F.gave files.new)
-        (reading_of asked.now.from.now (F.In.view decrypted.source)) }
+    ensures over { CameSince (F.view files.old) (F.view files.new)
+        (Gave (reading_of asked.now.from.now (F.In.view decrypted.source))) }
     ensures announced { Tells announced.new result (E.view faults.old) (E.view faults.new)
         (faults.new ≡ faults.old) }
-    ensures concludes { ConcludesDecryption (ReadSince (F.gave files.old) (F.gave files.new))
-        (F.shows_bytes) asked.now (F.Out.view out.out)
-        decrypted.from decrypted.end (again_of is_reread decrypted.end decrypted.key)
+    ensures concludes { ConcludesDecryption (λ settled. CameSince (F.view files.old)
+        (F.view files.new) (Settled (F.Out.view out.out).taken.bytes settled)) asked.now
+        (F.Out.view out.out) decrypted.from decrypted.end
+        (again_of is_reread decrypted.end decrypted.key)
         (F.view files.old) (F.view files.new) result }
     ensures silent { asked.now.progress ≡ Silent → progress.new ≡ progress.old }
     ensures whole { OnOk result (P.shown progress.new ≡ P.shown progress.old) }
     ensures shown { (P.shown progress.new ≡ P.shown progress.old)
-        ⊎ ((input : Option (List ℕ)) × (left : Supply) × ShowsRun (F.shows_bytes) input left
+        ⊎ ((coming : Supply) × (left : Supply) × ShowsRun coming left
         (P.shown progress.old) (P.shown progress.new)) }
 {
     let Decrypted {

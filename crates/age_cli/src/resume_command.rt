@@ -1,20 +1,21 @@
 //! The command that continues a decryption.
 
-ghost use Rattle.std.specs.Prelude.{◌≡◌, ◌⊎◌, [], ◌∷◌, ◌++◌, true, ℕ, List, is_some, IfOk, IfErr, OnOk};
+ghost use Rattle.std.specs.Prelude.{◌≡◌, ◌⊎◌, [], ◌∷◌, ℕ, List, IfOk, IfErr, OnOk};
 ghost use Rattle.age_fault.specs.declared.fault.FileFault.TheVariants.{Read, BadPosition};
 ghost use Rattle.age_io.specs.Io.{Named, Origin};
-ghost use Rattle.age_fileset.specs.FileSet.{Opened, OpenFails, ReadsOn, ReadSince, HasGivenAll};
+ghost use Rattle.age_fileset.specs.FileSet.{Opened, Unread, Unfit, OpenFails, Does, CameSince, HasGivenAll};
 ghost use Rattle.age_fileset.specs.declared.files.OpenFault.TheVariants as OpenFault;
 ghost use Rattle.age_cli_args.specs.declared.request.ProgressOption.TheVariants.{Silent, Shown};
 ghost use Rattle.age_cli_args.specs.declared.request.Request.TheVariants.{Resume};
 ghost use Rattle.age_file.specs.Resumes.{resume_ports, position_text, ResumesKeyed};
 ghost use Rattle.age_file.specs.Runs.{ports};
 ghost use Rattle.age_command.specs.Identities.{allows_by, refuses_by};
-ghost use Rattle.age_command.specs.Orders.{Follows, NamesTwice, order_asked};
+ghost use Rattle.age_command.specs.Orders.{Begins, NamesTwice, order_asked};
 ghost use Rattle.age_command.specs.Endings.{Tells};
-ghost use Rattle.age_command.specs.Files.{SourceFails, IsUnread};
-ghost use Rattle.age_cli.specs.Acts.{Acts, PortsOf, ShowsProgress, ShowsRun};
-ghost use Rattle.age_cli.specs.Commands.{HoldsNoPosition, IsPositionIn, old_for};
+ghost use Rattle.age_command.specs.Files.{SourceFails, IsUnread, HoldsOnly};
+ghost use Rattle.age_cli.specs.Acts.{Acts, PortsOf, ShowsProgress, ShowsReadings, ShowsRun};
+ghost use Rattle.age_cli.specs.Commands.{HoldsNoPosition, old_found};
+ghost use Rattle.age_cli.specs.inner.Openings.{Compares};
 ghost use Rattle.age_cli.specs.inner.Rereadings.{ResumesOpened, key_of, placed};
 
 use crate::decrypt_command::{is_given_as, names_a_file_twice, read_secret};
@@ -40,20 +41,16 @@ fn read_position<F: FileSet>(
     files: &mut F,
     name: &str,
 ) -> Result<Position, OpenFault>
-    ensures kept { (F.view files.new).entries ≡ (F.view files.old).entries }
-    ensures unended { (F.view files.new).ended ≡ (F.view files.old).ended }
-    ensures reads { ReadsOn (F.gave files.old) (F.gave files.new) }
-    ensures given { IfOk result (λ p. HasGivenAll (ReadSince (F.gave files.old) (F.gave files.new))
+    ensures does { Does (Opened name.now ∷ []) (F.view files.old) (F.view files.new) }
+    ensures given { IfOk result (λ p. HasGivenAll (CameSince (F.view files.old) (F.view files.new))
         name.now (position_text p)) }
-    ensures read { IfOk result
-        (λ p. F.shows_bytes ≡ true → IsPositionIn ((F.view files.old).entries name.now) p) }
-    ensures noted { (F.view files.new).events ≡ (F.view files.old).events ++ Opened name.now ∷ [] }
-    ensures faults { IfErr result
-        (λ f. OpenFails (F.shows_bytes) Read f ⊎ (f ≡ OpenFault.Fault BadPosition)) }
-    ensures bad { F.shows_bytes ≡ true → IfErr result (λ f. f ≡ OpenFault.Fault BadPosition
-        → HoldsNoPosition ((F.view files.old).entries name.now)) }
-    ensures reason { F.shows_bytes ≡ true → IfErr result (λ f. f ≡ OpenFault.Fault Read
-        → IsUnread (F.view files.old).entries (F.view files.new).events (SourceFails F.In.view)) }
+    ensures faults { IfErr result (λ f. OpenFails Read f ⊎ (f ≡ OpenFault.Fault BadPosition)) }
+    ensures bad { IfErr result (λ f. f ≡ OpenFault.Fault BadPosition
+        → HoldsOnly (CameSince (F.view files.old) (F.view files.new)) name.now HoldsNoPosition) }
+    ensures reason { IfErr result (λ f. f ≡ OpenFault.Fault Read
+        → IsUnread (CameSince (F.view files.old) (F.view files.new)) (SourceFails F.In.view)) }
+    ensures unfit { IfErr result (λ f. f ≡ OpenFault.SameFile
+        → CameSince (F.view files.old) (F.view files.new) Unfit) }
 {
     match read_file(alloc, files, name, POSITION_FILE_MAX)? {
         Some(text) => Ok(Position::read(text.as_slice())?),
@@ -63,10 +60,9 @@ fn read_position<F: FileSet>(
 
 /// Whether two files that have to differ are one: those that `decrypt` tells apart; the earlier
 /// output must differ from IN, OUT and the file of `--save`, and OUT from the position.
-fn names_one_twice<F: FileSet>(files: &F, asked: &Resuming<'_>) -> bool
-    ensures twice { NamesTwice (order_asked (Resume asked.now)).apart → result ≡ true }
-    ensures shown { F.shows_bytes ≡ true → result ≡ true
-        → NamesTwice (order_asked (Resume asked.now)).apart }
+fn names_one_twice<F: FileSet>(files: &mut F, asked: &Resuming<'_>) -> bool
+    ensures { Compares (F.view files.old) (F.view files.new) result
+        (NamesTwice (order_asked (Resume asked.now)).apart) }
 {
     let others = &asked.decrypting;
     if names_a_file_twice(files, others) {
@@ -92,18 +88,16 @@ fn open_old<F: FileSet>(
     name: &str,
     position: &Position,
 ) -> Result<F::In, OpenFault>
-    ensures kept { (F.view files.new).entries ≡ (F.view files.old).entries }
-    ensures unended { (F.view files.new).ended ≡ (F.view files.old).ended }
-    ensures found { IfOk result (λ s. F.shows_bytes ≡ true
-        → (is_some (old_for position.now ((F.view files.old).entries name.now)) ≡ true)
-        × ((F.In.view s).supply.left ≡ old_for position.now ((F.view files.old).entries name.now))) }
-    ensures unread { F.gave files.new ≡ F.gave files.old }
+    ensures does { Does (Opened name.now ∷ []) (F.view files.old) (F.view files.new) }
+    ensures found { IfOk result (λ s. CameSince (F.view files.old) (F.view files.new)
+        (old_found position.now name.now (F.In.view s).supply.left)) }
     ensures begun { IfOk result (λ s. (F.In.view s).supply.given ≡ []) }
     ensures named { IfOk result (λ s. F.In.began s (Named name.now)) }
-    ensures noted { (F.view files.new).events ≡ (F.view files.old).events ++ Opened name.now ∷ [] }
-    ensures faults { IfErr result (OpenFails (F.shows_bytes) Read) }
-    ensures reason { F.shows_bytes ≡ true → IfErr result (λ f. f ≡ OpenFault.Fault Read
-        → IsUnread (F.view files.old).entries (F.view files.new).events (SourceFails F.In.view)) }
+    ensures faults { IfErr result (OpenFails Read) }
+    ensures reason { IfErr result (λ f. f ≡ OpenFault.Fault Read
+        → CameSince (F.view files.old) (F.view files.new) (Unread name.now)) }
+    ensures unfit { IfErr result (λ f. f ≡ OpenFault.SameFile
+        → CameSince (F.view files.old) (F.view files.new) Unfit) }
 {
     if position.index == 0 {
         files.open_or_empty(alloc, name)
@@ -118,28 +112,24 @@ fn open_earlier<F: FileSet>(
     files: &mut F,
     asked: &Resuming<'_>,
 ) -> Result<(Position, F::In), OpenFault>
-    ensures kept { (F.view files.new).entries ≡ (F.view files.old).entries }
-    ensures unended { (F.view files.new).ended ≡ (F.view files.old).ended }
-    ensures found { IfOk result (λ both. F.shows_bytes ≡ true
-        → IsPositionIn ((F.view files.old).entries asked.now.position.now) both.0
-        × (is_some (old_for both.0 ((F.view files.old).entries asked.now.old.now)) ≡ true)
-        × ((F.In.view both.1).supply.left
-        ≡ old_for both.0 ((F.view files.old).entries asked.now.old.now))) }
-    ensures reads { ReadsOn (F.gave files.old) (F.gave files.new) }
-    ensures given { IfOk result (λ both. HasGivenAll (ReadSince (F.gave files.old)
-        (F.gave files.new)) asked.now.position.now (position_text both.0)) }
+    ensures found { IfOk result (λ both. CameSince (F.view files.old) (F.view files.new)
+        (old_found both.0 asked.now.old.now (F.In.view both.1).supply.left)) }
+    ensures given { IfOk result (λ both. HasGivenAll (CameSince (F.view files.old)
+        (F.view files.new)) asked.now.position.now (position_text both.0)) }
     ensures begun { IfOk result (λ both. (F.In.view both.1).supply.given ≡ []) }
     ensures named { IfOk result (λ both. F.In.began both.1 (Named asked.now.old.now)) }
-    ensures noted { OnOk result ((F.view files.new).events ≡ (F.view files.old).events
-        ++ Opened asked.now.position.now ∷ Opened asked.now.old.now ∷ []) }
-    ensures follows { Follows (Opened asked.now.position.now ∷ Opened asked.now.old.now ∷ [])
-        (F.view files.old).events (F.view files.new).events }
-    ensures faults { IfErr result
-        (λ f. OpenFails (F.shows_bytes) Read f ⊎ (f ≡ OpenFault.Fault BadPosition)) }
-    ensures bad { F.shows_bytes ≡ true → IfErr result (λ f. f ≡ OpenFault.Fault BadPosition
-        → HoldsNoPosition ((F.view files.old).entries asked.now.position.now)) }
-    ensures reason { F.shows_bytes ≡ true → IfErr result (λ f. f ≡ OpenFault.Fault Read
-        → IsUnread (F.view files.old).entries (F.view files.new).events (SourceFails F.In.view)) }
+    ensures does { OnOk result (Does (Opened asked.now.position.now ∷ Opened asked.now.old.now ∷ [])
+        (F.view files.old) (F.view files.new)) }
+    ensures begins { Begins (Opened asked.now.position.now ∷ Opened asked.now.old.now ∷ [])
+        (F.view files.old) (F.view files.new) }
+    ensures faults { IfErr result (λ f. OpenFails Read f ⊎ (f ≡ OpenFault.Fault BadPosition)) }
+    ensures bad { IfErr result (λ f. f ≡ OpenFault.Fault BadPosition
+        → HoldsOnly (CameSince (F.view files.old) (F.view files.new)) asked.now.position.now
+        HoldsNoPosition) }
+    ensures reason { IfErr result (λ f. f ≡ OpenFault.Fault Read
+        → IsUnread (CameSince (F.view files.old) (F.view files.new)) (SourceFails F.In.view)) }
+    ensures unfit { IfErr result (λ f. f ≡ OpenFault.SameFile
+        → CameSince (F.view files.old) (F.view files.new) Unfit) }
 {
     let position = read_position(alloc, files, asked.position)?;
     let old = open_old(alloc, files, asked.old, &position)?;
@@ -205,9 +195,8 @@ fn resume_text<F: FileSet, P: Meter>(
         → F.In.began result.source (Named name) }
     ensures old_began { (from : Origin) → F.In.began old.old from → F.In.began old.new from }
     ensures silent { asked.now.progress ≡ Silent → progress.new ≡ progress.old }
-    ensures shown { asked.now.progress ≡ Shown → ShowsRun (F.shows_bytes)
-        (F.In.view source).supply.left (F.In.view result.source).supply (P.shown progress.old)
-        (P.shown progress.new) }
+    ensures shown { asked.now.progress ≡ Shown → ShowsRun (F.In.view source).supply
+        (F.In.view result.source).supply (P.shown progress.old) (P.shown progress.new) }
 {
     match asked.progress {
         ProgressOption::Silent => {
@@ -275,11 +264,11 @@ fn resume_opened<F: FileSet, E: Sink, P: Meter>(
     ensures announced { Tells announced.new result (E.view faults.old) (E.view faults.new)
         (faults.new ≡ faults.old) }
     ensures opened { ResumesOpened (PortsOf F.In.view F.Out.view)
-        (ReadSince (F.gave files.old) (F.gave files.new)) (F.shows_bytes) asked.now.decrypting
-        asked.now.old.now identity position.now (F.In.view old)
-        (ports (F.In.view source) (F.Out.view out.out))
+        (CameSince (F.view files.old) (F.view files.new)) asked.now.decrypting asked.now.old.now
+        identity position.now (F.In.view old) (ports (F.In.view source) (F.Out.view out.out))
         (F.view files.old) (F.view files.new) (progress.new ≡ progress.old)
-        (ShowsProgress (F.shows_bytes) (P.shown progress.old) (P.shown progress.new)) result }
+        (λ coming left ended. ShowsReadings coming left (P.shown progress.old) (P.shown progress.new)
+        ended) result }
 {
     read_again::<Identity>();
     let wanted = &asked.decrypting;
@@ -325,11 +314,10 @@ pub fn resume_file<F: FileSet, E: Sink, P: Meter>(
 ) -> Result<(), Ending>
     ensures announced { Tells announced.new result (E.view faults.old) (E.view faults.new)
         (faults.new ≡ faults.old) }
-    ensures acts { Acts (PortsOf F.In.view F.Out.view)
-        (ReadSince (F.gave files.old) (F.gave files.new)) (F.shows_bytes) (Resume asked.now)
-        (F.view files.old) (F.view files.new) (SourceFails F.In.view)
-        (progress.new ≡ progress.old)
-        (ShowsProgress (F.shows_bytes) (P.shown progress.old) (P.shown progress.new)) result }
+    ensures acts { Acts (PortsOf F.In.view F.Out.view) (Resume asked.now) (F.view files.old)
+        (F.view files.new) (SourceFails F.In.view) (progress.new ≡ progress.old)
+        (ShowsProgress (CameSince (F.view files.old) (F.view files.new)) (P.shown progress.old)
+        (P.shown progress.new)) result }
 {
     *announced = Announcement::Unmade;
     let wanted = &asked.decrypting;

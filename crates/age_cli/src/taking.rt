@@ -1,8 +1,8 @@
 //! An output that knows whether it took anything.
 
-ghost use Rattle.std.specs.Prelude.{◌≡◌, ◌==◌, true, length, Some, IsSomeAnd, []};
+ghost use Rattle.std.specs.Prelude.{◌≡◌, ◌==◌, length, []};
 ghost use Rattle.std.proofs.Props.{props};
-ghost use Rattle.age_cli.specs.inner.Endings.{IsCertain};
+ghost use Rattle.age_fileset.specs.FileSet.{Does, CameSince, Settled};
 
 use age_fileset::FileSet;
 use age_io::{Durability, Failed, Sink};
@@ -11,16 +11,13 @@ use age_io::{Durability, Failed, Sink};
 pub(crate) struct Taking<F: FileSet> {
     pub(crate) out: F::Out,
     pub(crate) is_empty: bool,
-    ghost knows: { (is_empty ≡ (length (F.Out.view out).taken.bytes == 0)) × (F.shows_bytes ≡ true
-        → IsSomeAnd (F.Out.view out).taken.contents
-        (λ bytes. is_empty ≡ (length bytes == 0))) } by { Prim.hlevel props },
+    ghost knows: { is_empty ≡ (length (F.Out.view out).taken.bytes == 0) } by { Prim.hlevel props },
 }
 
 impl<F: FileSet> Taking<F> {
     /// A file that was just created.
     pub(crate) fn new(out: F::Out) -> Taking<F>
-        requires shown { F.shows_bytes ≡ true → (F.Out.view out).taken.contents ≡ Some [] }
-        requires empty { (F.Out.view out).taken.bytes ≡ [] }
+        requires { (F.Out.view out).taken.bytes ≡ [] }
         ensures { result.out ≡ out }
     {
         Taking {
@@ -31,10 +28,10 @@ impl<F: FileSet> Taking<F> {
 
     /// How many of the bytes that it took it holds for certain.
     pub(crate) fn settle(&mut self, files: &mut F, durability: Durability) -> u64
-        ensures kept { F.view files.new ≡ F.view files.old }
-        ensures unread { F.gave files.new ≡ F.gave files.old }
+        ensures does { Does [] (F.view files.old) (F.view files.new) }
         ensures same { F.Out.view self.new.out ≡ F.Out.view self.old.out }
-        ensures all { IsCertain (F.shows_bytes) (F.Out.view self.old.out).taken.contents result }
+        ensures certain { CameSince (F.view files.old) (F.view files.new)
+            (Settled (F.Out.view self.old.out).taken.bytes result) }
     {
         files.settle(&mut self.out, durability)
     }

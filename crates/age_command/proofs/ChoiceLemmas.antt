@@ -1,42 +1,63 @@
 -- What is read of the file of a choice is enough.
-use Rattle.std.proofs.Common.{◌≡◌, ◌<◌, ◌++◌, ℕ, List, length, Option, Some, None, Bool, true, sym, subst, arith, Result, Ok, Err, IfOk, IfSome, IfNone}
-use Rattle.std.proofs.lemmas.List.{length-append}
+use Rattle.std.proofs.Common.{◌≡◌, ◌<◌, ◌++◌, ℕ, List, length, Option, Some, None, arith, ap, [], inl, inr, Result, Ok, Err, IfOk, IfSome, IfNone}
+use Rattle.std.specs.Prelude.{◌-◌, ◌==◌, ◌&&◌, ◌+◌, ◌≤◌, nat_lt, take, slice_index, if◌then◌else◌, Bool, true, false}
+use Rattle.std.proofs.lemmas.List.{length-append, length-take}
 use Rattle.std.specs.Borrow.{Bor}
 use Rattle.std.specs.declared.vec.Vec.{Vec}
 use Rattle.clap.specs.Words.{Text}
+use Rattle.age_fileset.specs.FileSet.{Outcome, HasGiven, HasGivenAll}
 use Rattle.age_fileset.specs.declared.files.OpenFault.{OpenFault}
-use Rattle.age_command.specs.Identities.{IsEnough, Makes, file_bytes}
-use Rattle.age_command.specs.Files.{Files}
+use Rattle.age_command.specs.Files.{without_line_feed}
+use Rattle.age_command.specs.Identities.{IsEnough, Makes, file_of, file_bytes}
 use Rattle.age_command.specs.declared.choice.Choice.{Choice}
-use Rattle.age_command.specs.declared.choice.Choice.TheVariants.{SharedFile}
+use Rattle.age_command.specs.declared.choice.Choice.TheVariants.{PassphraseFile, SharedFile}
 use Rattle.age_command.specs.declared.identity.Identity.{Identity}
 use Rattle.age_command.specs.declared.identity.Identity.TheVariants.{ByPassphrase, ByFileKey, ByShared}
 
+abbrev got : Option (List ℕ) → List ℕ
+got (Some bytes) = bytes
+got None = []
+
 -- a file that is longer than a shared secret with its recipient makes nothing
-shared_long : (name : Bor Text) (held : Option (List ℕ)) → ((bytes : List ℕ) → held ≡ Some bytes → 64 < length bytes)
-    → (i : Identity) → Makes (SharedFile name) held i → ⊥
-shared_long name held long (ByShared s) is = absurd (omega (
+pub shared_long : (name : Bor Text) (bytes rest : List ℕ) → 64 < length bytes → (i : Identity) → Makes (SharedFile name) (Some (bytes ++ rest)) i → ⊥
+shared_long name bytes rest long (ByShared s) is = absurd (omega (
   arith,
-  long (s.secret ++ s.recipient) is.bytes,
+  long,
+  ap (λ o. length (got o)) is.bytes,
+  length-append bytes rest,
   length-append s.secret s.recipient,
   is.secret_length,
   is.recipient_length,
 ))
-shared_long name held long (ByPassphrase words) is = is
-shared_long name held long (ByFileKey key) is = is
+shared_long name bytes rest long (ByPassphrase words) is = is
+shared_long name bytes rest long (ByFileKey key) is = is
 
-module _ {Z : Type 0} (shows : Bool) (old : Files) (name : Bor Text) where
-  shared_enough : (r : Result (Option (Vec ℕ Z)) OpenFault) → IfOk r (λ o. IfSome o (λ v. shows ≡ true → old name.now ≡ Some v.items))
-      → IfOk r (λ o. IfNone o (shows ≡ true → (bytes : List ℕ) → old name.now ≡ Some bytes
-      → 64 < length bytes)) → IfOk r (λ o. shows ≡ true → IsEnough old (SharedFile name) (file_bytes o))
-  shared_enough (Ok (Some v)) all long = λ shown i makes. subst (λ (h : Option (List ℕ)). Makes (SharedFile name) h i) (all shown) makes
-  shared_enough (Ok None) all long = λ shown i makes. absurd (shared_long name (old name.now) (long shown) i makes)
-  shared_enough (Err fault) all long = tt
+shorter : (b : Bool) (xs : List ℕ) → length xs ≤ length (if b then take (length xs - 1) xs else xs) + 1
+shorter true xs = omega (arith, length-take (length xs - 1) xs)
+shorter false xs = omega (arith)
 
-  -- what is read of the file of a shared secret
-  pub enough_of_shared : (choice : Choice) → choice ≡ SharedFile name → (r : Result (Option (Vec ℕ Z)) OpenFault)
-      → IfOk r (λ o. IfSome o (λ v. shows ≡ true → old name.now ≡ Some v.items))
-      → IfOk r (λ o. IfNone o (shows ≡ true → (bytes : List ℕ) → old name.now ≡ Some bytes
-      → 64 < length bytes)) → IfOk r (λ o. shows ≡ true → IsEnough old choice (file_bytes o))
-  enough_of_shared choice is r all long = subst (λ (c : Choice). IfOk r (λ o. shows ≡ true → IsEnough old c (file_bytes o))) (sym is)
-      (shared_enough r all long)
+without_length : (xs : List ℕ) → length xs ≤ length (without_line_feed xs) + 1
+without_length xs = shorter (nat_lt 0 (length xs) && (slice_index xs (length xs - 1) == 10)) xs
+
+-- nor one that is longer than a passphrase with its line feed
+pub pass_long : (name : Bor Text) (most : ℕ) (bytes rest : List ℕ) → 65537 < length bytes → (i : Identity) → Makes (PassphraseFile name most) (Some (bytes ++ rest)) i → ⊥
+pass_long name most bytes rest long (ByPassphrase words) is = absurd (omega (
+  arith,
+  long,
+  length-append bytes rest,
+  ap (λ o. length (got o)) is.0.1,
+  ap length is.0.2,
+  without_length is.0.0,
+  is.2.most,
+))
+pass_long name most bytes rest long (ByShared s) is = is
+pass_long name most bytes rest long (ByFileKey key) is = is
+
+-- what is read of the file of a choice
+module _ {Z : Type 0} (Came : Outcome → Type 0) (name : Text) (choice : Choice) (named : file_of choice ≡ Some name) (most : ℕ)
+    (long : (bytes rest : List ℕ) → most < length bytes → (i : Identity) → Makes choice (Some (bytes ++ rest)) i → ⊥) where
+  pub enough : (r : Result (Option (Vec ℕ Z)) OpenFault) → IfOk r (λ o. IfSome o (λ v. HasGivenAll Came name v.items))
+      → IfOk r (λ o. IfNone o ((bytes : List ℕ) × HasGiven Came name bytes × (most < length bytes))) → IfOk r (λ o. IsEnough Came choice (file_bytes o))
+  enough (Ok (Some v)) all more = rw named (λ none. (v.items, inl (all, none)))
+  enough (Ok None) all more = rw named (λ none. (more.0, inr (more.1, λ rest i makes. long more.0 rest more.2 i makes)))
+  enough (Err fault) all more = tt

@@ -1,5 +1,6 @@
 -- What opens a file, by the options and by the files that they name.
 use Rattle.std.specs.Prelude.{◌≡◌, ℕ, List, ◌++◌, length, Option, Some, None, option_map}
+use Rattle.std.specs.Prelude.{IfSome, IsSomeAnd, ◌⊎◌}
 use Rattle.std.specs.declared.vec.Vec.{Vec}
 use Rattle.clap.specs.Words.{Text}
 use Rattle.age_stanza.specs.declared.header.Header.{Header}
@@ -7,10 +8,10 @@ use Rattle.age_keys.specs.Keys.{SpellsKey}
 use Rattle.age_keys.specs.Scrypt.{IsAllowed, IsPassphraseKey, PassphraseRefuses, passphrase_steps}
 use Rattle.age_keys.specs.X25519.{Shared, IsSharedKey, SharedRefuses}
 use Rattle.age_keys.specs.declared.fault.KeyFault.{KeyFault}
-use Rattle.age_fileset.specs.FileSet.{Reading, HasGivenAll}
+use Rattle.age_fileset.specs.FileSet.{Outcome, HasGivenAll}
 use Rattle.age_cli_args.specs.Requests.{option_text}
 use Rattle.age_cli_args.specs.declared.request.IdentityOptions.{IdentityOptions}
-use Rattle.age_command.specs.Files.{Files, without_line_feed}
+use Rattle.age_command.specs.Files.{HoldsOnly, without_line_feed}
 use Rattle.age_command.specs.Orders.{opening_event, identity_order}
 use Rattle.age_command.specs.declared.choice.Choice.{Choice}
 use Rattle.age_command.specs.declared.choice.Choice.TheVariants.{PassphraseFile, FileKey, SharedFile}
@@ -71,14 +72,6 @@ abbrev pub MakesBy : Option (List ℕ) → IdentityOptions → Identity → Type
 MakesBy held u identity = IsIdentity held (option_text u.pass) (option_text u.file_key)
     (option_text u.shared) u.max_log identity
 
--- what the file of this name holds, if a name is given
-abbrev pub held_for : Files → Option Text → Option (List ℕ)
-held_for old (Some name) = old name
-held_for old None = None
-
-abbrev pub OpensBy : Files → IdentityOptions → Identity → Type 0
-OpensBy old u = MakesBy (held_for old (identity_file u)) u
-
 -- what is to blame if these options open nothing: the file or the key that the one of them gives, or
 -- that there isn't one
 abbrev pub blame_of : Option Text → Option Text → Option Text → Usage
@@ -89,6 +82,12 @@ blame_of pass file_key shared = GiveOneIdentity
 
 abbrev pub blame_by : IdentityOptions → Usage
 blame_by u = blame_of (option_text u.pass) (option_text u.file_key) (option_text u.shared)
+
+-- the options make nothing, whatever the file holds that they name; or not of what it holds
+abbrev pub MakesNone : (Came : Outcome → Type 0) → IdentityOptions → Type 0
+MakesNone Came u = ((held : Option (List ℕ)) (identity : Identity) → MakesBy held u identity → ⊥)
+    ⊎ IsSomeAnd (identity_file u) (λ name. HoldsOnly Came name
+    (λ bytes. (identity : Identity) → MakesBy (Some bytes) u identity → ⊥))
 
 -- ---- What opens a file, by the one option that is chosen.
 
@@ -108,15 +107,10 @@ blame_in (PassphraseFile name max_log) = BadPassphraseFile
 blame_in (FileKey known) = BadFileKey
 blame_in (SharedFile name) = BadSharedFile
 
--- these bytes, if there are any, are what the file of this name holds, if there is a name
-abbrev pub IsSecretIn : Files → Option Text → Option (List ℕ) → Type 0
-IsSecretIn old (Some name) (Some bytes) = old name ≡ Some bytes
-IsSecretIn old name bytes = Unit {0}
-
 -- these bytes, if there are any, are all that the file of this name gave, if there is a name
-abbrev pub IsSecretGiven : (IsOver : Reading → Type 0) → Option Text → Option (List ℕ) → Type 0
-IsSecretGiven IsOver (Some name) (Some bytes) = HasGivenAll IsOver name bytes
-IsSecretGiven IsOver name bytes = Unit {0}
+abbrev pub IsSecretGiven : (Came : Outcome → Type 0) → Option Text → Option (List ℕ) → Type 0
+IsSecretGiven Came (Some name) (Some bytes) = HasGivenAll Came name bytes
+IsSecretGiven Came name bytes = Unit {0}
 
 -- what a choice makes of the bytes of its file
 abbrev pub Makes : Choice → Option (List ℕ) → Identity → Type 0
@@ -126,10 +120,12 @@ Makes (FileKey known) held (ByFileKey key) = key ≡ known
 Makes (SharedFile name) held (ByShared shared) = IsSharedIn held shared
 Makes choice held identity = ⊥
 
--- what was read of its file is enough: the choice makes of that all that it makes of the file
-abbrev pub IsEnough : Files → Choice → Option (List ℕ) → Type 0
-IsEnough old choice held = (identity : Identity)
-    → Makes choice (held_for old (file_of choice)) identity → Makes choice held identity
+-- what was read of its file is enough: if the choice makes nothing of it, the file holds only what it
+-- makes nothing of
+abbrev pub IsEnough : (Came : Outcome → Type 0) → Choice → Option (List ℕ) → Type 0
+IsEnough Came choice held = ((identity : Identity) → Makes choice held identity → ⊥)
+    → IfSome (file_of choice) (λ name. HoldsOnly Came name
+    (λ bytes. (identity : Identity) → Makes choice (Some bytes) identity → ⊥))
 
 -- a choice is what these options say
 pub record Chooses (options : IdentityOptions) (choice : Choice) : Type 0 where
@@ -139,12 +135,8 @@ pub record Chooses (options : IdentityOptions) (choice : Choice) : Type 0 where
   pub file : file_of choice ≡ identity_file options
   -- If it makes nothing, that is to blame which is if the options open nothing.
   pub blame : blame_in choice ≡ blame_by options
-  -- What it makes of the bytes of its file is what the options make of them, and with the files.
+  -- What it makes of the bytes of its file is what the options make of them, and nothing else.
   pub makes : (held : Option (List ℕ)) (identity : Identity) → Makes choice held identity
       → MakesBy held options identity
-  pub opens : (old : Files) (held : Option (List ℕ)) (identity : Identity)
-      → IsSecretIn old (file_of choice) held → Makes choice held identity
-      → OpensBy old options identity
-  -- What the options and the files make is what it makes of its file.
-  pub only : (old : Files) (identity : Identity) → OpensBy old options identity
-      → Makes choice (held_for old (file_of choice)) identity
+  pub only : (held : Option (List ℕ)) (identity : Identity) → MakesBy held options identity
+      → Makes choice held identity

@@ -3,6 +3,7 @@ use Rattle.std.specs.Prelude.{◌≡◌, List, [], ◌∷◌, ◌++◌, Option, 
 use Rattle.clap.specs.Words.{Text}
 use Rattle.age_io.specs.declared.durability.Durability.{Durability}
 use Rattle.age_fileset.specs.FileSet.{Event, Opened, Prepared, Created, Made, Replaced, Closed}
+use Rattle.age_fileset.specs.FileSet.{FilesView, Does}
 use Rattle.age_cli_args.specs.Requests.{option_text}
 use Rattle.age_cli_args.specs.declared.request.ClobberOption.{ClobberOption}
 use Rattle.age_cli_args.specs.declared.request.ClobberOption.TheVariants.{Allowed, Refused}
@@ -16,6 +17,13 @@ pub record Follows (order old new : List Event) : Type 0 where
   pub done : List Event
   pub rest : List Event
   pub did : new ≡ old ++ done
+  pub front : order ≡ done ++ rest
+
+-- a beginning of this order was done, in which nothing was put, ended or saved
+pub record Begins (order : List Event) (old new : FilesView) : Type 0 where
+  pub done : List Event
+  pub rest : List Event
+  pub did : Does done old new
   pub front : order ≡ done ++ rest
 
 -- a file is opened, if one is named; one is prepared to be replaced; one is created, or made if none

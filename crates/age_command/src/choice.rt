@@ -1,18 +1,17 @@
 //! What opens a file, as one of the options says.
 
-ghost use Rattle.std.specs.Prelude.{◌≡◌, ◌++◌, true, IfOk, IfErr, IfSome, IfNone};
+ghost use Rattle.std.specs.Prelude.{◌≡◌, ℕ, List, Option, IfOk, IfErr, IfSome, IfNone};
 ghost use Rattle.age_keys.specs.Scrypt.{IsAllowed, PassphraseIdentity};
 ghost use Rattle.age_keys.specs.X25519.{Shared};
 ghost use Rattle.age_fault.specs.declared.fault.FileFault.TheVariants.{Read};
-ghost use Rattle.age_fileset.specs.FileSet.{OpenFails, ReadsOn, ReadSince};
+ghost use Rattle.age_fileset.specs.FileSet.{OpenFails, Unfit, Does, CameSince};
 ghost use Rattle.age_command.specs.Orders.{opening_event};
-ghost use Rattle.age_command.specs.Identities.{IsPassphraseIn, IsSharedIn, OpensBy, file_of};
+ghost use Rattle.age_command.specs.Identities.{IsPassphraseIn, IsSharedIn, MakesBy, file_of};
 ghost use Rattle.age_command.specs.Identities.{blame_by, blame_in};
-ghost use Rattle.age_command.specs.Identities.{file_bytes, IsSecretIn, Makes, Chooses, IsEnough};
+ghost use Rattle.age_command.specs.Identities.{file_bytes, Makes, Chooses, IsEnough};
 ghost use Rattle.age_command.specs.Identities.{IsSecretGiven};
 ghost use Rattle.age_command.specs.Files.{SourceFails, IsUnread};
-ghost use Rattle.age_fileset.specs.declared.files.OpenFault.TheVariants.{Fault};
-ghost use Rattle.age_command.specs.Files.{Files};
+ghost use Rattle.age_fileset.specs.declared.files.OpenFault.TheVariants.{SameFile, Fault};
 ghost use Rattle.age_command.specs.declared.identity.Identity.{Identity};
 
 use crate::Usage;
@@ -40,8 +39,8 @@ impl<'a> Choice<'a> {
     pub fn of(options: &IdentityOptions<'a>) -> Result<Choice<'a>, Usage>
         ensures chooses { IfOk result (Chooses options.now) }
         ensures blame { IfErr result (λ usage. usage ≡ blame_by options.now) }
-        ensures none { IfErr result (λ _. (old : Files) (identity : Identity)
-            → OpensBy old options.now identity → ⊥) }
+        ensures none { IfErr result (λ _. (held : Option (List ℕ)) (identity : Identity)
+            → MakesBy held options.now identity → ⊥) }
     {
         match (options.pass, options.file_key, options.shared) {
             (Some(name), None, None) => Ok(Choice::PassphraseFile(name, options.max_log)),
@@ -61,21 +60,16 @@ impl<'a> Choice<'a> {
         alloc: Global,
         files: &mut F,
     ) -> Result<Option<Vec<u8>>, OpenFault>
-        ensures kept { (F.view files.new).entries ≡ (F.view files.old).entries }
-        ensures unended { (F.view files.new).ended ≡ (F.view files.old).ended }
-        ensures noted { (F.view files.new).events
-            ≡ (F.view files.old).events ++ opening_event (file_of self.now) }
-        ensures faults { IfErr result (OpenFails (F.shows_bytes) Read) }
-        ensures reason { F.shows_bytes ≡ true → IfErr result (λ f. f ≡ Fault Read
-            → IsUnread (F.view files.old).entries (F.view files.new).events
-            (SourceFails F.In.view)) }
-        ensures reads { ReadsOn (F.gave files.old) (F.gave files.new) }
-        ensures given { IfOk result (λ o. IsSecretGiven (ReadSince (F.gave files.old)
-            (F.gave files.new)) (file_of self.now) (file_bytes o)) }
-        ensures read { IfOk result (λ o. F.shows_bytes ≡ true
-            → IsSecretIn (F.view files.old).entries (file_of self.now) (file_bytes o)) }
-        ensures enough { IfOk result (λ o. F.shows_bytes ≡ true
-            → IsEnough (F.view files.old).entries self.now (file_bytes o)) }
+        ensures does { Does (opening_event (file_of self.now)) (F.view files.old) (F.view files.new) }
+        ensures faults { IfErr result (OpenFails Read) }
+        ensures reason { IfErr result (λ f. f ≡ Fault Read
+            → IsUnread (CameSince (F.view files.old) (F.view files.new)) (SourceFails F.In.view)) }
+        ensures unfit { IfErr result (λ f. f ≡ SameFile
+            → CameSince (F.view files.old) (F.view files.new) Unfit) }
+        ensures given { IfOk result (λ o. IsSecretGiven
+            (CameSince (F.view files.old) (F.view files.new)) (file_of self.now) (file_bytes o)) }
+        ensures enough { IfOk result (λ o. IsEnough
+            (CameSince (F.view files.old) (F.view files.new)) self.now (file_bytes o)) }
     {
         match self {
             Choice::PassphraseFile(name, _) => read_file(alloc, files, name, PASSPHRASE_FILE_MAX),

@@ -1,10 +1,10 @@
 //! The command that delivers a payload by a script.
 
-ghost use Rattle.std.specs.Prelude.{◌≡◌, ◌≤◌, ◌++◌, ◌∷◌, [], Some, IfOk, IfErr, OnOk, length, is_some};
+ghost use Rattle.std.specs.Prelude.{◌≡◌, ◌≤◌, ◌∷◌, [], Some, IfOk, IfErr, OnOk, length, is_some};
 ghost use Rattle.std.specs.Prelude.{true};
-ghost use Rattle.age_fileset.specs.FileSet.{Opened};
+ghost use Rattle.age_fileset.specs.FileSet.{Opened, Does};
 ghost use Rattle.age_command.specs.Endings.{RefusesAtOnce, is_usage};
-ghost use Rattle.age_command.specs.Orders.{Follows, order_asked};
+ghost use Rattle.age_command.specs.Orders.{Begins, order_asked};
 ghost use Rattle.age_cli_args.specs.Requests.{option_text};
 ghost use Rattle.age_cli_args.specs.declared.request.Request.TheVariants.{Drill};
 ghost use Rattle.age_stanza.specs.Grammar.{HasText};
@@ -33,9 +33,7 @@ const BYTES_MAX: usize = HEAD_MAX + PAYLOAD_NONCE_LEN + PAYLOAD_MAX + 1;
 
 /// The bytes of the file of a script.
 fn read_script<F: FileSet>(alloc: Global, files: &mut F, name: &str) -> Result<Vec<u8>, Ending>
-    ensures kept { (F.view files.new).entries ≡ (F.view files.old).entries }
-    ensures unended { (F.view files.new).ended ≡ (F.view files.old).ended }
-    ensures noted { (F.view files.new).events ≡ (F.view files.old).events ++ Opened name.now ∷ [] }
+    ensures does { Does (Opened name.now ∷ []) (F.view files.old) (F.view files.new) }
 {
     match read_file(alloc, files, name, SCRIPT_MAX)? {
         Some(script) if !has_too_many_lines(script.as_slice()) => Ok(script),
@@ -293,12 +291,10 @@ fn drill<F: FileSet, O: Sink>(
     unlock: Option<&Passphrase<'_>>,
     output: &mut O,
 ) -> Result<(), Ending>
-    ensures kept { (F.view files.new).entries ≡ (F.view files.old).entries }
-    ensures unended { (F.view files.new).ended ≡ (F.view files.old).ended }
-    ensures order { Follows (Opened asked.now.script.now ∷ Opened asked.now.from.now ∷ [])
-        (F.view files.old).events (F.view files.new).events }
-    ensures order_done { OnOk result ((F.view files.new).events ≡ (F.view files.old).events
-        ++ Opened asked.now.script.now ∷ Opened asked.now.from.now ∷ []) }
+    ensures order { Begins (Opened asked.now.script.now ∷ Opened asked.now.from.now ∷ [])
+        (F.view files.old) (F.view files.new) }
+    ensures order_done { OnOk result (Does (Opened asked.now.script.now ∷ Opened asked.now.from.now ∷ [])
+        (F.view files.old) (F.view files.new)) }
     ensures sent { OnOk result ((O.view output.new).settled ≡ true) }
     ensures silent { IfErr result (λ e. is_usage e ≡ true → output.new ≡ output.old) }
 {
@@ -315,13 +311,12 @@ fn drill_sealed<F: FileSet, O: Sink>(
     pass_name: &str,
     output: &mut O,
 ) -> Result<(), Ending>
-    ensures kept { (F.view files.new).entries ≡ (F.view files.old).entries }
-    ensures unended { (F.view files.new).ended ≡ (F.view files.old).ended }
-    ensures order { Follows
+    ensures order { Begins
         (Opened pass_name.now ∷ Opened asked.now.script.now ∷ Opened asked.now.from.now ∷ [])
-        (F.view files.old).events (F.view files.new).events }
-    ensures order_done { OnOk result ((F.view files.new).events ≡ (F.view files.old).events
-        ++ Opened pass_name.now ∷ Opened asked.now.script.now ∷ Opened asked.now.from.now ∷ []) }
+        (F.view files.old) (F.view files.new) }
+    ensures order_done { OnOk result (Does
+        (Opened pass_name.now ∷ Opened asked.now.script.now ∷ Opened asked.now.from.now ∷ [])
+        (F.view files.old) (F.view files.new)) }
     ensures sent { OnOk result ((O.view output.new).settled ≡ true) }
     ensures silent { IfErr result (λ e. is_usage e ≡ true → output.new ≡ output.old) }
 {
@@ -339,12 +334,9 @@ pub fn drill_file<F: FileSet, O: Sink>(
     asked: &Drilling<'_>,
     output: &mut O,
 ) -> Result<(), Ending>
-    ensures kept { (F.view files.new).entries ≡ (F.view files.old).entries }
-    ensures unended { (F.view files.new).ended ≡ (F.view files.old).ended }
-    ensures order { Follows (order_asked (Drill asked.now)).whole (F.view files.old).events
-        (F.view files.new).events }
-    ensures order_done { OnOk result ((F.view files.new).events
-        ≡ (F.view files.old).events ++ (order_asked (Drill asked.now)).done) }
+    ensures order { Begins (order_asked (Drill asked.now)).whole (F.view files.old) (F.view files.new) }
+    ensures order_done { OnOk result (Does (order_asked (Drill asked.now)).done (F.view files.old)
+        (F.view files.new)) }
     // What was written was sent on.
     ensures sent { OnOk result ((O.view output.new).settled ≡ true) }
     // What is refused prints nothing.

@@ -1,13 +1,13 @@
 //! The first bytes of a source or a file.
 
 ghost use Rattle.std.specs.Prelude.{◌≡◌, ◌^◌, ◌<◌, ◌≤◌, [], ℕ, List, length, OnOk, IfOk, IfErr};
-ghost use Rattle.std.specs.Prelude.{IfSome, IfNone, Some, true, ◌∷◌, ◌++◌};
-ghost use Rattle.age_fileset.specs.FileSet.{Opened, IsMemoryOr, OpenFails};
+ghost use Rattle.std.specs.Prelude.{IfSome, IfNone, ◌∷◌};
+ghost use Rattle.age_fileset.specs.FileSet.{Opened, Unfit, IsMemoryOr, OpenFails, Does, CameSince};
 ghost use Rattle.age_fault.specs.declared.fault.FileFault.TheVariants.{Read};
 ghost use Rattle.age_io.specs.Io.{Origin};
 ghost use Rattle.age_io.specs.Supply.{Consumes, IsAtEnd};
-ghost use Rattle.age_fileset.specs.FileSet.{ReadsOn, ReadSince, HasGivenAll};
-ghost use Rattle.age_fileset.specs.declared.files.OpenFault.TheVariants.{Fault};
+ghost use Rattle.age_fileset.specs.FileSet.{HasGiven, HasGivenAll};
+ghost use Rattle.age_fileset.specs.declared.files.OpenFault.TheVariants.{SameFile, Fault};
 ghost use Rattle.age_command.specs.Files.{AreFirst, SourceFails, IsUnread};
 ghost use Rattle.age_command.specs.inner.Pieces.{IsPiece};
 
@@ -95,7 +95,8 @@ pub fn read_up_to<S: Source>(
         (λ v. Consumes (S.view source.old).supply (S.view source.new).supply v.items
         × IsAtEnd (S.view source.new).supply)) }
     ensures long { IfOk result (λ o. IfNone o ((bytes : List ℕ)
-        → (S.view source.old).supply.left ≡ Some bytes → most < length bytes)) }
+        × Consumes (S.view source.old).supply (S.view source.new).supply bytes
+        × (most < length bytes))) }
     ensures faults { IfErr result (IsMemoryOr Read) }
     ensures failed { IfErr result (λ f. f ≡ Read → SourceFails S.view) }
     ensures began { (from : Origin) → S.began source.old from → S.began source.new from }
@@ -116,19 +117,17 @@ pub fn read_file<F: FileSet>(
     most: usize,
 ) -> Result<Option<Vec<u8>>, OpenFault>
     requires { most < 2 ^ 32 }
-    ensures kept { (F.view files.new).entries ≡ (F.view files.old).entries }
-    ensures unended { (F.view files.new).ended ≡ (F.view files.old).ended }
-    ensures noted { (F.view files.new).events ≡ (F.view files.old).events ++ Opened name.now ∷ [] }
-    ensures reads { ReadsOn (F.gave files.old) (F.gave files.new) }
+    ensures does { Does (Opened name.now ∷ []) (F.view files.old) (F.view files.new) }
     ensures given { IfOk result (λ o. IfSome o (λ v.
-        HasGivenAll (ReadSince (F.gave files.old) (F.gave files.new)) name.now v.items)) }
-    ensures all { IfOk result (λ o. IfSome o (λ v. F.shows_bytes ≡ true
-        → (F.view files.old).entries name.now ≡ Some v.items)) }
-    ensures long { IfOk result (λ o. IfNone o (F.shows_bytes ≡ true → (bytes : List ℕ)
-        → (F.view files.old).entries name.now ≡ Some bytes → most < length bytes)) }
-    ensures faults { IfErr result (OpenFails (F.shows_bytes) Read) }
-    ensures reason { F.shows_bytes ≡ true → IfErr result (λ f. f ≡ Fault Read
-        → IsUnread (F.view files.old).entries (F.view files.new).events (SourceFails F.In.view)) }
+        HasGivenAll (CameSince (F.view files.old) (F.view files.new)) name.now v.items)) }
+    ensures long { IfOk result (λ o. IfNone o ((bytes : List ℕ)
+        × HasGiven (CameSince (F.view files.old) (F.view files.new)) name.now bytes
+        × (most < length bytes))) }
+    ensures faults { IfErr result (OpenFails Read) }
+    ensures reason { IfErr result (λ f. f ≡ Fault Read
+        → IsUnread (CameSince (F.view files.old) (F.view files.new)) (SourceFails F.In.view)) }
+    ensures unfit { IfErr result (λ f. f ≡ SameFile
+        → CameSince (F.view files.old) (F.view files.new) Unfit) }
 {
     let mut source = files.open(alloc, name)?;
     let read = read_up_to(alloc, &mut source, most);

@@ -1,12 +1,14 @@
 //! What opens a file, and what the files of secrets hold.
 
-ghost use Rattle.std.specs.Prelude.{◌≡◌, [], ◌∷◌, ◌++◌, true, ℕ, List, IfOk, IfErr, IfSome, IfNone, Some};
-ghost use Rattle.age_fileset.specs.FileSet.{Opened};
+ghost use Rattle.std.specs.Prelude.{◌≡◌, [], ◌∷◌, ℕ, List, IfOk, IfErr, IfSome, IfNone, Some};
+ghost use Rattle.age_fileset.specs.FileSet.{Opened, Does, CameSince, HasGivenAll};
+ghost use Rattle.age_command.specs.declared.ending.Ending.TheVariants.{Usage as UsageEnding};
+ghost use Rattle.age_command.specs.declared.ending.Usage.TheVariants.{BadPassphraseFile};
 ghost use Rattle.age_keys.specs.Scrypt.{IsAllowed};
 ghost use Rattle.age_keys.specs.X25519.{Shared};
-ghost use Rattle.age_command.specs.Endings.{EndsEarly, is_usage};
+ghost use Rattle.age_command.specs.Endings.{EndsEarly};
 ghost use Rattle.age_command.specs.Identities.{IsPassphraseIn, IsSharedIn};
-ghost use Rattle.age_command.specs.Files.{without_line_feed};
+ghost use Rattle.age_command.specs.Files.{HoldsOnly, without_line_feed};
 
 use crate::first_bytes::read_file;
 use crate::secret::OwnPassphrase;
@@ -70,15 +72,13 @@ pub(crate) const SHARED_FILE_LEN: usize = 64;
 
 /// The bytes of a file that holds a passphrase.
 pub fn read_pass<F: FileSet>(alloc: Global, files: &mut F, name: &str) -> Result<Vec<u8>, Ending>
-    ensures kept { (F.view files.new).entries ≡ (F.view files.old).entries }
-    ensures unended { (F.view files.new).ended ≡ (F.view files.old).ended }
-    ensures noted { (F.view files.new).events ≡ (F.view files.old).events ++ Opened name.now ∷ [] }
+    ensures does { Does (Opened name.now ∷ []) (F.view files.old) (F.view files.new) }
     ensures early { IfErr result EndsEarly }
-    ensures read { IfOk result
-        (λ v. F.shows_bytes ≡ true → (F.view files.old).entries name.now ≡ Some v.items) }
-    ensures refused { F.shows_bytes ≡ true → IfErr result (λ e. is_usage e ≡ true
-        → (pass : List ℕ) (log : ℕ)
-        → IsPassphraseIn ((F.view files.old).entries name.now) pass → IsAllowed pass log → ⊥) }
+    ensures read { IfOk result (λ v.
+        HasGivenAll (CameSince (F.view files.old) (F.view files.new)) name.now v.items) }
+    ensures refused { IfErr result (λ e. e ≡ UsageEnding BadPassphraseFile
+        → HoldsOnly (CameSince (F.view files.old) (F.view files.new)) name.now (λ bytes.
+        (pass : List ℕ) (log : ℕ) → IsPassphraseIn (Some bytes) pass → IsAllowed pass log → ⊥)) }
 {
     let Some(bytes) = read_file(alloc, files, name, PASSPHRASE_FILE_MAX)? else {
         return Err(Ending::Usage(Usage::BadPassphraseFile));

@@ -230,6 +230,15 @@ impl Model for Ended {
     } };
 }
 
+impl Ended {
+    /// The bytes that its sink took, for contracts alone.
+    pub fn took(&self) -> &Tape
+        ensures { result.now ≡ self.now.took }
+    {
+        &self.took
+    }
+}
+
 /// A file of the machine that is written, or standard output or error. A regular file keeps its
 /// bytes until a put takes some. A contract sees the bytes that it took, none that it holds, how many
 /// puts have failed, and whether the last call did.
@@ -554,6 +563,13 @@ impl HostOut {
             pace,
             took,
         })
+    }
+
+    /// The bytes that it took, for contracts alone.
+    pub fn took(&self) -> &Tape
+        ensures { result.now ≡ self.now.took }
+    {
+        &self.took
     }
 
     /// Which file it is, if that is known.

@@ -1,2 +1,4 @@
 pub mod EntryLemmas
-pub mod ReadingLemmas
+pub mod MemoryLemmas
+pub mod OutcomeLemmas
+pub mod ShelfLemmas

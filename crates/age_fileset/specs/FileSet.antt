@@ -1,19 +1,20 @@
 -- What contracts see of a set of files, and what a set over memory does.
-use Rattle.std.specs.Prelude.{ℕ, List, ◌≡◌, ◌⊎◌, Bool, false, [], Option, Some, None, ◌≢◌, ◌-◌, ◌^◌}
-use Rattle.std.specs.Prelude.{true, ◌++◌, ◌∷◌}
-use Rattle.std.specs.Prelude.{find, length, nat_eq, option_map, Result, OnOk, OnErr}
+use Rattle.std.specs.Prelude.{ℕ, List, ◌≡◌, ◌⊎◌, ◌&&◌, Bool, false, [], Option, Some, None, ◌≢◌, ◌-◌, ◌^◌}
+use Rattle.std.specs.Prelude.{true, not, is_some, ◌++◌, ◌∷◌, if◌then◌else◌}
+use Rattle.std.specs.Prelude.{find, length, option_map, Result, Ok, Err, OnOk, OnErr}
 use Rattle.std.specs.Str.{bytes_eq}
-use Rattle.age_io.specs.Io.{Feeding, Holding, SourceView}
+use Rattle.std.specs.Io.KnownBytes.{IsAtEnd, prepend_known}
+use Rattle.age_io.specs.Io.{Feeding, Holding, SourceView, SinkView, holds, memory_supply}
 use Rattle.age_io.specs.declared.durability.Durability.{Durability}
 use Rattle.age_machine.specs.Ends.{EndedFile}
 use Rattle.age_machine.specs.Saved.{SavedFile}
 use Rattle.age_fault.specs.declared.fault.FileFault.{FileFault}
-use Rattle.age_fault.specs.declared.fault.FileFault.TheVariants.{Memory}
+use Rattle.age_fault.specs.declared.fault.FileFault.TheVariants.{Read, Write, Memory}
 use Rattle.age_fileset.specs.declared.files.OpenFault.{OpenFault}
 use Rattle.age_fileset.specs.declared.files.OpenFault.TheVariants.{SameFile, Fault}
 use Rattle.age_fileset.specs.declared.mem_entry.MemEntry.{MemEntry}
 
--- ---- What was done with a set of files.
+-- ---- What was to be done with a set of files.
 
 -- a file was to be opened, prepared to be replaced later, created, made where none is, or replaced
 -- under this name, whether that succeeded or not; the file that was created or made last was ended;
@@ -26,7 +27,7 @@ pub data Event : Type 0 where
   Replaced : List ℕ → Durability → Event
   Closed : Durability → Event
 
--- ---- What was read of files.
+-- ---- What came of it.
 
 -- what a file gave that was opened under this name, once its reading is over; whether a pull found its
 -- end, and whether the last pull failed
@@ -44,63 +45,204 @@ reading_of name source = record {
   failing = source.failing;
 }
 
--- what was done with a set of files, and what was read of them, in order
+pub data Outcome : Type 0 where
+  -- a file was opened under this name, or set back to its start: it has this to give, if contracts see
+  -- that
+  Found : List ℕ → Option (List ℕ) → Outcome
+  -- the same, but a file that isn't there counts as empty
+  FoundOrEmpty : List ℕ → Option (List ℕ) → Outcome
+  -- none could be opened; none could be prepared, created or made; none was there
+  Unread : List ℕ → Outcome
+  Unwritten : List ℕ → Outcome
+  Absent : List ℕ → Outcome
+  -- the reading of a file is over
+  Gave : Reading → Outcome
+  -- an output that took these bytes holds so many of them for certain, as the set says
+  Settled : List ℕ → ℕ → Outcome
+  -- A close or a replacing with these bytes succeeded. What a disk holds then is said by its calls: if
+  -- a put failed not all of the bytes need be there, and what failed may have left some.
+  Put : List ℕ → List ℕ → Outcome
+  -- what no name shows: two lead to one file or stream, or an output is a terminal or takes the lines
+  -- of faults
+  Unfit : Outcome
+
+-- what comes of a file that can't be opened, prepared or created
+abbrev pub refused_as : List ℕ → OpenFault → List Outcome
+refused_as name SameFile = Unfit ∷ []
+refused_as name (Fault Read) = Unread name ∷ []
+refused_as name (Fault Write) = Unwritten name ∷ []
+refused_as name (Fault other) = []
+
+-- of one that was to be opened, and whose source this is then
+abbrev pub opened_as : {In : Type 0} → (In → SourceView) → (Option (List ℕ) → Outcome) → List ℕ
+    → Result In OpenFault → List Outcome
+opened_as read found name (Ok source) = found (read source).supply.left ∷ []
+opened_as read found name (Err fault) = refused_as name fault
+
+-- of one that was to be set back to its start, and has this to give then
+abbrev pub reread_as : List ℕ → Option (List ℕ) → Result (Unit {0}) FileFault → List Outcome
+reread_as name left (Ok done) = Found name left ∷ []
+reread_as name left (Err fault) = refused_as name (Fault fault)
+
+-- of one that was to be prepared, created or made: this, or that it can't be
+abbrev pub made_as : {A : Type 0} → List Outcome → List ℕ → Result A OpenFault → List Outcome
+made_as made name (Ok out) = made
+made_as made name (Err fault) = refused_as name fault
+
+-- of one in whose place these bytes were to be put
+abbrev pub put_as : {E : Type 0} → List ℕ → List ℕ → Result (Unit {0}) E → List Outcome
+put_as name bytes (Ok done) = Put name bytes ∷ []
+put_as name bytes (Err fault) = []
+
+-- of a question whose answer no name shows
+abbrev pub unfit_if : Bool → List Outcome
+unfit_if true = Unfit ∷ []
+unfit_if false = []
+
+-- and whether two names are one file: equal ones are
+abbrev pub alike_as : (one other : List ℕ) → Bool → List Outcome
+alike_as one other answer = unfit_if (answer && not (bytes_eq one other))
+
+-- what was done with a set of files, and what came of it, in order
 pub record Doings : Type 0 where
   pub events : List Event
-  pub gave : List Reading
+  pub outcomes : List Outcome
 
--- files were read since, or none
-pub record ReadsOn (old new : List Reading) : Type 0 where
-  pub more : List Reading
-  pub is : new ≡ old ++ more
-
--- this reading is one of those since
-pub record ReadSince (old new : List Reading) (reading : Reading) : Type 0 where
-  pub before : List Reading
-  pub later : List Reading
-  pub is : new ≡ old ++ (before ++ reading ∷ later)
-
--- of the readings that are over, one of this name gave these bytes
-pub record HasGiven (IsOver : Reading → Type 0) (name bytes : List ℕ) : Type 0 where
-  pub reading : Reading
-  pub over : IsOver reading
-  pub named : reading.name ≡ name
-  pub given : reading.given ≡ bytes
-
--- and found its end: they are all that the file had to give
-pub record HasGivenAll (IsOver : Reading → Type 0) (name bytes : List ℕ) : Type 0 where
-  pub gave : HasGiven IsOver name bytes
-  pub whole : gave.reading.is_at_end ≡ true
-
--- ---- What contracts see of a set of files, the faults that it returns, and what it reads of a
--- file that may be missing.
+-- ---- What contracts see of a set of files, and what is done in a part of a run.
 
 -- what contracts see of a set of files
 pub record FilesView : Type 0 where
-  -- the bytes of the entry of each name, if there is one
-  pub entries : List ℕ → Option (List ℕ)
-  -- what was opened, prepared, created, replaced and closed, in order, whether it succeeded or not;
-  -- also of a set that doesn't show its entries
+  -- what was opened, prepared, created, replaced and closed, in order, whether it succeeded or not
   pub events : List Event
+  -- what came of that, and what was read, in order
+  pub outcomes : List Outcome
   -- the output that was ended last, if one was
   pub ended : Option EndedFile
   -- what was done for the file that was replaced last
   pub saved : SavedFile
 
+-- it came of what was done, and nothing else changed
+abbrev pub with_outcomes : List Outcome → FilesView → FilesView
+with_outcomes more files = record files { outcomes = files.outcomes ++ more }
+
+-- this was done, and that came of it
+abbrev pub with_event : Event → List Outcome → FilesView → FilesView
+with_event event more files = record files {
+  events = files.events ++ event ∷ [];
+  outcomes = files.outcomes ++ more;
+}
+
+-- an output was ended, and that came of it
+pub record EndsOne (durability : Durability) (more : List Outcome) (old new : FilesView) : Type 0 where
+  pub events : new.events ≡ old.events ++ Closed durability ∷ []
+  pub outcomes : new.outcomes ≡ old.outcomes ++ more
+  pub saved : new.saved ≡ old.saved
+
+-- bytes and the name under which they were put
+pub record Entry : Type 0 where
+  pub name : List ℕ
+  pub bytes : List ℕ
+
+abbrev pub entry : (name bytes : List ℕ) → Entry
+entry name bytes = record { name = name; bytes = bytes }
+
+-- what was put, in order
+unfoldable pub puts_in : List Outcome → List Entry
+puts_in [] = []
+puts_in (Put name bytes ∷ more) = entry name bytes ∷ puts_in more
+puts_in (other ∷ more) = puts_in more
+
+-- outcomes came since, by which this was put
+pub record PutsOnly (puts : List Entry) (old new : FilesView) : Type 0 where
+  pub more : List Outcome
+  pub is : new.outcomes ≡ old.outcomes ++ more
+  pub puts_are : puts_in more ≡ puts
+
+-- these events came since, and outcomes; nothing was put, ended or saved
+pub record Does (events : List Event) (old new : FilesView) : Type 0 where
+  pub more : List Outcome
+  pub is : new ≡ record old { events = old.events ++ events; outcomes = old.outcomes ++ more }
+  pub none_put : puts_in more ≡ []
+
+-- this came since
+pub record CameSince (old new : FilesView) (outcome : Outcome) : Type 0 where
+  pub before : List Outcome
+  pub later : List Outcome
+  pub is : new.outcomes ≡ old.outcomes ++ (before ++ outcome ∷ later)
+
+-- ---- What files gave, by what came.
+
+-- One of the files of this name gave these bytes, and its reading is over. What it had to give, if
+-- contracts see that, was these bytes and what is left.
+pub record HasGiven (Came : Outcome → Type 0) (name bytes : List ℕ) : Type 0 where
+  pub reading : Reading
+  pub over : Came (Gave reading)
+  pub named : reading.name ≡ name
+  pub given : reading.given ≡ bytes
+  pub left : Option (List ℕ)
+  pub found : Came (Found name (prepend_known bytes left))
+
+-- and found its end: they are all that the file had to give
+pub record HasGivenAll (Came : Outcome → Type 0) (name bytes : List ℕ) : Type 0 where
+  pub gave : HasGiven Came name bytes
+  pub whole : gave.reading.is_at_end ≡ true
+  pub none : IsAtEnd gave.left
+
+-- ---- Which faults a set of files returns.
+
 -- this fault, or memory ran out
 abbrev pub IsMemoryOr : FileFault → FileFault → Type 0
 IsMemoryOr other fault = (fault ≡ other) ⊎ (fault ≡ Memory)
 
--- this fault, or memory ran out; or the file is in use and can't be shared, which a set that shows
--- its entries never reports
-abbrev pub OpenFails : Bool → FileFault → OpenFault → Type 0
-OpenFails shows other SameFile = shows ≡ false
-OpenFails shows other (Fault fault) = IsMemoryOr other fault
+-- this fault, or memory ran out; or what it leads to is in use, and can't be shared
+abbrev pub OpenFails : FileFault → OpenFault → Type 0
+OpenFails other SameFile = Unit {0}
+OpenFails other (Fault fault) = IsMemoryOr other fault
+
+-- and in memory nothing is shared
+abbrev pub MemFails : FileFault → OpenFault → Type 0
+MemFails other SameFile = ⊥
+MemFails other (Fault fault) = IsMemoryOr other fault
 
 -- what a file holds; nothing if there is none
 abbrev pub or_empty : Option (List ℕ) → Option (List ℕ)
 or_empty None = Some []
 or_empty (Some bytes) = Some bytes
+
+-- ---- What stands under each name, by what came.
+
+abbrev pub Files : Type 0
+Files = List ℕ → Option (List ℕ)
+
+-- nothing
+abbrev pub no_files : Files
+no_files name = None
+
+-- once this came
+abbrev pub once : Files → Outcome → Files
+once files (Put name bytes) q = if bytes_eq name q then Some bytes else files q
+once files other q = files q
+
+-- once these came
+unfoldable pub stands : Files → List Outcome → Files
+stands files [] = files
+stands files (outcome ∷ more) = stands (once files outcome) more
+
+-- this is true of such files, in a set that shows them: in memory none is a stream, a terminal or on
+-- a disk
+abbrev pub Fits : Files → Outcome → Type 0
+Fits files (Found name left) = (is_some left ≡ true) × (left ≡ files name)
+Fits files (FoundOrEmpty name left) = left ≡ or_empty (files name)
+Fits files (Unread name) = files name ≡ None
+Fits files (Absent name) = files name ≡ None
+Fits files (Settled took size) = size ≡ length took
+Fits files Unfit = ⊥
+Fits files other = Unit {0}
+
+-- each of these, when it came
+unfoldable pub AllFit : Files → List Outcome → Type 0
+AllFit files [] = Unit {0}
+AllFit files (outcome ∷ more) = Fits files outcome × AllFit (once files outcome) more
 
 -- ---- What files over memory hold.
 
@@ -129,21 +271,42 @@ pub record Shelf : Type 0 where
   pub refused : List (List ℕ)
   -- how many bytes a file that is written can hold
   pub room : ℕ
-  -- what was done, and what was read
+  -- what was done, and what came of it
   pub events : List Event
-  pub gave : List Reading
+  pub outcomes : List Outcome
   -- the output that was ended last, if one was
   pub ended : Option EndedFile
 
--- once the reading of this file is over
-abbrev pub with_gave : List ℕ → Feeding → Shelf → Shelf
-with_gave name source old = record old {
-  gave = old.gave ++ record {
-    name = name;
-    given = source.given;
-    is_at_end = nat_eq (length source.left) 0;
-    failing = source.failing;
-  } ∷ [];
+-- what contracts see of it: it is on no disk
+abbrev pub seen_in : Shelf → FilesView
+seen_in shelf = record {
+  events = shelf.events;
+  outcomes = shelf.outcomes;
+  ended = shelf.ended;
+  saved = record { path = None; calls = [] };
+}
+
+-- what stands under each name is what came of what was done, which is all true
+pub record AreTrue (entries : List MemEntry) (outcomes : List Outcome) : Type 0 where
+  pub stand : (q : List ℕ) → entry_of entries q ≡ stands no_files outcomes q
+  pub fit : AllFit no_files outcomes
+
+-- a file over memory that is read, by its name and its source
+abbrev pub shown_in : List ℕ × Feeding → SourceView
+shown_in file = record {
+  supply = memory_supply file.1.given file.1.left;
+  failed = file.1.failures;
+  failing = file.1.failing;
+}
+
+-- and one that is written, by its name and its sink
+abbrev pub shown_out : List ℕ × Holding → SinkView
+shown_out file = record {
+  taken = holds file.1.held;
+  failed = file.1.failures;
+  failing = file.1.failing;
+  label = file.0;
+  settled = file.1.settled;
 }
 
 -- what contracts see of one that was ended: it is on no disk

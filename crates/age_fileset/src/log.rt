@@ -1,14 +1,17 @@
 //! What was done with a set of files, for contracts alone.
 
-ghost use Rattle.std.specs.Prelude.{◌≡◌, [], ◌∷◌, ◌++◌};
+ghost use Rattle.std.specs.Prelude.{◌≡◌, [], ◌∷◌, ◌++◌, option_map};
 ghost use Rattle.std.specs.Borrow.{ftrue};
 ghost use Rattle.age_fileset.specs.FileSet.{Doings, Opened, Prepared, Created, Made, Replaced, Closed};
+ghost use Rattle.age_fileset.specs.FileSet.{Found, FoundOrEmpty, Absent, Gave, Settled, Put, refused_as};
+ghost use Rattle.age_fileset.specs.FileSet.{unfit_if};
 ghost use Rattle.age_fileset.specs.inner.Events.{once_done, coded_doings};
 
+use crate::files::OpenFault;
 use age_io::{Durability, Tape};
 use std::marker::Model;
 
-/// What is done with a file.
+/// What is done with a file, or comes of that.
 #[derive(Clone, Copy)]
 enum Action<'a> {
     Opened(&'a str),
@@ -17,7 +20,14 @@ enum Action<'a> {
     Made(&'a str),
     Replaced(&'a str, Durability),
     Closed(Durability),
+    Found(&'a str, Option<&'a Tape>),
+    FoundOrEmpty(&'a str, Option<&'a Tape>),
+    Refused(&'a str, OpenFault),
+    Absent(&'a str),
     Gave(&'a Tape, &'a Tape, bool, bool),
+    Settled(&'a Tape, u64),
+    Put(&'a Tape, &'a Tape),
+    Answered(bool),
 }
 
 // Doings that no code holds: the proof of `note` adds one.
@@ -32,7 +42,7 @@ impl Model for Cell {
 
 impl Cell {
     fn empty() -> Cell
-        ensures { result.done ≡ record { events = []; gave = [] } }
+        ensures { result.done ≡ record { events = []; outcomes = [] } }
     {
         Cell {}
     }
@@ -42,8 +52,8 @@ impl Cell {
     {}
 }
 
-/// What was done with a set of files, and what was read of them, in order, for contracts alone. It
-/// has no bytes at run time.
+/// What was done with a set of files, and what came of it, in order, for contracts alone. It has no
+/// bytes at run time.
 #[derive(Debug, Drop)]
 pub struct Log {
     cell: Cell,
@@ -60,7 +70,7 @@ impl Model for Log {
 impl Log {
     /// Nothing was done so far.
     pub fn new() -> Log
-        ensures { result ≡ record { events = []; gave = [] } }
+        ensures { result ≡ record { events = []; outcomes = [] } }
     {
         Log {
             cell: Cell::empty(),
@@ -111,19 +121,80 @@ impl Log {
         self.cell.note(&Action::Closed(durability));
     }
 
+    /// A file was opened under this name, and has this to give, if contracts see that.
+    pub fn found(&mut self, name: &str, left: Option<&Tape>)
+        ensures { self.new ≡ record self.old {
+          outcomes = self.old.outcomes ++ Found name.now (option_map (λ t. t.now) left.entry) ∷ [];
+        } }
+    {
+        self.cell.note(&Action::Found(name, left));
+    }
+
+    /// The same; none of this name counts as empty.
+    pub fn found_or_empty(&mut self, name: &str, left: Option<&Tape>)
+        ensures { self.new ≡ record self.old {
+          outcomes = self.old.outcomes ++ FoundOrEmpty name.now (option_map (λ t. t.now) left.entry) ∷ [];
+        } }
+    {
+        self.cell.note(&Action::FoundOrEmpty(name, left));
+    }
+
+    /// A file of this name couldn't be opened, prepared or created.
+    pub fn refused(&mut self, name: &str, fault: OpenFault)
+        ensures { self.new ≡ record self.old {
+          outcomes = self.old.outcomes ++ refused_as name.now fault;
+        } }
+    {
+        self.cell.note(&Action::Refused(name, fault));
+    }
+
+    /// No file had this name.
+    pub fn absent(&mut self, name: &str)
+        ensures { self.new ≡ record self.old { outcomes = self.old.outcomes ++ Absent name.now ∷ [] } }
+    {
+        self.cell.note(&Action::Absent(name));
+    }
+
     /// The reading of a file is over that was opened under this name: it gave these bytes. Whether a
     /// pull found its end, and whether the last pull failed.
     pub fn gave(&mut self, name: &Tape, given: &Tape, is_at_end: bool, is_failing: bool)
         ensures { self.new ≡ record self.old {
-          gave = self.old.gave ++ record {
+          outcomes = self.old.outcomes ++ Gave (record {
             name = name.now;
             given = given.now;
             is_at_end = is_at_end;
             failing = is_failing;
-          } ∷ [];
+          }) ∷ [];
         } }
     {
         self.cell
             .note(&Action::Gave(name, given, is_at_end, is_failing));
+    }
+
+    /// An output that took these bytes holds so many of them for certain.
+    pub fn settled(&mut self, took: &Tape, size: u64)
+        ensures { self.new ≡ record self.old {
+          outcomes = self.old.outcomes ++ Settled took.now size ∷ [];
+        } }
+    {
+        self.cell.note(&Action::Settled(took, size));
+    }
+
+    /// These bytes were put under this name, in place of what stood there.
+    pub fn put(&mut self, name: &Tape, bytes: &Tape)
+        ensures { self.new ≡ record self.old {
+          outcomes = self.old.outcomes ++ Put name.now bytes.now ∷ [];
+        } }
+    {
+        self.cell.note(&Action::Put(name, bytes));
+    }
+
+    /// What no name shows was asked: whether two are one file, or an output a terminal.
+    pub fn answered(&mut self, is_unfit: bool)
+        ensures { self.new ≡ record self.old {
+          outcomes = self.old.outcomes ++ unfit_if is_unfit;
+        } }
+    {
+        self.cell.note(&Action::Answered(is_unfit));
     }
 }

@@ -6,9 +6,12 @@ ghost use Rattle.std.specs.Prelude.{option_map, length, false};
 ghost use Rattle.age_io.specs.Taken.{WriteAppends, Keeps};
 ghost use Rattle.age_io.specs.Io.{Puts, Pulls, Flushes, holds, memory_supply, IsNamed};
 ghost use Rattle.age_io.specs.Supply.{ReadConsumes};
-ghost use Rattle.age_fileset.specs.FileSet.{entry_of, empty_with, PutsEntry, IsMemoryOr, OpenFails};
+ghost use Rattle.age_fileset.specs.FileSet.{entry_of, empty_with, PutsEntry, IsMemoryOr};
 ghost use Rattle.age_fileset.specs.FileSet.{or_empty, Opened, Prepared, Created, Made, Replaced, Closed};
-ghost use Rattle.age_fileset.specs.FileSet.{ended_with, with_gave};
+ghost use Rattle.age_fileset.specs.FileSet.{Found, FoundOrEmpty, Absent, Gave, Settled};
+ghost use Rattle.age_fileset.specs.FileSet.{ended_with, opened_as, reread_as, made_as, put_as};
+ghost use Rattle.age_fileset.specs.FileSet.{shown_in, shown_out, seen_in, reading_of};
+ghost use Rattle.age_fileset.specs.FileSet.{MemFails, AreTrue};
 ghost use Rattle.age_fileset.specs.declared.files.OpenFault.TheVariants.{Fault};
 
 use crate::files::{FileSet, OpenFault};
@@ -17,7 +20,7 @@ use crate::mem_entry::{MemEntry, Name, bytes_of, put_entry};
 use age_fault::FileFault;
 use age_io::{Durability, Failed, MemSink, MemSource, Memory, Sink, Source, Tape};
 use age_stanza::Bytes;
-use std::alloc::Global;
+use std::alloc::{AllocError, Global};
 use std::marker::Model;
 
 /// Files over memory, whose names and bytes contracts see: the list of them, the names that can't
@@ -54,7 +57,7 @@ impl Model for MemEnded {
 }
 
 impl Model for MemFiles {
-    ghost use Rattle.age_fileset.specs.FileSet.{Shelf};
+    ghost use Rattle.age_fileset.specs.FileSet.{Shelf, AreTrue};
 
     ghost Value = { Shelf };
 
@@ -63,9 +66,11 @@ impl Model for MemFiles {
       refused = f.refused.items;
       room = f.room;
       events = f.log.events;
-      gave = f.log.gave;
+      outcomes = f.log.outcomes;
       ended = f.ended;
     } };
+
+    ghost invariant = { λ f. AreTrue f.entries.items f.log.outcomes };
 }
 
 /// A file over memory that is read. A contract sees its name and its source.
@@ -85,11 +90,7 @@ impl Model for MemIn {
 }
 
 impl Source for MemIn {
-    ghost view = { λ i. record {
-      supply = memory_supply i.1.given i.1.left;
-      failed = i.1.failures;
-      failing = i.1.failing;
-    } };
+    ghost view = { shown_in };
 
     ghost began = { λ i. IsNamed i.0 };
 
@@ -125,13 +126,7 @@ impl Model for MemOut {
 }
 
 impl Sink for MemOut {
-    ghost view = { λ o. record {
-      taken = holds o.1.held;
-      failed = o.1.failures;
-      failing = o.1.failing;
-      label = o.0;
-      settled = o.1.settled;
-    } };
+    ghost view = { shown_out };
 
     fn put(&mut self, from: &[u8]) -> Result<usize, Failed>
         ensures bound { IfOk result (λ n. (n ≤ length from.now) × (0 < length from.now → 0 < n)) }
@@ -164,7 +159,7 @@ impl MemFiles {
           refused = [];
           room = room;
           events = [];
-          gave = [];
+          outcomes = [];
           ended = None;
         } }
     {
@@ -180,15 +175,35 @@ impl MemFiles {
     /// Puts a file there, in place of one of its name. If memory is refused nothing changes.
     pub fn put(&mut self, alloc: Global, name: &str, bytes: Vec<u8>) -> Result<(), Memory>
         ensures puts { PutsEntry name.now bytes.items result self.old.entries self.new.entries }
-        ensures kept { self.new ≡ record self.old { entries = self.new.entries } }
+        ensures kept { self.new ≡ record self.old {
+          entries = self.new.entries;
+          outcomes = self.old.outcomes ++ put_as name.now bytes.items result;
+        } }
     {
         let Ok(name) = Name::new(alloc, name) else {
             return Err(Memory);
         };
-        match put_entry(&mut self.entries, name, Bytes::from_vec(bytes)) {
+        match self.put_noted(name, Bytes::from_vec(bytes)) {
             Ok(()) => Ok(()),
             Err(_) => Err(Memory),
         }
+    }
+
+    /// Puts bytes under a name, and notes that.
+    fn put_noted(&mut self, name: Name, bytes: Bytes) -> Result<(), AllocError>
+        ensures puts { PutsEntry name bytes result self.old.entries self.new.entries }
+        ensures there { is_some (entry_of self.old.entries name) ≡ true → IsOk result }
+        ensures kept { self.new ≡ record self.old {
+          entries = self.new.entries;
+          outcomes = self.old.outcomes ++ put_as name bytes result;
+        } }
+    {
+        let (mut own, mut put) = (Tape::new(), Tape::new());
+        own.note(name.as_str().as_bytes());
+        put.note(bytes.as_slice());
+        put_entry(&mut self.entries, name, bytes)?;
+        self.log.put(&own, &put);
+        Ok(())
     }
 
     /// The bytes of a file, if it is there.
@@ -198,9 +213,18 @@ impl MemFiles {
         bytes_of(self.entries.as_slice(), name)
     }
 
+    /// A law: what stands under each name is what came of what was done.
+    pub fn is_kept(&self)
+        ensures { AreTrue self.now.entries self.now.outcomes }
+    {
+        let _room = self.room;
+    }
+
     /// Notes that a reading is over.
     fn log_reading(&mut self, source: &MemIn)
-        ensures { self.new ≡ with_gave source.now.0 source.now.1 self.old }
+        ensures { self.new ≡ record self.old {
+          outcomes = self.old.outcomes ++ Gave (reading_of source.now.0 (shown_in source.now)) ∷ [];
+        } }
     {
         let (mut name, mut given) = (Tape::new(), Tape::new());
         name.note(source.name.as_str().as_bytes());
@@ -244,6 +268,16 @@ fn is_refused(refused: &[Name], name: &str) -> bool
     refused.iter().any(|r| r.as_str() == name)
 }
 
+/// The bytes of a file, or none if it isn't there.
+fn bytes_or_none<'a>(entries: &'a [MemEntry], name: &str) -> &'a [u8]
+    ensures { Some result.now ≡ or_empty (entry_of entries.now name.now) }
+{
+    match bytes_of(entries, name) {
+        Some(bytes) => bytes,
+        None => &[],
+    }
+}
+
 /// A copy of a file's bytes, to be read.
 fn source_of(alloc: Global, bytes: &[u8]) -> Result<MemSource, FileFault>
     ensures bytes { IfOk result (λ s. s.left ≡ bytes.now) }
@@ -284,7 +318,7 @@ fn new_out(alloc: Global, name: &str, room: usize) -> Result<MemOut, FileFault>
 fn open_out(alloc: Global, refused: &[Name], name: &str, room: usize) -> Result<MemOut, OpenFault>
     ensures made { IfOk result (λ o. o ≡ (name.now, empty_with room)) }
     ensures refused { IsErrOf result (Fault FileFault.Write) ↔ Contains refused.now name.now }
-    ensures faults { IfErr result (OpenFails true FileFault.Write) }
+    ensures faults { IfErr result (MemFails FileFault.Write) }
 {
     if is_refused(refused, name) {
         return Err(OpenFault::Fault(FileFault::Write));
@@ -292,77 +326,73 @@ fn open_out(alloc: Global, refused: &[Name], name: &str, room: usize) -> Result<
     Ok(new_out(alloc, name, room)?)
 }
 
-/// Puts a copy of bytes under a name. It refuses with `Memory` (28) alone.
-fn put_copy(
-    entries: &mut Vec<MemEntry>,
-    alloc: Global,
-    name: &str,
-    bytes: &[u8],
-) -> Result<(), FileFault>
-    ensures puts { PutsEntry name.now bytes.now result entries.old.items entries.new.items }
-    ensures memory { IfErr result (λ fault. fault ≡ FileFault.Memory) }
-{
-    let Ok(copy) = bytes.to_vec(alloc) else {
-        return Err(FileFault::Memory);
-    };
-    let Ok(own) = Name::new(alloc, name) else {
-        return Err(FileFault::Memory);
-    };
-    match put_entry(entries, own, Bytes::from_vec(copy)) {
-        Ok(()) => Ok(()),
-        Err(_) => Err(FileFault::Memory),
-    }
-}
-
 impl FileSet for MemFiles {
     type In = MemIn;
 
     type Out = MemOut;
 
-    ghost shows_bytes = { true };
-
-    ghost view = { λ f. record {
-      entries = entry_of f.entries;
-      events = f.events;
-      ended = f.ended;
-      saved = record { path = None; calls = [] };
-    } };
-
-    ghost gave = { λ f. f.gave };
+    ghost view = { seen_in };
 
     ghost file = { λ _. None };
 
+    /// Equal names alone stand for one file.
+    fn is_same(&mut self, one: &str, other: &str) -> bool
+        ensures same { self.new ≡ self.old }
+        ensures equal { result ≡ true ↔ (one.now ≡ other.now) }
+    {
+        one == other
+    }
+
+    /// None is a stream.
+    fn check_streams(&mut self, _alloc: Global, _names: &[Option<&str>]) -> Result<(), OpenFault>
+        ensures same { self.new ≡ self.old }
+        ensures ok { IsOk result }
+    {
+        Ok(())
+    }
+
     /// Opens a copy of a file's bytes. Refuses with `Read` (26) exactly if no file has the name.
     fn open(&mut self, alloc: Global, name: &str) -> Result<MemIn, OpenFault>
-        ensures kept { self.new
-            ≡ record self.old { events = self.old.events ++ Opened name.now ∷ [] } }
+        ensures kept { self.new ≡ record self.old {
+          events = self.old.events ++ Opened name.now ∷ [];
+          outcomes = self.old.outcomes ++ opened_as shown_in (Found name.now) name.now result;
+        } }
         ensures found { IfOk result (λ s. entry_of self.old.entries name.now ≡ Some s.1.left) }
         ensures begun { IfOk result (λ s. (s.0 ≡ name.now) × (s.1.given ≡ [])) }
         ensures missing { IsErrOf result (Fault FileFault.Read)
             ↔ (entry_of self.old.entries name.now ≡ None) }
-        ensures faults { IfErr result (OpenFails true FileFault.Read) }
+        ensures faults { IfErr result (MemFails FileFault.Read) }
     {
         self.log.opened(name);
-        match bytes_of(self.entries.as_slice(), name) {
-            Some(bytes) => Ok(new_in(alloc, name, bytes)?),
-            None => Err(OpenFault::Fault(FileFault::Read)),
-        }
+        let Some(bytes) = bytes_of(self.entries.as_slice(), name) else {
+            self.log.refused(name, OpenFault::Fault(FileFault::Read));
+            return Err(OpenFault::Fault(FileFault::Read));
+        };
+        let mut left = Tape::new();
+        left.note(bytes);
+        let source = new_in(alloc, name, bytes)?;
+        self.log.found(name, Some(&left));
+        Ok(source)
     }
 
     /// Opens a copy of a file's bytes, or of none if no file has the name.
     fn open_or_empty(&mut self, alloc: Global, name: &str) -> Result<MemIn, OpenFault>
-        ensures kept { self.new
-            ≡ record self.old { events = self.old.events ++ Opened name.now ∷ [] } }
+        ensures kept { self.new ≡ record self.old {
+          events = self.old.events ++ Opened name.now ∷ [];
+          outcomes = self.old.outcomes ++ opened_as shown_in (FoundOrEmpty name.now) name.now result;
+        } }
         ensures found { IfOk result
             (λ s. Some s.1.left ≡ or_empty (entry_of self.old.entries name.now)) }
         ensures begun { IfOk result (λ s. (s.0 ≡ name.now) × (s.1.given ≡ [])) }
         ensures faults { OnErr result (result ≡ Err (Fault FileFault.Memory)) }
     {
         self.log.opened(name);
-        match bytes_of(self.entries.as_slice(), name) {
-            Some(bytes) => Ok(new_in(alloc, name, bytes)?),
-            None => Ok(new_in(alloc, name, &[])?),
-        }
+        let bytes = bytes_or_none(self.entries.as_slice(), name);
+        let mut left = Tape::new();
+        left.note(bytes);
+        let source = new_in(alloc, name, bytes)?;
+        self.log.found_or_empty(name, Some(&left));
+        Ok(source)
     }
 
     /// Exactly as many bytes as are still to come.
@@ -381,7 +411,10 @@ impl FileSet for MemFiles {
     /// Opens a copy of the file's bytes once more. Refuses with `Read` (26) exactly if no file has
     /// the name.
     fn reread(&mut self, alloc: Global, name: &str, source: &mut MemIn) -> Result<(), FileFault>
-        ensures over { self.new ≡ with_gave source.old.0 source.old.1 self.old }
+        ensures over { self.new ≡ record self.old {
+          outcomes = self.old.outcomes ++ Gave (reading_of source.old.0 (shown_in source.old))
+              ∷ reread_as name.now (Some source.new.1.left) result;
+        } }
         ensures named { source.new.0 ≡ source.old.0 }
         ensures begun { OnOk result (source.new.1.given ≡ []) }
         ensures again { OnOk result (entry_of self.old.entries name.now ≡ Some source.new.1.left) }
@@ -390,17 +423,21 @@ impl FileSet for MemFiles {
         ensures faults { IfErr result (IsMemoryOr FileFault.Read) }
     {
         self.log_reading(source);
-        match bytes_of(self.entries.as_slice(), name) {
-            Some(bytes) => {
-                source.source = source_of(alloc, bytes)?;
-                Ok(())
-            }
-            None => Err(FileFault::Read),
-        }
+        let Some(bytes) = bytes_of(self.entries.as_slice(), name) else {
+            self.log.refused(name, OpenFault::Fault(FileFault::Read));
+            return Err(FileFault::Read);
+        };
+        let mut left = Tape::new();
+        left.note(bytes);
+        source.source = source_of(alloc, bytes)?;
+        self.log.found(name, Some(&left));
+        Ok(())
     }
 
     fn finish(&mut self, source: MemIn)
-        ensures over { self.new ≡ with_gave source.0 source.1 self.old }
+        ensures over { self.new ≡ record self.old {
+          outcomes = self.old.outcomes ++ Gave (reading_of source.0 (shown_in source)) ∷ [];
+        } }
     {
         self.log_reading(&source);
     }
@@ -426,12 +463,18 @@ impl FileSet for MemFiles {
         ensures made { IfOk result (λ o. o ≡ (name.now, empty_with self.old.room)) }
         ensures refused { IsErrOf result (Fault FileFault.Write)
             ↔ Contains self.old.refused name.now }
-        ensures kept { self.new
-            ≡ record self.old { events = self.old.events ++ Created name.now ∷ [] } }
-        ensures faults { IfErr result (OpenFails true FileFault.Write) }
+        ensures kept { self.new ≡ record self.old {
+          events = self.old.events ++ Created name.now ∷ [];
+          outcomes = self.old.outcomes ++ made_as [] name.now result;
+        } }
+        ensures faults { IfErr result (MemFails FileFault.Write) }
     {
         self.log.created(name);
-        open_out(alloc, self.refused.as_slice(), name, self.room)
+        let out = open_out(alloc, self.refused.as_slice(), name, self.room);
+        if let Err(fault) = out {
+            self.log.refused(name, fault);
+        }
+        out
     }
 
     /// As `create`, but refuses with `Write` (27) exactly if the name is one that can't be written, or
@@ -441,24 +484,54 @@ impl FileSet for MemFiles {
         ensures refused { IsErrOf result (Fault FileFault.Write)
             ↔ (Contains self.old.refused name.now
             ⊎ (is_some (entry_of self.old.entries name.now) ≡ true)) }
-        ensures kept { self.new
-            ≡ record self.old { events = self.old.events ++ Made name.now ∷ [] } }
-        ensures faults { IfErr result (OpenFails true FileFault.Write) }
+        ensures kept { self.new ≡ record self.old {
+          events = self.old.events ++ Made name.now ∷ [];
+          outcomes = self.old.outcomes ++ made_as (Absent name.now ∷ []) name.now result;
+        } }
+        ensures faults { IfErr result (MemFails FileFault.Write) }
     {
         self.log.made(name);
         if self.get(name).is_some() {
+            self.log.refused(name, OpenFault::Fault(FileFault::Write));
             return Err(OpenFault::Fault(FileFault::Write));
         }
-        open_out(alloc, self.refused.as_slice(), name, self.room)
+        let out = open_out(alloc, self.refused.as_slice(), name, self.room);
+        match out {
+            Ok(_) => self.log.absent(name),
+            Err(fault) => self.log.refused(name, fault),
+        }
+        out
+    }
+
+    /// None is the stream of faults.
+    fn is_for_faults(&mut self, _out: &MemOut) -> bool
+        ensures same { self.new ≡ self.old }
+        ensures none { result ≡ false }
+    {
+        false
+    }
+
+    /// None is a terminal.
+    fn is_terminal(&mut self, _out: &MemOut) -> bool
+        ensures same { self.new ≡ self.old }
+        ensures none { result ≡ false }
+    {
+        false
     }
 
     /// All that the sink took.
     fn settle(&mut self, out: &mut MemOut, _durability: Durability) -> u64
-        ensures kept { self.new ≡ self.old }
+        ensures kept { self.new ≡ record self.old {
+          outcomes = self.old.outcomes ++ Settled out.old.1.held result ∷ [];
+        } }
         ensures same { out.new ≡ out.old }
         ensures all { result ≡ length out.old.1.held }
     {
-        out.sink.bytes().len() as u64
+        let mut took = Tape::new();
+        took.note(out.sink.bytes());
+        let size = out.sink.bytes().len() as u64;
+        self.log.settled(&took, size);
+        size
     }
 
     /// Puts what the sink took under its name. That takes no memory if a file of the name is there.
@@ -469,13 +542,14 @@ impl FileSet for MemFiles {
         ensures kept { self.new ≡ record self.old {
           entries = self.new.entries;
           events = self.old.events ++ Closed durability ∷ [];
+          outcomes = self.old.outcomes ++ put_as out.0 out.1.held result;
           ended = Some (ended_with out.1.held true);
         } }
     {
         self.log.closed(durability);
         let MemOut { name, sink } = out;
         self.ended = Some(MemEnded::of(&sink, true));
-        match put_entry(&mut self.entries, name, Bytes::from_vec(sink.into_bytes())) {
+        match self.put_noted(name, Bytes::from_vec(sink.into_bytes())) {
             Ok(()) => Ok(()),
             Err(_) => Err(FileFault::Write),
         }
@@ -509,12 +583,19 @@ impl FileSet for MemFiles {
         ensures kept { self.new ≡ record self.old {
           entries = self.new.entries;
           events = self.old.events ++ Replaced name.now durability ∷ [];
+          outcomes = self.old.outcomes ++ put_as name.now bytes.now result;
         } }
     {
         self.log.replaced(name, durability);
         if is_refused(self.refused.as_slice(), name) || bytes.len() > self.room {
             return Err(FileFault::Write);
         }
-        put_copy(&mut self.entries, alloc, name, bytes)
+        let Ok(copy) = bytes.to_vec(alloc) else {
+            return Err(FileFault::Memory);
+        };
+        match self.put(alloc, name, copy) {
+            Ok(()) => Ok(()),
+            Err(_) => Err(FileFault::Memory),
+        }
     }
 }

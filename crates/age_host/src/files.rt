@@ -1,13 +1,14 @@
 //! The machine's files.
 
-ghost use Rattle.std.specs.Prelude.{◌≡◌, ◌∷◌, ◌++◌, [], true, false, None, Some, Err, IfOk, IfErr, IsErr};
-ghost use Rattle.std.specs.Prelude.{Contains, OnOk, IfSome, Option, List, ℕ};
+ghost use Rattle.std.specs.Prelude.{◌≡◌, ◌∷◌, ◌++◌, [], true, None, Some, Err, IfOk, IfErr, IsErr};
+ghost use Rattle.std.specs.Prelude.{Contains, OnOk, IfSome};
 ghost use Rattle.age_fault.specs.declared.fault.FileFault.TheVariants.{Read, Write, Memory};
-ghost use Rattle.age_fileset.specs.FileSet.{IsMemoryOr, OpenFails, Opened, Created, Made};
-ghost use Rattle.age_fileset.specs.declared.files.OpenFault.TheVariants.{SameFile, Fault};
+ghost use Rattle.age_fileset.specs.FileSet.{IsMemoryOr, OpenFails, Opened, Created, Made, Found};
+ghost use Rattle.age_fileset.specs.FileSet.{FoundOrEmpty, Absent, Put, opened_as, made_as};
+ghost use Rattle.age_fileset.specs.declared.files.OpenFault.TheVariants.{SameFile};
 ghost use Rattle.age_disk.specs.declared.names.FileId.{FileId};
-ghost use Rattle.age_disk.specs.Inputs.{IsUnread};
-ghost use Rattle.age_disk.specs.Outputs.{IsApart, IsMadeAt, HasAll, as_sink};
+ghost use Rattle.age_disk.specs.Inputs.{IsUnread, as_source};
+ghost use Rattle.age_disk.specs.Outputs.{IsApart, IsMadeAt, HasAll};
 ghost use Rattle.age_io.specs.Io.{IsNamed, Named};
 ghost use Rattle.age_machine.specs.Saved.{Saves};
 
@@ -17,19 +18,19 @@ use age_disk::{
 };
 use age_fault::FileFault;
 use age_fileset::{FileSet, Log, OpenFault};
-use age_io::Durability;
+use age_io::{Durability, Tape};
 use age_messages::{Action, Failures, announce_rereading, announce_sync};
 use std::alloc::{AllocError, Global};
 use std::io;
 use std::rt::HostRuntime;
 
-/// The machine's files. Contracts see what was done with them, and none of their bytes. A name is a
-/// path; `/dev/stdin`, `/dev/stdout`, `/dev/stderr` and their names under `/dev/fd` and
-/// `/proc/self/fd` are the streams that the program was started with. Two regular files or pipes
-/// are one if they have the same device and inode, and two block devices if they have the same
-/// number. Character devices and sockets that are written aren't compared. A stream gives each of
-/// its bytes once, and is opened once to be read: a pipe, a socket, a terminal and the like, and
-/// standard input, whatever that is.
+/// The machine's files. Contracts see what was done with them and what came of it, and of their
+/// bytes what was read and put. A name is a path; `/dev/stdin`, `/dev/stdout`, `/dev/stderr` and
+/// their names under `/dev/fd` and `/proc/self/fd` are the streams that the program was started
+/// with. Two regular files or pipes are one if they have the same device and inode, and two block
+/// devices if they have the same number. Character devices and sockets that are written aren't
+/// compared. A stream gives each of its bytes once, and is opened once to be read: a pipe, a socket,
+/// a terminal and the like, and standard input, whatever that is.
 #[derive(Drop)]
 pub struct HostFiles<'r, 'w> {
     rt: &'r HostRuntime,
@@ -65,8 +66,8 @@ impl<'r, 'w> HostFiles<'r, 'w> {
     /// Keeps a stream that is to be opened, before that is tried: it may wait forever.
     fn admit_stream(&mut self, alloc: Global, name: &str) -> Result<(), OpenFault>
         ensures kept { (self.new.log ≡ self.old.log) × (self.new.ended ≡ self.old.ended)
-            × (self.new.open ≡ self.old.open) }
-        ensures faults { IfErr result (OpenFails false Read) }
+            × (self.new.saved ≡ self.old.saved) × (self.new.open ≡ self.old.open) }
+        ensures faults { IfErr result (OpenFails Read) }
     {
         match StreamId::at(alloc, self.rt, name) {
             Ok(Some(stream)) => {
@@ -88,8 +89,9 @@ impl<'r, 'w> HostFiles<'r, 'w> {
         ensures begun { IfOk result (λ s. IsUnread name.now s.source) }
         ensures known { IfOk result (λ s. IfSome s.source.id (Contains self.new.open.items)) }
         ensures before { HasAll self.old.open.items self.new.open.items }
-        ensures kept { (self.new.log ≡ self.old.log) × (self.new.ended ≡ self.old.ended) }
-        ensures faults { IfErr result (OpenFails false Read) }
+        ensures kept { (self.new.log ≡ self.old.log) × (self.new.ended ≡ self.old.ended)
+            × (self.new.saved ≡ self.old.saved) }
+        ensures faults { IfErr result (OpenFails Read) }
     {
         match opened {
             Ok(file) => match keep(&mut self.open, file.id()) {
@@ -107,9 +109,11 @@ impl<'r, 'w> HostFiles<'r, 'w> {
     /// Keeps a file that was opened to be written, under its name, and takes it for this run alone.
     fn admit_created(&mut self, name: &str, out: HostOut) -> Result<WatchedOut<'r, 'w>, OpenFault>
         ensures same { IfOk result (λ o. o.sink ≡ out) }
+        ensures named { IfOk result (λ o. o.label ≡ name.now) }
         ensures apart { IfOk result (λ o. IsApart self.old.open.items o.sink) }
-        ensures kept { (self.new.log ≡ self.old.log) × (self.new.ended ≡ self.old.ended) }
-        ensures faults { IfErr result (OpenFails false Write) }
+        ensures kept { (self.new.log ≡ self.old.log) × (self.new.ended ≡ self.old.ended)
+            × (self.new.saved ≡ self.old.saved) }
+        ensures faults { IfErr result (OpenFails Write) }
     {
         let out = WatchedOut::new(out, name, self.failures);
         let out = admit_out(self.rt, &mut self.open, self.prepared.as_slice(), out)?;
@@ -118,7 +122,7 @@ impl<'r, 'w> HostFiles<'r, 'w> {
 
     /// Keeps why a file can't be written, which is the fault.
     fn refusal(&self, name: &str, error: io::Error) -> OpenFault
-        ensures { OpenFails false Write result }
+        ensures { OpenFails Write result }
     {
         let action = opening(self.rt, name);
         self.failures.note(action, self.failures.word(name), error);
@@ -132,7 +136,7 @@ impl<'r, 'w> HostFiles<'r, 'w> {
         others: &[Option<&str>],
         name: &str,
     ) -> Result<(), OpenFault>
-        ensures { IfErr result (OpenFails false Memory) }
+        ensures { IfErr result (OpenFails Memory) }
     {
         match find_same(alloc, self.rt, others, name) {
             Ok(Some(other)) => {
@@ -142,6 +146,18 @@ impl<'r, 'w> HostFiles<'r, 'w> {
             Ok(None) => Ok(()),
             Err(error) => Err(OpenFault::Fault(fault_of(error, FileFault::Memory))),
         }
+    }
+
+    /// Refuses the names among these that lead to one stream.
+    fn check_each(&self, alloc: Global, names: &[Option<&str>]) -> Result<(), OpenFault>
+        ensures { IfErr result (OpenFails Memory) }
+    {
+        for i in 0..names.len() {
+            if let Some(name) = names[i] {
+                self.check_stream(alloc, &names[..i], name)?;
+            }
+        }
+        Ok(())
     }
 
     /// Replaces the file of a name, as that was prepared, or as it stands now.
@@ -192,8 +208,9 @@ impl<'r, 'w> HostFiles<'r, 'w> {
 
     /// Keeps a file that was prepared, if it is none of those that are open.
     fn admit_prepared(&mut self, prepared: Prepared) -> Result<(), OpenFault>
-        ensures kept { (self.new.log ≡ self.old.log) × (self.new.ended ≡ self.old.ended) }
-        ensures faults { IfErr result (OpenFails false Write) }
+        ensures kept { (self.new.log ≡ self.old.log) × (self.new.ended ≡ self.old.ended)
+            × (self.new.saved ≡ self.old.saved) }
+        ensures faults { IfErr result (OpenFails Write) }
     {
         let id = prepared.id(self.rt);
         let is_for_faults = is_for_faults(self.rt, id);
@@ -255,7 +272,7 @@ fn is_one_file(rt: &HostRuntime, one: &str, other: &str) -> bool {
 
 /// Keeps a stream, if it is none of those that were kept before.
 fn keep_stream(kept: &mut Vec<StreamId>, stream: StreamId) -> Result<(), OpenFault>
-    ensures { IfErr result (OpenFails false Read) }
+    ensures { IfErr result (OpenFails Read) }
 {
     if kept.iter().any(|other| other.is_same(stream)) {
         return Err(OpenFault::SameFile);
@@ -328,7 +345,7 @@ fn keep(opened: &mut Vec<FileId>, id: Option<FileId>) -> Result<(), AllocError>
 fn admit(opened: &mut Vec<FileId>, id: Option<FileId>) -> Result<(), OpenFault>
     ensures apart { (one : FileId) → id ≡ Some one → Contains opened.old.items one
         → result ≡ Err SameFile }
-    ensures faults { IfErr result (OpenFails false Write) }
+    ensures faults { IfErr result (OpenFails Write) }
 {
     if is_known(opened.as_slice(), id) {
         return Err(OpenFault::SameFile);
@@ -348,8 +365,9 @@ fn admit_out<'r, 'w>(
     out: WatchedOut<'r, 'w>,
 ) -> Result<WatchedOut<'r, 'w>, OpenFault>
     ensures same { IfOk result (λ o. o.sink ≡ out.entry.sink) }
+    ensures named { IfOk result (λ o. o.label ≡ out.entry.label) }
     ensures apart { IfOk result (λ o. IsApart opened.old.items o.sink) }
-    ensures faults { IfErr result (OpenFails false Write) }
+    ensures faults { IfErr result (OpenFails Write) }
 {
     let other = find_prepared(rt, prepared, out.id());
     let admitted = if other.is_some() {
@@ -374,7 +392,8 @@ fn claimed<'r, 'w>(
     name: &str,
 ) -> Result<WatchedOut<'r, 'w>, OpenFault>
     ensures same { IfOk result (λ o. o.sink ≡ out.entry.sink) }
-    ensures faults { IfErr result (OpenFails false Write) }
+    ensures named { IfOk result (λ o. o.label ≡ out.entry.label) }
+    ensures faults { IfErr result (OpenFails Write) }
 {
     match out.claim(rt, name) {
         Ok(out) => Ok(out),
@@ -417,28 +436,34 @@ fn fault_of(error: io::Error, other: FileFault) -> FileFault
     }
 }
 
-// A method with a clause of its own repeats the trait's that the search can't prove. This set shows no
-// bytes, so in these what depends on that has the premise `false ≡ true`.
+/// Notes that these bytes were put under a name.
+fn note_put(log: &mut Log, name: &str, bytes: &[u8])
+    ensures { log.new ≡ record log.old { outcomes = log.old.outcomes ++ Put name.now bytes.now ∷ [] } }
+{
+    let (mut label, mut put) = (Tape::new(), Tape::new());
+    label.note(name.as_bytes());
+    put.note(bytes);
+    log.put(&label, &put);
+}
+
+// A method with a clause of its own repeats the trait's that the search can't prove. This set doesn't
+// show what a file that is opened has to give.
 impl<'r, 'w> FileSet for HostFiles<'r, 'w> {
     type In = WatchedIn<'r, 'w>;
 
     type Out = WatchedOut<'r, 'w>;
 
-    ghost shows_bytes = { false };
-
     ghost view = { λ f. record {
-      entries = λ _. None;
       events = f.log.events;
+      outcomes = f.log.outcomes;
       ended = f.ended;
       saved = f.saved;
     } };
 
-    ghost gave = { λ f. f.log.gave };
-
     ghost file = { λ o. o.sink.file };
 
     /// Two paths of one file are the same too, so that no link destroys what is read.
-    fn is_same(&self, one: &str, other: &str) -> bool {
+    fn is_same(&mut self, one: &str, other: &str) -> bool {
         if one == other {
             self.failures.note_twice(one, other);
             return true;
@@ -447,53 +472,66 @@ impl<'r, 'w> FileSet for HostFiles<'r, 'w> {
         if is_same {
             self.failures.note_twice(one, other);
         }
+        self.log.answered(is_same);
         is_same
     }
 
-    fn check_streams(&self, alloc: Global, names: &[Option<&str>]) -> Result<(), OpenFault> {
-        for i in 0..names.len() {
-            if let Some(name) = names[i] {
-                self.check_stream(alloc, &names[..i], name)?;
-            }
+    fn check_streams(&mut self, alloc: Global, names: &[Option<&str>]) -> Result<(), OpenFault> {
+        let checked = self.check_each(alloc, names);
+        if let Err(fault) = checked {
+            self.log.refused("", fault);
         }
-        Ok(())
+        checked
     }
 
     fn open(&mut self, alloc: Global, name: &str) -> Result<WatchedIn<'r, 'w>, OpenFault>
         ensures noted { self.new.log.events ≡ self.old.log.events ++ Opened name.now ∷ [] }
-        ensures unread { self.new.log.gave ≡ self.old.log.gave }
+        ensures came { self.new.log.outcomes ≡ self.old.log.outcomes
+            ++ opened_as (λ s. as_source s.source) (Found name.now) name.now result }
         ensures unended { self.new.ended ≡ self.old.ended }
+        ensures unsaved { self.new.saved ≡ self.old.saved }
         ensures begun { IfOk result (λ s. s.source.given ≡ []) }
         ensures named { IfOk result (λ s. IsNamed s.source.name (Named name.now)) }
-        ensures found { IfOk result (λ s. false ≡ true → (false ≡ true)
-            × (◌≡◌ {A = Option (List ℕ)} None None)) }
-        ensures missing { false ≡ true → IfErr result (λ f. f ≡ Fault Read
-            → ◌≡◌ {A = Option (List ℕ)} None None) }
-        ensures faults { IfErr result (OpenFails false Read) }
+        ensures faults { IfErr result (OpenFails Read) }
         ensures known { IfOk result (λ s. IfSome s.source.id (Contains self.new.open.items)) }
         ensures before { HasAll self.old.open.items self.new.open.items }
     {
         self.log.opened(name);
-        self.admit_stream(alloc, name)?;
-        self.admit_in(name, HostIn::open(alloc, self.rt, name))
+        if let Err(fault) = self.admit_stream(alloc, name) {
+            self.log.refused(name, fault);
+            return Err(fault);
+        }
+        let opened = self.admit_in(name, HostIn::open(alloc, self.rt, name));
+        match opened {
+            Ok(_) => self.log.found(name, None),
+            Err(fault) => self.log.refused(name, fault),
+        }
+        opened
     }
 
     fn open_or_empty(&mut self, alloc: Global, name: &str) -> Result<WatchedIn<'r, 'w>, OpenFault>
         ensures noted { self.new.log.events ≡ self.old.log.events ++ Opened name.now ∷ [] }
-        ensures unread { self.new.log.gave ≡ self.old.log.gave }
+        ensures came { self.new.log.outcomes ≡ self.old.log.outcomes
+            ++ opened_as (λ s. as_source s.source) (FoundOrEmpty name.now) name.now result }
         ensures unended { self.new.ended ≡ self.old.ended }
+        ensures unsaved { self.new.saved ≡ self.old.saved }
         ensures begun { IfOk result (λ s. s.source.given ≡ []) }
         ensures named { IfOk result (λ s. IsNamed s.source.name (Named name.now)) }
-        ensures found { IfOk result (λ s. false ≡ true
-            → ◌≡◌ {A = Option (List ℕ)} None (Some [])) }
-        ensures shown { false ≡ true → IfErr result (λ f. f ≡ Fault Memory) }
-        ensures faults { IfErr result (OpenFails false Read) }
+        ensures faults { IfErr result (OpenFails Read) }
         ensures known { IfOk result (λ s. IfSome s.source.id (Contains self.new.open.items)) }
         ensures before { HasAll self.old.open.items self.new.open.items }
     {
         self.log.opened(name);
-        self.admit_stream(alloc, name)?;
-        self.admit_in(name, HostIn::open_or_empty(alloc, self.rt, name))
+        if let Err(fault) = self.admit_stream(alloc, name) {
+            self.log.refused(name, fault);
+            return Err(fault);
+        }
+        let opened = self.admit_in(name, HostIn::open_or_empty(alloc, self.rt, name));
+        match opened {
+            Ok(_) => self.log.found_or_empty(name, None),
+            Err(fault) => self.log.refused(name, fault),
+        }
+        opened
     }
 
     /// The length of a regular file. Standard input has none.
@@ -509,16 +547,21 @@ impl<'r, 'w> FileSet for HostFiles<'r, 'w> {
     fn reread(
         &mut self,
         _alloc: Global,
-        _name: &str,
+        name: &str,
         source: &mut WatchedIn<'r, 'w>,
     ) -> Result<(), FileFault> {
         source.log_to(&mut self.log);
         match source.reread() {
             Ok(()) => {
                 announce_rereading(self.rt, self.failures);
+                self.log.found(name, None);
                 Ok(())
             }
-            Err(error) => Err(fault_of(error, FileFault::Read)),
+            Err(error) => {
+                let fault = fault_of(error, FileFault::Read);
+                self.log.refused(name, OpenFault::Fault(fault));
+                Err(fault)
+            }
         }
     }
 
@@ -537,58 +580,77 @@ impl<'r, 'w> FileSet for HostFiles<'r, 'w> {
             Some(spared) => FileId::at(self.rt, spared),
             None => None,
         };
-        match Prepared::new(alloc, self.rt, name, spared, self.durability) {
+        let admitted = match Prepared::new(alloc, self.rt, name, spared, self.durability) {
             Ok(prepared) => self.admit_prepared(prepared),
             Err(error) => Err(self.refusal(name, error)),
+        };
+        if let Err(fault) = admitted {
+            self.log.refused(name, fault);
         }
+        admitted
     }
 
     fn create(&mut self, alloc: Global, name: &str) -> Result<WatchedOut<'r, 'w>, OpenFault>
         ensures noted { self.new.log.events ≡ self.old.log.events ++ Created name.now ∷ [] }
-        ensures unread { self.new.log.gave ≡ self.old.log.gave }
+        ensures came { self.new.log.outcomes ≡ self.old.log.outcomes ++ made_as [] name.now result }
         ensures unended { self.new.ended ≡ self.old.ended }
-        ensures made { IfOk result (λ o. false ≡ true
-            → ((as_sink o.sink).taken.contents ≡ Some []) × ((as_sink o.sink).label ≡ name.now)) }
+        ensures unsaved { self.new.saved ≡ self.old.saved }
         ensures begun { IfOk result (λ o. (o.sink.took ≡ []) × (o.sink.failed ≡ 0)) }
+        ensures named { IfOk result (λ o. o.label ≡ name.now) }
         ensures apart { IfOk result (λ o. IsApart self.old.open.items o.sink) }
-        ensures faults { IfErr result (OpenFails false Write) }
+        ensures faults { IfErr result (OpenFails Write) }
     {
         self.log.created(name);
-        match HostOut::open(alloc, self.rt, name, self.durability) {
+        let out = match HostOut::open(alloc, self.rt, name, self.durability) {
             Ok(out) => self.admit_created(name, out),
             Err(error) => Err(self.refusal(name, error)),
+        };
+        if let Err(fault) = out {
+            self.log.refused(name, fault);
         }
+        out
     }
 
     fn create_new(&mut self, alloc: Global, name: &str) -> Result<WatchedOut<'r, 'w>, OpenFault>
         ensures noted { self.new.log.events ≡ self.old.log.events ++ Made name.now ∷ [] }
-        ensures unread { self.new.log.gave ≡ self.old.log.gave }
+        ensures came { self.new.log.outcomes
+            ≡ self.old.log.outcomes ++ made_as (Absent name.now ∷ []) name.now result }
         ensures unended { self.new.ended ≡ self.old.ended }
-        ensures made { IfOk result (λ o. false ≡ true
-            → ((as_sink o.sink).taken.contents ≡ Some []) × ((as_sink o.sink).label ≡ name.now)) }
-        ensures absent { OnOk result (false ≡ true → ◌≡◌ {A = Option (List ℕ)} None None) }
+        ensures unsaved { self.new.saved ≡ self.old.saved }
         ensures begun { IfOk result (λ o. (o.sink.took ≡ []) × (o.sink.failed ≡ 0)) }
+        ensures named { IfOk result (λ o. o.label ≡ name.now) }
         ensures apart { IfOk result (λ o. IsApart self.old.open.items o.sink) }
         ensures regular { IfOk result (λ o. IsMadeAt name.now o.sink) }
-        ensures faults { IfErr result (OpenFails false Write) }
+        ensures faults { IfErr result (OpenFails Write) }
     {
         self.log.made(name);
-        match HostOut::make(alloc, self.rt, name, self.durability) {
+        let out = match HostOut::make(alloc, self.rt, name, self.durability) {
             Ok(out) => self.admit_created(name, out),
             Err(error) => Err(self.refusal(name, error)),
+        };
+        match out {
+            Ok(_) => self.log.absent(name),
+            Err(fault) => self.log.refused(name, fault),
         }
+        out
     }
 
-    fn is_for_faults(&self, out: &WatchedOut<'r, 'w>) -> bool {
-        out.is_for_faults(self.rt)
+    fn is_for_faults(&mut self, out: &WatchedOut<'r, 'w>) -> bool {
+        let is_for_faults = out.is_for_faults(self.rt);
+        self.log.answered(is_for_faults);
+        is_for_faults
     }
 
-    fn is_terminal(&self, out: &WatchedOut<'r, 'w>) -> bool {
-        out.is_terminal()
+    fn is_terminal(&mut self, out: &WatchedOut<'r, 'w>) -> bool {
+        let is_terminal = out.is_terminal();
+        self.log.answered(is_terminal);
+        is_terminal
     }
 
     fn settle(&mut self, out: &mut WatchedOut<'r, 'w>, durability: Durability) -> u64 {
-        out.settle(self.rt, durability)
+        let size = out.settle(self.rt, durability);
+        self.log.settled(out.took(), size);
+        size
     }
 
     fn close(&mut self, out: WatchedOut<'r, 'w>, durability: Durability) -> Result<(), FileFault> {
@@ -597,7 +659,7 @@ impl<'r, 'w> FileSet for HostFiles<'r, 'w> {
         if durability == Durability::Synced && out.id().is_some() {
             announce_sync(self.rt, self.failures);
         }
-        let (ended, closed) = out.close(self.rt, durability);
+        let (ended, closed) = out.close(self.rt, durability, &mut self.log);
         self.ended = Some(ended);
         match closed {
             Ok(()) => Ok(()),
@@ -624,6 +686,7 @@ impl<'r, 'w> FileSet for HostFiles<'r, 'w> {
         match replaced {
             Ok(()) => {
                 self.failures.note_saved(name);
+                note_put(&mut self.log, name, bytes);
                 Ok(())
             }
             Err(error) => {

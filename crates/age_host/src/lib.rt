@@ -1,8 +1,8 @@
 //! The machine's files, and what people are told of them: what the program alone uses.
 //!
 //! `HostFiles` is a set of files. Contracts see which files were opened, created, replaced and
-//! ended, and none of their bytes. Its sources and sinks note for `Failures` what the machine
-//! answered.
+//! ended, what was read of them and what was put, and nothing else that they hold. Its sources and
+//! sinks note for `Failures` what the machine answered.
 #![tactic(auto)]
 
 mod files;

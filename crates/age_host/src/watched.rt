@@ -7,11 +7,11 @@ ghost use Rattle.age_io.specs.Taken.{WriteAppends, Keeps};
 ghost use Rattle.age_machine.specs.Ends.{Closes, Discards};
 ghost use Rattle.age_disk.specs.Inputs.{as_source};
 ghost use Rattle.age_disk.specs.Outputs.{HasNode, as_sink};
-ghost use Rattle.age_fileset.specs.FileSet.{reading_of};
+ghost use Rattle.age_fileset.specs.FileSet.{Gave, reading_of, put_as};
 
 use age_disk::{Ended, FileId, HostIn, HostOut, Prepared};
 use age_fileset::Log;
-use age_io::{Durability, Failed, Sink, Source};
+use age_io::{Durability, Failed, Sink, Source, Tape};
 use age_messages::{Action, Failures};
 use std::io::{self, Read, Write};
 use std::rt::HostRuntime;
@@ -80,7 +80,8 @@ impl<'r, 'w> WatchedIn<'r, 'w> {
     /// Notes that a reading is over.
     pub(crate) fn log_to(&self, log: &mut Log)
         ensures { log.new ≡ record log.old {
-          gave = log.old.gave ++ reading_of self.now.source.name (as_source self.now.source) ∷ [];
+          outcomes = log.old.outcomes
+              ++ Gave (reading_of self.now.source.name (as_source self.now.source)) ∷ [];
         } }
     {
         let source = &self.source;
@@ -123,18 +124,25 @@ pub struct WatchedOut<'r, 'w> {
     sink: HostOut,
     name: &'w str,
     failures: &'r Failures<'w>,
+    // The name under which it was created or made, for contracts alone.
+    label: Tape,
 }
 
 impl<'r, 'w> WatchedOut<'r, 'w> {
+    /// The sink of a file of this name.
     pub(crate) fn new(sink: HostOut, name: &str, failures: &'r Failures<'w>) -> WatchedOut<'r, 'w>
-        ensures { result.sink ≡ sink }
+        ensures same { result.sink ≡ sink }
+        ensures named { result.label ≡ name.now }
     {
+        let mut label = Tape::new();
+        label.note(name.as_bytes());
         let name = failures.word(name);
         failures.note_output(name);
         WatchedOut {
             sink,
             name,
             failures,
+            label,
         }
     }
 
@@ -165,18 +173,21 @@ impl<'r, 'w> WatchedOut<'r, 'w> {
 
     /// Takes it for this run alone.
     pub(crate) fn claim(self, rt: &HostRuntime, name: &str) -> io::Result<WatchedOut<'r, 'w>>
-        ensures { IfOk result (λ o. o.sink ≡ self.entry.sink) }
+        ensures same { IfOk result (λ o. o.sink ≡ self.entry.sink) }
+        ensures named { IfOk result (λ o. o.label ≡ self.entry.label) }
     {
         let WatchedOut {
             sink,
             name: word,
             failures,
+            label,
         } = self;
         match sink.claim(rt, name) {
             Ok(sink) => Ok(WatchedOut {
                 sink,
                 name: word,
                 failures,
+                label,
             }),
             Err(error) => {
                 failures.note(Action::Write, word, error);
@@ -192,31 +203,50 @@ impl<'r, 'w> WatchedOut<'r, 'w> {
 
     /// How many of the bytes that were written it holds for certain.
     pub(crate) fn settle(&mut self, rt: &HostRuntime, durability: Durability) -> u64
-        ensures { self.new.sink ≡ self.old.sink }
+        ensures same { self.new.sink ≡ self.old.sink }
+        ensures named { self.new.label ≡ self.old.label }
     {
         self.sink.settle(rt, durability)
     }
 
-    /// Ends it with what was written.
-    pub(crate) fn close(self, rt: &HostRuntime, durability: Durability) -> (Ended, io::Result<()>)
-        ensures closes { Closes durability self.entry.sink.file (as_sink self.entry.sink) result.1
-            result.0 }
+    /// The bytes that it took, for contracts alone.
+    pub(crate) fn took(&self) -> &Tape
+        ensures { result.now ≡ self.now.sink.took }
+    {
+        self.sink.took()
+    }
+
+    /// Ends it with what was written, and notes that this was put, if it was.
+    pub(crate) fn close(
+        self,
+        rt: &HostRuntime,
+        durability: Durability,
+        log: &mut Log,
+    ) -> (Ended, io::Result<()>)
+        ensures closes { Closes durability self.entry.sink.file
+            (record (as_sink self.entry.sink) { label = self.entry.label }) result.1 result.0 }
+        ensures noted { log.new ≡ record log.old {
+          outcomes = log.old.outcomes ++ put_as self.entry.label self.entry.sink.took result.1;
+        } }
     {
         let WatchedOut {
             sink,
             name,
             failures,
+            label,
         } = self;
         let (ended, closed) = sink.close(rt, durability);
-        if let Err(error) = closed {
-            failures.note(closing(durability), name, error);
+        match closed {
+            Ok(()) => log.put(&label, ended.took()),
+            Err(error) => failures.note(closing(durability), name, error),
         }
         (ended, closed)
     }
 
     /// Ends it if nothing was written.
     pub(crate) fn discard(self, rt: &HostRuntime, durability: Durability) -> Ended
-        ensures discards { Discards self.entry.sink.file (as_sink self.entry.sink) result }
+        ensures discards { Discards self.entry.sink.file
+            (record (as_sink self.entry.sink) { label = self.entry.label }) result }
     {
         self.sink.discard(rt, durability)
     }
@@ -231,7 +261,7 @@ fn closing(durability: Durability) -> Action {
 }
 
 impl<'r, 'w> Sink for WatchedOut<'r, 'w> {
-    ghost view = { λ s. as_sink s.sink };
+    ghost view = { λ s. record (as_sink s.sink) { label = s.label } };
 
     fn put(&mut self, from: &[u8]) -> Result<usize, Failed>
         ensures bound { IfOk result (λ n. (n ≤ length from.now) × (0 < length from.now → 0 < n)) }
@@ -239,6 +269,7 @@ impl<'r, 'w> Sink for WatchedOut<'r, 'w> {
             from.now }
         ensures counted { MatchResult result (λ _. self.new.sink.failed ≡ self.old.sink.failed)
             (λ _. self.new.sink.failed ≡ one_more self.old.sink.failed) }
+        ensures named { self.new.label ≡ self.old.label }
         ensures last { self.new.sink.failing ≡ is_err result }
         ensures same { (self.new.sink.file ≡ self.old.sink.file)
             × (self.new.sink.id ≡ self.old.sink.id) }
@@ -256,6 +287,7 @@ impl<'r, 'w> Sink for WatchedOut<'r, 'w> {
         ensures bytes { Keeps (as_sink self.old.sink).taken (as_sink self.new.sink).taken }
         ensures counted { MatchResult result (λ _. self.new.sink.failed ≡ self.old.sink.failed)
             (λ _. self.new.sink.failed ≡ one_more self.old.sink.failed) }
+        ensures named { self.new.label ≡ self.old.label }
         ensures last { self.new.sink.failing ≡ is_err result }
         ensures same { (self.new.sink.file ≡ self.old.sink.file)
             × (self.new.sink.id ≡ self.old.sink.id) }

@@ -1,18 +1,22 @@
 -- How code notes what was done with a set of files. Private: no public contract cites this module.
-use Rattle.std.specs.Prelude.{◌≡◌, ◌⊎◌, ℕ, Bool, List, [], ◌∷◌, ◌++◌, refl}
+use Rattle.std.specs.Prelude.{◌≡◌, ◌⊎◌, ℕ, Bool, List, [], ◌∷◌, ◌++◌, refl, Option, Some, None, option_map}
 use Rattle.std.specs.Coded.{Coded, coded_ℕ, coded_bool, coded_list, coded⊎, coded×, code_by}
 use base.Stored.{coded_unit}
 use mathlib.Core.Logic.{inl, inr}
 use Rattle.age_io.specs.declared.durability.Durability.TheVariants.{Synced, Buffered}
 use Rattle.age_fileset.specs.FileSet.{Event, Opened, Prepared, Created, Made, Replaced, Closed}
-use Rattle.age_fileset.specs.FileSet.{Reading, Doings}
+use Rattle.age_fileset.specs.FileSet.{Reading, Doings, Outcome, Found, FoundOrEmpty, Unread, Unwritten}
+use Rattle.age_fileset.specs.FileSet.{Absent, Gave, Settled, Put, Unfit, refused_as, unfit_if}
 use Rattle.age_fileset.specs.declared.log.Action.{Action}
 use Rattle.age_fileset.specs.declared.log.Action.TheVariants as action
 
 abbrev did : Event → Doings → Doings
 did event old = record old { events = old.events ++ event ∷ [] }
 
--- what was done by then, once an action is
+abbrev came : List Outcome → Doings → Doings
+came more old = record old { outcomes = old.outcomes ++ more }
+
+-- what was done by then, and came of it, once an action is
 abbrev pub once_done : Action → Doings → Doings
 once_done (action.Opened name) old = did (Opened name.now) old
 once_done (action.Prepared name) old = did (Prepared name.now) old
@@ -20,6 +24,11 @@ once_done (action.Created name) old = did (Created name.now) old
 once_done (action.Made name) old = did (Made name.now) old
 once_done (action.Replaced name durability) old = did (Replaced name.now durability) old
 once_done (action.Closed durability) old = did (Closed durability) old
+once_done (action.Found name left) old = came (Found name.now (option_map (λ t. t.now) left) ∷ []) old
+once_done (action.FoundOrEmpty name left) old =
+    came (FoundOrEmpty name.now (option_map (λ t. t.now) left) ∷ []) old
+once_done (action.Refused name fault) old = came (refused_as name.now fault) old
+once_done (action.Absent name) old = came (Absent name.now ∷ []) old
 once_done (action.Gave name given is_at_end is_failing) old =
     let reading : Reading = record {
       name = name.now;
@@ -27,7 +36,10 @@ once_done (action.Gave name given is_at_end is_failing) old =
       is_at_end = is_at_end;
       failing = is_failing;
     } in
-    record old { gave = old.gave ++ reading ∷ [] }
+    came (Gave reading ∷ []) old
+once_done (action.Settled took size) old = came (Settled took.now size ∷ []) old
+once_done (action.Put name bytes) old = came (Put name.now bytes.now ∷ []) old
+once_done (action.Answered unfit) old = came (unfit_if unfit) old
 
 -- an event as a choice among sums, the form in which ghost state is kept
 abbrev Parts : Type 0
@@ -71,14 +83,73 @@ coded_event = code_by Parts (coded⊎ coded_named (coded⊎ coded_named (coded�
     (coded⊎ coded_named (coded⊎ coded_named (coded⊎ coded_named (coded⊎ coded_unit coded_unit)))))))
     split join join-split
 
--- a reading as a tuple, and what was done as a pair of lists
-abbrev coded_reading : Coded Reading
-coded_reading = code_by (List ℕ × (List ℕ × (Bool × Bool)))
-    (coded× coded_named (coded× coded_named (coded× coded_bool coded_bool)))
-    (λ r. (r.name, (r.given, (r.is_at_end, r.failing))))
-    (λ t. record { name = t.0; given = t.1.0; is_at_end = t.1.1.0; failing = t.1.1.1 }) (λ r. refl)
+-- an outcome likewise
+abbrev Left : Type 0
+Left = Unit {0} ⊎ List ℕ
 
+abbrev left_of : Option (List ℕ) → Left
+left_of None = inl tt
+left_of (Some bytes) = inr bytes
+
+abbrev known_of : Left → Option (List ℕ)
+known_of (inl _) = None
+known_of (inr bytes) = Some bytes
+
+abbrev Bytes : Type 0
+Bytes = List ℕ
+
+abbrev Pieces : Type 0
+Pieces = (Bytes × Left) ⊎ ((Bytes × Left) ⊎ (Bytes ⊎ (Bytes ⊎ (Bytes ⊎ ((Bytes × (Bytes × (Bool × Bool)))
+    ⊎ ((Bytes × ℕ) ⊎ ((Bytes × Bytes) ⊎ Unit {0})))))))
+
+abbrev cut : Outcome → Pieces
+cut (Found name left) = inl (name, left_of left)
+cut (FoundOrEmpty name left) = inr (inl (name, left_of left))
+cut (Unread name) = inr (inr (inl name))
+cut (Unwritten name) = inr (inr (inr (inl name)))
+cut (Absent name) = inr (inr (inr (inr (inl name))))
+cut (Gave r) = inr (inr (inr (inr (inr (inl (r.name, (r.given, (r.is_at_end, r.failing))))))))
+cut (Settled took size) = inr (inr (inr (inr (inr (inr (inl (took, size)))))))
+cut (Put name bytes) = inr (inr (inr (inr (inr (inr (inr (inl (name, bytes))))))))
+cut Unfit = inr (inr (inr (inr (inr (inr (inr (inr tt)))))))
+
+abbrev glue : Pieces → Outcome
+glue (inl t) = Found t.0 (known_of t.1)
+glue (inr (inl t)) = FoundOrEmpty t.0 (known_of t.1)
+glue (inr (inr (inl name))) = Unread name
+glue (inr (inr (inr (inl name)))) = Unwritten name
+glue (inr (inr (inr (inr (inl name))))) = Absent name
+glue (inr (inr (inr (inr (inr (inl t)))))) =
+    Gave (record { name = t.0; given = t.1.0; is_at_end = t.1.1.0; failing = t.1.1.1 })
+glue (inr (inr (inr (inr (inr (inr (inl t))))))) = Settled t.0 t.1
+glue (inr (inr (inr (inr (inr (inr (inr (inl t)))))))) = Put t.0 t.1
+glue (inr (inr (inr (inr (inr (inr (inr (inr _)))))))) = Unfit
+
+pub glue-cut : (o : Outcome) → glue (cut o) ≡ o
+glue-cut (Found name None) = refl
+glue-cut (Found name (Some bytes)) = refl
+glue-cut (FoundOrEmpty name None) = refl
+glue-cut (FoundOrEmpty name (Some bytes)) = refl
+glue-cut (Unread name) = refl
+glue-cut (Unwritten name) = refl
+glue-cut (Absent name) = refl
+glue-cut (Gave r) = refl
+glue-cut (Settled took size) = refl
+glue-cut (Put name bytes) = refl
+glue-cut Unfit = refl
+
+abbrev coded_found : Coded (Bytes × Left)
+coded_found = coded× coded_named (coded⊎ coded_unit coded_named)
+
+abbrev coded_outcome : Coded Outcome
+coded_outcome = code_by Pieces (coded⊎ coded_found (coded⊎ coded_found (coded⊎ coded_named
+    (coded⊎ coded_named (coded⊎ coded_named
+    (coded⊎ (coded× coded_named (coded× coded_named (coded× coded_bool coded_bool)))
+    (coded⊎ (coded× coded_named coded_ℕ) (coded⊎ (coded× coded_named coded_named) coded_unit))))))))
+    cut glue glue-cut
+
+-- and what was done, and came of it, as a pair of lists
 abbrev pub coded_doings : Coded Doings
-coded_doings = code_by (List Event × List Reading)
-    (coded× (coded_list coded_event) (coded_list coded_reading)) (λ d. (d.events, d.gave))
-    (λ t. record { events = t.0; gave = t.1 }) (λ d. refl)
+coded_doings = code_by (List Event × List Outcome)
+    (coded× (coded_list coded_event) (coded_list coded_outcome)) (λ d. (d.events, d.outcomes))
+    (λ t. record { events = t.0; outcomes = t.1 }) (λ d. refl)

@@ -1,141 +1,155 @@
-use Rattle.std.proofs.Common.{◌∙◌, ◌++◌, ◌∷◌, [], refl, ap, sym, subst, inl, inr, true≢false}
+use Rattle.std.proofs.Common.{◌∙◌, ◌∷◌, [], refl, sym, subst, inl, inr, true≢false, Err}
+use Rattle.clap.specs.Words.{Text}
 use Rattle.age_cli_args.specs.Requests.{option_text}
-use Rattle.age_fileset.specs.FileSet.{Opened}
+use Rattle.age_fileset.specs.FileSet.{Opened, Unfit, Does, CameSince, HasGiven}
+use Rattle.age_fileset.proofs.OutcomeLemmas.{all_as, given_as, checked_does, checked_unfit, does_then}
 use Rattle.age_command.specs.Endings.{EndsEarly}
 use Rattle.age_command.specs.Files.{SourceFails}
-use Rattle.age_command.specs.inner.Endings.{ending_of}
-use Rattle.age_command.specs.declared.ending.Ending.{Ending}
 use Rattle.age_command.specs.Orders.{random_name}
-use Rattle.age_command.specs.Files.{Files}
-use Rattle.age_cli.specs.Commands.{HoldsNoRandom}
-use Rattle.age_cli.proofs.CommandLemmas.{no_value, not_well, this_error, created_fault, streams_early, streams_reason, reason_at}
-use Rattle.clap.specs.Words.{Text}
-use Rattle.age_fileset.specs.FileSet.{ReadSince, HasGiven}
-use Rattle.age_fileset.proofs.ReadingLemmas.{all_as, given_as, reads_then, since_then, then_since}
-use Rattle.age_command.proofs.EventLemmas.{followed, none_done, then_did}
+use Rattle.age_command.proofs.EventLemmas.{begun, begins_none, begins_then}
+use Rattle.age_command.proofs.ResultLemmas.{not_well, this_error}
+use Rattle.age_cli.proofs.ReadLemmas.{came_did, did_came, pass_blamed, random_blamed, reason_as, same_events, streams_early, streams_reason, unfit_usage}
 use Rattle.age_cli.proofs.encrypt_command.read_material.Goals as goal
 
 pub returns-then-names_out_twice-clause-judges : goal.returns-then-names_out_twice-clause-judges
-returns-then-names_out_twice-clause-judges g c = record {
-  kept = refl;
-  unended = refl;
-  read = tt;
-  noted = tt;
-  followed = none_done _ _;
-  apart = λ twice. (refl, refl);
-  blamed = λ shown usage. inl (refl, c.names_out_twice.ensures.shown shown c.if-names_out_twice.true);
-  early = tt;
-  reason = λ shown. tt;
-}
+returns-then-names_out_twice-clause-judges g c =
+    let Files = g.F.FileSet.view in
+    let names = c.names_out_twice.ensures in
+    let old = Files c.args.files.now in
+    let new = Files c.names_out_twice.new.files in
+    let a = c.args.asked.now in
+    record {
+      noted = tt;
+      followed = begins_then [] (Opened a.pass.now ∷ Opened (random_name (option_text a.random)) ∷ []) old new new names.does (begins_none _ new);
+      apart = λ twice. (same_events old new names.does, refl);
+      blamed = λ usage. elim (names.found c.if-names_out_twice.true) [ inl twice ↦ inl (inl (refl, twice)) | inr unfit ↦ inr (inl refl, unfit) ];
+      early = tt;
+      reason = tt;
+    }
 
 pub returns-in_err-check_streams-clause-judges : goal.returns-in_err-check_streams-clause-judges
 returns-in_err-check_streams-clause-judges g c =
+    let Files = g.F.FileSet.view in
+    let names = c.names_out_twice.ensures in
+    let old = Files c.args.files.now in
+    let named = Files c.names_out_twice.new.files in
+    let new = Files c.check_streams.new.self in
+    let a = c.args.asked.now in
     let r = c.from_residual.result in
-    let e : Ending = ending_of c.in_err-check_streams.field-0.0 in
+    let f = c.in_err-check_streams.field-0.0 in
     let is = c.from_residual.ensures in
-    let fails = c.in_err-check_streams.ensures in
+    let noted = c.in_err-check_streams.ensures.noted in
+    let fails = c.in_err-check_streams.ensures.faults in
+    let did = does_then [] [] old named new names.does (checked_does {A = Unit {0}} named new (Err f) noted fails) in
     record {
-      kept = refl;
-      unended = refl;
-      read = no_value r e is _;
-      noted = not_well r e is _;
-      followed = none_done _ _;
-      apart = λ twice. absurd (true≢false (sym (c.names_out_twice.ensures.twice twice) ∙ c.if-names_out_twice.false));
-      blamed = λ shown. this_error r e is _ (λ usage. absurd (true≢false (sym usage ∙ created_fault _ _ _ fails shown)));
-      early = this_error r e is EndsEarly (streams_early _ _ fails);
-      reason = λ shown. this_error r e is _ (streams_reason _ _ _ _ _ fails);
+      noted = not_well r _ is _;
+      followed = begins_then [] (Opened a.pass.now ∷ Opened (random_name (option_text a.random)) ∷ []) old new new did (begins_none _ new);
+      apart = λ twice. absurd (true≢false (sym (names.twice twice) ∙ c.if-names_out_twice.false));
+      blamed = this_error r _ is _ (λ usage. inr (unfit_usage f (CameSince old new)
+          (λ same. did_came [] old named new names.does Unfit (checked_unfit {A = Unit {0}} named new (Err f) noted same)) usage));
+      early = this_error r _ is EndsEarly (streams_early f fails);
+      reason = this_error r _ is _ (streams_reason (CameSince old new) (SourceFails g.F.In.Source.view) f fails);
     }
 
 pub returns-in_err-pass-clause-judges : goal.returns-in_err-pass-clause-judges
 returns-in_err-pass-clause-judges g c =
+    let Files = g.F.FileSet.view in
+    let names = c.names_out_twice.ensures in
+    let old = Files c.args.files.now in
+    let named = Files c.names_out_twice.new.files in
+    let mid = Files c.check_streams.new.self in
+    let new = Files c.read_pass.new.files in
     let a = c.args.asked.now in
     let r = c.from_residual-in_err-pass.result in
     let e = c.in_err-pass.field-0.0 in
     let is = c.from_residual-in_err-pass.ensures in
+    let pass = c.in_err-pass.ensures in
+    let did = does_then [] [] old named mid names.does (checked_does {A = Unit {0}} named mid c.check_streams.result c.check_streams.ensures.noted c.check_streams.ensures.faults) in
     record {
-      kept = c.in_err-pass.ensures.kept;
-      unended = c.in_err-pass.ensures.unended;
-      read = no_value r e is _;
-      noted = not_well r e is _;
+      noted = not_well r _ is _;
       followed = record {
         done = Opened a.pass.now ∷ [];
         rest = Opened (random_name (option_text a.random)) ∷ [];
-        did = c.in_err-pass.ensures.noted;
+        did = does_then [] (Opened a.pass.now ∷ []) old mid new did pass.does;
         front = refl;
       };
-      apart = λ twice. absurd (true≢false (sym (c.names_out_twice.ensures.twice twice) ∙ c.if-names_out_twice.false));
-      blamed = λ shown. this_error r e is _ (λ usage. inr (inl (c.in_err-pass.ensures.refused shown usage)));
-      early = this_error r e is EndsEarly c.in_err-pass.ensures.early;
-      reason = λ shown. this_error r e is _ (c.in_err-pass.ensures.reason shown);
+      apart = λ twice. absurd (true≢false (sym (names.twice twice) ∙ c.if-names_out_twice.false));
+      blamed = this_error r _ is _ (λ usage. pass_blamed (CameSince mid new) (CameSince old new) (did_came [] old mid new did) a e (pass.refused usage));
+      early = this_error r _ is EndsEarly pass.early;
+      reason = this_error r _ is _ (reason_as (CameSince mid new) (CameSince old new) (did_came [] old mid new did) (SourceFails g.F.In.Source.view) e pass.reason);
     }
 
 pub returns-in_err-random-clause-judges : goal.returns-in_err-random-clause-judges
 returns-in_err-random-clause-judges g c =
+    let Files = g.F.FileSet.view in
+    let names = c.names_out_twice.ensures in
+    let old = Files c.args.files.now in
+    let named = Files c.names_out_twice.new.files in
+    let mid = Files c.check_streams.new.self in
+    let passed = Files c.read_pass.new.files in
+    let new = Files c.read_random.new.files in
     let a = c.args.asked.now in
     let r = c.from_residual-in_err-random.result in
     let e = c.in_err-random.field-0.0 in
     let is = c.from_residual-in_err-random.ensures in
+    let random = c.in_err-random.ensures in
+    let name = c.random_name-random_name.result.now in
+    let did = does_then [] [] old named mid names.does (checked_does {A = Unit {0}} named mid c.check_streams.result c.check_streams.ensures.noted c.check_streams.ensures.faults) in
+    let before = does_then [] (Opened a.pass.now ∷ []) old mid passed did c.in_ok-pass.ensures.does in
+    let all = does_then (Opened a.pass.now ∷ []) (Opened name ∷ []) old passed new before random.does in
     record {
-      kept = c.in_err-random.ensures.kept ∙ c.in_ok-pass.ensures.kept;
-      unended = c.in_err-random.ensures.unended ∙ c.in_ok-pass.ensures.unended;
-      read = no_value r e is _;
-      noted = not_well r e is _;
-      followed = followed _ _ _ (then_did _ _ _ (Opened a.pass.now ∷ []) (Opened c.random_name-random_name.result.now ∷ []) c.in_ok-pass.ensures.noted
-          c.in_err-random.ensures.noted ∙ ap (λ n. (g.F.FileSet.view c.args.files.now).events ++ Opened a.pass.now ∷ Opened n ∷ []) c.random_name-random_name.ensures);
-      apart = λ twice. absurd (true≢false (sym (c.names_out_twice.ensures.twice twice) ∙ c.if-names_out_twice.false));
-      blamed = λ shown. this_error r e is _ (λ usage. let short = c.in_err-random.ensures.short shown usage in
-          inr (inr (
-            short.0,
-            subst (λ (f : Files). HoldsNoRandom (f (random_name (option_text a.random)))) c.in_ok-pass.ensures.kept
-                (subst (λ n. HoldsNoRandom ((g.F.FileSet.view c.read_pass.new.files).entries n)) c.random_name-random_name.ensures short.1),
-          )));
-      early = this_error r e is EndsEarly c.in_err-random.ensures.early;
-      reason = λ shown. this_error r e is _ (reason_at _ _ (g.F.FileSet.view c.read_random.new.files).events (SourceFails g.F.In.Source.view) e c.in_ok-pass.ensures.kept (c.in_err-random.ensures.reason shown));
+      noted = not_well r _ is _;
+      followed = begun _ old new (subst (λ (n : Text). Does (Opened a.pass.now ∷ Opened n ∷ []) old new) c.random_name-random_name.ensures all);
+      apart = λ twice. absurd (true≢false (sym (names.twice twice) ∙ c.if-names_out_twice.false));
+      blamed = this_error r _ is _ (λ usage. random_blamed (CameSince passed new) (CameSince old new) (did_came (Opened a.pass.now ∷ []) old passed new before) a e name
+          c.random_name-random_name.ensures (random.short usage));
+      early = this_error r _ is EndsEarly random.early;
+      reason = this_error r _ is _ (reason_as (CameSince passed new) (CameSince old new) (did_came (Opened a.pass.now ∷ []) old passed new before) (SourceFails g.F.In.Source.view) e random.reason);
+    }
+
+pub returns-clause-given : goal.returns-clause-given
+returns-clause-given g c =
+    let Files = g.F.FileSet.view in
+    let names = c.names_out_twice.ensures in
+    let old = Files c.args.files.now in
+    let named = Files c.names_out_twice.new.files in
+    let mid = Files c.check_streams.new.self in
+    let passed = Files c.read_pass.new.files in
+    let new = Files c.read_random.new.files in
+    let a = c.args.asked.now in
+    let name = c.random_name-random_name.result.now in
+    let did = does_then [] [] old named mid names.does (checked_does {A = Unit {0}} named mid c.check_streams.result c.check_streams.ensures.noted c.check_streams.ensures.faults) in
+    let before = does_then [] (Opened a.pass.now ∷ []) old mid passed did c.in_ok-pass.ensures.does in
+    let random = c.in_ok-random.ensures.given in
+    record {
+      pass = all_as (CameSince mid passed) (CameSince old new)
+          (λ o came. came_did (Opened name ∷ []) old passed new c.in_ok-random.ensures.does o (did_came [] old mid passed did o came)) _ _ c.in_ok-pass.ensures.given;
+      bytes = random.0;
+      random = subst (λ (n : Text). HasGiven (CameSince old new) n random.0) c.random_name-random_name.ensures
+          (given_as (CameSince passed new) (CameSince old new) (did_came (Opened a.pass.now ∷ []) old passed new before) name random.0 random.1);
+      random_is = random.2;
     }
 
 pub returns-clause-judges : goal.returns-clause-judges
 returns-clause-judges g c =
+    let Files = g.F.FileSet.view in
+    let names = c.names_out_twice.ensures in
+    let old = Files c.args.files.now in
+    let named = Files c.names_out_twice.new.files in
+    let mid = Files c.check_streams.new.self in
+    let passed = Files c.read_pass.new.files in
+    let new = Files c.read_random.new.files in
     let a = c.args.asked.now in
-    let name = c.random_name-random_name.ensures in
-    let events = then_did _ _ _ (Opened a.pass.now ∷ []) (Opened c.random_name-random_name.result.now ∷ []) c.in_ok-pass.ensures.noted c.in_ok-random.ensures.noted
-    ∙ ap (λ n. (g.F.FileSet.view c.args.files.now).events ++ Opened a.pass.now ∷ Opened n ∷ []) name in
+    let name = c.random_name-random_name.result.now in
+    let did = does_then [] [] old named mid names.does (checked_does {A = Unit {0}} named mid c.check_streams.result c.check_streams.ensures.noted c.check_streams.ensures.faults) in
+    let before = does_then [] (Opened a.pass.now ∷ []) old mid passed did c.in_ok-pass.ensures.does in
+    let all = subst (λ (n : Text). Does (Opened a.pass.now ∷ Opened n ∷ []) old new) c.random_name-random_name.ensures
+    (does_then (Opened a.pass.now ∷ []) (Opened name ∷ []) old passed new before c.in_ok-random.ensures.does) in
     record {
-      kept = c.in_ok-random.ensures.kept ∙ c.in_ok-pass.ensures.kept;
-      unended = c.in_ok-random.ensures.unended ∙ c.in_ok-pass.ensures.unended;
-      read = λ shown. let random = c.in_ok-random.ensures.read shown in
-          record {
-            pass_is = c.in_ok-pass.ensures.read shown;
-            bytes = random.0;
-            rest = random.1;
-            random_held = ap (λ f. f (random_name (option_text a.random))) (sym c.in_ok-pass.ensures.kept)
-                ∙ (ap (λ q. (g.F.FileSet.view c.read_pass.new.files).entries q) (sym name) ∙ random.2);
-            random_is = random.3;
-          };
-      noted = events;
-      followed = followed _ _ _ events;
-      apart = λ twice. absurd (true≢false (sym (c.names_out_twice.ensures.twice twice) ∙ c.if-names_out_twice.false));
-      blamed = λ shown. tt;
+      noted = all;
+      followed = begun _ old new all;
+      apart = λ twice. absurd (true≢false (sym (names.twice twice) ∙ c.if-names_out_twice.false));
+      blamed = tt;
       early = tt;
-      reason = λ shown. tt;
-    }
-
-pub returns-in_err-random-clause-reads : goal.returns-in_err-random-clause-reads
-returns-in_err-random-clause-reads g c = reads_then _ _ _ c.in_ok-pass.ensures.reads c.in_err-random.ensures.reads
-
-pub returns-clause-reads : goal.returns-clause-reads
-returns-clause-reads g c = reads_then _ _ _ c.in_ok-pass.ensures.reads c.in_ok-random.ensures.reads
-
-pub returns-clause-given : goal.returns-clause-given
-returns-clause-given g c =
-    let gave = g.F.FileSet.gave in
-    let first = gave c.args.files.now in
-    let mid = gave c.read_pass.new.files in
-    let last = gave c.read_random.new.files in
-    let random = c.in_ok-random.ensures.given in
-    record {
-      pass = all_as (ReadSince first mid) (ReadSince first last) (λ r. since_then first mid last c.in_ok-random.ensures.reads r) _ _ c.in_ok-pass.ensures.given;
-      bytes = random.0;
-      random = subst (λ (n : Text). HasGiven (ReadSince first last) n random.0) c.random_name-random_name.ensures
-          (given_as (ReadSince mid last) (ReadSince first last) (λ r. then_since first mid last c.in_ok-pass.ensures.reads r) _ _ random.1);
-      random_is = random.2;
+      reason = tt;
     }

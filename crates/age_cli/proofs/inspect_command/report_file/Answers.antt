@@ -1,25 +1,54 @@
+use Rattle.std.proofs.Common.{inl, inr, ◌∙◌, Ok, Err}
 use Rattle.std.proofs.lemmas.Result.{on_ok_weaker}
 use Rattle.age_io.specs.Io.{Named}
-use Rattle.age_cli.proofs.CommandLemmas.{over_since}
-use Rattle.age_cli.proofs.ReportLemmas.{file_report}
+use Rattle.age_fileset.specs.FileSet.{Opened, Found}
+use Rattle.age_fileset.proofs.OutcomeLemmas.{opened_does, opened_came, opened_unread, opened_unfit, found_plain}
+use Rattle.age_cli.proofs.ReadLemmas.{over_does, was_read, same_fault}
+use Rattle.age_cli.proofs.ReportLemmas.{whole_report}
 use Rattle.age_cli.proofs.inspect_command.report_file.Goals as goal
+
+pub returns-in-Err-Fault-clause-does : goal.returns-in-Err-Fault-clause-does
+returns-in-Err-Fault-clause-does g c =
+    opened_does g.F.In.Source.view c.args.name.now (Found c.args.name.now) (found_plain c.args.name.now) _ _ c.open.result c.open.ensures.noted c.open.ensures.faults
+
+pub returns-in-Err-SameFile-clause-does : goal.returns-in-Err-SameFile-clause-does
+returns-in-Err-SameFile-clause-does g c =
+    opened_does g.F.In.Source.view c.args.name.now (Found c.args.name.now) (found_plain c.args.name.now) _ _ c.open.result c.open.ensures.noted c.open.ensures.faults
+
+pub returns-in-Err-Fault-clause-unread : goal.returns-in-Err-Fault-clause-unread
+returns-in-Err-Fault-clause-unread g c read =
+    let name = c.args.name.now in
+    let same = c.in-Err-Fault.field-0-is ∙ same_fault _ _ _ c.in-Err-Fault.fault-is read in
+    inl (inl (name, opened_unread g.F.In.Source.view name (Found name) (found_plain name) _ _ (Err c.in-Err-Fault.field-0) c.in-Err-Fault.ensures.noted same))
+
+pub returns-in-Err-SameFile-clause-unread : goal.returns-in-Err-SameFile-clause-unread
+returns-in-Err-SameFile-clause-unread g c = λ read.
+    let name = c.args.name.now in
+    inr (opened_unfit g.F.In.Source.view name (Found name) (found_plain name) _ _ (Err c.in-Err-SameFile.field-0) c.in-Err-SameFile.ensures.noted c.in-Err-SameFile.field-0-is)
+
+pub returns-clause-does : goal.returns-clause-does
+returns-clause-does g c =
+    let name = c.args.name.now in
+    let In = g.F.In.Source.view in
+    over_does (Found name) name (Opened name) _ _ _ (opened_does In name (Found name) (found_plain name) _ _ c.open.result c.open.ensures.noted c.open.ensures.faults)
+    (In c.report_as-reported.new.input) (c.finish.ensures.over name (c.report_as-reported.ensures.began (Named name) c.in-Ok.ensures.named))
 
 pub returns-clause-done : goal.returns-clause-done
 returns-clause-done g c =
-    let In = g.F.In.Source.view in
-    let entries = (g.F.FileSet.view c.args.files.now).entries in
     let name = c.args.name.now in
+    let In = g.F.In.Source.view in
+    let first = In c.in-Ok.source in
     on_ok_weaker c.report_as-reported.result
     (λ told. record {
       r = told.0;
       size = c.known_length-length.result;
-      first = In c.in-Ok.source;
+      first = first;
       last = In c.report_as-reported.new.input;
-      reading = record {
-        unread = c.in-Ok.ensures.begun;
-        over = over_since _ _ _ _ c.in-Ok.ensures.unread (c.finish.ensures.over name (c.report_as-reported.ensures.began (Named name) c.in-Ok.ensures.named));
-      };
+      reading = was_read (Found name) name (Opened name) _ _ _
+          (opened_does In name (Found name) (found_plain name) _ _ c.open.result c.open.ensures.noted c.open.ensures.faults) (In c.report_as-reported.new.input)
+          (c.finish.ensures.over name (c.report_as-reported.ensures.began (Named name) c.in-Ok.ensures.named)) first c.in-Ok.ensures.begun
+          (opened_came In name (Found name) (found_plain name) _ _ (Ok c.in-Ok.source) c.in-Ok.ensures.noted);
+      whole = whole_report c.known_length-length.result first.supply _ told.0 c.known_length-length.ensures told.1;
       reports = told.1.reports;
-      whole = file_report (g.F.FileSet.shows_bytes) (entries name) _ _ _ told.0 c.in-Ok.ensures.found c.known_length-length.ensures told.1;
       wrote = told.2;
     }) c.report_as-reported.ensures.done

@@ -1,6 +1,6 @@
 use Rattle.std.proofs.lemmas.Result.{on_ok_weaker}
 use Rattle.age_io.proofs.TakenLemmas.{Appends-kept}
-use Rattle.age_cli.proofs.CommandLemmas.{this_error}
+use Rattle.age_command.proofs.ResultLemmas.{this_error}
 use Rattle.age_cli.proofs.ReportLemmas.{report_fails}
 use Rattle.age_cli.proofs.inspect_command.write_report.Goals as goal
 

@@ -1,12 +1,12 @@
-use Rattle.age_cli.proofs.ObeyLemmas.{no_help, refused_silently, reported_accepts}
+use Rattle.age_cli.proofs.TextLemmas.{no_help, refused_silently, reported_accepts}
 use Rattle.age_cli.proofs.laws.refusals_are_silent.Goals as goal
 
 pub returns-clause-silent : goal.returns-clause-silent
 returns-clause-silent g c =
-    λ words gave before after input output progress shown ended. (
+    λ words before after input output progress shown ended. (
       λ d. no_help ended _ _ _ before.output after.output d.done d.stops,
-      refused_silently words _ _ _ before after _ _ _ _ _ ended,
+      refused_silently words _ before after _ _ _ _ _ ended,
     )
 
 pub returns-clause-reported : goal.returns-clause-reported
-returns-clause-reported g c = λ ended held fails. reported_accepts ended held fails
+returns-clause-reported g c = λ ended fails. reported_accepts ended _ fails

@@ -1,12 +1,23 @@
-use Rattle.std.proofs.Common.{refl, true}
-use Rattle.age_cli.proofs.HeadlineLemmas.{headline_of, resumed_headline_of}
-use Rattle.age_cli.proofs.ReportLemmas.{failed_by}
+use Rattle.std.proofs.Common.{List, subst, sym, ap}
+use Rattle.age_fileset.specs.FileSet.{FilesView, AreTrue, Outcome}
+use Rattle.age_cli.proofs.HeadlineLemmas.{headline_of, resumed_headline_of, spares_asked, spares_refused, failed_by, usage_by}
 use Rattle.age_cli.proofs.laws.runs_keep_out.Goals as goal
 
 pub returns : goal.returns
-returns g c =
-    λ words gave before after faults_old faults_new input output faults progress shown status ran.
+returns g c = λ words before after faults_old faults_new input output faults progress shown status is_old is_new ran.
+    let was = c.args.before.now.entries in
+    let is = c.args.after.now.entries in
+    let kept_was : AreTrue was before.files.outcomes = subst (λ (o : List Outcome). AreTrue was o) (sym (ap (λ
+    (v : FilesView). v.outcomes) is_old)) c.is_kept.ensures in
+    let kept_is : AreTrue is after.files.outcomes = subst (λ (o : List Outcome). AreTrue is o) (sym (ap (λ
+    (v : FilesView). v.outcomes) is_new)) c.is_kept-2.ensures in
     let failed = failed_by ran.ended status ran.status_is in (
-      λ d text made auth. headline_of words true _ _ before after _ _ _ _ _ status text refl ran.ended failed ran.obeys d made auth,
-      λ r text made auth. resumed_headline_of words true _ _ before after _ _ _ _ _ status text refl ran.ended failed ran.obeys r made auth,
+      λ d text made auth. headline_of words _ before after _ _ _ _ _ status was is kept_was kept_is text ran.ended failed ran.obeys d made auth,
+      λ r text made auth. resumed_headline_of words _ before after _ _ _ _ _ status was is kept_was kept_is text ran.ended failed ran.obeys r made
+          auth,
+      (
+        spares_asked words _ before after _ _ _ _ _ status was is kept_was kept_is ran.ended ran.obeys,
+        λ two. spares_refused words _ before after _ _ _ _ _ status was is kept_was kept_is ran.ended ran.obeys
+            (usage_by ran.ended status ran.status_is two),
+      ),
     )

@@ -1,96 +1,127 @@
-use Rattle.std.proofs.Common.{◌∙◌, ◌++◌, ◌∷◌, [], subst, Some, inl}
-use Rattle.age_fileset.specs.FileSet.{Opened}
+use Rattle.std.proofs.Common.{◌++◌, ◌∷◌, [], Some, Ok, Err, inl}
+use Rattle.age_fileset.specs.FileSet.{Found, Opened, CameSince}
+use Rattle.age_fileset.proofs.OutcomeLemmas.{does_then, did_events, did_ended, grows_by, grows_then, came_then, then_came, found_plain, opened_does, opened_came, opened_unread, opened_unfit}
 use Rattle.age_cli_args.specs.Requests.{option_text}
 use Rattle.age_command.specs.Orders.{creating, preparing, making}
 use Rattle.age_command.specs.Endings.{EndsEarly}
-use Rattle.age_command.specs.Files.{Files, SourceFails}
-use Rattle.age_cli.specs.inner.Openings.{IsFresh}
+use Rattle.age_command.specs.Files.{SourceFails}
 use Rattle.age_command.specs.declared.ending.Ending.{Ending}
 use Rattle.age_command.specs.inner.Endings.{ending_of}
+use Rattle.age_command.proofs.ResultLemmas.{no_value, not_well, this_error, an_error}
+use Rattle.age_command.proofs.EventLemmas.{followed, longer, then_follows}
 use Rattle.age_cli.proofs.FileLemmas.{spared_then}
-use Rattle.age_cli.proofs.CommandLemmas.{no_value, not_well, this_error, an_error, created_fault, last_missing, opened_early, open_reason, reason_at}
-use Rattle.age_command.proofs.EventLemmas.{followed, longer, then_did, then_follows}
+use Rattle.age_cli.proofs.OpeningLemmas.{read_early, read_reason, open_blame, reason_as, unfit_as}
 use Rattle.age_cli.proofs.output.open_both.Goals as goal
 
-pub returns-in_err-source-clause-opens : goal.returns-in_err-source-clause-opens
-returns-in_err-source-clause-opens g c =
+pub returns-in_err-source : goal.returns-in_err-source
+returns-in_err-source g c =
     let r = c.from_residual.result in
     let a = c.args.asked.now in
+    let from = c.args.from.now in
     let e : Ending = ending_of c.in_err-source.field-0.0 in
     let is = c.from_residual.ensures in
+    let In = g.F.In.Source.view in
+    let opened = opened_does In from (Found from) (found_plain from) _ _ c.open.result c.open.ensures.noted c.open.ensures.faults in
+    let fault = c.in_err-source.field-0.0 in
     record {
-      kept = c.in_err-source.ensures.kept;
-      spared = inl c.in_err-source.ensures.unended;
-      opened = no_value r e is _;
       begun = no_value r e is _;
       noted = not_well r e is _;
-      followed = an_error r _ (longer (Opened c.args.from.now ∷ []) (preparing (option_text a.save) ++ making a.clobber (Some a.to.now) a.durability) _ _
-          (followed _ _ _ c.in_err-source.ensures.noted));
-      early = this_error r e is EndsEarly (opened_early _ _ c.in_err-source.ensures.faults);
-      reason = λ shown. this_error r e is _ (open_reason _ _ _ _ _ c.in_err-source.ensures.faults
-          (λ read. last_missing _ _ _ _ _ c.in_err-source.ensures.noted (c.in_err-source.ensures.missing shown read)));
-      fault = λ shown. this_error r e is _ (created_fault _ _ _ c.in_err-source.ensures.faults shown);
+      none = grows_by _ _ _ opened;
+      spared = inl (did_ended _ _ _ opened);
+      followed = an_error r _ (longer (Opened from ∷ []) (preparing (option_text a.save) ++ making a.clobber (Some a.to.now) a.durability) _ _
+          (followed _ _ _ (did_events _ _ _ opened)));
+      early = this_error r e is EndsEarly (read_early fault c.in_err-source.ensures.faults);
+      reason = this_error r e is _ (read_reason (CameSince (g.F.FileSet.view c.args.files.now) (g.F.FileSet.view c.open.new.self)) (SourceFails In) fault c.in_err-source.ensures.faults
+          (λ read. inl (from, opened_unread In from (Found from) (found_plain from) _ _ (Err fault) c.in_err-source.ensures.noted read)));
+      fault = this_error r e is _ (open_blame (CameSince (g.F.FileSet.view c.args.files.now) (g.F.FileSet.view c.open.new.self)) fault
+          (opened_unfit In from (Found from) (found_plain from) _ _ (Err fault) c.in_err-source.ensures.noted));
     }
 
-pub returns-in_err-prepare_save-clause-opens : goal.returns-in_err-prepare_save-clause-opens
-returns-in_err-prepare_save-clause-opens g c =
+pub returns-in_err-prepare_save : goal.returns-in_err-prepare_save
+returns-in_err-prepare_save g c =
     let r = c.from_residual-in_err-prepare_save.result in
     let a = c.args.asked.now in
+    let from = c.args.from.now in
     let e = c.in_err-prepare_save.field-0.0 in
     let is = c.from_residual-in_err-prepare_save.ensures in
+    let In = g.F.In.Source.view in
+    let view = g.F.FileSet.view in
+    let old = view c.args.files.now in
+    let mid = view c.open.new.self in
+    let new = view c.prepare_save.new.files in
+    let opened = opened_does In from (Found from) (found_plain from) old mid c.open.result c.open.ensures.noted c.open.ensures.faults in
     let prepared = c.in_err-prepare_save.ensures in
+    let did = does_then (Opened from ∷ []) (preparing (option_text a.save)) old mid new opened prepared.does in
     record {
-      kept = prepared.kept ∙ c.in_ok-source.ensures.kept;
-      spared = inl (prepared.unended ∙ c.in_ok-source.ensures.unended);
-      opened = no_value r e is _;
       begun = no_value r e is _;
       noted = not_well r e is _;
-      followed = an_error r _ (then_follows _ _ _ (Opened c.args.from.now ∷ []) (preparing (option_text a.save) ++ making a.clobber (Some a.to.now) a.durability)
-          c.in_ok-source.ensures.noted (longer (preparing (option_text a.save)) (making a.clobber (Some a.to.now) a.durability) _ _ (followed _ _ _ prepared.noted)));
+      none = grows_by _ _ _ did;
+      spared = inl (did_ended _ _ _ did);
+      followed = an_error r _ (longer (Opened from ∷ preparing (option_text a.save)) (making a.clobber (Some a.to.now) a.durability) _ _
+          (followed _ _ _ (did_events _ _ _ did)));
       early = this_error r e is EndsEarly prepared.early;
-      reason = λ shown. this_error r e is _ (reason_at _ _ (g.F.FileSet.view c.prepare_save.new.files).events (SourceFails g.F.In.Source.view) e c.in_ok-source.ensures.kept (prepared.reason shown));
-      fault = λ shown. this_error r e is _ (prepared.fault shown);
+      reason = this_error r e is _ (reason_as (CameSince mid new) (CameSince old new) (then_came [] old mid new (grows_by _ _ _ opened)) _ e prepared.reason);
+      fault = this_error r e is _ (λ usage. unfit_as (CameSince mid new) (CameSince old new) (then_came [] old mid new (grows_by _ _ _ opened)) e
+          (prepared.fault usage));
     }
 
-pub returns-in_err-out-clause-opens : goal.returns-in_err-out-clause-opens
-returns-in_err-out-clause-opens g c =
+pub returns-in_err-out : goal.returns-in_err-out
+returns-in_err-out g c =
     let r = c.from_residual-in_err-out.result in
     let a = c.args.asked.now in
+    let from = c.args.from.now in
     let e = c.in_err-out.field-0.0 in
     let is = c.from_residual-in_err-out.ensures in
-    let prepared = c.in_ok-prepare_save.ensures in
-    let out = c.in_err-out.ensures.opens in
+    let In = g.F.In.Source.view in
+    let view = g.F.FileSet.view in
+    let old = view c.args.files.now in
+    let mid = view c.prepare_save.new.files in
+    let new = view c.create_out.new.files in
+    let opened = opened_does In from (Found from) (found_plain from) old (view c.open.new.self) c.open.result c.open.ensures.noted c.open.ensures.faults in
+    let did = does_then (Opened from ∷ []) (preparing (option_text a.save)) old (view c.open.new.self) mid opened c.in_ok-prepare_save.ensures.does in
+    let before = grows_by _ _ _ did in
+    let out = c.in_err-out.ensures in
     record {
-      kept = out.kept ∙ (prepared.kept ∙ c.in_ok-source.ensures.kept);
-      spared = spared_then _ _ _ (prepared.unended ∙ c.in_ok-source.ensures.unended) out.spared;
-      opened = no_value r e is _;
       begun = no_value r e is _;
       noted = not_well r e is _;
-      followed = an_error r _ (then_follows _ _ _ (Opened c.args.from.now ∷ []) (preparing (option_text a.save) ++ making a.clobber (Some a.to.now) a.durability)
-          c.in_ok-source.ensures.noted (then_follows _ _ _ (preparing (option_text a.save)) (making a.clobber (Some a.to.now) a.durability) prepared.noted out.followed));
+      none = grows_then [] [] old mid new before out.none;
+      spared = spared_then _ _ _ (did_ended _ _ _ did) out.spared;
+      followed = an_error r _ (then_follows _ _ _ (Opened from ∷ preparing (option_text a.save)) (making a.clobber (Some a.to.now) a.durability)
+          (did_events _ _ _ did) out.followed);
       early = this_error r e is EndsEarly out.early;
-      reason = λ shown. this_error r e is _ (reason_at _ _ (g.F.FileSet.view c.create_out.new.files).events (SourceFails g.F.In.Source.view) e (prepared.kept ∙ c.in_ok-source.ensures.kept) (out.reason shown));
-      fault = λ shown. this_error r e is _ (out.fault shown);
+      reason = this_error r e is _ (reason_as (CameSince mid new) (CameSince old new) (then_came [] old mid new before) _ e out.reason);
+      fault = this_error r e is _ (λ usage. unfit_as (CameSince mid new) (CameSince old new) (then_came [] old mid new before) e (out.fault usage));
     }
 
-pub returns-clause-opens : goal.returns-clause-opens
-returns-clause-opens g c =
+pub returns : goal.returns
+returns g c =
     let a = c.args.asked.now in
-    let prepared = c.in_ok-prepare_save.ensures in
-    let out = c.in_ok-out.ensures.opens in
+    let from = c.args.from.now in
+    let In = g.F.In.Source.view in
+    let view = g.F.FileSet.view in
+    let old = view c.args.files.now in
+    let first = view c.open.new.self in
+    let mid = view c.prepare_save.new.files in
+    let new = view c.create_out.new.files in
+    let opened = opened_does In from (Found from) (found_plain from) old first c.open.result c.open.ensures.noted c.open.ensures.faults in
+    let prepared = c.in_ok-prepare_save.ensures.does in
+    let did = does_then (Opened from ∷ []) (preparing (option_text a.save)) old first mid opened prepared in
+    let out = c.in_ok-out.ensures in
+    let whole = does_then (Opened from ∷ preparing (option_text a.save)) (creating a.clobber a.to.now ∷ []) old mid new did out.noted in
+    let found = opened_came In from (Found from) (found_plain from) old first (Ok c.in_ok-source.source) c.in_ok-source.ensures.noted in
     record {
-      kept = out.kept ∙ (prepared.kept ∙ c.in_ok-source.ensures.kept);
-      spared = spared_then _ _ _ (prepared.unended ∙ c.in_ok-source.ensures.unended) out.spared;
-      opened = λ shown. let found = c.in_ok-source.ensures.found shown in
-          let made = out.opened shown in (
-            (found.0, found.1, made.0, made.1),
-            subst (λ (f : Files). IsFresh a.clobber (f a.to.now)) (prepared.kept ∙ c.in_ok-source.ensures.kept) made.2,
-          );
-      begun = (record { given = c.in_ok-source.ensures.begun; taken = out.begun.0; failed = out.begun.1 }, c.in_ok-source.ensures.named);
-      noted = then_did _ _ _ (Opened c.args.from.now ∷ []) (preparing (option_text a.save) ++ creating a.clobber a.to.now ∷ []) c.in_ok-source.ensures.noted
-          (then_did _ _ _ (preparing (option_text a.save)) (creating a.clobber a.to.now ∷ []) prepared.noted out.noted);
+      begun = (
+        record { given = c.in_ok-source.ensures.begun; taken = out.begun.0; failed = out.begun.1 },
+        c.in_ok-source.ensures.named,
+        out.begun.2,
+        came_then [] old first new (grows_then [] [] first mid new (grows_by _ _ _ prepared) (grows_by _ _ _ out.noted)) _ found,
+        λ refused. then_came [] old mid new (grows_by _ _ _ did) _ (out.begun.3 refused),
+      );
+      noted = whole;
+      none = grows_by _ _ _ whole;
+      spared = inl (did_ended _ _ _ whole);
       followed = tt;
       early = tt;
-      reason = λ shown. tt;
-      fault = λ shown. tt;
+      reason = tt;
+      fault = tt;
     }

@@ -1,22 +1,10 @@
-use Rattle.std.proofs.Common.{◌∙◌, ap, inl, inr, refl, sym, subst, Some, None, append-nil}
-use Rattle.std.proofs.lemmas.Result.{IfErr-weaker}
+use Rattle.std.proofs.Common.{◌∙◌, ap, inl, inr, refl, subst, Some, None}
 use Rattle.clap.specs.Walk.{texts}
 use Rattle.age_cli_args.specs.Requests.{Requests}
 use Rattle.age_cli_args.specs.declared.request.Request.TheVariants.{Inspect, Encrypt, Decrypt, Resume, Drill}
-use Rattle.age_cli.proofs.ObeyLemmas.{no_words, some_words, asked_fails, report_fault, for_help, help_done, help_fails, both_done, drill_acts, inspect_acts}
-use Rattle.age_cli.proofs.ReportLemmas.{unmade}
+use Rattle.age_fileset.proofs.OutcomeLemmas.{does_none}
+use Rattle.age_cli.proofs.ObeyLemmas.{some_words, asked_fails, for_help, help_done, help_fails, both_done, drill_acts, inspect_acts}
 use Rattle.age_cli.proofs.program.obey.Goals as goal
-
-pub returns-then-is_empty-clause-obeys : goal.returns-then-is_empty-clause-obeys
-returns-then-is_empty-clause-obeys g c = inl (record {
-  none = no_words c.args.words.now _ c.is_empty.ensures c.if-is_empty.true;
-  report = record { done = both_done _ _ c.report.result c.report.ensures.done c.report.ensures.sent; stops = c.report.ensures.fails; unprinted = c.report.ensures.unprinted };
-  untouched = refl;
-  silent = refl;
-})
-
-pub returns-then-is_empty-clause-announced : goal.returns-then-is_empty-clause-announced
-returns-then-is_empty-clause-announced g c = unmade c.report.result _ _ _ refl
 
 pub returns-in-Ok-None-clause-obeys : goal.returns-in-Ok-None-clause-obeys
 returns-in-Ok-None-clause-obeys g c = inr (inr (record {
@@ -28,9 +16,6 @@ returns-in-Ok-None-clause-obeys g c = inr (inr (record {
   some = λ none. some_words c.args.words.now _ c.is_empty.ensures c.if-is_empty.false none;
   unasked = λ asked made. absurd ((rw c.in-Ok-None.field-0-is at c.in-Ok-None.ensures.unasked) asked made);
 }))
-
-pub returns-in-Ok-None-clause-announced : goal.returns-in-Ok-None-clause-announced
-returns-in-Ok-None-clause-announced g c = refl
 
 pub returns-in-Err-clause-obeys : goal.returns-in-Err-clause-obeys
 returns-in-Err-clause-obeys g c =
@@ -48,9 +33,6 @@ returns-in-Err-clause-obeys g c =
       unasked = λ asked made. did.memory (asked_fails w c.in-Err.error c.in-Err.ensures.refusals asked made);
     }))
 
-pub returns-in-Err-clause-announced : goal.returns-in-Err-clause-announced
-returns-in-Err-clause-announced g c = unmade c.answer_refusal.result _ _ _ refl
-
 pub returns-in-Inspect-Some-clause-obeys : goal.returns-in-Inspect-Some-clause-obeys
 returns-in-Inspect-Some-clause-obeys g c =
     let here = c.in-Inspect-Some in
@@ -58,12 +40,9 @@ returns-in-Inspect-Some-clause-obeys g c =
     inr (inl (record {
       asked = Inspect (Some here.name);
       made = subst (Requests (texts c.args.words.now)) (here.is ∙ ap Inspect (rw here.is at here.field-0-is)) (rw c.in-Ok-Some.field-0-is at c.in-Ok-Some.ensures.asked);
-      acts = inspect_acts _ _ _ _ _ _ _ _ c.report_file.result did.kept refl (Some here.name) did.noted (IfErr-weaker c.report_file.result _ _ (report_fault _) did.fails);
-      answers = (refl, record { done = both_done _ _ c.report_file.result did.done did.sent; stops = did.fails; unprinted = did.unprinted }, did.unread, did.unended);
+      acts = inspect_acts _ _ _ _ _ _ c.report_file.result refl (Some here.name) _ did.does did.fails;
+      answers = (refl, record { done = both_done _ _ c.report_file.result did.done did.sent; stops = did.fails; unprinted = did.unprinted }, did.unread, did.does);
     }))
-
-pub returns-in-Inspect-Some-clause-announced : goal.returns-in-Inspect-Some-clause-announced
-returns-in-Inspect-Some-clause-announced g c = unmade c.report_file.result _ _ _ refl
 
 pub returns-in-Inspect-None-clause-obeys : goal.returns-in-Inspect-None-clause-obeys
 returns-in-Inspect-None-clause-obeys g c =
@@ -72,12 +51,9 @@ returns-in-Inspect-None-clause-obeys g c =
     inr (inl (record {
       asked = Inspect None;
       made = subst (Requests (texts c.args.words.now)) (here.is ∙ ap Inspect (rw here.is at here.field-0-is)) (rw c.in-Ok-Some.field-0-is at c.in-Ok-Some.ensures.asked);
-      acts = inspect_acts _ _ _ _ _ _ _ _ c.report-in-Inspect-None.result refl refl None (sym (append-nil _)) (IfErr-weaker c.report-in-Inspect-None.result _ _ (report_fault _) did.fails);
-      answers = record { done = both_done _ _ c.report-in-Inspect-None.result did.done did.sent; stops = did.fails; unprinted = did.unprinted };
+      acts = inspect_acts _ _ _ _ _ _ c.report-in-Inspect-None.result refl None _ (does_none (g.F.FileSet.view c.args.files.now)) did.fails;
+      answers = (record { done = both_done _ _ c.report-in-Inspect-None.result did.done did.sent; stops = did.fails; unprinted = did.unprinted }, refl);
     }))
-
-pub returns-in-Inspect-None-clause-announced : goal.returns-in-Inspect-None-clause-announced
-returns-in-Inspect-None-clause-announced g c = unmade c.report-in-Inspect-None.result _ _ _ refl
 
 pub returns-in-Encrypt-clause-obeys : goal.returns-in-Encrypt-clause-obeys
 returns-in-Encrypt-clause-obeys g c =
@@ -89,9 +65,6 @@ returns-in-Encrypt-clause-obeys g c =
       answers = (refl, refl);
     }))
 
-pub returns-in-Encrypt-clause-announced : goal.returns-in-Encrypt-clause-announced
-returns-in-Encrypt-clause-announced g c = c.encrypt_file.ensures.announced
-
 pub returns-in-Decrypt-clause-obeys : goal.returns-in-Decrypt-clause-obeys
 returns-in-Decrypt-clause-obeys g c =
     let here = c.in-Decrypt in
@@ -101,9 +74,6 @@ returns-in-Decrypt-clause-obeys g c =
       acts = c.decrypt_file.ensures.acts;
       answers = (refl, refl);
     }))
-
-pub returns-in-Decrypt-clause-announced : goal.returns-in-Decrypt-clause-announced
-returns-in-Decrypt-clause-announced g c = c.decrypt_file.ensures.announced
 
 pub returns-in-Resume-clause-obeys : goal.returns-in-Resume-clause-obeys
 returns-in-Resume-clause-obeys g c =
@@ -115,9 +85,6 @@ returns-in-Resume-clause-obeys g c =
       answers = (refl, refl);
     }))
 
-pub returns-in-Resume-clause-announced : goal.returns-in-Resume-clause-announced
-returns-in-Resume-clause-announced g c = c.resume_file.ensures.announced
-
 pub returns-in-Drill-clause-obeys : goal.returns-in-Drill-clause-obeys
 returns-in-Drill-clause-obeys g c =
     let here = c.in-Drill in
@@ -125,9 +92,6 @@ returns-in-Drill-clause-obeys g c =
     inr (inl (record {
       asked = Drill here.asked;
       made = subst (Requests (texts c.args.words.now)) here.is (rw c.in-Ok-Some.field-0-is at c.in-Ok-Some.ensures.asked);
-      acts = drill_acts _ _ _ _ _ _ _ _ c.drill_file.result did.kept refl here.asked did.order did.order_done;
-      answers = (refl, did.sent, did.silent, did.one, did.unended);
+      acts = drill_acts _ _ _ _ _ _ c.drill_file.result refl here.asked did.order did.order_done;
+      answers = (refl, did.sent, did.silent, did.one, did.order);
     }))
-
-pub returns-in-Drill-clause-announced : goal.returns-in-Drill-clause-announced
-returns-in-Drill-clause-announced g c = unmade c.drill_file.result _ _ _ refl

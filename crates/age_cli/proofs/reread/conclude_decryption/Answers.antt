@@ -1,38 +1,25 @@
-use Rattle.std.proofs.Common.{◌∙◌, sym, subst, List, Option, ℕ, Result, Err}
-use Rattle.age_fileset.specs.FileSet.{FilesView, ReadSince}
-use Rattle.age_fileset.proofs.ReadingLemmas.{one_since}
+use Rattle.std.proofs.Common.{[], ◌∷◌}
+use Rattle.age_fileset.specs.FileSet.{CameSince, Gave, Settled, reading_of}
+use Rattle.age_fileset.proofs.OutcomeLemmas.{does_only, gave_puts}
 use Rattle.age_cli_args.specs.Requests.{option_text}
-use Rattle.age_cli.specs.declared.interruption.Interruption.{Interruption}
-use Rattle.age_cli.specs.inner.Endings.{Concludes, opening_end}
-use Rattle.age_file.specs.declared.decryption.Stopped.{Stopped}
-use Rattle.age_cli.specs.inner.Rereadings.{ConcludesDecryption}
-use Rattle.age_cli.proofs.RereadLemmas.{is_asked}
+use Rattle.age_cli.specs.inner.Rereadings.{again_of}
+use Rattle.age_cli.proofs.RereadLemmas.{concluded_once, not_again}
 use Rattle.age_cli.proofs.reread.conclude_decryption.Goals as goal
-
-pub conclude_again-requires : goal.conclude_again-requires
-conclude_again-requires g c = record { save = c.requires.save (is_asked _ _ _ _ (sym c.again_of.ensures ∙ c.in-Some.is)); input = c.requires.input }
-
-pub returns-in-Some-clause-concludes : goal.returns-in-Some-clause-concludes
-returns-in-Some-clause-concludes g c =
-    let view = g.F.FileSet.view in
-    let did = c.args.decrypted in
-    subst (λ (again : Option (Stopped × List ℕ)). ConcludesDecryption (ReadSince (g.F.FileSet.gave c.args.files.now) (g.F.FileSet.gave c.conclude_again.new.files)) (g.F.FileSet.shows_bytes) c.args.asked.now (g.F.Out.Sink.view c.args.out.out) did.from did.end again
-    (view c.args.files.now) (view c.conclude_again.new.files) (Err c.conclude_again.result)) (sym c.in-Some.is ∙ c.again_of.ensures) c.conclude_again.ensures.again
 
 pub returns-in-None-clause-concludes : goal.returns-in-None-clause-concludes
 returns-in-None-clause-concludes g c =
     let view = g.F.FileSet.view in
-    let did = c.args.decrypted in
     let d = c.args.asked.now in
+    let did = c.args.decrypted in
     let sink = g.F.Out.Sink.view c.args.out.out in
+    let old = view c.args.files.now in
+    let mid = view c.finish.new.self in
     let new = view c.conclude.new.files in
-    let save = option_text d.save in
-    subst (λ (again : Option (Stopped × List ℕ)). ConcludesDecryption (ReadSince (g.F.FileSet.gave c.args.files.now) (g.F.FileSet.gave c.conclude.new.files)) (g.F.FileSet.shows_bytes) d sink did.from did.end again (view c.args.files.now) new c.conclude.result)
-    (sym c.in-None.is ∙ c.again_of.ensures)
-    (subst (λ (v : FilesView). Concludes (g.F.FileSet.shows_bytes) save d.durability sink (opening_end did.end) v new c.conclude.result) c.finish.ensures.same
-    (subst (λ (e : Result (Unit {0}) Interruption). Concludes (g.F.FileSet.shows_bytes) save d.durability sink e (view c.finish.new.self) new c.conclude.result)
-    c.opening_end.ensures c.conclude.ensures.concludes))
-
-pub returns-in-None-clause-over : goal.returns-in-None-clause-over
-returns-in-None-clause-over g c =
-    one_since _ _ _ (c.conclude.ensures.unread ∙ c.finish.ensures.over c.args.asked.now.from.now c.requires.input)
+    let gave = reading_of d.from.now (g.F.In.Source.view did.source) in
+    not_again (λ settled. CameSince old new (Settled sink.taken.bytes settled)) d sink did.from did.end (again_of c.args.is_reread did.end did.key)
+    old new
+    c.conclude.result c.again_of.result c.again_of.ensures c.in-None.is
+    (concluded_once (option_text d.save) d.durability sink did.end old mid new c.conclude.result
+    (does_only old mid (Gave gave ∷ []) (c.finish.ensures.over d.from.now c.requires.input) (gave_puts gave)) c.opening_end.result
+    c.opening_end.ensures
+    c.conclude.ensures.concludes)

@@ -1,8 +1,11 @@
-use Rattle.std.proofs.Common.{List, Option, ℕ, inl, inr, refl, subst}
+use Rattle.std.proofs.Common.{refl, []}
 use Rattle.age_cli_args.specs.Requests.{option_text}
+use Rattle.age_command.specs.declared.ending.Ending.TheVariants.{Fault, Unsaved}
+use Rattle.age_command.specs.Orders.{replacing}
 use Rattle.age_command.proofs.EventLemmas.{none_done}
-use Rattle.age_cli.proofs.CommandLemmas.{over_between}
-use Rattle.age_cli.proofs.RereadLemmas.{concludes_left, found_as, left_by, save_unfound, saves_is}
+use Rattle.age_fileset.specs.FileSet.{Gave, reading_of}
+use Rattle.age_fileset.proofs.OutcomeLemmas.{grows_none}
+use Rattle.age_cli.proofs.RereadLemmas.{between, found_at, not_found, saved_rest, unfound_rest, unsaved_rest}
 use Rattle.age_cli.proofs.reread.conclude_found.Goals as goal
 
 pub returns-in-Ok-save-clause-again : goal.returns-in-Ok-save-clause-again
@@ -10,53 +13,76 @@ returns-in-Ok-save-clause-again g c =
     let view = g.F.FileSet.view in
     let d = c.args.asked.now in
     let again = c.args.again in
+    let left = c.leave.ensures in
     let mid = view c.find_again.new.files in
-    let left = left_by _ _ _ (view c.args.files.now) (view c.leave.new.files) mid c.find_again.ensures.kept
-    (c.leave.ensures.ended, c.leave.ensures.left, c.leave.ensures.others, c.leave.ensures.noted) in
     let new = view c.save.new.files in
     let p = c.in-Ok.found in
     let saved = c.in-Ok-save.ensures in
-    inl (
-      p,
-      found_as _ _ (λ r s. over_between _ _ _ _ r c.leave.ensures.unread c.in-Ok-save.ensures.unread s) _ _ _ _ _ _ _ _ p (λ sees. (sees.0, c.leave.ensures.others d.from.now sees.1)) c.in-Ok.ensures.found,
-      concludes_left _ (option_text d.save) d.durability (g.F.Out.Sink.view c.args.out.out) _ (view c.args.files.now) mid new _ left.0 saved.unended refl saved.put left.1 left.2
-          left.3 refl (λ shown. (refl, saves_is (option_text d.save) p mid.entries new.entries (saved.saved shown))) saved.noted saved.others,
-    )
+    found_at d (g.F.Out.Sink.view c.args.out.out) again.from again.stopped again.key c.args.settled (view c.args.files.now) (view c.leave.new.files)
+    mid new
+    (record { puts = left.puts; noted = left.noted; ended = left.ended }) c.find_again.ensures.does (Fault again.stopped.fault) saved.unended refl
+    refl saved.noted p
+    c.in-Ok.ensures.found (saved_rest (option_text d.save) d.durability c.args.settled again.stopped.fault p mid new saved.put)
 
 pub returns-in-Err-save-clause-again : goal.returns-in-Err-save-clause-again
 returns-in-Err-save-clause-again g c =
     let view = g.F.FileSet.view in
     let d = c.args.asked.now in
     let again = c.args.again in
+    let left = c.leave.ensures in
     let mid = view c.find_again.new.files in
-    let left = left_by _ _ _ (view c.args.files.now) (view c.leave.new.files) mid c.find_again.ensures.kept
-    (c.leave.ensures.ended, c.leave.ensures.left, c.leave.ensures.others, c.leave.ensures.noted) in
     let new = view c.save.new.files in
     let p = c.in-Ok.found in
+    let second = c.in-Err-save.second in
     let saved = c.in-Err-save.ensures in
-    inl (
-      p,
-      found_as _ _ (λ r s. over_between _ _ _ _ r c.leave.ensures.unread c.in-Err-save.ensures.unread s) _ _ _ _ _ _ _ _ p (λ sees. (sees.0, c.leave.ensures.others d.from.now sees.1)) c.in-Ok.ensures.found,
-      concludes_left _ (option_text d.save) d.durability (g.F.Out.Sink.view c.args.out.out) _ (view c.args.files.now) mid new _ left.0 saved.unended refl saved.put left.1 left.2
-          left.3 refl (λ shown. (refl, saved.unsaved)) saved.noted saved.others,
-    )
+    found_at d (g.F.Out.Sink.view c.args.out.out) again.from again.stopped again.key c.args.settled (view c.args.files.now) (view c.leave.new.files)
+    mid new
+    (record { puts = left.puts; noted = left.noted; ended = left.ended }) c.find_again.ensures.does (Unsaved again.stopped.fault second) saved.unended
+    refl refl saved.noted
+    p c.in-Ok.ensures.found
+    (unsaved_rest (option_text d.save) d.durability c.args.settled again.stopped.fault second p mid new c.requires.save saved.unsaved.0 saved.put)
 
 pub returns-in-Err-clause-again : goal.returns-in-Err-clause-again
 returns-in-Err-clause-again g c =
     let view = g.F.FileSet.view in
     let d = c.args.asked.now in
+    let again = c.args.again in
+    let left = c.leave.ensures in
     let mid = view c.find_again.new.files in
-    let left = left_by _ _ _ (view c.args.files.now) (view c.leave.new.files) mid c.find_again.ensures.kept
-    (c.leave.ensures.ended, c.leave.ensures.left, c.leave.ensures.others, c.leave.ensures.noted) in
-    inr (λ p. concludes_left _ (option_text d.save) d.durability (g.F.Out.Sink.view c.args.out.out) _ (view c.args.files.now) mid mid _ left.0 refl refl (inl (refl, tt)) left.1 left.2 left.3 refl
-    (λ shown. (refl, save_unfound (option_text d.save) p mid.entries c.in-Err.second c.requires.save c.in-Err.ensures.faults))
-    (none_done _ _) (λ shown q to save. refl))
+    let second = c.in-Err.second in
+    not_found d (g.F.Out.Sink.view c.args.out.out) again.from again.stopped again.key c.args.settled (view c.args.files.now) (view c.leave.new.files)
+    mid mid
+    (record { puts = left.puts; noted = left.noted; ended = left.ended }) c.find_again.ensures.does (Unsaved again.stopped.fault second) refl refl
+    refl (none_done (replacing (option_text d.save) d.durability) mid.events)
+    (λ p. unfound_rest (option_text d.save) d.durability c.args.settled again.stopped.fault second p mid c.requires.save c.in-Err.ensures.faults)
 
 pub returns-in-Ok-save-clause-over : goal.returns-in-Ok-save-clause-over
-returns-in-Ok-save-clause-over g c = over_between _ _ _ _ _ c.leave.ensures.unread c.in-Ok-save.ensures.unread c.find_again.ensures.over
+returns-in-Ok-save-clause-over g c =
+    let view = g.F.FileSet.view in
+    let d = c.args.asked.now in
+    let mid = view c.find_again.new.files in
+    let new = view c.save.new.files in
+    let put = c.in-Ok-save.ensures.put in
+    let rest = saved_rest (option_text d.save) d.durability c.args.settled c.args.again.stopped.fault c.in-Ok.found mid new put in
+    between c.leave.ensures.puts.0 rest.0 (view c.args.files.now) (view c.leave.new.files) mid new c.leave.ensures.puts.1 rest.1
+    (Gave (reading_of d.from.now (g.F.In.Source.view c.args.again.source))) c.find_again.ensures.over
 
 pub returns-in-Err-save-clause-over : goal.returns-in-Err-save-clause-over
-returns-in-Err-save-clause-over g c = over_between _ _ _ _ _ c.leave.ensures.unread c.in-Err-save.ensures.unread c.find_again.ensures.over
+returns-in-Err-save-clause-over g c =
+    let view = g.F.FileSet.view in
+    let d = c.args.asked.now in
+    let mid = view c.find_again.new.files in
+    let new = view c.save.new.files in
+    let saved = c.in-Err-save.ensures in
+    let rest = unsaved_rest (option_text d.save) d.durability c.args.settled c.args.again.stopped.fault c.in-Err-save.second c.in-Ok.found mid new
+    c.requires.save
+    saved.unsaved.0 saved.put in
+    between c.leave.ensures.puts.0 rest.0 (view c.args.files.now) (view c.leave.new.files) mid new c.leave.ensures.puts.1 rest.1
+    (Gave (reading_of d.from.now (g.F.In.Source.view c.args.again.source))) c.find_again.ensures.over
 
 pub returns-in-Err-clause-over : goal.returns-in-Err-clause-over
-returns-in-Err-clause-over g c = over_between _ _ _ _ _ c.leave.ensures.unread refl c.find_again.ensures.over
+returns-in-Err-clause-over g c =
+    let view = g.F.FileSet.view in
+    let mid = view c.find_again.new.files in
+    between c.leave.ensures.puts.0 [] (view c.args.files.now) (view c.leave.new.files) mid mid c.leave.ensures.puts.1 (grows_none mid)
+    (Gave (reading_of c.args.asked.now.from.now (g.F.In.Source.view c.args.again.source))) c.find_again.ensures.over

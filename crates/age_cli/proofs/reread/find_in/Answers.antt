@@ -10,7 +10,7 @@ returns-in-Shown-clause-shown g c =
     inr (
       _,
       (In run.new.source.source).supply,
-      shows_run g.P.Meter.shown _ _ (In c.args.source).supply (In run.new.source.source).supply _ _ c.begin_meter.new.meter run.new.source.meter.now _
+      shows_run g.P.Meter.shown _ (In c.args.source).supply (In run.new.source.source).supply _ _ c.begin_meter.new.meter run.new.source.meter.now _
           run.new.source.meter.ghost_name c.begin_meter.ensures (λ from. run.ensures.began (Metered from)) c.progress-1.given.1 c.end_meter.ensures,
     )
 

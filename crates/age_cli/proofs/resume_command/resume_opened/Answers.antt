@@ -1,48 +1,51 @@
-use Rattle.std.proofs.Common.{◌∙◌, refl, subst, Some}
+use Rattle.std.proofs.Common.{◌≡◌, [], ◌∷◌, ◌++◌, refl, Some}
 use Rattle.age_io.specs.Io.{Named}
-use Rattle.age_fileset.specs.FileSet.{FilesView, ReadSince}
-use Rattle.age_fileset.proofs.ReadingLemmas.{one_since, reads_one, since_then, then_since}
-use Rattle.age_cli.specs.inner.Rereadings.{again_of, ConcludesDecryption}
-use Rattle.age_cli.proofs.CommandLemmas.{reads_by}
+use Rattle.age_fileset.specs.FileSet.{Gave, puts_in, reading_of}
+use Rattle.age_fileset.proofs.OutcomeLemmas.{came_one, came_then, does_only, gave_puts, grows_so}
+use Rattle.age_cli.specs.Acts.{PortsOf, ShowsReadings}
+use Rattle.age_cli.specs.inner.Rereadings.{again_of}
 use Rattle.age_file.specs.Runs.{ports}
-use Rattle.age_cli.proofs.ProgressLemmas.{run_of, shown_twice}
-use Rattle.age_cli.proofs.RereadLemmas.{concludes_as}
+use Rattle.age_cli.proofs.ReadingsLemmas.{same_then, shown_with}
+use Rattle.age_cli.proofs.RereadLemmas.{decryption_since, outcomes_of, since_start}
 use Rattle.age_cli.proofs.RestLemmas.{resumed_by}
 use Rattle.age_cli.proofs.resume_command.resume_opened.Goals as goal
-
-pub conclude_decryption-requires : goal.conclude_decryption-requires
-conclude_decryption-requires g c = record {
-  save = c.can_reread-is_reread.ensures;
-  input = c.resume_text-resumed.ensures.began c.args.asked.now.decrypting.from.now c.requires.input;
-}
 
 pub returns-clause-opened : goal.returns-clause-opened
 returns-clause-opened g c =
     let view = g.F.FileSet.view in
     let In = g.F.In.Source.view in
     let Out = g.F.Out.Sink.view in
+    let shown = g.P.Meter.shown in
     let once = c.resume_text-resumed in
     let ended = c.conclude_decryption in
-    let gave = g.F.FileSet.gave in
     let r = c.args.asked.now in
     let d = r.decrypting in
-    let first = gave c.args.files.now in
-    let mid = gave c.finish.new.self in
-    let last = gave ended.new.files in
-    let over = ended.ensures.over in
+    let first = view c.args.files.now in
+    let mid = view c.finish.new.self in
+    let last = view ended.new.files in
+    let was = c.args.progress.now in
+    let now = ended.new.progress in
+    let gave = reading_of r.old.now (In once.new.old) in
     let is = c.finish.ensures.over r.old.now (once.ensures.old_began (Named r.old.now) c.requires.old) in
+    let did = does_only first mid (Gave gave ∷ []) is (gave_puts gave) in
     let from = Some c.args.position.now in
     let again = again_of c.can_reread-is_reread.result c.placed.result c.key_of.result in
-    resumed_by _ (ReadSince first last) _ d r.old.now c.args.identity c.args.position.now (In c.args.old) (In once.new.old) (ports (In c.args.source) (Out c.args.out.out))
+    let over = ended.ensures.over in
+    let read = Gave (reading_of d.from.now (In once.result.source)) in
+    let more = over.before ++ read ∷ over.later in
+    resumed_by (PortsOf In Out) d r.old.now c.args.identity c.args.position.now (In c.args.old) (In once.new.old)
+    (ports (In c.args.source) (Out c.args.out.out))
     (ports (In once.result.source) (Out once.new.out.out)) (record { source = once.result.source; sink = once.new.out.out; is = refl })
-    (record { source = once.new.old; sink = once.new.out.out; is = refl })
-    (then_since first mid last (reads_one first mid _ is) _ over) (since_then first mid last (reads_by mid last _ over) _ (one_since first mid _ is))
-    (view c.args.files.now) (view ended.new.files) _ _
-    (λ silent. ended.ensures.silent silent ∙ once.ensures.silent silent) c.read_again.ensures.resumed c.can_reread-is_reread.result once.result.end
-    once.result.standing _ ended.result c.can_reread-is_reread.ensures c.positions_at_first.ensures.dropped c.positions_at_first.ensures.kept
+    (record { source = once.new.old; sink = once.new.out.out; is = refl }) first last (since_start first mid last did read over)
+    (came_then (puts_in more) first mid last (grows_so mid last more over.is) (Gave gave)
+    (came_one first mid (Gave gave) (outcomes_of first mid (Gave gave ∷ []) is)))
+    (now ≡ was) (λ coming left r. ShowsReadings coming left (shown was) (shown now) r)
+    (λ silent. same_then now once.new.progress was (ended.ensures.silent silent) (once.ensures.silent silent)) c.can_reread-is_reread.result
+    once.result.end once.result.standing
+    c.positions_at_first.result ended.result c.can_reread-is_reread.ensures c.positions_at_first.ensures.dropped c.positions_at_first.ensures.kept
     once.ensures.resumed
-    (λ asked input same. shown_twice _ _ _ _ _ _ ended.result (run_of _ _ _ _ _ _ same (once.ensures.shown asked)) ended.ensures.whole ended.ensures.shown)
+    (λ asked whole. shown_with (In c.args.source).supply (In once.result.source).supply (shown was) (shown once.new.progress) (shown now) ended.result
+    (once.ensures.shown asked) ended.ensures.whole ended.ensures.shown whole)
     c.placed.result c.key_of.result c.placed.ensures c.key_of.ensures
-    (subst (λ (v : FilesView). ConcludesDecryption (ReadSince first last) (g.F.FileSet.shows_bytes) d (Out once.new.out.out) from c.placed.result again v (view ended.new.files) ended.result)
-    c.finish.ensures.same
-    (concludes_as (ReadSince mid last) (ReadSince first last) (then_since first mid last (reads_one first mid _ is)) _ d _ from _ _ c.placed.result again ended.result ended.ensures.concludes))
+    (decryption_since d (Out once.new.out.out) from first mid last did (Out once.new.out.out).taken.bytes c.placed.result again ended.result
+    ended.ensures.concludes)

@@ -22,6 +22,6 @@ empty_spec 𝓤 𝓛 𝓜 𝓡 wired =
     proved 𝓛 f.ended tt c 𝓜 𝓡 tt f.Key.name code.function (code.unfolded 𝓤 𝓛.H 𝓜 𝓡 wired) (λ κs. tt) (λ κs. tt) (λ κs qs bounds a _ are.
     qed 𝓛 (raw (on_entry 𝓛 f.signature κs qs a tt) ∷ ‵ ftrue ∷ []) ∵ keep ! [] $ enter ! _ _ _ _ _ $ alloc_all ! (λ l. pass_all ! refl tt $
     sets ! (agg ! (no_more !)) refl (tt, tt) $ returns ! (look_at ! 0 refl) $ free_all ! refl $ suffices ! _
-    (ends_at 𝓛 f.ended tt c ((κs, qs, bounds, a, tt), tt) (vstruct vnil) (record { done = record { events = []; gave = [] } }) tt tt) $ says ! refl $
-    pure_i ! (R.own_val (record { done = record { events = []; gave = [] } }) (vstruct vnil ∷ [])) ((λ vss. (tt, tt)), tt)
+    (ends_at 𝓛 f.ended tt c ((κs, qs, bounds, a, tt), tt) (vstruct vnil) (record { done = record { events = []; outcomes = [] } }) tt tt) $ says ! refl $
+    pure_i ! (R.own_val (record { done = record { events = []; outcomes = [] } }) (vstruct vnil ∷ [])) ((λ vss. (tt, tt)), tt)
     ((tt, (refl, tt)), tt) $ nothing ! $ join ! $ nothing ! $ done !))

@@ -1,0 +1,144 @@
+-- What was put of an output, and of the file of a position.
+use Rattle.std.proofs.Common.{◌≡◌, ◌∙◌, ◌⊎◌, ◌++◌, ◌∷◌, [], ℕ, List, inl, inr, refl, ap, sym, subst, Bool, true, false, true≢false, Option, Some, None, Result, Ok, Err, OnOk, OnErr, IfErr}
+use Rattle.std.proofs.Common.{append-nil, length}
+use Rattle.std.proofs.Math.Dec.{eqb-suc-zero}
+use Rattle.std.specs.Prelude.{IsSomeAnd, is_some, ◌==◌, ◌≤◌, ◌*◌}
+use Rattle.clap.specs.Words.{Text}
+use Rattle.age_chunk.specs.Payload.{chunk_length}
+use Rattle.age_io.specs.Io.{SinkView}
+use Rattle.age_io.specs.declared.durability.Durability.{Durability}
+use Rattle.age_fault.specs.declared.fault.FileFault.{FileFault}
+use Rattle.age_fault.specs.declared.fault.FileFault.TheVariants.{Write}
+use Rattle.age_file.specs.Resumes.{position_text}
+use Rattle.age_file.specs.declared.position.Position.{Position}
+use Rattle.age_machine.specs.Saved.{Saves}
+use Rattle.std.proofs.lemmas.Result.{on_ok_weaker, IfErr-weaker}
+use Rattle.age_fileset.specs.FileSet.{Entry, entry, FilesView, Closed, Does, PutsOnly, CameSince, IsMemoryOr, Outcome, Put, put_as, puts_in}
+use Rattle.age_fileset.proofs.OutcomeLemmas.{none_plain, grows_then, grows_by, came_then, did_events}
+use Rattle.age_command.proofs.EventLemmas.{then_follows}
+use Rattle.age_command.specs.declared.ending.Ending.{Ending}
+use Rattle.age_command.specs.declared.ending.Ending.TheVariants.{Fault, Unsaved}
+use Rattle.age_cli.specs.Acts.{LacksOne}
+use Rattle.age_cli.specs.inner.Endings.{Concludes, IsPut, IsStored, IsNotDue, position_of}
+use Rattle.age_cli.specs.declared.interruption.Interruption.{Interruption}
+
+pub took_bytes : (bytes : List ℕ) (is_empty : Bool) → is_empty ≡ (length bytes == 0) → is_empty ≡ false → bytes ≡ [] → ⊥
+took_bytes bytes is_empty knows some none = true≢false (sym (ap (λ (xs : List ℕ). length xs == 0) none) ∙ (sym knows ∙ some))
+
+pub took_none : (bytes : List ℕ) (is_empty : Bool) → is_empty ≡ (length bytes == 0) → is_empty ≡ true → bytes ≡ []
+took_none [] is_empty knows none = refl
+took_none (b ∷ bytes) is_empty knows none = absurd (true≢false (sym none ∙ (knows ∙ eqb-suc-zero (length bytes))))
+
+-- nothing was put
+pub grows_same : (old new : FilesView) → new.outcomes ≡ old.outcomes ++ [] → PutsOnly [] old new
+grows_same old new is = record { more = []; is = is; puts_are = none_plain }
+
+pub grows_kept : (old new : FilesView) → new.outcomes ≡ old.outcomes → PutsOnly [] old new
+grows_kept old new is = grows_same old new (is ∙ sym (append-nil old.outcomes))
+
+-- this was put
+pub grows_put : (name bytes : List ℕ) (old new : FilesView) → new.outcomes ≡ old.outcomes ++ Put name bytes ∷ [] → PutsOnly (entry name bytes ∷ []) old new
+unfolding puts_in
+grows_put name bytes old new is = record { more = Put name bytes ∷ []; is = is; puts_are = refl }
+
+-- an output was closed, if it took bytes
+pub left_puts : {E : Type 0} (sink : SinkView) (r : Result (Unit {0}) E) (old new : FilesView) → new.outcomes ≡ old.outcomes ++ put_as sink.label sink.taken.bytes r
+    → (sink.taken.bytes ≡ [] → ⊥) → (puts : List Entry) × PutsOnly puts old new × IsPut sink puts
+left_puts sink (Ok done) old new is some = (entry sink.label sink.taken.bytes ∷ [], grows_put sink.label sink.taken.bytes old new is, inr (refl, some))
+left_puts sink (Err fault) old new is some = ([], grows_same old new is, inl refl)
+
+-- ---- What was put to the file of the position.
+
+-- what a save put: nothing was done, or this was put
+abbrev Saved : Durability → Option Text → ℕ → Option Position → (old new : FilesView) → Result (Unit {0}) FileFault → Type 0
+Saved durability save settled position old new r = ((new ≡ old) × OnOk r (LacksOne save position)) ⊎ IsSomeAnd position (λ p.
+    Saves (position_text p) durability r new.saved × (p.index * chunk_length ≤ settled)
+    × IsSomeAnd save (λ to. new.outcomes ≡ old.outcomes ++ put_as to (position_text p) r))
+
+abbrev Done : Durability → Option Text → ℕ → Option Position → (old new : FilesView) → Ending → Type 0
+Done durability save settled position old new e = (rest : List Entry) × PutsOnly rest old new
+    × (((rest ≡ []) × (new.events ≡ old.events) × IsNotDue e save position)
+    ⊎ IsStored durability save settled position e rest new.saved)
+
+pub saved_well : (durability : Durability) (save : Option Text) (settled : ℕ) (position : Option Position) (old new : FilesView) (fault : FileFault)
+    → Saved durability save settled position old new (Ok tt) → Done durability save settled position old new (Fault fault)
+saved_well durability save settled position old new fault (inl (same, lacks)) =
+    ([], grows_kept old new (ap (λ v. v.outcomes) same), inl (refl, ap (λ v. v.events) same, lacks))
+saved_well durability save settled None old new fault (inr saved) = absurd saved
+saved_well durability None settled (Some p) old new fault (inr saved) = absurd saved.2
+saved_well durability (Some to) settled (Some p) old new fault (inr saved) =
+    (entry to (position_text p) ∷ [], grows_put to (position_text p) old new saved.2, inr (record { put = saved.0; is = (refl, saved.1) }))
+
+due_so : (save : Option Text) (position : Option Position) (fault second : FileFault) → IsMemoryOr Write second → is_some save ≡ true → is_some position ≡ true
+    → IsNotDue (Unsaved fault second) save position
+due_so (Some name) (Some p) fault second why named placed = inl why
+due_so None position fault second why named placed = absurd (true≢false (sym named))
+due_so (Some name) None fault second why named placed = absurd (true≢false (sym placed))
+
+pub saved_badly : (durability : Durability) (save : Option Text) (settled : ℕ) (position : Option Position) (old new : FilesView) (fault second : FileFault)
+    → Saved durability save settled position old new (Err second) → IsMemoryOr Write second × (is_some save ≡ true) × (is_some position ≡ true)
+    → Done durability save settled position old new (Unsaved fault second)
+saved_badly durability save settled position old new fault second (inl (same, lacks)) why =
+    ([], grows_kept old new (ap (λ v. v.outcomes) same), inl (refl, ap (λ v. v.events) same, due_so save position fault second why.0 why.1 why.2))
+saved_badly durability save settled None old new fault second (inr saved) why = absurd saved
+saved_badly durability None settled (Some p) old new fault second (inr saved) why = absurd saved.2
+saved_badly durability (Some to) settled (Some p) old new fault second (inr saved) why =
+    ([], grows_same old new saved.2, inr (record { put = saved.0; is = (refl, saved.1) }))
+
+-- ---- How an output was ended.
+
+pub no_stop : (engine : Result (Unit {0}) Interruption) (done : Unit {0}) (P : Interruption → Type 0) → engine ≡ Ok done → IfErr engine P
+no_stop engine done P is = subst (λ (x : Result (Unit {0}) Interruption). IfErr x P) (sym is) tt
+
+pub same_stop : (engine : Result (Unit {0}) Interruption) (stop : Interruption) → engine ≡ Err stop → IfErr engine (λ cause. stop ≡ cause)
+same_stop engine stop is = subst (λ (x : Result (Unit {0}) Interruption). IfErr x (λ cause. stop ≡ cause)) (sym is) refl
+
+-- and then the position of the stop was saved, or not
+abbrev Rest : Durability → Option Text → SinkView → ℕ → Option Position → (old new : FilesView) → Ending → Type 0
+Rest durability save sink settled position old new e = (puts : List Entry) × (rest : List Entry) × PutsOnly (puts ++ rest) old new × IsPut sink puts
+    × (((new.events ≡ old.events ++ Closed durability ∷ []) × (rest ≡ []) × IsNotDue e save position)
+    ⊎ IsStored durability save settled position e rest new.saved)
+
+pub rest_of : (durability : Durability) (save : Option Text) (sink : SinkView) (settled : ℕ) (position at : Option Position) (old mid new : FilesView) (e : Ending) (puts : List Entry)
+    → position ≡ at → PutsOnly puts old mid → IsPut sink puts → mid.events ≡ old.events ++ Closed durability ∷ [] → Done durability save settled position mid new e
+    → Rest durability save sink settled at old new e
+rest_of durability save sink settled position at old mid new e puts same grows put closed (rest, more, inl (none, events, due)) =
+    (puts, rest, grows_then puts rest old mid new grows more, put, inl (events ∙ closed, none, subst (λ (o : Option Position). IsNotDue e save o) same due))
+rest_of durability save sink settled position at old mid new e puts same grows put closed (rest, more, inr done) =
+    (puts, rest, grows_then puts rest old mid new grows more, put, inr (subst (λ (o : Option Position). IsStored durability save settled o e rest new.saved) same done))
+
+-- the same from before the output was asked how much of it is certain
+module _ (save : Option Text) (durability : Durability) (sink : SinkView) (settled : ℕ) (engine : Result (Unit {0}) Interruption) (old mid new : FilesView) (did : Does [] old mid) where
+  same_events : mid.events ≡ old.events
+  same_events = did_events [] old mid did ∙ append-nil old.events
+
+  rest_from : (e : Ending) → Rest durability save sink settled (position_of engine) mid new e → Rest durability save sink settled (position_of engine) old new e
+  rest_from e (puts, rest, grows, put, inl (events, none, due)) = (
+    puts,
+    rest,
+    grows_then [] (puts ++ rest) old mid new (grows_by [] old mid did) grows,
+    put,
+    inl (events ∙ ap (λ es. es ++ Closed durability ∷ []) same_events, none, due),
+  )
+  rest_from e (puts, rest, grows, put, inr done) = (puts, rest, grows_then [] (puts ++ rest) old mid new (grows_by [] old mid did) grows, put, inr done)
+
+  pub concludes_from : (r : Result (Unit {0}) Ending) → Concludes save durability sink settled engine mid new r → Concludes save durability sink settled engine old new r
+  concludes_from r c = record {
+    done = on_ok_weaker r (λ both. (both.0, grows_then [] _ old mid new (grows_by [] old mid did) both.1)) c.done;
+    fault = c.fault;
+    order = then_follows _ _ _ [] _ (did_events [] old mid did) c.order;
+    order_done = on_ok_weaker r (λ events. events ∙ ap (λ es. es ++ Closed durability ∷ []) same_events) c.order_done;
+    ended = c.ended;
+    reported = c.reported;
+    saved = IfErr-weaker r _ _ (λ e rest. rest_from e rest) c.saved;
+  }
+
+  -- what came before came by then
+  pub certain_from : (r : Result (Unit {0}) Ending) → Concludes save durability sink settled engine mid new r → (o : Outcome) → CameSince old mid o → CameSince old new o
+  certain_from (Ok done) c o came = came_then _ old mid new c.done.1 o came
+  certain_from (Err e) c o came = came_then _ old mid new c.saved.2 o came
+
+-- a stop that was asked about
+pub certain_if : (Came Later : Type 0) (saves : Type 0) (engine : Result (Unit {0}) Interruption) → (Came → Later) → (saves → OnErr engine Came) → saves → OnErr engine Later
+certain_if Came Later saves (Ok done) so certain there = tt
+certain_if Came Later saves (Err stop) so certain there = so (certain there)

@@ -1,0 +1,23 @@
+use Rattle.std.proofs.Common.{ap, inl}
+use Rattle.age_cli_args.specs.Requests.{option_text}
+use Rattle.age_cli.proofs.NameLemmas.{compared, true_names, names_as, then_names, saved_so, twice_saved}
+use Rattle.age_cli.proofs.decrypt_command.names_a_file_twice.Goals as goal
+
+pub returns-then-is_same : goal.returns-then-is_same
+returns-then-is_same g c =
+    let d = c.args.asked.now in
+    let save = c.in-Some.save.now in
+    let Files = g.F.FileSet.view in
+    let given = ap option_text c.in-Some.is in
+    let same = compared (Files c.is_read.new.files) (Files c.is_same.new.self) save d.to.now c.is_same.result c.is_same.ensures.equal c.is_same.ensures.noted in
+    true_names _ _ c.is_same.result _ _ (λ a. saved_so d save given (inl a)) c.if-is_same.true (then_names _ _ _ c.is_read.result _ _ _ c.if-is_read.false c.is_read.ensures same)
+
+pub returns : goal.returns
+returns g c =
+    let d = c.args.asked.now in
+    let save = c.in-Some.save.now in
+    let Files = g.F.FileSet.view in
+    let given = ap option_text c.in-Some.is in
+    let same = compared (Files c.is_read.new.files) (Files c.is_same.new.self) save d.to.now c.is_same.result c.is_same.ensures.equal c.is_same.ensures.noted in
+    names_as _ _ _ _ _ (saved_so d save given) (twice_saved d save given)
+    (then_names _ _ _ c.is_same.result _ _ _ c.if-is_same.false (then_names _ _ _ c.is_read.result _ _ _ c.if-is_read.false c.is_read.ensures same) c.is_read-2.ensures)

@@ -1,0 +1,39 @@
+-- What was read of a file, by the outcomes.
+use Rattle.std.proofs.Common.{◌≡◌, ◌∙◌, ◌++◌, ◌<◌, [], ◌∷◌, ap, ℕ, List, length, append_assoc, Option, Some, None, IfSome, IfNone}
+use Rattle.std.specs.declared.vec.Vec.{Vec}
+use Rattle.age_io.specs.Io.{SourceView}
+use Rattle.age_io.specs.Supply.{Consumes, IsAtEnd}
+use Rattle.age_fileset.specs.FileSet.{FilesView, Found, Gave, reading_of, CameSince, HasGiven, HasGivenAll, with_outcomes}
+use Rattle.age_fileset.proofs.OutcomeLemmas.{all_since, gave_since, came_then, grows_so}
+
+-- a file was found and read, and then its reading was over
+module _ (name : List ℕ) (old mid new : FilesView) (first last : SourceView) (unread : first.supply.given ≡ []) (found : CameSince old mid (Found name first.supply.left))
+    (over : new ≡ with_outcomes (Gave (reading_of name last) ∷ []) mid) where
+  is_later : new.outcomes ≡ mid.outcomes ++ Gave (reading_of name last) ∷ []
+  is_later = ap (λ v. v.outcomes) over
+
+  found_then : CameSince old new (Found name first.supply.left)
+  found_then = came_then _ old mid new (grows_so mid new _ is_later) _ found
+
+  over_then : CameSince old new (Gave (reading_of name last))
+  over_then = record {
+    before = found.before ++ Found name first.supply.left ∷ found.later;
+    later = [];
+    is = is_later ∙ ap (λ l. l ++ Gave (reading_of name last) ∷ []) found.is ∙ append_assoc old.outcomes (found.before ++ Found name first.supply.left ∷ found.later) (Gave (reading_of name last) ∷ []);
+  }
+
+  pub given_so : (bytes : List ℕ) → Consumes first.supply last.supply bytes → HasGiven (CameSince old new) name bytes
+  given_so bytes read = gave_since name bytes old new first last unread found_then read over_then
+
+  pub all_so : (bytes : List ℕ) → Consumes first.supply last.supply bytes → IsAtEnd last.supply → HasGivenAll (CameSince old new) name bytes
+  all_so bytes read end = all_since name bytes old new first last unread found_then read end over_then
+
+  pub given_if : {Z : Type 0} (o : Option (Vec ℕ Z)) → IfSome o (λ v. Consumes first.supply last.supply v.items × IsAtEnd last.supply)
+      → IfSome o (λ v. HasGivenAll (CameSince old new) name v.items)
+  given_if (Some v) read = all_so v.items read.0 read.1
+  given_if None read = tt
+
+  pub long_if : (most : ℕ) {Z : Type 0} (o : Option (Vec ℕ Z)) → IfNone o ((bytes : List ℕ) × Consumes first.supply last.supply bytes × (most < length bytes))
+      → IfNone o ((bytes : List ℕ) × HasGiven (CameSince old new) name bytes × (most < length bytes))
+  long_if most (Some v) read = tt
+  long_if most None read = (read.0, given_so read.0 read.1, read.2)

@@ -1,0 +1,22 @@
+-- What holds of a result that is this error.
+use Rattle.std.proofs.Common.{◌≡◌, Result, Ok, Err, IfOk, OnOk, OnErr, IfErr, IsErr, IsErrAnd, sym, subst}
+
+pub no_value : {T E : Type 0} (r : Result T E) (e : E) → IsErr r × IsErrAnd r (λ x. x ≡ e) → (P : T → Type 0) → IfOk r P
+no_value (Ok x) e is P = absurd is.1
+no_value (Err x) e is P = tt
+
+pub not_well : {T E : Type 0} (r : Result T E) (e : E) → IsErr r × IsErrAnd r (λ x. x ≡ e) → (P : Type 0) → OnOk r P
+not_well (Ok x) e is P = absurd is.1
+not_well (Err x) e is P = tt
+
+pub this_error : {T E : Type 0} (r : Result T E) (e : E) → IsErr r × IsErrAnd r (λ x. x ≡ e) → (P : E → Type 0) → P e → IfErr r P
+this_error (Ok x) e is P h = tt
+this_error (Err x) e is P h = subst P (sym is.1) h
+
+pub just_error : {T E : Type 0} (r : Result T E) (e : E) → IsErr r × IsErrAnd r (λ x. x ≡ e) → (P : E → Type 0) → P e → IsErrAnd r P
+just_error (Ok x) e is P h = absurd is.1
+just_error (Err x) e is P h = subst P (sym is.1) h
+
+pub an_error : {T E : Type 0} (r : Result T E) (P : Type 0) → P → OnErr r P
+an_error (Ok x) P h = tt
+an_error (Err x) P h = h

@@ -1,0 +1,239 @@
+-- What was done with a set of files, and what came of it, in steps.
+use Rattle.std.proofs.Common.{◌≡◌, ◌∙◌, ◌++◌, [], ◌∷◌, refl, ap, sym, subst, inl, inr, List, ℕ, Bool, true, false, Option, Some, None, Result, Ok, Err, IfErr, IfOk, append_assoc, append-nil}
+use Rattle.std.specs.Io.KnownBytes.{prepend_known}
+use Rattle.std.specs.Io.KnownBytes as known
+use Rattle.age_io.specs.Io.{SourceView}
+use Rattle.age_io.specs.Supply.{Consumes, IsAtEnd}
+use Rattle.age_fault.specs.declared.fault.FileFault.{FileFault}
+use Rattle.age_fault.specs.declared.fault.FileFault.TheVariants.{Read, Write, Memory}
+use Rattle.age_fileset.specs.declared.files.OpenFault.{OpenFault}
+use Rattle.age_fileset.specs.declared.files.OpenFault.TheVariants.{SameFile, Fault}
+use Rattle.age_fileset.specs.FileSet.{Event, Opened, Outcome, Found, FoundOrEmpty, Unread, Unwritten, Absent, Gave, Settled, Put, Unfit, Reading, reading_of}
+use Rattle.age_fileset.specs.FileSet.{Entry, entry, FilesView, Does, PutsOnly, CameSince, HasGiven, HasGivenAll, puts_in, with_event, with_outcomes, refused_as, OpenFails, IsMemoryOr}
+use Rattle.age_fileset.specs.FileSet.{opened_as, made_as, unfit_if}
+
+pub puts_then : (a b : List Outcome) → puts_in (a ++ b) ≡ puts_in a ++ puts_in b
+unfolding puts_in
+puts_then [] b = refl
+puts_then (Put name bytes ∷ a) b = ap (λ l. entry name bytes ∷ l) (puts_then a b)
+puts_then (Found name left ∷ a) b = puts_then a b
+puts_then (FoundOrEmpty name left ∷ a) b = puts_then a b
+puts_then (Unread name ∷ a) b = puts_then a b
+puts_then (Unwritten name ∷ a) b = puts_then a b
+puts_then (Absent name ∷ a) b = puts_then a b
+puts_then (Gave r ∷ a) b = puts_then a b
+puts_then (Settled took size ∷ a) b = puts_then a b
+puts_then (Unfit ∷ a) b = puts_then a b
+
+-- ---- Parts of a run, one after the other.
+
+pub does_none : (old : FilesView) → Does [] old old
+unfolding puts_in
+does_none old = record {
+  more = [];
+  is = rw (append-nil old.events, append-nil old.outcomes) refl;
+  none_put = refl;
+}
+
+pub does_so : (old new : FilesView) (e : Event) (more : List Outcome) → new ≡ with_event e more old → puts_in more ≡ [] → Does (e ∷ []) old new
+does_so old new e more is none = record { more = more; is = is; none_put = none }
+
+pub does_only : (old new : FilesView) (more : List Outcome) → new ≡ with_outcomes more old → puts_in more ≡ [] → Does [] old new
+does_only old new more is none = record {
+  more = more;
+  is = is ∙ rw (append-nil old.events) refl;
+  none_put = none;
+}
+
+pub does_then : (a b : List Event) (old mid new : FilesView) → Does a old mid → Does b mid new → Does (a ++ b) old new
+does_then a b old mid new first next = record {
+  more = first.more ++ next.more;
+  is = next.is ∙ rw (first.is, append_assoc old.events a b, append_assoc old.outcomes first.more next.more) refl;
+  none_put = puts_then first.more next.more ∙ rw (first.none_put, next.none_put) refl;
+}
+
+pub did_events : (a : List Event) (old new : FilesView) → Does a old new → new.events ≡ old.events ++ a
+did_events a old new d = ap (λ v. v.events) d.is
+
+pub did_ended : (a : List Event) (old new : FilesView) → Does a old new → new.ended ≡ old.ended
+did_ended a old new d = ap (λ v. v.ended) d.is
+
+pub grows_by : (a : List Event) (old new : FilesView) → Does a old new → PutsOnly [] old new
+grows_by a old new d = record { more = d.more; is = ap (λ v. v.outcomes) d.is; puts_are = d.none_put }
+
+pub grows_none : (old : FilesView) → PutsOnly [] old old
+unfolding puts_in
+grows_none old = record { more = []; is = sym (append-nil old.outcomes); puts_are = refl }
+
+pub grows_so : (old new : FilesView) (more : List Outcome) → new.outcomes ≡ old.outcomes ++ more → PutsOnly (puts_in more) old new
+grows_so old new more is = record { more = more; is = is; puts_are = refl }
+
+pub grows_then : (a b : List Entry) (old mid new : FilesView) → PutsOnly a old mid → PutsOnly b mid new → PutsOnly (a ++ b) old new
+grows_then a b old mid new first next = record {
+  more = first.more ++ next.more;
+  is = next.is ∙ ap (λ l. l ++ next.more) first.is ∙ append_assoc old.outcomes first.more next.more;
+  puts_are = puts_then first.more next.more ∙ rw (first.puts_are, next.puts_are) refl;
+}
+
+-- ---- What came in a part came in the whole.
+
+pub came_one : (old new : FilesView) (o : Outcome) → new.outcomes ≡ old.outcomes ++ o ∷ [] → CameSince old new o
+came_one old new o is = record { before = []; later = []; is = is }
+
+pub came_first : (old new : FilesView) (o : Outcome) (later : List Outcome) → new.outcomes ≡ old.outcomes ++ o ∷ later → CameSince old new o
+came_first old new o later is = record { before = []; later = later; is = is }
+
+pub came_then : (puts : List Entry) (old mid new : FilesView) → PutsOnly puts mid new → (o : Outcome) → CameSince old mid o → CameSince old new o
+came_then puts old mid new more o c = record {
+  before = c.before;
+  later = c.later ++ more.more;
+  is = more.is ∙ ap (λ x. x ++ more.more) c.is ∙ append_assoc old.outcomes (c.before ++ o ∷ c.later) more.more
+      ∙ ap (λ x. old.outcomes ++ x) (append_assoc c.before (o ∷ c.later) more.more);
+}
+
+pub then_came : (puts : List Entry) (old mid new : FilesView) → PutsOnly puts old mid → (o : Outcome) → CameSince mid new o → CameSince old new o
+then_came puts old mid new more o c = record {
+  before = more.more ++ c.before;
+  later = c.later;
+  is = c.is ∙ ap (λ x. x ++ (c.before ++ o ∷ c.later)) more.is ∙ append_assoc old.outcomes more.more (c.before ++ o ∷ c.later)
+      ∙ ap (λ x. old.outcomes ++ x) (sym (append_assoc more.more c.before (o ∷ c.later)));
+}
+
+-- ---- What is refused puts nothing.
+
+memory_or : (name : List ℕ) (other fault : FileFault) → puts_in (refused_as name (Fault other)) ≡ [] → IsMemoryOr other fault → puts_in (refused_as name (Fault fault)) ≡ []
+unfolding puts_in
+memory_or name other fault none (inl same) = rw same none
+memory_or name other fault none (inr memory) = rw memory refl
+
+pub unread_puts : (name : List ℕ) (fault : OpenFault) → OpenFails Read fault → puts_in (refused_as name fault) ≡ []
+unfolding puts_in
+unread_puts name SameFile fails = refl
+unread_puts name (Fault fault) fails = memory_or name Read fault refl fails
+
+pub unwritten_puts : (name : List ℕ) (fault : OpenFault) → OpenFails Write fault → puts_in (refused_as name fault) ≡ []
+unfolding puts_in
+unwritten_puts name SameFile fails = refl
+unwritten_puts name (Fault fault) fails = memory_or name Write fault refl fails
+
+pub shared_puts : (name : List ℕ) (fault : OpenFault) → OpenFails Memory fault → puts_in (refused_as name fault) ≡ []
+unfolding puts_in
+shared_puts name SameFile fails = refl
+shared_puts name (Fault fault) fails = memory_or name Memory fault refl fails
+
+came_of : (old new : FilesView) (name : List ℕ) (e : Event) (fault : OpenFault) (o : Outcome) (other : OpenFault) → refused_as name other ≡ o ∷ [] → new ≡ with_event e (refused_as name fault) old
+    → fault ≡ other → CameSince old new o
+came_of old new name e fault o other one is same = came_one old new o (ap (λ v. v.outcomes) is ∙ ap (λ f. old.outcomes ++ refused_as name f) same ∙ ap (λ l. old.outcomes ++ l) one)
+
+-- a file was to be opened
+module _ {In : Type 0} (read : In → SourceView) (name : List ℕ) (found : Option (List ℕ) → Outcome) (plain : (left : Option (List ℕ)) → puts_in (found left ∷ []) ≡ []) (old new : FilesView) where
+  pub opened_does : (r : Result In OpenFault) → new ≡ with_event (Opened name) (opened_as read found name r) old → IfErr r (OpenFails Read) → Does (Opened name ∷ []) old new
+  opened_does (Ok s) is fails = does_so old new (Opened name) _ is (plain (read s).supply.left)
+  opened_does (Err fault) is fails = does_so old new (Opened name) _ is (unread_puts name fault fails)
+
+  pub opened_came : (r : Result In OpenFault) → new ≡ with_event (Opened name) (opened_as read found name r) old → IfOk r (λ s. CameSince old new (found (read s).supply.left))
+  opened_came (Ok s) is = came_one old new (found (read s).supply.left) (ap (λ v. v.outcomes) is)
+  opened_came (Err fault) is = tt
+
+  pub opened_unread : (r : Result In OpenFault) → new ≡ with_event (Opened name) (opened_as read found name r) old → IfErr r (λ f. f ≡ Fault Read → CameSince old new (Unread name))
+  opened_unread (Ok s) is = tt
+  opened_unread (Err fault) is = λ same. came_of old new name (Opened name) fault (Unread name) (Fault Read) refl is same
+
+  pub opened_unfit : (r : Result In OpenFault) → new ≡ with_event (Opened name) (opened_as read found name r) old → IfErr r (λ f. f ≡ SameFile → CameSince old new Unfit)
+  opened_unfit (Ok s) is = tt
+  opened_unfit (Err fault) is = λ same. came_of old new name (Opened name) fault Unfit SameFile refl is same
+
+pub found_plain : (name : List ℕ) (left : Option (List ℕ)) → puts_in (Found name left ∷ []) ≡ []
+unfolding puts_in
+found_plain name left = refl
+
+pub found_any_plain : (name : List ℕ) (left : Option (List ℕ)) → puts_in (FoundOrEmpty name left ∷ []) ≡ []
+unfolding puts_in
+found_any_plain name left = refl
+
+-- one was to be prepared, created or made
+module _ {A : Type 0} (name : List ℕ) (e : Event) (made : List Outcome) (plain : puts_in made ≡ []) (old new : FilesView) where
+  pub made_does : (r : Result A OpenFault) → new ≡ with_event e (made_as made name r) old → IfErr r (OpenFails Write) → Does (e ∷ []) old new
+  made_does (Ok out) is fails = does_so old new e _ is plain
+  made_does (Err fault) is fails = does_so old new e _ is (unwritten_puts name fault fails)
+
+pub none_plain : puts_in [] ≡ []
+unfolding puts_in
+none_plain = refl
+
+pub absent_plain : (name : List ℕ) → puts_in (Absent name ∷ []) ≡ []
+unfolding puts_in
+absent_plain name = refl
+
+-- streams were to be checked
+module _ {A : Type 0} (old new : FilesView) where
+  pub checked_does : (r : Result A OpenFault) → new ≡ with_outcomes (made_as [] [] r) old → IfErr r (OpenFails Memory) → Does [] old new
+  checked_does (Ok done) is fails = does_only old new [] is none_plain
+  checked_does (Err fault) is fails = does_only old new _ is (shared_puts [] fault fails)
+
+  pub checked_unfit : (r : Result A OpenFault) → new ≡ with_outcomes (made_as [] [] r) old → IfErr r (λ f. f ≡ SameFile → CameSince old new Unfit)
+  checked_unfit (Ok done) is = tt
+  checked_unfit (Err fault) is = λ same. came_one old new Unfit (ap (λ v. v.outcomes) is ∙ ap (λ f. old.outcomes ++ refused_as [] f) same)
+
+pub unfit_puts : (b : Bool) → puts_in (unfit_if b) ≡ []
+unfolding puts_in
+unfit_puts true = refl
+unfit_puts false = refl
+
+pub gave_puts : (r : Reading) → puts_in (Gave r ∷ []) ≡ []
+unfolding puts_in
+gave_puts r = refl
+
+pub settled_puts : (took : List ℕ) (size : ℕ) → puts_in (Settled took size ∷ []) ≡ []
+unfolding puts_in
+settled_puts took size = refl
+
+-- ---- What was read.
+
+-- what a source of this file had to give, once it gave these bytes
+pub left_after : (old new : Option (List ℕ)) (bytes : List ℕ) → known.Consumes old new bytes → (left : Option (List ℕ)) × (old ≡ prepend_known bytes left)
+    × ((rest : List ℕ) → left ≡ Some rest → new ≡ Some rest)
+left_after None new bytes read = (None, refl, λ rest is. cc)
+left_after (Some all) None bytes read = absurd read
+left_after (Some all) (Some rest) bytes read = (Some rest, ap Some read, λ same is. is)
+
+none_left : (left new : Option (List ℕ)) → ((rest : List ℕ) → left ≡ Some rest → new ≡ Some rest) → known.IsAtEnd new → known.IsAtEnd left
+none_left None new same end = tt
+none_left (Some rest) new same end = rw (same rest refl) at end
+
+-- a file was opened and read, and then its reading was over
+pub gave_since : (name bytes : List ℕ) (old new : FilesView) (first last : SourceView) → first.supply.given ≡ [] → CameSince old new (Found name first.supply.left)
+    → Consumes first.supply last.supply bytes → CameSince old new (Gave (reading_of name last)) → HasGiven (CameSince old new) name bytes
+gave_since name bytes old new first last unread found read over =
+    let left = left_after first.supply.left last.supply.left bytes read.left in
+    record {
+      reading = reading_of name last;
+      over = over;
+      named = refl;
+      given = read.given ∙ ap (λ x. x ++ bytes) unread;
+      left = left.0;
+      found = subst (λ l. CameSince old new (Found name l)) left.1 found;
+    }
+
+pub all_since : (name bytes : List ℕ) (old new : FilesView) (first last : SourceView) → first.supply.given ≡ [] → CameSince old new (Found name first.supply.left)
+    → Consumes first.supply last.supply bytes → IsAtEnd last.supply → CameSince old new (Gave (reading_of name last)) → HasGivenAll (CameSince old new) name bytes
+unfolding gave_since
+all_since name bytes old new first last unread found read end over = record {
+  gave = gave_since name bytes old new first last unread found read over;
+  whole = end.0;
+  none = none_left _ last.supply.left (left_after first.supply.left last.supply.left bytes read.left).2 end.1;
+}
+
+module _ (Came Later : Outcome → Type 0) (so : (o : Outcome) → Came o → Later o) (name bytes : List ℕ) where
+  abbrev pub given_as : HasGiven Came name bytes → HasGiven Later name bytes
+  given_as g = record {
+    reading = g.reading;
+    over = so (Gave g.reading) g.over;
+    named = g.named;
+    given = g.given;
+    left = g.left;
+    found = so (Found name (prepend_known bytes g.left)) g.found;
+  }
+
+  abbrev pub all_as : HasGivenAll Came name bytes → HasGivenAll Later name bytes
+  all_as g = record { gave = given_as g.gave; whole = g.whole; none = g.none }
