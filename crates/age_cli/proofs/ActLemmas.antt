@@ -20,9 +20,8 @@ use Rattle.age_command.proofs.EventLemmas.{follows_by, longer, then_did, then_fo
 use Rattle.age_command.proofs.ResultLemmas.{not_well, this_error, just_error}
 use Rattle.age_cli.specs.Acts.{Acts, EndsBefore, GivesNone, HasNotBegun, IsBlamed, IsUnfit, IsUsage}
 use Rattle.age_cli.specs.inner.Openings.{Judges, OpensFiles}
-use Rattle.age_cli.proofs.CommandLemmas.{reason_as}
 use Rattle.age_cli.proofs.FileLemmas.{spared_then}
-use Rattle.age_cli.proofs.OpeningLemmas.{unfit_as}
+use Rattle.age_cli.proofs.OpeningLemmas.{reason_as, unfit_as}
 
 -- ---- The events of a command, in order.
 

@@ -1,66 +1,35 @@
 -- What came in a part of a command came in the whole, and what that says of how it ended.
-use Rattle.std.proofs.Common.{◌≡◌, ◌∙◌, ◌⊎◌, [], inl, inr, ⊎_elim, ap, sym, subst, refl, true, true≢false, Bool, List, ℕ, Option, Some, None, Result, append-nil}
+use Rattle.std.proofs.Common.{◌≡◌, ◌∙◌, ◌⊎◌, [], inl, inr, ⊎_elim, ap, subst, true, Bool, List, ℕ, Option, Some, None, Result, append-nil}
 use Rattle.std.specs.Prelude.{IsSomeAnd}
 use Rattle.std.proofs.lemmas.Result.{on_ok_weaker, IfErr-weaker}
 use Rattle.clap.specs.Words.{Text}
-use Rattle.age_fault.specs.declared.fault.FileFault.{FileFault}
-use Rattle.age_fault.specs.declared.fault.FileFault.TheVariants.{Head, Key, NonceCut, Stream, BadPosition, OtherFile, ShortText, Read, Write, Memory}
-use Rattle.age_fault.specs.declared.fault.FileFault.TheVariants.{ReadNeverEnds, PositionForged, OldTextDiffers}
+use Rattle.age_fault.specs.declared.fault.FileFault.TheVariants.{BadPosition, Read}
 use Rattle.age_fileset.specs.declared.files.OpenFault.{OpenFault}
-use Rattle.age_fileset.specs.declared.files.OpenFault.TheVariants.{SameFile}
 use Rattle.age_fileset.specs.declared.files.OpenFault.TheVariants as create
-use Rattle.age_fileset.specs.FileSet.{OpenFails, Event, Outcome, Unread, Unwritten, Unfit, FilesView, Does, CameSince}
-use Rattle.age_fileset.proofs.OutcomeLemmas.{does_then, did_events, grows_by, came_then, then_came, given_as, all_as}
+use Rattle.age_fileset.specs.FileSet.{OpenFails, Event, Outcome, Unfit, FilesView, Does, CameSince}
+use Rattle.age_fileset.proofs.OutcomeLemmas.{does_then, did_events, grows_by, came_then, then_came, all_as}
 use Rattle.age_cli_args.specs.declared.request.Decrypting.{Decrypting}
 use Rattle.age_cli_args.specs.declared.request.IdentityOptions.{IdentityOptions}
 use Rattle.age_cli_args.specs.declared.request.Request.{Request}
 use Rattle.age_command.specs.declared.choice.Choice.{Choice}
 use Rattle.age_command.specs.declared.choice.Choice.TheVariants.{PassphraseFile, FileKey, SharedFile}
 use Rattle.age_command.specs.declared.ending.Ending.{Ending}
-use Rattle.age_command.specs.declared.ending.Ending.TheVariants.{Words, Usage, Fault, Unsaved}
+use Rattle.age_command.specs.declared.ending.Ending.TheVariants.{Fault}
 use Rattle.age_command.specs.declared.identity.Identity.{Identity}
 use Rattle.age_command.specs.declared.identity.Identity.TheVariants.{ByPassphrase, ByFileKey, ByShared}
-use Rattle.age_command.specs.Endings.{EndsEarly, is_usage}
+use Rattle.age_command.specs.Endings.{EndsEarly}
 use Rattle.age_command.specs.inner.Endings.{ending_of}
 use Rattle.age_command.specs.Files.{HasReason, HoldsOnly, IsUnread}
 use Rattle.age_command.specs.Identities.{Chooses, IsEnough, IsSecretGiven, Makes, MakesBy, MakesNone, file_of, identity_file}
 use Rattle.age_command.specs.Orders.{NamesTwice, order_asked}
 use Rattle.age_command.proofs.EventLemmas.{begins_then}
-use Rattle.age_cli.specs.Acts.{IsBlamed, IsUnfit, OpensOf}
+use Rattle.age_cli.specs.Acts.{IsBlamed, OpensOf}
 use Rattle.age_cli.specs.inner.Openings.{BlamesNames, Compares, Judges}
-use Rattle.age_cli.proofs.OpeningLemmas.{unfit_as}
+use Rattle.age_cli.proofs.OpeningLemmas.{holds_as, read_early, read_reason, reason_as, unfit_as}
 
 -- ---- What came in a part came in the whole.
 
 module _ (Came Later : Outcome → Type 0) (so : (o : Outcome) → Came o → Later o) where
-  unread_as : (Failed : Type 0) → IsUnread Came Failed → IsUnread Later Failed
-  unread_as Failed (inl (name, came)) = inl (name, so (Unread name) came)
-  unread_as Failed (inr failed) = inr failed
-
-  -- why a command ended
-  pub reason_as : (Failed : Type 0) (e : Ending) → HasReason Came Failed e → HasReason Later Failed e
-  reason_as Failed (Words t) h = tt
-  reason_as Failed (Usage u) h = tt
-  reason_as Failed (Unsaved f s) h = tt
-  reason_as Failed (Fault Read) h = unread_as Failed h
-  reason_as Failed (Fault Write) (name, came) = (name, so (Unwritten name) came)
-  reason_as Failed (Fault Memory) h = tt
-  reason_as Failed (Fault (Head f)) h = tt
-  reason_as Failed (Fault (Key f)) h = tt
-  reason_as Failed (Fault (Stream f)) h = tt
-  reason_as Failed (Fault NonceCut) h = tt
-  reason_as Failed (Fault BadPosition) h = tt
-  reason_as Failed (Fault OtherFile) h = tt
-  reason_as Failed (Fault ShortText) h = tt
-  reason_as Failed (Fault ReadNeverEnds) h = tt
-  reason_as Failed (Fault PositionForged) h = tt
-  reason_as Failed (Fault OldTextDiffers) h = tt
-
-  -- what a file holds; and so if it is said in other words
-  pub holds_as : (name : Text) (P Q : List ℕ → Type 0) → ((bytes : List ℕ) → P bytes → Q bytes) → HoldsOnly Came name P → HoldsOnly Later name Q
-  holds_as name P Q then (bytes, inl (all, p)) = (bytes, inl (all_as Came Later so name bytes all, then bytes p))
-  holds_as name P Q then (bytes, inr (given, p)) = (bytes, inr (given_as Came Later so name bytes given, (λ rest. then _ (p rest))))
-
   -- what the file gave that a choice names
   pub secret_as : (name : Option Text) (held : Option (List ℕ)) → IsSecretGiven Came name held → IsSecretGiven Later name held
   secret_as (Some name) (Some bytes) given = all_as Came Later so name bytes given
@@ -87,7 +56,7 @@ module _ (Came Later : Outcome → Type 0) (so : (o : Outcome) → Came o → La
       → IsSomeAnd file (λ name. HoldsOnly Later name (λ bytes. (identity : Identity) → MakesBy (Some bytes) u identity → ⊥))
   file_none u choice name file is only holds =
       subst (λ (o : Option Text). IsSomeAnd o (λ name. HoldsOnly Later name (λ bytes. (identity : Identity) → MakesBy (Some bytes) u identity → ⊥))) is
-      (holds_as name (λ bytes. (identity : Identity) → Makes choice (Some bytes) identity → ⊥) (λ bytes. (identity : Identity) → MakesBy (Some bytes) u identity → ⊥)
+      (holds_as Came Later so name (λ bytes. (identity : Identity) → Makes choice (Some bytes) identity → ⊥) (λ bytes. (identity : Identity) → MakesBy (Some bytes) u identity → ⊥)
       (λ bytes none identity makes. none identity (only (Some bytes) identity makes)) holds)
 
   -- and if it makes nothing of it, the options make nothing
@@ -129,23 +98,10 @@ module _ (f : OpenFault) where
   abbrev pub Unopened : Type 0
   Unopened = OpenFails Read f ⊎ (f ≡ create.Fault BadPosition)
 
-early_so : (f : OpenFault) → OpenFails Read f → EndsEarly (ending_of f)
-early_so SameFile fails = tt
-early_so (create.Fault f) (inl read) = inl read
-early_so (create.Fault f) (inr memory) = inr (inr memory)
-
 pub position_early : (P : Type 0) (f : OpenFault) → Unopened f → (f ≡ create.Fault BadPosition → P) → EndsEarly (ending_of f) ⊎ ((ending_of f ≡ Fault BadPosition) × P)
-position_early P f (inl fails) bad = inl (early_so f fails)
+position_early P f (inl fails) bad = inl (read_early f fails)
 position_early P f (inr is) bad = inr (ap ending_of is, bad is)
 
 pub position_reason : (Came : Outcome → Type 0) (Failed : Type 0) (f : OpenFault) → Unopened f → (f ≡ create.Fault Read → IsUnread Came Failed) → HasReason Came Failed (ending_of f)
-position_reason Came Failed SameFile fails unread = tt
-position_reason Came Failed (create.Fault f) (inl (inl read)) unread =
-    subst (λ (x : FileFault). HasReason Came Failed (Fault x)) (sym read) (unread (ap create.Fault read))
-position_reason Came Failed (create.Fault f) (inl (inr memory)) unread = subst (λ (x : FileFault). HasReason Came Failed (Fault x)) (sym memory) tt
-position_reason Came Failed (create.Fault f) (inr bad) unread = subst (λ (x : OpenFault). HasReason Came Failed (ending_of x)) (sym bad) tt
-
-pub position_unfit : (Came : Outcome → Type 0) (f : OpenFault) → (f ≡ SameFile → Came Unfit) → is_usage (ending_of f) ≡ true
-    → IsUnfit Came (ending_of f)
-position_unfit Came SameFile unfit usage = (inl refl, unfit refl)
-position_unfit Came (create.Fault f) unfit usage = absurd (true≢false (sym usage))
+position_reason Came Failed f (inl fails) unread = read_reason Came Failed f fails unread
+position_reason Came Failed f (inr bad) unread = rw bad tt

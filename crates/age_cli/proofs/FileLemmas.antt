@@ -56,12 +56,3 @@ spared_by file sink before after none unfailed discarded = inr (some_and after (
 pub spared_then : (first middle last : Option EndedFile) → middle ≡ first → SparesOut middle last → SparesOut first last
 spared_then first middle last same (inl is) = inl (is ∙ same)
 spared_then first middle last same (inr spared) = inr spared
-
--- an output that was discarded had taken nothing
-pub left_empty : (file : Option OutFile) (sink : SinkView) (out : EndedFile) → sink.taken.bytes ≡ [] → Discards file sink out → LeavesFile sink out
-left_empty file sink out none discards = record { took = discards.took; within = discards.within; untouched = discards.untouched; kept = λ some. absurd (some none) }
-
--- and one that was closed had taken some
-pub left_closed : {E : Type 0} (durability : Durability) (file : Option OutFile) (sink : SinkView) (r : Result (Unit {0}) E) (out : EndedFile)
-    → (sink.taken.bytes ≡ [] → ⊥) → Closes durability file sink r out → LeavesFile sink out
-left_closed durability file sink r out some closes = record { took = closes.took; within = closes.within; untouched = λ none. absurd (some none); kept = λ _. closes.closed }

@@ -8,7 +8,6 @@ pub mod HeadlineLemmas
 pub mod NameLemmas
 pub mod ObeyLemmas
 pub mod OpeningLemmas
-pub mod ProgressLemmas
 pub mod PutLemmas
 pub mod ReadLemmas
 pub mod ReadingsLemmas

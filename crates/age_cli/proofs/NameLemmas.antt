@@ -1,5 +1,5 @@
 -- Names that have to differ, and are equal.
-use Rattle.std.proofs.Common.{◌≡◌, ◌⊎◌, ◌∙◌, inl, inr, ap, sym, refl, None, Some, Option, Bool, true, false, true≢false, [], ◌∷◌}
+use Rattle.std.proofs.Common.{◌≡◌, ◌⊎◌, ◌∙◌, List, inl, inr, ap, sym, refl, None, Some, Option, Bool, true, false, true≢false, [], ◌∷◌}
 use Rattle.std.specs.Prelude.{◌&&◌, not}
 use Rattle.std.specs.Str.{bytes_eq}
 use Rattle.std.proofs.lemmas.Slice.Eq.{bytes_eq-Decides}
@@ -75,6 +75,15 @@ none_same one (name, is, other_is) = cc
 same_none : (other : Option Text) → IsSameName None other → ⊥
 same_none other (name, one_is, is) = cc
 
+none_one : (others : List (Option Text)) → IsOneOf None others → ⊥
+none_one [] never = never
+none_one (o ∷ others) (inl same) = same_none o same
+none_one (o ∷ others) (inr more) = none_one others more
+
+only_none : (one : Option Text) → IsOneOf one (None ∷ []) → ⊥
+only_none one (inl same) = none_same one same
+only_none one (inr never) = never
+
 -- the names of `resume`: the names of `decrypt`
 one_name : (one other : Text) → IsSameName (Some one) (Some other) → one ≡ other
 one_name one other (name, is, other_is) = cc
@@ -84,16 +93,13 @@ resumed r (inl (inl none)) = absurd (none_same _ none)
 resumed r (inl (inr (inl same))) = inl (inr (inl same))
 resumed r (inl (inr (inr (inl same)))) = inl (inr (inr (inl same)))
 resumed r (inl (inr (inr (inr (inl same))))) = inl (inr (inr (inr (inl same))))
-resumed r (inl (inr (inr (inr (inr (inl none)))))) = absurd (none_same _ none)
-resumed r (inl (inr (inr (inr (inr (inr never)))))) = absurd never
+resumed r (inl (inr (inr (inr (inr none))))) = absurd (only_none _ none)
 resumed r (inr (inl (inl same))) = inr (inl (inl same))
 resumed r (inr (inl (inr (inl same)))) = inr (inl (inr (inl same)))
 resumed r (inr (inl (inr (inr (inl same))))) = inr (inl (inr (inr (inl same))))
 resumed r (inr (inl (inr (inr (inr (inl same)))))) = inr (inl (inr (inr (inr (inl same)))))
-resumed r (inr (inl (inr (inr (inr (inr (inl none))))))) = absurd (none_same _ none)
-resumed r (inr (inl (inr (inr (inr (inr (inr never))))))) = absurd never
-resumed r (inr (inr (inl (inl none)))) = absurd (same_none _ none)
-resumed r (inr (inr (inl (inr never)))) = absurd never
+resumed r (inr (inl (inr (inr (inr (inr none)))))) = absurd (only_none _ none)
+resumed r (inr (inr (inl none))) = absurd (none_one (Some r.decrypting.from.now ∷ []) none)
 resumed r (inr (inr (inr never))) = absurd never
 
 -- OUT is the position; the old text is IN or OUT; the file of `--save` is the old text
@@ -156,8 +162,7 @@ so_read : (d : Decrypting) (name : Text) → ReadNames d name → IsReadAs d nam
 so_read d name (inl same) = inl (sym (one_name _ _ same))
 so_read d name (inr (inl same)) = inr (inl (name_given _ _ same))
 so_read d name (inr (inr (inl same))) = inr (inr (name_given _ _ same))
-so_read d name (inr (inr (inr (inl none)))) = absurd (none_same _ none)
-so_read d name (inr (inr (inr (inr never)))) = absurd never
+so_read d name (inr (inr (inr none))) = absurd (only_none _ none)
 
 pub out_read : (d : Decrypting) → IsReadAs d d.to.now → Twice (Decrypt d)
 out_read d is = inl (inr (read_so d d.to.now is))
@@ -175,8 +180,7 @@ twice_saved d save saved (inl (inl none)) = absurd (none_same _ none)
 twice_saved d save saved (inl (inr read)) = inl (inl (so_read d d.to.now read))
 twice_saved d save saved (inr (inl (inl same))) = inl (inr (one_name _ _ (rw saved at same)))
 twice_saved d save saved (inr (inl (inr read))) = inr (so_read d save (rw saved at read))
-twice_saved d save saved (inr (inr (inl (inl none)))) = absurd (same_none _ none)
-twice_saved d save saved (inr (inr (inl (inr never)))) = absurd never
+twice_saved d save saved (inr (inr (inl none))) = absurd (none_one (Some d.from.now ∷ []) none)
 twice_saved d save saved (inr (inr (inr never))) = absurd never
 
 -- the names of `encrypt`
@@ -193,16 +197,10 @@ so_encrypts e (inl (inl none)) = absurd (none_same _ none)
 so_encrypts e (inl (inr (inl same))) = inl (inl (sym (one_name _ _ same)))
 so_encrypts e (inl (inr (inr (inl same)))) = inl (inr (sym (one_name _ _ same)))
 so_encrypts e (inl (inr (inr (inr (inl same))))) = inr (sym (one_name _ _ same))
-so_encrypts e (inl (inr (inr (inr (inr (inl none)))))) = absurd (none_same _ none)
-so_encrypts e (inl (inr (inr (inr (inr (inr never)))))) = absurd never
-so_encrypts e (inr (inl (inl none))) = absurd (same_none _ none)
-so_encrypts e (inr (inl (inr (inl none)))) = absurd (same_none _ none)
-so_encrypts e (inr (inl (inr (inr (inl none))))) = absurd (same_none _ none)
-so_encrypts e (inr (inl (inr (inr (inr (inl none)))))) = absurd (same_none _ none)
-so_encrypts e (inr (inl (inr (inr (inr (inr (inl none))))))) = absurd (same_none _ none)
-so_encrypts e (inr (inl (inr (inr (inr (inr (inr never))))))) = absurd never
-so_encrypts e (inr (inr (inl (inl none)))) = absurd (same_none _ none)
-so_encrypts e (inr (inr (inl (inr never)))) = absurd never
+so_encrypts e (inl (inr (inr (inr (inr none))))) = absurd (only_none _ none)
+so_encrypts e (inr (inl none)) =
+    absurd (none_one (Some e.to.now ∷ Some e.from.now ∷ Some e.pass.now ∷ Some (random_name (option_text e.random)) ∷ None ∷ []) none)
+so_encrypts e (inr (inr (inl none))) = absurd (none_one (Some e.from.now ∷ []) none)
 so_encrypts e (inr (inr (inr never))) = absurd never
 
 -- a name that is given

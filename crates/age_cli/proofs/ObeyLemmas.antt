@@ -32,7 +32,7 @@ use Rattle.age_command.specs.declared.ending.Ending.TheVariants.{Words, Usage, F
 use Rattle.age_command.proofs.EventLemmas.{begun, follows_by}
 use Rattle.age_cli.specs.Acts.{Acts, IsUsage}
 use Rattle.age_cli.specs.Commands.{FailsReport}
-use Rattle.age_cli.specs.Runs.{FailsWriting, IsRefusal}
+use Rattle.age_cli.specs.Runs.{DoesOther, FailsWriting, IsRefusal, Obeys, World}
 use Rattle.age_cli.specs.inner.Endings.{IsForOutput}
 
 -- ---- The words.
@@ -136,6 +136,14 @@ module _ (IsPorts : Ports → Type 0) (before after : FilesView) (Failed Unshown
         progress = inl silent;
         shown = always r _ (λ asked. absurd (shown_not_silent asked));
       }
+
+pub obeyed : (words : List Text) (IsPorts : Ports → Type 0) (before after : World) (HasFailed Unread Unprinted Unshown : Type 0)
+    (Progress : Option Text → Result (Unit {0}) Ending → Type 0) (ended : Result (Unit {0}) Ending) (asked : Request) → Requests words asked
+    → Acts IsPorts asked before.files after.files HasFailed Unshown Progress ended
+    → DoesOther words IsPorts before after HasFailed Unread Unprinted Unshown Progress ended asked
+    → Obeys words IsPorts before after HasFailed Unread Unprinted Unshown Progress ended
+obeyed words IsPorts before after HasFailed Unread Unprinted Unshown Progress ended asked made acts answers =
+    inr (inl (record { asked = asked; made = made; acts = acts; answers = answers }))
 
 -- ---- What is put to the sink of faults.
 

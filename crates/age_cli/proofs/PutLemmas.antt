@@ -1,7 +1,6 @@
 -- What was put of an output, and of the file of a position.
 use Rattle.std.proofs.Common.{◌≡◌, ◌∙◌, ◌⊎◌, ◌++◌, ◌∷◌, [], ℕ, List, inl, inr, refl, ap, sym, subst, Bool, true, false, true≢false, Option, Some, None, Result, Ok, Err, OnOk, OnErr, IfErr}
 use Rattle.std.proofs.Common.{append-nil, length}
-use Rattle.std.proofs.Math.Dec.{eqb-suc-zero}
 use Rattle.std.specs.Prelude.{IsSomeAnd, is_some, ◌==◌, ◌≤◌, ◌*◌}
 use Rattle.clap.specs.Words.{Text}
 use Rattle.age_chunk.specs.Payload.{chunk_length}
@@ -15,6 +14,7 @@ use Rattle.age_machine.specs.Saved.{Saves}
 use Rattle.std.proofs.lemmas.Result.{on_ok_weaker, IfErr-weaker}
 use Rattle.age_fileset.specs.FileSet.{Entry, entry, FilesView, Closed, Does, PutsOnly, CameSince, IsMemoryOr, Outcome, Put, put_as, puts_in}
 use Rattle.age_fileset.proofs.OutcomeLemmas.{none_plain, grows_then, grows_by, came_then, did_events}
+use Rattle.age_cli.proofs.OpeningLemmas.{same_events}
 use Rattle.age_command.proofs.EventLemmas.{then_follows}
 use Rattle.age_command.specs.declared.ending.Ending.{Ending}
 use Rattle.age_command.specs.declared.ending.Ending.TheVariants.{Fault, Unsaved}
@@ -24,10 +24,6 @@ use Rattle.age_cli.specs.declared.interruption.Interruption.{Interruption}
 
 pub took_bytes : (bytes : List ℕ) (is_empty : Bool) → is_empty ≡ (length bytes == 0) → is_empty ≡ false → bytes ≡ [] → ⊥
 took_bytes bytes is_empty knows some none = true≢false (sym (ap (λ (xs : List ℕ). length xs == 0) none) ∙ (sym knows ∙ some))
-
-pub took_none : (bytes : List ℕ) (is_empty : Bool) → is_empty ≡ (length bytes == 0) → is_empty ≡ true → bytes ≡ []
-took_none [] is_empty knows none = refl
-took_none (b ∷ bytes) is_empty knows none = absurd (true≢false (sym none ∙ (knows ∙ eqb-suc-zero (length bytes))))
 
 -- nothing was put
 pub grows_same : (old new : FilesView) → new.outcomes ≡ old.outcomes ++ [] → PutsOnly [] old new
@@ -55,13 +51,13 @@ Saved durability save settled position old new r = ((new ≡ old) × OnOk r (Lac
     Saves (position_text p) durability r new.saved × (p.index * chunk_length ≤ settled)
     × IsSomeAnd save (λ to. new.outcomes ≡ old.outcomes ++ put_as to (position_text p) r))
 
-abbrev Done : Durability → Option Text → ℕ → Option Position → (old new : FilesView) → Ending → Type 0
-Done durability save settled position old new e = (rest : List Entry) × PutsOnly rest old new
+abbrev pub PutsRest : Durability → Option Text → ℕ → Option Position → (old new : FilesView) → Ending → Type 0
+PutsRest durability save settled position old new e = (rest : List Entry) × PutsOnly rest old new
     × (((rest ≡ []) × (new.events ≡ old.events) × IsNotDue e save position)
     ⊎ IsStored durability save settled position e rest new.saved)
 
 pub saved_well : (durability : Durability) (save : Option Text) (settled : ℕ) (position : Option Position) (old new : FilesView) (fault : FileFault)
-    → Saved durability save settled position old new (Ok tt) → Done durability save settled position old new (Fault fault)
+    → Saved durability save settled position old new (Ok tt) → PutsRest durability save settled position old new (Fault fault)
 saved_well durability save settled position old new fault (inl (same, lacks)) =
     ([], grows_kept old new (ap (λ v. v.outcomes) same), inl (refl, ap (λ v. v.events) same, lacks))
 saved_well durability save settled None old new fault (inr saved) = absurd saved
@@ -77,7 +73,7 @@ due_so (Some name) None fault second why named placed = absurd (true≢false (sy
 
 pub saved_badly : (durability : Durability) (save : Option Text) (settled : ℕ) (position : Option Position) (old new : FilesView) (fault second : FileFault)
     → Saved durability save settled position old new (Err second) → IsMemoryOr Write second × (is_some save ≡ true) × (is_some position ≡ true)
-    → Done durability save settled position old new (Unsaved fault second)
+    → PutsRest durability save settled position old new (Unsaved fault second)
 saved_badly durability save settled position old new fault second (inl (same, lacks)) why =
     ([], grows_kept old new (ap (λ v. v.outcomes) same), inl (refl, ap (λ v. v.events) same, due_so save position fault second why.0 why.1 why.2))
 saved_badly durability save settled None old new fault second (inr saved) why = absurd saved
@@ -100,7 +96,7 @@ Rest durability save sink settled position old new e = (puts : List Entry) × (r
     ⊎ IsStored durability save settled position e rest new.saved)
 
 pub rest_of : (durability : Durability) (save : Option Text) (sink : SinkView) (settled : ℕ) (position at : Option Position) (old mid new : FilesView) (e : Ending) (puts : List Entry)
-    → position ≡ at → PutsOnly puts old mid → IsPut sink puts → mid.events ≡ old.events ++ Closed durability ∷ [] → Done durability save settled position mid new e
+    → position ≡ at → PutsOnly puts old mid → IsPut sink puts → mid.events ≡ old.events ++ Closed durability ∷ [] → PutsRest durability save settled position mid new e
     → Rest durability save sink settled at old new e
 rest_of durability save sink settled position at old mid new e puts same grows put closed (rest, more, inl (none, events, due)) =
     (puts, rest, grows_then puts rest old mid new grows more, put, inl (events ∙ closed, none, subst (λ (o : Option Position). IsNotDue e save o) same due))
@@ -109,16 +105,13 @@ rest_of durability save sink settled position at old mid new e puts same grows p
 
 -- the same from before the output was asked how much of it is certain
 module _ (save : Option Text) (durability : Durability) (sink : SinkView) (settled : ℕ) (engine : Result (Unit {0}) Interruption) (old mid new : FilesView) (did : Does [] old mid) where
-  same_events : mid.events ≡ old.events
-  same_events = did_events [] old mid did ∙ append-nil old.events
-
   rest_from : (e : Ending) → Rest durability save sink settled (position_of engine) mid new e → Rest durability save sink settled (position_of engine) old new e
   rest_from e (puts, rest, grows, put, inl (events, none, due)) = (
     puts,
     rest,
     grows_then [] (puts ++ rest) old mid new (grows_by [] old mid did) grows,
     put,
-    inl (events ∙ ap (λ es. es ++ Closed durability ∷ []) same_events, none, due),
+    inl (events ∙ ap (λ es. es ++ Closed durability ∷ []) (same_events old mid did), none, due),
   )
   rest_from e (puts, rest, grows, put, inr done) = (puts, rest, grows_then [] (puts ++ rest) old mid new (grows_by [] old mid did) grows, put, inr done)
 
@@ -127,7 +120,7 @@ module _ (save : Option Text) (durability : Durability) (sink : SinkView) (settl
     done = on_ok_weaker r (λ both. (both.0, grows_then [] _ old mid new (grows_by [] old mid did) both.1)) c.done;
     fault = c.fault;
     order = then_follows _ _ _ [] _ (did_events [] old mid did) c.order;
-    order_done = on_ok_weaker r (λ events. events ∙ ap (λ es. es ++ Closed durability ∷ []) same_events) c.order_done;
+    order_done = on_ok_weaker r (λ events. events ∙ ap (λ es. es ++ Closed durability ∷ []) (same_events old mid did)) c.order_done;
     ended = c.ended;
     reported = c.reported;
     saved = IfErr-weaker r _ _ (λ e rest. rest_from e rest) c.saved;

@@ -1,41 +1,34 @@
 -- What was read of the files of a command, and why one of them can't be.
-use Rattle.std.proofs.Common.{◌≡◌, ◌∙◌, ◌∷◌, [], inl, inr, ap, sym, refl, subst, List, ℕ, Option, ◌++◌, ◌<◌, ◌⊎◌, length, append-nil, arith, true, false, true≢false, Some, None, Result, Ok, Err, IfOk}
+use Rattle.std.proofs.Common.{◌≡◌, ◌∷◌, [], inl, inr, ap, refl, subst, List, ℕ, Option, ◌++◌, ◌<◌, ◌⊎◌, length, arith, false, Some, None, Result, Ok, Err, IfOk}
 use Rattle.std.specs.Prelude.{◌==◌}
 use Rattle.std.proofs.lemmas.Bool.{eqb-true, false_from_ne_true}
 use Rattle.clap.specs.Words.{Text}
 use Rattle.age_io.specs.Io.{SourceView}
 use Rattle.age_fault.specs.declared.fault.FileFault.{FileFault}
-use Rattle.age_fault.specs.declared.fault.FileFault.TheVariants.{Read, Memory}
-use Rattle.age_fileset.specs.FileSet.{Event, FilesView, Outcome, Found, FoundOrEmpty, Gave, CameSince, Does, reading_of, with_outcomes, OpenFails}
+use Rattle.age_fileset.specs.FileSet.{Event, FilesView, Outcome, Found, FoundOrEmpty, Gave, CameSince, Does, reading_of, with_outcomes}
 use Rattle.age_fileset.specs.declared.files.OpenFault.{OpenFault}
-use Rattle.age_fileset.specs.declared.files.OpenFault.TheVariants.{SameFile}
 use Rattle.age_fileset.specs.declared.files.OpenFault.TheVariants as fault
-use Rattle.age_fileset.proofs.OutcomeLemmas.{does_only, does_then, did_events, came_one, came_then, then_came, grows_by, gave_puts}
-use Rattle.age_command.specs.Endings.{EndsEarly, is_usage}
-use Rattle.age_command.specs.Files.{HasReason, HoldsOnly, IsUnread}
-use Rattle.age_command.specs.inner.Endings.{ending_of}
+use Rattle.age_fileset.proofs.OutcomeLemmas.{does_only, does_then, came_one, came_then, then_came, grows_by, gave_puts}
+use Rattle.age_command.specs.Files.{HoldsOnly}
 use Rattle.age_command.specs.declared.ending.Ending.TheVariants.{Fault}
 use Rattle.age_file.specs.declared.position.Position.{Position}
 use Rattle.std.proofs.lemmas.List.{length-append}
 use Rattle.std.specs.Borrow.{Bor}
 use Rattle.age_keys.specs.Scrypt.{IsAllowed}
-use Rattle.age_fileset.proofs.OutcomeLemmas.{all_as, given_as}
 use Rattle.age_command.specs.Identities.{IsEnough, IsPassphraseIn, Makes}
 use Rattle.age_command.specs.declared.choice.Choice.TheVariants.{PassphraseFile}
 use Rattle.age_command.specs.declared.identity.Identity.{Identity}
 use Rattle.age_command.specs.declared.identity.Identity.TheVariants.{ByPassphrase, ByFileKey, ByShared}
 use Rattle.age_command.specs.declared.ending.Ending.{Ending}
-use Rattle.age_command.specs.declared.ending.Ending.TheVariants.{Usage, Unsaved, Words}
-use Rattle.age_fault.specs.declared.fault.FileFault.TheVariants.{Write}
+use Rattle.age_command.specs.declared.ending.Ending.TheVariants.{Usage}
 use Rattle.age_cli_args.specs.Requests.{option_text}
 use Rattle.age_cli_args.specs.declared.request.Encrypting.{Encrypting}
 use Rattle.age_cli_args.specs.declared.request.Request.TheVariants.{Encrypt}
 use Rattle.age_command.specs.Orders.{random_name}
 use Rattle.age_command.specs.declared.ending.Usage.TheVariants.{BadPassphraseFile, BadRandomFile}
-use Rattle.age_fileset.specs.FileSet.{Unfit}
 use Rattle.age_cli.specs.Acts.{IsBlamed, IsUnfit}
 use Rattle.age_cli.specs.Commands.{WasRead, old_found, HoldsNoPassphrase, HoldsNoRandom}
-use Rattle.age_cli.proofs.OpeningLemmas.{unfit_as}
+use Rattle.age_cli.proofs.OpeningLemmas.{holds_as, unfit_as}
 
 -- a file was opened, and then its reading was over
 module _ (How : Option (List ℕ) → Outcome) (name : Text) (e : Event) (old mid new : FilesView) (did : Does (e ∷ []) old mid) (last : SourceView)
@@ -52,30 +45,6 @@ module _ (How : Option (List ℕ) → Outcome) (name : Text) (e : Event) (old mi
     found = came_then [] old mid new (grows_by [] mid new over_only) (How first.supply.left) found;
     over = then_came [] old mid new (grows_by (e ∷ []) old mid did) (Gave (reading_of name last)) (came_one mid new (Gave (reading_of name last)) (ap (λ v. v.outcomes) over));
   }
-
--- ---- A fault of a file that can't be read ends a command early, for a reason.
-
--- and a refusal of names of one stream
-pub streams_early : (f : OpenFault) → OpenFails Memory f → EndsEarly (ending_of f)
-streams_early SameFile fails = tt
-streams_early (fault.Fault f) (inl memory) = inr (inr memory)
-streams_early (fault.Fault f) (inr memory) = inr (inr memory)
-
-module _ (Came : Outcome → Type 0) (Failed : Type 0) where
-  pub open_reason : (f : OpenFault) → OpenFails Read f → (f ≡ fault.Fault Read → IsUnread Came Failed) → HasReason Came Failed (ending_of f)
-  open_reason SameFile fails unread = tt
-  open_reason (fault.Fault f) (inl read) unread = rw read (unread (ap fault.Fault read))
-  open_reason (fault.Fault f) (inr memory) unread = rw memory tt
-
-  pub streams_reason : (f : OpenFault) → OpenFails Memory f → HasReason Came Failed (ending_of f)
-  streams_reason SameFile fails = tt
-  streams_reason (fault.Fault f) (inl memory) = rw memory tt
-  streams_reason (fault.Fault f) (inr memory) = rw memory tt
-
--- the command line is to blame only for what no name shows
-pub unfit_usage : (f : OpenFault) (Came : Outcome → Type 0) → (f ≡ SameFile → Came Unfit) → is_usage (ending_of f) ≡ true → IsUnfit Came (ending_of f)
-unfit_usage SameFile Came unfit usage = (inl refl, unfit refl)
-unfit_usage (fault.Fault f) Came unfit usage = absurd (true≢false (sym usage))
 
 -- a fault is that of the ending
 pub same_fault : (x f g : FileFault) → x ≡ f → Fault x ≡ Fault g → fault.Fault f ≡ fault.Fault g
@@ -97,40 +66,6 @@ module _ {In : Type 0} (read : In → SourceView) (p : Position) (name : Text) (
   old_later (Ok s) other came = rw (not_first p.index other) came
   old_later (Err f) other came = tt
 
--- ---- What came in a part of a command, and what files hold by that.
-
-pub did_came : (a : List Event) (old mid new : FilesView) → Does a old mid → (o : Outcome) → CameSince mid new o → CameSince old new o
-did_came a old mid new did o came = then_came [] old mid new (grows_by a old mid did) o came
-
-pub came_did : (a : List Event) (old mid new : FilesView) → Does a mid new → (o : Outcome) → CameSince old mid o → CameSince old new o
-came_did a old mid new did o came = came_then [] old mid new (grows_by a mid new did) o came
-
-pub same_events : (old new : FilesView) → Does [] old new → new.events ≡ old.events
-same_events old new did = did_events [] old new did ∙ append-nil old.events
-
--- what a file holds, with another property that follows
-pub holds_as : (Came : Outcome → Type 0) (name : Text) (P Q : List ℕ → Type 0) → ((bytes : List ℕ) → P bytes → Q bytes) → HoldsOnly Came name P → HoldsOnly Came name Q
-holds_as Came name P Q so (bytes, inl (all, p)) = (bytes, inl (all, so bytes p))
-holds_as Came name P Q so (bytes, inr (gave, p)) = (bytes, inr (gave, λ rest. so (bytes ++ rest) (p rest)))
-
--- and by what came later
-module _ (Came Later : Outcome → Type 0) (so : (o : Outcome) → Came o → Later o) where
-  pub holds_later : (name : Text) (P : List ℕ → Type 0) → HoldsOnly Came name P → HoldsOnly Later name P
-  holds_later name P (bytes, inl (all, p)) = (bytes, inl (all_as Came Later so name bytes all, p))
-  holds_later name P (bytes, inr (gave, p)) = (bytes, inr (given_as Came Later so name bytes gave, p))
-
-  pub unread_later : (Failed : Type 0) → IsUnread Came Failed → IsUnread Later Failed
-  unread_later Failed (inl (name, unread)) = inl (name, so _ unread)
-  unread_later Failed (inr failed) = inr failed
-
-  pub reason_as : (Failed : Type 0) (e : Ending) → HasReason Came Failed e → HasReason Later Failed e
-  reason_as Failed (Fault Read) reason = unread_later Failed reason
-  reason_as Failed (Fault Write) reason = (reason.0, so _ reason.1)
-  reason_as Failed (Fault other) reason = tt
-  reason_as Failed (Usage usage) reason = tt
-  reason_as Failed (Words text) reason = tt
-  reason_as Failed (Unsaved fault second) reason = tt
-
 -- the property of a passphrase's file
 module _ (name : Bor Text) (log : ℕ) where
   no_words : (held : Option (List ℕ)) → ((pass : List ℕ) → IsPassphraseIn held pass → IsAllowed pass log → ⊥) → (i : Identity)
@@ -144,7 +79,7 @@ module _ (name : Bor Text) (log : ℕ) where
 
   pub pass_only : (Came : Outcome → Type 0) (held : Option (List ℕ)) → IsEnough Came (PassphraseFile name log) held
       → ((pass : List ℕ) → IsPassphraseIn held pass → IsAllowed pass log → ⊥) → HoldsOnly Came name.now (HoldsNoPassphrase log)
-  pass_only Came held enough none = holds_as Came name.now _ _ so_words (enough (no_words held none))
+  pass_only Came held enough none = holds_as Came Came (λ o came. came) name.now _ _ so_words (enough (no_words held none))
 
 -- a file with random bytes has 48 of them
 pub too_few : (bytes : List ℕ) → length bytes < 48 → HoldsNoRandom bytes
@@ -167,12 +102,12 @@ too_few bytes few s is = absurd (omega (
 module _ (Came Later : Outcome → Type 0) (so : (o : Outcome) → Came o → Later o) (a : Encrypting) (e : Ending) where
   pub pass_blamed : ((e ≡ Usage BadPassphraseFile) × HoldsOnly Came a.pass.now (HoldsNoPassphrase a.log)) ⊎ IsUnfit Came e
       → IsBlamed Later (Encrypt a) e ⊎ IsUnfit Later e
-  pass_blamed (inl (is, holds)) = inl (inr (inl (inl (is, holds_later Came Later so a.pass.now (HoldsNoPassphrase a.log) holds))))
+  pass_blamed (inl (is, holds)) = inl (inr (inl (inl (is, holds_as Came Later so a.pass.now (HoldsNoPassphrase a.log) (HoldsNoPassphrase a.log) (λ bytes none. none) holds))))
   pass_blamed (inr unfit) = inr (unfit_as Came Later so e unfit)
 
   pub random_blamed : (name : Text) → name ≡ random_name (option_text a.random)
       → ((e ≡ Usage BadRandomFile) × HoldsOnly Came name HoldsNoRandom) ⊎ IsUnfit Came e
       → IsBlamed Later (Encrypt a) e ⊎ IsUnfit Later e
   random_blamed name named (inl (is, holds)) =
-      inl (inr (inl (inr (is, subst (λ (n : Text). HoldsOnly Later n HoldsNoRandom) named (holds_later Came Later so name HoldsNoRandom holds)))))
+      inl (inr (inl (inr (is, subst (λ (n : Text). HoldsOnly Later n HoldsNoRandom) named (holds_as Came Later so name HoldsNoRandom HoldsNoRandom (λ bytes none. none) holds)))))
   random_blamed name named (inr unfit) = inr (unfit_as Came Later so e unfit)

@@ -1,8 +1,10 @@
 -- What progress shows of one reading of the input, or of two.
-use Rattle.std.proofs.Common.{◌≡◌, ◌∙◌, ◌⊎◌, ℕ, List, Option, Some, None, true≢false, sym, Result, Ok, Err, OnOk, IfOk}
-use Rattle.std.specs.Prelude.{IsOk, IsSomeAnd}
+use base.Fml.{GName}
+use Rattle.std.proofs.Common.{◌≡◌, ◌⊎◌, ℕ, List, Option, Some, None, true≢false, sym, Result, Ok, Err, OnOk, IfOk, refl, length, subst}
+use Rattle.std.specs.Prelude.{IfSome, IsOk, IsSomeAnd}
 use Rattle.age_io.specs.Supply.{Supply, IsAtEnd}
-use Rattle.age_io.specs.Io.{Shown}
+use Rattle.age_io.specs.Io.{Shown, Adds, Begins, Ends, Lending, CountsSince}
+use Rattle.age_io.proofs.MeterLemmas.{begins_since, reading_of}
 use Rattle.age_file.specs.Runs.{Ports, Run}
 use Rattle.age_file.specs.Decrypts.{DecryptEnds}
 use Rattle.age_file.specs.Resumes.{ResumePorts, ResumeEnds}
@@ -21,10 +23,6 @@ pub shown_with : (coming left : Supply) (old middle new : Option (List Shown)) (
     → ShowsReadings coming left old new r
 shown_with coming left old middle new (Ok x) run same again ended = record { middle = middle; first = run; whole = (ended, same); again = again }
 shown_with coming left old middle new (Err e) run same again ended = record { middle = middle; first = run; whole = tt; again = again }
-
--- nothing is shown of two readings of which nothing is shown
-pub same_then : {X : Type 0} (last middle first : X) → last ≡ middle → middle ≡ first → last ≡ first
-same_then last middle first second one = second ∙ one
 
 -- an engine that ended has read its source to the end
 pub opening_whole : (A : Header → List ℕ → Type 0) (before after : Ports) (run : Option Run) (r : Result Done Stopped)
@@ -46,3 +44,18 @@ ended_with P (Ok x) (Ok y) Q p q = p
 ended_with P (Ok x) (Err e) Q p q = tt
 ended_with P (Err s) (Ok y) Q p q = absurd (true≢false (sym q.0))
 ended_with P (Err s) (Err e) Q p q = tt
+
+-- a reading was begun, counted and ended
+pub shows_run : {P : Type 0} (shown_by : P → Option (List Shown)) (name : GName) (coming left : Supply) (before ended : Option (List Shown))
+    (began counted given : P) (lent : GName)
+    → (size : Option ℕ) × IfSome coming.left (λ bytes. size ≡ Some (length bytes)) × Adds before (shown_by began) (Begins size)
+    → ((from : Lending) → (name ≡ from.meter) × CountsSince from coming (shown_by began) → (lent ≡ from.meter) × CountsSince from left (shown_by counted))
+    → (name ≡ lent → given ≡ counted) → Adds (shown_by given) ended Ends → ShowsRun coming left before ended
+shows_run shown_by name coming left before ended began counted given lent begun counts back ends =
+    let from : Lending = record { meter = name; coming = coming; shown = shown_by began } in
+    let kept = counts from (refl, begins_since name coming (shown_by began)) in
+    let ends_so = subst (λ p. Adds (shown_by p) ended Ends) (back (sym kept.0)) ends in (
+      begun.0,
+      begun.1,
+      reading_of name begun.0 coming left before (shown_by began) (shown_by counted) ended begun.2 kept.1 ends_so,
+    )

@@ -1,12 +1,15 @@
--- What a resumed decryption did whose position was found by reading the rest of the input once more.
-use Rattle.std.proofs.Common.{◌≡◌, ℕ, List, Option, Some, None, Bool, true, false}
-use Rattle.std.proofs.Common.{Result, Ok, Err, OnOk, IfOk, IfErr, subst, refl, inl, inr, ⊎_elim}
+-- What a decryption, or a resumed one, did whose position was found by reading the input once more.
+use Rattle.std.proofs.Common.{◌≡◌, ◌⊎◌, ℕ, List, Option, Some, None, Bool, true, false, true≢false, sym, Result, Ok, Err, OnOk, IfOk, IfErr, IsErr}
+use Rattle.std.proofs.Common.{subst, refl, inl, inr, ⊎_elim}
 use Rattle.std.specs.Prelude.{is_some, IfSome, IsSomeAnd, min}
+use Rattle.std.proofs.lemmas.Option.{none-some}
 use Rattle.std.proofs.lemmas.Result.{IfErr-weaker}
 use Rattle.clap.specs.Words.{Text}
-use Rattle.age_io.specs.Io.{SourceView}
+use Rattle.age_io.specs.Io.{SinkView, SourceView}
 use Rattle.age_io.specs.Supply.{Supply, IsAtEnd}
-use Rattle.age_file.proofs.AgainLawLemmas.{rest_kept}
+use Rattle.age_fault.specs.declared.fault.FileFault.{FileFault}
+use Rattle.age_file.proofs.AgainLawLemmas.{rest_kept, stops_kept}
+use Rattle.age_file.specs.Decrypts.{DecryptEnds, DecryptStops, DecryptsKeyed, FindsKey}
 use Rattle.age_file.specs.Resumes.{ResumePorts, resume_ports, ResumesKeyed, ResumeStops, StandsAt, StopsInSkipped, ResumeEnds}
 use Rattle.age_file.specs.Runs.{Ports, ports, Run, IsPositionOf}
 use Rattle.age_file.specs.declared.decryption.Done.{Done}
@@ -23,11 +26,174 @@ use Rattle.age_cli_args.specs.declared.request.ProgressOption.TheVariants.{Silen
 use Rattle.age_command.specs.Identities.{allows_by, refuses_by}
 use Rattle.age_command.specs.declared.ending.Ending.{Ending}
 use Rattle.age_command.specs.declared.identity.Identity.{Identity}
-use Rattle.age_cli.specs.Acts.{kept_for, start_of, Finds, HaltsResumption, StandsResumption}
+use Rattle.age_cli.specs.Acts.{kept_for, start_of, Finds, FindsAgain, LacksOne}
 use Rattle.age_cli.specs.inner.Endings.{Concludes, opening_end}
-use Rattle.age_cli.specs.inner.Rereadings.{again_of, key_of, placed, ConcludesDecryption, ConcludesFound, IsFoundIn, ResumesOpened, stopped_at}
-use Rattle.age_cli.proofs.ReadingsLemmas.{ended_with, resuming_whole}
-use Rattle.age_cli.proofs.RereadLemmas.{if_some, kept_some, lacks_none}
+use Rattle.age_cli.specs.inner.Rereadings.{again_of, key_of, placed, ConcludesDecryption, ConcludesFound, DecryptsOpened, ResumesOpened, stopped_at}
+use Rattle.age_cli.proofs.ReadingsLemmas.{ended_with, opening_whole, resuming_whole}
+
+kept_some : (save : Option Text) → is_some save ≡ true → Kept ≡ kept_for save
+kept_some None there = absurd (true≢false (sym there))
+kept_some (Some name) there = refl
+
+-- a position is that of a stop, if it has one
+if_some : {P : Position → Type 0} (o : Option Position) → ((p : Position) → o ≡ Some p → P p) → IfSome o P
+if_some None so = tt
+if_some (Some p) so = so p refl
+
+-- neither is missing
+lacks_none : (save : Option Text) (p : Position) → is_some save ≡ true → LacksOne save (Some p) → ⊥
+lacks_none None p there lacks = true≢false (sym there)
+lacks_none (Some name) p there lacks = lacks
+
+-- ---- An engine that promises this of a stop.
+
+module _ (Stops : PositionPolicy → Option Run → Stopped → Type 0) where
+  abbrev Halts : FileFault → Type 0
+  Halts fault = (policy : PositionPolicy) × (run : Option Run) × (stop : Stopped) × (stop.fault ≡ fault) × Stops policy run stop
+
+  abbrev Stands : (d : Decrypting) (from : Option Position) (took : List ℕ) (old new : FilesView) → Position → Type 0
+  Stands d from took old new p = ((policy : PositionPolicy) × (run : Option Run) × (stop : Stopped) × (stop.position ≡ Some p) × Stops policy run stop)
+      ⊎ ((r : Run) × (stop : Stopped) × Stops Dropped (Some r) stop × FindsAgain (CameSince old new) d.from.now from r took stop p)
+
+-- it ended, or it stopped as if positions had been kept when one is to be saved
+record EndsSo (Stops : PositionPolicy → Option Run → Stopped → Type 0) (d : Decrypting) (sink : SinkView) (from : Option Position) (old new : FilesView)
+    (run : Option Run) (end : Result Done Stopped) (r : Result (Unit {0}) Ending) : Type 0 where
+  pub halted : IfErr end (λ s. Halts Stops s.fault)
+  pub stands : IfErr end (λ s. IfSome s.position (Stands Stops d from sink.taken.bytes old new))
+  pub unplaced : IfErr end (λ s. LacksOne (option_text d.save) s.position → Stops (kept_for (option_text d.save)) run s)
+  pub settled : ℕ
+  pub certain : IsErr end → is_some (option_text d.save) ≡ true → CameSince old new (Settled sink.taken.bytes settled)
+  pub concludes : Concludes (option_text d.save) d.durability sink settled (opening_end end) old new r
+
+module _ (Stops : PositionPolicy → Option Run → Stopped → Type 0) (d : Decrypting) (sink : SinkView) (from : Option Position) (old new : FilesView) (run : Option Run) where
+  abbrev Certain : ℕ → Type 0
+  Certain n = CameSince old new (Settled sink.taken.bytes n)
+
+  -- one that isn't read again
+  ends_once : (end : Result Done Stopped) (r : Result (Unit {0}) Ending) → IfErr end (λ s. Halts Stops s.fault)
+      → IfErr end (Stops (kept_for (option_text d.save)) run) → ConcludesDecryption Certain d sink from end None old new r
+      → EndsSo Stops d sink from old new run end r
+  ends_once end r halted stops concludes = record {
+    halted = halted;
+    stands = IfErr-weaker end _ _ (λ s so. if_some s.position (λ p is. inl (kept_for (option_text d.save), run, s, is, so))) stops;
+    unplaced = IfErr-weaker end _ _ (λ s so none. so) stops;
+    settled = concludes.0;
+    certain = concludes.2;
+    concludes = concludes.1;
+  }
+
+  -- one that came to its payload, and is read again from there
+  module _ (s : Stopped) (key : List ℕ) (saves : is_some (option_text d.save) ≡ true) (ending : Ending) (stops : Stops Dropped run s)
+      (came : (r : Run) × (run ≡ Some r) × (key ≡ r.file.key) × (p : Position) × Stops Kept run (stopped_at s p)) (settled : ℕ) (certain : Certain settled) where
+    ends_at : (p : Position) → Stands Stops d from sink.taken.bytes old new p
+        → Concludes (option_text d.save) d.durability sink settled (opening_end (Err (stopped_at s p))) old new (Err ending)
+        → EndsSo Stops d sink from old new run (Err (stopped_at s p)) (Err ending)
+    ends_at p stands concludes = record {
+      halted = (Dropped, run, s, refl, stops);
+      stands = stands;
+      unplaced = λ lacks. absurd (lacks_none (option_text d.save) p saves lacks);
+      settled = settled;
+      certain = λ failed there. certain;
+      concludes = concludes;
+    }
+
+    ends_again : ConcludesFound d sink from s key old new ending settled → (p : Position) × EndsSo Stops d sink from old new run (Err (stopped_at s p)) (Err ending)
+    ends_again (inl (p, found, concludes)) = (
+      p,
+      ends_at p (inr (
+        came.0,
+        s,
+        subst (λ (o : Option Run). Stops Dropped o s) came.1 stops,
+        record {
+          settled = settled;
+          certain = certain;
+          first = found.first;
+          last = found.last;
+          reading = found.reading;
+          found = subst (λ (k : List ℕ). Finds (start_of settled from) k found.first found.last (min s.written settled) p) came.2 found.found;
+        },
+      )) concludes,
+    )
+    ends_again (inr all) = (came.3, ends_at came.3 (inl (Kept, run, stopped_at s came.3, refl, came.4)) (all came.3))
+
+-- ---- A decryption.
+
+-- a stop before the payload has no position, kept or not
+unread : (keep other : PositionPolicy) (i : Identity) (before after : Ports) (run : Option Run) (s : Stopped) → FindsKey run None
+    → DecryptStops keep (allows_by i) (refuses_by i) before after run s → DecryptStops other (allows_by i) (refuses_by i) before after run s
+unread keep other i before after None s none stops = stops
+unread keep other i before after (Some r) s none stops = absurd (none-some r.file.key none)
+
+module _ (IsPorts : Ports → Type 0) (d : Decrypting) (i : Identity) (before after : Ports) (after_is : IsPorts after) (old new : FilesView)
+    (over : CameSince old new (Gave (reading_of d.from.now after.source)))
+    (Unshown : Type 0) (Progress : Supply → Supply → Result (Unit {0}) Ending → Type 0) (silent : d.progress ≡ Silent → Unshown) where
+  abbrev Shows : Result (Unit {0}) Ending → Type 0
+  Shows r = d.progress ≡ Shown → OnOk r (IsAtEnd after.source.supply) → Progress before.source.supply after.source.supply r
+
+  abbrev Opens : Result (Unit {0}) Ending → Type 0
+  Opens r = DecryptsOpened IsPorts (CameSince old new) d i before old new Unshown Progress r
+
+  abbrev Stopping : PositionPolicy → Option Run → Stopped → Type 0
+  Stopping keep run s = DecryptStops keep (allows_by i) (refuses_by i) before after run s
+
+  abbrev Did : PositionPolicy → Result Done Stopped → Option (List ℕ) → Type 0
+  Did keep end key = DecryptsKeyed keep (allows_by i) (refuses_by i) before after end key
+
+  opens_so : (end : Result Done Stopped) (run : Option Run) (r : Result (Unit {0}) Ending) → after.sink.label ≡ before.sink.label
+      → IfOk end (λ done. IsSomeAnd run (DecryptEnds (allows_by i) before after done)) → Shows r
+      → EndsSo Stopping d after.sink None old new run end r → Opens r
+  opens_so end run r named done shown so = record {
+    after = after;
+    after_is = after_is;
+    over = over;
+    decrypted = end;
+    run = run;
+    done = done;
+    halted = so.halted;
+    stands = so.stands;
+    unplaced = so.unplaced;
+    named = named;
+    settled = so.settled;
+    certain = so.certain;
+    concludes = so.concludes;
+    silent = silent;
+    shown = λ asked. shown asked (ended_with _ (opening_end end) r _ (opening_whole (allows_by i) before after run end done) so.concludes.done);
+  }
+
+  once : (end : Result Done Stopped) (key : Option (List ℕ)) (keep : PositionPolicy) (r : Result (Unit {0}) Ending) → (did : Did keep end key)
+      → IfErr end (Stopping (kept_for (option_text d.save)) did.is.run) → Shows r
+      → ConcludesDecryption (λ n. CameSince old new (Settled after.sink.taken.bytes n)) d after.sink None end None old new r → Opens r
+  once end key keep r did stops shown concludes = opens_so end did.is.run r did.is.named did.is.done shown
+      (ends_once Stopping d after.sink None old new did.is.run end r (IfErr-weaker end _ _ (λ s so. (keep, did.is.run, s, refl, so)) did.is.stopped) stops concludes)
+
+  came_so : (run : Option Run) (s : Stopped) (key : List ℕ) → FindsKey run (Some key) → IfSome run (λ r. (p : Position) × IsPositionOf r p) → Stopping Dropped run s
+      → (r : Run) × (run ≡ Some r) × (key ≡ r.file.key) × (p : Position) × Stopping Kept run (stopped_at s p)
+  came_so None s key finds due stops = absurd (none-some key (sym finds))
+  came_so (Some r) s key finds due stops =
+      let same : key ≡ r.file.key = cc in
+      (r, refl, same, due.0, stops_kept (allows_by i) (refuses_by i) before after r s due.0 stops due.1)
+
+  again : (s : Stopped) (key : List ℕ) (ending : Ending) → is_some (option_text d.save) ≡ true → Did Dropped (Err s) (Some key) → Shows (Err ending)
+      → ConcludesDecryption (λ n. CameSince old new (Settled after.sink.taken.bytes n)) d after.sink None (Err s) (Some (s, key)) old new (Err ending) → Opens (Err ending)
+  again s key ending saves did shown (settled, certain, found) =
+      let so = ends_again Stopping d after.sink None old new did.is.run s key saves ending did.is.stopped
+      (came_so did.is.run s key did.found did.due did.is.stopped) settled certain found in
+      opens_so (Err (stopped_at s so.0)) did.is.run (Err ending) did.is.named tt shown so.1
+
+  pub opened_by : (reread : Bool) (end : Result Done Stopped) (key : Option (List ℕ)) (keep : PositionPolicy)
+      (r : Result (Unit {0}) Ending) → (reread ≡ true → is_some (option_text d.save) ≡ true) → (reread ≡ true → keep ≡ Dropped)
+      → (reread ≡ false → keep ≡ kept_for (option_text d.save)) → Did keep end key → Shows r
+      → ConcludesDecryption (λ n. CameSince old new (Settled after.sink.taken.bytes n)) d after.sink None end (again_of reread end key) old new r → Opens r
+  opened_by reread (Ok done) key keep r saves dropped kept did shown concludes = once (Ok done) key keep r did tt shown concludes
+  opened_by reread (Err s) None keep r saves dropped kept did shown concludes =
+      once (Err s) None keep r did (unread keep (kept_for (option_text d.save)) i before after did.is.run s did.found did.is.stopped) shown concludes
+  opened_by false (Err s) (Some key) keep r saves dropped kept did shown concludes =
+      once (Err s) (Some key) keep r did (subst (λ (x : PositionPolicy). Stopping x did.is.run s) (kept refl) did.is.stopped) shown concludes
+  opened_by true (Err s) (Some key) keep (Ok x) saves dropped kept did shown concludes = absurd concludes
+  opened_by true (Err s) (Some key) keep (Err e) saves dropped kept did shown concludes =
+      again s key e (saves refl) (subst (λ (x : PositionPolicy). Did x (Err s) (Some key)) (dropped refl) did) shown concludes
+
+-- ---- A decryption that is resumed.
 
 -- a stop in the skipped blocks, had positions been kept
 skipping_kept : (i : Identity) (from : Position) (before after : ResumePorts) (s : Stopped) → StopsInSkipped (allows_by i) from before after Dropped s
@@ -51,14 +217,14 @@ module _ (i : Identity) (from : Position) (before after : ResumePorts) where
   abbrev Stops : PositionPolicy → Option Run → Stopped → Type 0
   Stops keep run s = ResumeStops (allows_by i) from before after keep (refuses_by i) run s
 
-  abbrev Stands : PositionPolicy → Option Run → Result Done Stopped → Standing → Type 0
-  Stands keep run end standing = StandsAt (allows_by i) from before after keep (refuses_by i) run end standing
+  abbrev Placed : PositionPolicy → Option Run → Result Done Stopped → Standing → Type 0
+  Placed keep run end standing = StandsAt (allows_by i) from before after keep (refuses_by i) run end standing
 
-  before_as : (keep other : PositionPolicy) (run : Option Run) (s : Stopped) → Stands keep run (Err s) Before → Stops other run s
+  before_as : (keep other : PositionPolicy) (run : Option Run) (s : Stopped) → Placed keep run (Err s) Before → Stops other run s
   before_as keep other None s stands = ⊎_elim (λ early. inl early) (λ copying. inr (inl copying)) stands
   before_as keep other (Some r) s stands = absurd stands
 
-  skipping_as : (run : Option Run) (s : Stopped) → Stands Dropped run (Err s) Skipping → Stops Kept run (stopped_at s from)
+  skipping_as : (run : Option Run) (s : Stopped) → Placed Dropped run (Err s) Skipping → Stops Kept run (stopped_at s from)
   skipping_as None s stands = inr (inr (skipping_kept i from before after s stands))
   skipping_as (Some r) s stands = absurd stands
 
@@ -66,28 +232,25 @@ module _ (IsPorts : Ports → Type 0) (d : Decrypting) (old_name : Text) (i : Id
     (before after : Ports) (after_is : IsPorts after) (last_is : IsPorts (ports last after.sink)) (old new : FilesView)
     (over : CameSince old new (Gave (reading_of d.from.now after.source))) (last_over : CameSince old new (Gave (reading_of old_name last)))
     (Unshown : Type 0) (Progress : Supply → Supply → Result (Unit {0}) Ending → Type 0) (silent : d.progress ≡ Silent → Unshown) where
-  abbrev Did : PositionPolicy → Result Done Stopped → Standing → Type 0
-  Did keep end standing = ResumesKeyed keep (allows_by i) (refuses_by i) from (resume_ports before first) (resume_ports after last) end standing
+  abbrev ResumedDid : PositionPolicy → Result Done Stopped → Standing → Type 0
+  ResumedDid keep end standing = ResumesKeyed keep (allows_by i) (refuses_by i) from (resume_ports before first) (resume_ports after last) end standing
 
-  abbrev Shows : Result (Unit {0}) Ending → Type 0
-  Shows r = d.progress ≡ Shown → OnOk r (IsAtEnd after.source.supply) → Progress before.source.supply after.source.supply r
-
-  abbrev Certain : ℕ → Type 0
-  Certain n = CameSince old new (Settled after.sink.taken.bytes n)
+  abbrev ResumedShows : Result (Unit {0}) Ending → Type 0
+  ResumedShows r = d.progress ≡ Shown → OnOk r (IsAtEnd after.source.supply) → Progress before.source.supply after.source.supply r
 
   abbrev Resumes : Result (Unit {0}) Ending → Type 0
   Resumes r = ResumesOpened IsPorts (CameSince old new) d old_name i from first before old new Unshown Progress r
 
   abbrev Concluded : Result (Unit {0}) Ending → Result Done Stopped → Option (Stopped × List ℕ) → Type 0
-  Concluded r end again = ConcludesDecryption Certain d after.sink (Some from) end again old new r
+  Concluded r end again = ConcludesDecryption (λ n. CameSince old new (Settled after.sink.taken.bytes n)) d after.sink (Some from) end again old new r
 
-  -- one that isn't read again ended as if positions had been kept, if one is to be saved
-  resumed_once : (run : Option Run) (end : Result Done Stopped) (r : Result (Unit {0}) Ending) → after.sink.label ≡ before.sink.label
-      → IfOk end (λ done. IsSomeAnd run (ResumeEnds (allows_by i) from (resume_ports before first) (resume_ports after last) done))
-      → IfErr end (Stops i from (resume_ports before first) (resume_ports after last) (kept_for (option_text d.save)) run)
-      → IfErr end (λ s. HaltsResumption i from (resume_ports before first) (resume_ports after last) s.fault) → Shows r
-      → Concluded r end None → Resumes r
-  resumed_once run end r named done stops halted shown concludes = record {
+  abbrev Halting : PositionPolicy → Option Run → Stopped → Type 0
+  Halting keep run s = Stops i from (resume_ports before first) (resume_ports after last) keep run s
+
+  resumes_so : (end : Result Done Stopped) (run : Option Run) (r : Result (Unit {0}) Ending) → after.sink.label ≡ before.sink.label
+      → IfOk end (λ done. IsSomeAnd run (ResumeEnds (allows_by i) from (resume_ports before first) (resume_ports after last) done)) → ResumedShows r
+      → EndsSo Halting d after.sink (Some from) old new run end r → Resumes r
+  resumes_so end run r named done shown so = record {
     after = after;
     after_is = after_is;
     over = over;
@@ -97,130 +260,76 @@ module _ (IsPorts : Ports → Type 0) (d : Decrypting) (old_name : Text) (i : Id
     resumed = end;
     run = run;
     done = done;
-    halted = halted;
-    stands = IfErr-weaker end _ _ (λ s so. if_some s.position (λ p is. inl (kept_for (option_text d.save), run, s, is, so))) stops;
-    unplaced = IfErr-weaker end _ _ (λ s so none. so) stops;
+    halted = so.halted;
+    stands = so.stands;
+    unplaced = so.unplaced;
     named = named;
-    settled = concludes.0;
-    certain = concludes.2;
-    concludes = concludes.1;
+    settled = so.settled;
+    certain = so.certain;
+    concludes = so.concludes;
     silent = silent;
-    shown = λ asked. shown asked
-        (ended_with _ (opening_end end) r _ (resuming_whole (allows_by i) from (resume_ports before first) (resume_ports after last) run end done)
-        concludes.1.done);
+    shown = λ asked. shown asked (ended_with _ (opening_end end) r _
+        (resuming_whole (allows_by i) from (resume_ports before first) (resume_ports after last) run end done) so.concludes.done);
   }
 
-  module _ (s : Stopped) (key : List ℕ) (saves : is_some (option_text d.save) ≡ true) (ending : Ending)
-      (did : Did Dropped (Err s) (InPayload key)) (shown : Shows (Err ending)) where
-    abbrev At : PositionPolicy → Option Run → Position → Type 0
-    At keep run p = ResumeStops (allows_by i) from (resume_ports before first) (resume_ports after last) keep (refuses_by i) run (stopped_at s p)
+  came_there : (run : Option Run) (s : Stopped) (key : List ℕ)
+      → StandsAt (allows_by i) from (resume_ports before first) (resume_ports after last) Dropped (refuses_by i) run (Err s) (InPayload key)
+      → IfSome run (λ r. (p : Position) × IsPositionOf r p) → Halting Dropped run s
+      → (r : Run) × (run ≡ Some r) × (key ≡ r.file.key) × (p : Position) × Halting Kept run (stopped_at s p)
+  came_there None s key stands due stops = absurd stands
+  came_there (Some r) s key stands due stops =
+      (r, refl, stands, due.0, rest_kept (allows_by i) (refuses_by i) from (resume_ports before first) (resume_ports after last) r s due.0 stops due.1)
 
-    abbrev Dropping : Option Run → Type 0
-    Dropping run = ResumeStops (allows_by i) from (resume_ports before first) (resume_ports after last) Dropped (refuses_by i) run s
+  resumed_done : (x : Done) (standing : Standing) (keep : PositionPolicy) (r : Result (Unit {0}) Ending) → ResumedDid keep (Ok x) standing → ResumedShows r
+      → Concluded r (Ok x) None → Resumes r
+  resumed_done x standing keep r did shown concludes = resumes_so (Ok x) did.is.run r did.is.named did.is.done shown
+      (ends_once Halting d after.sink (Some from) old new did.is.run (Ok x) r tt tt concludes)
 
-    abbrev Here : Option Run → Type 0
-    Here run = StandsAt (allows_by i) from (resume_ports before first) (resume_ports after last) Dropped (refuses_by i) run (Err s) (InPayload key)
-
-    abbrev Again : ℕ → Position → Type 0
-    Again settled p = IsFoundIn (CameSince old new) d.from.now (start_of settled (Some from)) key (min s.written settled) p
-
-    abbrev StandsThere : Position → Type 0
-    StandsThere p = StandsResumption (CameSince old new) d.from.now i from p (resume_ports before first) (resume_ports after last)
-
-    found_stands : (run : Option Run) (p : Position) (settled : ℕ) → Certain settled → Here run → Dropping run → Again settled p → StandsThere p
-    found_stands None p settled certain stands stops found = absurd stands
-    found_stands (Some r) p settled certain stands stops found = inr (
-      r,
-      s,
-      stops,
-      record {
-        settled = settled;
-        certain = certain;
-        first = found.first;
-        last = found.last;
-        reading = found.reading;
-        found = subst (λ (k : List ℕ). Finds (start_of settled (Some from)) k found.first found.last (min s.written settled) p) stands found.found;
-      },
-    )
-
-    due_so : (run : Option Run) → Here run → IfSome run (λ r. (p : Position) × IsPositionOf r p) → Dropping run → (p : Position) × At Kept run p
-    due_so None stands due stops = absurd stands
-    due_so (Some r) stands due stops =
-        (due.0, rest_kept (allows_by i) (refuses_by i) from (resume_ports before first) (resume_ports after last) r s due.0 stops due.1)
-
-    resumed_at : (p : Position) (settled : ℕ) → Certain settled → StandsThere p
-        → Concludes (option_text d.save) d.durability after.sink settled (opening_end (Err (stopped_at s p))) old new (Err ending)
-        → Resumes (Err ending)
-    resumed_at p settled certain stands concludes = record {
-      after = after;
-      after_is = after_is;
-      over = over;
-      last = last;
-      last_is = last_is;
-      last_over = last_over;
-      resumed = Err (stopped_at s p);
-      run = did.is.run;
-      done = tt;
-      halted = (Dropped, did.is.run, s, refl, did.is.stopped);
-      stands = stands;
-      unplaced = λ lacks. absurd (lacks_none (option_text d.save) p saves lacks);
-      named = did.is.named;
-      settled = settled;
-      certain = λ failed there. certain;
-      concludes = concludes;
-      silent = silent;
-      shown = λ asked. shown asked tt;
-    }
-
-    resumed_again : (settled : ℕ) → Certain settled → ConcludesFound d after.sink (Some from) s key old new ending settled → Resumes (Err ending)
-    resumed_again settled certain (inl (p, found, concludes)) =
-        resumed_at p settled certain (found_stands did.is.run p settled certain did.stands did.is.stopped found) concludes
-    resumed_again settled certain (inr all) =
-        let due = due_so did.is.run did.stands did.due did.is.stopped in
-        resumed_at due.0 settled certain (inl (Kept, did.is.run, stopped_at s due.0, refl, due.1)) (all due.0)
+  -- one that stopped so, or where it began
+  resumed_stop : (s : Stopped) (standing : Standing) (keep : PositionPolicy) (r : Result (Unit {0}) Ending) (did : ResumedDid keep (Err s) standing) (t : Stopped)
+      → s.fault ≡ t.fault → Halting (kept_for (option_text d.save)) did.is.run t → ResumedShows r → Concluded r (Err t) None → Resumes r
+  resumed_stop s standing keep r did t same stops shown concludes = resumes_so (Err t) did.is.run r did.is.named tt shown
+      (ends_once Halting d after.sink (Some from) old new did.is.run (Err t) r (keep, did.is.run, s, same, did.is.stopped) stops concludes)
 
   as_kept : (s : Stopped) (standing : Standing) (keep : PositionPolicy) (r : Result (Unit {0}) Ending) → keep ≡ kept_for (option_text d.save)
-      → Did keep (Err s) standing → Shows r → Concluded r (Err s) None → Resumes r
+      → ResumedDid keep (Err s) standing → ResumedShows r → Concluded r (Err s) None → Resumes r
   as_kept s standing keep r kept did shown concludes =
-      resumed_once did.is.run (Err s) r did.is.named tt
-      (subst (λ (x : PositionPolicy). Stops i from (resume_ports before first) (resume_ports after last) x did.is.run s) kept did.is.stopped)
-      (keep, did.is.run, s, refl, did.is.stopped) shown concludes
+      resumed_stop s standing keep r did s refl (subst (λ (x : PositionPolicy). Halting x did.is.run s) kept did.is.stopped) shown concludes
+
+  resumed_again : (s : Stopped) (key : List ℕ) (ending : Ending) → is_some (option_text d.save) ≡ true → ResumedDid Dropped (Err s) (InPayload key) → ResumedShows (Err ending)
+      → Concluded (Err ending) (Err s) (Some (s, key)) → Resumes (Err ending)
+  resumed_again s key ending saves did shown (settled, certain, found) =
+      let so = ends_again Halting d after.sink (Some from) old new did.is.run s key saves ending did.is.stopped
+      (came_there did.is.run s key did.stands did.due did.is.stopped) settled certain found in
+      resumes_so (Err (stopped_at s so.0)) did.is.run (Err ending) did.is.named tt shown so.1
 
   by : (reread : Bool) (end : Result Done Stopped) (standing : Standing) (keep : PositionPolicy)
       (r : Result (Unit {0}) Ending) → (reread ≡ true → is_some (option_text d.save) ≡ true) → (reread ≡ true → keep ≡ Dropped)
-      → (reread ≡ false → keep ≡ kept_for (option_text d.save)) → Did keep end standing → Shows r
+      → (reread ≡ false → keep ≡ kept_for (option_text d.save)) → ResumedDid keep end standing → ResumedShows r
       → Concluded r (placed reread standing from end) (again_of reread (placed reread standing from end) (key_of standing)) → Resumes r
-  by false (Ok x) standing keep r saves dropped kept did shown concludes =
-      resumed_once did.is.run (Ok x) r did.is.named did.is.done tt tt shown concludes
-  by true (Ok x) Before keep r saves dropped kept did shown concludes =
-      resumed_once did.is.run (Ok x) r did.is.named did.is.done tt tt shown concludes
-  by true (Ok x) Skipping keep r saves dropped kept did shown concludes =
-      resumed_once did.is.run (Ok x) r did.is.named did.is.done tt tt shown concludes
-  by true (Ok x) (InPayload k) keep r saves dropped kept did shown concludes =
-      resumed_once did.is.run (Ok x) r did.is.named did.is.done tt tt shown concludes
+  by false (Ok x) standing keep r saves dropped kept did shown concludes = resumed_done x standing keep r did shown concludes
+  by true (Ok x) Before keep r saves dropped kept did shown concludes = resumed_done x Before keep r did shown concludes
+  by true (Ok x) Skipping keep r saves dropped kept did shown concludes = resumed_done x Skipping keep r did shown concludes
+  by true (Ok x) (InPayload k) keep r saves dropped kept did shown concludes = resumed_done x (InPayload k) keep r did shown concludes
   by false (Err s) Before keep r saves dropped kept did shown concludes = as_kept s Before keep r (kept refl) did shown concludes
   by false (Err s) Skipping keep r saves dropped kept did shown concludes = as_kept s Skipping keep r (kept refl) did shown concludes
   by false (Err s) (InPayload k) keep r saves dropped kept did shown concludes = as_kept s (InPayload k) keep r (kept refl) did shown concludes
   by true (Err s) Before keep r saves dropped kept did shown concludes =
-      resumed_once did.is.run (Err s) r did.is.named tt
-      (before_as i from (resume_ports before first) (resume_ports after last) keep (kept_for (option_text d.save)) did.is.run s did.stands)
-      (keep, did.is.run, s, refl, did.is.stopped) shown concludes
+      resumed_stop s Before keep r did s refl
+      (before_as i from (resume_ports before first) (resume_ports after last) keep (kept_for (option_text d.save)) did.is.run s did.stands) shown concludes
   by true (Err s) Skipping keep r saves dropped kept did shown concludes =
-      resumed_once did.is.run (Err (stopped_at s from)) r did.is.named tt
-      (subst (λ (x : PositionPolicy). Stops i from (resume_ports before first) (resume_ports after last) x did.is.run (stopped_at s from))
-      (kept_some (option_text d.save) (saves refl))
+      resumed_stop s Skipping keep r did (stopped_at s from) refl
+      (subst (λ (x : PositionPolicy). Halting x did.is.run (stopped_at s from)) (kept_some (option_text d.save) (saves refl))
       (skipping_as i from (resume_ports before first) (resume_ports after last) did.is.run s
-      (subst (λ (x : PositionPolicy). Stands i from (resume_ports before first) (resume_ports after last) x did.is.run (Err s) Skipping)
-      (dropped refl) did.stands)))
-      (keep, did.is.run, s, refl, did.is.stopped) shown concludes
+      (subst (λ (x : PositionPolicy). Placed i from (resume_ports before first) (resume_ports after last) x did.is.run (Err s) Skipping) (dropped refl) did.stands)))
+      shown concludes
   by true (Err s) (InPayload k) keep (Ok x) saves dropped kept did shown concludes = absurd concludes
   by true (Err s) (InPayload k) keep (Err e) saves dropped kept did shown concludes =
-      resumed_again s k (saves refl) e (subst (λ (x : PositionPolicy). Did x (Err s) (InPayload k)) (dropped refl) did) shown
-      concludes.0 concludes.1 concludes.2
+      resumed_again s k e (saves refl) (subst (λ (x : PositionPolicy). ResumedDid x (Err s) (InPayload k)) (dropped refl) did) shown concludes
 
   pub resumed_by : (reread : Bool) (end : Result Done Stopped) (standing : Standing) (keep : PositionPolicy)
       (r : Result (Unit {0}) Ending) → (reread ≡ true → is_some (option_text d.save) ≡ true) → (reread ≡ true → keep ≡ Dropped)
-      → (reread ≡ false → keep ≡ kept_for (option_text d.save)) → Did keep end standing → Shows r
+      → (reread ≡ false → keep ≡ kept_for (option_text d.save)) → ResumedDid keep end standing → ResumedShows r
       → (end' : Result Done Stopped) (key : Option (List ℕ)) → end' ≡ placed reread standing from end → key ≡ key_of standing
       → Concluded r end' (again_of reread end' key) → Resumes r
   resumed_by reread end standing keep r saves dropped kept did shown end' key at is concludes =

@@ -7,9 +7,8 @@ use Rattle.std.proofs.lemmas.Bool.{false_from_ne_true}
 use Rattle.std.proofs.lemmas.List.{append_cancel_left}
 use Rattle.std.proofs.lemmas.Slice.Eq.{bytes_eq-Decides}
 use Rattle.age_fileset.specs.declared.mem_entry.MemEntry.{MemEntry}
-use Rattle.age_fileset.specs.FileSet.{Outcome, Found, FoundOrEmpty, Unread, Unwritten, Absent, Gave, Settled, Put, Unfit, Files, no_files, once}
-use Rattle.age_fileset.specs.FileSet.{stands, or_empty}
-use Rattle.age_fileset.specs.FileSet.{Fits, AllFit, AreTrue, entry_of, Entry, entry, puts_in, FilesView, PutsOnly, CameSince, HasGivenAll}
+use Rattle.age_fileset.specs.FileSet.{Outcome, Found, FoundOrEmpty, Put, Files, no_files, once, stands, or_empty, Fits, AllFit, AreTrue, entry_of}
+use Rattle.age_fileset.specs.FileSet.{Entry, entry, puts_in, FilesView, PutsOnly, CameSince, HasGivenAll}
 use Rattle.age_fileset.proofs.OutcomeLemmas.{puts_then}
 use Rattle.age_fileset.proofs.ShelfLemmas.{stands_then}
 
@@ -38,14 +37,7 @@ pub stands_other : (files : Files) (more : List Outcome) (q : List ℕ) → AreO
 unfolding stands puts_in
 stands_other files [] q other = refl
 stands_other files (Put name bytes ∷ a) q other = stands_other (once files (Put name bytes)) a q other.1 ∙ unput files name bytes q other.0
-stands_other files (Found name left ∷ a) q other = stands_other (once files (Found name left)) a q other
-stands_other files (FoundOrEmpty name left ∷ a) q other = stands_other (once files (FoundOrEmpty name left)) a q other
-stands_other files (Unread name ∷ a) q other = stands_other (once files (Unread name)) a q other
-stands_other files (Unwritten name ∷ a) q other = stands_other (once files (Unwritten name)) a q other
-stands_other files (Absent name ∷ a) q other = stands_other (once files (Absent name)) a q other
-stands_other files (Gave r ∷ a) q other = stands_other (once files (Gave r)) a q other
-stands_other files (Settled took size ∷ a) q other = stands_other (once files (Settled took size)) a q other
-stands_other files (Unfit ∷ a) q other = stands_other (once files Unfit) a q other
+stands_other files (x ∷ a) q other = stands_other (once files x) a q other
 
 -- the first that was put, and then others
 pub stands_put : (files : Files) (more : List Outcome) (name bytes : List ℕ) (rest : List Entry) → puts_in more ≡ entry name bytes ∷ rest
@@ -61,14 +53,7 @@ stands_put files (Put n b ∷ a) name bytes rest is other =
     subst (λ (x : List ℕ). stands (once files (Put x b)) a name ≡ Some bytes) (sym mine)
     (subst (λ (x : List ℕ). stands (once files (Put name x)) a name ≡ Some bytes) (sym same)
     (stands_other (once files (Put name bytes)) a name (subst (λ (l : List Entry). AreOthers name l) (sym late) other) ∙ is_put files name bytes))
-stands_put files (Found n left ∷ a) name bytes rest is other = stands_put (once files (Found n left)) a name bytes rest is other
-stands_put files (FoundOrEmpty n left ∷ a) name bytes rest is other = stands_put (once files (FoundOrEmpty n left)) a name bytes rest is other
-stands_put files (Unread n ∷ a) name bytes rest is other = stands_put (once files (Unread n)) a name bytes rest is other
-stands_put files (Unwritten n ∷ a) name bytes rest is other = stands_put (once files (Unwritten n)) a name bytes rest is other
-stands_put files (Absent n ∷ a) name bytes rest is other = stands_put (once files (Absent n)) a name bytes rest is other
-stands_put files (Gave r ∷ a) name bytes rest is other = stands_put (once files (Gave r)) a name bytes rest is other
-stands_put files (Settled took size ∷ a) name bytes rest is other = stands_put (once files (Settled took size)) a name bytes rest is other
-stands_put files (Unfit ∷ a) name bytes rest is other = stands_put (once files Unfit) a name bytes rest is other
+stands_put files (x ∷ a) name bytes rest is other = stands_put (once files x) a name bytes rest is other
 
 -- ---- What came is true of what stood then.
 
@@ -136,8 +121,3 @@ module _ (old new : FilesView) (was is : List MemEntry) (kept_was : AreTrue was 
         all_of : (left : Option (List ℕ)) → is_some (prepend_known bytes left) ≡ true → IsAtEnd left → prepend_known bytes left ≡ Some bytes
         all_of None there end = absurd (true≢false (sym there))
         all_of (Some rest) there end = rw (end, append-nil bytes) refl
-
--- what came when nothing was put
-pub none_since : (old new : FilesView) → PutsOnly [] old new → (was is : List MemEntry) → AreTrue was old.outcomes → AreTrue is new.outcomes → (q : List ℕ)
-    → entry_of is q ≡ entry_of was q
-none_since old new grows was is kept_was kept_is q = same_since old new was is kept_was kept_is [] grows q tt

@@ -83,7 +83,7 @@ came_one old new o is = record { before = []; later = []; is = is }
 pub came_first : (old new : FilesView) (o : Outcome) (later : List Outcome) → new.outcomes ≡ old.outcomes ++ o ∷ later → CameSince old new o
 came_first old new o later is = record { before = []; later = later; is = is }
 
-pub came_then : (puts : List Entry) (old mid new : FilesView) → PutsOnly puts mid new → (o : Outcome) → CameSince old mid o → CameSince old new o
+abbrev pub came_then : (puts : List Entry) (old mid new : FilesView) → PutsOnly puts mid new → (o : Outcome) → CameSince old mid o → CameSince old new o
 came_then puts old mid new more o c = record {
   before = c.before;
   later = c.later ++ more.more;
@@ -91,7 +91,7 @@ came_then puts old mid new more o c = record {
       ∙ ap (λ x. old.outcomes ++ x) (append_assoc c.before (o ∷ c.later) more.more);
 }
 
-pub then_came : (puts : List Entry) (old mid new : FilesView) → PutsOnly puts old mid → (o : Outcome) → CameSince mid new o → CameSince old new o
+abbrev pub then_came : (puts : List Entry) (old mid new : FilesView) → PutsOnly puts old mid → (o : Outcome) → CameSince mid new o → CameSince old new o
 then_came puts old mid new more o c = record {
   before = more.more ++ c.before;
   later = c.later;

@@ -1,4 +1,4 @@
-use Rattle.std.proofs.Common.{◌∙◌, ◌++◌, ◌∷◌, [], ap, refl, Some}
+use Rattle.std.proofs.Common.{◌∙◌, ◌++◌, ◌∷◌, [], ap, inl, refl, Some}
 use Rattle.age_file.specs.Runs.{ports}
 use Rattle.age_fileset.specs.FileSet.{Opened, Outcome, CameSince}
 use Rattle.age_fileset.proofs.OutcomeLemmas.{came_then, does_then, grows_by, then_came}
@@ -8,10 +8,16 @@ use Rattle.age_command.specs.Orders.{creating, identity_order, preparing, making
 use Rattle.age_command.specs.declared.ending.Ending.TheVariants.{Usage}
 use Rattle.age_cli.specs.inner.Endings.{opening_end}
 use Rattle.age_cli.proofs.CommandLemmas.{judges_from, makes_none, opens_by}
-use Rattle.age_cli.proofs.ActLemmas.{acts_judged, acts_refused, acts_unopened}
+use Rattle.age_cli.proofs.ActLemmas.{acts_judged, acts_refused, acts_unchosen, acts_unopened}
 use Rattle.age_cli.proofs.EngineLemmas.{concluded_grows}
 use Rattle.age_cli.proofs.FinalLemmas.{decrypt_acts}
 use Rattle.age_cli.proofs.decrypt_command.decrypt_file.Goals as goal
+
+pub returns-in_err-choice-clause-acts : goal.returns-in_err-choice-clause-acts
+returns-in_err-choice-clause-acts g c =
+    let none = c.in_err-choice.ensures in
+    acts_unchosen _ (Decrypt c.args.asked.now) _ _ _ _ _ _ (λ e early. early) c.in_err-choice.field-0.0 c.from_residual.ensures
+    c.names_a_file_twice-is_file_named_twice.ensures.does (ap Usage none.blame, inl none.none) refl
 
 pub returns-in_err-secret-clause-acts : goal.returns-in_err-secret-clause-acts
 returns-in_err-secret-clause-acts g c =

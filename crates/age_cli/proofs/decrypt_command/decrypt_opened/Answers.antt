@@ -1,8 +1,8 @@
-use Rattle.std.proofs.Common.{◌≡◌, refl}
+use Rattle.std.proofs.Common.{◌≡◌, ◌∙◌, refl}
 use Rattle.age_file.specs.Runs.{ports}
 use Rattle.age_cli.specs.Acts.{PortsOf, ShowsReadings}
-use Rattle.age_cli.proofs.ReadingsLemmas.{same_then, shown_with}
-use Rattle.age_cli.proofs.RereadLemmas.{opened_by}
+use Rattle.age_cli.proofs.ReadingsLemmas.{shown_with}
+use Rattle.age_cli.proofs.RestLemmas.{opened_by}
 use Rattle.age_cli.proofs.decrypt_command.decrypt_opened.Goals as goal
 
 pub returns-clause-opened : goal.returns-clause-opened
@@ -20,7 +20,7 @@ returns-clause-opened g c =
     (record { source = once.result.source; sink = once.new.out.out; is = refl }) (view c.args.files.now) (view ended.new.files) ended.ensures.over
     (now ≡ was)
     (λ coming left r. ShowsReadings coming left (shown was) (shown now) r)
-    (λ silent. same_then now once.new.progress was (ended.ensures.silent silent) (once.ensures.silent silent)) c.can_reread-is_reread.result
+    (λ silent. ended.ensures.silent silent ∙ once.ensures.silent silent) c.can_reread-is_reread.result
     once.result.end once.result.key c.positions_at_first.result
     ended.result c.can_reread-is_reread.ensures c.positions_at_first.ensures.dropped c.positions_at_first.ensures.kept once.ensures.opened
     (λ asked whole. shown_with (In c.args.source).supply (In once.result.source).supply (shown was) (shown once.new.progress) (shown now) ended.result

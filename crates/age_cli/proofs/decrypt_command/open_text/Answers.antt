@@ -1,10 +1,6 @@
-use Rattle.std.proofs.Common.{◌∙◌, sym}
 use Rattle.age_io.specs.Io.{Named, Metered}
-use Rattle.age_cli.proofs.ProgressLemmas.{not_both, shows_run}
+use Rattle.age_cli.proofs.ReadingsLemmas.{shows_run}
 use Rattle.age_cli.proofs.decrypt_command.open_text.Goals as goal
-
-pub returns-in-Silent-clause-shown : goal.returns-in-Silent-clause-shown
-returns-in-Silent-clause-shown g c asked = absurd (not_both (sym asked ∙ c.in-Silent.is))
 
 pub returns-in-Shown-clause-shown : goal.returns-in-Shown-clause-shown
 returns-in-Shown-clause-shown g c asked =
@@ -12,9 +8,6 @@ returns-in-Shown-clause-shown g c asked =
     let In = g.F.In.Source.view in
     shows_run g.P.Meter.shown _ (In c.args.source).supply (In run.new.reader.source).supply _ _ c.begin_meter.new.meter run.new.reader.meter.now _
     run.new.reader.meter.ghost_name c.begin_meter.ensures (λ from. run.ensures.began (Metered from)) c.progress-1.given.1 c.end_meter.ensures
-
-pub returns-in-Silent-clause-began : goal.returns-in-Silent-clause-began
-returns-in-Silent-clause-began g c name so = c.decrypt_keyed-end.ensures.began (Named name) so
 
 pub returns-in-Shown-clause-began : goal.returns-in-Shown-clause-began
 returns-in-Shown-clause-began g c name so = c.decrypt_keyed-end-in-Shown.ensures.began (Named name) so

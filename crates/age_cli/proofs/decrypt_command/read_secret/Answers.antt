@@ -1,13 +1,12 @@
 use Rattle.std.proofs.Common.{◌∙◌, [], refl, sym, inl, inr, true≢false, Err}
 use Rattle.age_fileset.specs.FileSet.{CameSince}
 use Rattle.age_fileset.proofs.OutcomeLemmas.{checked_does, checked_unfit}
-use Rattle.age_command.specs.Endings.{EndsEarly}
+use Rattle.age_command.specs.inner.Endings.{ending_of}
 use Rattle.age_command.specs.Files.{SourceFails}
 use Rattle.age_command.specs.Identities.{file_of}
 use Rattle.age_command.specs.Orders.{opening_event}
 use Rattle.age_command.proofs.EventLemmas.{begins_none, begins_then}
-use Rattle.age_command.proofs.ResultLemmas.{not_well, this_error}
-use Rattle.age_cli.proofs.ReadLemmas.{streams_early, streams_reason, unfit_usage}
+use Rattle.age_cli.proofs.OpeningLemmas.{did_came, judges_not, open_blame, streams_early, streams_reason}
 use Rattle.age_cli.proofs.decrypt_command.read_secret.Goals as goal
 
 pub returns-then-is_file_named_twice-clause-judges : goal.returns-then-is_file_named_twice-clause-judges
@@ -25,16 +24,12 @@ returns-in_err-check_streams-clause-judges g c =
     let Files = g.F.FileSet.view in
     let old = Files c.args.files.now in
     let new = Files c.check_streams.new.self in
-    let r = c.from_residual.result in
     let f = c.in_err-check_streams.field-0.0 in
-    let is = c.from_residual.ensures in
     let noted = c.in_err-check_streams.ensures.noted in
     let fails = c.in_err-check_streams.ensures.faults in
-    record {
-      noted = not_well r _ is _;
-      followed = begins_then [] (opening_event (file_of c.args.choice.now)) old new new (checked_does {A = Unit {0}} old new (Err f) noted fails) (begins_none _ new);
-      apart = λ twice. absurd (true≢false (sym twice ∙ c.if-is_file_named_twice.false));
-      blamed = this_error r _ is _ (λ usage. inr (unfit_usage f (CameSince old new) (checked_unfit {A = Unit {0}} old new (Err f) noted) usage));
-      early = this_error r _ is EndsEarly (streams_early f fails);
-      reason = this_error r _ is _ (streams_reason (CameSince old new) (SourceFails g.F.In.Source.view) f fails);
-    }
+    judges_not _ old new new _ _ (SourceFails g.F.In.Source.view) c.from_residual.result (ending_of f) c.from_residual.ensures
+    (begins_then [] (opening_event (file_of c.args.choice.now)) old new new (checked_does {A = Unit {0}} old new (Err f) noted fails) (begins_none _ new))
+    (λ twice. true≢false (sym twice ∙ c.if-is_file_named_twice.false))
+    (λ usage. inr (open_blame (CameSince old new) f (checked_unfit {A = Unit {0}} old new (Err f) noted) usage)) (streams_early f fails)
+    (streams_reason (CameSince new new) (SourceFails g.F.In.Source.view) f fails)
+    (did_came [] old new new (checked_does {A = Unit {0}} old new (Err f) noted fails))

@@ -3,12 +3,12 @@ use Rattle.clap.specs.Words.{Text}
 use Rattle.age_cli_args.specs.Requests.{option_text}
 use Rattle.age_fileset.specs.FileSet.{Opened, Unfit, Does, CameSince, HasGiven}
 use Rattle.age_fileset.proofs.OutcomeLemmas.{all_as, given_as, checked_does, checked_unfit, does_then}
-use Rattle.age_command.specs.Endings.{EndsEarly}
+use Rattle.age_command.specs.inner.Endings.{ending_of}
 use Rattle.age_command.specs.Files.{SourceFails}
 use Rattle.age_command.specs.Orders.{random_name}
 use Rattle.age_command.proofs.EventLemmas.{begun, begins_none, begins_then}
-use Rattle.age_command.proofs.ResultLemmas.{not_well, this_error}
-use Rattle.age_cli.proofs.ReadLemmas.{came_did, did_came, pass_blamed, random_blamed, reason_as, same_events, streams_early, streams_reason, unfit_usage}
+use Rattle.age_cli.proofs.OpeningLemmas.{came_did, did_came, judges_not, open_blame, same_events, streams_early, streams_reason}
+use Rattle.age_cli.proofs.ReadLemmas.{pass_blamed, random_blamed}
 use Rattle.age_cli.proofs.encrypt_command.read_material.Goals as goal
 
 pub returns-then-names_out_twice-clause-judges : goal.returns-then-names_out_twice-clause-judges
@@ -35,21 +35,16 @@ returns-in_err-check_streams-clause-judges g c =
     let named = Files c.names_out_twice.new.files in
     let new = Files c.check_streams.new.self in
     let a = c.args.asked.now in
-    let r = c.from_residual.result in
     let f = c.in_err-check_streams.field-0.0 in
-    let is = c.from_residual.ensures in
     let noted = c.in_err-check_streams.ensures.noted in
     let fails = c.in_err-check_streams.ensures.faults in
     let did = does_then [] [] old named new names.does (checked_does {A = Unit {0}} named new (Err f) noted fails) in
-    record {
-      noted = not_well r _ is _;
-      followed = begins_then [] (Opened a.pass.now ∷ Opened (random_name (option_text a.random)) ∷ []) old new new did (begins_none _ new);
-      apart = λ twice. absurd (true≢false (sym (names.twice twice) ∙ c.if-names_out_twice.false));
-      blamed = this_error r _ is _ (λ usage. inr (unfit_usage f (CameSince old new)
-          (λ same. did_came [] old named new names.does Unfit (checked_unfit {A = Unit {0}} named new (Err f) noted same)) usage));
-      early = this_error r _ is EndsEarly (streams_early f fails);
-      reason = this_error r _ is _ (streams_reason (CameSince old new) (SourceFails g.F.In.Source.view) f fails);
-    }
+    judges_not _ old new new _ _ (SourceFails g.F.In.Source.view) c.from_residual.result (ending_of f) c.from_residual.ensures
+    (begins_then [] (Opened a.pass.now ∷ Opened (random_name (option_text a.random)) ∷ []) old new new did (begins_none _ new))
+    (λ twice. true≢false (sym (names.twice twice) ∙ c.if-names_out_twice.false))
+    (λ usage. inr (open_blame (CameSince old new) f
+    (λ same. did_came [] old named new names.does Unfit (checked_unfit {A = Unit {0}} named new (Err f) noted same)) usage))
+    (streams_early f fails) (streams_reason (CameSince new new) (SourceFails g.F.In.Source.view) f fails) (did_came [] old new new did)
 
 pub returns-in_err-pass-clause-judges : goal.returns-in_err-pass-clause-judges
 returns-in_err-pass-clause-judges g c =
@@ -60,24 +55,18 @@ returns-in_err-pass-clause-judges g c =
     let mid = Files c.check_streams.new.self in
     let new = Files c.read_pass.new.files in
     let a = c.args.asked.now in
-    let r = c.from_residual-in_err-pass.result in
     let e = c.in_err-pass.field-0.0 in
-    let is = c.from_residual-in_err-pass.ensures in
     let pass = c.in_err-pass.ensures in
     let did = does_then [] [] old named mid names.does (checked_does {A = Unit {0}} named mid c.check_streams.result c.check_streams.ensures.noted c.check_streams.ensures.faults) in
-    record {
-      noted = not_well r _ is _;
-      followed = record {
-        done = Opened a.pass.now ∷ [];
-        rest = Opened (random_name (option_text a.random)) ∷ [];
-        did = does_then [] (Opened a.pass.now ∷ []) old mid new did pass.does;
-        front = refl;
-      };
-      apart = λ twice. absurd (true≢false (sym (names.twice twice) ∙ c.if-names_out_twice.false));
-      blamed = this_error r _ is _ (λ usage. pass_blamed (CameSince mid new) (CameSince old new) (did_came [] old mid new did) a e (pass.refused usage));
-      early = this_error r _ is EndsEarly pass.early;
-      reason = this_error r _ is _ (reason_as (CameSince mid new) (CameSince old new) (did_came [] old mid new did) (SourceFails g.F.In.Source.view) e pass.reason);
-    }
+    judges_not _ old mid new _ _ (SourceFails g.F.In.Source.view) c.from_residual-in_err-pass.result e c.from_residual-in_err-pass.ensures
+    (record {
+      done = Opened a.pass.now ∷ [];
+      rest = Opened (random_name (option_text a.random)) ∷ [];
+      did = does_then [] (Opened a.pass.now ∷ []) old mid new did pass.does;
+      front = refl;
+    }) (λ twice. true≢false (sym (names.twice twice) ∙ c.if-names_out_twice.false))
+    (λ usage. pass_blamed (CameSince mid new) (CameSince old new) (did_came [] old mid new did) a e (pass.refused usage)) pass.early pass.reason
+    (did_came [] old mid new did)
 
 pub returns-in_err-random-clause-judges : goal.returns-in_err-random-clause-judges
 returns-in_err-random-clause-judges g c =
@@ -89,23 +78,17 @@ returns-in_err-random-clause-judges g c =
     let passed = Files c.read_pass.new.files in
     let new = Files c.read_random.new.files in
     let a = c.args.asked.now in
-    let r = c.from_residual-in_err-random.result in
     let e = c.in_err-random.field-0.0 in
-    let is = c.from_residual-in_err-random.ensures in
     let random = c.in_err-random.ensures in
     let name = c.random_name-random_name.result.now in
     let did = does_then [] [] old named mid names.does (checked_does {A = Unit {0}} named mid c.check_streams.result c.check_streams.ensures.noted c.check_streams.ensures.faults) in
     let before = does_then [] (Opened a.pass.now ∷ []) old mid passed did c.in_ok-pass.ensures.does in
     let all = does_then (Opened a.pass.now ∷ []) (Opened name ∷ []) old passed new before random.does in
-    record {
-      noted = not_well r _ is _;
-      followed = begun _ old new (subst (λ (n : Text). Does (Opened a.pass.now ∷ Opened n ∷ []) old new) c.random_name-random_name.ensures all);
-      apart = λ twice. absurd (true≢false (sym (names.twice twice) ∙ c.if-names_out_twice.false));
-      blamed = this_error r _ is _ (λ usage. random_blamed (CameSince passed new) (CameSince old new) (did_came (Opened a.pass.now ∷ []) old passed new before) a e name
-          c.random_name-random_name.ensures (random.short usage));
-      early = this_error r _ is EndsEarly random.early;
-      reason = this_error r _ is _ (reason_as (CameSince passed new) (CameSince old new) (did_came (Opened a.pass.now ∷ []) old passed new before) (SourceFails g.F.In.Source.view) e random.reason);
-    }
+    judges_not _ old passed new _ _ (SourceFails g.F.In.Source.view) c.from_residual-in_err-random.result e c.from_residual-in_err-random.ensures
+    (begun _ old new (subst (λ (n : Text). Does (Opened a.pass.now ∷ Opened n ∷ []) old new) c.random_name-random_name.ensures all))
+    (λ twice. true≢false (sym (names.twice twice) ∙ c.if-names_out_twice.false))
+    (λ usage. random_blamed (CameSince passed new) (CameSince old new) (did_came (Opened a.pass.now ∷ []) old passed new before) a e name
+    c.random_name-random_name.ensures (random.short usage)) random.early random.reason (did_came (Opened a.pass.now ∷ []) old passed new before)
 
 pub returns-clause-given : goal.returns-clause-given
 returns-clause-given g c =

@@ -6,7 +6,8 @@ use Rattle.age_fileset.proofs.OutcomeLemmas.{opened_does, opened_came, opened_un
 use Rattle.age_command.proofs.FileLemmas.{all_so, given_so}
 use Rattle.age_command.proofs.ResultLemmas.{this_error}
 use Rattle.age_command.specs.Files.{SourceFails}
-use Rattle.age_cli.proofs.ReadLemmas.{over_does, open_reason, reason_as, too_few}
+use Rattle.age_cli.proofs.OpeningLemmas.{read_reason}
+use Rattle.age_cli.proofs.ReadLemmas.{over_does, too_few}
 use Rattle.age_cli.proofs.encrypt_command.read_random.Goals as goal
 
 pub returns-in_err-source-clause-does : goal.returns-in_err-source-clause-does
@@ -19,7 +20,7 @@ returns-in_err-source-clause-reason g c =
     let name = c.args.name.now in
     let f = c.in_err-source.field-0.0 in
     this_error c.from_residual.result _ c.from_residual.ensures _
-    (open_reason (CameSince (g.F.FileSet.view c.args.files.now) (g.F.FileSet.view c.open.new.self)) (SourceFails g.F.In.Source.view) f c.in_err-source.ensures.faults
+    (read_reason (CameSince (g.F.FileSet.view c.args.files.now) (g.F.FileSet.view c.open.new.self)) (SourceFails g.F.In.Source.view) f c.in_err-source.ensures.faults
     (λ read. inl (name, opened_unread g.F.In.Source.view name (Found name) (found_plain name) _ _ (Err f) c.in_err-source.ensures.noted read)))
 
 pub returns-clause-does : goal.returns-clause-does
@@ -58,6 +59,3 @@ returns-clause-short g c =
         ),
       ),
     )) c.random_in-random.ensures.short
-
-pub returns-clause-reason : goal.returns-clause-reason
-returns-clause-reason g c = IfErr-weaker c.random_in-random.result _ _ (λ e reason. reason_as (λ _. ⊥) (CameSince (g.F.FileSet.view c.args.files.now) (g.F.FileSet.view c.finish.new.self)) (λ o never. absurd never) (SourceFails g.F.In.Source.view) e reason) c.random_in-random.ensures.reason

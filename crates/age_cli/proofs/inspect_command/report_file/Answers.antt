@@ -1,8 +1,8 @@
-use Rattle.std.proofs.Common.{inl, inr, ◌∙◌, Ok, Err}
+use Rattle.std.proofs.Common.{inl, ◌∙◌, Ok, Err}
 use Rattle.std.proofs.lemmas.Result.{on_ok_weaker}
 use Rattle.age_io.specs.Io.{Named}
 use Rattle.age_fileset.specs.FileSet.{Opened, Found}
-use Rattle.age_fileset.proofs.OutcomeLemmas.{opened_does, opened_came, opened_unread, opened_unfit, found_plain}
+use Rattle.age_fileset.proofs.OutcomeLemmas.{opened_does, opened_came, opened_unread, found_plain}
 use Rattle.age_cli.proofs.ReadLemmas.{over_does, was_read, same_fault}
 use Rattle.age_cli.proofs.ReportLemmas.{whole_report}
 use Rattle.age_cli.proofs.inspect_command.report_file.Goals as goal
@@ -20,11 +20,6 @@ returns-in-Err-Fault-clause-unread g c read =
     let name = c.args.name.now in
     let same = c.in-Err-Fault.field-0-is ∙ same_fault _ _ _ c.in-Err-Fault.fault-is read in
     inl (inl (name, opened_unread g.F.In.Source.view name (Found name) (found_plain name) _ _ (Err c.in-Err-Fault.field-0) c.in-Err-Fault.ensures.noted same))
-
-pub returns-in-Err-SameFile-clause-unread : goal.returns-in-Err-SameFile-clause-unread
-returns-in-Err-SameFile-clause-unread g c = λ read.
-    let name = c.args.name.now in
-    inr (opened_unfit g.F.In.Source.view name (Found name) (found_plain name) _ _ (Err c.in-Err-SameFile.field-0) c.in-Err-SameFile.ensures.noted c.in-Err-SameFile.field-0-is)
 
 pub returns-clause-does : goal.returns-clause-does
 returns-clause-does g c =

@@ -7,7 +7,6 @@ use Rattle.age_command.specs.Orders.{replacing}
 use Rattle.age_cli.specs.inner.Endings.{EndsFile}
 use Rattle.age_cli.proofs.FileLemmas.{some_and, done_as, stop_as}
 use Rattle.age_cli.proofs.PutLemmas.{rest_of}
-use Rattle.age_cli.proofs.ReportLemmas.{announced_so}
 use Rattle.age_command.proofs.EventLemmas.{followed, longer, then_follows}
 use Rattle.age_cli.proofs.output.conclude_settled.Goals as goal
 
@@ -40,6 +39,3 @@ returns-in-Err-clause-concludes g c =
       reported = (stop.fault, out.fault, ended.reported);
       saved = rest_of c.args.durability (option_text c.args.save) sink c.args.settled stop.position _ _ _ _ c.end_of.result out.left.0 out.position out.left.1 out.left.2 out.noted ended.put;
     }
-
-pub returns-in-Err-clause-announced : goal.returns-in-Err-clause-announced
-returns-in-Err-clause-announced g c = announced_so _ _ _ _ _ c.end_of.ensures.announced

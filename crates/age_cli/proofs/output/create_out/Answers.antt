@@ -1,36 +1,26 @@
 use Rattle.std.proofs.Common.{◌∷◌, [], ap, inl, inr, ⊎_elim}
 use Rattle.age_fileset.specs.FileSet.{Closed, Unfit, CameSince}
-use Rattle.age_fileset.proofs.OutcomeLemmas.{grows_by, grows_then, did_events, did_ended, does_then, came_then, then_came}
-use Rattle.age_command.specs.Endings.{EndsEarly}
+use Rattle.age_fileset.proofs.OutcomeLemmas.{grows_by, grows_then, did_events, does_none, does_then, came_then, then_came}
 use Rattle.age_command.specs.Files.{SourceFails}
 use Rattle.age_command.specs.Orders.{creating}
 use Rattle.age_command.specs.inner.Endings.{ending_of}
-use Rattle.age_command.specs.declared.ending.Ending.{Ending}
 use Rattle.age_command.specs.declared.ending.Ending.TheVariants.{Usage}
-use Rattle.age_command.proofs.ResultLemmas.{no_value, not_well, this_error, an_error}
-use Rattle.age_command.proofs.EventLemmas.{followed, longer, then_did}
+use Rattle.age_command.proofs.EventLemmas.{followed, then_did}
 use Rattle.age_cli.proofs.FileLemmas.{spared_by}
-use Rattle.age_cli.proofs.OpeningLemmas.{write_early, write_reason, open_blame}
+use Rattle.age_cli.proofs.OpeningLemmas.{open_blame, opens_all, opens_none, write_early, write_reason}
 use Rattle.age_cli.proofs.PutLemmas.{grows_same}
 use Rattle.age_cli.proofs.output.create_out.Goals as goal
 
 pub returns-in_err-out : goal.returns-in_err-out
 returns-in_err-out g c =
-    let r = c.from_residual.result in
     let a = c.args.asked.now in
-    let e : Ending = ending_of c.in_err-out.field-0.0 in
-    let is = c.from_residual.ensures in
+    let f = c.in_err-out.field-0.0 in
     let made = c.in_err-out.ensures in
-    record {
-      begun = no_value r e is _;
-      noted = not_well r e is _;
-      none = grows_by _ _ _ made.does;
-      spared = inl (did_ended _ _ _ made.does);
-      followed = an_error r _ (longer (creating a.clobber a.to.now ∷ []) (Closed a.durability ∷ []) _ _ (followed _ _ _ (did_events _ _ _ made.does)));
-      early = this_error r e is EndsEarly (write_early _ made.faults);
-      reason = this_error r e is _ (write_reason (CameSince (g.F.FileSet.view c.args.files.now) (g.F.FileSet.view c.make_out.new.files)) (SourceFails g.F.In.Source.view) a.to.now _ made.faults made.reason);
-      fault = this_error r e is _ (open_blame (CameSince (g.F.FileSet.view c.args.files.now) (g.F.FileSet.view c.make_out.new.files)) _ made.unfit);
-    }
+    let old = g.F.FileSet.view c.args.files.now in
+    let new = g.F.FileSet.view c.make_out.new.files in
+    opens_none _ [] old old new _ (SourceFails g.F.In.Source.view) c.from_residual.result (ending_of f) c.from_residual.ensures (does_none old)
+    (write_early f made.faults) (write_reason (CameSince old new) (SourceFails g.F.In.Source.view) a.to.now f made.faults made.reason)
+    (open_blame (CameSince old new) f made.unfit) (creating a.clobber a.to.now ∷ []) (Closed a.durability ∷ []) made.does
 
 pub returns-in-Some : goal.returns-in-Some
 returns-in-Some g c =
@@ -66,18 +56,9 @@ returns-in-None g c =
     let mid = view c.make_out.new.files in
     let new = view c.refusal_of.new.files in
     let did = does_then (creating a.clobber a.to.now ∷ []) [] old mid new made.does c.refusal_of.ensures.does in
-    record {
-      begun = rw c.new.ensures (
-        made.begun.0,
-        made.begun.1,
-        made.begun.2,
-        λ refused. came_then [] old mid new (grows_by _ _ _ c.refusal_of.ensures.does) _ (made.fresh refused),
-      );
-      noted = did;
-      none = grows_by _ _ _ did;
-      spared = inl (did_ended _ _ _ did);
-      followed = tt;
-      early = tt;
-      reason = tt;
-      fault = tt;
-    }
+    opens_all _ _ old new _ (SourceFails g.F.In.Source.view) c.new.result (rw c.new.ensures (
+      made.begun.0,
+      made.begun.1,
+      made.begun.2,
+      λ refused. came_then [] old mid new (grows_by _ _ _ c.refusal_of.ensures.does) _ (made.fresh refused),
+    )) did

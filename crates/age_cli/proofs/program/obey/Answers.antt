@@ -3,7 +3,7 @@ use Rattle.clap.specs.Walk.{texts}
 use Rattle.age_cli_args.specs.Requests.{Requests}
 use Rattle.age_cli_args.specs.declared.request.Request.TheVariants.{Inspect, Encrypt, Decrypt, Resume, Drill}
 use Rattle.age_fileset.proofs.OutcomeLemmas.{does_none}
-use Rattle.age_cli.proofs.ObeyLemmas.{some_words, asked_fails, for_help, help_done, help_fails, both_done, drill_acts, inspect_acts}
+use Rattle.age_cli.proofs.ObeyLemmas.{some_words, obeyed, asked_fails, for_help, help_done, help_fails, both_done, drill_acts, inspect_acts}
 use Rattle.age_cli.proofs.program.obey.Goals as goal
 
 pub returns-in-Ok-None-clause-obeys : goal.returns-in-Ok-None-clause-obeys
@@ -35,63 +35,32 @@ returns-in-Err-clause-obeys g c =
 
 pub returns-in-Inspect-Some-clause-obeys : goal.returns-in-Inspect-Some-clause-obeys
 returns-in-Inspect-Some-clause-obeys g c =
-    let here = c.in-Inspect-Some in
-    let did = c.report_file.ensures in
-    inr (inl (record {
-      asked = Inspect (Some here.name);
-      made = subst (Requests (texts c.args.words.now)) (here.is ∙ ap Inspect (rw here.is at here.field-0-is)) (rw c.in-Ok-Some.field-0-is at c.in-Ok-Some.ensures.asked);
-      acts = inspect_acts _ _ _ _ _ _ c.report_file.result refl (Some here.name) _ did.does did.fails;
-      answers = (refl, record { done = both_done _ _ c.report_file.result did.done did.sent; stops = did.fails; unprinted = did.unprinted }, did.unread, did.does);
-    }))
+    obeyed _ _ _ _ _ _ _ _ _ _ (Inspect (Some c.in-Inspect-Some.name)) (subst (Requests (texts c.args.words.now)) (c.in-Inspect-Some.is ∙ ap Inspect (rw c.in-Inspect-Some.is at c.in-Inspect-Some.field-0-is)) (rw c.in-Ok-Some.field-0-is at c.in-Ok-Some.ensures.asked))
+    (inspect_acts _ _ _ _ _ _ c.report_file.result refl (Some c.in-Inspect-Some.name) _ c.report_file.ensures.does c.report_file.ensures.fails)
+    (refl, record { done = both_done _ _ c.report_file.result c.report_file.ensures.done c.report_file.ensures.sent; stops = c.report_file.ensures.fails; unprinted = c.report_file.ensures.unprinted }, c.report_file.ensures.unread, c.report_file.ensures.does)
 
 pub returns-in-Inspect-None-clause-obeys : goal.returns-in-Inspect-None-clause-obeys
 returns-in-Inspect-None-clause-obeys g c =
-    let here = c.in-Inspect-None in
-    let did = c.report-in-Inspect-None.ensures in
-    inr (inl (record {
-      asked = Inspect None;
-      made = subst (Requests (texts c.args.words.now)) (here.is ∙ ap Inspect (rw here.is at here.field-0-is)) (rw c.in-Ok-Some.field-0-is at c.in-Ok-Some.ensures.asked);
-      acts = inspect_acts _ _ _ _ _ _ c.report-in-Inspect-None.result refl None _ (does_none (g.F.FileSet.view c.args.files.now)) did.fails;
-      answers = (record { done = both_done _ _ c.report-in-Inspect-None.result did.done did.sent; stops = did.fails; unprinted = did.unprinted }, refl);
-    }))
+    obeyed _ _ _ _ _ _ _ _ _ _ (Inspect None) (subst (Requests (texts c.args.words.now)) (c.in-Inspect-None.is ∙ ap Inspect (rw c.in-Inspect-None.is at c.in-Inspect-None.field-0-is)) (rw c.in-Ok-Some.field-0-is at c.in-Ok-Some.ensures.asked))
+    (inspect_acts _ _ _ _ _ _ c.report-in-Inspect-None.result refl None _ (does_none (g.F.FileSet.view c.args.files.now)) c.report-in-Inspect-None.ensures.fails)
+    (record { done = both_done _ _ c.report-in-Inspect-None.result c.report-in-Inspect-None.ensures.done c.report-in-Inspect-None.ensures.sent; stops = c.report-in-Inspect-None.ensures.fails; unprinted = c.report-in-Inspect-None.ensures.unprinted }, refl)
 
 pub returns-in-Encrypt-clause-obeys : goal.returns-in-Encrypt-clause-obeys
 returns-in-Encrypt-clause-obeys g c =
-    let here = c.in-Encrypt in
-    inr (inl (record {
-      asked = Encrypt here.asked;
-      made = subst (Requests (texts c.args.words.now)) here.is (rw c.in-Ok-Some.field-0-is at c.in-Ok-Some.ensures.asked);
-      acts = c.encrypt_file.ensures.acts;
-      answers = (refl, refl);
-    }))
+    obeyed _ _ _ _ _ _ _ _ _ _ (Encrypt c.in-Encrypt.asked) (subst (Requests (texts c.args.words.now)) c.in-Encrypt.is (rw c.in-Ok-Some.field-0-is at c.in-Ok-Some.ensures.asked))
+    c.encrypt_file.ensures.acts (refl, refl)
 
 pub returns-in-Decrypt-clause-obeys : goal.returns-in-Decrypt-clause-obeys
 returns-in-Decrypt-clause-obeys g c =
-    let here = c.in-Decrypt in
-    inr (inl (record {
-      asked = Decrypt here.asked;
-      made = subst (Requests (texts c.args.words.now)) here.is (rw c.in-Ok-Some.field-0-is at c.in-Ok-Some.ensures.asked);
-      acts = c.decrypt_file.ensures.acts;
-      answers = (refl, refl);
-    }))
+    obeyed _ _ _ _ _ _ _ _ _ _ (Decrypt c.in-Decrypt.asked) (subst (Requests (texts c.args.words.now)) c.in-Decrypt.is (rw c.in-Ok-Some.field-0-is at c.in-Ok-Some.ensures.asked))
+    c.decrypt_file.ensures.acts (refl, refl)
 
 pub returns-in-Resume-clause-obeys : goal.returns-in-Resume-clause-obeys
 returns-in-Resume-clause-obeys g c =
-    let here = c.in-Resume in
-    inr (inl (record {
-      asked = Resume here.asked;
-      made = subst (Requests (texts c.args.words.now)) here.is (rw c.in-Ok-Some.field-0-is at c.in-Ok-Some.ensures.asked);
-      acts = c.resume_file.ensures.acts;
-      answers = (refl, refl);
-    }))
+    obeyed _ _ _ _ _ _ _ _ _ _ (Resume c.in-Resume.asked) (subst (Requests (texts c.args.words.now)) c.in-Resume.is (rw c.in-Ok-Some.field-0-is at c.in-Ok-Some.ensures.asked))
+    c.resume_file.ensures.acts (refl, refl)
 
 pub returns-in-Drill-clause-obeys : goal.returns-in-Drill-clause-obeys
 returns-in-Drill-clause-obeys g c =
-    let here = c.in-Drill in
-    let did = c.drill_file.ensures in
-    inr (inl (record {
-      asked = Drill here.asked;
-      made = subst (Requests (texts c.args.words.now)) here.is (rw c.in-Ok-Some.field-0-is at c.in-Ok-Some.ensures.asked);
-      acts = drill_acts _ _ _ _ _ _ c.drill_file.result refl here.asked did.order did.order_done;
-      answers = (refl, did.sent, did.silent, did.one, did.order);
-    }))
+    obeyed _ _ _ _ _ _ _ _ _ _ (Drill c.in-Drill.asked) (subst (Requests (texts c.args.words.now)) c.in-Drill.is (rw c.in-Ok-Some.field-0-is at c.in-Ok-Some.ensures.asked))
+    (drill_acts _ _ _ _ _ _ c.drill_file.result refl c.in-Drill.asked c.drill_file.ensures.order c.drill_file.ensures.order_done) (refl, c.drill_file.ensures.sent, c.drill_file.ensures.silent, c.drill_file.ensures.one, c.drill_file.ensures.order)

@@ -1,9 +1,10 @@
-use Rattle.std.proofs.Common.{subst, ◌++◌, ◌∷◌}
+use Rattle.std.proofs.Common.{subst, [], ◌++◌, ◌∷◌}
 use Rattle.age_io.specs.Io.{SinkView}
 use Rattle.age_fileset.specs.FileSet.{Gave, Settled, puts_in, reading_of}
 use Rattle.age_fileset.proofs.OutcomeLemmas.{came_then, grows_so}
 use Rattle.age_cli.specs.inner.Rereadings.{ConcludesFound}
-use Rattle.age_cli.proofs.RereadLemmas.{found_since, since_start}
+use Rattle.age_cli.proofs.OpeningLemmas.{did_came}
+use Rattle.age_cli.proofs.RereadLemmas.{found_since}
 use Rattle.age_cli.proofs.reread.conclude_again.Goals as goal
 
 pub returns-clause-again : goal.returns-clause-again
@@ -30,5 +31,5 @@ returns-clause-again g c =
 pub returns-clause-over : goal.returns-clause-over
 returns-clause-over g c =
     let view = g.F.FileSet.view in
-    since_start (view c.args.files.now) (view c.settle-settled.new.files) (view c.conclude_found.new.files) c.settle-settled.ensures.does
+    did_came [] (view c.args.files.now) (view c.settle-settled.new.files) (view c.conclude_found.new.files) c.settle-settled.ensures.does
     (Gave (reading_of c.args.asked.now.from.now (g.F.In.Source.view c.args.again.source))) c.conclude_found.ensures.over

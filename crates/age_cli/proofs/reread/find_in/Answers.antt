@@ -1,6 +1,6 @@
 use Rattle.std.proofs.Common.{inr}
 use Rattle.age_io.specs.Io.{Named, Metered}
-use Rattle.age_cli.proofs.ProgressLemmas.{shows_run}
+use Rattle.age_cli.proofs.ReadingsLemmas.{shows_run}
 use Rattle.age_cli.proofs.reread.find_in.Goals as goal
 
 pub returns-in-Shown-clause-shown : goal.returns-in-Shown-clause-shown
@@ -13,9 +13,6 @@ returns-in-Shown-clause-shown g c =
       shows_run g.P.Meter.shown _ (In c.args.source).supply (In run.new.source.source).supply _ _ c.begin_meter.new.meter run.new.source.meter.now _
           run.new.source.meter.ghost_name c.begin_meter.ensures (λ from. run.ensures.began (Metered from)) c.progress-1.given.1 c.end_meter.ensures,
     )
-
-pub returns-in-Silent-clause-began : goal.returns-in-Silent-clause-began
-returns-in-Silent-clause-began g c name so = c.position_in-position.ensures.began (Named name) so
 
 pub returns-in-Shown-clause-began : goal.returns-in-Shown-clause-began
 returns-in-Shown-clause-began g c name so = c.position_in-position-in-Shown.ensures.began (Named name) so

@@ -5,7 +5,7 @@ use Rattle.age_fileset.proofs.OutcomeLemmas.{all_as, does_then}
 use Rattle.age_command.proofs.EventLemmas.{begun}
 use Rattle.age_command.proofs.ResultLemmas.{this_error}
 use Rattle.age_cli.specs.Commands.{old_found}
-use Rattle.age_cli.proofs.ReadLemmas.{came_did, did_came}
+use Rattle.age_cli.proofs.OpeningLemmas.{came_did, did_came}
 use Rattle.age_cli.proofs.resume_command.open_earlier.Goals as goal
 
 pub returns-in_err-old-clause-begins : goal.returns-in_err-old-clause-begins

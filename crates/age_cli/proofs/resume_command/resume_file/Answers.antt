@@ -12,7 +12,8 @@ use Rattle.age_command.specs.declared.ending.Ending.TheVariants.{Usage}
 use Rattle.age_cli.specs.Acts.{CameFirst}
 use Rattle.age_cli.specs.Commands.{HoldsNoPosition}
 use Rattle.age_cli.specs.inner.Endings.{opening_end}
-use Rattle.age_cli.proofs.CommandLemmas.{holds_as, judges_from, makes_none, opens_by, position_early, position_reason, position_unfit}
+use Rattle.age_cli.proofs.CommandLemmas.{judges_from, makes_none, opens_by, position_early, position_reason}
+use Rattle.age_cli.proofs.OpeningLemmas.{holds_as, open_blame}
 use Rattle.age_cli.proofs.ActLemmas.{acts_judged, acts_refused, acts_unchosen, acts_unopened, acts_unread}
 use Rattle.age_cli.proofs.EngineLemmas.{concluded_grows}
 use Rattle.age_cli.proofs.FinalLemmas.{resume_acts}
@@ -73,7 +74,7 @@ returns-in_err-position-clause-acts g c =
     (position_early (HoldsOnly (CameSince old new) r.position.now HoldsNoPosition) f earlier.faults
     (λ bad. holds_as (CameSince mid new) (CameSince old new) later r.position.now HoldsNoPosition HoldsNoPosition (λ bytes none. none) (earlier.bad bad)))
     (position_reason (CameSince mid new) (SourceFails g.F.In.Source.view) f earlier.faults earlier.reason)
-    (position_unfit (CameSince mid new) f earlier.unfit) (λ same. absurd (judged.apart same).1) refl
+    (open_blame (CameSince mid new) f earlier.unfit) (λ same. absurd (judged.apart same).1) refl
 
 pub returns-in_err-source-clause-acts : goal.returns-in_err-source-clause-acts
 returns-in_err-source-clause-acts g c =

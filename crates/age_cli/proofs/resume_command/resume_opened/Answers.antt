@@ -1,12 +1,13 @@
-use Rattle.std.proofs.Common.{◌≡◌, [], ◌∷◌, ◌++◌, refl, Some}
+use Rattle.std.proofs.Common.{◌≡◌, ◌∙◌, [], ◌∷◌, ◌++◌, refl, Some}
 use Rattle.age_io.specs.Io.{Named}
 use Rattle.age_fileset.specs.FileSet.{Gave, puts_in, reading_of}
 use Rattle.age_fileset.proofs.OutcomeLemmas.{came_one, came_then, does_only, gave_puts, grows_so}
 use Rattle.age_cli.specs.Acts.{PortsOf, ShowsReadings}
 use Rattle.age_cli.specs.inner.Rereadings.{again_of}
 use Rattle.age_file.specs.Runs.{ports}
-use Rattle.age_cli.proofs.ReadingsLemmas.{same_then, shown_with}
-use Rattle.age_cli.proofs.RereadLemmas.{decryption_since, outcomes_of, since_start}
+use Rattle.age_cli.proofs.ReadingsLemmas.{shown_with}
+use Rattle.age_cli.proofs.OpeningLemmas.{did_came}
+use Rattle.age_cli.proofs.RereadLemmas.{decryption_since, outcomes_of}
 use Rattle.age_cli.proofs.RestLemmas.{resumed_by}
 use Rattle.age_cli.proofs.resume_command.resume_opened.Goals as goal
 
@@ -36,11 +37,11 @@ returns-clause-opened g c =
     resumed_by (PortsOf In Out) d r.old.now c.args.identity c.args.position.now (In c.args.old) (In once.new.old)
     (ports (In c.args.source) (Out c.args.out.out))
     (ports (In once.result.source) (Out once.new.out.out)) (record { source = once.result.source; sink = once.new.out.out; is = refl })
-    (record { source = once.new.old; sink = once.new.out.out; is = refl }) first last (since_start first mid last did read over)
+    (record { source = once.new.old; sink = once.new.out.out; is = refl }) first last (did_came [] first mid last did read over)
     (came_then (puts_in more) first mid last (grows_so mid last more over.is) (Gave gave)
     (came_one first mid (Gave gave) (outcomes_of first mid (Gave gave ∷ []) is)))
     (now ≡ was) (λ coming left r. ShowsReadings coming left (shown was) (shown now) r)
-    (λ silent. same_then now once.new.progress was (ended.ensures.silent silent) (once.ensures.silent silent)) c.can_reread-is_reread.result
+    (λ silent. ended.ensures.silent silent ∙ once.ensures.silent silent) c.can_reread-is_reread.result
     once.result.end once.result.standing
     c.positions_at_first.result ended.result c.can_reread-is_reread.ensures c.positions_at_first.ensures.dropped c.positions_at_first.ensures.kept
     once.ensures.resumed
