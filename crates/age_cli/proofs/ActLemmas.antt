@@ -55,26 +55,22 @@ then_closed xs ys clobber to d old mid new m n =
 
 -- ---- A command that ended before its engine ran.
 
-module _ (IsPorts : Ports → Type 0) (asked : Request) (before after : FilesView) (Failed Unshown : Type 0)
+module _ (IsPorts : Ports → Type 0) (asked : Request) (before after : FilesView) (Unshown : Type 0)
     (Progress : Option (List ℕ) → Result (Unit {0}) Ending → Type 0) (r : Result (Unit {0}) Ending) where
   abbrev pub Acted : Type 0
-  Acted = Acts IsPorts asked before after Failed Unshown Progress r
+  Acted = Acts IsPorts asked before after Unshown Progress r
 
   -- with this ending
-  pub acts_before : (e : Ending) → IsErr r × IsErrAnd r (λ x. x ≡ e) → HasNotBegun asked e before after Failed
-      → Follows (order_asked asked).done before.events after.events
+  pub acts_before : (e : Ending) → IsErr r × IsErrAnd r (λ x. x ≡ e) → HasNotBegun asked e before after
       → (IsUsage e → Follows (order_asked asked).judged before.events after.events ⊎ CameSince before after Unfit)
       → (NamesTwice (order_asked asked).apart → (after.events ≡ before.events) × IsUsage e)
       → (IsUsage e → IsBlamed (CameSince before after) asked e) → Unshown → Acted
-  acts_before e is none follows judged apart blamed silent = record {
+  acts_before e is none judged apart blamed silent = record {
     done = not_well r e is _;
     stopped = this_error r e is _ (inl none);
-    saved = this_error r e is _ (inl none);
-    replaced = this_error r e is _ (inl follows);
     blamed = this_error r e is _ blamed;
-    order = whole_of asked before.events after.events follows;
+    order = whole_of asked before.events after.events none.order;
     order_done = not_well r e is _;
-    order_usage = this_error r e is _ (λ usage. follows);
     order_judged = this_error r e is _ judged;
     apart = λ twice. let refused = apart twice in (refused.0, just_error r e is IsUsage refused.1);
     silent = λ unasked. silent;
@@ -90,7 +86,7 @@ module _ (IsPorts : Ports → Type 0) (asked : Request) (before after : FilesVie
 
       -- the files by which it is judged can't be read, or it is refused for its names
       pub acts_judged : {A : Type 0} (e : Ending) → IsErr r × IsErrAnd r (λ x. x ≡ e)
-          → Judges {A = A} (order_asked asked).judged before after (NamesTwice (order_asked asked).apart) (IsBlamed (CameSince before after) asked) Failed (Err e)
+          → Judges {A = A} (order_asked asked).judged before after (NamesTwice (order_asked asked).apart) (IsBlamed (CameSince before after) asked) (Err e)
           → Unshown → Acted
       acts_judged e is j silent =
           acts_before e is (record {
@@ -98,13 +94,14 @@ module _ (IsPorts : Ports → Type 0) (asked : Request) (before after : FilesVie
             reason = j.reason;
             spared = inl (did_ended j.followed.done before after j.followed.did);
             none = grows_by j.followed.done before after j.followed.did;
-          }) (done_so (follows_by (order_asked asked).judged before after j.followed))
+            order = done_so (follows_by (order_asked asked).judged before after j.followed);
+          })
           (λ usage. inl (follows_by (order_asked asked).judged before after j.followed)) j.apart
           (λ usage. ⊎_elim (λ blamed. blamed) (λ unfit. inr (inr unfit)) (j.blamed usage)) silent
 
       -- or for what these hold
       pub acts_refused : {A : Type 0} (x : A) (why : Why) → IsErr r × IsErrAnd r (λ y. y ≡ Usage why)
-          → Judges (order_asked asked).judged before after (NamesTwice (order_asked asked).apart) (IsBlamed (CameSince before after) asked) Failed (Ok x)
+          → Judges (order_asked asked).judged before after (NamesTwice (order_asked asked).apart) (IsBlamed (CameSince before after) asked) (Ok x)
           → GivesNone (CameSince before after) asked (Usage why) → Unshown → Acted
       acts_refused x why is j none silent =
           acts_before (Usage why) is (record {
@@ -112,7 +109,8 @@ module _ (IsPorts : Ports → Type 0) (asked : Request) (before after : FilesVie
             reason = tt;
             spared = inl (did_ended j.followed.done before after j.followed.did);
             none = grows_by j.followed.done before after j.followed.did;
-          }) (done_so (follows_by (order_asked asked).judged before after j.followed))
+            order = done_so (follows_by (order_asked asked).judged before after j.followed);
+          })
           (λ usage. inl (follows_by (order_asked asked).judged before after j.followed)) (λ twice. absurd (j.apart twice).1)
           (λ usage. inr (inl none)) silent
 
@@ -126,11 +124,12 @@ module _ (IsPorts : Ports → Type 0) (asked : Request) (before after : FilesVie
           reason = tt;
           spared = inl (did_ended [] before after did);
           none = grows_by [] before after did;
-        }) (begins (order_asked asked).done) (λ usage. inl (begins (order_asked asked).judged)) (λ twice. (noted ∙ append-nil before.events, refl)) (λ usage. inr (inl none)) silent
+          order = begins (order_asked asked).done;
+        }) (λ usage. inl (begins (order_asked asked).judged)) (λ twice. (noted ∙ append-nil before.events, refl)) (λ usage. inr (inl none)) silent
 
     -- its input or what it writes can't be opened
     pub acts_unopened : {A : Type 0} (done order whole : List Event) (mid : FilesView) (IsNew : A → Type 0) (e : Ending) → IsErr r × IsErrAnd r (λ x. x ≡ e)
-        → (order_asked asked).done ≡ done ++ whole → Does done before mid → OpensFiles order whole mid after IsNew Failed (Err e)
+        → (order_asked asked).done ≡ done ++ whole → Does done before mid → OpensFiles order whole mid after IsNew (Err e)
         → (NamesTwice (order_asked asked).apart → ⊥) → Unshown → Acted
     acts_unopened done order whole mid IsNew e is done_is did opens apart silent =
         let unfit : IsUsage e → IsUnfit (CameSince before after) e =
@@ -138,17 +137,18 @@ module _ (IsPorts : Ports → Type 0) (asked : Request) (before after : FilesVie
         (opens.fault usage) in
         acts_before e is (record {
           early = early e opens.early;
-          reason = reason_as (CameSince mid after) (CameSince before after) (then_came [] before mid after (grows_by done before mid did)) Failed e opens.reason;
+          reason = reason_as (CameSince mid after) (CameSince before after) (then_came [] before mid after (grows_by done before mid did)) e opens.reason;
           spared = spared_then before.ended mid.ended after.ended (did_ended done before mid did) opens.spared;
           none = grows_then [] [] before mid after (grows_by done before mid did) opens.none;
-        }) (subst (λ (o : List Event). Follows o before.events after.events) (sym done_is)
-        (then_follows before.events mid.events after.events done whole (did_events done before mid did) opens.followed))
+          order = subst (λ (o : List Event). Follows o before.events after.events) (sym done_is)
+              (then_follows before.events mid.events after.events done whole (did_events done before mid did) opens.followed);
+        })
         (λ usage. inr (unfit usage).1) (λ twice. absurd (apart twice)) (λ usage. inr (inr (unfit usage))) silent
 
   -- another file that it reads can't be opened, or doesn't hold what it has to
   pub acts_unread : (done order more : List Event) (mid : FilesView) (e : Ending) → IsErr r × IsErrAnd r (λ x. x ≡ e)
       → (order_asked asked).done ≡ done ++ (order ++ more) → Does done before mid → Begins order mid after → EndsBefore (CameSince before after) asked e
-      → HasReason (CameSince mid after) Failed e → (IsUsage e → IsUnfit (CameSince mid after) e)
+      → HasReason (CameSince mid after) e → (IsUsage e → IsUnfit (CameSince mid after) e)
       → (NamesTwice (order_asked asked).apart → ⊥) → Unshown → Acted
   acts_unread done order more mid e is done_is did begins early reason unfit apart silent =
       let opened = grows_by done before mid did in
@@ -156,10 +156,11 @@ module _ (IsPorts : Ports → Type 0) (asked : Request) (before after : FilesVie
       λ usage. unfit_as (CameSince mid after) (CameSince before after) (then_came [] before mid after opened) e (unfit usage) in
       acts_before e is (record {
         early = early;
-        reason = reason_as (CameSince mid after) (CameSince before after) (then_came [] before mid after opened) Failed e reason;
+        reason = reason_as (CameSince mid after) (CameSince before after) (then_came [] before mid after opened) e reason;
         spared = inl (did_ended begins.done mid after begins.did ∙ did_ended done before mid did);
         none = grows_then [] [] before mid after opened (grows_by begins.done mid after begins.did);
-      }) (subst (λ (o : List Event). Follows o before.events after.events) (sym done_is)
-      (then_follows before.events mid.events after.events done (order ++ more) (did_events done before mid did)
-      (longer order more mid.events after.events (follows_by order mid after begins))))
+        order = subst (λ (o : List Event). Follows o before.events after.events) (sym done_is)
+            (then_follows before.events mid.events after.events done (order ++ more) (did_events done before mid did)
+            (longer order more mid.events after.events (follows_by order mid after begins)));
+      })
       (λ usage. inr (later usage).1) (λ twice. absurd (apart twice)) (λ usage. inr (inr (later usage))) silent

@@ -68,19 +68,19 @@ module _ (Came Later : Outcome → Type 0) (so : (o : Outcome) → Came o → La
 
 -- ---- How a command is judged, whose names were compared first.
 
-module _ {A : Type 0} (asked : Request) (a order : List Event) (old mid new : FilesView) (twice : Bool) (Failed : Type 0) (r : Result A Ending) where
+module _ {A : Type 0} (asked : Request) (a order : List Event) (old mid new : FilesView) (twice : Bool) (r : Result A Ending) where
   named_so : Compares old mid twice (NamesTwice (order_asked asked).apart) → Does [] mid new ⊎ ((o : Outcome) → CameSince old mid o → CameSince old new o)
       → (e : Ending) → BlamesNames twice e → IsBlamed (CameSince old new) asked e
   named_so c (inl does) e named = ⊎_elim (λ same. inl (named.0, same))
       (λ unfit. inr (inr (inl named.0, came_then [] old mid new (grows_by [] mid new does) Unfit unfit))) (c.found named.1)
   named_so c (inr so) e named = ⊎_elim (λ same. inl (named.0, same)) (λ unfit. inr (inr (inl named.0, so Unfit unfit))) (c.found named.1)
 
-  pub judges_from : a ≡ order → Compares old mid twice (NamesTwice (order_asked asked).apart) → Judges a mid new (twice ≡ true) (BlamesNames twice) Failed r
-      → Judges order old new (NamesTwice (order_asked asked).apart) (IsBlamed (CameSince old new) asked) Failed r
+  pub judges_from : a ≡ order → Compares old mid twice (NamesTwice (order_asked asked).apart) → Judges a mid new (twice ≡ true) (BlamesNames twice) r
+      → Judges order old new (NamesTwice (order_asked asked).apart) (IsBlamed (CameSince old new) asked) r
   judges_from is c j =
       let before : (o : Outcome) → CameSince old mid o → CameSince old new o = came_then [] old mid new (grows_by _ mid new j.followed.did) in
       let later : (o : Outcome) → CameSince mid new o → CameSince old new o = then_came [] old mid new (grows_by [] old mid c.does) in
-      subst (λ (o : List Event). Judges o old new (NamesTwice (order_asked asked).apart) (IsBlamed (CameSince old new) asked) Failed r) is (record {
+      subst (λ (o : List Event). Judges o old new (NamesTwice (order_asked asked).apart) (IsBlamed (CameSince old new) asked) r) is (record {
         noted = on_ok_weaker r (λ d. does_then [] a old mid new c.does d) j.noted;
         followed = begins_then [] a old mid new c.does j.followed;
         apart = λ same. let at = j.apart (c.twice same) in
@@ -89,7 +89,7 @@ module _ {A : Type 0} (asked : Request) (a order : List Event) (old mid new : Fi
             (λ e blame usage. ⊎_elim (λ named. inl (named_so c (inr before) e named))
             (λ unfit. inr (unfit_as (CameSince mid new) (CameSince old new) later e unfit)) (blame usage)) j.blamed;
         early = j.early;
-        reason = IfErr-weaker r _ _ (reason_as (CameSince mid new) (CameSince old new) later Failed) j.reason;
+        reason = IfErr-weaker r _ _ (reason_as (CameSince mid new) (CameSince old new) later) j.reason;
       })
 
 -- ---- How `resume` ends if its position or the earlier output can't be read.
@@ -102,6 +102,6 @@ pub position_early : (P : Type 0) (f : OpenFault) → Unopened f → (f ≡ crea
 position_early P f (inl fails) bad = inl (read_early f fails)
 position_early P f (inr is) bad = inr (ap ending_of is, bad is)
 
-pub position_reason : (Came : Outcome → Type 0) (Failed : Type 0) (f : OpenFault) → Unopened f → (f ≡ create.Fault Read → IsUnread Came Failed) → HasReason Came Failed (ending_of f)
-position_reason Came Failed f (inl fails) unread = read_reason Came Failed f fails unread
-position_reason Came Failed f (inr bad) unread = rw bad tt
+pub position_reason : (Came : Outcome → Type 0) (f : OpenFault) → Unopened f → (f ≡ create.Fault Read → IsUnread Came) → HasReason Came (ending_of f)
+position_reason Came f (inl fails) unread = read_reason Came f fails unread
+position_reason Came f (inr bad) unread = rw bad tt

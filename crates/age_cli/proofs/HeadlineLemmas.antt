@@ -16,15 +16,17 @@ use Rattle.clap.specs.declared.error.kind.ErrorKind.TheVariants.{DisplayHelp, Di
 use Rattle.age_chunk.specs.Payload.{chunk_limit, chunk_count, chunk_length}
 use Rattle.age_stream.specs.Headline.{IsPrefixOf}
 use Rattle.age_file.proofs.RunLemmas.{writes_all, writes_of}
-use Rattle.age_file.specs.Resumes.{BeginsWith, resume_ports, IsFrom, position_text}
+use Rattle.age_file.specs.Decrypts.{DecryptStops}
+use Rattle.age_file.specs.Resumes.{BeginsWith, resume_ports, IsFrom, position_text, ResumeStops}
 use Rattle.age_file.specs.Runs.{Ports, Run, IsFromStart, held, IsRun, IsTexts, IsAuthenticRun, WritesNone}
 use Rattle.age_file.specs.declared.decryption.Stopped.{Stopped}
 use Rattle.age_file.specs.declared.position.PositionPolicy.{PositionPolicy}
+use Rattle.age_file.specs.declared.position.PositionPolicy.TheVariants.{Dropped}
 use Rattle.age_file.specs.declared.position.Position.{Position}
 use Rattle.age_fault.specs.declared.fault.FileFault.{FileFault}
 use Rattle.age_machine.specs.Ends.{EndedFile}
 use Rattle.age_fileset.specs.declared.mem_entry.MemEntry.{MemEntry}
-use Rattle.age_fileset.specs.FileSet.{FilesView, Files, Entry, entry, entry_of, Outcome, Found, FoundOrEmpty, PutsOnly, CameSince, HasGivenAll}
+use Rattle.age_fileset.specs.FileSet.{Event, FilesView, Files, Entry, entry, entry_of, Outcome, Found, FoundOrEmpty, PutsOnly, CameSince, HasGivenAll}
 use Rattle.age_fileset.specs.FileSet.{AreTrue, or_empty, puts_in}
 use Rattle.age_fileset.proofs.MemoryLemmas.{AreOthers, others_then, same_since, put_since, before_others, found_was, found_any_was, gave_all_was}
 use Rattle.age_fileset.proofs.OutcomeLemmas.{grows_by, grows_none, all_as}
@@ -38,13 +40,12 @@ use Rattle.age_cli_args.proofs.SimpleLemmas.{no_command}
 use Rattle.age_cli_args.proofs.NumberLemmas.{one_number}
 use Rattle.age_command.specs.declared.identity.Identity.{Identity}
 use Rattle.age_command.specs.declared.identity.Identity.TheVariants.{ByPassphrase, ByFileKey, ByShared}
-use Rattle.age_command.specs.Identities.{IsIdentity, IsSecretGiven, allows_by, either_name, identity_file}
-use Rattle.age_command.specs.Orders.{NamesTwice, IsOneOf, apart_from}
+use Rattle.age_command.specs.Identities.{IsIdentity, IsSecretGiven, allows_by, refuses_by, either_name, identity_file}
+use Rattle.age_command.specs.Orders.{Follows, NamesTwice, IsOneOf, apart_from}
 use Rattle.age_command.specs.declared.ending.Ending.{Ending}
 use Rattle.age_command.specs.declared.ending.Ending.TheVariants.{Words, Usage, Fault, Unsaved}
-use Rattle.age_cli.specs.Acts.{Acts, CameFirst, Engine, HasEngineStopped, HasPutRest, HasSaved, IsSavedAs, OfEngine, OpensOf, Paths, paths_of}
-use Rattle.age_cli.specs.Acts.{Returned, IsUsage, IsEndingOf, decrypt_engine, resume_engine, kept_for, status_by, SavesNone, durability_of}
-use Rattle.age_cli.specs.Acts.{HaltsDecryption, HaltsResumption}
+use Rattle.age_cli.specs.Acts.{Acts, CameFirst, Engine, HasEngineStopped, IsNotDue, IsStored, IsSavedAs, OfEngine, OpensOf, Paths, paths_of}
+use Rattle.age_cli.specs.Acts.{Returned, IsUsage, IsEndingOf, decrypt_engine, resume_engine, kept_for, status_by, StopsText}
 use Rattle.age_cli.specs.Commands.{old_found}
 use Rattle.age_cli.specs.Runs.{World, Obeys, DoesOther}
 use Rattle.age_cli.specs.Headline.{held_for, OpensBy, IsPositionIn, IsRead, IsWritersInput, KeepsOut, IsWritersOld, BeginsAt, IsWritersResumption}
@@ -66,7 +67,14 @@ module _ (IsPorts : Ports → Type 0) (Came : Outcome → Type 0) (p : Paths) (e
   -- OUT is the text if this engine ended, and begins it if the engine stopped
   abbrev Leaves : Engine → Type 0
   Leaves engine = (engine.ends run.before run.after → run.out.took ≡ text)
-      × ((f : FileFault) → engine.halts f run.before run.after → IsPrefixOf run.out.took text)
+      × ((settled : ℕ) (f : FileFault) (position : Option Position) → engine.stops settled f position run.before run.after → IsPrefixOf run.out.took text)
+
+  -- by each stop of its run
+  by_stops : (name : Text) (keep : PositionPolicy) (from : Option Position) (Stops : PositionPolicy → Option Run → Stopped → Type 0)
+      → ((policy : PositionPolicy) (r : Option Run) (stop : Stopped) → Stops policy r stop → IsPrefixOf run.out.took text)
+      → (settled : ℕ) (f : FileFault) (position : Option Position) → StopsText Came name keep from Stops settled f position → IsPrefixOf run.out.took text
+  by_stops name keep from Stops so settled f position (r, stop, is, inl kept) = so keep r stop kept.0
+  by_stops name keep from Stops so settled f position (r, stop, is, inr again) = so Dropped r stop again.0
 
   took_so : (out : List ℕ) → Appends run.before.sink.taken run.after.sink.taken out → run.out.took ≡ out
   took_so out wrote = run.took ∙ (wrote.bytes ∙ ap (λ (l : List ℕ). l ++ out) run.new.taken)
@@ -95,25 +103,26 @@ module _ (IsPorts : Ports → Type 0) (Came : Outcome → Type 0) (p : Paths) (e
         }
 
     module _ (auth : (r : Run) → IsFromStart r → IsRead identity input r → IsAuthenticRun r text) where
-      stops : (f : FileFault) → HaltsDecryption identity run.before run.after f → IsPrefixOf run.out.took text
-      stops f (policy, None, stop, same, h) = none_so stop h.0
-      stops f (policy, Some r, stop, same, h) = begins_so (held r) h.1.is.wrote
+      stops : (policy : PositionPolicy) (r : Option Run) (stop : Stopped) → DecryptStops policy (allows_by identity) (refuses_by identity) run.before run.after r stop
+          → IsPrefixOf run.out.took text
+      stops policy None stop h = none_so stop h.0
+      stops policy (Some r) stop h = begins_so (held r) h.1.is.wrote
           (writes_of r (omega (arith, h.0.zero)) h.1.is.prefix text (auth r h.0 (is_read stop.written r h.1.is)))
 
       decrypts : Leaves (decrypt_engine Came p.from keep identity)
       decrypts = (
         λ (done, r, ends). took_so (held r) ends.1.is.wrote ∙ writes_all r (omega (arith, ends.0.zero)) ends.1.whole ends.1.done text
             (auth r ends.0 (is_read done.written r ends.1.is)),
-        stops,
+        by_stops p.from keep None _ stops,
       )
 
     module _ (from : Position) (old_name : Text) (few : chunk_count chunk_length text ≤ chunk_limit)
-        (front : (first : SourceView) → Came (old_found from old_name first.supply.left) → BeginsWith from first.supply text)
+        (front : (first : SourceView) (size : Option ℕ) → Came (old_found from old_name first.supply.left size) → BeginsWith from first.supply text)
         (auth : (r : Run) → BeginsAt from r → IsRead identity input r → IsTexts text r) where
-      authentic_run : (first last : SourceView) (written : ℕ) (r : Run) → Came (old_found from old_name first.supply.left)
+      authentic_run : (first last : SourceView) (size : Option ℕ) (written : ℕ) (r : Run) → Came (old_found from old_name first.supply.left size)
           → IsFrom from first last r → IsRun (allows_by identity) run.before run.after written r → IsAuthenticRun r text
-      authentic_run first last written r old_there begun is =
-          let b = front first old_there in
+      authentic_run first last size written r old_there begun is =
+          let b = front first size old_there in
           let found = read_from first.supply.left last.supply.left (r.copied ++ begun.more) (ap is_some b.shown) begun.old_read.left in
           let whole : (r.copied ++ begun.more) ++ found.0 ≡ b.all =
           ap (λ (o : Option (List ℕ)). option_map_or (λ t. t) o []) (sym found.1 ∙ b.shown) in
@@ -127,21 +136,19 @@ module _ (IsPorts : Ports → Type 0) (Came : Outcome → Type 0) (p : Paths) (e
             authentic = auth r (record { index = begun.index; own = begun.own; tagged = begun.tagged }) (is_read written r is);
           }
 
-      stops_rest : (first last : SourceView) → Came (old_found from old_name first.supply.left) → (f : FileFault)
-          → HaltsResumption identity from (resume_ports run.before first) (resume_ports run.after last) f → IsPrefixOf run.out.took text
-      stops_rest first last found f (policy, None, stop, same, inl h) = none_so stop h.0
-      stops_rest first last found f (policy, None, stop, same, inr (inl h)) =
-          begins_so h.copied h.writes.wrote (h.writes.of text (front first found))
-      stops_rest first last found f (policy, None, stop, same, inr (inr h)) =
-          begins_so h.copied h.writes.wrote (h.writes.of text (front first found))
-      stops_rest first last found f (policy, Some r, stop, same, h) = begins_so (held r) h.2.is.wrote (writes_of r
-          (omega (arith, h.0.index, from.within)) h.2.is.prefix text (authentic_run first last stop.written r found h.0 h.2.is))
+      stops_rest : (first last : SourceView) (size : Option ℕ) → Came (old_found from old_name first.supply.left size) → (policy : PositionPolicy) (r : Option Run) (stop : Stopped)
+          → ResumeStops (allows_by identity) from (resume_ports run.before first) (resume_ports run.after last) policy (refuses_by identity) r stop → IsPrefixOf run.out.took text
+      stops_rest first last size found policy None stop (inl h) = none_so stop h.0
+      stops_rest first last size found policy None stop (inr (inl h)) = begins_so h.copied h.writes.wrote (h.writes.of text (front first size found))
+      stops_rest first last size found policy None stop (inr (inr h)) = begins_so h.copied h.writes.wrote (h.writes.of text (front first size found))
+      stops_rest first last size found policy (Some r) stop h = begins_so (held r) h.2.is.wrote (writes_of r
+          (omega (arith, h.0.index, from.within)) h.2.is.prefix text (authentic_run first last size stop.written r found h.0 h.2.is))
 
       resumes : Leaves (resume_engine IsPorts Came p.from keep identity from old_name)
       resumes = (
         λ h. let (done, r, ends) = h.5 in took_so (held r) ends.2.is.wrote ∙ writes_all r (omega (arith, ends.0.index, from.within))
-            ends.2.whole ends.2.done text (authentic_run h.0 h.1 done.written r h.4.found ends.0 ends.2.is),
-        λ f h. stops_rest h.0 h.1 h.4.found f h.5,
+            ends.2.whole ends.2.done text (authentic_run h.0 h.1 h.4.size done.written r h.4.found ends.0 ends.2.is),
+        λ settled f position h. by_stops p.from keep (Some from) _ (stops_rest h.0 h.1 h.4.size h.4.found) settled f position h.5,
       )
 
 -- ---- What was put, and the names that have to differ.
@@ -248,7 +255,7 @@ usage_by (Err (Words text)) status is two = refl
 usage_by (Err (Usage usage)) status is two = refl
 usage_by r status is two = let no = sym is ∙ two in cc
 
-module _ (words : List Text) (IsPorts : Ports → Type 0) (before after : World) (Failed Unread Unprinted Unshown : Type 0)
+module _ (words : List Text) (IsPorts : Ports → Type 0) (before after : World) (Unread Unprinted Unshown : Type 0)
     (Progress : Option Text → Result (Unit {0}) Ending → Type 0) (status : ℕ) (was is : List MemEntry) (kept_was : AreTrue was before.files.outcomes)
     (kept_is : AreTrue is after.files.outcomes) where
   abbrev olds : Files
@@ -296,45 +303,48 @@ module _ (words : List Text) (IsPorts : Ports → Type 0) (before after : World)
       input_was : (run : Returned IsPorts since (paths_of d) after.files.ended)
           → (is_some (olds d.from.now) ≡ true) × (olds d.from.now ≡ run.before.source.supply.left)
       input_was run =
-          let found = found_was before.files after.files was is kept_was kept_is d.from.now run.before.source.supply.left run.input.found
+          let found = found_was before.files after.files was is kept_was kept_is d.from.now run.before.source.supply.left run.input.size run.input.found
           (earlier d.from.now _ (others d.from.now (inl (d.from.now, refl, refl))) run.input.found) in
           (ap is_some (sym found.1) ∙ found.0, sym found.1)
 
     front_was : (p : Position) (name : Text) (text : List ℕ) → AreOthers name puts → IsWritersOld (olds name) p text
-        → (first : SourceView) → since (old_found p name first.supply.left) → BeginsWith p first.supply text
-    front_was p name text other front first found = go (p.index == 0) refl found where
-      go : (b : Bool) → b ≡ (p.index == 0) → since (if b then FoundOrEmpty name first.supply.left else Found name first.supply.left)
+        → (first : SourceView) (size : Option ℕ) → since (old_found p name first.supply.left size) → BeginsWith p first.supply text
+    front_was p name text other front first size found = go (p.index == 0) refl found where
+      go : (b : Bool) → b ≡ (p.index == 0) → since (if b then FoundOrEmpty name first.supply.left size else Found name first.supply.left size)
           → BeginsWith p first.supply text
       go true test c =
           let zero : p.index ≡ 0 = search rules in
-          any_front p text first.supply (olds name) zero (found_any_was before.files after.files was is kept_was kept_is name first.supply.left c
-          (earlier name (FoundOrEmpty name first.supply.left) other c)) front
+          any_front p text first.supply (olds name) zero (found_any_was before.files after.files was is kept_was kept_is name first.supply.left size c
+          (earlier name (FoundOrEmpty name first.supply.left size) other c)) front
       go false test c =
-          let there = found_was before.files after.files was is kept_was kept_is name first.supply.left c
-          (earlier name (Found name first.supply.left) other c) in
+          let there = found_was before.files after.files was is kept_was kept_is name first.supply.left size c
+          (earlier name (Found name first.supply.left size) other c) in
           some_front p text first.supply (olds name) there.0 there.1 front
 
   -- ---- What a command put.
 
+  -- nothing of its position was put, or this
+  rest_others : (durability : Durability) (save : Option Text) (settled : ℕ) (position : Option Position) (ending : Ending) (rest : List Entry) (done : List Event)
+      → ((rest ≡ []) × IsNotDue ending save position × Follows done before.files.events after.files.events)
+      ⊎ IsStored durability save settled position ending rest after.files.saved
+      → (q : Text) → (save ≡ Some q → ⊥) → AreOthers q rest
+  rest_others durability save settled position ending rest done (inl none) q other = subst (λ (x : List Entry). AreOthers q x) (sym none.0) tt
+  rest_others durability save settled None ending rest done (inr stored) q other = absurd stored.is
+  rest_others durability save settled (Some p) ending rest done (inr stored) q other = saved_others ending save p rest stored.is.0 q other
+
   -- what its output took, or nothing, and then at most the position
-  abbrev IsLeft : Paths → Type 0
-  IsLeft p = (rest : List Entry) × HasPutRest IsPorts since p rest before.files after.files
-      × ((q : Text) → (p.save ≡ Some q → ⊥) → AreOthers q rest)
+  module _ (engine : Engine) (p : Paths) (durability : Durability) (done : List Event) (ending : Ending)
+      (s : HasEngineStopped IsPorts since engine p durability done ending before.files after.files) where
+    saved_rest : (q : Text) → (p.save ≡ Some q → ⊥) → AreOthers q s.rest
+    saved_rest = rest_others durability p.save s.settled s.position ending s.rest done s.saved
 
-  left_others : (p : Paths) (l : IsLeft p) (q : Text) → (Some p.to ≡ Some q → ⊥) → (p.save ≡ Some q → ⊥) → AreOthers q (l.1.outs ++ l.0)
-  left_others p (rest, put, only) q out save =
-      others_then q put.outs rest (⊎_elim (λ none. subst (λ (x : List Entry). AreOthers q x) (sym none) tt)
-      (λ took. subst (λ (x : List Entry). AreOthers q x) (sym took.0) ((λ same. out (ap Some same)), tt)) put.out) (only q save)
-
-  left_none : (p : Paths) → HasPutRest IsPorts since p [] before.files after.files → IsLeft p
-  left_none p put = ([], put, λ q save. tt)
-
-  left_saved : (engine : Engine) (p : Paths) (durability : Durability) (ending : Ending)
-      → HasSaved IsPorts since engine p durability ending before.files after.files → IsLeft p
-  left_saved engine p durability ending h = (h.rest, h.puts, saved_others ending p.save h.position h.rest h.is)
+    left_others : (q : Text) → (Some p.to ≡ Some q → ⊥) → (p.save ≡ Some q → ⊥) → AreOthers q (s.outs ++ s.rest)
+    left_others q out save =
+        others_then q s.outs s.rest (⊎_elim (λ none. subst (λ (x : List Entry). AreOthers q x) (sym none) tt)
+        (λ took. subst (λ (x : List Entry). AreOthers q x) (sym took.0) ((λ same. out (ap Some same)), tt)) s.out) (saved_rest q save)
 
   abbrev DoneFor : Request → Result (Unit {0}) Ending → Type 0
-  DoneFor asked r = Acts IsPorts asked before.files after.files Failed Unshown Progress r
+  DoneFor asked r = Acts IsPorts asked before.files after.files Unshown Progress r
 
   abbrev OfIts : Request → (Engine → Paths → Type 0) → Type 0
   OfIts asked P = OfEngine IsPorts since early asked P
@@ -358,22 +368,18 @@ module _ (words : List Text) (IsPorts : Ports → Type 0) (before after : World)
     unread apart puts only q one = only q (λ here. apart (inl (inr (subst (λ (o : Option Text). IsOneOf o reads) (sym here) one))))
         (λ here. apart (inr (inl (inr (subst (λ (o : Option Text). IsOneOf o reads) (sym here) one)))))
 
-    stopped_out : (engine : Engine) (ending : Ending) → (IsTwice → ⊥) → Writes engine
-        → HasEngineStopped IsPorts since engine p ending after.files.ended → IsLeft p → HoldsNoMore (olds p.to) (news p.to) text
-    stopped_out engine ending apart writes s l =
-        let put = l.1 in
-        let leaves = writes (put.outs ++ l.0) put.puts (unread apart (put.outs ++ l.0) (left_others p l)) s.run in
-        let begins : IsPrefixOf s.run.out.took text = ⊎_elim (λ halt. leaves.1 s.fault halt.0)
-        (λ unclosed. subst (λ (t : List ℕ). IsPrefixOf t text) (sym (leaves.0 unclosed.0)) ([], append-nil text)) s.cause in
-        let rest : AreOthers p.to l.0 = l.2 p.to (λ here. apart (inr (inl (inl (p.to, here, refl))))) in
-        let one : put.run.out.took ≡ s.run.out.took =
-        ap (λ (o : Option EndedFile). option_map_or (λ f. f.took) o []) (sym put.run.is ∙ s.run.is) in
-        let stands : put.outs ≡ entry p.to put.run.out.took ∷ [] → news p.to ≡ Some s.run.out.took = λ took.
-        put_since before.files after.files was is kept_was kept_is (put.outs ++ l.0) put.puts p.to s.run.out.took l.0
-        (ap (λ (x : List Entry). x ++ l.0) (took ∙ ap (λ (b : List ℕ). entry p.to b ∷ []) one)) rest in
-        ⊎_elim (λ none. inl (same (put.outs ++ l.0) put.puts p.to
-        (others_then p.to put.outs l.0 (subst (λ (x : List Entry). AreOthers p.to x) (sym none) tt) rest)))
-        (λ took. inr (s.run.out.took, stands took.0, begins)) put.out
+    stopped_out : (engine : Engine) (durability : Durability) (done : List Event) (ending : Ending) → (IsTwice → ⊥) → Writes engine
+        → HasEngineStopped IsPorts since engine p durability done ending before.files after.files → HoldsNoMore (olds p.to) (news p.to) text
+    stopped_out engine durability done ending apart writes s =
+        let puts = s.outs ++ s.rest in
+        let leaves = writes puts s.puts (unread apart puts (left_others engine p durability done ending s)) s.run in
+        let begins : IsPrefixOf s.run.out.took text = ⊎_elim (λ stop. leaves.1 s.settled s.fault s.position stop.promise)
+        (λ unended. subst (λ (t : List ℕ). IsPrefixOf t text) (sym (leaves.0 unended.promise)) ([], append-nil text)) s.cause in
+        let rest : AreOthers p.to s.rest = saved_rest engine p durability done ending s p.to (λ here. apart (inr (inl (inl (p.to, here, refl))))) in
+        let stands : s.outs ≡ entry p.to s.run.out.took ∷ [] → news p.to ≡ Some s.run.out.took = λ took.
+        put_since before.files after.files was is kept_was kept_is puts s.puts p.to s.run.out.took s.rest (ap (λ (x : List Entry). x ++ s.rest) took) rest in
+        ⊎_elim (λ none. inl (same puts s.puts p.to (others_then p.to s.outs s.rest (subst (λ (x : List Entry). AreOthers p.to x) (sym none) tt) rest)))
+        (λ took. inr (s.run.out.took, stands took.0, begins)) s.out
 
     kept : (asked : Request) → ((P : Engine → Paths → Type 0) → OfIts asked P → (engine : Engine) × P engine p × Writes engine)
         → (r : Result (Unit {0}) Ending) → OnErr r (status ≡ 0 → ⊥) → DoneFor asked r → (IsTwice → IsErrAnd r IsUsage)
@@ -387,13 +393,9 @@ module _ (words : List Text) (IsPorts : Ports → Type 0) (before after : World)
         refl tt ∙ ap Some (leaves.0 ends.promise) in
         record { safe = inr (text, whole, ([], append-nil text)); whole = λ zero. whole }
     kept asked of (Err ending) failed acts apart = kept_stopped (olds p.to) (news p.to) status text failed
-        (⊎_elim (λ unbegun. inl (same [] unbegun.none p.to tt)) (λ stops. ⊎_elim (λ unbegun. inl (same [] unbegun.none p.to tt)) (λ left.
+        (⊎_elim (λ unbegun. inl (same [] unbegun.none p.to tt)) (λ stops.
         let e = of _ stops in
-        stopped_out e.0 ending (λ twice. usage_no_fault e.1.fault ending e.1.reported (apart twice)) e.2 e.1 (⊎_elim
-        (λ none. let n = of (λ engine p. SavesNone IsPorts since engine p ending after.files.ended
-        × HasPutRest IsPorts since p [] before.files after.files) none in left_none p n.1.1)
-        (λ saved. let n = of (λ engine p. HasSaved IsPorts since engine p (durability_of asked) ending before.files after.files) saved in
-        left_saved n.0 p (durability_of asked) ending n.1) left)) acts.saved) acts.stopped)
+        stopped_out e.0 _ _ ending (λ twice. usage_no_fault e.1.fault ending e.1.reported (apart twice)) e.2 e.1) acts.stopped)
 
   decrypted : (text : List ℕ) (e : Decrypting) → IsWritersInput e olds text → (identity : Identity) → OpensOf since e identity
       → Writes text (paths_of e) (option_text e.identity.pass) (option_text e.identity.shared) None None
@@ -419,7 +421,7 @@ module _ (words : List Text) (IsPorts : Ports → Type 0) (before after : World)
   -- ---- What is promised, whichever request was made of the words.
 
   abbrev Obeyed : Result (Unit {0}) Ending → Type 0
-  Obeyed r = Obeys words IsPorts before after Failed Unread Unprinted Unshown Progress r
+  Obeyed r = Obeys words IsPorts before after Unread Unprinted Unshown Progress r
 
   same_if : after.files ≡ before.files → (q : Text) → news q ≡ olds q
   same_if unchanged q = same [] (subst (λ (v : FilesView). PutsOnly [] before.files v) (sym unchanged) (grows_none before.files)) q tt
@@ -477,7 +479,7 @@ module _ (words : List Text) (IsPorts : Ports → Type 0) (before after : World)
 
   -- what is so if an engine ran for what is asked, with its names; otherwise nothing was put
   by_engine : (asked : Request) (P : Engine → Paths → Type 0) (r : Result (Unit {0}) Ending) → OfIts asked P
-      → DoesOther words IsPorts before after Failed Unread Unprinted Unshown Progress r asked → (q : Text)
+      → DoesOther words IsPorts before after Unread Unprinted Unshown Progress r asked → (q : Text)
       → ((engine : Engine) (p : Paths) → P engine p → out_of asked ≡ Some p.to → save_of asked ≡ p.save → news q ≡ olds q) → news q ≡ olds q
   by_engine (Encrypt e) P r of other q so = so _ _ of.2 refl refl
   by_engine (Decrypt e) P r of other q so = so _ _ of.2 refl refl
@@ -487,15 +489,13 @@ module _ (words : List Text) (IsPorts : Ports → Type 0) (before after : World)
   by_engine (Drill e) P r of other q so = same [] (grows_by _ before.files after.files other.4.did) q tt
 
   spared : (asked : Request) (r : Result (Unit {0}) Ending) → DoneFor asked r
-      → DoesOther words IsPorts before after Failed Unread Unprinted Unshown Progress r asked
+      → DoesOther words IsPorts before after Unread Unprinted Unshown Progress r asked
       → (q : Text) → (out_of asked ≡ Some q → ⊥) → (save_of asked ≡ Some q → ⊥) → news q ≡ olds q
   spared asked (Ok x) acts other q out save = by_engine asked _ (Ok x) acts.done other q
       (λ engine p h is_out is_save. same (entry p.to h.run.out.took ∷ []) h.puts q ((λ here. out (is_out ∙ ap Some here)), tt))
-  spared asked (Err ending) acts other q out save = ⊎_elim (λ unbegun. same [] unbegun.none q tt) (⊎_elim
-      (λ none. by_engine asked _ (Err ending) none other q (λ engine p h. left p (left_none p h.1)))
-      (λ saved. by_engine asked _ (Err ending) saved other q (λ engine p h. left p (left_saved engine p _ ending h)))) acts.saved where
-        left : (p : Paths) → IsLeft p → out_of asked ≡ Some p.to → save_of asked ≡ p.save → news q ≡ olds q
-        left p l is_out is_save = same (l.1.outs ++ l.0) l.1.puts q (left_others p l q (λ here. out (is_out ∙ here)) (λ here. save (is_save ∙ here)))
+  spared asked (Err ending) acts other q out save = ⊎_elim (λ unbegun. same [] unbegun.none q tt)
+      (λ stops. by_engine asked _ (Err ending) stops other q (λ engine p s is_out is_save. same (s.outs ++ s.rest) s.puts q
+      (left_others engine p _ _ ending s q (λ here. out (is_out ∙ here)) (λ here. save (is_save ∙ here))))) acts.stopped
 
   pub spares_asked : (r : Result (Unit {0}) Ending) → Obeyed r → (asked : Request) → Requests words asked
       → (q : Text) → (out_of asked ≡ Some q → ⊥) → (save_of asked ≡ Some q → ⊥) → news q ≡ olds q

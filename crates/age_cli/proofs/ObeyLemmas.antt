@@ -93,21 +93,18 @@ every_fault (Err e) P h = h e
 shown_not_silent : Silent ≡ Shown → ⊥
 shown_not_silent is = cc
 
-module _ (IsPorts : Ports → Type 0) (before after : FilesView) (Failed Unshown : Type 0) (Progress : Option (List ℕ) → Result (Unit {0}) Ending → Type 0)
+module _ (IsPorts : Ports → Type 0) (before after : FilesView) (Unshown : Type 0) (Progress : Option (List ℕ) → Result (Unit {0}) Ending → Type 0)
     (r : Result (Unit {0}) Ending) (silent : Unshown) where
   pub drill_acts : (d : Drilling) → Begins (order_asked (Drill d)).whole before after → OnOk r (Does (order_asked (Drill d)).done before after)
-      → Acts IsPorts (Drill d) before after Failed Unshown Progress r
+      → Acts IsPorts (Drill d) before after Unshown Progress r
   drill_acts d whole finished =
       let follows = follows_by (order_asked (Drill d)).whole before after whole in
       record {
         done = always r _ tt;
         stopped = every_fault r _ (λ e. inr tt);
-        saved = every_fault r _ (λ e. inr (inl tt));
-        replaced = every_fault r _ (λ e. inl follows);
         blamed = every_fault r _ (λ e usage. inr (inl tt));
         order = follows;
         order_done = on_ok_weaker r (λ did. did_events (order_asked (Drill d)).done before after did) finished;
-        order_usage = every_fault r _ (λ e usage. follows);
         order_judged = every_fault r _ (λ e usage. inl follows);
         apart = λ twice. absurd twice;
         silent = λ asked. silent;
@@ -117,19 +114,16 @@ module _ (IsPorts : Ports → Type 0) (before after : FilesView) (Failed Unshown
 
   -- a file is opened, or none, and no fault is one of the words
   pub inspect_acts : (file : Option (Bor Text)) (IsOfHeader : HeadFault → Type 0) → Does (order_asked (Inspect file)).done before after → IfErr r (FailsReport IsOfHeader)
-      → Acts IsPorts (Inspect file) before after Failed Unshown Progress r
+      → Acts IsPorts (Inspect file) before after Unshown Progress r
   inspect_acts file IsOfHeader did fails =
       let impossible : (P : Type 0) → IfErr r (λ e. IsUsage e → P) =
       λ P. IfErr-weaker r _ _ (λ e f usage. absurd (true≢false (sym usage ∙ report_fault IsOfHeader e f))) fails in
       record {
         done = always r _ tt;
         stopped = every_fault r _ (λ e. inr tt);
-        saved = every_fault r _ (λ e. inr (inl tt));
-        replaced = every_fault r _ (λ e. inr tt);
         blamed = IfErr-weaker r _ _ (λ e f usage. absurd (true≢false (sym usage ∙ report_fault IsOfHeader e f))) fails;
         order = follows_by (order_asked (Inspect file)).whole before after (begun (order_asked (Inspect file)).whole before after did);
         order_done = always r _ (did_events (order_asked (Inspect file)).done before after did);
-        order_usage = impossible _;
         order_judged = impossible _;
         apart = λ twice. absurd twice;
         silent = λ asked. silent;
@@ -137,12 +131,12 @@ module _ (IsPorts : Ports → Type 0) (before after : FilesView) (Failed Unshown
         shown = always r _ (λ asked. absurd (shown_not_silent asked));
       }
 
-pub obeyed : (words : List Text) (IsPorts : Ports → Type 0) (before after : World) (HasFailed Unread Unprinted Unshown : Type 0)
+pub obeyed : (words : List Text) (IsPorts : Ports → Type 0) (before after : World) (Unread Unprinted Unshown : Type 0)
     (Progress : Option Text → Result (Unit {0}) Ending → Type 0) (ended : Result (Unit {0}) Ending) (asked : Request) → Requests words asked
-    → Acts IsPorts asked before.files after.files HasFailed Unshown Progress ended
-    → DoesOther words IsPorts before after HasFailed Unread Unprinted Unshown Progress ended asked
-    → Obeys words IsPorts before after HasFailed Unread Unprinted Unshown Progress ended
-obeyed words IsPorts before after HasFailed Unread Unprinted Unshown Progress ended asked made acts answers =
+    → Acts IsPorts asked before.files after.files Unshown Progress ended
+    → DoesOther words IsPorts before after Unread Unprinted Unshown Progress ended asked
+    → Obeys words IsPorts before after Unread Unprinted Unshown Progress ended
+obeyed words IsPorts before after Unread Unprinted Unshown Progress ended asked made acts answers =
     inr (inl (record { asked = asked; made = made; acts = acts; answers = answers }))
 
 -- ---- What is put to the sink of faults.

@@ -4,7 +4,7 @@ use Rattle.std.specs.Prelude.{IsErr, IsErrAnd}
 use Rattle.clap.specs.Words.{Text}
 use Rattle.age_fault.specs.declared.fault.FileFault.{FileFault}
 use Rattle.age_fault.specs.declared.fault.FileFault.TheVariants.{Read, Write, Memory}
-use Rattle.age_fileset.specs.FileSet.{OpenFails, Event, Outcome, FilesView, CameSince, Does, PutsOnly, Unfit, Unread, Unwritten}
+use Rattle.age_fileset.specs.FileSet.{OpenFails, Event, Outcome, FilesView, CameSince, Does, PutsOnly, Unfit, Unread, Unwritten, Gave}
 use Rattle.age_fileset.proofs.OutcomeLemmas.{all_as, came_then, did_ended, did_events, given_as, grows_by, grows_then, then_came}
 use Rattle.age_fileset.specs.declared.files.OpenFault.{OpenFault}
 use Rattle.age_fileset.specs.declared.files.OpenFault.TheVariants as refuse
@@ -35,19 +35,19 @@ write_early f fails = opens_early Write f fails (inr (inl refl))
 pub streams_early : (f : OpenFault) → OpenFails Memory f → EndsEarly (ending_of f)
 streams_early f fails = opens_early Memory f fails (inr (inr refl))
 
-module _ (Came : Outcome → Type 0) (Failed : Type 0) where
-  opens_reason : (kind : FileFault) (f : OpenFault) → OpenFails kind f → (f ≡ refuse.Fault kind → HasReason Came Failed (Fault kind)) → HasReason Came Failed (ending_of f)
+module _ (Came : Outcome → Type 0) where
+  opens_reason : (kind : FileFault) (f : OpenFault) → OpenFails kind f → (f ≡ refuse.Fault kind → HasReason Came (Fault kind)) → HasReason Came (ending_of f)
   opens_reason kind refuse.SameFile fails why = tt
   opens_reason kind (refuse.Fault f) (inl is) why = rw is (why (ap refuse.Fault is))
   opens_reason kind (refuse.Fault f) (inr memory) why = rw memory tt
 
-  pub read_reason : (f : OpenFault) → OpenFails Read f → (f ≡ refuse.Fault Read → IsUnread Came Failed) → HasReason Came Failed (ending_of f)
+  pub read_reason : (f : OpenFault) → OpenFails Read f → (f ≡ refuse.Fault Read → IsUnread Came) → HasReason Came (ending_of f)
   read_reason f fails why = opens_reason Read f fails why
 
-  pub write_reason : (name : Text) (f : OpenFault) → OpenFails Write f → (f ≡ refuse.Fault Write → Came (Unwritten name)) → HasReason Came Failed (ending_of f)
+  pub write_reason : (name : Text) (f : OpenFault) → OpenFails Write f → (f ≡ refuse.Fault Write → Came (Unwritten name)) → HasReason Came (ending_of f)
   write_reason name f fails why = opens_reason Write f fails (λ is. (name, why is))
 
-  pub streams_reason : (f : OpenFault) → OpenFails Memory f → HasReason Came Failed (ending_of f)
+  pub streams_reason : (f : OpenFault) → OpenFails Memory f → HasReason Came (ending_of f)
   streams_reason f fails = opens_reason Memory f fails (λ is. tt)
 
 -- the command line is to blame only if what no name shows was found
@@ -62,17 +62,17 @@ unfit_as Came Later so e (says, unfit) = (says, so Unfit unfit)
 
 -- what is a reason by then is one later
 module _ (Came Later : Outcome → Type 0) (so : (o : Outcome) → Came o → Later o) where
-  pub unread_as : (Failed : Type 0) → IsUnread Came Failed → IsUnread Later Failed
-  unread_as Failed (inl (name, came)) = inl (name, so (Unread name) came)
-  unread_as Failed (inr failed) = inr failed
+  pub unread_as : IsUnread Came → IsUnread Later
+  unread_as (inl (name, came)) = inl (name, so (Unread name) came)
+  unread_as (inr (r, gave, failing)) = inr (r, so (Gave r) gave, failing)
 
-  pub reason_as : (Failed : Type 0) (e : Ending) → HasReason Came Failed e → HasReason Later Failed e
-  reason_as Failed (Fault Read) reason = unread_as Failed reason
-  reason_as Failed (Fault Write) (name, came) = (name, so (Unwritten name) came)
-  reason_as Failed (Fault other) reason = tt
-  reason_as Failed (Words text) reason = tt
-  reason_as Failed (Usage usage) reason = tt
-  reason_as Failed (Unsaved fault second) reason = tt
+  pub reason_as : (e : Ending) → HasReason Came e → HasReason Later e
+  reason_as (Fault Read) reason = unread_as reason
+  reason_as (Fault Write) (name, came) = (name, so (Unwritten name) came)
+  reason_as (Fault other) reason = tt
+  reason_as (Words text) reason = tt
+  reason_as (Usage usage) reason = tt
+  reason_as (Unsaved fault second) reason = tt
 
   -- and so of what a file holds, also in other words
   pub holds_as : (name : Text) (P Q : List ℕ → Type 0) → ((bytes : List ℕ) → P bytes → Q bytes) → HoldsOnly Came name P → HoldsOnly Later name Q
@@ -92,12 +92,12 @@ same_events old new did = did_events [] old new did ∙ append-nil old.events
 
 -- ---- How an opening ends, and a judgement.
 
-module _ {A : Type 0} (order done : List Event) (old mid new : FilesView) (IsNew : A → Type 0) (Failed : Type 0) (r : Result A Ending) (e : Ending)
-    (is : IsErr r × IsErrAnd r (λ x. x ≡ e)) (did : Does done old mid) (early : EndsEarly e) (reason : HasReason (CameSince mid new) Failed e)
+module _ {A : Type 0} (order done : List Event) (old mid new : FilesView) (IsNew : A → Type 0) (r : Result A Ending) (e : Ending)
+    (is : IsErr r × IsErrAnd r (λ x. x ≡ e)) (did : Does done old mid) (early : EndsEarly e) (reason : HasReason (CameSince mid new) e)
     (fault : is_usage e ≡ true → IsUnfit (CameSince mid new) e) where
   -- it failed after some of it was done
   pub opens_not : (rest : List Event) → PutsOnly [] mid new → SparesOut mid.ended new.ended → Follows rest mid.events new.events
-      → OpensFiles order (done ++ rest) old new IsNew Failed r
+      → OpensFiles order (done ++ rest) old new IsNew r
   opens_not rest none spared follows = record {
     begun = no_value r e is _;
     noted = not_well r e is _;
@@ -105,19 +105,19 @@ module _ {A : Type 0} (order done : List Event) (old mid new : FilesView) (IsNew
     spared = spared_then _ _ _ (did_ended done old mid did) spared;
     followed = an_error r _ (then_follows old.events mid.events new.events done rest (did_events done old mid did) follows);
     early = this_error r e is EndsEarly early;
-    reason = this_error r e is _ (reason_as (CameSince mid new) (CameSince old new) (did_came done old mid new did) Failed e reason);
+    reason = this_error r e is _ (reason_as (CameSince mid new) (CameSince old new) (did_came done old mid new did) e reason);
     fault = this_error r e is _ (λ usage. unfit_as (CameSince mid new) (CameSince old new) (did_came done old mid new did) e (fault usage));
   }
 
   -- in the part that did this
-  pub opens_none : (made more : List Event) → Does made mid new → OpensFiles order (done ++ (made ++ more)) old new IsNew Failed r
+  pub opens_none : (made more : List Event) → Does made mid new → OpensFiles order (done ++ (made ++ more)) old new IsNew r
   opens_none made more does = opens_not (made ++ more) (grows_by made mid new does) (inl (did_ended made mid new does))
       (longer made more mid.events new.events (followed mid.events new.events made (did_events made mid new does)))
 
 -- all was opened
-pub opens_all : {A : Type 0} (order whole : List Event) (old new : FilesView) (IsNew : A → Type 0) (Failed : Type 0) (x : A) → IsNew x → Does order old new
-    → OpensFiles order whole old new IsNew Failed (Ok x)
-opens_all order whole old new IsNew Failed x begun did = record {
+pub opens_all : {A : Type 0} (order whole : List Event) (old new : FilesView) (IsNew : A → Type 0) (x : A) → IsNew x → Does order old new
+    → OpensFiles order whole old new IsNew (Ok x)
+opens_all order whole old new IsNew x begun did = record {
   begun = begun;
   noted = did;
   none = grows_by order old new did;
@@ -129,15 +129,15 @@ opens_all order whole old new IsNew Failed x begun did = record {
 }
 
 -- no names are equal, and it can't be judged
-pub judges_not : {A : Type 0} (order : List Event) (old mid new : FilesView) (IsTwice : Type 0) (Blame : Ending → Type 0) (Failed : Type 0) (r : Result A Ending)
+pub judges_not : {A : Type 0} (order : List Event) (old mid new : FilesView) (IsTwice : Type 0) (Blame : Ending → Type 0) (r : Result A Ending)
     (e : Ending) → IsErr r × IsErrAnd r (λ x. x ≡ e) → Begins order old new → (IsTwice → ⊥)
-    → (is_usage e ≡ true → Blame e ⊎ IsUnfit (CameSince old new) e) → EndsEarly e → HasReason (CameSince mid new) Failed e
-    → ((o : Outcome) → CameSince mid new o → CameSince old new o) → Judges order old new IsTwice Blame Failed r
-judges_not order old mid new IsTwice Blame Failed r e is begins apart blamed early reason later = record {
+    → (is_usage e ≡ true → Blame e ⊎ IsUnfit (CameSince old new) e) → EndsEarly e → HasReason (CameSince mid new) e
+    → ((o : Outcome) → CameSince mid new o → CameSince old new o) → Judges order old new IsTwice Blame r
+judges_not order old mid new IsTwice Blame r e is begins apart blamed early reason later = record {
   noted = not_well r e is _;
   followed = begins;
   apart = λ twice. absurd (apart twice);
   blamed = this_error r e is _ blamed;
   early = this_error r e is EndsEarly early;
-  reason = this_error r e is _ (reason_as (CameSince mid new) (CameSince old new) later Failed e reason);
+  reason = this_error r e is _ (reason_as (CameSince mid new) (CameSince old new) later e reason);
 }

@@ -1,7 +1,7 @@
 -- What was put of an output, and of the file of a position.
 use Rattle.std.proofs.Common.{◌≡◌, ◌∙◌, ◌⊎◌, ◌++◌, ◌∷◌, [], ℕ, List, inl, inr, refl, ap, sym, subst, Bool, true, false, true≢false, Option, Some, None, Result, Ok, Err, OnOk, OnErr, IfErr}
 use Rattle.std.proofs.Common.{append-nil, length}
-use Rattle.std.specs.Prelude.{IsSomeAnd, is_some, ◌==◌, ◌≤◌, ◌*◌}
+use Rattle.std.specs.Prelude.{IsOkUnless, IsSomeAnd, is_some, ◌==◌, ◌≤◌, ◌*◌}
 use Rattle.clap.specs.Words.{Text}
 use Rattle.age_chunk.specs.Payload.{chunk_length}
 use Rattle.age_io.specs.Io.{SinkView}
@@ -12,14 +12,15 @@ use Rattle.age_file.specs.Resumes.{position_text}
 use Rattle.age_file.specs.declared.position.Position.{Position}
 use Rattle.age_machine.specs.Saved.{Saves}
 use Rattle.std.proofs.lemmas.Result.{on_ok_weaker, IfErr-weaker}
-use Rattle.age_fileset.specs.FileSet.{Entry, entry, FilesView, Closed, Does, PutsOnly, CameSince, IsMemoryOr, Outcome, Put, put_as, puts_in}
-use Rattle.age_fileset.proofs.OutcomeLemmas.{none_plain, grows_then, grows_by, came_then, did_events}
+use Rattle.age_fileset.specs.FileSet.{Unwritten, Entry, entry, FilesView, Closed, Does, PutsOnly, CameSince, IsMemoryOr, Outcome, Put, refused_as, written_as, puts_in}
+use Rattle.age_fileset.specs.declared.files.OpenFault.TheVariants as refusal
+use Rattle.age_fileset.proofs.OutcomeLemmas.{came_one, none_plain, grows_then, grows_by, came_then, then_came, did_events, unwritten_puts}
 use Rattle.age_cli.proofs.OpeningLemmas.{same_events}
 use Rattle.age_command.proofs.EventLemmas.{then_follows}
 use Rattle.age_command.specs.declared.ending.Ending.{Ending}
 use Rattle.age_command.specs.declared.ending.Ending.TheVariants.{Fault, Unsaved}
-use Rattle.age_cli.specs.Acts.{LacksOne}
-use Rattle.age_cli.specs.inner.Endings.{Concludes, IsPut, IsStored, IsNotDue, position_of}
+use Rattle.age_cli.specs.Acts.{IsNotDue, IsStored, LacksOne}
+use Rattle.age_cli.specs.inner.Endings.{Concludes, IsPut, position_of}
 use Rattle.age_cli.specs.declared.interruption.Interruption.{Interruption}
 
 pub took_bytes : (bytes : List ℕ) (is_empty : Bool) → is_empty ≡ (length bytes == 0) → is_empty ≡ false → bytes ≡ [] → ⊥
@@ -32,16 +33,24 @@ grows_same old new is = record { more = []; is = is; puts_are = none_plain }
 pub grows_kept : (old new : FilesView) → new.outcomes ≡ old.outcomes → PutsOnly [] old new
 grows_kept old new is = grows_same old new (is ∙ sym (append-nil old.outcomes))
 
+-- nor if it couldn't be
+pub grows_lost : (name : List ℕ) (fault : FileFault) (old new : FilesView) → new.outcomes ≡ old.outcomes ++ refused_as name (refusal.Fault fault) → IsMemoryOr Write fault → PutsOnly [] old new
+grows_lost name fault old new is fails = record { more = refused_as name (refusal.Fault fault); is = is; puts_are = unwritten_puts name (refusal.Fault fault) fails }
+
+pub lost_came : (name : List ℕ) (fault : FileFault) (old new : FilesView) → new.outcomes ≡ old.outcomes ++ refused_as name (refusal.Fault fault) → fault ≡ Write
+    → CameSince old new (Unwritten name)
+lost_came name fault old new is same = came_one old new (Unwritten name) (is ∙ ap (λ f. old.outcomes ++ refused_as name (refusal.Fault f)) same)
+
 -- this was put
 pub grows_put : (name bytes : List ℕ) (old new : FilesView) → new.outcomes ≡ old.outcomes ++ Put name bytes ∷ [] → PutsOnly (entry name bytes ∷ []) old new
 unfolding puts_in
 grows_put name bytes old new is = record { more = Put name bytes ∷ []; is = is; puts_are = refl }
 
 -- an output was closed, if it took bytes
-pub left_puts : {E : Type 0} (sink : SinkView) (r : Result (Unit {0}) E) (old new : FilesView) → new.outcomes ≡ old.outcomes ++ put_as sink.label sink.taken.bytes r
-    → (sink.taken.bytes ≡ [] → ⊥) → (puts : List Entry) × PutsOnly puts old new × IsPut sink puts
-left_puts sink (Ok done) old new is some = (entry sink.label sink.taken.bytes ∷ [], grows_put sink.label sink.taken.bytes old new is, inr (refl, some))
-left_puts sink (Err fault) old new is some = ([], grows_same old new is, inl refl)
+pub left_puts : (sink : SinkView) (r : Result (Unit {0}) FileFault) (old new : FilesView) → new.outcomes ≡ old.outcomes ++ written_as sink.label sink.taken.bytes r
+    → IsOkUnless r Write → (sink.taken.bytes ≡ [] → ⊥) → (puts : List Entry) × PutsOnly puts old new × IsPut sink puts
+left_puts sink (Ok done) old new is fails some = (entry sink.label sink.taken.bytes ∷ [], grows_put sink.label sink.taken.bytes old new is, inr (refl, some))
+left_puts sink (Err fault) old new is fails some = ([], grows_lost sink.label fault old new is (inl fails), inl refl)
 
 -- ---- What was put to the file of the position.
 
@@ -49,7 +58,7 @@ left_puts sink (Err fault) old new is some = ([], grows_same old new is, inl ref
 abbrev Saved : Durability → Option Text → ℕ → Option Position → (old new : FilesView) → Result (Unit {0}) FileFault → Type 0
 Saved durability save settled position old new r = ((new ≡ old) × OnOk r (LacksOne save position)) ⊎ IsSomeAnd position (λ p.
     Saves (position_text p) durability r new.saved × (p.index * chunk_length ≤ settled)
-    × IsSomeAnd save (λ to. new.outcomes ≡ old.outcomes ++ put_as to (position_text p) r))
+    × IsSomeAnd save (λ to. new.outcomes ≡ old.outcomes ++ written_as to (position_text p) r))
 
 abbrev pub PutsRest : Durability → Option Text → ℕ → Option Position → (old new : FilesView) → Ending → Type 0
 PutsRest durability save settled position old new e = (rest : List Entry) × PutsOnly rest old new
@@ -79,7 +88,7 @@ saved_badly durability save settled position old new fault second (inl (same, la
 saved_badly durability save settled None old new fault second (inr saved) why = absurd saved
 saved_badly durability None settled (Some p) old new fault second (inr saved) why = absurd saved.2
 saved_badly durability (Some to) settled (Some p) old new fault second (inr saved) why =
-    ([], grows_same old new saved.2, inr (record { put = saved.0; is = (refl, saved.1) }))
+    ([], grows_lost to second old new saved.2 why.0, inr (record { put = saved.0; is = (refl, saved.1) }))
 
 -- ---- How an output was ended.
 
@@ -115,6 +124,10 @@ module _ (save : Option Text) (durability : Durability) (sink : SinkView) (settl
   )
   rest_from e (puts, rest, grows, put, inr done) = (puts, rest, grows_then [] (puts ++ rest) old mid new (grows_by [] old mid did) grows, put, inr done)
 
+  an_err_as : (r : Result (Unit {0}) Ending) → OnErr r (CameSince mid new (Unwritten sink.label)) → OnErr r (CameSince old new (Unwritten sink.label))
+  an_err_as (Ok done) lost = tt
+  an_err_as (Err e) lost = then_came [] old mid new (grows_by [] old mid did) (Unwritten sink.label) lost
+
   pub concludes_from : (r : Result (Unit {0}) Ending) → Concludes save durability sink settled engine mid new r → Concludes save durability sink settled engine old new r
   concludes_from r c = record {
     done = on_ok_weaker r (λ both. (both.0, grows_then [] _ old mid new (grows_by [] old mid did) both.1)) c.done;
@@ -123,6 +136,7 @@ module _ (save : Option Text) (durability : Durability) (sink : SinkView) (settl
     order_done = on_ok_weaker r (λ events. events ∙ ap (λ es. es ++ Closed durability ∷ []) (same_events old mid did)) c.order_done;
     ended = c.ended;
     reported = c.reported;
+    refused = on_ok_weaker engine (λ lost. an_err_as r lost) c.refused;
     saved = IfErr-weaker r _ _ (λ e rest. rest_from e rest) c.saved;
   }
 

@@ -31,18 +31,19 @@ use Rattle.age_cli.specs.Commands.{WasRead, old_found, HoldsNoPassphrase, HoldsN
 use Rattle.age_cli.proofs.OpeningLemmas.{holds_as, unfit_as}
 
 -- a file was opened, and then its reading was over
-module _ (How : Option (List ℕ) → Outcome) (name : Text) (e : Event) (old mid new : FilesView) (did : Does (e ∷ []) old mid) (last : SourceView)
+module _ (How : Option (List ℕ) → Option ℕ → Outcome) (name : Text) (e : Event) (old mid new : FilesView) (did : Does (e ∷ []) old mid) (last : SourceView)
     (over : new ≡ with_outcomes (Gave (reading_of name last) ∷ []) mid) where
-  over_only : Does [] mid new
+  pub over_only : Does [] mid new
   over_only = does_only mid new (Gave (reading_of name last) ∷ []) over (gave_puts (reading_of name last))
 
   pub over_does : Does (e ∷ []) old new
   over_does = does_then (e ∷ []) [] old mid new did over_only
 
-  pub was_read : (first : SourceView) → first.supply.given ≡ [] → CameSince old mid (How first.supply.left) → WasRead (CameSince old new) How name first last
-  was_read first unread found = record {
+  abbrev pub was_read : (first : SourceView) (size : Option ℕ) → first.supply.given ≡ [] → CameSince old mid (How first.supply.left size) → WasRead (CameSince old new) How name first last
+  was_read first size unread found = record {
     unread = unread;
-    found = came_then [] old mid new (grows_by [] mid new over_only) (How first.supply.left) found;
+    size = size;
+    found = came_then [] old mid new (grows_by [] mid new over_only) (How first.supply.left size) found;
     over = then_came [] old mid new (grows_by (e ∷ []) old mid did) (Gave (reading_of name last)) (came_one mid new (Gave (reading_of name last)) (ap (λ v. v.outcomes) over));
   }
 
@@ -55,14 +56,14 @@ same_fault x f g is same = cc
 not_first : (n : ℕ) → (n ≡ 0 → ⊥) → (n == 0) ≡ false
 not_first n other = false_from_ne_true (n == 0) (λ is. other (eqb-true n 0 is))
 
-module _ {In : Type 0} (read : In → SourceView) (p : Position) (name : Text) (before after : FilesView) where
-  pub old_first : (r : Result In OpenFault) → p.index ≡ 0 → IfOk r (λ s. CameSince before after (FoundOrEmpty name (read s).supply.left))
-      → IfOk r (λ s. CameSince before after (old_found p name (read s).supply.left))
+module _ {In : Type 0} (read : In → SourceView) (size : In → Option ℕ) (p : Position) (name : Text) (before after : FilesView) where
+  pub old_first : (r : Result In OpenFault) → p.index ≡ 0 → IfOk r (λ s. CameSince before after (FoundOrEmpty name (read s).supply.left (size s)))
+      → IfOk r (λ s. CameSince before after (old_found p name (read s).supply.left (size s)))
   old_first (Ok s) is came = rw is came
   old_first (Err f) is came = tt
 
-  pub old_later : (r : Result In OpenFault) → (p.index ≡ 0 → ⊥) → IfOk r (λ s. CameSince before after (Found name (read s).supply.left))
-      → IfOk r (λ s. CameSince before after (old_found p name (read s).supply.left))
+  pub old_later : (r : Result In OpenFault) → (p.index ≡ 0 → ⊥) → IfOk r (λ s. CameSince before after (Found name (read s).supply.left (size s)))
+      → IfOk r (λ s. CameSince before after (old_found p name (read s).supply.left (size s)))
   old_later (Ok s) other came = rw (not_first p.index other) came
   old_later (Err f) other came = tt
 

@@ -18,11 +18,11 @@ use Rattle.age_cli.specs.declared.interruption.Interruption.{Interruption}
 use Rattle.age_cli.specs.inner.Endings.{opening_end}
 
 -- one reading, and then perhaps another, of what stopped
-pub shown_with : (coming left : Supply) (old middle new : Option (List Shown)) (r : Result (Unit {0}) Ending) → ShowsRun coming left old middle
-    → OnOk r (new ≡ middle) → (new ≡ middle) ⊎ ((again : Supply) × (rest : Supply) × ShowsRun again rest middle new) → OnOk r (IsAtEnd left)
-    → ShowsReadings coming left old new r
-shown_with coming left old middle new (Ok x) run same again ended = record { middle = middle; first = run; whole = (ended, same); again = again }
-shown_with coming left old middle new (Err e) run same again ended = record { middle = middle; first = run; whole = tt; again = again }
+pub shown_with : (size : Option ℕ) (coming left : Supply) (old middle new : Option (List Shown)) (r : Result (Unit {0}) Ending) → ShowsRun size coming left old middle
+    → OnOk r (new ≡ middle) → (new ≡ middle) ⊎ ((n : Option ℕ) × (again : Supply) × (rest : Supply) × ShowsRun n again rest middle new)
+    → OnOk r (IsAtEnd left) → ShowsReadings size coming left old new r
+shown_with size coming left old middle new (Ok x) run same again ended = record { middle = middle; first = run; whole = (ended, same); again = again }
+shown_with size coming left old middle new (Err e) run same again ended = record { middle = middle; first = run; whole = tt; again = again }
 
 -- an engine that ended has read its source to the end
 pub opening_whole : (A : Header → List ℕ → Type 0) (before after : Ports) (run : Option Run) (r : Result Done Stopped)
@@ -47,15 +47,14 @@ ended_with P (Err s) (Err e) Q p q = tt
 
 -- a reading was begun, counted and ended
 pub shows_run : {P : Type 0} (shown_by : P → Option (List Shown)) (name : GName) (coming left : Supply) (before ended : Option (List Shown))
-    (began counted given : P) (lent : GName)
-    → (size : Option ℕ) × IfSome coming.left (λ bytes. size ≡ Some (length bytes)) × Adds before (shown_by began) (Begins size)
+    (began counted given : P) (lent : GName) (size : Option ℕ)
+    → IfSome coming.left (λ bytes. size ≡ Some (length bytes)) × Adds before (shown_by began) (Begins size)
     → ((from : Lending) → (name ≡ from.meter) × CountsSince from coming (shown_by began) → (lent ≡ from.meter) × CountsSince from left (shown_by counted))
-    → (name ≡ lent → given ≡ counted) → Adds (shown_by given) ended Ends → ShowsRun coming left before ended
-shows_run shown_by name coming left before ended began counted given lent begun counts back ends =
+    → (name ≡ lent → given ≡ counted) → Adds (shown_by given) ended Ends → ShowsRun size coming left before ended
+shows_run shown_by name coming left before ended began counted given lent size begun counts back ends =
     let from : Lending = record { meter = name; coming = coming; shown = shown_by began } in
     let kept = counts from (refl, begins_since name coming (shown_by began)) in
     let ends_so = subst (λ p. Adds (shown_by p) ended Ends) (back (sym kept.0)) ends in (
       begun.0,
-      begun.1,
-      reading_of name begun.0 coming left before (shown_by began) (shown_by counted) ended begun.2 kept.1 ends_so,
+      reading_of name size coming left before (shown_by began) (shown_by counted) ended begun.1 kept.1 ends_so,
     )

@@ -41,20 +41,20 @@ finds_so from key old new written (Err f) found = tt
 
 -- ---- A file was set back to its start.
 
-found_puts : (reading : Reading) (name : List ℕ) (left : Option (List ℕ)) → puts_in (Gave reading ∷ Found name left ∷ []) ≡ []
+found_puts : (reading : Reading) (name : List ℕ) (left : Option (List ℕ)) (size : Option ℕ) → puts_in (Gave reading ∷ Found name left size ∷ []) ≡ []
 unfolding puts_in
-found_puts reading name left = refl
+found_puts reading name left size = refl
 
 gave_then : (reading : Reading) (more : List Outcome) → puts_in more ≡ [] → puts_in (Gave reading ∷ more) ≡ []
 unfolding puts_in
 gave_then reading more none = none
 
-pub reread_does : (reading : Reading) (name : List ℕ) (left : Option (List ℕ)) (old new : FilesView) (r : Result (Unit {0}) FileFault)
-    → new ≡ with_outcomes (Gave reading ∷ reread_as name left r) old → IfErr r (IsMemoryOr Read) → Does [] old new
-reread_does reading name left old new (Ok done) is fails = does_only old new (Gave reading ∷ Found name left ∷ []) is (found_puts reading name left)
-reread_does reading name left old new (Err f) is fails =
-    does_only old new (Gave reading ∷ reread_as name left (Err f)) is
-    (gave_then reading (reread_as name left (Err f)) (unread_puts name (refusal.Fault f) fails))
+pub reread_does : (reading : Reading) (name : List ℕ) (left : Option (List ℕ)) (size : Option ℕ) (old new : FilesView) (r : Result (Unit {0}) FileFault)
+    → new ≡ with_outcomes (Gave reading ∷ reread_as name left size r) old → IfErr r (IsMemoryOr Read) → Does [] old new
+reread_does reading name left size old new (Ok done) is fails = does_only old new (Gave reading ∷ Found name left size ∷ []) is (found_puts reading name left size)
+reread_does reading name left size old new (Err f) is fails =
+    does_only old new (Gave reading ∷ reread_as name left size (Err f)) is
+    (gave_then reading (reread_as name left size (Err f)) (unread_puts name (refusal.Fault f) fails))
 
 pub outcomes_of : (old new : FilesView) (more : List Outcome) → new ≡ with_outcomes more old → new.outcomes ≡ old.outcomes ++ more
 outcomes_of old new more is = ap (λ v. v.outcomes) is
@@ -92,11 +92,11 @@ certain_of (Err s) P told failed = told
 pub concluded_once : (save : Option Text) (durability : Durability) (sink : SinkView) (end : Result Done Stopped) (old mid new : FilesView)
     (r : Result (Unit {0}) Ending) → Does [] old mid → (engine : Result (Unit {0}) Interruption) → engine ≡ opening_end end
     → (settled : ℕ) × Concludes save durability sink settled engine mid new r
-    × (is_some save ≡ true → OnErr engine (CameSince mid new (Settled sink.taken.bytes settled)))
+    × (is_some save ≡ true → OnErr engine (CameSince mid new (Settled durability sink.taken.bytes settled)))
     → (settled : ℕ) × Concludes save durability sink settled (opening_end end) old new r
-    × (IsErr end → is_some save ≡ true → CameSince old new (Settled sink.taken.bytes settled))
+    × (IsErr end → is_some save ≡ true → CameSince old new (Settled durability sink.taken.bytes settled))
 concluded_once save durability sink end old mid new r did engine is (settled, concludes, certain) =
-    let took = Settled sink.taken.bytes settled in (
+    let took = Settled durability sink.taken.bytes settled in (
       settled,
       concludes_from save durability sink settled (opening_end end) old mid new did r
           (subst (λ (e : Result (Unit {0}) Interruption). Concludes save durability sink settled e mid new r) is concludes),
@@ -111,7 +111,7 @@ pub found_as : (Came Later : Outcome → Type 0) → ((o : Outcome) → Came o �
 found_as Came Later so name from key written p found = record {
   first = found.first;
   last = found.last;
-  reading = record { unread = found.reading.unread; found = so _ found.reading.found; over = so _ found.reading.over };
+  reading = record { unread = found.reading.unread; size = found.reading.size; found = so _ found.reading.found; over = so _ found.reading.over };
   found = found.found;
 }
 
@@ -131,16 +131,16 @@ module _ (d : Decrypting) (sink : SinkView) (from : Option Position) (old mid ne
       inr (λ p. concludes_from (option_text d.save) d.durability sink settled (opening_end (Err (stopped_at s p))) old mid new did (Err e) (all p))
 
   pub decryption_since : (took : List ℕ) (end : Result Done Stopped) (again : Option (Stopped × List ℕ)) (r : Result (Unit {0}) Ending)
-      → ConcludesDecryption (λ n. CameSince mid new (Settled took n)) d sink from end again mid new r
-      → ConcludesDecryption (λ n. CameSince old new (Settled took n)) d sink from end again old new r
+      → ConcludesDecryption (λ n. CameSince mid new (Settled d.durability took n)) d sink from end again mid new r
+      → ConcludesDecryption (λ n. CameSince old new (Settled d.durability took n)) d sink from end again old new r
   decryption_since took end None r (settled, concludes, certain) = (
     settled,
     concludes_from (option_text d.save) d.durability sink settled (opening_end end) old mid new did r concludes,
-    (λ failed saves. so (Settled took settled) (certain failed saves)),
+    (λ failed saves. so (Settled d.durability took settled) (certain failed saves)),
   )
   decryption_since took end (Some again) (Ok x) concludes = concludes
   decryption_since took end (Some again) (Err e) (settled, certain, concludes) =
-      (settled, so (Settled took settled) certain, found_since again.0 again.1 e settled concludes)
+      (settled, so (Settled d.durability took settled) certain, found_since again.0 again.1 e settled concludes)
 
 -- ---- How the stop leaves OUT, and what is done then for its position.
 
@@ -185,6 +185,7 @@ concludes_left save durability sink settled cause old mid new ending left unende
   ended = subst (λ (o : Option EndedFile). IsSomeAnd o (EndsFile durability sink (Err cause) (Err ending))) (sym unended)
       (some_and mid.ended (λ out so. left_file durability sink cause ending out so) left.ended);
   reported = (cause.fault, refl, reported);
+  refused = tt;
   saved = rest_of durability save sink settled cause.position cause.position old mid new ending left.puts.0 refl left.puts.1 left.puts.2 left.noted rest;
 }
 

@@ -7,7 +7,6 @@ use Rattle.std.proofs.lemmas.Result.{IfErr-weaker}
 use Rattle.clap.specs.Words.{Text}
 use Rattle.age_io.specs.Io.{SinkView, SourceView}
 use Rattle.age_io.specs.Supply.{Supply, IsAtEnd}
-use Rattle.age_fault.specs.declared.fault.FileFault.{FileFault}
 use Rattle.age_file.proofs.AgainLawLemmas.{rest_kept, stops_kept}
 use Rattle.age_file.specs.Decrypts.{DecryptEnds, DecryptStops, DecryptsKeyed, FindsKey}
 use Rattle.age_file.specs.Resumes.{ResumePorts, resume_ports, ResumesKeyed, ResumeStops, StandsAt, StopsInSkipped, ResumeEnds}
@@ -19,102 +18,79 @@ use Rattle.age_file.specs.declared.position.PositionPolicy.{PositionPolicy}
 use Rattle.age_file.specs.declared.position.PositionPolicy.TheVariants.{Kept, Dropped}
 use Rattle.age_file.specs.declared.standing.Standing.{Standing}
 use Rattle.age_file.specs.declared.standing.Standing.TheVariants.{Before, Skipping, InPayload}
-use Rattle.age_fileset.specs.FileSet.{FilesView, CameSince, Gave, Settled, reading_of}
+use Rattle.age_fileset.specs.FileSet.{FilesView, CameSince, Outcome, Found, Gave, Settled, reading_of}
 use Rattle.age_cli_args.specs.Requests.{option_text}
 use Rattle.age_cli_args.specs.declared.request.Decrypting.{Decrypting}
 use Rattle.age_cli_args.specs.declared.request.ProgressOption.TheVariants.{Silent, Shown}
 use Rattle.age_command.specs.Identities.{allows_by, refuses_by}
 use Rattle.age_command.specs.declared.ending.Ending.{Ending}
 use Rattle.age_command.specs.declared.identity.Identity.{Identity}
-use Rattle.age_cli.specs.Acts.{kept_for, start_of, Finds, FindsAgain, LacksOne}
+use Rattle.age_cli.specs.Acts.{Engine, decrypt_engine, resume_engine, paths_of, kept_for, start_of, Finds, FindsAgain, StopsText}
+use Rattle.age_cli.specs.Commands.{WasRead, old_found}
 use Rattle.age_cli.specs.inner.Endings.{Concludes, opening_end}
-use Rattle.age_cli.specs.inner.Rereadings.{again_of, key_of, placed, ConcludesDecryption, ConcludesFound, DecryptsOpened, ResumesOpened, stopped_at}
+use Rattle.age_cli.specs.inner.Rereadings.{again_of, key_of, placed, ConcludesDecryption, ConcludesFound, IsFoundIn, RunsEngine, stopped_at}
+use Rattle.age_cli.proofs.EngineLemmas.{opening_ends, opening_stops, read_as, stopped_so}
 use Rattle.age_cli.proofs.ReadingsLemmas.{ended_with, opening_whole, resuming_whole}
 
 kept_some : (save : Option Text) → is_some save ≡ true → Kept ≡ kept_for save
 kept_some None there = absurd (true≢false (sym there))
 kept_some (Some name) there = refl
 
--- a position is that of a stop, if it has one
-if_some : {P : Position → Type 0} (o : Option Position) → ((p : Position) → o ≡ Some p → P p) → IfSome o P
-if_some None so = tt
-if_some (Some p) so = so p refl
-
--- neither is missing
-lacks_none : (save : Option Text) (p : Position) → is_some save ≡ true → LacksOne save (Some p) → ⊥
-lacks_none None p there lacks = true≢false (sym there)
-lacks_none (Some name) p there lacks = lacks
-
 -- ---- An engine that promises this of a stop.
 
-module _ (Stops : PositionPolicy → Option Run → Stopped → Type 0) where
-  abbrev Halts : FileFault → Type 0
-  Halts fault = (policy : PositionPolicy) × (run : Option Run) × (stop : Stopped) × (stop.fault ≡ fault) × Stops policy run stop
-
-  abbrev Stands : (d : Decrypting) (from : Option Position) (took : List ℕ) (old new : FilesView) → Position → Type 0
-  Stands d from took old new p = ((policy : PositionPolicy) × (run : Option Run) × (stop : Stopped) × (stop.position ≡ Some p) × Stops policy run stop)
-      ⊎ ((r : Run) × (stop : Stopped) × Stops Dropped (Some r) stop × FindsAgain (CameSince old new) d.from.now from r took stop p)
-
--- it ended, or it stopped as if positions had been kept when one is to be saved
-record EndsSo (Stops : PositionPolicy → Option Run → Stopped → Type 0) (d : Decrypting) (sink : SinkView) (from : Option Position) (old new : FilesView)
-    (run : Option Run) (end : Result Done Stopped) (r : Result (Unit {0}) Ending) : Type 0 where
-  pub halted : IfErr end (λ s. Halts Stops s.fault)
-  pub stands : IfErr end (λ s. IfSome s.position (Stands Stops d from sink.taken.bytes old new))
-  pub unplaced : IfErr end (λ s. LacksOne (option_text d.save) s.position → Stops (kept_for (option_text d.save)) run s)
+-- it ended, or it stopped, and OUT was ended: its position is its run's, or one that a second reading found
+record EndsSo (Later : Outcome → Type 0) (Stops : PositionPolicy → Option Run → Stopped → Type 0) (d : Decrypting) (sink : SinkView) (from : Option Position) (old new : FilesView)
+    (end : Result Done Stopped) (r : Result (Unit {0}) Ending) : Type 0 where
   pub settled : ℕ
-  pub certain : IsErr end → is_some (option_text d.save) ≡ true → CameSince old new (Settled sink.taken.bytes settled)
+  pub stops : IfErr end (λ s. StopsText Later d.from.now (kept_for (option_text d.save)) from Stops settled s.fault s.position)
+  pub certain : IsErr end → is_some (option_text d.save) ≡ true → Later (Settled d.durability sink.taken.bytes settled)
   pub concludes : Concludes (option_text d.save) d.durability sink settled (opening_end end) old new r
 
-module _ (Stops : PositionPolicy → Option Run → Stopped → Type 0) (d : Decrypting) (sink : SinkView) (from : Option Position) (old new : FilesView) (run : Option Run) where
+module _ (Later : Outcome → Type 0) (Stops : PositionPolicy → Option Run → Stopped → Type 0) (d : Decrypting) (sink : SinkView) (from : Option Position) (old new : FilesView)
+    (later : (o : Outcome) → CameSince old new o → Later o) (run : Option Run) where
   abbrev Certain : ℕ → Type 0
-  Certain n = CameSince old new (Settled sink.taken.bytes n)
+  Certain n = CameSince old new (Settled d.durability sink.taken.bytes n)
+
+  abbrev So : Result Done Stopped → Result (Unit {0}) Ending → Type 0
+  So end r = EndsSo Later Stops d sink from old new end r
 
   -- one that isn't read again
-  ends_once : (end : Result Done Stopped) (r : Result (Unit {0}) Ending) → IfErr end (λ s. Halts Stops s.fault)
-      → IfErr end (Stops (kept_for (option_text d.save)) run) → ConcludesDecryption Certain d sink from end None old new r
-      → EndsSo Stops d sink from old new run end r
-  ends_once end r halted stops concludes = record {
-    halted = halted;
-    stands = IfErr-weaker end _ _ (λ s so. if_some s.position (λ p is. inl (kept_for (option_text d.save), run, s, is, so))) stops;
-    unplaced = IfErr-weaker end _ _ (λ s so none. so) stops;
-    settled = concludes.0;
-    certain = concludes.2;
-    concludes = concludes.1;
+  ends_once : (end : Result Done Stopped) (r : Result (Unit {0}) Ending) → IfErr end (Stops (kept_for (option_text d.save)) run)
+      → ConcludesDecryption Certain d sink from end None old new r → So end r
+  ends_once end r stops (settled, concludes, certain) = record {
+    settled = settled;
+    stops = IfErr-weaker end _ _ (λ s so. (run, s, refl, inl (so, refl))) stops;
+    certain = λ failed there. later (Settled d.durability sink.taken.bytes settled) (certain failed there);
+    concludes = concludes;
   }
 
   -- one that came to its payload, and is read again from there
   module _ (s : Stopped) (key : List ℕ) (saves : is_some (option_text d.save) ≡ true) (ending : Ending) (stops : Stops Dropped run s)
       (came : (r : Run) × (run ≡ Some r) × (key ≡ r.file.key) × (p : Position) × Stops Kept run (stopped_at s p)) (settled : ℕ) (certain : Certain settled) where
-    ends_at : (p : Position) → Stands Stops d from sink.taken.bytes old new p
+    ends_at : (p : Position) → StopsText Later d.from.now (kept_for (option_text d.save)) from Stops settled s.fault (Some p)
         → Concludes (option_text d.save) d.durability sink settled (opening_end (Err (stopped_at s p))) old new (Err ending)
-        → EndsSo Stops d sink from old new run (Err (stopped_at s p)) (Err ending)
-    ends_at p stands concludes = record {
-      halted = (Dropped, run, s, refl, stops);
-      stands = stands;
-      unplaced = λ lacks. absurd (lacks_none (option_text d.save) p saves lacks);
+        → So (Err (stopped_at s p)) (Err ending)
+    ends_at p stops concludes = record {
       settled = settled;
-      certain = λ failed there. certain;
+      stops = stops;
+      certain = λ failed there. later (Settled d.durability sink.taken.bytes settled) certain;
       concludes = concludes;
     }
 
-    ends_again : ConcludesFound d sink from s key old new ending settled → (p : Position) × EndsSo Stops d sink from old new run (Err (stopped_at s p)) (Err ending)
-    ends_again (inl (p, found, concludes)) = (
-      p,
-      ends_at p (inr (
-        came.0,
-        s,
-        subst (λ (o : Option Run). Stops Dropped o s) came.1 stops,
-        record {
-          settled = settled;
-          certain = certain;
-          first = found.first;
-          last = found.last;
-          reading = found.reading;
-          found = subst (λ (k : List ℕ). Finds (start_of settled from) k found.first found.last (min s.written settled) p) came.2 found.found;
-        },
-      )) concludes,
-    )
-    ends_again (inr all) = (came.3, ends_at came.3 (inl (Kept, run, stopped_at s came.3, refl, came.4)) (all came.3))
+    found_later : (p : Position) → IsFoundIn (CameSince old new) d.from.now (start_of settled from) key (min s.written settled) p
+        → FindsAgain Later d.from.now from settled came.0 s p
+    found_later p found = record {
+      first = found.first;
+      last = found.last;
+      reading = read_as (CameSince old new) Later later (Found d.from.now) d.from.now found.first found.last found.reading;
+      found = subst (λ (k : List ℕ). Finds (start_of settled from) k found.first found.last (min s.written settled) p) came.2 found.found;
+    }
+
+    ends_again : ConcludesFound d sink from s key old new ending settled → (p : Position) × So (Err (stopped_at s p)) (Err ending)
+    ends_again (inl (p, found, concludes)) = (p, ends_at p (run, s, refl, inr (stops,
+        subst (λ (o : Option Run). IsSomeAnd o (λ r. FindsAgain Later d.from.now from settled r s p)) (sym came.1) (found_later p found))) concludes)
+    ends_again (inr all) = (came.3, ends_at came.3 (run, stopped_at s came.3, refl, inl (
+        subst (λ (x : PositionPolicy). Stops x run (stopped_at s came.3)) (kept_some (option_text d.save) saves) came.4, refl)) (all came.3))
 
 -- ---- A decryption.
 
@@ -124,14 +100,17 @@ unread : (keep other : PositionPolicy) (i : Identity) (before after : Ports) (ru
 unread keep other i before after None s none stops = stops
 unread keep other i before after (Some r) s none stops = absurd (none-some r.file.key none)
 
-module _ (IsPorts : Ports → Type 0) (d : Decrypting) (i : Identity) (before after : Ports) (after_is : IsPorts after) (old new : FilesView)
-    (over : CameSince old new (Gave (reading_of d.from.now after.source)))
+module _ (IsPorts : Ports → Type 0) (Later : Outcome → Type 0) (d : Decrypting) (i : Identity) (before after : Ports) (after_is : IsPorts after) (old new : FilesView)
+    (later : (o : Outcome) → CameSince old new o → Later o) (over : CameSince old new (Gave (reading_of d.from.now after.source)))
     (Unshown : Type 0) (Progress : Supply → Supply → Result (Unit {0}) Ending → Type 0) (silent : d.progress ≡ Silent → Unshown) where
   abbrev Shows : Result (Unit {0}) Ending → Type 0
   Shows r = d.progress ≡ Shown → OnOk r (IsAtEnd after.source.supply) → Progress before.source.supply after.source.supply r
 
-  abbrev Opens : Result (Unit {0}) Ending → Type 0
-  Opens r = DecryptsOpened IsPorts (CameSince old new) d i before old new Unshown Progress r
+  abbrev engine : Engine
+  engine = decrypt_engine Later d.from.now (kept_for (option_text d.save)) i
+
+  abbrev Runs : Result (Unit {0}) Ending → Type 0
+  Runs r = RunsEngine IsPorts Later engine (paths_of d) d.durability d.progress before old new Unshown Progress r
 
   abbrev Stopping : PositionPolicy → Option Run → Stopped → Type 0
   Stopping keep run s = DecryptStops keep (allows_by i) (refuses_by i) before after run s
@@ -139,32 +118,32 @@ module _ (IsPorts : Ports → Type 0) (d : Decrypting) (i : Identity) (before af
   abbrev Did : PositionPolicy → Result Done Stopped → Option (List ℕ) → Type 0
   Did keep end key = DecryptsKeyed keep (allows_by i) (refuses_by i) before after end key
 
-  opens_so : (end : Result Done Stopped) (run : Option Run) (r : Result (Unit {0}) Ending) → after.sink.label ≡ before.sink.label
+  abbrev Concluded : Result (Unit {0}) Ending → Result Done Stopped → Option (Stopped × List ℕ) → Type 0
+  Concluded r end again = ConcludesDecryption (λ n. CameSince old new (Settled d.durability after.sink.taken.bytes n)) d after.sink None end again old new r
+
+  runs_so : (end : Result Done Stopped) (run : Option Run) (r : Result (Unit {0}) Ending) → after.sink.label ≡ before.sink.label
       → IfOk end (λ done. IsSomeAnd run (DecryptEnds (allows_by i) before after done)) → Shows r
-      → EndsSo Stopping d after.sink None old new run end r → Opens r
-  opens_so end run r named done shown so = record {
+      → EndsSo Later Stopping d after.sink None old new end r → Runs r
+  runs_so end run r named done shown so = record {
     after = after;
     after_is = after_is;
-    over = over;
-    decrypted = end;
-    run = run;
-    done = done;
-    halted = so.halted;
-    stands = so.stands;
-    unplaced = so.unplaced;
-    named = named;
+    over = later (Gave (reading_of d.from.now after.source)) over;
+    end = opening_end end;
     settled = so.settled;
-    certain = so.certain;
+    ends = opening_ends (λ x y. DecryptEnds (allows_by i) before after x y) (engine.ends before after) (after.sink.failed ≡ before.sink.failed)
+        (λ x y did. ((x, y, did), did.2.1)) run end done;
+    stops = opening_stops (λ fault position. engine.stops so.settled fault position before after) end so.stops;
+    named = named;
+    certain = λ failed there. so.certain (stopped_so end failed) there;
     concludes = so.concludes;
     silent = silent;
     shown = λ asked. shown asked (ended_with _ (opening_end end) r _ (opening_whole (allows_by i) before after run end done) so.concludes.done);
   }
 
   once : (end : Result Done Stopped) (key : Option (List ℕ)) (keep : PositionPolicy) (r : Result (Unit {0}) Ending) → (did : Did keep end key)
-      → IfErr end (Stopping (kept_for (option_text d.save)) did.is.run) → Shows r
-      → ConcludesDecryption (λ n. CameSince old new (Settled after.sink.taken.bytes n)) d after.sink None end None old new r → Opens r
-  once end key keep r did stops shown concludes = opens_so end did.is.run r did.is.named did.is.done shown
-      (ends_once Stopping d after.sink None old new did.is.run end r (IfErr-weaker end _ _ (λ s so. (keep, did.is.run, s, refl, so)) did.is.stopped) stops concludes)
+      → IfErr end (Stopping (kept_for (option_text d.save)) did.is.run) → Shows r → Concluded r end None → Runs r
+  once end key keep r did stops shown concludes = runs_so end did.is.run r did.is.named did.is.done shown
+      (ends_once Later Stopping d after.sink None old new later did.is.run end r stops concludes)
 
   came_so : (run : Option Run) (s : Stopped) (key : List ℕ) → FindsKey run (Some key) → IfSome run (λ r. (p : Position) × IsPositionOf r p) → Stopping Dropped run s
       → (r : Run) × (run ≡ Some r) × (key ≡ r.file.key) × (p : Position) × Stopping Kept run (stopped_at s p)
@@ -174,23 +153,23 @@ module _ (IsPorts : Ports → Type 0) (d : Decrypting) (i : Identity) (before af
       (r, refl, same, due.0, stops_kept (allows_by i) (refuses_by i) before after r s due.0 stops due.1)
 
   again : (s : Stopped) (key : List ℕ) (ending : Ending) → is_some (option_text d.save) ≡ true → Did Dropped (Err s) (Some key) → Shows (Err ending)
-      → ConcludesDecryption (λ n. CameSince old new (Settled after.sink.taken.bytes n)) d after.sink None (Err s) (Some (s, key)) old new (Err ending) → Opens (Err ending)
+      → Concluded (Err ending) (Err s) (Some (s, key)) → Runs (Err ending)
   again s key ending saves did shown (settled, certain, found) =
-      let so = ends_again Stopping d after.sink None old new did.is.run s key saves ending did.is.stopped
+      let so = ends_again Later Stopping d after.sink None old new later did.is.run s key saves ending did.is.stopped
       (came_so did.is.run s key did.found did.due did.is.stopped) settled certain found in
-      opens_so (Err (stopped_at s so.0)) did.is.run (Err ending) did.is.named tt shown so.1
+      runs_so (Err (stopped_at s so.0)) did.is.run (Err ending) did.is.named tt shown so.1
 
-  pub opened_by : (reread : Bool) (end : Result Done Stopped) (key : Option (List ℕ)) (keep : PositionPolicy)
+  pub runs_opened : (reread : Bool) (end : Result Done Stopped) (key : Option (List ℕ)) (keep : PositionPolicy)
       (r : Result (Unit {0}) Ending) → (reread ≡ true → is_some (option_text d.save) ≡ true) → (reread ≡ true → keep ≡ Dropped)
       → (reread ≡ false → keep ≡ kept_for (option_text d.save)) → Did keep end key → Shows r
-      → ConcludesDecryption (λ n. CameSince old new (Settled after.sink.taken.bytes n)) d after.sink None end (again_of reread end key) old new r → Opens r
-  opened_by reread (Ok done) key keep r saves dropped kept did shown concludes = once (Ok done) key keep r did tt shown concludes
-  opened_by reread (Err s) None keep r saves dropped kept did shown concludes =
+      → Concluded r end (again_of reread end key) → Runs r
+  runs_opened reread (Ok done) key keep r saves dropped kept did shown concludes = once (Ok done) key keep r did tt shown concludes
+  runs_opened reread (Err s) None keep r saves dropped kept did shown concludes =
       once (Err s) None keep r did (unread keep (kept_for (option_text d.save)) i before after did.is.run s did.found did.is.stopped) shown concludes
-  opened_by false (Err s) (Some key) keep r saves dropped kept did shown concludes =
+  runs_opened false (Err s) (Some key) keep r saves dropped kept did shown concludes =
       once (Err s) (Some key) keep r did (subst (λ (x : PositionPolicy). Stopping x did.is.run s) (kept refl) did.is.stopped) shown concludes
-  opened_by true (Err s) (Some key) keep (Ok x) saves dropped kept did shown concludes = absurd concludes
-  opened_by true (Err s) (Some key) keep (Err e) saves dropped kept did shown concludes =
+  runs_opened true (Err s) (Some key) keep (Ok x) saves dropped kept did shown concludes = absurd concludes
+  runs_opened true (Err s) (Some key) keep (Err e) saves dropped kept did shown concludes =
       again s key e (saves refl) (subst (λ (x : PositionPolicy). Did x (Err s) (Some key)) (dropped refl) did) shown concludes
 
 -- ---- A decryption that is resumed.
@@ -228,9 +207,10 @@ module _ (i : Identity) (from : Position) (before after : ResumePorts) where
   skipping_as None s stands = inr (inr (skipping_kept i from before after s stands))
   skipping_as (Some r) s stands = absurd stands
 
-module _ (IsPorts : Ports → Type 0) (d : Decrypting) (old_name : Text) (i : Identity) (from : Position) (first last : SourceView)
-    (before after : Ports) (after_is : IsPorts after) (last_is : IsPorts (ports last after.sink)) (old new : FilesView)
-    (over : CameSince old new (Gave (reading_of d.from.now after.source))) (last_over : CameSince old new (Gave (reading_of old_name last)))
+module _ (IsPorts : Ports → Type 0) (Later : Outcome → Type 0) (d : Decrypting) (old_name : Text) (i : Identity) (from : Position) (first last : SourceView)
+    (before after : Ports) (after_is : IsPorts after) (first_is : IsPorts (ports first before.sink)) (last_is : IsPorts (ports last after.sink)) (old new : FilesView)
+    (later : (o : Outcome) → CameSince old new o → Later o) (over : CameSince old new (Gave (reading_of d.from.now after.source)))
+    (read : WasRead Later (old_found from old_name) old_name first last)
     (Unshown : Type 0) (Progress : Supply → Supply → Result (Unit {0}) Ending → Type 0) (silent : d.progress ≡ Silent → Unshown) where
   abbrev ResumedDid : PositionPolicy → Result Done Stopped → Standing → Type 0
   ResumedDid keep end standing = ResumesKeyed keep (allows_by i) (refuses_by i) from (resume_ports before first) (resume_ports after last) end standing
@@ -238,34 +218,33 @@ module _ (IsPorts : Ports → Type 0) (d : Decrypting) (old_name : Text) (i : Id
   abbrev ResumedShows : Result (Unit {0}) Ending → Type 0
   ResumedShows r = d.progress ≡ Shown → OnOk r (IsAtEnd after.source.supply) → Progress before.source.supply after.source.supply r
 
-  abbrev Resumes : Result (Unit {0}) Ending → Type 0
-  Resumes r = ResumesOpened IsPorts (CameSince old new) d old_name i from first before old new Unshown Progress r
+  abbrev resumption : Engine
+  resumption = resume_engine IsPorts Later d.from.now (kept_for (option_text d.save)) i from old_name
 
-  abbrev Concluded : Result (Unit {0}) Ending → Result Done Stopped → Option (Stopped × List ℕ) → Type 0
-  Concluded r end again = ConcludesDecryption (λ n. CameSince old new (Settled after.sink.taken.bytes n)) d after.sink (Some from) end again old new r
+  abbrev Resumes : Result (Unit {0}) Ending → Type 0
+  Resumes r = RunsEngine IsPorts Later resumption (paths_of d) d.durability d.progress before old new Unshown Progress r
+
+  abbrev ResumedSo : Result (Unit {0}) Ending → Result Done Stopped → Option (Stopped × List ℕ) → Type 0
+  ResumedSo r end again = ConcludesDecryption (λ n. CameSince old new (Settled d.durability after.sink.taken.bytes n)) d after.sink (Some from) end again old new r
 
   abbrev Halting : PositionPolicy → Option Run → Stopped → Type 0
   Halting keep run s = Stops i from (resume_ports before first) (resume_ports after last) keep run s
 
   resumes_so : (end : Result Done Stopped) (run : Option Run) (r : Result (Unit {0}) Ending) → after.sink.label ≡ before.sink.label
       → IfOk end (λ done. IsSomeAnd run (ResumeEnds (allows_by i) from (resume_ports before first) (resume_ports after last) done)) → ResumedShows r
-      → EndsSo Halting d after.sink (Some from) old new run end r → Resumes r
+      → EndsSo Later Halting d after.sink (Some from) old new end r → Resumes r
   resumes_so end run r named done shown so = record {
     after = after;
     after_is = after_is;
-    over = over;
-    last = last;
-    last_is = last_is;
-    last_over = last_over;
-    resumed = end;
-    run = run;
-    done = done;
-    halted = so.halted;
-    stands = so.stands;
-    unplaced = so.unplaced;
-    named = named;
+    over = later (Gave (reading_of d.from.now after.source)) over;
+    end = opening_end end;
     settled = so.settled;
-    certain = so.certain;
+    ends = opening_ends (λ x y. ResumeEnds (allows_by i) from (resume_ports before first) (resume_ports after last) x y) (resumption.ends before after)
+        (after.sink.failed ≡ before.sink.failed) (λ x y did. ((first, last, first_is, last_is, read, (x, y, did)), did.3.1)) run end done;
+    stops = opening_stops (λ fault position. resumption.stops so.settled fault position before after) end
+        (IfErr-weaker end _ _ (λ s stops. (first, last, first_is, last_is, read, stops)) so.stops);
+    named = named;
+    certain = λ failed there. so.certain (stopped_so end failed) there;
     concludes = so.concludes;
     silent = silent;
     shown = λ asked. shown asked (ended_with _ (opening_end end) r _
@@ -281,32 +260,32 @@ module _ (IsPorts : Ports → Type 0) (d : Decrypting) (old_name : Text) (i : Id
       (r, refl, stands, due.0, rest_kept (allows_by i) (refuses_by i) from (resume_ports before first) (resume_ports after last) r s due.0 stops due.1)
 
   resumed_done : (x : Done) (standing : Standing) (keep : PositionPolicy) (r : Result (Unit {0}) Ending) → ResumedDid keep (Ok x) standing → ResumedShows r
-      → Concluded r (Ok x) None → Resumes r
+      → ResumedSo r (Ok x) None → Resumes r
   resumed_done x standing keep r did shown concludes = resumes_so (Ok x) did.is.run r did.is.named did.is.done shown
-      (ends_once Halting d after.sink (Some from) old new did.is.run (Ok x) r tt tt concludes)
+      (ends_once Later Halting d after.sink (Some from) old new later did.is.run (Ok x) r tt concludes)
 
   -- one that stopped so, or where it began
   resumed_stop : (s : Stopped) (standing : Standing) (keep : PositionPolicy) (r : Result (Unit {0}) Ending) (did : ResumedDid keep (Err s) standing) (t : Stopped)
-      → s.fault ≡ t.fault → Halting (kept_for (option_text d.save)) did.is.run t → ResumedShows r → Concluded r (Err t) None → Resumes r
-  resumed_stop s standing keep r did t same stops shown concludes = resumes_so (Err t) did.is.run r did.is.named tt shown
-      (ends_once Halting d after.sink (Some from) old new did.is.run (Err t) r (keep, did.is.run, s, same, did.is.stopped) stops concludes)
+      → Halting (kept_for (option_text d.save)) did.is.run t → ResumedShows r → ResumedSo r (Err t) None → Resumes r
+  resumed_stop s standing keep r did t stops shown concludes = resumes_so (Err t) did.is.run r did.is.named tt shown
+      (ends_once Later Halting d after.sink (Some from) old new later did.is.run (Err t) r stops concludes)
 
   as_kept : (s : Stopped) (standing : Standing) (keep : PositionPolicy) (r : Result (Unit {0}) Ending) → keep ≡ kept_for (option_text d.save)
-      → ResumedDid keep (Err s) standing → ResumedShows r → Concluded r (Err s) None → Resumes r
+      → ResumedDid keep (Err s) standing → ResumedShows r → ResumedSo r (Err s) None → Resumes r
   as_kept s standing keep r kept did shown concludes =
-      resumed_stop s standing keep r did s refl (subst (λ (x : PositionPolicy). Halting x did.is.run s) kept did.is.stopped) shown concludes
+      resumed_stop s standing keep r did s (subst (λ (x : PositionPolicy). Halting x did.is.run s) kept did.is.stopped) shown concludes
 
   resumed_again : (s : Stopped) (key : List ℕ) (ending : Ending) → is_some (option_text d.save) ≡ true → ResumedDid Dropped (Err s) (InPayload key) → ResumedShows (Err ending)
-      → Concluded (Err ending) (Err s) (Some (s, key)) → Resumes (Err ending)
+      → ResumedSo (Err ending) (Err s) (Some (s, key)) → Resumes (Err ending)
   resumed_again s key ending saves did shown (settled, certain, found) =
-      let so = ends_again Halting d after.sink (Some from) old new did.is.run s key saves ending did.is.stopped
+      let so = ends_again Later Halting d after.sink (Some from) old new later did.is.run s key saves ending did.is.stopped
       (came_there did.is.run s key did.stands did.due did.is.stopped) settled certain found in
       resumes_so (Err (stopped_at s so.0)) did.is.run (Err ending) did.is.named tt shown so.1
 
   by : (reread : Bool) (end : Result Done Stopped) (standing : Standing) (keep : PositionPolicy)
       (r : Result (Unit {0}) Ending) → (reread ≡ true → is_some (option_text d.save) ≡ true) → (reread ≡ true → keep ≡ Dropped)
       → (reread ≡ false → keep ≡ kept_for (option_text d.save)) → ResumedDid keep end standing → ResumedShows r
-      → Concluded r (placed reread standing from end) (again_of reread (placed reread standing from end) (key_of standing)) → Resumes r
+      → ResumedSo r (placed reread standing from end) (again_of reread (placed reread standing from end) (key_of standing)) → Resumes r
   by false (Ok x) standing keep r saves dropped kept did shown concludes = resumed_done x standing keep r did shown concludes
   by true (Ok x) Before keep r saves dropped kept did shown concludes = resumed_done x Before keep r did shown concludes
   by true (Ok x) Skipping keep r saves dropped kept did shown concludes = resumed_done x Skipping keep r did shown concludes
@@ -315,10 +294,10 @@ module _ (IsPorts : Ports → Type 0) (d : Decrypting) (old_name : Text) (i : Id
   by false (Err s) Skipping keep r saves dropped kept did shown concludes = as_kept s Skipping keep r (kept refl) did shown concludes
   by false (Err s) (InPayload k) keep r saves dropped kept did shown concludes = as_kept s (InPayload k) keep r (kept refl) did shown concludes
   by true (Err s) Before keep r saves dropped kept did shown concludes =
-      resumed_stop s Before keep r did s refl
+      resumed_stop s Before keep r did s
       (before_as i from (resume_ports before first) (resume_ports after last) keep (kept_for (option_text d.save)) did.is.run s did.stands) shown concludes
   by true (Err s) Skipping keep r saves dropped kept did shown concludes =
-      resumed_stop s Skipping keep r did (stopped_at s from) refl
+      resumed_stop s Skipping keep r did (stopped_at s from)
       (subst (λ (x : PositionPolicy). Halting x did.is.run (stopped_at s from)) (kept_some (option_text d.save) (saves refl))
       (skipping_as i from (resume_ports before first) (resume_ports after last) did.is.run s
       (subst (λ (x : PositionPolicy). Placed i from (resume_ports before first) (resume_ports after last) x did.is.run (Err s) Skipping) (dropped refl) did.stands)))
@@ -331,8 +310,8 @@ module _ (IsPorts : Ports → Type 0) (d : Decrypting) (old_name : Text) (i : Id
       (r : Result (Unit {0}) Ending) → (reread ≡ true → is_some (option_text d.save) ≡ true) → (reread ≡ true → keep ≡ Dropped)
       → (reread ≡ false → keep ≡ kept_for (option_text d.save)) → ResumedDid keep end standing → ResumedShows r
       → (end' : Result Done Stopped) (key : Option (List ℕ)) → end' ≡ placed reread standing from end → key ≡ key_of standing
-      → Concluded r end' (again_of reread end' key) → Resumes r
+      → ResumedSo r end' (again_of reread end' key) → Resumes r
   resumed_by reread end standing keep r saves dropped kept did shown end' key at is concludes =
       by reread end standing keep r saves dropped kept did shown
-      (subst (λ (e : Result Done Stopped). Concluded r e (again_of reread e (key_of standing))) at
-      (subst (λ (k : Option (List ℕ)). Concluded r end' (again_of reread end' k)) is concludes))
+      (subst (λ (e : Result Done Stopped). ResumedSo r e (again_of reread e (key_of standing))) at
+      (subst (λ (k : Option (List ℕ)). ResumedSo r end' (again_of reread end' k)) is concludes))

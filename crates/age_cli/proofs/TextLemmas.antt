@@ -4,24 +4,28 @@ use Rattle.std.specs.Prelude.{IsSomeAnd, OnOk, IfErr, IsErrAnd}
 use Rattle.age_fault.specs.declared.fault.FileFault.{FileFault}
 use Rattle.age_fault.specs.declared.fault.FileFault.TheVariants.{Head, Key, NonceCut, OtherFile, PositionForged}
 use Rattle.age_file.proofs.GivenLemmas.{done_gave_file, done_gave_rest}
-use Rattle.age_file.specs.Resumes.{resume_ports, InOldFails, InSkippedFails}
+use Rattle.age_file.specs.Decrypts.{DecryptStops}
+use Rattle.age_file.specs.Resumes.{resume_ports, InOldFails, InSkippedFails, ResumeStops}
+use Rattle.age_file.specs.declared.decryption.Stopped.{Stopped}
 use Rattle.age_file.specs.declared.position.Position.{Position}
 use Rattle.age_io.specs.Io.{SourceView, SinkView}
 use Rattle.age_io.specs.Taken.{Appends}
-use Rattle.age_fileset.specs.FileSet.{FilesView, Outcome, CameSince}
+use Rattle.age_fileset.specs.FileSet.{Event, FilesView, Outcome, CameSince}
 use Rattle.clap.specs.Words.{Text}
 use Rattle.age_stanza.specs.declared.fault.HeadFault.{HeadFault}
 use Rattle.age_keys.specs.declared.fault.KeyFault.{KeyFault}
 use Rattle.age_file.specs.Runs.{Ports, Run, PayloadFails}
 use Rattle.age_file.specs.declared.position.PositionPolicy.{PositionPolicy}
+use Rattle.age_file.specs.declared.position.PositionPolicy.TheVariants.{Dropped}
 use Rattle.age_io.specs.declared.durability.Durability.{Durability}
 use Rattle.age_machine.specs.Ends.{EndedFile, TouchesItself, IsUntouched}
-use Rattle.age_command.specs.Identities.{allows_by}
+use Rattle.age_command.specs.Identities.{allows_by, refuses_by}
+use Rattle.age_command.specs.Orders.{order_asked}
 use Rattle.age_command.specs.declared.ending.Ending.{Ending}
 use Rattle.age_command.specs.declared.ending.Ending.TheVariants.{Fault, Unsaved}
 use Rattle.age_command.specs.declared.identity.Identity.{Identity}
-use Rattle.age_cli.specs.Acts.{CameFirst, Engine, decrypt_engine, resume_engine, HasEngineEnded, HasEngineStopped, HasNotBegun, OfEngine}
-use Rattle.age_cli.specs.Acts.{HaltsDecryption, HaltsResumption, IsEndingOf, Paths, Returned, SparesOut, IsUsage}
+use Rattle.age_cli.specs.Acts.{CameFirst, Engine, decrypt_engine, resume_engine, durability_of, HasEngineEnded, HasEngineStopped, HasNotBegun, OfEngine}
+use Rattle.age_cli.specs.Acts.{IsEndingOf, Paths, Returned, SparesOut, StopsText, IsUsage}
 use Rattle.age_cli.specs.Commands.{FailsReport}
 use Rattle.age_cli.specs.Runs.{World, Obeys, DoesOther, FailsWriting, IsRefusal}
 use Rattle.age_command.specs.Endings.{is_usage}
@@ -45,9 +49,8 @@ module _ (Fails : FileFault → Type 0) (none : Fails NonceCut → ⊥) (other :
   not_later PositionForged early fails = forged fails
   not_later f early fails = early
 
-in_payload : (Never : Type 0) (old new : Ports) (r : Run) (f g : FileFault) → f ≡ g → IsBeforeText g → PayloadFails Never old new r f → ⊥
-in_payload Never old new r f g is early = not_later (PayloadFails Never old new r) (λ no. no) (λ no. no) (λ no. no) (λ h no. no) (λ k no. no) f
-    (subst IsBeforeText (sym is) early)
+in_payload : (Never : Type 0) (old new : Ports) (r : Run) (f : FileFault) → IsBeforeText f → PayloadFails Never old new r f → ⊥
+in_payload Never old new r f early = not_later (PayloadFails Never old new r) (λ no. no) (λ no. no) (λ no. no) (λ h no. no) (λ k no. no) f early
 
 -- ---- A decryption that is done.
 
@@ -95,47 +98,55 @@ module _ (IsPorts : Ports → Type 0) (Came : Outcome → Type 0) (p : Paths) (o
       inr (subst (λ (o : Option EndedFile). IsSomeAnd o (λ out. TouchesItself out × (out.took ≡ []) × IsUntouched 0 out)) (sym run.is)
       (run.within, none, subst (λ (n : ℕ). IsUntouched n run.out) unfailed (so none)))
 
-  spares_decryption : (identity : Identity) (fault : FileFault) → IsBeforeText fault → HaltsDecryption identity run.before run.after fault
-      → Untouched → SparesOut old ended
-  spares_decryption identity fault early (policy, None, stop, is, stops) so = untouched stops.0.sink so
-  spares_decryption identity fault early (policy, Some r, stop, is, stops) so =
-      absurd (in_payload _ run.before run.after r stop.fault fault is early stops.1.why)
+  -- by what its run promises of a stop
+  spares_stop : (name : Text) (keep : PositionPolicy) (from position : Option Position) (settled : ℕ) (fault : FileFault) (Stops : PositionPolicy → Option Run → Stopped → Type 0)
+      → ((policy : PositionPolicy) (run : Option Run) (stop : Stopped) → IsBeforeText stop.fault → Stops policy run stop → SparesOut old ended)
+      → IsBeforeText fault → StopsText Came name keep from Stops settled fault position → SparesOut old ended
+  spares_stop name keep from position settled fault Stops so early (r, stop, is, inl kept) = so keep r stop (subst IsBeforeText (sym is) early) kept.0
+  spares_stop name keep from position settled fault Stops so early (r, stop, is, inr again) = so Dropped r stop (subst IsBeforeText (sym is) early) again.0
 
-  spares_resumption : (identity : Identity) (from : Position) (first last : SourceView) (fault : FileFault) → IsBeforeText fault
-      → HaltsResumption identity from (resume_ports run.before first) (resume_ports run.after last) fault → Untouched → SparesOut old ended
-  spares_resumption identity from first last fault early (policy, None, stop, is, inl none) so = untouched none.0.sink so
-  spares_resumption identity from first last fault early (policy, None, stop, is, inr (inl copying)) so =
+  spares_decryption : (identity : Identity) → Untouched → (policy : PositionPolicy) (r : Option Run) (stop : Stopped) → IsBeforeText stop.fault
+      → DecryptStops policy (allows_by identity) (refuses_by identity) run.before run.after r stop → SparesOut old ended
+  spares_decryption identity so policy None stop early stops = untouched stops.0.sink so
+  spares_decryption identity so policy (Some r) stop early stops = absurd (in_payload _ run.before run.after r stop.fault early stops.1.why)
+
+  spares_resumption : (identity : Identity) (from : Position) (first last : SourceView) → Untouched → (policy : PositionPolicy) (r : Option Run) (stop : Stopped)
+      → IsBeforeText stop.fault → ResumeStops (allows_by identity) from (resume_ports run.before first) (resume_ports run.after last) policy (refuses_by identity) r stop
+      → SparesOut old ended
+  spares_resumption identity from first last so policy None stop early (inl none) = untouched none.0.sink so
+  spares_resumption identity from first last so policy None stop early (inr (inl copying)) =
       absurd (not_later (InOldFails (allows_by identity) from (resume_ports run.before first) (resume_ports run.after last) copying.writes.pulled
-      copying.copied) (λ no. no.1) (λ no. no.1) (λ no. no.1) (λ h no. no.1) (λ k no. no.1) stop.fault (subst IsBeforeText (sym is) early) copying.why)
-  spares_resumption identity from first last fault early (policy, None, stop, is, inr (inr skipping)) so =
+      copying.copied) (λ no. no.1) (λ no. no.1) (λ no. no.1) (λ h no. no.1) (λ k no. no.1) stop.fault early copying.why)
+  spares_resumption identity from first last so policy None stop early (inr (inr skipping)) =
       absurd (not_later (InSkippedFails (allows_by identity) from (resume_ports run.before first) (resume_ports run.after last) skipping.skipped)
-      (λ no. no) (λ no. no) (λ no. no) (λ h no. no) (λ k no. no) stop.fault (subst IsBeforeText (sym is) early) skipping.why)
-  spares_resumption identity from first last fault early (policy, Some r, stop, is, stops) so =
-      absurd (in_payload _ run.before run.after r stop.fault fault is early stops.2.why)
+      (λ no. no) (λ no. no) (λ no. no) (λ h no. no) (λ k no. no) stop.fault early skipping.why)
+  spares_resumption identity from first last so policy (Some r) stop early stops = absurd (in_payload _ run.before run.after r stop.fault early stops.2.why)
 
 -- of what was asked
-module _ (IsPorts : Ports → Type 0) (before after : FilesView) (Failed : Type 0) (ending : Ending) (fault : FileFault) (is : IsEndingOf fault ending)
+module _ (IsPorts : Ports → Type 0) (before after : FilesView) (ending : Ending) (fault : FileFault) (is : IsEndingOf fault ending)
     (early : IsBeforeText fault) where
   abbrev since : Outcome → Type 0
   since = CameSince before after
 
   -- by what an engine promises of a stop
-  spares_before : (p : Paths) (engine : Engine) (s : HasEngineStopped IsPorts since engine p ending after.ended)
-      → ((f : FileFault) → IsBeforeText f → engine.halts f s.run.before s.run.after
+  spares_before : (p : Paths) (engine : Engine) (durability : Durability) (done : List Event) (s : HasEngineStopped IsPorts since engine p durability done ending before after)
+      → ((settled : ℕ) (position : Option Position) → IsBeforeText s.fault → engine.stops settled s.fault position s.run.before s.run.after
       → Untouched IsPorts since p before.ended after.ended s.run → SparesOut before.ended after.ended) → SparesOut before.ended after.ended
-  spares_before p engine s so =
+  spares_before p engine durability done s so =
       let mine : IsBeforeText s.fault = subst IsBeforeText (same_fault fault s.fault ending is s.reported) early in
-      ⊎_elim (λ stop. so s.fault mine stop.0 stop.1) (λ unclosed. absurd (subst IsBeforeText unclosed.1 mine)) s.cause
+      ⊎_elim (λ stop. so s.settled s.position mine stop.promise stop.untouched) (λ unended. absurd (subst IsBeforeText unended.is.0 mine)) s.cause
 
   pub spares_of_request : (asked : Request) → IsForText asked
-      → HasNotBegun asked ending before after Failed ⊎ OfEngine IsPorts since (CameFirst before after) asked
-      (λ engine paths. HasEngineStopped IsPorts since engine paths ending after.ended)
+      → HasNotBegun asked ending before after ⊎ OfEngine IsPorts since (CameFirst before after) asked
+      (λ engine paths. HasEngineStopped IsPorts since engine paths (durability_of asked) (order_asked asked).done ending before after)
       → SparesOut before.ended after.ended
   spares_of_request asked text (inl unbegun) = unbegun.spared
-  spares_of_request (Decrypt d) text (inr stop) = spares_before _ _ stop.2
-      (λ f first halts so. spares_decryption IsPorts since _ before.ended after.ended stop.2.run stop.0 f first halts so)
-  spares_of_request (Resume r) text (inr stop) = spares_before _ _ stop.4
-      (λ f first halts so. spares_resumption IsPorts since _ before.ended after.ended stop.4.run stop.0 stop.2 halts.0 halts.1 f first halts.5 so)
+  spares_of_request (Decrypt d) text (inr stop) = spares_before _ _ _ _ stop.2
+      (λ settled position first stops so. spares_stop IsPorts since _ before.ended after.ended stop.2.run _ _ _ _ _ _ _
+      (spares_decryption IsPorts since _ before.ended after.ended stop.2.run stop.0 so) first stops)
+  spares_of_request (Resume r) text (inr stop) = spares_before _ _ _ _ stop.4
+      (λ settled position first stops so. spares_stop IsPorts since _ before.ended after.ended stop.4.run _ _ _ _ _ _ _
+      (spares_resumption IsPorts since _ before.ended after.ended stop.4.run stop.0 stop.2 stops.0 stops.1 so) first stops.5)
   spares_of_request asked text (inr stop) = absurd text
 
 -- ---- What is refused writes nothing.
@@ -160,7 +171,7 @@ no_help (Ok x) Help Printed Unprinted old new done fails unasked = absurd (unask
 no_help (Err e) Help Printed Unprinted old new done (inl refused) unasked = refused
 no_help (Err e) Help Printed Unprinted old new done (inr (help, writing)) unasked = absurd (unasked help)
 
-module _ (words : List Text) (IsPorts : Ports → Type 0) (before after : World) (Failed Unread Unprinted Unshown : Type 0)
+module _ (words : List Text) (IsPorts : Ports → Type 0) (before after : World) (Unread Unprinted Unshown : Type 0)
     (Progress : Option Text → Result (Unit {0}) Ending → Type 0) where
   abbrev IsSilent : Result (Unit {0}) Ending → Type 0
   IsSilent r = IfErr r (λ e. IsUsage e → Unprinted)
@@ -173,16 +184,16 @@ module _ (words : List Text) (IsPorts : Ports → Type 0) (before after : World)
   unprinted (Ok x) none = tt
   unprinted (Err e) none = λ usage. none
 
-  answered : (r : Result (Unit {0}) Ending) (asked : Request) → DoesOther words IsPorts before after Failed Unread Unprinted Unshown Progress r asked
+  answered : (r : Result (Unit {0}) Ending) (asked : Request) → DoesOther words IsPorts before after Unread Unprinted Unshown Progress r asked
       → IsSilent r
-  answered r (Inspect None) a = unblamed r _ a.0.stops
+  answered r (Inspect None) a = unblamed r _ a.0.0.stops
   answered r (Inspect (Some name)) a = unblamed r _ a.1.stops
   answered r (Drill d) a = a.2
   answered r asked a = unprinted r a.1
 
   -- a run that refuses its words writes nothing
-  pub refused_silently : (r : Result (Unit {0}) Ending) → Obeys words IsPorts before after Failed Unread Unprinted Unshown Progress r → IsSilent r
-  refused_silently r (inl report) = unblamed r _ report.report.stops
+  pub refused_silently : (r : Result (Unit {0}) Ending) → Obeys words IsPorts before after Unread Unprinted Unshown Progress r → IsSilent r
+  refused_silently r (inl report) = unblamed r _ report.report.0.stops
   refused_silently r (inr (inl did)) = answered r did.asked did.answers
   refused_silently r (inr (inr declined)) = if_err r _ (λ e. IsUsage e → Unprinted) (λ e. ⊎_elim (λ refused usage. refused.1)
       (λ help usage. absurd (true≢false (sym usage ∙ ap is_usage help.1.0)))) declined.stops

@@ -23,8 +23,8 @@ use Rattle.age_io.specs.declared.durability.Durability.TheVariants.{Buffered, Sy
 use Rattle.age_machine.specs.Ends.{EndedFile, TouchesItself, IsThere, IsOnDisk, IsUntouched}
 use Rattle.age_machine.specs.Saved.{SavedFile, Saves}
 use Rattle.age_file.specs.declared.decryption.Stopped.{Stopped}
-use Rattle.age_fileset.specs.FileSet.{IsMemoryOr, FilesView, Outcome, Found, Absent, Settled, Unfit}
-use Rattle.age_fileset.specs.FileSet.{Entry, entry, PutsOnly, CameSince, HasGivenAll, puts_in}
+use Rattle.age_fileset.specs.FileSet.{Event, IsMemoryOr, FilesView, Outcome, Found, Absent, Unwritten, Settled}
+use Rattle.age_fileset.specs.FileSet.{Unfit, Entry, entry, PutsOnly, CameSince, HasGivenAll, puts_in}
 use Rattle.age_cli_args.specs.Requests.{option_text}
 use Rattle.age_cli_args.specs.declared.request.ClobberOption.{ClobberOption}
 use Rattle.age_cli_args.specs.declared.request.ClobberOption.TheVariants.{Refused}
@@ -70,21 +70,18 @@ status_by (Err e) = ending_status e
 
 -- ---- What the engine of a command promises of its source and its sink, before and after.
 
--- what it promises if it ends, if it stops with a position and a fault, and if it stops with a
--- fault, whether it was to make a position or not; and of a position that is saved after a stop
+-- what it promises if it ends; and if it stops with this fault, and at this position, if it has one,
+-- once the set of files had said how many bytes of OUT are certain
 pub record Engine : Type 1 where
   pub ends : Ports → Ports → Type 0
-  pub stops : Option Position → FileFault → Ports → Ports → Type 0
-  pub halts : FileFault → Ports → Ports → Type 0
-  pub stands : Position → Ports → Ports → Type 0
+  pub stops : (settled : ℕ) → FileFault → Option Position → Ports → Ports → Type 0
 
 -- that of `encrypt`, which has no position
 abbrev pub encrypt_engine : SecretView → Engine
 encrypt_engine secret = record {
   ends = λ before after. (written : Written) × Encrypts secret before after written;
-  stops = λ position fault before after. EncryptFails secret before after fault;
-  halts = λ fault before after. EncryptFails secret before after fault;
-  stands = λ position before after. ⊥;
+  stops = λ settled fault position before after.
+      EncryptFails secret before after fault × (position ≡ None);
 }
 
 -- where a second reading begins: at the position that the run began from, unless that is beyond what
@@ -99,57 +96,33 @@ abbrev pub Finds : Option Position → List ℕ → (first last : SourceView) �
 Finds from key first last written p = (copied : List ℕ) → IsTextBefore from copied
     → IsFoundAgain (λ _ k. k ≡ key) from copied first last written p
 
--- IN was read once more, and this position was found: after as many bytes of the text as the set of
--- files said that OUT holds for certain, which had taken these, but not beyond where this run had
--- stopped, which began from that position
-pub record FindsAgain (Came : Outcome → Type 0) (name : Text) (from : Option Position) (r : Run)
-    (took : List ℕ) (stopped : Stopped) (p : Position) : Type 0 where
-  pub settled : ℕ
-  pub certain : Came (Settled took settled)
+-- IN was read once more, and this position was found: after as many bytes of the text as are certain,
+-- but not beyond where this run had stopped, which began from that position
+pub record FindsAgain (Came : Outcome → Type 0) (name : Text) (from : Option Position) (settled : ℕ)
+    (r : Run) (stopped : Stopped) (p : Position) : Type 0 where
   pub first : SourceView
   pub last : SourceView
   pub reading : WasRead Came (Found name) name first last
   pub found : Finds (start_of settled from) r.file.key first last (min stopped.written settled) p
 
--- it stopped with this fault, whether it was to make a position or not
-abbrev pub HaltsDecryption : Identity → Ports → Ports → FileFault → Type 0
-HaltsDecryption i before after fault = (policy : PositionPolicy) × (run : Option Run) × (stop : Stopped)
-    × (stop.fault ≡ fault) × DecryptStops policy (allows_by i) (refuses_by i) before after run stop
+-- A run stopped with this fault, and at this position: the run's own, if positions are kept; or it
+-- dropped that, and IN was read once more.
+abbrev pub StopsText : (Came : Outcome → Type 0) → Text → PositionPolicy → (from : Option Position)
+    → (Stops : PositionPolicy → Option Run → Stopped → Type 0)
+    → (settled : ℕ) → FileFault → Option Position → Type 0
+StopsText Came name keep from Stops settled fault position =
+    (run : Option Run) × (stop : Stopped) × (stop.fault ≡ fault)
+    × ((Stops keep run stop × (stop.position ≡ position)) ⊎ (Stops Dropped run stop
+    × IsSomeAnd run (λ r. IsSomeAnd position (FindsAgain Came name from settled r stop))))
 
-abbrev pub HaltsResumption : Identity → Position → ResumePorts → ResumePorts → FileFault → Type 0
-HaltsResumption i from before after fault = (policy : PositionPolicy) × (run : Option Run)
-    × (stop : Stopped) × (stop.fault ≡ fault)
-    × ResumeStops (allows_by i) from before after policy (refuses_by i) run stop
-
--- it stopped at this position, or dropped it, and it was found by reading IN once more
-abbrev pub StandsDecryption : (Came : Outcome → Type 0) → Text → Identity → Position → Ports → Ports
-    → Type 0
-StandsDecryption Came name i p before after =
-    ((policy : PositionPolicy) × (run : Option Run) × (stop : Stopped) × (stop.position ≡ Some p)
-    × DecryptStops policy (allows_by i) (refuses_by i) before after run stop)
-    ⊎ ((r : Run) × (stop : Stopped)
-    × DecryptStops Dropped (allows_by i) (refuses_by i) before after (Some r) stop
-    × FindsAgain Came name None r after.sink.taken.bytes stop p)
-
-abbrev pub StandsResumption : (Came : Outcome → Type 0) → Text → Identity → (from p : Position)
-    → ResumePorts → ResumePorts → Type 0
-StandsResumption Came name i from p before after =
-    ((policy : PositionPolicy) × (run : Option Run) × (stop : Stopped) × (stop.position ≡ Some p)
-    × ResumeStops (allows_by i) from before after policy (refuses_by i) run stop)
-    ⊎ ((r : Run) × (stop : Stopped)
-    × ResumeStops (allows_by i) from before after Dropped (refuses_by i) (Some r) stop
-    × FindsAgain Came name (Some from) r after.main.sink.taken.bytes stop p)
-
--- that of `decrypt`, which names its run and IN
+-- that of `decrypt`, which names IN
 abbrev pub decrypt_engine : (Came : Outcome → Type 0) → Text → PositionPolicy → Identity → Engine
 decrypt_engine Came name keep i = record {
   ends = λ before after. (done : Done) × (run : Run)
       × DecryptEnds (allows_by i) before after done run;
-  stops = λ position fault before after. (written : ℕ) × (run : Option Run)
-      × DecryptStops keep (allows_by i) (refuses_by i) before after run
-      (record { fault = fault; written = written; position = position });
-  halts = λ fault before after. HaltsDecryption i before after fault;
-  stands = StandsDecryption Came name i;
+  stops = λ settled fault position before after. StopsText Came name keep None
+      (λ policy. DecryptStops policy (allows_by i) (refuses_by i) before after)
+      settled fault position;
 }
 
 -- the ports of a source and a sink of one set of files: what they show, and how often they failed
@@ -178,11 +151,10 @@ module _ (IsPorts : Ports → Type 0) (Came : Outcome → Type 0) where
   resume_engine name keep i from old_name = record {
     ends = Beside old_name from (λ before after. (done : Done) × (run : Run)
         × ResumeEnds (allows_by i) from before after done run);
-    stops = λ position fault. Beside old_name from (λ before after. (written : ℕ) × (run : Option Run)
-        × ResumeStops (allows_by i) from before after keep (refuses_by i) run
-        (record { fault = fault; written = written; position = position }));
-    halts = λ fault. Beside old_name from (λ before after. HaltsResumption i from before after fault);
-    stands = λ p. Beside old_name from (StandsResumption Came name i from p);
+    stops = λ settled fault position. Beside old_name from (λ before after.
+        StopsText Came name keep (Some from)
+        (λ policy. ResumeStops (allows_by i) from before after policy (refuses_by i))
+        settled fault position);
   }
 
 -- ---- What becomes of OUT and of the file of `--save`, by the engine that a command runs.
@@ -268,28 +240,29 @@ input_of other = None
 
 -- a reading: it begins with the length of the input, which is that of what it has to give, if contracts
 -- see that; then counts what is read of it, and ends
-abbrev pub ShowsRun : (coming left : Supply) → (old new : Option (List ShownOne)) → Type 0
-ShowsRun coming left old new = (size : Option ℕ)
-    × IfSome coming.left (λ bytes. size ≡ Some (length bytes)) × ShowsReading size coming left old new
+abbrev pub ShowsRun : Option ℕ → (coming left : Supply) → (old new : Option (List ShownOne)) → Type 0
+ShowsRun size coming left old new =
+    IfSome coming.left (λ bytes. size ≡ Some (length bytes)) × ShowsReading size coming left old new
 
 -- one reading, to its end if all was done; if it stopped, perhaps a second one, by which its position
 -- was looked for
-pub record ShowsReadings (coming left : Supply) (old new : Option (List ShownOne))
+pub record ShowsReadings (size : Option ℕ) (coming left : Supply) (old new : Option (List ShownOne))
     (ended : Result (Unit {0}) Ending) : Type 0 where
   pub middle : Option (List ShownOne)
-  pub first : ShowsRun coming left old middle
+  pub first : ShowsRun size coming left old middle
   pub whole : OnOk ended (IsAtEnd left × (new ≡ middle))
   pub again : (new ≡ middle)
-      ⊎ ((coming : Supply) × (left : Supply) × ShowsRun coming left middle new)
+      ⊎ ((size : Option ℕ) × (coming : Supply) × (left : Supply) × ShowsRun size coming left middle new)
 
--- the readings of the file of this name, which is found so
+-- the readings of the file of this name, which is found so, and is so long as the set of files said
 pub record ShowsProgress (Came : Outcome → Type 0) (old new : Option (List ShownOne)) (name : Option Text)
     (ended : Result (Unit {0}) Ending) : Type 0 where
+  pub size : Option ℕ
   pub coming : Supply
   pub left : Supply
   pub unread : coming.given ≡ []
-  pub found : IsSomeAnd name (λ from. Came (Found from coming.left))
-  pub shown : ShowsReadings coming left old new ended
+  pub found : IsSomeAnd name (λ from. Came (Found from coming.left size))
+  pub shown : ShowsReadings size coming left old new ended
 
 -- The position was put to its file, at once if that was a new one beside it, and the ending says
 -- whether that failed.
@@ -310,6 +283,18 @@ IsSavedAs ending save p puts = ⊥
 abbrev pub LacksOne : Option Text → Option Position → Type 0
 LacksOne (Some name) (Some p) = ⊥
 LacksOne save position = Unit {0}
+
+-- a position isn't saved: it or a name isn't there, or the ending says why
+abbrev pub IsNotDue : Ending → Option Text → Option Position → Type 0
+IsNotDue (Fault fault) save position = LacksOne save position
+IsNotDue (Unsaved fault second) (Some name) (Some p) = IsMemoryOr Write second ⊎ (second ≡ Read)
+IsNotDue other save position = ⊥
+
+-- or it is: it was put to its file, so much of OUT is certain, and this stands under the name then
+pub record IsStored (durability : Durability) (save : Option Text) (settled : ℕ) (position : Option Position)
+    (ending : Ending) (rest : List Entry) (saved : SavedFile) : Type 0 where
+  pub put : HasPut durability position ending saved
+  pub is : IsSomeAnd position (λ p. IsSavedAs ending save p rest × (p.index * chunk_length ≤ settled))
 
 -- no output was ended, or one that took nothing and is untouched
 abbrev pub SparesOut : (before after : Option EndedFile) → Type 0
@@ -369,68 +354,57 @@ module _ (IsPorts : Ports → Type 0) (Came : Outcome → Type 0) where
     pub safe : durability ≡ Synced → IsOnDisk run.out
     pub puts : PutsOnly (entry p.to run.out.took ∷ []) before after
 
-  -- It stopped with the fault that is reported, and the output is untouched if its sink took
-  -- nothing, and closed otherwise; or the end of the output failed, as did a call, if it is a regular
-  -- file.
-  pub record HasEngineStopped (engine : Engine) (p : Paths) (ending : Ending)
-      (ended : Option EndedFile) : Type 0 where
-    pub run : Returned p ended
+  -- The engine stopped with this fault and at this position. The output is untouched if its sink took
+  -- nothing, and closed otherwise; and how much of it is certain was asked, if a position is to be saved.
+  pub record Stopping (engine : Engine) (p : Paths) (durability : Durability) (settled : ℕ)
+      (fault : FileFault) (position : Option Position) {ended : Option EndedFile}
+      (run : Returned p ended) : Type 0 where
+    pub promise : engine.stops settled fault position run.before run.after
+    pub untouched : run.out.took ≡ [] → IsUntouched run.after.sink.failed run.out
+    pub kept : (run.out.took ≡ [] → ⊥) → run.out.is_closed ≡ true
+    pub certain : is_some p.save ≡ true → Came (Settled durability run.out.took settled)
+
+  -- It ended, but the output couldn't be, as the set of files said; if it is a regular file, a call has
+  -- failed.
+  pub record Unended (engine : Engine) (p : Paths) (fault : FileFault) (position : Option Position)
+      {ended : Option EndedFile} (run : Returned p ended) : Type 0 where
+    pub promise : engine.ends run.before run.after
+    pub is : (fault ≡ Write) × (position ≡ None)
+    pub said : Came (Unwritten p.to)
+    pub caused : IfSome run.out.file (λ f. 0 < run.out.failed)
+
+  -- It stopped with the fault that is reported, or its output couldn't be ended. What its sink took was
+  -- put, or nothing was; and then its position, if it has one and there is a file for it, or the ending
+  -- says why not. If it isn't saved no file was to be replaced: what was done is of the order `done`.
+  pub record HasEngineStopped (engine : Engine) (p : Paths) (durability : Durability) (done : List Event)
+      (ending : Ending) (before after : FilesView) : Type 0 where
+    pub run : Returned p after.ended
     pub fault : FileFault
     pub reported : IsEndingOf fault ending
-    pub cause : (engine.halts fault run.before run.after
-        × (run.out.took ≡ [] → IsUntouched run.after.sink.failed run.out)
-        × ((run.out.took ≡ [] → ⊥) → run.out.is_closed ≡ true))
-        ⊎ (engine.ends run.before run.after × (fault ≡ Write)
-        × IfSome run.out.file (λ f. 0 < run.out.failed))
-
-  -- What was put, once it stopped: what the output's sink took, if it took anything, unless the end of
-  -- the output failed; and then this.
-  pub record HasPutRest (p : Paths) (rest : List Entry) (before after : FilesView) : Type 0 where
-    pub run : Returned p after.ended
+    pub position : Option Position
+    pub settled : ℕ
+    pub cause : Stopping engine p durability settled fault position run
+        ⊎ Unended engine p fault position run
     pub outs : List Entry
+    pub rest : List Entry
     pub puts : PutsOnly (outs ++ rest) before after
     pub out : (outs ≡ []) ⊎ ((outs ≡ entry p.to run.out.took ∷ []) × (run.out.took ≢ []))
+    pub saved : ((rest ≡ []) × IsNotDue ending p.save position × Follows done before.events after.events)
+        ⊎ IsStored durability p.save settled position ending rest after.saved
 
-  -- No position is saved: no file is named for it, or the engine stopped without one, or ended and OUT
-  -- couldn't be; or there are both, and the ending says that it isn't.
-  abbrev pub SavesNone : Engine → Paths → Ending → Option EndedFile → Type 0
-  SavesNone engine p (Fault fault) ended = (run : Returned p ended)
-      × (((position : Option Position) × LacksOne p.save position
-      × engine.stops position fault run.before run.after)
-      ⊎ (engine.ends run.before run.after × (fault ≡ Write)))
-  SavesNone engine p (Unsaved fault second) ended = (run : Returned p ended) × (is_some p.save ≡ true)
-      × (position : Position) × engine.stands position run.before run.after
-      × (IsMemoryOr Write second ⊎ (second ≡ Read))
-  SavesNone engine p other ended = ⊥
-
-  -- it stopped, and the position where it stands was to be put to its file, which the ending says if it
-  -- failed; the set of files had said that OUT holds what is before it for certain
-  pub record HasSaved (engine : Engine) (p : Paths) (durability : Durability) (ending : Ending)
-      (before after : FilesView) : Type 0 where
-    pub run : Returned p after.ended
-    pub position : Position
-    pub stands : engine.stands position run.before run.after
-    pub put : HasPut durability (Some position) ending after.saved
-    pub settled : ℕ
-    pub certain : Came (Settled run.out.took settled)
-    pub within : position.index * chunk_length ≤ settled
-    pub rest : List Entry
-    pub is : IsSavedAs ending p.save position rest
-    pub puts : HasPutRest p rest before after
-
--- It ended as if no engine ran: 26 and 27 have a reason, no output is touched, and nothing was put.
--- `Failed` says that a source of the files failed.
-pub record HasNotBegun (asked : Request) (ending : Ending) (before after : FilesView) (Failed : Type 0)
-    : Type 0 where
+-- It ended as if no engine ran: 26 and 27 have a reason, no output is touched, nothing was put, and no
+-- file was to be replaced.
+pub record HasNotBegun (asked : Request) (ending : Ending) (before after : FilesView) : Type 0 where
   pub early : EndsBefore (CameSince before after) asked ending
-  pub reason : HasReason (CameSince before after) Failed ending
+  pub reason : HasReason (CameSince before after) ending
   pub spared : SparesOut before.ended after.ended
   pub none : PutsOnly [] before after
+  pub order : Follows (order_asked asked).done before.events after.events
 
--- What stands before and after a command: `IsPorts` says which are the ports of its files, `Failed` that
--- a source of these failed, `Unshown` that the progress is as it was, and `Progress` what was shown of
--- it, by the name of IN and by how the command ended.
-module _ (IsPorts : Ports → Type 0) (asked : Request) (before after : FilesView) (Failed Unshown : Type 0)
+-- What stands before and after a command: `IsPorts` says which are the ports of its files, `Unshown` that
+-- the progress is as it was, and `Progress` what was shown of it, by the name of IN and by how the
+-- command ended.
+module _ (IsPorts : Ports → Type 0) (asked : Request) (before after : FilesView) (Unshown : Type 0)
     (Progress : Option Text → Result (Unit {0}) Ending → Type 0) (ended : Result (Unit {0}) Ending) where
   abbrev OfIts : (Engine → Paths → Type 0) → Type 0
   OfIts = OfEngine IsPorts (CameSince before after) (CameFirst before after) asked
@@ -440,30 +414,17 @@ module _ (IsPorts : Ports → Type 0) (asked : Request) (before after : FilesVie
     pub done : OnOk ended (OfIts (λ engine paths.
         HasEngineEnded IsPorts (CameSince before after) engine paths (durability_of asked) before after))
     -- It ended as if no engine ran; or the engine stopped, or its output couldn't be ended.
-    pub stopped : IfErr ended (λ ending. HasNotBegun asked ending before after Failed
-        ⊎ OfIts (λ engine paths.
-        HasEngineStopped IsPorts (CameSince before after) engine paths ending after.ended))
-    -- After a stop its position was saved; or it wasn't, since there is none, or no file for it, or as
-    -- the ending says.
-    pub saved : IfErr ended (λ ending. HasNotBegun asked ending before after Failed
-        ⊎ (OfIts (λ engine paths. SavesNone IsPorts (CameSince before after) engine paths ending after.ended
-        × HasPutRest IsPorts (CameSince before after) paths [] before after)
-        ⊎ OfIts (λ engine paths. HasSaved IsPorts (CameSince before after) engine paths
-        (durability_of asked) ending before after)))
-    -- No file was to be replaced but for that.
-    pub replaced : IfErr ended (λ ending. Follows (order_asked asked).done before.events after.events
-        ⊎ OfIts (λ engine paths. HasSaved IsPorts (CameSince before after) engine paths
-        (durability_of asked) ending before after))
+    pub stopped : IfErr ended (λ ending. HasNotBegun asked ending before after
+        ⊎ OfIts (λ engine paths. HasEngineStopped IsPorts (CameSince before after) engine paths
+        (durability_of asked) (order_asked asked).done ending before after))
     -- The command line is refused for this alone, and the ending says for what.
     pub blamed : IfErr ended (λ e. IsUsage e → IsBlamed (CameSince before after) asked e)
     -- What is opened and made is a beginning of the command's order.
     pub order : Follows (order_asked asked).whole before.events after.events
     -- If all is done, it is all of it but what a stop adds.
     pub order_done : OnOk ended (after.events ≡ before.events ++ (order_asked asked).done)
-    -- If the command line is refused, it is a beginning of that, and only what the words are judged by,
-    -- unless the set of files found what no name shows: for that, the output has to be opened.
-    pub order_usage : IfErr ended
-        (λ e. IsUsage e → Follows (order_asked asked).done before.events after.events)
+    -- If the command line is refused, it is a beginning of what the words are judged by, unless the set of
+    -- files found what no name shows: for that, the output has to be opened.
     pub order_judged : IfErr ended
         (λ e. IsUsage e → Follows (order_asked asked).judged before.events after.events
         ⊎ CameSince before after Unfit)

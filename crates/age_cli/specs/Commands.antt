@@ -31,10 +31,12 @@ use Rattle.clap.specs.Words.{Text}
 
 -- A file of this name was found so, and its reading is over. Its source was this one at first, of which
 -- nothing was read so far, and that one at the end.
-pub record WasRead (Came : Outcome → Type 0) (How : Option (List ℕ) → Outcome) (name : Text)
+pub record WasRead (Came : Outcome → Type 0) (How : Option (List ℕ) → Option ℕ → Outcome) (name : Text)
     (first last : SourceView) : Type 0 where
   pub unread : first.supply.given ≡ []
-  pub found : Came (How first.supply.left)
+  -- how long it is, if the set of files can say
+  pub size : Option ℕ
+  pub found : Came (How first.supply.left size)
   pub over : Came (Gave (reading_of name last))
 
 -- ---- What `encrypt` makes a file of.
@@ -79,9 +81,9 @@ HoldsNoPosition held = (256 < length held) ⊎ NoPosition held
 
 -- the earlier output is found; at chunk 0 nothing of it is needed, and one that isn't there counts as
 -- empty
-abbrev pub old_found : Position → Text → Option (List ℕ) → Outcome
-old_found position name left =
-    if position.index == 0 then FoundOrEmpty name left else Found name left
+abbrev pub old_found : Position → Text → Option (List ℕ) → Option ℕ → Outcome
+old_found position name left size =
+    if position.index == 0 then FoundOrEmpty name left size else Found name left size
 
 -- ---- How a report is printed: lines that end with LF, numbers in decimal.
 
@@ -109,22 +111,26 @@ Reports input_old input_new output_old output_new =
     (r : Report) × file.Inspects input_old input_new r
     × Appends output_old output_new (report_text r)
 
+-- how long an input is, if that can be believed: a file of no length may give bytes, as in /proc
+abbrev pub believed : Option ℕ → Option ℕ
+believed None = None
+believed (Some size) = if size == 0 then None else Some size
+
 -- the report of an input that was read to its end, or, if its length is known, of its header and that
 abbrev pub ReportsAs : Option ℕ → Supply → Supply → Report → Type 0
 ReportsAs None old new r = file.Inspects old new r
 ReportsAs (Some size) old new r = file.InspectsFront size old new r
 
--- A report was written: that of what the file of this name gave, and of all that it had to give, if
--- contracts see that.
+-- A report was written: that of what the file of this name gave, or of its header and of how long it is
+-- by the set of files; and of all that it had to give, if contracts see that.
 pub record ReportsFile (Came : Outcome → Type 0) (name : Text) (output_old output_new : Taken)
     : Type 0 where
   pub r : Report
-  pub size : Option ℕ
   pub first : SourceView
   pub last : SourceView
   pub reading : WasRead Came (Found name) name first last
   pub whole : IfSome first.supply.left (λ bytes. IsReport bytes r)
-  pub reports : ReportsAs size first.supply last.supply r
+  pub reports : ReportsAs (believed reading.size) first.supply last.supply r
   pub wrote : Appends output_old output_new (report_text r)
 
 -- the file of this name gave bytes that have this fault

@@ -140,14 +140,14 @@ SparesOthers words old new status = ((asked : Request) → Requests words asked
 
 -- A run over files in memory does so: of these ports, with a meter and sinks and a source of these
 -- types.
-abbrev pub RunsKeepOut : (Ports → Type 0) → (Failed Input Output Faults Progress : Type 0)
+abbrev pub RunsKeepOut : (Ports → Type 0) → (Input Output Faults Progress : Type 0)
     → (old new : Shelf) → Type 0
-RunsKeepOut IsPorts Failed Input Output Faults Progress old new =
+RunsKeepOut IsPorts Input Output Faults Progress old new =
     (words : List Text) (before after : World) (faults_old faults_new : SinkView)
     (input : Input × Input) (output : Output × Output) (faults : Faults × Faults)
     (progress : Progress × Progress) (shown : Option (List Shown) × Option (List Shown))
     (status : ℕ) → before.files ≡ seen_in old → after.files ≡ seen_in new
-    → Runs words IsPorts before after faults_old faults_new Failed (faults.1 ≡ faults.0)
+    → Runs words IsPorts before after faults_old faults_new (faults.1 ≡ faults.0)
     (input.1 ≡ input.0) (output.1 ≡ output.0) (progress.1 ≡ progress.0)
     (ShowsProgress (CameSince before.files after.files) shown.0 shown.1) status
     → let was = entry_of old.entries in let is = entry_of new.entries in
@@ -158,16 +158,16 @@ RunsKeepOut IsPorts Failed Input Output Faults Progress old new =
 
 -- Words that ask neither for help nor for the version, and make no request, are refused, or memory
 -- is, and nothing is written; nor does any run write that refuses its words.
-abbrev pub RefusesInSilence : (Ports → Type 0) → (Failed Input Output Progress : Type 0) → Type 0
-RefusesInSilence IsPorts Failed Input Output Progress = (words : List Text) (before after : World)
+abbrev pub RefusesInSilence : (Ports → Type 0) → (Input Output Progress : Type 0) → Type 0
+RefusesInSilence IsPorts Input Output Progress = (words : List Text) (before after : World)
     (input : Input × Input) (output : Output × Output)
     (progress : Progress × Progress) (shown : Option (List Shown) × Option (List Shown))
     (ended : Result (Unit {0}) Ending)
     → let Showing = ShowsProgress (CameSince before.files after.files) shown.0 shown.1 in
-    (Declines words IsPorts before after Failed (input.1 ≡ input.0)
+    (Declines words IsPorts before after (input.1 ≡ input.0)
     (output.1 ≡ output.0) (progress.1 ≡ progress.0) Showing ended
     → (IsForHelp words → ⊥) → IsErrAnd ended IsRefusal × (output.1 ≡ output.0))
-    × (Obeys words IsPorts before after Failed (input.1 ≡ input.0)
+    × (Obeys words IsPorts before after (input.1 ≡ input.0)
     (output.1 ≡ output.0) (progress.1 ≡ progress.0) Showing ended
     → IfErr ended (λ e. IsUsage e → output.1 ≡ output.0))
 
@@ -220,12 +220,12 @@ IsForText (Decrypt d) = Unit {0}
 IsForText (Resume r) = Unit {0}
 IsForText other = ⊥
 
-module _ (IsPorts : Ports → Type 0) (Failed Progress : Type 0) where
+module _ (IsPorts : Ports → Type 0) (Progress : Type 0) where
   -- a command did this, with a meter of this type, and ended so
   abbrev pub Obeyed : Request → FilesView → FilesView → Result (Unit {0}) Ending → Type 0
   Obeyed asked before after ended = (progress : Progress × Progress)
       × (shown : Option (List Shown) × Option (List Shown))
-      × Acts IsPorts asked before after Failed (progress.1 ≡ progress.0)
+      × Acts IsPorts asked before after (progress.1 ≡ progress.0)
       (ShowsProgress (CameSince before after) shown.0 shown.1) ended
 
   -- If a decryption is done, OUT is the text whose age file IN gave.

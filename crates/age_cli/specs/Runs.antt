@@ -1,10 +1,9 @@
 -- What a run does with its words, its files and its streams, and what its status says.
 use Rattle.std.specs.Prelude.{◌≡◌, ◌⊎◌, ◌∷◌, ℕ, true, List, [], Option, Some, None, is_some}
 use Rattle.std.specs.Prelude.{Result, OnOk, IfErr, IsErrAnd}
-use Rattle.age_io.specs.Supply.{Supply}
 use Rattle.age_io.specs.Taken.{Appends}
 use Rattle.clap.specs.Words.{Text}
-use Rattle.age_io.specs.Io.{SinkView}
+use Rattle.age_io.specs.Io.{SourceView, SinkView}
 use Rattle.age_stanza.specs.declared.fault.HeadFault.{HeadFault}
 use Rattle.age_fault.specs.Faults.{HasRisen}
 use Rattle.age_fault.specs.declared.fault.FileFault.TheVariants.{Read, Write, Memory}
@@ -24,13 +23,13 @@ use Rattle.age_cli.specs.Commands.{Reports, ReportsFile, FailsReport, GaveFault}
 
 -- ---- What a run does of what its words ask for.
 
--- what a run works with: the set of files, what the input gave and has to give, and the output
+-- what a run works with: the set of files, the input and the output
 pub record World : Type 0 where
   pub files : FilesView
-  pub input : Supply
+  pub input : SourceView
   pub output : SinkView
 
-abbrev pub world : FilesView → Supply → SinkView → World
+abbrev pub world : FilesView → SourceView → SinkView → World
 world files input output = record { files = files; input = input; output = output }
 
 -- words are refused, or no request could be read of them; or memory was refused meanwhile
@@ -56,19 +55,23 @@ pub record Reported (ended : Result (Unit {0}) Ending) (Report Unprinted : Type 
   pub stops : IfErr ended (FailsReport IsOfHeader)
   pub unprinted : IfErr ended (λ e. FailsWriting output_old output_new e ⊎ Unprinted)
 
--- `IsPorts` says which are the ports of the files, and `Failed` that a source of them failed. `Unread`,
--- `Unprinted` and `Unshown` say that the input, the output and the progress are as they were, and
--- `Progress` what was shown of the progress, by the name of IN and by how the run ended.
+-- `IsPorts` says which are the ports of the files. `Unread`, `Unprinted` and `Unshown` say that the input,
+-- the output and the progress are as they were, and `Progress` what was shown of the progress, by the
+-- name of IN and by how the run ended.
 module _ (words : List Text) (IsPorts : Ports → Type 0) (before after : World)
-    (Failed Unread Unprinted Unshown : Type 0)
+    (Unread Unprinted Unshown : Type 0)
     (Progress : Option Text → Result (Unit {0}) Ending → Type 0) (ended : Result (Unit {0}) Ending) where
+  -- the input was read to its end, and its report was written; 26 comes only if its last pull failed
+  abbrev pub ReportedInput : Type 0
+  ReportedInput = Reported ended (Reports before.input.supply after.input.supply
+      before.output.taken after.output.taken) Unprinted
+      (ReportsFault before.input.supply after.input.supply) before.output after.output
+      × IfErr ended (λ e. e ≡ Fault Read → after.input.failing ≡ true)
+
   -- Without words the input is reported.
   pub record ReportsInput : Type 0 where
     pub none : words ≡ []
-    -- It was read to its end, and its report was written.
-    pub report : Reported ended
-        (Reports before.input after.input before.output.taken after.output.taken) Unprinted
-        (ReportsFault before.input after.input) before.output after.output
+    pub report : ReportedInput
     -- No file was opened, made or changed.
     pub untouched : after.files ≡ before.files
     -- No progress was shown.
@@ -79,15 +82,12 @@ module _ (words : List Text) (IsPorts : Ports → Type 0) (before after : World)
   -- file is opened. Neither puts anything under a name. Other commands write nothing to the output, and
   -- none of them reads the input.
   abbrev pub DoesOther : Request → Type 0
-  DoesOther (Inspect None) =
-      Reported ended (Reports before.input after.input before.output.taken after.output.taken)
-      Unprinted (ReportsFault before.input after.input) before.output after.output
-      × (after.files ≡ before.files)
+  DoesOther (Inspect None) = ReportedInput × (after.files ≡ before.files)
   DoesOther (Inspect (Some name)) =
       let Came = CameSince before.files after.files in
       Unread × Reported ended (ReportsFile Came name.now before.output.taken after.output.taken)
       Unprinted (GaveFault Came name.now) before.output after.output
-      × IfErr ended (λ e. e ≡ Fault Read → IsUnread Came Failed ⊎ Came Unfit)
+      × IfErr ended (λ e. e ≡ Fault Read → IsUnread Came ⊎ Came Unfit)
       × Does (Opened name.now ∷ []) before.files after.files
   DoesOther (Drill d) = Unread × OnOk ended (after.output.settled ≡ true)
       × IfErr ended (λ e. IsUsage e → Unprinted) × (d.clear ≡ is_some (option_text d.pass)
@@ -100,7 +100,7 @@ module _ (words : List Text) (IsPorts : Ports → Type 0) (before after : World)
     pub asked : Request
     pub made : Requests words asked
     -- What was done with files.
-    pub acts : Acts IsPorts asked before.files after.files Failed Unshown Progress ended
+    pub acts : Acts IsPorts asked before.files after.files Unshown Progress ended
     -- What was written to the output.
     pub answers : DoesOther asked
 
@@ -128,11 +128,10 @@ module _ (words : List Text) (IsPorts : Ports → Type 0) (before after : World)
 -- ---- What a run did.
 
 -- What stands before and after a run with this status, of its words, and what was put to `faults`.
--- `Failed` says that a source of the files failed; `Quiet`, `Unread`, `Unprinted` and `Unshown` that
--- `faults`, the input, the output and the progress are as they were, and `Progress` what was shown of
--- the progress.
+-- `Quiet`, `Unread`, `Unprinted` and `Unshown` say that `faults`, the input, the output and the progress
+-- are as they were, and `Progress` what was shown of the progress.
 pub record Runs (words : List Text) (IsPorts : Ports → Type 0) (before after : World)
-    (faults_old faults_new : SinkView) (Failed Quiet Unread Unprinted Unshown : Type 0)
+    (faults_old faults_new : SinkView) (Quiet Unread Unprinted Unshown : Type 0)
     (Progress : Option Text → Result (Unit {0}) Ending → Type 0) (status : ℕ) : Type 0 where
   -- How it ended, which the status says: 0 means that all was done, 2 that the words are refused,
   -- and 1 that it stopped.
@@ -143,4 +142,4 @@ pub record Runs (words : List Text) (IsPorts : Ports → Type 0) (before after :
   -- Otherwise the line of a fault does, or the lines of two, unless the sink fails.
   pub reported : IfErr ended
       (λ e. ReportsEnding e faults_old.taken faults_new.taken faults_old.failed faults_new.failed)
-  pub obeys : Obeys words IsPorts before after Failed Unread Unprinted Unshown Progress ended
+  pub obeys : Obeys words IsPorts before after Unread Unprinted Unshown Progress ended

@@ -9,13 +9,13 @@ ghost use Rattle.age_cli_args.specs.declared.request.Request.TheVariants.{Decryp
 ghost use Rattle.age_command.specs.Identities.{IsEnough, IsSecretGiven, file_bytes, file_of, allows_by};
 ghost use Rattle.age_command.specs.Identities.{refuses_by};
 ghost use Rattle.age_io.specs.Io.{Named};
-ghost use Rattle.age_fileset.specs.FileSet.{CameSince};
+ghost use Rattle.age_fileset.specs.FileSet.{CameSince, FilesView, Outcome};
 ghost use Rattle.age_command.specs.Orders.{opening_event, NamesTwice, order_asked};
 ghost use Rattle.age_command.specs.Endings.{Tells};
-ghost use Rattle.age_command.specs.Files.{SourceFails};
 ghost use Rattle.age_cli.specs.Acts.{Acts, PortsOf, ShowsProgress, ShowsReadings, ShowsRun};
+ghost use Rattle.age_cli.specs.Acts.{decrypt_engine, kept_for, paths_of};
 ghost use Rattle.age_cli.specs.inner.Openings.{BlamesNames, Compares, IsReadAs, Judges};
-ghost use Rattle.age_cli.specs.inner.Rereadings.{DecryptsOpened};
+ghost use Rattle.age_cli.specs.inner.Rereadings.{RunsEngine};
 
 use crate::output::{Content, Output, begin_meter, end_meter, open_both};
 use crate::reread::{Decrypted, can_reread, conclude_decryption, positions_at_first};
@@ -81,7 +81,7 @@ pub(crate) fn read_secret<F: FileSet>(
     ensures enough { IfOk result (λ secret. IsEnough (CameSince (F.view files.old)
         (F.view files.new)) choice.now (file_bytes secret)) }
     ensures judges { Judges (opening_event (file_of choice.now)) (F.view files.old) (F.view files.new)
-        (is_file_named_twice ≡ true) (BlamesNames is_file_named_twice) (SourceFails F.In.view) result }
+        (is_file_named_twice ≡ true) (BlamesNames is_file_named_twice) result }
 {
     if is_file_named_twice {
         return Err(Ending::Usage(Usage::SameFile));
@@ -115,7 +115,7 @@ fn open_text<F: FileSet, P: Meter>(
     ensures began { (name : List ℕ) → F.In.began source (Named name)
         → F.In.began result.source (Named name) }
     ensures silent { asked.now.progress ≡ Silent → progress.new ≡ progress.old }
-    ensures shown { asked.now.progress ≡ Shown → ShowsRun (F.In.view source).supply
+    ensures shown { asked.now.progress ≡ Shown → ShowsRun (F.size source) (F.In.view source).supply
         (F.In.view result.source).supply (P.shown progress.old) (P.shown progress.new) }
 {
     match asked.progress {
@@ -157,10 +157,15 @@ fn decrypt_opened<F: FileSet, E: Sink, P: Meter>(
     requires { F.In.began source (Named asked.now.from.now) }
     ensures announced { Tells announced.new result (E.view faults.old) (E.view faults.new)
         (faults.new ≡ faults.old) }
-    ensures opened { DecryptsOpened (PortsOf F.In.view F.Out.view)
-        (CameSince (F.view files.old) (F.view files.new)) asked.now identity
+    ensures runs { (first : FilesView)
+        → ((o : Outcome) → CameSince (F.view files.old) (F.view files.new) o
+        → CameSince first (F.view files.new) o)
+        → RunsEngine (PortsOf F.In.view F.Out.view) (CameSince first (F.view files.new))
+        (decrypt_engine (CameSince first (F.view files.new)) asked.now.from.now
+        (kept_for (option_text asked.now.save)) identity)
+        (paths_of asked.now) asked.now.durability asked.now.progress
         (ports (F.In.view source) (F.Out.view out.out)) (F.view files.old) (F.view files.new)
-        (progress.new ≡ progress.old) (λ coming left ended. ShowsReadings coming left
+        (progress.new ≡ progress.old) (λ coming left ended. ShowsReadings (F.size source) coming left
         (P.shown progress.old) (P.shown progress.new) ended) result }
 {
     read_again::<Identity>();
@@ -200,7 +205,7 @@ pub fn decrypt_file<F: FileSet, E: Sink, P: Meter>(
     ensures announced { Tells announced.new result (E.view faults.old) (E.view faults.new)
         (faults.new ≡ faults.old) }
     ensures acts { Acts (PortsOf F.In.view F.Out.view) (Decrypt asked.now) (F.view files.old)
-        (F.view files.new) (SourceFails F.In.view) (progress.new ≡ progress.old)
+        (F.view files.new) (progress.new ≡ progress.old)
         (ShowsProgress (CameSince (F.view files.old) (F.view files.new)) (P.shown progress.old)
         (P.shown progress.new)) result }
 {

@@ -8,7 +8,7 @@ ghost use Rattle.age_fileset.specs.FileSet.{Opened, Does, CameSince, HasGiven, H
 ghost use Rattle.age_cli_args.specs.Requests.{option_text};
 ghost use Rattle.age_cli_args.specs.declared.request.Request.TheVariants.{Encrypt};
 ghost use Rattle.age_command.specs.Endings.{EndsEarly, is_usage, Tells};
-ghost use Rattle.age_command.specs.Files.{SourceFails, HasReason, HoldsOnly};
+ghost use Rattle.age_command.specs.Files.{HasReason, HoldsOnly};
 ghost use Rattle.age_file.specs.Encrypts.{Encrypts, EncryptFails};
 ghost use Rattle.age_file.specs.Runs.{ports};
 ghost use Rattle.age_cli_args.specs.declared.request.ProgressOption.TheVariants.{Silent, Shown};
@@ -16,7 +16,8 @@ ghost use Rattle.age_command.specs.Identities.{IsPassphraseIn, file_bytes};
 ghost use Rattle.age_command.specs.Files.{without_line_feed};
 ghost use Rattle.age_keys.specs.Scrypt.{IsAllowed};
 ghost use Rattle.age_command.specs.Orders.{NamesTwice, order_asked, random_name};
-ghost use Rattle.age_command.specs.declared.ending.Ending.TheVariants.{Usage as UsageEnding};
+ghost use Rattle.age_command.specs.declared.ending.Ending.TheVariants.{Fault, Usage as UsageEnding};
+ghost use Rattle.age_fault.specs.declared.fault.FileFault.TheVariants.{Read, Write};
 ghost use Rattle.age_command.specs.declared.ending.Usage.TheVariants.{BadPassphraseFile, BadRandomFile};
 ghost use Rattle.age_cli.specs.Acts.{Acts, IsBlamed, IsUnfit, PortsOf, ShowsProgress, ShowsRun};
 ghost use Rattle.age_cli.specs.Commands.{HoldsNoPassphrase, HoldsNoRandom, MakesSecret};
@@ -54,7 +55,8 @@ fn random_in<S: Source>(alloc: Global, source: &mut S) -> Result<FileRandom, End
         × IsAtEnd (S.view source.new).supply × (length bytes < 48))) }
     ensures began { (from : Origin) → S.began source.old from → S.began source.new from }
     ensures early { IfErr result EndsEarly }
-    ensures reason { IfErr result (HasReason (λ _. ⊥) (SourceFails S.view)) }
+    ensures failed { IfErr result (λ e. e ≡ Fault Read → (S.view source.new).failing ≡ true) }
+    ensures only { IfErr result (λ e. e ≡ Fault Write → ⊥) }
 {
     let bytes = read_first(alloc, source, RANDOM_LEN)?;
     match random_of(bytes.as_slice()) {
@@ -73,8 +75,7 @@ fn read_random<F: FileSet>(alloc: Global, files: &mut F, name: &str) -> Result<F
         × HoldsOnly (CameSince (F.view files.old) (F.view files.new)) name.now HoldsNoRandom)
         ⊎ IsUnfit (CameSince (F.view files.old) (F.view files.new)) e) }
     ensures early { IfErr result EndsEarly }
-    ensures reason { IfErr result (HasReason (CameSince (F.view files.old) (F.view files.new))
-        (SourceFails F.In.view)) }
+    ensures reason { IfErr result (HasReason (CameSince (F.view files.old) (F.view files.new))) }
 {
     let mut source = files.open(alloc, name)?;
     let random = random_in(alloc, &mut source);
@@ -108,8 +109,7 @@ fn read_pass<F: FileSet>(
 ) -> Result<Vec<u8>, Ending>
     ensures does { Does (Opened asked.now.pass.now ∷ []) (F.view files.old) (F.view files.new) }
     ensures early { IfErr result EndsEarly }
-    ensures reason { IfErr result (HasReason (CameSince (F.view files.old) (F.view files.new))
-        (SourceFails F.In.view)) }
+    ensures reason { IfErr result (HasReason (CameSince (F.view files.old) (F.view files.new))) }
     ensures given { IfOk result (λ v. HasGivenAll (CameSince (F.view files.old) (F.view files.new))
         asked.now.pass.now v.items) }
     ensures refused { IfErr result (λ e. is_usage e ≡ true → ((e ≡ UsageEnding BadPassphraseFile)
@@ -164,8 +164,7 @@ fn read_material<F: FileSet>(
     ensures judges { Judges
         (Opened asked.now.pass.now ∷ Opened (random_name (option_text asked.now.random)) ∷ [])
         (F.view files.old) (F.view files.new) (NamesTwice (order_asked (Encrypt asked.now)).apart)
-        (IsBlamed (CameSince (F.view files.old) (F.view files.new)) (Encrypt asked.now))
-        (SourceFails F.In.view) result }
+        (IsBlamed (CameSince (F.view files.old) (F.view files.new)) (Encrypt asked.now)) result }
 {
     if names_out_twice(files, asked) {
         return Err(Ending::Usage(Usage::SameFile));
@@ -226,7 +225,7 @@ fn seal_text<F: FileSet, P: Meter>(
     ensures began { (name : List ℕ) → F.In.began source (Named name)
         → F.In.began result.source (Named name) }
     ensures silent { asked.now.progress ≡ Silent → progress.new ≡ progress.old }
-    ensures shown { asked.now.progress ≡ Shown → ShowsRun (F.In.view source).supply
+    ensures shown { asked.now.progress ≡ Shown → ShowsRun (F.size source) (F.In.view source).supply
         (F.In.view result.source).supply (P.shown progress.old) (P.shown progress.new) }
 {
     match asked.progress {
@@ -264,7 +263,7 @@ pub fn encrypt_file<F: FileSet, E: Sink, P: Meter>(
     ensures announced { Tells announced.new result (E.view faults.old) (E.view faults.new)
         (faults.new ≡ faults.old) }
     ensures acts { Acts (PortsOf F.In.view F.Out.view) (Encrypt asked.now) (F.view files.old)
-        (F.view files.new) (SourceFails F.In.view) (progress.new ≡ progress.old)
+        (F.view files.new) (progress.new ≡ progress.old)
         (ShowsProgress (CameSince (F.view files.old) (F.view files.new)) (P.shown progress.old)
         (P.shown progress.new)) result }
 {

@@ -8,10 +8,10 @@ ghost use Rattle.age_command.specs.declared.ending.Ending.TheVariants.{Fault};
 ghost use Rattle.age_io.specs.Io.{Origin};
 ghost use Rattle.age_fileset.specs.FileSet.{Opened, Unfit, Does, CameSince};
 ghost use Rattle.age_cli.specs.Commands.{Reports, ReportsFile, FailsReport, GaveFault, report_text};
+ghost use Rattle.age_cli.specs.Commands.{believed};
 ghost use Rattle.age_cli.specs.inner.Reported.{IsInspected};
 ghost use Rattle.age_cli.specs.Runs.{FailsWriting};
-ghost use Rattle.age_command.specs.Files.{IsUnread, SourceFails};
-ghost use Rattle.age_fault.specs.Faults.{HasRisen};
+ghost use Rattle.age_command.specs.Files.{IsUnread};
 ghost use Rattle.age_fault.specs.declared.fault.FileFault.TheVariants.{Read};
 
 use crate::print::text_of;
@@ -54,8 +54,7 @@ fn write_report<I: Source, O: Sink>(
     ensures unprinted { IfErr result (λ f.
         FailsWriting (O.view output.old) (O.view output.new) (Fault f)
         ⊎ (output.new ≡ output.old)) }
-    ensures read { IfErr result (λ f. f ≡ Read
-        → HasRisen (I.view input.old).failed (I.view input.new).failed) }
+    ensures read { IfErr result (λ f. f ≡ Read → (I.view input.new).failing ≡ true) }
 {
     let found = inspect_as(alloc, length, input)?;
     let text = text_of(alloc, &found)?;
@@ -79,8 +78,7 @@ fn report_as<I: Source, O: Sink>(
     ensures sent { OnOk result ((O.view output.new).settled ≡ true) }
     ensures unprinted { IfErr result (λ e. FailsWriting (O.view output.old) (O.view output.new) e
         ⊎ (output.new ≡ output.old)) }
-    ensures read { IfErr result (λ e. e ≡ Fault Read
-        → HasRisen (I.view input.old).failed (I.view input.new).failed) }
+    ensures read { IfErr result (λ e. e ≡ Fault Read → (I.view input.new).failing ≡ true) }
 {
     Ok(write_report(alloc, length, input, output)?)
 }
@@ -100,15 +98,15 @@ pub(crate) fn report<I: Source, O: Sink>(
     ensures sent { OnOk result ((O.view output.new).settled ≡ true) }
     ensures unprinted { IfErr result (λ e. FailsWriting (O.view output.old) (O.view output.new) e
         ⊎ (output.new ≡ output.old)) }
-    ensures read { IfErr result (λ e. e ≡ Fault Read
-        → HasRisen (I.view input.old).failed (I.view input.new).failed) }
+    ensures read { IfErr result (λ e. e ≡ Fault Read → (I.view input.new).failing ≡ true) }
 {
     report_as(alloc, None, input, output)
 }
 
 /// How long an input is, if that can be believed: a file of no length may give bytes, as in /proc.
 fn known_length<F: FileSet>(files: &F, source: &F::In) -> Option<u64>
-    ensures { IfSome (F.In.view source.now).supply.left
+    ensures is { result ≡ believed (F.size source.now) }
+    ensures seen { IfSome (F.In.view source.now).supply.left
         (λ bytes. IfSome result (λ n. n ≡ length bytes)) }
 {
     match files.length(source) {
@@ -134,7 +132,7 @@ pub(crate) fn report_file<F: FileSet, O: Sink>(
     ensures unprinted { IfErr result (λ e. FailsWriting (O.view output.old) (O.view output.new) e
         ⊎ (output.new ≡ output.old)) }
     ensures unread { IfErr result (λ e. e ≡ Fault Read
-        → IsUnread (CameSince (F.view files.old) (F.view files.new)) (SourceFails F.In.view)
+        → IsUnread (CameSince (F.view files.old) (F.view files.new))
         ⊎ CameSince (F.view files.old) (F.view files.new) Unfit) }
 {
     let mut source = match files.open(alloc, name) {

@@ -4,12 +4,12 @@ ghost use Rattle.std.specs.Prelude.{◌≡◌, ◌⊎◌, ◌++◌, [], ◌≤�
 ghost use Rattle.std.specs.Prelude.{IsSomeAnd, is_some};
 ghost use Rattle.age_chunk.specs.Payload.{chunk_length};
 ghost use Rattle.age_fault.specs.declared.fault.FileFault.TheVariants.{Write};
-ghost use Rattle.age_fileset.specs.FileSet.{Entry, PutsOnly, IsMemoryOr, put_as};
+ghost use Rattle.age_fileset.specs.FileSet.{Entry, PutsOnly, IsMemoryOr, written_as};
 ghost use Rattle.age_cli_args.specs.Requests.{option_text};
 ghost use Rattle.age_command.specs.Endings.{is_usage, Announces};
-ghost use Rattle.age_cli.specs.Acts.{IsEndingOf, LacksOne};
+ghost use Rattle.age_cli.specs.Acts.{IsEndingOf, IsNotDue, IsStored, LacksOne};
 ghost use Rattle.age_command.specs.Orders.{Follows, replacing};
-ghost use Rattle.age_cli.specs.inner.Endings.{sealing_end, opening_end, IsStored, IsNotDue};
+ghost use Rattle.age_cli.specs.inner.Endings.{sealing_end, opening_end};
 ghost use Rattle.age_machine.specs.Saved.{Saves};
 ghost use Rattle.age_file.specs.Resumes.{position_text};
 
@@ -83,7 +83,7 @@ pub(crate) fn save<F: FileSet>(
         (λ p. Saves (position_text p) durability result (F.view files.new).saved
         × (p.index * chunk_length ≤ settled)
         × IsSomeAnd (option_text name.entry) (λ to. (F.view files.new).outcomes
-        ≡ (F.view files.old).outcomes ++ put_as to (position_text p) result)) }
+        ≡ (F.view files.old).outcomes ++ written_as to (position_text p) result)) }
     ensures unsaved { IfErr result (λ second. IsMemoryOr Write second
         × (is_some (option_text name.entry) ≡ true) × (is_some position ≡ true)) }
 {

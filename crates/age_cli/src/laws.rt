@@ -3,7 +3,6 @@
 ghost use Rattle.age_cli.specs.Acts.{PortsOf};
 ghost use Rattle.age_cli.specs.Headline.{RunsKeepOut, RefusesInSilence, ReportsAccept};
 ghost use Rattle.age_cli.specs.Headline.{DoneLeavesText, ResumedLeavesText, EarlyFaultsSpareOut};
-ghost use Rattle.age_command.specs.Files.{SourceFails};
 ghost use Rattle.age_fileset.specs.FileSet.{shown_in, shown_out};
 
 use age_file::{Sink, Source};
@@ -15,8 +14,7 @@ use age_io::Meter;
 /// block of IN opens except as its writer sealed it; 0 means all of the plaintext; and only OUT and
 /// the file of `--save` differ.
 pub fn runs_keep_out<I: Source, O: Sink, E: Sink, P: Meter>(before: &MemFiles, after: &MemFiles)
-    ensures { RunsKeepOut (PortsOf shown_in shown_out) (SourceFails shown_in) I O E P before.now
-        after.now }
+    ensures { RunsKeepOut (PortsOf shown_in shown_out) I O E P before.now after.now }
 {
     before.is_kept();
     after.is_kept();
@@ -25,7 +23,7 @@ pub fn runs_keep_out<I: Source, O: Sink, E: Sink, P: Meter>(before: &MemFiles, a
 /// What is refused writes nothing to the output, and a report that fails doesn't blame the command
 /// line.
 pub fn refusals_are_silent<F: FileSet, I: Source, O: Sink, P: Meter>()
-    ensures silent { RefusesInSilence (PortsOf F.In.view F.Out.view) (SourceFails F.In.view) I O P }
+    ensures silent { RefusesInSilence (PortsOf F.In.view F.Out.view) I O P }
     ensures reported { ReportsAccept }
 {}
 
@@ -36,7 +34,7 @@ pub fn refusals_are_silent<F: FileSet, I: Source, O: Sink, P: Meter>()
 /// cut leaves nothing else there. After a fault that comes before the text, also of a wrong
 /// passphrase, OUT is as it was, or the empty file that was made.
 pub fn decryptions_leave_text<F: FileSet, P: Meter>()
-    ensures done { DoneLeavesText (PortsOf F.In.view F.Out.view) (SourceFails F.In.view) P }
-    ensures resumed { ResumedLeavesText (PortsOf F.In.view F.Out.view) (SourceFails F.In.view) P }
-    ensures spared { EarlyFaultsSpareOut (PortsOf F.In.view F.Out.view) (SourceFails F.In.view) P }
+    ensures done { DoneLeavesText (PortsOf F.In.view F.Out.view) P }
+    ensures resumed { ResumedLeavesText (PortsOf F.In.view F.Out.view) P }
+    ensures spared { EarlyFaultsSpareOut (PortsOf F.In.view F.Out.view) P }
 {}

@@ -1,7 +1,7 @@
 //! How the input and the output of a command are opened, and how the output is ended.
 
 ghost use Rattle.std.specs.Prelude.{◌≡◌, ◌⊎◌, [], ◌∷◌, ◌++◌, Some, true, is_some, IfErr, ℕ, List};
-ghost use Rattle.std.specs.Prelude.{Option, length, OnOk, OnErr, IfOk, IfSome, IsSomeAnd};
+ghost use Rattle.std.specs.Prelude.{length, OnOk, OnErr, IfOk, IfSome, IsSomeAnd};
 ghost use Rattle.age_io.specs.Io.{Adds, Begins, Ends, Named};
 ghost use Rattle.age_fault.specs.declared.fault.FileFault.TheVariants.{Write};
 ghost use Rattle.age_fileset.specs.FileSet.{Opened, Closed, Found, Absent, Unwritten, Settled, Unfit};
@@ -10,7 +10,7 @@ ghost use Rattle.age_fileset.specs.declared.files.OpenFault.TheVariants.{SameFil
 ghost use Rattle.age_cli_args.specs.Requests.{option_text};
 ghost use Rattle.age_cli_args.specs.declared.request.ClobberOption.TheVariants.{Refused};
 ghost use Rattle.age_command.specs.Endings.{EndsEarly, is_usage, Tells};
-ghost use Rattle.age_command.specs.Files.{SourceFails, HasReason};
+ghost use Rattle.age_command.specs.Files.{HasReason};
 ghost use Rattle.age_command.specs.declared.ending.Usage.TheVariants as usage;
 ghost use Rattle.age_command.specs.Orders.{creating, preparing, making};
 ghost use Rattle.age_file.specs.Runs.{ports};
@@ -116,7 +116,7 @@ fn create_out<F: FileSet>(
         (λ o. ((F.Out.view o.out).taken.bytes ≡ []) × ((F.Out.view o.out).failed ≡ 0)
         × ((F.Out.view o.out).label ≡ asked.now.to.now) × (asked.now.clobber ≡ Refused
         → CameSince (F.view files.old) (F.view files.new) (Absent asked.now.to.now)))
-        (SourceFails F.In.view) result }
+        result }
 {
     let out = make_out(alloc, files, asked)?;
     match refusal_of(files, &out, asked.content) {
@@ -133,8 +133,7 @@ fn create_out<F: FileSet>(
 fn prepare_save<F: FileSet>(alloc: Global, files: &mut F, asked: &Output<'_>) -> Result<(), Ending>
     ensures does { Does (preparing (option_text asked.now.save)) (F.view files.old) (F.view files.new) }
     ensures early { IfErr result EndsEarly }
-    ensures reason { IfErr result (HasReason (CameSince (F.view files.old) (F.view files.new))
-        (SourceFails F.In.view)) }
+    ensures reason { IfErr result (HasReason (CameSince (F.view files.old) (F.view files.new))) }
     ensures fault { IfErr result (λ e. is_usage e ≡ true
         → IsUnfit (CameSince (F.view files.old) (F.view files.new)) e) }
 {
@@ -160,10 +159,11 @@ pub(crate) fn open_both<F: FileSet>(
         (F.view files.old) (F.view files.new)
         (λ both. AreNew (ports (F.In.view both.0) (F.Out.view both.1.out))
         × F.In.began both.0 (Named from.now) × ((F.Out.view both.1.out).label ≡ asked.now.to.now)
-        × CameSince (F.view files.old) (F.view files.new) (Found from.now (F.In.view both.0).supply.left)
+        × CameSince (F.view files.old) (F.view files.new)
+        (Found from.now (F.In.view both.0).supply.left (F.size both.0))
         × (asked.now.clobber ≡ Refused
         → CameSince (F.view files.old) (F.view files.new) (Absent asked.now.to.now)))
-        (SourceFails F.In.view) result }
+        result }
 {
     let source = files.open(alloc, from)?;
     prepare_save(alloc, files, asked)?;
@@ -173,9 +173,9 @@ pub(crate) fn open_both<F: FileSet>(
 
 /// Shows a meter that a reading of an input begins, with its length if the set of files can say it.
 pub(crate) fn begin_meter<F: FileSet, M: Meter>(files: &F, source: &F::In, meter: &mut M)
-    ensures { (size : Option ℕ)
-        × IfSome (F.In.view source.now).supply.left (λ bytes. size ≡ Some (length bytes))
-        × Adds (M.shown meter.old) (M.shown meter.new) (Begins size) }
+    ensures {
+        IfSome (F.In.view source.now).supply.left (λ bytes. F.size source.now ≡ Some (length bytes))
+        × Adds (M.shown meter.old) (M.shown meter.new) (Begins (F.size source.now)) }
 {
     meter.begin(files.length(source));
 }
@@ -235,7 +235,7 @@ fn settle_stop<F: FileSet>(
     ensures same { F.Out.view out.new.out ≡ F.Out.view out.old.out }
     ensures certain { is_some (option_text save.entry) ≡ true → OnErr engine.now
         (CameSince (F.view files.old) (F.view files.new)
-        (Settled (F.Out.view out.old.out).taken.bytes result)) }
+        (Settled durability (F.Out.view out.old.out).taken.bytes result)) }
 {
     if save.is_some() && engine.is_err() {
         out.settle(files, durability)
@@ -287,7 +287,7 @@ pub(crate) fn conclude<F: FileSet, E: Sink>(
         (F.Out.view out.out) settled engine (F.view files.old) (F.view files.new) result
         × (is_some (option_text save.entry) ≡ true → OnErr engine
         (CameSince (F.view files.old) (F.view files.new)
-        (Settled (F.Out.view out.out).taken.bytes settled))) }
+        (Settled durability (F.Out.view out.out).taken.bytes settled))) }
 {
     let settled = settle_stop(files, &mut out, save, durability, &engine);
     conclude_settled(

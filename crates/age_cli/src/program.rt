@@ -9,7 +9,6 @@ ghost use Rattle.clap.specs.Walk.{texts};
 ghost use Rattle.age_cli.specs.Acts.{PortsOf, ending_status, ShowsProgress};
 ghost use Rattle.age_cli.specs.Runs.{world, IsRefusal, Obeys, Prints, FailsWriting, Runs};
 ghost use Rattle.age_command.specs.Endings.{Tells};
-ghost use Rattle.age_command.specs.Files.{SourceFails};
 ghost use Rattle.age_fileset.specs.FileSet.{CameSince};
 ghost use Rattle.age_cli.specs.inner.Endings.{IsForOutput};
 
@@ -61,9 +60,9 @@ fn obey<F: FileSet, I: Source, O: Sink, E: Sink, P: Meter>(
     ensures announced { Tells announced.new result (E.view faults.old) (E.view faults.new)
         (faults.new ≡ faults.old) }
     ensures obeys { Obeys (texts words.now) (PortsOf F.In.view F.Out.view)
-        (world (F.view files.old) (I.view input.old).supply (O.view output.old))
-        (world (F.view files.new) (I.view input.new).supply (O.view output.new))
-        (SourceFails F.In.view) (input.new ≡ input.old) (output.new ≡ output.old)
+        (world (F.view files.old) (I.view input.old) (O.view output.old))
+        (world (F.view files.new) (I.view input.new) (O.view output.new))
+        (input.new ≡ input.old) (output.new ≡ output.old)
         (progress.new ≡ progress.old)
         (ShowsProgress (CameSince (F.view files.old) (F.view files.new)) (P.shown progress.old)
         (P.shown progress.new)) result }
@@ -119,9 +118,9 @@ pub fn run<F: FileSet, I: Source, O: Sink, E: Sink, P: Meter>(
     progress: &mut P,
 ) -> u8
     ensures { Runs (texts words.now) (PortsOf F.In.view F.Out.view)
-        (world (F.view files.old) (I.view input.old).supply (O.view output.old))
-        (world (F.view files.new) (I.view input.new).supply (O.view output.new))
-        (E.view faults.old) (E.view faults.new) (SourceFails F.In.view) (faults.new ≡ faults.old)
+        (world (F.view files.old) (I.view input.old) (O.view output.old))
+        (world (F.view files.new) (I.view input.new) (O.view output.new))
+        (E.view faults.old) (E.view faults.new) (faults.new ≡ faults.old)
         (input.new ≡ input.old) (output.new ≡ output.old) (progress.new ≡ progress.old)
         (ShowsProgress (CameSince (F.view files.old) (F.view files.new)) (P.shown progress.old)
         (P.shown progress.new)) result }

@@ -1,6 +1,7 @@
 //! How the position of a stop is found by reading the input once more.
 
-ghost use Rattle.std.specs.Prelude.{◌≡◌, ◌⊎◌, [], ℕ, List, true, false, is_some, IfOk, IfErr, OnOk, min};
+ghost use Rattle.std.specs.Prelude.{◌≡◌, ◌⊎◌, [], ℕ, List, Option, true, false, is_some, min, IfOk};
+ghost use Rattle.std.specs.Prelude.{IfErr, OnOk};
 ghost use Rattle.age_io.specs.Io.{Named, Origin};
 ghost use Rattle.age_io.specs.Supply.{Supply};
 ghost use Rattle.age_fault.specs.declared.fault.FileFault.TheVariants.{Read};
@@ -145,7 +146,8 @@ fn find_in<F: FileSet, P: Meter>(
         → F.In.began result.source (Named name) }
     ensures silent { asked.now.progress ≡ Silent → progress.new ≡ progress.old }
     ensures shown { (P.shown progress.new ≡ P.shown progress.old)
-        ⊎ ((coming : Supply) × (left : Supply) × ShowsRun coming left
+        ⊎ ((size : Option ℕ) × (coming : Supply) × (left : Supply)
+        × ShowsRun size coming left
         (P.shown progress.old) (P.shown progress.new)) }
 {
     match asked.progress {
@@ -190,7 +192,8 @@ fn find_again<F: FileSet, P: Meter>(
     ensures faults { IfErr result (IsMemoryOr Read) }
     ensures silent { asked.now.progress ≡ Silent → progress.new ≡ progress.old }
     ensures shown { (P.shown progress.new ≡ P.shown progress.old)
-        ⊎ ((coming : Supply) × (left : Supply) × ShowsRun coming left
+        ⊎ ((size : Option ℕ) × (coming : Supply) × (left : Supply)
+        × ShowsRun size coming left
         (P.shown progress.old) (P.shown progress.new)) }
 {
     let Again {
@@ -231,7 +234,8 @@ fn conclude_found<F: FileSet, E: Sink, P: Meter>(
         (F.view files.old) (F.view files.new) result settled }
     ensures silent { asked.now.progress ≡ Silent → progress.new ≡ progress.old }
     ensures shown { (P.shown progress.new ≡ P.shown progress.old)
-        ⊎ ((coming : Supply) × (left : Supply) × ShowsRun coming left
+        ⊎ ((size : Option ℕ) × (coming : Supply) × (left : Supply)
+        × ShowsRun size coming left
         (P.shown progress.old) (P.shown progress.new)) }
 {
     let fault = again.stopped.fault;
@@ -271,12 +275,13 @@ fn conclude_again<F: FileSet, E: Sink, P: Meter>(
         (Gave (reading_of asked.now.from.now (F.In.view again.source))) }
     ensures announced { Announces announced.new result (E.view faults.old) (E.view faults.new) ⊥ }
     ensures again { (settled : ℕ) × CameSince (F.view files.old) (F.view files.new)
-        (Settled (F.Out.view out.out).taken.bytes settled)
+        (Settled asked.now.durability (F.Out.view out.out).taken.bytes settled)
         × ConcludesFound asked.now (F.Out.view out.out) again.from again.stopped again.key
         (F.view files.old) (F.view files.new) result settled }
     ensures silent { asked.now.progress ≡ Silent → progress.new ≡ progress.old }
     ensures shown { (P.shown progress.new ≡ P.shown progress.old)
-        ⊎ ((coming : Supply) × (left : Supply) × ShowsRun coming left
+        ⊎ ((size : Option ℕ) × (coming : Supply) × (left : Supply)
+        × ShowsRun size coming left
         (P.shown progress.old) (P.shown progress.new)) }
 {
     let settled = out.settle(files, asked.durability);
@@ -305,14 +310,15 @@ pub(crate) fn conclude_decryption<F: FileSet, E: Sink, P: Meter>(
     ensures announced { Tells announced.new result (E.view faults.old) (E.view faults.new)
         (faults.new ≡ faults.old) }
     ensures concludes { ConcludesDecryption (λ settled. CameSince (F.view files.old)
-        (F.view files.new) (Settled (F.Out.view out.out).taken.bytes settled)) asked.now
+        (F.view files.new) (Settled asked.now.durability (F.Out.view out.out).taken.bytes settled)) asked.now
         (F.Out.view out.out) decrypted.from decrypted.end
         (again_of is_reread decrypted.end decrypted.key)
         (F.view files.old) (F.view files.new) result }
     ensures silent { asked.now.progress ≡ Silent → progress.new ≡ progress.old }
     ensures whole { OnOk result (P.shown progress.new ≡ P.shown progress.old) }
     ensures shown { (P.shown progress.new ≡ P.shown progress.old)
-        ⊎ ((coming : Supply) × (left : Supply) × ShowsRun coming left
+        ⊎ ((size : Option ℕ) × (coming : Supply) × (left : Supply)
+        × ShowsRun size coming left
         (P.shown progress.old) (P.shown progress.new)) }
 {
     let Decrypted {

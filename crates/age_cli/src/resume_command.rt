@@ -3,8 +3,10 @@
 ghost use Rattle.std.specs.Prelude.{◌≡◌, ◌⊎◌, [], ◌∷◌, ℕ, List, IfOk, IfErr, OnOk};
 ghost use Rattle.age_fault.specs.declared.fault.FileFault.TheVariants.{Read, BadPosition};
 ghost use Rattle.age_io.specs.Io.{Named, Origin};
-ghost use Rattle.age_fileset.specs.FileSet.{Opened, Unread, Unfit, OpenFails, Does, CameSince, HasGivenAll};
+ghost use Rattle.age_fileset.specs.FileSet.{Opened, Unread, Unfit, Outcome, OpenFails, Does, CameSince};
+ghost use Rattle.age_fileset.specs.FileSet.{HasGivenAll, FilesView, Entry, PutsOnly};
 ghost use Rattle.age_fileset.specs.declared.files.OpenFault.TheVariants as OpenFault;
+ghost use Rattle.age_cli_args.specs.Requests.{option_text};
 ghost use Rattle.age_cli_args.specs.declared.request.ProgressOption.TheVariants.{Silent, Shown};
 ghost use Rattle.age_cli_args.specs.declared.request.Request.TheVariants.{Resume};
 ghost use Rattle.age_file.specs.Resumes.{resume_ports, position_text, ResumesKeyed};
@@ -12,11 +14,12 @@ ghost use Rattle.age_file.specs.Runs.{ports};
 ghost use Rattle.age_command.specs.Identities.{allows_by, refuses_by};
 ghost use Rattle.age_command.specs.Orders.{Begins, NamesTwice, order_asked};
 ghost use Rattle.age_command.specs.Endings.{Tells};
-ghost use Rattle.age_command.specs.Files.{SourceFails, IsUnread, HoldsOnly};
+ghost use Rattle.age_command.specs.Files.{IsUnread, HoldsOnly};
 ghost use Rattle.age_cli.specs.Acts.{Acts, PortsOf, ShowsProgress, ShowsReadings, ShowsRun};
+ghost use Rattle.age_cli.specs.Acts.{resume_engine, kept_for, paths_of};
 ghost use Rattle.age_cli.specs.Commands.{HoldsNoPosition, old_found};
 ghost use Rattle.age_cli.specs.inner.Openings.{Compares};
-ghost use Rattle.age_cli.specs.inner.Rereadings.{ResumesOpened, key_of, placed};
+ghost use Rattle.age_cli.specs.inner.Rereadings.{RunsEngine, key_of, placed};
 
 use crate::decrypt_command::{is_given_as, names_a_file_twice, read_secret};
 use crate::output::{Content, Output, begin_meter, end_meter, open_both};
@@ -48,7 +51,7 @@ fn read_position<F: FileSet>(
     ensures bad { IfErr result (λ f. f ≡ OpenFault.Fault BadPosition
         → HoldsOnly (CameSince (F.view files.old) (F.view files.new)) name.now HoldsNoPosition) }
     ensures reason { IfErr result (λ f. f ≡ OpenFault.Fault Read
-        → IsUnread (CameSince (F.view files.old) (F.view files.new)) (SourceFails F.In.view)) }
+        → IsUnread (CameSince (F.view files.old) (F.view files.new))) }
     ensures unfit { IfErr result (λ f. f ≡ OpenFault.SameFile
         → CameSince (F.view files.old) (F.view files.new) Unfit) }
 {
@@ -90,7 +93,7 @@ fn open_old<F: FileSet>(
 ) -> Result<F::In, OpenFault>
     ensures does { Does (Opened name.now ∷ []) (F.view files.old) (F.view files.new) }
     ensures found { IfOk result (λ s. CameSince (F.view files.old) (F.view files.new)
-        (old_found position.now name.now (F.In.view s).supply.left)) }
+        (old_found position.now name.now (F.In.view s).supply.left (F.size s))) }
     ensures begun { IfOk result (λ s. (F.In.view s).supply.given ≡ []) }
     ensures named { IfOk result (λ s. F.In.began s (Named name.now)) }
     ensures faults { IfErr result (OpenFails Read) }
@@ -113,7 +116,7 @@ fn open_earlier<F: FileSet>(
     asked: &Resuming<'_>,
 ) -> Result<(Position, F::In), OpenFault>
     ensures found { IfOk result (λ both. CameSince (F.view files.old) (F.view files.new)
-        (old_found both.0 asked.now.old.now (F.In.view both.1).supply.left)) }
+        (old_found both.0 asked.now.old.now (F.In.view both.1).supply.left (F.size both.1))) }
     ensures given { IfOk result (λ both. HasGivenAll (CameSince (F.view files.old)
         (F.view files.new)) asked.now.position.now (position_text both.0)) }
     ensures begun { IfOk result (λ both. (F.In.view both.1).supply.given ≡ []) }
@@ -127,7 +130,7 @@ fn open_earlier<F: FileSet>(
         → HoldsOnly (CameSince (F.view files.old) (F.view files.new)) asked.now.position.now
         HoldsNoPosition) }
     ensures reason { IfErr result (λ f. f ≡ OpenFault.Fault Read
-        → IsUnread (CameSince (F.view files.old) (F.view files.new)) (SourceFails F.In.view)) }
+        → IsUnread (CameSince (F.view files.old) (F.view files.new))) }
     ensures unfit { IfErr result (λ f. f ≡ OpenFault.SameFile
         → CameSince (F.view files.old) (F.view files.new) Unfit) }
 {
@@ -195,7 +198,7 @@ fn resume_text<F: FileSet, P: Meter>(
         → F.In.began result.source (Named name) }
     ensures old_began { (from : Origin) → F.In.began old.old from → F.In.began old.new from }
     ensures silent { asked.now.progress ≡ Silent → progress.new ≡ progress.old }
-    ensures shown { asked.now.progress ≡ Shown → ShowsRun (F.In.view source).supply
+    ensures shown { asked.now.progress ≡ Shown → ShowsRun (F.size source) (F.In.view source).supply
         (F.In.view result.source).supply (P.shown progress.old) (P.shown progress.new) }
 {
     match asked.progress {
@@ -263,12 +266,20 @@ fn resume_opened<F: FileSet, E: Sink, P: Meter>(
     requires old { F.In.began old (Named asked.now.old.now) }
     ensures announced { Tells announced.new result (E.view faults.old) (E.view faults.new)
         (faults.new ≡ faults.old) }
-    ensures opened { ResumesOpened (PortsOf F.In.view F.Out.view)
-        (CameSince (F.view files.old) (F.view files.new)) asked.now.decrypting asked.now.old.now
-        identity position.now (F.In.view old) (ports (F.In.view source) (F.Out.view out.out))
-        (F.view files.old) (F.view files.new) (progress.new ≡ progress.old)
-        (λ coming left ended. ShowsReadings coming left (P.shown progress.old) (P.shown progress.new)
-        ended) result }
+    ensures grows { (puts : List Entry) × PutsOnly puts (F.view files.old) (F.view files.new) }
+    ensures runs { (first : FilesView)
+        → ((o : Outcome) → CameSince (F.view files.old) (F.view files.new) o
+        → CameSince first (F.view files.new) o)
+        → (F.In.view old).supply.given ≡ [] → CameSince first (F.view files.new)
+        (old_found position.now asked.now.old.now (F.In.view old).supply.left (F.size old))
+        → RunsEngine (PortsOf F.In.view F.Out.view) (CameSince first (F.view files.new))
+        (resume_engine (PortsOf F.In.view F.Out.view) (CameSince first (F.view files.new))
+        asked.now.decrypting.from.now (kept_for (option_text asked.now.decrypting.save)) identity
+        position.now asked.now.old.now)
+        (paths_of asked.now.decrypting) asked.now.decrypting.durability asked.now.decrypting.progress
+        (ports (F.In.view source) (F.Out.view out.out)) (F.view files.old) (F.view files.new)
+        (progress.new ≡ progress.old) (λ coming left ended. ShowsReadings (F.size source) coming left
+        (P.shown progress.old) (P.shown progress.new) ended) result }
 {
     read_again::<Identity>();
     let wanted = &asked.decrypting;
@@ -315,7 +326,7 @@ pub fn resume_file<F: FileSet, E: Sink, P: Meter>(
     ensures announced { Tells announced.new result (E.view faults.old) (E.view faults.new)
         (faults.new ≡ faults.old) }
     ensures acts { Acts (PortsOf F.In.view F.Out.view) (Resume asked.now) (F.view files.old)
-        (F.view files.new) (SourceFails F.In.view) (progress.new ≡ progress.old)
+        (F.view files.new) (progress.new ≡ progress.old)
         (ShowsProgress (CameSince (F.view files.old) (F.view files.new)) (P.shown progress.old)
         (P.shown progress.new)) result }
 {

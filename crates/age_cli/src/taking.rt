@@ -31,7 +31,7 @@ impl<F: FileSet> Taking<F> {
         ensures does { Does [] (F.view files.old) (F.view files.new) }
         ensures same { F.Out.view self.new.out ≡ F.Out.view self.old.out }
         ensures certain { CameSince (F.view files.old) (F.view files.new)
-            (Settled (F.Out.view self.old.out).taken.bytes result) }
+            (Settled durability (F.Out.view self.old.out).taken.bytes result) }
     {
         files.settle(&mut self.out, durability)
     }

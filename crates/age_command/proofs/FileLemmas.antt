@@ -7,26 +7,26 @@ use Rattle.age_fileset.specs.FileSet.{FilesView, Found, Gave, reading_of, CameSi
 use Rattle.age_fileset.proofs.OutcomeLemmas.{all_since, gave_since, came_then, grows_so}
 
 -- a file was found and read, and then its reading was over
-module _ (name : List ℕ) (old mid new : FilesView) (first last : SourceView) (unread : first.supply.given ≡ []) (found : CameSince old mid (Found name first.supply.left))
+module _ (name : List ℕ) (old mid new : FilesView) (first last : SourceView) (size : Option ℕ) (unread : first.supply.given ≡ []) (found : CameSince old mid (Found name first.supply.left size))
     (over : new ≡ with_outcomes (Gave (reading_of name last) ∷ []) mid) where
   is_later : new.outcomes ≡ mid.outcomes ++ Gave (reading_of name last) ∷ []
   is_later = ap (λ v. v.outcomes) over
 
-  found_then : CameSince old new (Found name first.supply.left)
+  found_then : CameSince old new (Found name first.supply.left size)
   found_then = came_then _ old mid new (grows_so mid new _ is_later) _ found
 
-  over_then : CameSince old new (Gave (reading_of name last))
+  pub over_then : CameSince old new (Gave (reading_of name last))
   over_then = record {
-    before = found.before ++ Found name first.supply.left ∷ found.later;
+    before = found.before ++ Found name first.supply.left size ∷ found.later;
     later = [];
-    is = is_later ∙ ap (λ l. l ++ Gave (reading_of name last) ∷ []) found.is ∙ append_assoc old.outcomes (found.before ++ Found name first.supply.left ∷ found.later) (Gave (reading_of name last) ∷ []);
+    is = is_later ∙ ap (λ l. l ++ Gave (reading_of name last) ∷ []) found.is ∙ append_assoc old.outcomes (found.before ++ Found name first.supply.left size ∷ found.later) (Gave (reading_of name last) ∷ []);
   }
 
   pub given_so : (bytes : List ℕ) → Consumes first.supply last.supply bytes → HasGiven (CameSince old new) name bytes
-  given_so bytes read = gave_since name bytes old new first last unread found_then read over_then
+  given_so bytes read = gave_since name bytes old new first last size unread found_then read over_then
 
   pub all_so : (bytes : List ℕ) → Consumes first.supply last.supply bytes → IsAtEnd last.supply → HasGivenAll (CameSince old new) name bytes
-  all_so bytes read end = all_since name bytes old new first last unread found_then read end over_then
+  all_so bytes read end = all_since name bytes old new first last size unread found_then read end over_then
 
   pub given_if : {Z : Type 0} (o : Option (Vec ℕ Z)) → IfSome o (λ v. Consumes first.supply last.supply v.items × IsAtEnd last.supply)
       → IfSome o (λ v. HasGivenAll (CameSince old new) name v.items)

@@ -1,13 +1,11 @@
 -- The first bytes of a source, what a file holds by what it gave, and why a command may end before its
 -- output is written.
 use Rattle.std.specs.Prelude.{◌-◌, ◌==◌, ◌&&◌, nat_lt, take, slice_index, if◌then◌else◌}
-use Rattle.std.specs.Prelude.{◌⊎◌, ℕ, ◌<◌, ◌≤◌, List, ◌++◌, length}
+use Rattle.std.specs.Prelude.{◌≡◌, ◌⊎◌, ℕ, ◌<◌, ◌≤◌, List, ◌++◌, length, true}
 use Rattle.age_io.specs.Supply.{Supply, Consumes, IsAtEnd}
 use Rattle.clap.specs.Words.{Text}
-use Rattle.age_io.specs.Io.{SourceView}
-use Rattle.age_fault.specs.Faults.{HasRisen}
 use Rattle.age_fault.specs.declared.fault.FileFault.TheVariants.{Read, Write}
-use Rattle.age_fileset.specs.FileSet.{Outcome, Unread, Unwritten, HasGiven, HasGivenAll}
+use Rattle.age_fileset.specs.FileSet.{Outcome, Unread, Unwritten, Gave, Reading, HasGiven, HasGivenAll}
 use Rattle.age_command.specs.declared.ending.Ending.{Ending}
 use Rattle.age_command.specs.declared.ending.Ending.TheVariants.{Fault}
 
@@ -27,21 +25,16 @@ without_line_feed xs =
 
 -- ---- Why a command ends before its output is written.
 
--- a source, whose views are these, failed
-pub record SourceFails {In : Type 0} (read : In → SourceView) : Type 0 where
-  pub before : In
-  pub after : In
-  pub risen : HasRisen (read before).failed (read after).failed
-
--- why a file can't be read; `SourceFailed` says that a source failed
-abbrev pub IsUnread : (Outcome → Type 0) → Type 0 → Type 0
-IsUnread Came SourceFailed = ((name : Text) × Came (Unread name)) ⊎ SourceFailed
+-- a file couldn't be opened, or the last pull of its reading failed
+abbrev pub IsUnread : (Outcome → Type 0) → Type 0
+IsUnread Came = ((name : Text) × Came (Unread name))
+    ⊎ ((reading : Reading) × Came (Gave reading) × (reading.failing ≡ true))
 
 -- 26 and 27 have a reason
-abbrev pub HasReason : (Outcome → Type 0) → Type 0 → Ending → Type 0
-HasReason Came SourceFailed (Fault Read) = IsUnread Came SourceFailed
-HasReason Came SourceFailed (Fault Write) = (name : Text) × Came (Unwritten name)
-HasReason Came SourceFailed other = Unit {0}
+abbrev pub HasReason : (Outcome → Type 0) → Ending → Type 0
+HasReason Came (Fault Read) = IsUnread Came
+HasReason Came (Fault Write) = (name : Text) × Came (Unwritten name)
+HasReason Came other = Unit {0}
 
 -- ---- What a file holds, by what it gave.
 

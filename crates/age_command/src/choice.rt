@@ -10,7 +10,7 @@ ghost use Rattle.age_command.specs.Identities.{IsPassphraseIn, IsSharedIn, Makes
 ghost use Rattle.age_command.specs.Identities.{blame_by, blame_in};
 ghost use Rattle.age_command.specs.Identities.{file_bytes, Makes, Chooses, IsEnough};
 ghost use Rattle.age_command.specs.Identities.{IsSecretGiven};
-ghost use Rattle.age_command.specs.Files.{SourceFails, IsUnread};
+ghost use Rattle.age_command.specs.Files.{IsUnread};
 ghost use Rattle.age_fileset.specs.declared.files.OpenFault.TheVariants.{SameFile, Fault};
 ghost use Rattle.age_command.specs.declared.identity.Identity.{Identity};
 
@@ -63,7 +63,7 @@ impl<'a> Choice<'a> {
         ensures does { Does (opening_event (file_of self.now)) (F.view files.old) (F.view files.new) }
         ensures faults { IfErr result (OpenFails Read) }
         ensures reason { IfErr result (λ f. f ≡ Fault Read
-            → IsUnread (CameSince (F.view files.old) (F.view files.new)) (SourceFails F.In.view)) }
+            → IsUnread (CameSince (F.view files.old) (F.view files.new))) }
         ensures unfit { IfErr result (λ f. f ≡ SameFile
             → CameSince (F.view files.old) (F.view files.new) Unfit) }
         ensures given { IfOk result (λ o. IsSecretGiven

@@ -1,14 +1,14 @@
 //! The first bytes of a source or a file.
 
 ghost use Rattle.std.specs.Prelude.{◌≡◌, ◌^◌, ◌<◌, ◌≤◌, [], ℕ, List, length, OnOk, IfOk, IfErr};
-ghost use Rattle.std.specs.Prelude.{IfSome, IfNone, ◌∷◌};
+ghost use Rattle.std.specs.Prelude.{IfSome, IfNone, ◌∷◌, true};
 ghost use Rattle.age_fileset.specs.FileSet.{Opened, Unfit, IsMemoryOr, OpenFails, Does, CameSince};
 ghost use Rattle.age_fault.specs.declared.fault.FileFault.TheVariants.{Read};
 ghost use Rattle.age_io.specs.Io.{Origin};
 ghost use Rattle.age_io.specs.Supply.{Consumes, IsAtEnd};
 ghost use Rattle.age_fileset.specs.FileSet.{HasGiven, HasGivenAll};
 ghost use Rattle.age_fileset.specs.declared.files.OpenFault.TheVariants.{SameFile, Fault};
-ghost use Rattle.age_command.specs.Files.{AreFirst, SourceFails, IsUnread};
+ghost use Rattle.age_command.specs.Files.{AreFirst, IsUnread};
 ghost use Rattle.age_command.specs.inner.Pieces.{IsPiece};
 
 use crate::identity::PASSPHRASE_FILE_MAX;
@@ -31,7 +31,7 @@ fn pull_some<S: Source>(
     ensures piece { IfOk result (λ n.
         IsPiece (S.view source.old).supply (S.view source.new).supply most n buffer.new) }
     ensures fault { IfErr result (λ f. f ≡ Read) }
-    ensures failed { IfErr result (λ _. SourceFails S.view) }
+    ensures failed { IfErr result (λ _. (S.view source.new).failing ≡ true) }
     ensures began { (from : Origin) → S.began source.old from → S.began source.new from }
 {
     match source.pull(&mut buffer[..most]) {
@@ -51,7 +51,7 @@ pub fn fill_first<S: Source>(
     ensures first { OnOk result
         (AreFirst (S.view source.old).supply (S.view source.new).supply most held.new.items) }
     ensures faults { IfErr result (IsMemoryOr Read) }
-    ensures failed { IfErr result (λ f. f ≡ Read → SourceFails S.view) }
+    ensures failed { IfErr result (λ f. f ≡ Read → (S.view source.new).failing ≡ true) }
     ensures began { (from : Origin) → S.began source.old from → S.began source.new from }
 {
     let mut buffer = [0; ROOM];
@@ -74,7 +74,7 @@ pub fn read_first<S: Source>(
     ensures first { IfOk result
         (λ v. AreFirst (S.view source.old).supply (S.view source.new).supply most v.items) }
     ensures faults { IfErr result (IsMemoryOr Read) }
-    ensures failed { IfErr result (λ f. f ≡ Read → SourceFails S.view) }
+    ensures failed { IfErr result (λ f. f ≡ Read → (S.view source.new).failing ≡ true) }
     ensures began { (from : Origin) → S.began source.old from → S.began source.new from }
 {
     // A vector that grows leaves copies behind, so that of a passphrase's file never does.
@@ -98,7 +98,7 @@ pub fn read_up_to<S: Source>(
         × Consumes (S.view source.old).supply (S.view source.new).supply bytes
         × (most < length bytes))) }
     ensures faults { IfErr result (IsMemoryOr Read) }
-    ensures failed { IfErr result (λ f. f ≡ Read → SourceFails S.view) }
+    ensures failed { IfErr result (λ f. f ≡ Read → (S.view source.new).failing ≡ true) }
     ensures began { (from : Origin) → S.began source.old from → S.began source.new from }
 {
     let first = read_first(alloc, source, most + 1)?;
@@ -125,7 +125,7 @@ pub fn read_file<F: FileSet>(
         × (most < length bytes))) }
     ensures faults { IfErr result (OpenFails Read) }
     ensures reason { IfErr result (λ f. f ≡ Fault Read
-        → IsUnread (CameSince (F.view files.old) (F.view files.new)) (SourceFails F.In.view)) }
+        → IsUnread (CameSince (F.view files.old) (F.view files.new))) }
     ensures unfit { IfErr result (λ f. f ≡ SameFile
         → CameSince (F.view files.old) (F.view files.new) Unfit) }
 {

@@ -12,6 +12,8 @@ pub record InputView : Type 0 where
   -- the bytes that it gave, and whether a pull found the end
   pub given : List ℕ
   pub is_at_end : Bool
+  -- how many it still has to give, by its length as it was opened, if it is a regular file
+  pub size : Option ℕ
   -- what tells it from other files, if that is known
   pub id : Option FileId
 

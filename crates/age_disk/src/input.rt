@@ -103,6 +103,7 @@ impl Model for HostIn {
       failing = s.failures.last;
       given = s.given;
       is_at_end = s.is_at_end;
+      size = s.left;
       id = s.id;
     } };
 }
@@ -197,7 +198,9 @@ impl HostIn {
     }
 
     /// How many bytes a regular file still has to give, by its length as it was opened.
-    pub fn length(&self) -> Option<u64> {
+    pub fn length(&self) -> Option<u64>
+        ensures { result ≡ self.now.size }
+    {
         self.left
     }
 
@@ -230,7 +233,8 @@ impl HostIn {
 
     /// Sets it back to its start, by its descriptor: its name isn't looked up again.
     pub fn reread(&mut self) -> io::Result<()>
-        ensures { self.new ≡ record self.old { given = []; is_at_end = false } }
+        ensures { self.new
+            ≡ record self.old { given = []; is_at_end = false; size = self.new.size } }
     {
         self.given = Tape::new();
         self.is_at_end = false;

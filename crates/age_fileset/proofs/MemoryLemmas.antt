@@ -101,22 +101,22 @@ module _ (old new : FilesView) (was is : List MemEntry) (kept_was : AreTrue was 
         stands_then no_files old.outcomes c.before q ∙ stands_other (stands no_files old.outcomes) c.before q other ∙ sym (kept_was.stand q)
 
   -- a file was found: it is there, and what it has to give is what stood there at first
-  pub found_was : (name : List ℕ) (left : Option (List ℕ)) (c : CameSince old new (Found name left)) → AreOthers name (puts_in c.before)
+  pub found_was : (name : List ℕ) (left : Option (List ℕ)) (size : Option ℕ) (c : CameSince old new (Found name left size)) → AreOthers name (puts_in c.before)
       → (is_some left ≡ true) × (left ≡ entry_of was name)
-  found_was name left c other =
-      let fit = fit_at (Found name left) c in
-      (fit.0, fit.1 ∙ same_at (Found name left) c name other)
+  found_was name left size c other =
+      let fit = fit_at (Found name left size) c in
+      (fit.0, fit.1 ∙ same_at (Found name left size) c name other)
 
   -- or it counts as empty if there is none
-  pub found_any_was : (name : List ℕ) (left : Option (List ℕ)) (c : CameSince old new (FoundOrEmpty name left)) → AreOthers name (puts_in c.before)
+  pub found_any_was : (name : List ℕ) (left : Option (List ℕ)) (size : Option ℕ) (c : CameSince old new (FoundOrEmpty name left size)) → AreOthers name (puts_in c.before)
       → left ≡ or_empty (entry_of was name)
-  found_any_was name left c other = fit_at (FoundOrEmpty name left) c ∙ ap or_empty (same_at (FoundOrEmpty name left) c name other)
+  found_any_was name left size c other = fit_at (FoundOrEmpty name left size) c ∙ ap or_empty (same_at (FoundOrEmpty name left size) c name other)
 
   -- all that a file gave stood there at first
   pub gave_all_was : (name bytes : List ℕ) (g : HasGivenAll (CameSince old new) name bytes) → AreOthers name (puts_in g.gave.found.before)
       → entry_of was name ≡ Some bytes
   gave_all_was name bytes g other =
-      let found = found_was name (prepend_known bytes g.gave.left) g.gave.found other in
+      let found = found_was name (prepend_known bytes g.gave.left) g.gave.size g.gave.found other in
       sym found.1 ∙ all_of g.gave.left found.0 g.none where
         all_of : (left : Option (List ℕ)) → is_some (prepend_known bytes left) ≡ true → IsAtEnd left → prepend_known bytes left ≡ Some bytes
         all_of None there end = absurd (true≢false (sym there))

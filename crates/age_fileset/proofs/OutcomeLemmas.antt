@@ -3,6 +3,7 @@ use Rattle.std.proofs.Common.{◌≡◌, ◌∙◌, ◌++◌, [], ◌∷◌, ref
 use Rattle.std.specs.Io.KnownBytes.{prepend_known}
 use Rattle.std.specs.Io.KnownBytes as known
 use Rattle.age_io.specs.Io.{SourceView}
+use Rattle.age_io.specs.declared.durability.Durability.{Durability}
 use Rattle.age_io.specs.Supply.{Consumes, IsAtEnd}
 use Rattle.age_fault.specs.declared.fault.FileFault.{FileFault}
 use Rattle.age_fault.specs.declared.fault.FileFault.TheVariants.{Read, Write, Memory}
@@ -16,13 +17,13 @@ pub puts_then : (a b : List Outcome) → puts_in (a ++ b) ≡ puts_in a ++ puts_
 unfolding puts_in
 puts_then [] b = refl
 puts_then (Put name bytes ∷ a) b = ap (λ l. entry name bytes ∷ l) (puts_then a b)
-puts_then (Found name left ∷ a) b = puts_then a b
-puts_then (FoundOrEmpty name left ∷ a) b = puts_then a b
+puts_then (Found name left size ∷ a) b = puts_then a b
+puts_then (FoundOrEmpty name left size ∷ a) b = puts_then a b
 puts_then (Unread name ∷ a) b = puts_then a b
 puts_then (Unwritten name ∷ a) b = puts_then a b
 puts_then (Absent name ∷ a) b = puts_then a b
 puts_then (Gave r ∷ a) b = puts_then a b
-puts_then (Settled took size ∷ a) b = puts_then a b
+puts_then (Settled durability took size ∷ a) b = puts_then a b
 puts_then (Unfit ∷ a) b = puts_then a b
 
 -- ---- Parts of a run, one after the other.
@@ -126,30 +127,31 @@ came_of : (old new : FilesView) (name : List ℕ) (e : Event) (fault : OpenFault
 came_of old new name e fault o other one is same = came_one old new o (ap (λ v. v.outcomes) is ∙ ap (λ f. old.outcomes ++ refused_as name f) same ∙ ap (λ l. old.outcomes ++ l) one)
 
 -- a file was to be opened
-module _ {In : Type 0} (read : In → SourceView) (name : List ℕ) (found : Option (List ℕ) → Outcome) (plain : (left : Option (List ℕ)) → puts_in (found left ∷ []) ≡ []) (old new : FilesView) where
-  pub opened_does : (r : Result In OpenFault) → new ≡ with_event (Opened name) (opened_as read found name r) old → IfErr r (OpenFails Read) → Does (Opened name ∷ []) old new
-  opened_does (Ok s) is fails = does_so old new (Opened name) _ is (plain (read s).supply.left)
+module _ {In : Type 0} (read : In → SourceView) (size : In → Option ℕ) (name : List ℕ) (found : Option (List ℕ) → Option ℕ → Outcome)
+    (plain : (left : Option (List ℕ)) (n : Option ℕ) → puts_in (found left n ∷ []) ≡ []) (old new : FilesView) where
+  pub opened_does : (r : Result In OpenFault) → new ≡ with_event (Opened name) (opened_as read size found name r) old → IfErr r (OpenFails Read) → Does (Opened name ∷ []) old new
+  opened_does (Ok s) is fails = does_so old new (Opened name) _ is (plain (read s).supply.left (size s))
   opened_does (Err fault) is fails = does_so old new (Opened name) _ is (unread_puts name fault fails)
 
-  pub opened_came : (r : Result In OpenFault) → new ≡ with_event (Opened name) (opened_as read found name r) old → IfOk r (λ s. CameSince old new (found (read s).supply.left))
-  opened_came (Ok s) is = came_one old new (found (read s).supply.left) (ap (λ v. v.outcomes) is)
+  pub opened_came : (r : Result In OpenFault) → new ≡ with_event (Opened name) (opened_as read size found name r) old → IfOk r (λ s. CameSince old new (found (read s).supply.left (size s)))
+  opened_came (Ok s) is = came_one old new (found (read s).supply.left (size s)) (ap (λ v. v.outcomes) is)
   opened_came (Err fault) is = tt
 
-  pub opened_unread : (r : Result In OpenFault) → new ≡ with_event (Opened name) (opened_as read found name r) old → IfErr r (λ f. f ≡ Fault Read → CameSince old new (Unread name))
+  pub opened_unread : (r : Result In OpenFault) → new ≡ with_event (Opened name) (opened_as read size found name r) old → IfErr r (λ f. f ≡ Fault Read → CameSince old new (Unread name))
   opened_unread (Ok s) is = tt
   opened_unread (Err fault) is = λ same. came_of old new name (Opened name) fault (Unread name) (Fault Read) refl is same
 
-  pub opened_unfit : (r : Result In OpenFault) → new ≡ with_event (Opened name) (opened_as read found name r) old → IfErr r (λ f. f ≡ SameFile → CameSince old new Unfit)
+  pub opened_unfit : (r : Result In OpenFault) → new ≡ with_event (Opened name) (opened_as read size found name r) old → IfErr r (λ f. f ≡ SameFile → CameSince old new Unfit)
   opened_unfit (Ok s) is = tt
   opened_unfit (Err fault) is = λ same. came_of old new name (Opened name) fault Unfit SameFile refl is same
 
-pub found_plain : (name : List ℕ) (left : Option (List ℕ)) → puts_in (Found name left ∷ []) ≡ []
+pub found_plain : (name : List ℕ) (left : Option (List ℕ)) (size : Option ℕ) → puts_in (Found name left size ∷ []) ≡ []
 unfolding puts_in
-found_plain name left = refl
+found_plain name left size = refl
 
-pub found_any_plain : (name : List ℕ) (left : Option (List ℕ)) → puts_in (FoundOrEmpty name left ∷ []) ≡ []
+pub found_any_plain : (name : List ℕ) (left : Option (List ℕ)) (size : Option ℕ) → puts_in (FoundOrEmpty name left size ∷ []) ≡ []
 unfolding puts_in
-found_any_plain name left = refl
+found_any_plain name left size = refl
 
 -- one was to be prepared, created or made
 module _ {A : Type 0} (name : List ℕ) (e : Event) (made : List Outcome) (plain : puts_in made ≡ []) (old new : FilesView) where
@@ -184,9 +186,9 @@ pub gave_puts : (r : Reading) → puts_in (Gave r ∷ []) ≡ []
 unfolding puts_in
 gave_puts r = refl
 
-pub settled_puts : (took : List ℕ) (size : ℕ) → puts_in (Settled took size ∷ []) ≡ []
+pub settled_puts : (durability : Durability) (took : List ℕ) (size : ℕ) → puts_in (Settled durability took size ∷ []) ≡ []
 unfolding puts_in
-settled_puts took size = refl
+settled_puts durability took size = refl
 
 -- ---- What was read.
 
@@ -202,9 +204,9 @@ none_left None new same end = tt
 none_left (Some rest) new same end = rw (same rest refl) at end
 
 -- a file was opened and read, and then its reading was over
-pub gave_since : (name bytes : List ℕ) (old new : FilesView) (first last : SourceView) → first.supply.given ≡ [] → CameSince old new (Found name first.supply.left)
+pub gave_since : (name bytes : List ℕ) (old new : FilesView) (first last : SourceView) (size : Option ℕ) → first.supply.given ≡ [] → CameSince old new (Found name first.supply.left size)
     → Consumes first.supply last.supply bytes → CameSince old new (Gave (reading_of name last)) → HasGiven (CameSince old new) name bytes
-gave_since name bytes old new first last unread found read over =
+gave_since name bytes old new first last size unread found read over =
     let left = left_after first.supply.left last.supply.left bytes read.left in
     record {
       reading = reading_of name last;
@@ -212,14 +214,15 @@ gave_since name bytes old new first last unread found read over =
       named = refl;
       given = read.given ∙ ap (λ x. x ++ bytes) unread;
       left = left.0;
-      found = subst (λ l. CameSince old new (Found name l)) left.1 found;
+      size = size;
+      found = subst (λ l. CameSince old new (Found name l size)) left.1 found;
     }
 
-pub all_since : (name bytes : List ℕ) (old new : FilesView) (first last : SourceView) → first.supply.given ≡ [] → CameSince old new (Found name first.supply.left)
+pub all_since : (name bytes : List ℕ) (old new : FilesView) (first last : SourceView) (size : Option ℕ) → first.supply.given ≡ [] → CameSince old new (Found name first.supply.left size)
     → Consumes first.supply last.supply bytes → IsAtEnd last.supply → CameSince old new (Gave (reading_of name last)) → HasGivenAll (CameSince old new) name bytes
 unfolding gave_since
-all_since name bytes old new first last unread found read end over = record {
-  gave = gave_since name bytes old new first last unread found read over;
+all_since name bytes old new first last size unread found read end over = record {
+  gave = gave_since name bytes old new first last size unread found read over;
   whole = end.0;
   none = none_left _ last.supply.left (left_after first.supply.left last.supply.left bytes read.left).2 end.1;
 }
@@ -232,7 +235,8 @@ module _ (Came Later : Outcome → Type 0) (so : (o : Outcome) → Came o → La
     named = g.named;
     given = g.given;
     left = g.left;
-    found = so (Found name (prepend_known bytes g.left)) g.found;
+    size = g.size;
+    found = so (Found name (prepend_known bytes g.left) g.size) g.found;
   }
 
   abbrev pub all_as : HasGivenAll Came name bytes → HasGivenAll Later name bytes

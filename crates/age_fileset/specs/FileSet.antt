@@ -47,18 +47,19 @@ reading_of name source = record {
 
 pub data Outcome : Type 0 where
   -- a file was opened under this name, or set back to its start: it has this to give, if contracts see
-  -- that
-  Found : List ℕ → Option (List ℕ) → Outcome
+  -- that, and is so long, if the set can say
+  Found : List ℕ → Option (List ℕ) → Option ℕ → Outcome
   -- the same, but a file that isn't there counts as empty
-  FoundOrEmpty : List ℕ → Option (List ℕ) → Outcome
-  -- none could be opened; none could be prepared, created or made; none was there
+  FoundOrEmpty : List ℕ → Option (List ℕ) → Option ℕ → Outcome
+  -- none could be opened; none could be prepared, created, made, ended or replaced; none was there
   Unread : List ℕ → Outcome
   Unwritten : List ℕ → Outcome
   Absent : List ℕ → Outcome
   -- the reading of a file is over
   Gave : Reading → Outcome
-  -- an output that took these bytes holds so many of them for certain, as the set says
-  Settled : List ℕ → ℕ → Outcome
+  -- an output that took these bytes holds so many of them for certain, as the set says: on the disk, if
+  -- that was asked for
+  Settled : Durability → List ℕ → ℕ → Outcome
   -- A close or a replacing with these bytes succeeded. What a disk holds then is said by its calls: if
   -- a put failed not all of the bytes need be there, and what failed may have left some.
   Put : List ℕ → List ℕ → Outcome
@@ -66,7 +67,7 @@ pub data Outcome : Type 0 where
   -- of faults
   Unfit : Outcome
 
--- what comes of a file that can't be opened, prepared or created
+-- what comes of a file that can't be opened or written
 abbrev pub refused_as : List ℕ → OpenFault → List Outcome
 refused_as name SameFile = Unfit ∷ []
 refused_as name (Fault Read) = Unread name ∷ []
@@ -74,25 +75,29 @@ refused_as name (Fault Write) = Unwritten name ∷ []
 refused_as name (Fault other) = []
 
 -- of one that was to be opened, and whose source this is then
-abbrev pub opened_as : {In : Type 0} → (In → SourceView) → (Option (List ℕ) → Outcome) → List ℕ
-    → Result In OpenFault → List Outcome
-opened_as read found name (Ok source) = found (read source).supply.left ∷ []
-opened_as read found name (Err fault) = refused_as name fault
+abbrev pub opened_as : {In : Type 0} → (In → SourceView) → (In → Option ℕ)
+    → (Option (List ℕ) → Option ℕ → Outcome) → List ℕ → Result In OpenFault → List Outcome
+opened_as read size found name (Ok source) = found (read source).supply.left (size source) ∷ []
+opened_as read size found name (Err fault) = refused_as name fault
 
 -- of one that was to be set back to its start, and has this to give then
-abbrev pub reread_as : List ℕ → Option (List ℕ) → Result (Unit {0}) FileFault → List Outcome
-reread_as name left (Ok done) = Found name left ∷ []
-reread_as name left (Err fault) = refused_as name (Fault fault)
+abbrev pub reread_as : List ℕ → Option (List ℕ) → Option ℕ → Result (Unit {0}) FileFault → List Outcome
+reread_as name left size (Ok done) = Found name left size ∷ []
+reread_as name left size (Err fault) = refused_as name (Fault fault)
 
 -- of one that was to be prepared, created or made: this, or that it can't be
 abbrev pub made_as : {A : Type 0} → List Outcome → List ℕ → Result A OpenFault → List Outcome
 made_as made name (Ok out) = made
 made_as made name (Err fault) = refused_as name fault
 
--- of one in whose place these bytes were to be put
+-- of one in whose place these bytes were to be put, and of one that couldn't be ended or replaced
 abbrev pub put_as : {E : Type 0} → List ℕ → List ℕ → Result (Unit {0}) E → List Outcome
 put_as name bytes (Ok done) = Put name bytes ∷ []
 put_as name bytes (Err fault) = []
+
+abbrev pub written_as : List ℕ → List ℕ → Result (Unit {0}) FileFault → List Outcome
+written_as name bytes (Ok done) = Put name bytes ∷ []
+written_as name bytes (Err fault) = refused_as name (Fault fault)
 
 -- of a question whose answer no name shows
 abbrev pub unfit_if : Bool → List Outcome
@@ -180,7 +185,8 @@ pub record HasGiven (Came : Outcome → Type 0) (name bytes : List ℕ) : Type 0
   pub named : reading.name ≡ name
   pub given : reading.given ≡ bytes
   pub left : Option (List ℕ)
-  pub found : Came (Found name (prepend_known bytes left))
+  pub size : Option ℕ
+  pub found : Came (Found name (prepend_known bytes left) size)
 
 -- and found its end: they are all that the file had to give
 pub record HasGivenAll (Came : Outcome → Type 0) (name bytes : List ℕ) : Type 0 where
@@ -231,11 +237,11 @@ stands files (outcome ∷ more) = stands (once files outcome) more
 -- this is true of such files, in a set that shows them: in memory none is a stream, a terminal or on
 -- a disk
 abbrev pub Fits : Files → Outcome → Type 0
-Fits files (Found name left) = (is_some left ≡ true) × (left ≡ files name)
-Fits files (FoundOrEmpty name left) = left ≡ or_empty (files name)
+Fits files (Found name left size) = (is_some left ≡ true) × (left ≡ files name)
+Fits files (FoundOrEmpty name left size) = left ≡ or_empty (files name)
 Fits files (Unread name) = files name ≡ None
 Fits files (Absent name) = files name ≡ None
-Fits files (Settled took size) = size ≡ length took
+Fits files (Settled durability took size) = size ≡ length took
 Fits files Unfit = ⊥
 Fits files other = Unit {0}
 
@@ -298,6 +304,10 @@ shown_in file = record {
   failed = file.1.failures;
   failing = file.1.failing;
 }
+
+-- how long it is
+abbrev pub size_in : List ℕ × Feeding → Option ℕ
+size_in file = Some (length file.1.left)
 
 -- and one that is written, by its name and its sink
 abbrev pub shown_out : List ℕ × Holding → SinkView

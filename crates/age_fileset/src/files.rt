@@ -1,12 +1,11 @@
 //! Files by their names.
 
-ghost use Rattle.std.specs.Prelude.{◌≡◌, ℕ, true, false, List, [], ◌∷◌};
-ghost use Rattle.std.specs.Prelude.{IfOk, IfErr, IsOkUnless, OnOk, IfSome, ◌≤◌, length, Option, IsSomeAnd};
-ghost use Rattle.std.specs.Prelude.{Some};
+ghost use Rattle.std.specs.Prelude.{◌≡◌, ℕ, true, false, List, [], ◌∷◌, Option, Some};
+ghost use Rattle.std.specs.Prelude.{IfOk, IfErr, IsOkUnless, OnOk, IfSome, ◌≤◌, length, IsSomeAnd};
 ghost use Rattle.age_fileset.specs.FileSet.{FilesView, IsMemoryOr, OpenFails, Opened, Prepared, Created};
 ghost use Rattle.age_fileset.specs.FileSet.{Made, Replaced, EndsOne, Found, FoundOrEmpty, Absent, Gave};
-ghost use Rattle.age_fileset.specs.FileSet.{Settled, reading_of, opened_as, reread_as, made_as, put_as};
-ghost use Rattle.age_fileset.specs.FileSet.{alike_as, unfit_if, with_event, with_outcomes};
+ghost use Rattle.age_fileset.specs.FileSet.{Settled, reading_of, opened_as, reread_as, made_as};
+ghost use Rattle.age_fileset.specs.FileSet.{written_as, alike_as, unfit_if, with_event, with_outcomes};
 ghost use Rattle.age_io.specs.Io.{Named, Origin};
 ghost use Rattle.age_machine.specs.Ends.{Closes, Discards};
 ghost use Rattle.age_machine.specs.Saved.{Saves};
@@ -59,6 +58,9 @@ pub trait FileSet {
     // What contracts see of a set: what was done, and what came of it.
     ghost view: { Self → FilesView };
 
+    // How many bytes a file that is read has to give, if the set can say.
+    ghost size: { Self.In → Option ℕ };
+
     // Which regular file of a disk a file that is written is, if it is one.
     ghost file: { Self.Out → Option OutFile };
 
@@ -79,7 +81,7 @@ pub trait FileSet {
     /// and with [`SameFile`](OpenFault::SameFile) if it is a stream that was opened before.
     fn open(&mut self, alloc: Global, name: &str) -> Result<Self::In, OpenFault>
         ensures noted { view self.new ≡ with_event (Opened name.now)
-            (opened_as (Self.In.view) (Found name.now) name.now result) (view self.old) }
+            (opened_as (Self.In.view) size (Found name.now) name.now result) (view self.old) }
         ensures begun { IfOk result (λ s. (Self.In.view s).supply.given ≡ []) }
         ensures named { IfOk result (λ s. Self.In.began s (Named name.now)) }
         ensures faults { IfErr result (OpenFails FileFault.Read) };
@@ -88,7 +90,7 @@ pub trait FileSet {
     /// but with `Read` (26) only if the file is there and can't be opened.
     fn open_or_empty(&mut self, alloc: Global, name: &str) -> Result<Self::In, OpenFault>
         ensures noted { view self.new ≡ with_event (Opened name.now)
-            (opened_as (Self.In.view) (FoundOrEmpty name.now) name.now result) (view self.old) }
+            (opened_as (Self.In.view) size (FoundOrEmpty name.now) name.now result) (view self.old) }
         ensures begun { IfOk result (λ s. (Self.In.view s).supply.given ≡ []) }
         ensures named { IfOk result (λ s. Self.In.began s (Named name.now)) }
         ensures faults { IfErr result (OpenFails FileFault.Read) };
@@ -96,7 +98,8 @@ pub trait FileSet {
     /// How many bytes a file that was opened still has to give; `None` if the set can't say, as it
     /// can't of a pipe or a terminal.
     fn length(&self, source: &Self::In) -> Option<u64>
-        ensures { IfSome (Self.In.view source.now).supply.left
+        ensures noted { result ≡ size source.now }
+        ensures seen { IfSome (Self.In.view source.now).supply.left
             (λ bytes. result ≡ Some (length bytes)) };
 
     /// Whether a file that was opened can be read once more from its start.
@@ -110,7 +113,8 @@ pub trait FileSet {
     fn reread(&mut self, alloc: Global, name: &str, source: &mut Self::In) -> Result<(), FileFault>
         ensures over { Self.In.began source.old (Named name.now) → view self.new
             ≡ with_outcomes (Gave (reading_of name.now (Self.In.view source.old))
-            ∷ reread_as name.now (Self.In.view source.new).supply.left result) (view self.old) }
+            ∷ reread_as name.now (Self.In.view source.new).supply.left (size source.new) result)
+            (view self.old) }
         ensures same { view self.new ≡ record (view self.old) { outcomes = (view self.new).outcomes } }
         ensures begun { OnOk result ((Self.In.view source.new).supply.given ≡ []) }
         ensures began { (from : Origin) → Self.In.began source.old from
@@ -169,7 +173,7 @@ pub trait FileSet {
     /// asked for and the machine can wait. Never more than the sink took.
     fn settle(&mut self, out: &mut Self::Out, durability: Durability) -> u64
         ensures noted { view self.new ≡ with_outcomes
-            (Settled (Self.Out.view out.old).taken.bytes result ∷ []) (view self.old) }
+            (Settled durability (Self.Out.view out.old).taken.bytes result ∷ []) (view self.old) }
         ensures same { Self.Out.view out.new ≡ Self.Out.view out.old }
         ensures most { IfSome (Self.Out.view out.old).taken.contents (λ taken. result ≤ length taken) };
 
@@ -178,7 +182,7 @@ pub trait FileSet {
     /// wait. Refuses with `Write` (27); it is then as it was, or holds the bytes that its sink
     /// took.
     fn close(&mut self, out: Self::Out, durability: Durability) -> Result<(), FileFault>
-        ensures noted { EndsOne durability (put_as (Self.Out.view out).label
+        ensures noted { EndsOne durability (written_as (Self.Out.view out).label
             (Self.Out.view out).taken.bytes result) (view self.old) (view self.new) }
         ensures closed { IsSomeAnd (view self.new).ended
             (Closes durability (file out) (Self.Out.view out) result) }
@@ -203,7 +207,7 @@ pub trait FileSet {
         durability: Durability,
     ) -> Result<(), FileFault>
         ensures noted { view self.new ≡ record (with_event (Replaced name.now durability)
-            (put_as name.now bytes.now result) (view self.old)) { saved = (view self.new).saved } }
+            (written_as name.now bytes.now result) (view self.old)) { saved = (view self.new).saved } }
         ensures saved { Saves bytes.now durability result (view self.new).saved }
         ensures faults { IfErr result (IsMemoryOr FileFault.Write) };
 }

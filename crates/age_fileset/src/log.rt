@@ -3,8 +3,8 @@
 ghost use Rattle.std.specs.Prelude.{◌≡◌, [], ◌∷◌, ◌++◌, option_map};
 ghost use Rattle.std.specs.Borrow.{ftrue};
 ghost use Rattle.age_fileset.specs.FileSet.{Doings, Opened, Prepared, Created, Made, Replaced, Closed};
-ghost use Rattle.age_fileset.specs.FileSet.{Found, FoundOrEmpty, Absent, Gave, Settled, Put, refused_as};
-ghost use Rattle.age_fileset.specs.FileSet.{unfit_if};
+ghost use Rattle.age_fileset.specs.FileSet.{Found, FoundOrEmpty, Unwritten, Absent, Gave, Settled, Put};
+ghost use Rattle.age_fileset.specs.FileSet.{refused_as, unfit_if};
 ghost use Rattle.age_fileset.specs.inner.Events.{once_done, coded_doings};
 
 use crate::files::OpenFault;
@@ -20,12 +20,13 @@ enum Action<'a> {
     Made(&'a str),
     Replaced(&'a str, Durability),
     Closed(Durability),
-    Found(&'a str, Option<&'a Tape>),
-    FoundOrEmpty(&'a str, Option<&'a Tape>),
+    Found(&'a str, Option<&'a Tape>, Option<u64>),
+    FoundOrEmpty(&'a str, Option<&'a Tape>, Option<u64>),
     Refused(&'a str, OpenFault),
+    Unwritten(&'a Tape),
     Absent(&'a str),
     Gave(&'a Tape, &'a Tape, bool, bool),
-    Settled(&'a Tape, u64),
+    Settled(Durability, &'a Tape, u64),
     Put(&'a Tape, &'a Tape),
     Answered(bool),
 }
@@ -121,22 +122,25 @@ impl Log {
         self.cell.note(&Action::Closed(durability));
     }
 
-    /// A file was opened under this name, and has this to give, if contracts see that.
-    pub fn found(&mut self, name: &str, left: Option<&Tape>)
+    /// A file was opened under this name. It has this to give, if contracts see that, and so many
+    /// bytes, if the set can say.
+    pub fn found(&mut self, name: &str, left: Option<&Tape>, size: Option<u64>)
         ensures { self.new ≡ record self.old {
-          outcomes = self.old.outcomes ++ Found name.now (option_map (λ t. t.now) left.entry) ∷ [];
+          outcomes = self.old.outcomes
+              ++ Found name.now (option_map (λ t. t.now) left.entry) size ∷ [];
         } }
     {
-        self.cell.note(&Action::Found(name, left));
+        self.cell.note(&Action::Found(name, left, size));
     }
 
     /// The same; none of this name counts as empty.
-    pub fn found_or_empty(&mut self, name: &str, left: Option<&Tape>)
+    pub fn found_or_empty(&mut self, name: &str, left: Option<&Tape>, size: Option<u64>)
         ensures { self.new ≡ record self.old {
-          outcomes = self.old.outcomes ++ FoundOrEmpty name.now (option_map (λ t. t.now) left.entry) ∷ [];
+          outcomes = self.old.outcomes
+              ++ FoundOrEmpty name.now (option_map (λ t. t.now) left.entry) size ∷ [];
         } }
     {
-        self.cell.note(&Action::FoundOrEmpty(name, left));
+        self.cell.note(&Action::FoundOrEmpty(name, left, size));
     }
 
     /// A file of this name couldn't be opened, prepared or created.
@@ -146,6 +150,15 @@ impl Log {
         } }
     {
         self.cell.note(&Action::Refused(name, fault));
+    }
+
+    /// A file of this name couldn't be ended or replaced.
+    pub fn unwritten(&mut self, name: &Tape)
+        ensures { self.new ≡ record self.old {
+          outcomes = self.old.outcomes ++ Unwritten name.now ∷ [];
+        } }
+    {
+        self.cell.note(&Action::Unwritten(name));
     }
 
     /// No file had this name.
@@ -171,13 +184,14 @@ impl Log {
             .note(&Action::Gave(name, given, is_at_end, is_failing));
     }
 
-    /// An output that took these bytes holds so many of them for certain.
-    pub fn settled(&mut self, took: &Tape, size: u64)
+    /// An output that took these bytes holds so many of them for certain: on the disk, if that was
+    /// asked for.
+    pub fn settled(&mut self, durability: Durability, took: &Tape, size: u64)
         ensures { self.new ≡ record self.old {
-          outcomes = self.old.outcomes ++ Settled took.now size ∷ [];
+          outcomes = self.old.outcomes ++ Settled durability took.now size ∷ [];
         } }
     {
-        self.cell.note(&Action::Settled(took, size));
+        self.cell.note(&Action::Settled(durability, took, size));
     }
 
     /// These bytes were put under this name, in place of what stood there.

@@ -10,6 +10,7 @@ ghost use Rattle.age_fileset.specs.FileSet.{entry_of, empty_with, PutsEntry, IsM
 ghost use Rattle.age_fileset.specs.FileSet.{or_empty, Opened, Prepared, Created, Made, Replaced, Closed};
 ghost use Rattle.age_fileset.specs.FileSet.{Found, FoundOrEmpty, Absent, Gave, Settled};
 ghost use Rattle.age_fileset.specs.FileSet.{ended_with, opened_as, reread_as, made_as, put_as};
+ghost use Rattle.age_fileset.specs.FileSet.{written_as, size_in};
 ghost use Rattle.age_fileset.specs.FileSet.{shown_in, shown_out, seen_in, reading_of};
 ghost use Rattle.age_fileset.specs.FileSet.{MemFails, AreTrue};
 ghost use Rattle.age_fileset.specs.declared.files.OpenFault.TheVariants.{Fault};
@@ -333,6 +334,8 @@ impl FileSet for MemFiles {
 
     ghost view = { seen_in };
 
+    ghost size = { size_in };
+
     ghost file = { λ _. None };
 
     /// Equal names alone stand for one file.
@@ -355,7 +358,7 @@ impl FileSet for MemFiles {
     fn open(&mut self, alloc: Global, name: &str) -> Result<MemIn, OpenFault>
         ensures kept { self.new ≡ record self.old {
           events = self.old.events ++ Opened name.now ∷ [];
-          outcomes = self.old.outcomes ++ opened_as shown_in (Found name.now) name.now result;
+          outcomes = self.old.outcomes ++ opened_as shown_in size_in (Found name.now) name.now result;
         } }
         ensures found { IfOk result (λ s. entry_of self.old.entries name.now ≡ Some s.1.left) }
         ensures begun { IfOk result (λ s. (s.0 ≡ name.now) × (s.1.given ≡ [])) }
@@ -370,8 +373,9 @@ impl FileSet for MemFiles {
         };
         let mut left = Tape::new();
         left.note(bytes);
+        let size = Some(bytes.len() as u64);
         let source = new_in(alloc, name, bytes)?;
-        self.log.found(name, Some(&left));
+        self.log.found(name, Some(&left), size);
         Ok(source)
     }
 
@@ -379,7 +383,8 @@ impl FileSet for MemFiles {
     fn open_or_empty(&mut self, alloc: Global, name: &str) -> Result<MemIn, OpenFault>
         ensures kept { self.new ≡ record self.old {
           events = self.old.events ++ Opened name.now ∷ [];
-          outcomes = self.old.outcomes ++ opened_as shown_in (FoundOrEmpty name.now) name.now result;
+          outcomes = self.old.outcomes
+              ++ opened_as shown_in size_in (FoundOrEmpty name.now) name.now result;
         } }
         ensures found { IfOk result
             (λ s. Some s.1.left ≡ or_empty (entry_of self.old.entries name.now)) }
@@ -390,8 +395,9 @@ impl FileSet for MemFiles {
         let bytes = bytes_or_none(self.entries.as_slice(), name);
         let mut left = Tape::new();
         left.note(bytes);
+        let size = Some(bytes.len() as u64);
         let source = new_in(alloc, name, bytes)?;
-        self.log.found_or_empty(name, Some(&left));
+        self.log.found_or_empty(name, Some(&left), size);
         Ok(source)
     }
 
@@ -413,7 +419,7 @@ impl FileSet for MemFiles {
     fn reread(&mut self, alloc: Global, name: &str, source: &mut MemIn) -> Result<(), FileFault>
         ensures over { self.new ≡ record self.old {
           outcomes = self.old.outcomes ++ Gave (reading_of source.old.0 (shown_in source.old))
-              ∷ reread_as name.now (Some source.new.1.left) result;
+              ∷ reread_as name.now (Some source.new.1.left) (size_in source.new) result;
         } }
         ensures named { source.new.0 ≡ source.old.0 }
         ensures begun { OnOk result (source.new.1.given ≡ []) }
@@ -429,8 +435,9 @@ impl FileSet for MemFiles {
         };
         let mut left = Tape::new();
         left.note(bytes);
+        let size = Some(bytes.len() as u64);
         source.source = source_of(alloc, bytes)?;
-        self.log.found(name, Some(&left));
+        self.log.found(name, Some(&left), size);
         Ok(())
     }
 
@@ -520,9 +527,9 @@ impl FileSet for MemFiles {
     }
 
     /// All that the sink took.
-    fn settle(&mut self, out: &mut MemOut, _durability: Durability) -> u64
+    fn settle(&mut self, out: &mut MemOut, durability: Durability) -> u64
         ensures kept { self.new ≡ record self.old {
-          outcomes = self.old.outcomes ++ Settled out.old.1.held result ∷ [];
+          outcomes = self.old.outcomes ++ Settled durability out.old.1.held result ∷ [];
         } }
         ensures same { out.new ≡ out.old }
         ensures all { result ≡ length out.old.1.held }
@@ -530,7 +537,7 @@ impl FileSet for MemFiles {
         let mut took = Tape::new();
         took.note(out.sink.bytes());
         let size = out.sink.bytes().len() as u64;
-        self.log.settled(&took, size);
+        self.log.settled(durability, &took, size);
         size
     }
 
@@ -542,16 +549,21 @@ impl FileSet for MemFiles {
         ensures kept { self.new ≡ record self.old {
           entries = self.new.entries;
           events = self.old.events ++ Closed durability ∷ [];
-          outcomes = self.old.outcomes ++ put_as out.0 out.1.held result;
+          outcomes = self.old.outcomes ++ written_as out.0 out.1.held result;
           ended = Some (ended_with out.1.held true);
         } }
     {
         self.log.closed(durability);
         let MemOut { name, sink } = out;
         self.ended = Some(MemEnded::of(&sink, true));
+        let mut own = Tape::new();
+        own.note(name.as_str().as_bytes());
         match self.put_noted(name, Bytes::from_vec(sink.into_bytes())) {
             Ok(()) => Ok(()),
-            Err(_) => Err(FileFault::Write),
+            Err(_) => {
+                self.log.unwritten(&own);
+                Err(FileFault::Write)
+            }
         }
     }
 
@@ -583,11 +595,12 @@ impl FileSet for MemFiles {
         ensures kept { self.new ≡ record self.old {
           entries = self.new.entries;
           events = self.old.events ++ Replaced name.now durability ∷ [];
-          outcomes = self.old.outcomes ++ put_as name.now bytes.now result;
+          outcomes = self.old.outcomes ++ written_as name.now bytes.now result;
         } }
     {
         self.log.replaced(name, durability);
         if is_refused(self.refused.as_slice(), name) || bytes.len() > self.room {
+            self.log.refused(name, OpenFault::Fault(FileFault::Write));
             return Err(FileFault::Write);
         }
         let Ok(copy) = bytes.to_vec(alloc) else {

@@ -460,6 +460,8 @@ impl<'r, 'w> FileSet for HostFiles<'r, 'w> {
       saved = f.saved;
     } };
 
+    ghost size = { λ s. s.source.size };
+
     ghost file = { λ o. o.sink.file };
 
     /// Two paths of one file are the same too, so that no link destroys what is read.
@@ -487,7 +489,8 @@ impl<'r, 'w> FileSet for HostFiles<'r, 'w> {
     fn open(&mut self, alloc: Global, name: &str) -> Result<WatchedIn<'r, 'w>, OpenFault>
         ensures noted { self.new.log.events ≡ self.old.log.events ++ Opened name.now ∷ [] }
         ensures came { self.new.log.outcomes ≡ self.old.log.outcomes
-            ++ opened_as (λ s. as_source s.source) (Found name.now) name.now result }
+            ++ opened_as (λ s. as_source s.source) (λ s. s.source.size) (Found name.now) name.now
+            result }
         ensures unended { self.new.ended ≡ self.old.ended }
         ensures unsaved { self.new.saved ≡ self.old.saved }
         ensures begun { IfOk result (λ s. s.source.given ≡ []) }
@@ -502,9 +505,9 @@ impl<'r, 'w> FileSet for HostFiles<'r, 'w> {
             return Err(fault);
         }
         let opened = self.admit_in(name, HostIn::open(alloc, self.rt, name));
-        match opened {
-            Ok(_) => self.log.found(name, None),
-            Err(fault) => self.log.refused(name, fault),
+        match &opened {
+            Ok(source) => self.log.found(name, None, source.length()),
+            Err(fault) => self.log.refused(name, *fault),
         }
         opened
     }
@@ -512,7 +515,8 @@ impl<'r, 'w> FileSet for HostFiles<'r, 'w> {
     fn open_or_empty(&mut self, alloc: Global, name: &str) -> Result<WatchedIn<'r, 'w>, OpenFault>
         ensures noted { self.new.log.events ≡ self.old.log.events ++ Opened name.now ∷ [] }
         ensures came { self.new.log.outcomes ≡ self.old.log.outcomes
-            ++ opened_as (λ s. as_source s.source) (FoundOrEmpty name.now) name.now result }
+            ++ opened_as (λ s. as_source s.source) (λ s. s.source.size) (FoundOrEmpty name.now)
+            name.now result }
         ensures unended { self.new.ended ≡ self.old.ended }
         ensures unsaved { self.new.saved ≡ self.old.saved }
         ensures begun { IfOk result (λ s. s.source.given ≡ []) }
@@ -527,9 +531,9 @@ impl<'r, 'w> FileSet for HostFiles<'r, 'w> {
             return Err(fault);
         }
         let opened = self.admit_in(name, HostIn::open_or_empty(alloc, self.rt, name));
-        match opened {
-            Ok(_) => self.log.found_or_empty(name, None),
-            Err(fault) => self.log.refused(name, fault),
+        match &opened {
+            Ok(source) => self.log.found_or_empty(name, None, source.length()),
+            Err(fault) => self.log.refused(name, *fault),
         }
         opened
     }
@@ -554,7 +558,7 @@ impl<'r, 'w> FileSet for HostFiles<'r, 'w> {
         match source.reread() {
             Ok(()) => {
                 announce_rereading(self.rt, self.failures);
-                self.log.found(name, None);
+                self.log.found(name, None, source.length());
                 Ok(())
             }
             Err(error) => {
@@ -649,7 +653,7 @@ impl<'r, 'w> FileSet for HostFiles<'r, 'w> {
 
     fn settle(&mut self, out: &mut WatchedOut<'r, 'w>, durability: Durability) -> u64 {
         let size = out.settle(self.rt, durability);
-        self.log.settled(out.took(), size);
+        self.log.settled(durability, out.took(), size);
         size
     }
 
@@ -691,7 +695,9 @@ impl<'r, 'w> FileSet for HostFiles<'r, 'w> {
             }
             Err(error) => {
                 self.failures.note_unsaved(name, error);
-                Err(fault_of(error, FileFault::Write))
+                let fault = fault_of(error, FileFault::Write);
+                self.log.refused(name, OpenFault::Fault(fault));
+                Err(fault)
             }
         }
     }

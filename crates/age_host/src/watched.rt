@@ -1,13 +1,13 @@
 //! Files and streams whose failures are kept.
 
-ghost use Rattle.std.specs.Prelude.{◌≡◌, ◌≤◌, ◌<◌, [], ◌∷◌, ◌++◌, length, true, IfOk, OnOk};
+ghost use Rattle.std.specs.Prelude.{◌≡◌, ◌≤◌, ◌<◌, [], ◌∷◌, ◌++◌, length, true, IfOk, OnOk, OnErr};
 ghost use Rattle.std.specs.Prelude.{IfSome, MatchResult, is_err, false};
 ghost use Rattle.age_io.specs.Io.{one_more, IsNamed};
 ghost use Rattle.age_io.specs.Taken.{WriteAppends, Keeps};
 ghost use Rattle.age_machine.specs.Ends.{Closes, Discards};
 ghost use Rattle.age_disk.specs.Inputs.{as_source};
 ghost use Rattle.age_disk.specs.Outputs.{HasNode, as_sink};
-ghost use Rattle.age_fileset.specs.FileSet.{Gave, reading_of, put_as};
+ghost use Rattle.age_fileset.specs.FileSet.{Gave, Put, Unwritten, reading_of};
 
 use age_disk::{Ended, FileId, HostIn, HostOut, Prepared};
 use age_fileset::Log;
@@ -48,7 +48,11 @@ impl<'r, 'w> WatchedIn<'r, 'w> {
     /// Sets it back to its start. If the second reading ends elsewhere and no pull fails, the file
     /// isn't what it was.
     pub(crate) fn reread(&mut self) -> io::Result<()>
-        ensures { self.new.source ≡ record self.old.source { given = []; is_at_end = false } }
+        ensures { self.new.source ≡ record self.old.source {
+          given = [];
+          is_at_end = false;
+          size = self.new.source.size;
+        } }
     {
         let result = self.source.reread();
         self.is_again = true;
@@ -94,7 +98,9 @@ impl<'r, 'w> WatchedIn<'r, 'w> {
     }
 
     /// How many bytes a regular file still has to give.
-    pub(crate) fn length(&self) -> Option<u64> {
+    pub(crate) fn length(&self) -> Option<u64>
+        ensures { result ≡ self.now.source.size }
+    {
         self.source.length()
     }
 }
@@ -216,7 +222,7 @@ impl<'r, 'w> WatchedOut<'r, 'w> {
         self.sink.took()
     }
 
-    /// Ends it with what was written, and notes that this was put, if it was.
+    /// Ends it with what was written, and notes that this was put, or that it failed.
     pub(crate) fn close(
         self,
         rt: &HostRuntime,
@@ -225,9 +231,12 @@ impl<'r, 'w> WatchedOut<'r, 'w> {
     ) -> (Ended, io::Result<()>)
         ensures closes { Closes durability self.entry.sink.file
             (record (as_sink self.entry.sink) { label = self.entry.label }) result.1 result.0 }
-        ensures noted { log.new ≡ record log.old {
-          outcomes = log.old.outcomes ++ put_as self.entry.label self.entry.sink.took result.1;
-        } }
+        ensures put { OnOk result.1 (log.new ≡ record log.old {
+          outcomes = log.old.outcomes ++ Put self.entry.label self.entry.sink.took ∷ [];
+        }) }
+        ensures lost { OnErr result.1 (log.new ≡ record log.old {
+          outcomes = log.old.outcomes ++ Unwritten self.entry.label ∷ [];
+        }) }
     {
         let WatchedOut {
             sink,
@@ -238,7 +247,10 @@ impl<'r, 'w> WatchedOut<'r, 'w> {
         let (ended, closed) = sink.close(rt, durability);
         match closed {
             Ok(()) => log.put(&label, ended.took()),
-            Err(error) => failures.note(closing(durability), name, error),
+            Err(error) => {
+                log.unwritten(&label);
+                failures.note(closing(durability), name, error);
+            }
         }
         (ended, closed)
     }

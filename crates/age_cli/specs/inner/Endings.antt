@@ -1,28 +1,24 @@
 -- How a part of the program ended. What only private code cites.
-use Rattle.std.specs.Prelude.{◌≡◌, ◌≢◌, ◌⊎◌, ℕ, ◌++◌, ◌∷◌, [], true, false, List, Option, Some, None}
-use Rattle.std.specs.Prelude.{Result, Ok, Err, IsOk, OnOk, OnErr, IfErr, IsErrAnd, IsSomeAnd, ◌<◌, ◌≤◌}
-use Rattle.std.specs.Prelude.{◌*◌, IfSome}
+use Rattle.std.specs.Prelude.{◌≡◌, ◌≢◌, ◌⊎◌, ℕ, ◌++◌, ◌∷◌, [], true, false, List, Option, None}
+use Rattle.std.specs.Prelude.{Result, Ok, Err, IsOk, OnOk, OnErr, IfErr, IsErrAnd, IsSomeAnd, IfSome, ◌<◌}
 use Rattle.clap.specs.Words.{Text}
 use Rattle.clap.specs.declared.error.kind.ErrorKind.{ErrorKind}
 use Rattle.clap.specs.declared.error.kind.ErrorKind.TheVariants.{DisplayHelp, DisplayVersion}
-use Rattle.age_chunk.specs.Payload.{chunk_length}
 use Rattle.age_io.specs.Io.{SinkView}
 use Rattle.age_io.specs.declared.durability.Durability.{Durability}
 use Rattle.age_io.specs.declared.durability.Durability.TheVariants.{Synced}
 use Rattle.age_fault.specs.declared.fault.FileFault.{FileFault}
-use Rattle.age_fault.specs.declared.fault.FileFault.TheVariants.{Read, Write}
+use Rattle.age_fault.specs.declared.fault.FileFault.TheVariants.{Write}
 use Rattle.age_file.specs.declared.decryption.Done.{Done}
 use Rattle.age_file.specs.declared.decryption.Stopped.{Stopped}
 use Rattle.age_file.specs.declared.encryption.Written.{Written}
 use Rattle.age_file.specs.declared.position.Position.{Position}
-use Rattle.age_fileset.specs.FileSet.{Closed, Entry, entry, FilesView, PutsOnly, IsMemoryOr}
+use Rattle.age_fileset.specs.FileSet.{Closed, Unwritten, Entry, entry, FilesView, PutsOnly, CameSince}
 use Rattle.age_command.specs.Endings.{is_usage}
 use Rattle.age_command.specs.declared.ending.Ending.{Ending}
-use Rattle.age_command.specs.declared.ending.Ending.TheVariants.{Fault, Unsaved}
 use Rattle.age_command.specs.Orders.{Follows, replacing}
 use Rattle.age_machine.specs.Ends.{EndedFile, TouchesItself, IsThere, IsOnDisk, IsUntouched}
-use Rattle.age_machine.specs.Saved.{SavedFile}
-use Rattle.age_cli.specs.Acts.{IsEndingOf, HasPut, IsSavedAs, LacksOne}
+use Rattle.age_cli.specs.Acts.{IsEndingOf, IsNotDue, IsStored}
 use Rattle.age_cli.specs.declared.interruption.Interruption.{Interruption}
 
 -- a refusal that isn't one: help or the version is asked for
@@ -81,18 +77,6 @@ abbrev pub IsPut : SinkView → List Entry → Type 0
 IsPut sink puts = (puts ≡ [])
     ⊎ ((puts ≡ entry sink.label sink.taken.bytes ∷ []) × (sink.taken.bytes ≢ []))
 
--- a position isn't saved: it or a name isn't there, or the ending says why
-abbrev pub IsNotDue : Ending → Option Text → Option Position → Type 0
-IsNotDue (Fault fault) save position = LacksOne save position
-IsNotDue (Unsaved fault second) (Some name) (Some p) = IsMemoryOr Write second ⊎ (second ≡ Read)
-IsNotDue other save position = ⊥
-
--- or it is: it was put to its file, so much of OUT is certain, and this stands under the name then
-pub record IsStored (durability : Durability) (save : Option Text) (settled : ℕ) (position : Option Position)
-    (ending : Ending) (rest : List Entry) (saved : SavedFile) : Type 0 where
-  pub put : HasPut durability position ending saved
-  pub is : IsSomeAnd position (λ p. IsSavedAs ending save p rest × (p.index * chunk_length ≤ settled))
-
 -- OUT was ended, whose sink is this: whole, or as a stop leaves it
 pub record EndsOut (durability : Durability) (sink : SinkView) (engine : Result (Unit {0}) Interruption)
     (old new : FilesView) (result : Result (Unit {0}) Interruption) : Type 0 where
@@ -109,6 +93,8 @@ pub record EndsOut (durability : Durability) (sink : SinkView) (engine : Result 
   pub ended : IsSomeAnd new.ended (EndsFile durability sink engine result)
   pub fault : IfErr result (λ stop. IsFaultOf engine stop.fault)
   pub position : IfErr result (λ stop. stop.position ≡ position_of engine)
+  -- If the engine ended, but OUT couldn't be, the set of files says so.
+  pub refused : OnOk engine (OnErr result (CameSince old new (Unwritten sink.label)))
 
 -- and then the position of a stop was saved, if it isn't beyond these bytes
 pub record Concludes (save : Option Text) (durability : Durability) (sink : SinkView) (settled : ℕ)
@@ -126,6 +112,8 @@ pub record Concludes (save : Option Text) (durability : Durability) (sink : Sink
   pub ended : IsSomeAnd new.ended (EndsFile durability sink engine result)
   pub reported : IfErr result
       (λ ending. (fault : FileFault) × IsFaultOf engine fault × IsEndingOf fault ending)
+  -- If the engine ended, but OUT couldn't be, the set of files says so.
+  pub refused : OnOk engine (OnErr result (CameSince old new (Unwritten sink.label)))
   -- After a stop its position was saved, if there is one and a file for it: what was put of the output
   -- comes first.
   pub saved : IfErr result (λ ending. (puts : List Entry) × (rest : List Entry)

@@ -35,7 +35,7 @@ pub record Compares (old new : FilesView) (answer : Bool) (Same : Type 0) : Type
 
 -- the files of `order` were opened or made, and this holds of them; or it ended early, in `whole`
 pub record OpensFiles {A : Type 0} (order whole : List Event) (old new : FilesView) (IsNew : A → Type 0)
-    (Failed : Type 0) (result : Result A Ending) : Type 0 where
+    (result : Result A Ending) : Type 0 where
   -- Nothing was given or taken so far.
   pub begun : IfOk result IsNew
   -- All of the order was done.
@@ -48,7 +48,7 @@ pub record OpensFiles {A : Type 0} (order whole : List Event) (old new : FilesVi
   -- It ended early.
   pub early : IfErr result EndsEarly
   -- It had a reason.
-  pub reason : IfErr result (HasReason (CameSince old new) Failed)
+  pub reason : IfErr result (HasReason (CameSince old new))
   -- The command line is to blame only for what no name shows.
   pub fault : IfErr result (λ ending. is_usage ending ≡ true → IsUnfit (CameSince old new) ending)
 
@@ -59,7 +59,7 @@ BlamesNames is_twice ending = (ending ≡ Usage SameFile) × (is_twice ≡ true)
 -- the files by which a command line is judged were opened, `order` being the events of that; if names
 -- that have to differ are equal, none is
 pub record Judges {A : Type 0} (order : List Event) (old new : FilesView) (IsTwice : Type 0)
-    (Blame : Ending → Type 0) (Failed : Type 0) (result : Result A Ending) : Type 0 where
+    (Blame : Ending → Type 0) (result : Result A Ending) : Type 0 where
   -- All of the order was done.
   pub noted : OnOk result (Does order old new)
   -- However it ended, a beginning was.
@@ -72,7 +72,7 @@ pub record Judges {A : Type 0} (order : List Event) (old new : FilesView) (IsTwi
   -- It ended early.
   pub early : IfErr result EndsEarly
   -- It had a reason.
-  pub reason : IfErr result (HasReason (CameSince old new) Failed)
+  pub reason : IfErr result (HasReason (CameSince old new))
 
 -- ---- The random parts of an age file in bytes.
 

@@ -1,11 +1,9 @@
 -- How a position is found by reading the input once more. What only private code cites.
-use Rattle.std.specs.Prelude.{◌≡◌, ◌⊎◌, ℕ, Bool, true, List, Option, Some, is_some, None}
-use Rattle.std.specs.Prelude.{min, IfSome}
-use Rattle.std.specs.Prelude.{Result, Err, IsErr, IfOk, IfErr, IsErrAnd, IsSomeAnd, if◌then◌else◌}
+use Rattle.std.specs.Prelude.{◌≡◌, ◌⊎◌, ℕ, Bool, true, List, Option, Some, is_some, None, min}
+use Rattle.std.specs.Prelude.{Result, Err, IsErr, OnOk, IfErr, IsErrAnd, if◌then◌else◌}
 use Rattle.age_io.specs.Io.{SourceView, SinkView}
-use Rattle.age_file.specs.Decrypts.{DecryptEnds, DecryptStops}
-use Rattle.age_file.specs.Resumes.{resume_ports, ResumeEnds, ResumeStops}
-use Rattle.age_file.specs.Runs.{Ports, ports, Run}
+use Rattle.age_io.specs.declared.durability.Durability.{Durability}
+use Rattle.age_file.specs.Runs.{Ports}
 use Rattle.age_file.specs.declared.decryption.Done.{Done}
 use Rattle.age_file.specs.declared.decryption.Stopped.{Stopped}
 use Rattle.age_file.specs.declared.position.Position.{Position}
@@ -16,13 +14,12 @@ use Rattle.age_io.specs.Supply.{Supply}
 use Rattle.clap.specs.Words.{Text}
 use Rattle.age_cli_args.specs.Requests.{option_text}
 use Rattle.age_cli_args.specs.declared.request.Decrypting.{Decrypting}
+use Rattle.age_cli_args.specs.declared.request.ProgressOption.{ProgressOption}
 use Rattle.age_cli_args.specs.declared.request.ProgressOption.TheVariants.{Silent, Shown}
 use Rattle.age_command.specs.declared.ending.Ending.{Ending}
-use Rattle.age_command.specs.Identities.{allows_by, refuses_by}
-use Rattle.age_command.specs.declared.identity.Identity.{Identity}
-use Rattle.age_cli.specs.Acts.{kept_for, start_of, Finds, HaltsDecryption, HaltsResumption}
-use Rattle.age_cli.specs.Acts.{StandsDecryption, StandsResumption, LacksOne}
+use Rattle.age_cli.specs.Acts.{start_of, Engine, Finds, Paths}
 use Rattle.age_cli.specs.Commands.{WasRead}
+use Rattle.age_cli.specs.declared.interruption.Interruption.{Interruption}
 use Rattle.age_cli.specs.inner.Endings.{Concludes, opening_end}
 
 -- IN was read once more, and a position was found
@@ -81,62 +78,22 @@ abbrev pub key_of : Standing → Option (List ℕ)
 key_of (InPayload key) = Some key
 key_of other = None
 
--- What was opened was decrypted, and OUT was ended. `decrypted` is how it ended; of a stop, it has the
--- position that is saved, of which `settled` bytes are certain.
-pub record DecryptsOpened (IsPorts : Ports → Type 0) (Came : Outcome → Type 0) (d : Decrypting)
-    (identity : Identity) (before : Ports) (old new : FilesView) (Unshown : Type 0)
-    (IsShown : Supply → Supply → Result (Unit {0}) Ending → Type 0)
+-- An engine ran over a source and a sink of the files, and OUT was ended. `end` is how it ended; of a
+-- stop, it has the position that is saved, of which `settled` bytes are certain.
+pub record RunsEngine (IsPorts : Ports → Type 0) (Came : Outcome → Type 0) (engine : Engine) (p : Paths)
+    (durability : Durability) (progress : ProgressOption) (before : Ports) (old new : FilesView)
+    (Unshown : Type 0) (IsShown : Supply → Supply → Result (Unit {0}) Ending → Type 0)
     (result : Result (Unit {0}) Ending) : Type 0 where
   pub after : Ports
   pub after_is : IsPorts after
-  pub over : Came (Gave (reading_of d.from.now after.source))
-  pub decrypted : Result Done Stopped
-  pub run : Option Run
-  pub done : IfOk decrypted
-      (λ done. IsSomeAnd run (DecryptEnds (allows_by identity) before after done))
-  pub halted : IfErr decrypted (λ s. HaltsDecryption identity before after s.fault)
-  -- It stands there, or has no position.
-  pub stands : IfErr decrypted (λ s. IfSome s.position
-      (λ p. StandsDecryption Came d.from.now identity p before after))
-  pub unplaced : IfErr decrypted (λ s. LacksOne (option_text d.save) s.position → DecryptStops
-      (kept_for (option_text d.save)) (allows_by identity) (refuses_by identity) before after run s)
-  pub named : after.sink.label ≡ before.sink.label
+  pub over : Came (Gave (reading_of p.from after.source))
+  pub end : Result (Unit {0}) Interruption
   pub settled : ℕ
-  pub certain : IsErr decrypted → is_some (option_text d.save) ≡ true
-      → Came (Settled after.sink.taken.bytes settled)
-  pub concludes : Concludes (option_text d.save) d.durability after.sink settled (opening_end decrypted)
-      old new result
-  pub silent : d.progress ≡ Silent → Unshown
-  pub shown : d.progress ≡ Shown → IsShown before.source.supply after.source.supply result
-
--- The same of what was opened and resumed from a position, after the old text of a source.
-pub record ResumesOpened (IsPorts : Ports → Type 0) (Came : Outcome → Type 0) (d : Decrypting)
-    (old_name : Text) (identity : Identity) (from : Position) (first : SourceView) (before : Ports)
-    (old new : FilesView) (Unshown : Type 0)
-    (IsShown : Supply → Supply → Result (Unit {0}) Ending → Type 0)
-    (result : Result (Unit {0}) Ending) : Type 0 where
-  pub after : Ports
-  pub after_is : IsPorts after
-  pub over : Came (Gave (reading_of d.from.now after.source))
-  pub last : SourceView
-  pub last_is : IsPorts (ports last after.sink)
-  pub last_over : Came (Gave (reading_of old_name last))
-  pub resumed : Result Done Stopped
-  pub run : Option Run
-  pub done : IfOk resumed (λ done. IsSomeAnd run (ResumeEnds (allows_by identity) from
-      (resume_ports before first) (resume_ports after last) done))
-  pub halted : IfErr resumed (λ s. HaltsResumption identity from (resume_ports before first)
-      (resume_ports after last) s.fault)
-  pub stands : IfErr resumed (λ s. IfSome s.position (λ p. StandsResumption Came d.from.now identity
-      from p (resume_ports before first) (resume_ports after last)))
-  pub unplaced : IfErr resumed (λ s. LacksOne (option_text d.save) s.position → ResumeStops
-      (allows_by identity) from (resume_ports before first) (resume_ports after last)
-      (kept_for (option_text d.save)) (refuses_by identity) run s)
+  pub ends : OnOk end (engine.ends before after × (after.sink.failed ≡ before.sink.failed))
+  pub stops : IfErr end (λ s. engine.stops settled s.fault s.position before after)
   pub named : after.sink.label ≡ before.sink.label
-  pub settled : ℕ
-  pub certain : IsErr resumed → is_some (option_text d.save) ≡ true
-      → Came (Settled after.sink.taken.bytes settled)
-  pub concludes : Concludes (option_text d.save) d.durability after.sink settled (opening_end resumed)
-      old new result
-  pub silent : d.progress ≡ Silent → Unshown
-  pub shown : d.progress ≡ Shown → IsShown before.source.supply after.source.supply result
+  pub certain : IsErr end → is_some p.save ≡ true
+      → Came (Settled durability after.sink.taken.bytes settled)
+  pub concludes : Concludes p.save durability after.sink settled end old new result
+  pub silent : progress ≡ Silent → Unshown
+  pub shown : progress ≡ Shown → IsShown before.source.supply after.source.supply result

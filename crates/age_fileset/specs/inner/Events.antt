@@ -24,10 +24,12 @@ once_done (action.Created name) old = did (Created name.now) old
 once_done (action.Made name) old = did (Made name.now) old
 once_done (action.Replaced name durability) old = did (Replaced name.now durability) old
 once_done (action.Closed durability) old = did (Closed durability) old
-once_done (action.Found name left) old = came (Found name.now (option_map (λ t. t.now) left) ∷ []) old
-once_done (action.FoundOrEmpty name left) old =
-    came (FoundOrEmpty name.now (option_map (λ t. t.now) left) ∷ []) old
+once_done (action.Found name left size) old =
+    came (Found name.now (option_map (λ t. t.now) left) size ∷ []) old
+once_done (action.FoundOrEmpty name left size) old =
+    came (FoundOrEmpty name.now (option_map (λ t. t.now) left) size ∷ []) old
 once_done (action.Refused name fault) old = came (refused_as name.now fault) old
+once_done (action.Unwritten name) old = came (Unwritten name.now ∷ []) old
 once_done (action.Absent name) old = came (Absent name.now ∷ []) old
 once_done (action.Gave name given is_at_end is_failing) old =
     let reading : Reading = record {
@@ -37,7 +39,7 @@ once_done (action.Gave name given is_at_end is_failing) old =
       failing = is_failing;
     } in
     came (Gave reading ∷ []) old
-once_done (action.Settled took size) old = came (Settled took.now size ∷ []) old
+once_done (action.Settled durability took size) old = came (Settled durability took.now size ∷ []) old
 once_done (action.Put name bytes) old = came (Put name.now bytes.now ∷ []) old
 once_done (action.Answered unfit) old = came (unfit_if unfit) old
 
@@ -84,68 +86,80 @@ coded_event = code_by Parts (coded⊎ coded_named (coded⊎ coded_named (coded�
     split join join-split
 
 -- an outcome likewise
-abbrev Left : Type 0
-Left = Unit {0} ⊎ List ℕ
+abbrev Maybe : Type 0 → Type 0
+Maybe X = Unit {0} ⊎ X
 
-abbrev left_of : Option (List ℕ) → Left
-left_of None = inl tt
-left_of (Some bytes) = inr bytes
+abbrev option_part : {X : Type 0} → Option X → Maybe X
+option_part None = inl tt
+option_part (Some x) = inr x
 
-abbrev known_of : Left → Option (List ℕ)
+abbrev known_of : {X : Type 0} → Maybe X → Option X
 known_of (inl _) = None
-known_of (inr bytes) = Some bytes
+known_of (inr x) = Some x
 
 abbrev Bytes : Type 0
 Bytes = List ℕ
 
+abbrev FoundParts : Type 0
+FoundParts = Bytes × (Maybe Bytes × Maybe ℕ)
+
 abbrev Pieces : Type 0
-Pieces = (Bytes × Left) ⊎ ((Bytes × Left) ⊎ (Bytes ⊎ (Bytes ⊎ (Bytes ⊎ ((Bytes × (Bytes × (Bool × Bool)))
-    ⊎ ((Bytes × ℕ) ⊎ ((Bytes × Bytes) ⊎ Unit {0})))))))
+Pieces = FoundParts ⊎ (FoundParts ⊎ (Bytes ⊎ (Bytes ⊎ (Bytes ⊎ ((Bytes × (Bytes × (Bool × Bool)))
+    ⊎ ((Bytes × ℕ) ⊎ ((Bytes × ℕ) ⊎ ((Bytes × Bytes) ⊎ Unit {0}))))))))
 
 abbrev cut : Outcome → Pieces
-cut (Found name left) = inl (name, left_of left)
-cut (FoundOrEmpty name left) = inr (inl (name, left_of left))
+cut (Found name left size) = inl (name, (option_part left, option_part size))
+cut (FoundOrEmpty name left size) = inr (inl (name, (option_part left, option_part size)))
 cut (Unread name) = inr (inr (inl name))
 cut (Unwritten name) = inr (inr (inr (inl name)))
 cut (Absent name) = inr (inr (inr (inr (inl name))))
 cut (Gave r) = inr (inr (inr (inr (inr (inl (r.name, (r.given, (r.is_at_end, r.failing))))))))
-cut (Settled took size) = inr (inr (inr (inr (inr (inr (inl (took, size)))))))
-cut (Put name bytes) = inr (inr (inr (inr (inr (inr (inr (inl (name, bytes))))))))
-cut Unfit = inr (inr (inr (inr (inr (inr (inr (inr tt)))))))
+cut (Settled Synced took size) = inr (inr (inr (inr (inr (inr (inl (took, size)))))))
+cut (Settled Buffered took size) = inr (inr (inr (inr (inr (inr (inr (inl (took, size))))))))
+cut (Put name bytes) = inr (inr (inr (inr (inr (inr (inr (inr (inl (name, bytes)))))))))
+cut Unfit = inr (inr (inr (inr (inr (inr (inr (inr (inr tt))))))))
 
 abbrev glue : Pieces → Outcome
-glue (inl t) = Found t.0 (known_of t.1)
-glue (inr (inl t)) = FoundOrEmpty t.0 (known_of t.1)
+glue (inl t) = Found t.0 (known_of t.1.0) (known_of t.1.1)
+glue (inr (inl t)) = FoundOrEmpty t.0 (known_of t.1.0) (known_of t.1.1)
 glue (inr (inr (inl name))) = Unread name
 glue (inr (inr (inr (inl name)))) = Unwritten name
 glue (inr (inr (inr (inr (inl name))))) = Absent name
 glue (inr (inr (inr (inr (inr (inl t)))))) =
     Gave (record { name = t.0; given = t.1.0; is_at_end = t.1.1.0; failing = t.1.1.1 })
-glue (inr (inr (inr (inr (inr (inr (inl t))))))) = Settled t.0 t.1
-glue (inr (inr (inr (inr (inr (inr (inr (inl t)))))))) = Put t.0 t.1
-glue (inr (inr (inr (inr (inr (inr (inr (inr _)))))))) = Unfit
+glue (inr (inr (inr (inr (inr (inr (inl t))))))) = Settled Synced t.0 t.1
+glue (inr (inr (inr (inr (inr (inr (inr (inl t)))))))) = Settled Buffered t.0 t.1
+glue (inr (inr (inr (inr (inr (inr (inr (inr (inl t))))))))) = Put t.0 t.1
+glue (inr (inr (inr (inr (inr (inr (inr (inr (inr _))))))))) = Unfit
+
+pub known-option : {X : Type 0} (o : Option X) → known_of (option_part o) ≡ o
+known-option None = refl
+known-option (Some x) = refl
 
 pub glue-cut : (o : Outcome) → glue (cut o) ≡ o
-glue-cut (Found name None) = refl
-glue-cut (Found name (Some bytes)) = refl
-glue-cut (FoundOrEmpty name None) = refl
-glue-cut (FoundOrEmpty name (Some bytes)) = refl
+glue-cut (Found name left size) = rw (known-option left, known-option size) refl
+glue-cut (FoundOrEmpty name left size) = rw (known-option left, known-option size) refl
 glue-cut (Unread name) = refl
 glue-cut (Unwritten name) = refl
 glue-cut (Absent name) = refl
 glue-cut (Gave r) = refl
-glue-cut (Settled took size) = refl
+glue-cut (Settled Synced took size) = refl
+glue-cut (Settled Buffered took size) = refl
 glue-cut (Put name bytes) = refl
 glue-cut Unfit = refl
 
-abbrev coded_found : Coded (Bytes × Left)
-coded_found = coded× coded_named (coded⊎ coded_unit coded_named)
+abbrev coded_found : Coded FoundParts
+coded_found = coded× coded_named (coded× (coded⊎ coded_unit coded_named) (coded⊎ coded_unit coded_ℕ))
+
+abbrev coded_settled : Coded (Bytes × ℕ)
+coded_settled = coded× coded_named coded_ℕ
 
 abbrev coded_outcome : Coded Outcome
 coded_outcome = code_by Pieces (coded⊎ coded_found (coded⊎ coded_found (coded⊎ coded_named
     (coded⊎ coded_named (coded⊎ coded_named
     (coded⊎ (coded× coded_named (coded× coded_named (coded× coded_bool coded_bool)))
-    (coded⊎ (coded× coded_named coded_ℕ) (coded⊎ (coded× coded_named coded_named) coded_unit))))))))
+    (coded⊎ coded_settled (coded⊎ coded_settled
+    (coded⊎ (coded× coded_named coded_named) coded_unit)))))))))
     cut glue glue-cut
 
 -- and what was done, and came of it, as a pair of lists

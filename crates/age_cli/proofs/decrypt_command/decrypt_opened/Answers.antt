@@ -1,12 +1,13 @@
 use Rattle.std.proofs.Common.{◌≡◌, ◌∙◌, refl}
 use Rattle.age_file.specs.Runs.{ports}
+use Rattle.age_fileset.specs.FileSet.{CameSince}
 use Rattle.age_cli.specs.Acts.{PortsOf, ShowsReadings}
 use Rattle.age_cli.proofs.ReadingsLemmas.{shown_with}
-use Rattle.age_cli.proofs.RestLemmas.{opened_by}
+use Rattle.age_cli.proofs.RestLemmas.{runs_opened}
 use Rattle.age_cli.proofs.decrypt_command.decrypt_opened.Goals as goal
 
-pub returns-clause-opened : goal.returns-clause-opened
-returns-clause-opened g c =
+pub returns-clause-runs : goal.returns-clause-runs
+returns-clause-runs g c = λ first later.
     let view = g.F.FileSet.view in
     let In = g.F.In.Source.view in
     let Out = g.F.Out.Sink.view in
@@ -15,14 +16,15 @@ returns-clause-opened g c =
     let ended = c.conclude_decryption in
     let was = c.args.progress.now in
     let now = ended.new.progress in
-    opened_by (PortsOf In Out) c.args.asked.now c.args.identity (ports (In c.args.source) (Out c.args.out.out))
+    let size = g.F.FileSet.size c.args.source in
+    runs_opened (PortsOf In Out) (CameSince first (view ended.new.files)) c.args.asked.now c.args.identity (ports (In c.args.source) (Out c.args.out.out))
     (ports (In once.result.source) (Out once.new.out.out))
-    (record { source = once.result.source; sink = once.new.out.out; is = refl }) (view c.args.files.now) (view ended.new.files) ended.ensures.over
+    (record { source = once.result.source; sink = once.new.out.out; is = refl }) (view c.args.files.now) (view ended.new.files) later ended.ensures.over
     (now ≡ was)
-    (λ coming left r. ShowsReadings coming left (shown was) (shown now) r)
+    (λ coming left r. ShowsReadings size coming left (shown was) (shown now) r)
     (λ silent. ended.ensures.silent silent ∙ once.ensures.silent silent) c.can_reread-is_reread.result
     once.result.end once.result.key c.positions_at_first.result
     ended.result c.can_reread-is_reread.ensures c.positions_at_first.ensures.dropped c.positions_at_first.ensures.kept once.ensures.opened
-    (λ asked whole. shown_with (In c.args.source).supply (In once.result.source).supply (shown was) (shown once.new.progress) (shown now) ended.result
+    (λ asked whole. shown_with size (In c.args.source).supply (In once.result.source).supply (shown was) (shown once.new.progress) (shown now) ended.result
     (once.ensures.shown asked) ended.ensures.whole ended.ensures.shown whole)
     ended.ensures.concludes

@@ -2,7 +2,6 @@ use Rattle.std.proofs.Common.{◌∙◌, [], refl, sym, inl, inr, true≢false, 
 use Rattle.age_fileset.specs.FileSet.{CameSince}
 use Rattle.age_fileset.proofs.OutcomeLemmas.{checked_does, checked_unfit}
 use Rattle.age_command.specs.inner.Endings.{ending_of}
-use Rattle.age_command.specs.Files.{SourceFails}
 use Rattle.age_command.specs.Identities.{file_of}
 use Rattle.age_command.specs.Orders.{opening_event}
 use Rattle.age_command.proofs.EventLemmas.{begins_none, begins_then}
@@ -27,9 +26,9 @@ returns-in_err-check_streams-clause-judges g c =
     let f = c.in_err-check_streams.field-0.0 in
     let noted = c.in_err-check_streams.ensures.noted in
     let fails = c.in_err-check_streams.ensures.faults in
-    judges_not _ old new new _ _ (SourceFails g.F.In.Source.view) c.from_residual.result (ending_of f) c.from_residual.ensures
+    judges_not _ old new new _ _ c.from_residual.result (ending_of f) c.from_residual.ensures
     (begins_then [] (opening_event (file_of c.args.choice.now)) old new new (checked_does {A = Unit {0}} old new (Err f) noted fails) (begins_none _ new))
     (λ twice. true≢false (sym twice ∙ c.if-is_file_named_twice.false))
     (λ usage. inr (open_blame (CameSince old new) f (checked_unfit {A = Unit {0}} old new (Err f) noted) usage)) (streams_early f fails)
-    (streams_reason (CameSince new new) (SourceFails g.F.In.Source.view) f fails)
+    (streams_reason (CameSince new new) f fails)
     (did_came [] old new new (checked_does {A = Unit {0}} old new (Err f) noted fails))

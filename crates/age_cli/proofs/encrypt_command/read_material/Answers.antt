@@ -4,7 +4,6 @@ use Rattle.age_cli_args.specs.Requests.{option_text}
 use Rattle.age_fileset.specs.FileSet.{Opened, Unfit, Does, CameSince, HasGiven}
 use Rattle.age_fileset.proofs.OutcomeLemmas.{all_as, given_as, checked_does, checked_unfit, does_then}
 use Rattle.age_command.specs.inner.Endings.{ending_of}
-use Rattle.age_command.specs.Files.{SourceFails}
 use Rattle.age_command.specs.Orders.{random_name}
 use Rattle.age_command.proofs.EventLemmas.{begun, begins_none, begins_then}
 use Rattle.age_cli.proofs.OpeningLemmas.{came_did, did_came, judges_not, open_blame, same_events, streams_early, streams_reason}
@@ -39,12 +38,12 @@ returns-in_err-check_streams-clause-judges g c =
     let noted = c.in_err-check_streams.ensures.noted in
     let fails = c.in_err-check_streams.ensures.faults in
     let did = does_then [] [] old named new names.does (checked_does {A = Unit {0}} named new (Err f) noted fails) in
-    judges_not _ old new new _ _ (SourceFails g.F.In.Source.view) c.from_residual.result (ending_of f) c.from_residual.ensures
+    judges_not _ old new new _ _ c.from_residual.result (ending_of f) c.from_residual.ensures
     (begins_then [] (Opened a.pass.now ∷ Opened (random_name (option_text a.random)) ∷ []) old new new did (begins_none _ new))
     (λ twice. true≢false (sym (names.twice twice) ∙ c.if-names_out_twice.false))
     (λ usage. inr (open_blame (CameSince old new) f
     (λ same. did_came [] old named new names.does Unfit (checked_unfit {A = Unit {0}} named new (Err f) noted same)) usage))
-    (streams_early f fails) (streams_reason (CameSince new new) (SourceFails g.F.In.Source.view) f fails) (did_came [] old new new did)
+    (streams_early f fails) (streams_reason (CameSince new new) f fails) (did_came [] old new new did)
 
 pub returns-in_err-pass-clause-judges : goal.returns-in_err-pass-clause-judges
 returns-in_err-pass-clause-judges g c =
@@ -58,7 +57,7 @@ returns-in_err-pass-clause-judges g c =
     let e = c.in_err-pass.field-0.0 in
     let pass = c.in_err-pass.ensures in
     let did = does_then [] [] old named mid names.does (checked_does {A = Unit {0}} named mid c.check_streams.result c.check_streams.ensures.noted c.check_streams.ensures.faults) in
-    judges_not _ old mid new _ _ (SourceFails g.F.In.Source.view) c.from_residual-in_err-pass.result e c.from_residual-in_err-pass.ensures
+    judges_not _ old mid new _ _ c.from_residual-in_err-pass.result e c.from_residual-in_err-pass.ensures
     (record {
       done = Opened a.pass.now ∷ [];
       rest = Opened (random_name (option_text a.random)) ∷ [];
@@ -84,7 +83,7 @@ returns-in_err-random-clause-judges g c =
     let did = does_then [] [] old named mid names.does (checked_does {A = Unit {0}} named mid c.check_streams.result c.check_streams.ensures.noted c.check_streams.ensures.faults) in
     let before = does_then [] (Opened a.pass.now ∷ []) old mid passed did c.in_ok-pass.ensures.does in
     let all = does_then (Opened a.pass.now ∷ []) (Opened name ∷ []) old passed new before random.does in
-    judges_not _ old passed new _ _ (SourceFails g.F.In.Source.view) c.from_residual-in_err-random.result e c.from_residual-in_err-random.ensures
+    judges_not _ old passed new _ _ c.from_residual-in_err-random.result e c.from_residual-in_err-random.ensures
     (begun _ old new (subst (λ (n : Text). Does (Opened a.pass.now ∷ Opened n ∷ []) old new) c.random_name-random_name.ensures all))
     (λ twice. true≢false (sym (names.twice twice) ∙ c.if-names_out_twice.false))
     (λ usage. random_blamed (CameSince passed new) (CameSince old new) (did_came (Opened a.pass.now ∷ []) old passed new before) a e name

@@ -1,31 +1,31 @@
 use Rattle.std.proofs.Common.{inl, ◌∙◌, Ok, Err}
-use Rattle.std.proofs.lemmas.Result.{on_ok_weaker}
+use Rattle.std.proofs.lemmas.Result.{on_ok_weaker, IfErr-weaker}
 use Rattle.age_io.specs.Io.{Named}
 use Rattle.age_fileset.specs.FileSet.{Opened, Found}
 use Rattle.age_fileset.proofs.OutcomeLemmas.{opened_does, opened_came, opened_unread, found_plain}
 use Rattle.age_cli.proofs.ReadLemmas.{over_does, was_read, same_fault}
-use Rattle.age_cli.proofs.ReportLemmas.{whole_report}
+use Rattle.age_cli.proofs.ReportLemmas.{fails_as, whole_report}
 use Rattle.age_cli.proofs.inspect_command.report_file.Goals as goal
 
 pub returns-in-Err-Fault-clause-does : goal.returns-in-Err-Fault-clause-does
 returns-in-Err-Fault-clause-does g c =
-    opened_does g.F.In.Source.view c.args.name.now (Found c.args.name.now) (found_plain c.args.name.now) _ _ c.open.result c.open.ensures.noted c.open.ensures.faults
+    opened_does g.F.In.Source.view g.F.FileSet.size c.args.name.now (Found c.args.name.now) (found_plain c.args.name.now) _ _ c.open.result c.open.ensures.noted c.open.ensures.faults
 
 pub returns-in-Err-SameFile-clause-does : goal.returns-in-Err-SameFile-clause-does
 returns-in-Err-SameFile-clause-does g c =
-    opened_does g.F.In.Source.view c.args.name.now (Found c.args.name.now) (found_plain c.args.name.now) _ _ c.open.result c.open.ensures.noted c.open.ensures.faults
+    opened_does g.F.In.Source.view g.F.FileSet.size c.args.name.now (Found c.args.name.now) (found_plain c.args.name.now) _ _ c.open.result c.open.ensures.noted c.open.ensures.faults
 
 pub returns-in-Err-Fault-clause-unread : goal.returns-in-Err-Fault-clause-unread
 returns-in-Err-Fault-clause-unread g c read =
     let name = c.args.name.now in
     let same = c.in-Err-Fault.field-0-is ∙ same_fault _ _ _ c.in-Err-Fault.fault-is read in
-    inl (inl (name, opened_unread g.F.In.Source.view name (Found name) (found_plain name) _ _ (Err c.in-Err-Fault.field-0) c.in-Err-Fault.ensures.noted same))
+    inl (inl (name, opened_unread g.F.In.Source.view g.F.FileSet.size name (Found name) (found_plain name) _ _ (Err c.in-Err-Fault.field-0) c.in-Err-Fault.ensures.noted same))
 
 pub returns-clause-does : goal.returns-clause-does
 returns-clause-does g c =
     let name = c.args.name.now in
     let In = g.F.In.Source.view in
-    over_does (Found name) name (Opened name) _ _ _ (opened_does In name (Found name) (found_plain name) _ _ c.open.result c.open.ensures.noted c.open.ensures.faults)
+    over_does (Found name) name (Opened name) _ _ _ (opened_does In g.F.FileSet.size name (Found name) (found_plain name) _ _ c.open.result c.open.ensures.noted c.open.ensures.faults)
     (In c.report_as-reported.new.input) (c.finish.ensures.over name (c.report_as-reported.ensures.began (Named name) c.in-Ok.ensures.named))
 
 pub returns-clause-done : goal.returns-clause-done
@@ -36,14 +36,25 @@ returns-clause-done g c =
     on_ok_weaker c.report_as-reported.result
     (λ told. record {
       r = told.0;
-      size = c.known_length-length.result;
       first = first;
       last = In c.report_as-reported.new.input;
       reading = was_read (Found name) name (Opened name) _ _ _
-          (opened_does In name (Found name) (found_plain name) _ _ c.open.result c.open.ensures.noted c.open.ensures.faults) (In c.report_as-reported.new.input)
-          (c.finish.ensures.over name (c.report_as-reported.ensures.began (Named name) c.in-Ok.ensures.named)) first c.in-Ok.ensures.begun
-          (opened_came In name (Found name) (found_plain name) _ _ (Ok c.in-Ok.source) c.in-Ok.ensures.noted);
-      whole = whole_report c.known_length-length.result first.supply _ told.0 c.known_length-length.ensures told.1;
-      reports = told.1.reports;
+          (opened_does In g.F.FileSet.size name (Found name) (found_plain name) _ _ c.open.result c.open.ensures.noted c.open.ensures.faults) (In c.report_as-reported.new.input)
+          (c.finish.ensures.over name (c.report_as-reported.ensures.began (Named name) c.in-Ok.ensures.named)) first (g.F.FileSet.size c.in-Ok.source) c.in-Ok.ensures.begun
+          (opened_came In g.F.FileSet.size name (Found name) (found_plain name) _ _ (Ok c.in-Ok.source) c.in-Ok.ensures.noted);
+      whole = whole_report c.known_length-length.result first.supply _ told.0 c.known_length-length.ensures.seen told.1;
+      reports = rw c.known_length-length.ensures.is at told.1.reports;
       wrote = told.2;
     }) c.report_as-reported.ensures.done
+
+pub returns-clause-fails : goal.returns-clause-fails
+returns-clause-fails g c =
+    let name = c.args.name.now in
+    let In = g.F.In.Source.view in
+    let first = In c.in-Ok.source in
+    let last = In c.report_as-reported.new.input in
+    let reading = was_read (Found name) name (Opened name) _ _ _
+    (opened_does In g.F.FileSet.size name (Found name) (found_plain name) _ _ c.open.result c.open.ensures.noted c.open.ensures.faults) last
+    (c.finish.ensures.over name (c.report_as-reported.ensures.began (Named name) c.in-Ok.ensures.named)) first (g.F.FileSet.size c.in-Ok.source) c.in-Ok.ensures.begun
+    (opened_came In g.F.FileSet.size name (Found name) (found_plain name) _ _ (Ok c.in-Ok.source) c.in-Ok.ensures.noted) in
+    IfErr-weaker c.report_as-reported.result _ _ (λ e fails. fails_as _ _ (λ f reports. (first, last, reading, reports)) e fails) c.report_as-reported.ensures.fails

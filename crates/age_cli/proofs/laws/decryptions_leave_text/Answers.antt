@@ -29,4 +29,4 @@ returns-clause-resumed g c = λ r before after did.
 
 pub returns-clause-spared : goal.returns-clause-spared
 returns-clause-spared g c = λ asked before after ending fault text did is early.
-    spares_of_request (PortsOf g.F.In.Source.view g.F.Out.Sink.view) before after _ ending fault is early asked text did.2.stopped
+    spares_of_request (PortsOf g.F.In.Source.view g.F.Out.Sink.view) before after ending fault is early asked text did.2.stopped

@@ -5,7 +5,7 @@ pub returns-clause-silent : goal.returns-clause-silent
 returns-clause-silent g c =
     λ words before after input output progress shown ended. (
       λ d. no_help ended _ _ _ before.output after.output d.done d.stops,
-      refused_silently words _ before after _ _ _ _ _ ended,
+      refused_silently words _ before after _ _ _ _ ended,
     )
 
 pub returns-clause-reported : goal.returns-clause-reported

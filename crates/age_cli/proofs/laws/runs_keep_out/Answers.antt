@@ -12,12 +12,12 @@ returns g c = λ words before after faults_old faults_new input output faults pr
     let kept_is : AreTrue is after.files.outcomes = subst (λ (o : List Outcome). AreTrue is o) (sym (ap (λ
     (v : FilesView). v.outcomes) is_new)) c.is_kept-2.ensures in
     let failed = failed_by ran.ended status ran.status_is in (
-      λ d text made auth. headline_of words _ before after _ _ _ _ _ status was is kept_was kept_is text ran.ended failed ran.obeys d made auth,
-      λ r text made auth. resumed_headline_of words _ before after _ _ _ _ _ status was is kept_was kept_is text ran.ended failed ran.obeys r made
+      λ d text made auth. headline_of words _ before after _ _ _ _ status was is kept_was kept_is text ran.ended failed ran.obeys d made auth,
+      λ r text made auth. resumed_headline_of words _ before after _ _ _ _ status was is kept_was kept_is text ran.ended failed ran.obeys r made
           auth,
       (
-        spares_asked words _ before after _ _ _ _ _ status was is kept_was kept_is ran.ended ran.obeys,
-        λ two. spares_refused words _ before after _ _ _ _ _ status was is kept_was kept_is ran.ended ran.obeys
+        spares_asked words _ before after _ _ _ _ status was is kept_was kept_is ran.ended ran.obeys,
+        λ two. spares_refused words _ before after _ _ _ _ status was is kept_was kept_is ran.ended ran.obeys
             (usage_by ran.ended status ran.status_is two),
       ),
     )

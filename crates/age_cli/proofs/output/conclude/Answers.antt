@@ -10,5 +10,5 @@ returns-clause-concludes g c =
     let did = rw settle.ensures.same at c.conclude_settled.ensures.concludes in (
       settle.result,
       concludes_from _ _ sink settle.result _ _ _ _ settle.ensures.does _ did,
-      certain_if _ _ _ c.args.engine (certain_from _ _ sink settle.result _ _ _ _ settle.ensures.does c.conclude_settled.result did (Settled sink.taken.bytes settle.result)) settle.ensures.certain,
+      certain_if _ _ _ c.args.engine (certain_from _ _ sink settle.result _ _ _ _ settle.ensures.does c.conclude_settled.result did (Settled c.args.durability sink.taken.bytes settle.result)) settle.ensures.certain,
     )

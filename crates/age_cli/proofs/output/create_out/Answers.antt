@@ -1,7 +1,6 @@
 use Rattle.std.proofs.Common.{◌∷◌, [], ap, inl, inr, ⊎_elim}
 use Rattle.age_fileset.specs.FileSet.{Closed, Unfit, CameSince}
 use Rattle.age_fileset.proofs.OutcomeLemmas.{grows_by, grows_then, did_events, does_none, does_then, came_then, then_came}
-use Rattle.age_command.specs.Files.{SourceFails}
 use Rattle.age_command.specs.Orders.{creating}
 use Rattle.age_command.specs.inner.Endings.{ending_of}
 use Rattle.age_command.specs.declared.ending.Ending.TheVariants.{Usage}
@@ -18,8 +17,8 @@ returns-in_err-out g c =
     let made = c.in_err-out.ensures in
     let old = g.F.FileSet.view c.args.files.now in
     let new = g.F.FileSet.view c.make_out.new.files in
-    opens_none _ [] old old new _ (SourceFails g.F.In.Source.view) c.from_residual.result (ending_of f) c.from_residual.ensures (does_none old)
-    (write_early f made.faults) (write_reason (CameSince old new) (SourceFails g.F.In.Source.view) a.to.now f made.faults made.reason)
+    opens_none _ [] old old new _ c.from_residual.result (ending_of f) c.from_residual.ensures (does_none old)
+    (write_early f made.faults) (write_reason (CameSince old new) a.to.now f made.faults made.reason)
     (open_blame (CameSince old new) f made.unfit) (creating a.clobber a.to.now ∷ []) (Closed a.durability ∷ []) made.does
 
 pub returns-in-Some : goal.returns-in-Some
@@ -56,7 +55,7 @@ returns-in-None g c =
     let mid = view c.make_out.new.files in
     let new = view c.refusal_of.new.files in
     let did = does_then (creating a.clobber a.to.now ∷ []) [] old mid new made.does c.refusal_of.ensures.does in
-    opens_all _ _ old new _ (SourceFails g.F.In.Source.view) c.new.result (rw c.new.ensures (
+    opens_all _ _ old new _ c.new.result (rw c.new.ensures (
       made.begun.0,
       made.begun.1,
       made.begun.2,

@@ -1,11 +1,13 @@
-use Rattle.std.proofs.Common.{◌≡◌, [], refl, sym, subst, None, List, Result, Ok, Err, IfErr, inl, OnOk}
+use Rattle.std.proofs.Common.{◌≡◌, ◌++◌, [], ap, refl, sym, subst, None, List, Result, Ok, Err, IfErr, inl, OnOk, OnErr}
 use Rattle.std.specs.Prelude.{IsOk, IsSomeAnd}
-use Rattle.age_fileset.specs.FileSet.{Entry}
+use Rattle.age_io.specs.Io.{SinkView}
+use Rattle.age_fileset.specs.FileSet.{Entry, CameSince, Unwritten, refused_as}
+use Rattle.age_fileset.specs.declared.files.OpenFault.TheVariants as refusal
 use Rattle.age_command.proofs.ResultLemmas.{not_well, this_error, an_error}
 use Rattle.age_cli.specs.declared.interruption.Interruption.{Interruption}
 use Rattle.age_cli.specs.inner.Endings.{EndsFile, IsFaultOf, position_of}
 use Rattle.age_cli.proofs.FileLemmas.{some_and, closed_well, closed_badly, left_file}
-use Rattle.age_cli.proofs.PutLemmas.{grows_put, grows_same, no_stop, same_stop}
+use Rattle.age_cli.proofs.PutLemmas.{grows_lost, lost_came, grows_put, no_stop, same_stop}
 use Rattle.age_cli.proofs.output.end_out.Goals as goal
 
 pub returns-in_ok-close-in-Ok : goal.returns-in_ok-close-in-Ok
@@ -21,6 +23,7 @@ returns-in_ok-close-in-Ok g c =
           (sym c.in-Ok.is) (some_and _ (λ out so. closed_well _ _ _ out so) (rw c.into_out.ensures at closed.closed));
       fault = tt;
       position = tt;
+      refused = subst (λ (x : Result (Unit {0}) Interruption). OnOk x (Unit {0})) (sym c.in-Ok.is) tt;
     }
 
 pub returns-in_err-close-in-Ok : goal.returns-in_err-close-in-Ok
@@ -31,15 +34,20 @@ returns-in_err-close-in-Ok g c =
     let r = c.from_residual.result in
     let e : Interruption = record { fault = c.in_err-close-in-Ok.field-0.0; position = None } in
     let is = c.from_residual.ensures in
+    let noted = subst (λ (s : SinkView). (view c.close.new.self).outcomes ≡ (view c.args.files.now).outcomes ++ refused_as s.label (refusal.Fault e.fault))
+    (ap g.F.Out.Sink.view c.into_out.ensures) closed.noted.outcomes in
+    let lost = grows_lost sink.label e.fault (view c.args.files.now) (view c.close.new.self) noted (inl closed.faults) in
     record {
       done = not_well r e is _;
-      left = an_error r _ ([], grows_same _ _ closed.noted.outcomes, inl refl, subst (λ (x : Result (Unit {0}) Interruption). OnOk x (◌≡◌ {A = List Entry} [] [])) (sym c.in-Ok.is) refl);
+      left = an_error r _ ([], lost, inl refl, subst (λ (x : Result (Unit {0}) Interruption). OnOk x (◌≡◌ {A = List Entry} [] [])) (sym c.in-Ok.is) refl);
       same = no_stop c.args.engine _ _ c.in-Ok.is;
       noted = closed.noted.events;
       ended = subst (λ (x : Result (Unit {0}) Interruption). IsSomeAnd (view c.close.new.self).ended (EndsFile c.args.durability sink x r))
           (sym c.in-Ok.is) (some_and _ (λ out so. closed_badly _ _ _ _ r out (not_well r e is) so) (rw c.into_out.ensures at closed.closed));
       fault = subst (λ (x : Result (Unit {0}) Interruption). IfErr r (λ stop. IsFaultOf x stop.fault)) (sym c.in-Ok.is) (this_error r e is _ closed.faults);
       position = subst (λ (x : Result (Unit {0}) Interruption). IfErr r (λ stop. stop.position ≡ position_of x)) (sym c.in-Ok.is) (this_error r e is _ refl);
+      refused = subst (λ (x : Result (Unit {0}) Interruption). OnOk x (OnErr r (CameSince (view c.args.files.now) (view c.close.new.self) (Unwritten sink.label)))) (sym c.in-Ok.is)
+          (an_error r _ (lost_came sink.label e.fault (view c.args.files.now) (view c.close.new.self) noted closed.faults));
     }
 
 pub returns-in-Err : goal.returns-in-Err
@@ -57,4 +65,5 @@ returns-in-Err g c =
           (some_and _ (λ out so. left_file c.args.durability sink stop stop out so) left.ended);
       fault = subst (λ (x : Result (Unit {0}) Interruption). IsFaultOf x stop.fault) (sym c.in-Err.is) refl;
       position = subst (λ (x : Result (Unit {0}) Interruption). stop.position ≡ position_of x) (sym c.in-Err.is) refl;
+      refused = subst (λ (x : Result (Unit {0}) Interruption). OnOk x (CameSince (view c.args.files.now) (view c.leave.new.files) (Unwritten sink.label))) (sym c.in-Err.is) tt;
     }

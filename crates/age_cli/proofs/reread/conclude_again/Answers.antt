@@ -21,7 +21,7 @@ returns-clause-again g c =
     let over = ended.ensures.over in
     let more = over.before ++ Gave (reading_of d.from.now (g.F.In.Source.view again.source)) ∷ over.later in (
       told.result,
-      came_then (puts_in more) old mid new (grows_so mid new more over.is) (Settled (Out c.args.out.out).taken.bytes told.result)
+      came_then (puts_in more) old mid new (grows_so mid new more over.is) (Settled d.durability (Out c.args.out.out).taken.bytes told.result)
           told.ensures.certain,
       subst (λ (s : SinkView). ConcludesFound d s again.from again.stopped again.key old new ended.result told.result) told.ensures.same
           (found_since d (Out told.new.self.out) again.from old mid new told.ensures.does again.stopped again.key ended.result told.result

@@ -16,7 +16,7 @@ returns-in-None-clause-concludes g c =
     let mid = view c.finish.new.self in
     let new = view c.conclude.new.files in
     let gave = reading_of d.from.now (g.F.In.Source.view did.source) in
-    not_again (λ settled. CameSince old new (Settled sink.taken.bytes settled)) d sink did.from did.end (again_of c.args.is_reread did.end did.key)
+    not_again (λ settled. CameSince old new (Settled d.durability sink.taken.bytes settled)) d sink did.from did.end (again_of c.args.is_reread did.end did.key)
     old new
     c.conclude.result c.again_of.result c.again_of.ensures c.in-None.is
     (concluded_once (option_text d.save) d.durability sink did.end old mid new c.conclude.result

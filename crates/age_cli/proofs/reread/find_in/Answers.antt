@@ -9,9 +9,10 @@ returns-in-Shown-clause-shown g c =
     let In = g.F.In.Source.view in
     inr (
       _,
+      _,
       (In run.new.source.source).supply,
       shows_run g.P.Meter.shown _ (In c.args.source).supply (In run.new.source.source).supply _ _ c.begin_meter.new.meter run.new.source.meter.now _
-          run.new.source.meter.ghost_name c.begin_meter.ensures (λ from. run.ensures.began (Metered from)) c.progress-1.given.1 c.end_meter.ensures,
+          run.new.source.meter.ghost_name _ c.begin_meter.ensures (λ from. run.ensures.began (Metered from)) c.progress-1.given.1 c.end_meter.ensures,
     )
 
 pub returns-in-Shown-clause-began : goal.returns-in-Shown-clause-began

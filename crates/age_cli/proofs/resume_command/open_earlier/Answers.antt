@@ -36,7 +36,7 @@ returns-clause-found g c =
     let a = c.args.asked.now in
     let Files = g.F.FileSet.view in
     did_came (Opened a.position.now ∷ []) (Files c.args.files.now) (Files c.read_position.new.files) (Files c.open_old.new.files) c.in_ok-position.ensures.does
-    (old_found c.in_ok-position.position a.old.now (g.F.In.Source.view c.in_ok-old.old).supply.left) c.in_ok-old.ensures.found
+    (old_found c.in_ok-position.position a.old.now (g.F.In.Source.view c.in_ok-old.old).supply.left (g.F.FileSet.size c.in_ok-old.old)) c.in_ok-old.ensures.found
 
 pub returns-clause-given : goal.returns-clause-given
 returns-clause-given g c =

@@ -1,7 +1,7 @@
 use Rattle.std.proofs.Common.{◌≡◌, ◌∙◌, [], ◌∷◌, ◌++◌, refl, Some}
 use Rattle.age_io.specs.Io.{Named}
-use Rattle.age_fileset.specs.FileSet.{Gave, puts_in, reading_of}
-use Rattle.age_fileset.proofs.OutcomeLemmas.{came_one, came_then, does_only, gave_puts, grows_so}
+use Rattle.age_fileset.specs.FileSet.{CameSince, Gave, puts_in, reading_of}
+use Rattle.age_fileset.proofs.OutcomeLemmas.{came_one, came_then, does_only, gave_puts, grows_by, grows_so, grows_then}
 use Rattle.age_cli.specs.Acts.{PortsOf, ShowsReadings}
 use Rattle.age_cli.specs.inner.Rereadings.{again_of}
 use Rattle.age_file.specs.Runs.{ports}
@@ -11,8 +11,22 @@ use Rattle.age_cli.proofs.RereadLemmas.{decryption_since, outcomes_of}
 use Rattle.age_cli.proofs.RestLemmas.{resumed_by}
 use Rattle.age_cli.proofs.resume_command.resume_opened.Goals as goal
 
-pub returns-clause-opened : goal.returns-clause-opened
-returns-clause-opened g c =
+pub returns-clause-grows : goal.returns-clause-grows
+returns-clause-grows g c =
+    let view = g.F.FileSet.view in
+    let r = c.args.asked.now in
+    let once = c.resume_text-resumed in
+    let first = view c.args.files.now in
+    let mid = view c.finish.new.self in
+    let last = view c.conclude_decryption.new.files in
+    let gave = reading_of r.old.now (g.F.In.Source.view once.new.old) in
+    let did = does_only first mid (Gave gave ∷ []) (c.finish.ensures.over r.old.now (once.ensures.old_began (Named r.old.now) c.requires.old)) (gave_puts gave) in
+    let over = c.conclude_decryption.ensures.over in
+    let more = over.before ++ Gave (reading_of r.decrypting.from.now (g.F.In.Source.view once.result.source)) ∷ over.later in
+    (puts_in more, grows_then [] (puts_in more) first mid last (grows_by [] first mid did) (grows_so mid last more over.is))
+
+pub returns-clause-runs : goal.returns-clause-runs
+returns-clause-runs g c = λ begin later unread found.
     let view = g.F.FileSet.view in
     let In = g.F.In.Source.view in
     let Out = g.F.Out.Sink.view in
@@ -34,18 +48,21 @@ returns-clause-opened g c =
     let over = ended.ensures.over in
     let read = Gave (reading_of d.from.now (In once.result.source)) in
     let more = over.before ++ read ∷ over.later in
-    resumed_by (PortsOf In Out) d r.old.now c.args.identity c.args.position.now (In c.args.old) (In once.new.old)
+    let size = g.F.FileSet.size c.args.source in
+    let came = came_then (puts_in more) first mid last (grows_so mid last more over.is) (Gave gave)
+    (came_one first mid (Gave gave) (outcomes_of first mid (Gave gave ∷ []) is)) in
+    resumed_by (PortsOf In Out) (CameSince begin last) d r.old.now c.args.identity c.args.position.now (In c.args.old) (In once.new.old)
     (ports (In c.args.source) (Out c.args.out.out))
     (ports (In once.result.source) (Out once.new.out.out)) (record { source = once.result.source; sink = once.new.out.out; is = refl })
-    (record { source = once.new.old; sink = once.new.out.out; is = refl }) first last (did_came [] first mid last did read over)
-    (came_then (puts_in more) first mid last (grows_so mid last more over.is) (Gave gave)
-    (came_one first mid (Gave gave) (outcomes_of first mid (Gave gave ∷ []) is)))
-    (now ≡ was) (λ coming left r. ShowsReadings coming left (shown was) (shown now) r)
+    (record { source = c.args.old; sink = c.args.out.out; is = refl })
+    (record { source = once.new.old; sink = once.new.out.out; is = refl }) first last later (did_came [] first mid last did read over)
+    (record { unread = unread; size = g.F.FileSet.size c.args.old; found = found; over = later (Gave gave) came })
+    (now ≡ was) (λ coming left r. ShowsReadings size coming left (shown was) (shown now) r)
     (λ silent. ended.ensures.silent silent ∙ once.ensures.silent silent) c.can_reread-is_reread.result
     once.result.end once.result.standing
     c.positions_at_first.result ended.result c.can_reread-is_reread.ensures c.positions_at_first.ensures.dropped c.positions_at_first.ensures.kept
     once.ensures.resumed
-    (λ asked whole. shown_with (In c.args.source).supply (In once.result.source).supply (shown was) (shown once.new.progress) (shown now) ended.result
+    (λ asked whole. shown_with size (In c.args.source).supply (In once.result.source).supply (shown was) (shown once.new.progress) (shown now) ended.result
     (once.ensures.shown asked) ended.ensures.whole ended.ensures.shown whole)
     c.placed.result c.key_of.result c.placed.ensures c.key_of.ensures
     (decryption_since d (Out once.new.out.out) from first mid last did (Out once.new.out.out).taken.bytes c.placed.result again ended.result

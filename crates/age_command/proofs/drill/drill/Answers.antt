@@ -15,7 +15,7 @@ returns g c =
     let script = c.args.asked.now.script.now in
     let opened = c.open-opened.ensures in
     let did = does_then (Opened script ∷ []) (Opened from ∷ []) _ _ _ c.read_script.ensures.does
-    (opened_does g.F.In.Source.view from (Found from) (found_plain from) _ _ c.open-opened.result opened.noted opened.faults) in
+    (opened_does g.F.In.Source.view g.F.FileSet.size from (Found from) (found_plain from) _ _ c.open-opened.result opened.noted opened.faults) in
     record {
       order = begun _ _ _ did;
       order_done = always c.deliver_opened.result _ did;

@@ -5,4 +5,4 @@ use Rattle.age_cli.proofs.taking.Taking.settle.Goals as goal
 
 pub returns-clause-does : goal.returns-clause-does
 returns-clause-does g c =
-    does_only _ _ (Settled (g.F.Out.Sink.view c.args.self.now.out).taken.bytes c.settle.result ∷ []) c.settle.ensures.noted (settled_puts _ _)
+    does_only _ _ (Settled c.args.durability (g.F.Out.Sink.view c.args.self.now.out).taken.bytes c.settle.result ∷ []) c.settle.ensures.noted (settled_puts _ _ _)
