@@ -157,7 +157,7 @@ fn decrypt_opened<F: FileSet, E: Sink, P: Meter>(
     requires { F.In.began source (Named asked.now.from.now) }
     ensures announced { Tells announced.new result (E.view faults.old) (E.view faults.new)
         (faults.new ≡ faults.old) }
-    ensures runs { (first : FilesView)
+    ensures opened { (first : FilesView)
         → ((o : Outcome) → CameSince (F.view files.old) (F.view files.new) o
         → CameSince first (F.view files.new) o)
         → RunsEngine (PortsOf F.In.view F.Out.view) (CameSince first (F.view files.new))

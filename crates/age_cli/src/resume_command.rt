@@ -267,7 +267,7 @@ fn resume_opened<F: FileSet, E: Sink, P: Meter>(
     ensures announced { Tells announced.new result (E.view faults.old) (E.view faults.new)
         (faults.new ≡ faults.old) }
     ensures grows { (puts : List Entry) × PutsOnly puts (F.view files.old) (F.view files.new) }
-    ensures runs { (first : FilesView)
+    ensures opened { (first : FilesView)
         → ((o : Outcome) → CameSince (F.view files.old) (F.view files.new) o
         → CameSince first (F.view files.new) o)
         → (F.In.view old).supply.given ≡ [] → CameSince first (F.view files.new)

@@ -72,7 +72,7 @@ returns-clause-acts g c =
     let source = c.in_ok-source.source in
     let before = ports (g.F.In.Source.view source) (g.F.Out.Sink.view c.in_ok-source.out.out) in
     let did = does_then xs (ys ++ creating d.clobber d.to.now ∷ []) old next mid judged.noted both.noted in
-    let run = c.decrypt_opened.ensures.runs old (then_came [] old mid new (grows_by (xs ++ (ys ++ creating d.clobber d.to.now ∷ [])) old mid did)) in
+    let run = c.decrypt_opened.ensures.opened old (then_came [] old mid new (grows_by (xs ++ (ys ++ creating d.clobber d.to.now ∷ [])) old mid did)) in
     let grows = concluded_grows (option_text d.save) d.durability run.after run.settled run.end mid new c.decrypt_opened.result run.concludes in
     let opened : (o : Outcome) → CameSince next mid o → CameSince old new o =
     λ o came. came_then grows.0 old mid new grows.1 o (then_came [] old next mid (grows_by xs old next judged.noted) o came) in

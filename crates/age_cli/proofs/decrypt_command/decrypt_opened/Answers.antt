@@ -6,8 +6,8 @@ use Rattle.age_cli.proofs.ReadingsLemmas.{shown_with}
 use Rattle.age_cli.proofs.RestLemmas.{runs_opened}
 use Rattle.age_cli.proofs.decrypt_command.decrypt_opened.Goals as goal
 
-pub returns-clause-runs : goal.returns-clause-runs
-returns-clause-runs g c = λ first later.
+pub returns-clause-opened : goal.returns-clause-opened
+returns-clause-opened g c = λ first later.
     let view = g.F.FileSet.view in
     let In = g.F.In.Source.view in
     let Out = g.F.Out.Sink.view in

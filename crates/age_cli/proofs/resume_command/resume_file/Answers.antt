@@ -125,7 +125,7 @@ returns-clause-acts g c =
     let old_name = old_found c.in_ok-position.position r.old.now (In earlier_source).supply.left (g.F.FileSet.size earlier_source) in
     let grows = c.resume_opened.ensures.grows in
     let last : (o : Outcome) → CameSince old mid o → CameSince old new o = came_then grows.0 old mid new grows.1 in
-    let run = c.resume_opened.ensures.runs old late earlier.begun (last old_name (found old_name earlier.found)) in
+    let run = c.resume_opened.ensures.opened old late earlier.begun (last old_name (found old_name earlier.found)) in
     let after = grows_then [] grows.0 then mid new both.none grows.1 in
     let given : (o : Outcome) → CameSince first next o → CameSince old new o =
     λ o came. last o (came_then [] old then mid both.none o (came_then [] old next then (grows_by two next then earlier.does) o

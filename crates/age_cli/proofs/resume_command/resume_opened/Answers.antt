@@ -25,8 +25,8 @@ returns-clause-grows g c =
     let more = over.before ++ Gave (reading_of r.decrypting.from.now (g.F.In.Source.view once.result.source)) ∷ over.later in
     (puts_in more, grows_then [] (puts_in more) first mid last (grows_by [] first mid did) (grows_so mid last more over.is))
 
-pub returns-clause-runs : goal.returns-clause-runs
-returns-clause-runs g c = λ begin later unread found.
+pub returns-clause-opened : goal.returns-clause-opened
+returns-clause-opened g c = λ begin later unread found.
     let view = g.F.FileSet.view in
     let In = g.F.In.Source.view in
     let Out = g.F.Out.Sink.view in
