@@ -11,7 +11,7 @@ use Rattle.age_file.specs.declared.decryption.Stopped.{Stopped}
 use Rattle.age_file.specs.declared.position.Position.{Position}
 use Rattle.age_fileset.specs.FileSet.{FilesView, IsMemoryOr, Closed, Reading, reread_as, puts_in, with_outcomes, Outcome, Found, Gave, Settled, Entry}
 use Rattle.age_fileset.specs.FileSet.{Does, PutsOnly, CameSince}
-use Rattle.age_fileset.proofs.OutcomeLemmas.{does_only, did_ended, grows_by, grows_none, grows_then, came_then, then_came, unread_puts}
+use Rattle.age_fileset.proofs.OutcomeLemmas.{does_only, did_ended, grows_by, grows_none, grows_then, came_then, then_came}
 use Rattle.age_io.specs.Io.{SinkView, SourceView}
 use Rattle.age_io.specs.declared.durability.Durability.{Durability}
 use Rattle.age_machine.specs.Ends.{EndedFile}
@@ -30,7 +30,6 @@ use Rattle.age_cli.specs.inner.Rereadings.{ConcludesDecryption, ConcludesFound, 
 use Rattle.age_cli.proofs.FileLemmas.{left_file, some_and}
 use Rattle.age_cli.proofs.OpeningLemmas.{did_came, same_events}
 use Rattle.age_cli.proofs.PutLemmas.{PutsRest, concludes_from, rest_of}
-use Rattle.age_fileset.specs.declared.files.OpenFault.TheVariants as refusal
 
 -- a position that was found by this key
 pub finds_so : (from : Option Position) (key : List ℕ) (old new : SourceView) (written : ℕ) (r : Result Position FileFault)
@@ -41,20 +40,11 @@ finds_so from key old new written (Err f) found = tt
 
 -- ---- A file was set back to its start.
 
-found_puts : (reading : Reading) (name : List ℕ) (left : Option (List ℕ)) (size : Option ℕ) → puts_in (Gave reading ∷ Found name left size ∷ []) ≡ []
-unfolding puts_in
-found_puts reading name left size = refl
-
-gave_then : (reading : Reading) (more : List Outcome) → puts_in more ≡ [] → puts_in (Gave reading ∷ more) ≡ []
-unfolding puts_in
-gave_then reading more none = none
-
 pub reread_does : (reading : Reading) (name : List ℕ) (left : Option (List ℕ)) (size : Option ℕ) (old new : FilesView) (r : Result (Unit {0}) FileFault)
-    → new ≡ with_outcomes (Gave reading ∷ reread_as name left size r) old → IfErr r (IsMemoryOr Read) → Does [] old new
-reread_does reading name left size old new (Ok done) is fails = does_only old new (Gave reading ∷ Found name left size ∷ []) is (found_puts reading name left size)
-reread_does reading name left size old new (Err f) is fails =
-    does_only old new (Gave reading ∷ reread_as name left size (Err f)) is
-    (gave_then reading (reread_as name left size (Err f)) (unread_puts name (refusal.Fault f) fails))
+    → new ≡ with_outcomes (Gave reading ∷ reread_as name left size r) old → Does [] old new
+unfolding puts_in
+reread_does reading name left size old new (Ok done) is = does_only old new (Gave reading ∷ Found name left size ∷ []) is refl
+reread_does reading name left size old new (Err f) is = does_only old new (Gave reading ∷ []) is refl
 
 pub outcomes_of : (old new : FilesView) (more : List Outcome) → new ≡ with_outcomes more old → new.outcomes ≡ old.outcomes ++ more
 outcomes_of old new more is = ap (λ v. v.outcomes) is

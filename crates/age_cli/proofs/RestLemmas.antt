@@ -87,10 +87,30 @@ module _ (Later : Outcome → Type 0) (Stops : PositionPolicy → Option Run →
     }
 
     ends_again : ConcludesFound d sink from s key old new ending settled → (p : Position) × So (Err (stopped_at s p)) (Err ending)
-    ends_again (inl (p, found, concludes)) = (p, ends_at p (run, s, refl, inr (stops,
-        subst (λ (o : Option Run). IsSomeAnd o (λ r. FindsAgain Later d.from.now from settled r s p)) (sym came.1) (found_later p found))) concludes)
-    ends_again (inr all) = (came.3, ends_at came.3 (run, stopped_at s came.3, refl, inl (
-        subst (λ (x : PositionPolicy). Stops x run (stopped_at s came.3)) (kept_some (option_text d.save) saves) came.4, refl)) (all came.3))
+    ends_again (inl (p, found, concludes)) = (
+      p,
+      ends_at p (
+        run,
+        s,
+        refl,
+        inr (
+          stops,
+          subst (λ (o : Option Run). IsSomeAnd o (λ r. FindsAgain Later d.from.now from settled r s p)) (sym came.1) (found_later p found),
+        ),
+      ) concludes,
+    )
+    ends_again (inr all) = (
+      came.3,
+      ends_at came.3 (
+        run,
+        stopped_at s came.3,
+        refl,
+        inl (
+          subst (λ (x : PositionPolicy). Stops x run (stopped_at s came.3)) (kept_some (option_text d.save) saves) came.4,
+          refl,
+        ),
+      ) (all came.3),
+    )
 
 -- ---- A decryption.
 

@@ -173,8 +173,7 @@ pub(crate) fn open_both<F: FileSet>(
 
 /// Shows a meter that a reading of an input begins, with its length if the set of files can say it.
 pub(crate) fn begin_meter<F: FileSet, M: Meter>(files: &F, source: &F::In, meter: &mut M)
-    ensures {
-        IfSome (F.In.view source.now).supply.left (λ bytes. F.size source.now ≡ Some (length bytes))
+    ensures { IfSome (F.In.view source.now).supply.left (λ bytes. F.size source.now ≡ Some (length bytes))
         × Adds (M.shown meter.old) (M.shown meter.new) (Begins (F.size source.now)) }
 {
     meter.begin(files.length(source));

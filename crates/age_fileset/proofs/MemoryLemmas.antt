@@ -110,7 +110,7 @@ module _ (old new : FilesView) (was is : List MemEntry) (kept_was : AreTrue was 
   -- or it counts as empty if there is none
   pub found_any_was : (name : List ℕ) (left : Option (List ℕ)) (size : Option ℕ) (c : CameSince old new (FoundOrEmpty name left size)) → AreOthers name (puts_in c.before)
       → left ≡ or_empty (entry_of was name)
-  found_any_was name left size c other = fit_at (FoundOrEmpty name left size) c ∙ ap or_empty (same_at (FoundOrEmpty name left size) c name other)
+  found_any_was name left size c other = (fit_at (FoundOrEmpty name left size) c).0 ∙ ap or_empty (same_at (FoundOrEmpty name left size) c name other)
 
   -- all that a file gave stood there at first
   pub gave_all_was : (name bytes : List ℕ) (g : HasGivenAll (CameSince old new) name bytes) → AreOthers name (puts_in g.gave.found.before)

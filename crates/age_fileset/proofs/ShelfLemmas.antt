@@ -24,8 +24,8 @@ fit_then files [] b fit more = more
 fit_then files (x ∷ a) b fit more = (fit.0, fit_then (once files x) a b fit.1 more)
 
 pub fits_by : (f g : Files) (o : Outcome) → ((q : List ℕ) → f q ≡ g q) → Fits f o → Fits g o
-fits_by f g (Found name left size) same fit = (fit.0, fit.1 ∙ same name)
-fits_by f g (FoundOrEmpty name left size) same fit = fit ∙ ap or_empty (same name)
+fits_by f g (Found name left size) same fit = (fit.0, fit.1 ∙ same name, fit.2)
+fits_by f g (FoundOrEmpty name left size) same fit = (fit.0 ∙ ap or_empty (same name), fit.1)
 fits_by f g (Unread name) same fit = sym (same name) ∙ fit
 fits_by f g (Absent name) same fit = sym (same name) ∙ fit
 fits_by f g (Settled durability took size) same fit = fit

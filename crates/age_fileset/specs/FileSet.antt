@@ -83,14 +83,15 @@ opened_as read size found name (Err fault) = refused_as name fault
 -- of one that was to be set back to its start, and has this to give then
 abbrev pub reread_as : List ℕ → Option (List ℕ) → Option ℕ → Result (Unit {0}) FileFault → List Outcome
 reread_as name left size (Ok done) = Found name left size ∷ []
-reread_as name left size (Err fault) = refused_as name (Fault fault)
+reread_as name left size (Err fault) = []
 
 -- of one that was to be prepared, created or made: this, or that it can't be
 abbrev pub made_as : {A : Type 0} → List Outcome → List ℕ → Result A OpenFault → List Outcome
 made_as made name (Ok out) = made
 made_as made name (Err fault) = refused_as name fault
 
--- of one in whose place these bytes were to be put, and of one that couldn't be ended or replaced
+-- of one in whose place these bytes were to be put in memory; and of one that was to be ended or
+-- replaced with them
 abbrev pub put_as : {E : Type 0} → List ℕ → List ℕ → Result (Unit {0}) E → List Outcome
 put_as name bytes (Ok done) = Put name bytes ∷ []
 put_as name bytes (Err fault) = []
@@ -237,8 +238,9 @@ stands files (outcome ∷ more) = stands (once files outcome) more
 -- this is true of such files, in a set that shows them: in memory none is a stream, a terminal or on
 -- a disk
 abbrev pub Fits : Files → Outcome → Type 0
-Fits files (Found name left size) = (is_some left ≡ true) × (left ≡ files name)
-Fits files (FoundOrEmpty name left size) = left ≡ or_empty (files name)
+Fits files (Found name left size) =
+    (is_some left ≡ true) × (left ≡ files name) × (size ≡ option_map length left)
+Fits files (FoundOrEmpty name left size) = (left ≡ or_empty (files name)) × (size ≡ option_map length left)
 Fits files (Unread name) = files name ≡ None
 Fits files (Absent name) = files name ≡ None
 Fits files (Settled durability took size) = size ≡ length took

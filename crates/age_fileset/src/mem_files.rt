@@ -430,7 +430,6 @@ impl FileSet for MemFiles {
     {
         self.log_reading(source);
         let Some(bytes) = bytes_of(self.entries.as_slice(), name) else {
-            self.log.refused(name, OpenFault::Fault(FileFault::Read));
             return Err(FileFault::Read);
         };
         let mut left = Tape::new();

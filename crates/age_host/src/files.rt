@@ -561,11 +561,7 @@ impl<'r, 'w> FileSet for HostFiles<'r, 'w> {
                 self.log.found(name, None, source.length());
                 Ok(())
             }
-            Err(error) => {
-                let fault = fault_of(error, FileFault::Read);
-                self.log.refused(name, OpenFault::Fault(fault));
-                Err(fault)
-            }
+            Err(error) => Err(fault_of(error, FileFault::Read)),
         }
     }
 

@@ -13,7 +13,7 @@ returns-in_err-reread-clause-does g c =
     let name = c.args.asked.now.from.now in
     reread_does (reading_of name (In c.args.again.source)) name (In c.reread.new.source).supply.left (g.F.FileSet.size c.reread.new.source) (view c.args.files.now) (view c.reread.new.self)
     c.reread.result
-    (c.reread.ensures.over c.requires) c.reread.ensures.faults
+    (c.reread.ensures.over c.requires)
 
 pub returns-in_err-reread-clause-over : goal.returns-in_err-reread-clause-over
 returns-in_err-reread-clause-over g c =
@@ -38,8 +38,7 @@ returns-clause-does g c =
     let began = c.find_in-found.ensures.began name (c.reread.ensures.began (Named name) c.requires) in
     does_then [] [] old mid new
     (reread_does (reading_of name (In c.args.again.source)) name (In c.reread.new.source).supply.left (g.F.FileSet.size c.reread.new.source) old mid c.reread.result
-    (c.reread.ensures.over c.requires)
-    c.reread.ensures.faults)
+    (c.reread.ensures.over c.requires))
     (does_only mid new (Gave gave ∷ []) (c.finish.ensures.over name began) (gave_puts gave))
 
 pub returns-clause-found : goal.returns-clause-found
@@ -57,7 +56,7 @@ returns-clause-found g c =
     let was = reading_of name (In again.source) in
     let gave = reading_of name last in
     let over = c.finish.ensures.over name (c.find_in-found.ensures.began name (c.reread.ensures.began (Named name) c.requires)) in
-    let did = reread_does was name first.supply.left size old mid c.reread.result (c.reread.ensures.over c.requires) c.reread.ensures.faults in
+    let did = reread_does was name first.supply.left size old mid c.reread.result (c.reread.ensures.over c.requires) in
     let then = does_only mid new (Gave gave ∷ []) over (gave_puts gave) in
     found_by (CameSince old new) name (start_of c.args.settled again.from) again.key (min again.stopped.written c.args.settled) first last
     (record {
