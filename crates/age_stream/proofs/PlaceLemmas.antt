@@ -6,26 +6,22 @@ use Rattle.std.specs.Str.{bytes_eq}
 use Rattle.std.specs.List.{list_any, enumerate_from}
 use Rattle.std.specs.Simd.{first_chunks}
 use Rattle.std.proofs.lemmas.Slice.Eq.{bytes_eq-Decides}
-use Rattle.std.proofs.lemmas.List.{length-take, length-drop, take_all}
+use Rattle.std.proofs.lemmas.List.{length-take, length-drop}
 use Rattle.std.proofs.lemmas.List.Folds.{list_any_at, Any-from_list_any}
-use Rattle.std.proofs.lemmas.Bool.{cases_lt, lt-ltb, and_parts}
+use Rattle.std.proofs.lemmas.Bool.{cases_lt, lt-ltb, and_parts, eqb-true, eqb-false}
 use Rattle.std.proofs.lemmas.Bool.Decides.{nat_tests}
 use Rattle.age_chunk.specs.ChunkBoxes.{IsChunkBox, tag_length}
 use Rattle.age_chunk.specs.Payload.{nonce_bytes, chunk_limit, chunks, chunk_count, last_index, last_chunk, pair, sealed}
-use Rattle.age_stream.specs.Segment.{Segment, Outcome, outcome, block_at, text_before_last, unless_greatest, text_then, front_texts, whole_blocks, rest_bytes}
-use Rattle.age_stream.specs.Segment.{failed}
-use Rattle.age_stream.specs.inner.OpenerSteps.{after_last, at_block, final_block}
+use Rattle.age_chunk.specs.declared.fault.StreamKind.{StreamKind}
+use Rattle.age_chunk.specs.declared.fault.StreamKind.TheVariants.{ChunkDamaged, Trailing, TooManyChunks}
+use Rattle.age_chunk.proofs.NonceLemmas.{nonce_bytes-length, nonce_bytes-flag}
+use Rattle.age_stream.specs.Segment.{Segment, Outcome, Frontier, outcome, stop, verdict, block_at, text_before_last, unless_greatest, text_then, front_texts}
+use Rattle.age_stream.specs.Segment.{whole_blocks, failed}
 use Rattle.age_stream.specs.declared.step.Status.{Status}
 use Rattle.age_stream.specs.declared.step.Status.TheVariants.{Failed}
-use Rattle.age_chunk.specs.declared.fault.StreamKind.{StreamKind}
-use Rattle.age_chunk.specs.declared.fault.StreamKind.TheVariants.{ChunkDamaged, ChunkCut, EmptyLast, Truncated, Trailing, TooManyChunks}
 use Rattle.age_stream.specs.Headline.{IsWriters, IsAuthentic, sealed_as, compared, IsFirstWrong, IsInPlace}
-use Rattle.age_chunk.proofs.NonceLemmas.{nonce_bytes-length, nonce_bytes-flag}
-use Rattle.age_chunk.proofs.FirstChunkLemmas.{length-first_chunks, get_or-first_chunks}
-use Rattle.age_stream.proofs.SegmentLemmas.{by_test, tag_left, empty_first, writer_text, next_within, opens_before, front_carries, IsPair-from_Contains}
-use Rattle.age_stream.proofs.GoingLemmas.{place, at_place, past_place}
-use Rattle.age_stream.proofs.TableLemmas.{rest_short}
-use Rattle.age_stream.proofs.TriedLemmas.{AreTried, tried}
+use Rattle.age_stream.proofs.SegmentLemmas.{writer_text, next_within, opens_before, front_carries, front_written, IsPair-from_Contains}
+use Rattle.age_stream.proofs.TableLemmas.{block_full, block_is, by_both, by_lines, frontier, last_status, length-whole_blocks, outcome_is, texts_fit, whole_within}
 
 -- each pair is the sealing of its chunk
 abbrev AreSealed : (List ℕ → List ℕ → List ℕ) → List (List ℕ × List ℕ) → List (List ℕ) → Type 0
@@ -90,13 +86,10 @@ kinds a b i j e = ap (λ (s : Status). kind_of s a) e
 places : (a b : StreamKind) (i j : ℕ) → failed a i ≡ failed b j → i ≡ j
 places a b i j e = ap place_of e
 
--- a choice of four, the last of which is the same if it is reached
-four : {A : Type 0} (b0 b1 b2 : Bool) (w x y u v : A) → (b0 ≡ false → b1 ≡ false → b2 ≡ false → u ≡ v)
-    → cond b0 w (cond b1 x (cond b2 y u)) ≡ cond b0 w (cond b1 x (cond b2 y v))
-four true b1 b2 w x y u v f = refl
-four false true b2 w x y u v f = refl
-four false false true w x y u v f = refl
-four false false false w x y u v f = f refl refl refl
+last_fault : (followed ended : Bool) (kind : StreamKind) (i j : ℕ) → (kind ≡ Trailing → ⊥) → last_status followed ended i ≡ failed kind j → ⊥
+last_fault true ended kind i j other e = other (kinds kind Trailing j i (sym e))
+last_fault false true kind i j other e = cc
+last_fault false false kind i j other e = cc
 
 module _ (sealing : List ℕ → List ℕ → List ℕ) (opening : List ℕ → List ℕ → Option (List ℕ)) (valid : IsChunkBox sealing opening)
     (n : ℕ) (text : List ℕ) (few : chunk_count n text ≤ chunk_limit) (positive : 0 < n) where
@@ -235,186 +228,94 @@ module _ (sealing : List ℕ → List ℕ → List ℕ) (opening : List ℕ → 
       front_step block blocks i (text_before_last opening i block) refl f (λ f'. front_same blocks (i + 1) f')
       ∙ ap (λ (o : Option (List ℕ)). text_then other (unless_greatest i o) (front_texts other (i + 1) blocks)) here
 
-  last_same : (texts : List (List ℕ)) (i : ℕ) (o : Option (List ℕ)) (behind ended : Bool) → after_last opening texts i o behind ended
-      ≡ after_last other texts i o behind ended
-  last_same texts i None behind ended = refl
-  last_same texts i (Some x) behind ended = refl
-
-  last_both : (texts : List (List ℕ)) (i : ℕ) (block : List ℕ) (behind ended : Bool) → Same (nonce_bytes i true) block
-      → after_last opening texts i (opening (nonce_bytes i true) block) behind ended ≡ after_last other texts i (other (nonce_bytes i true) block) behind ended
-  last_both texts i block behind ended e =
-      last_same texts i (opening (nonce_bytes i true) block) behind ended ∙ ap (λ (o : Option (List ℕ)). after_last other texts i o behind ended) e
-
-  block_same : (texts : List (List ℕ)) (i : ℕ) (block : List ℕ) (behind ended : Bool) (o : Option (List ℕ)) → Same (nonce_bytes i true) block
-      → at_block opening texts i block behind ended o ≡ at_block other texts i block behind ended o
-  block_same texts i block behind ended (Some x) e = refl
-  block_same texts i block behind ended None e = last_both texts i block behind ended e
-
-  rest_same : (texts : List (List ℕ)) (i : ℕ) (rest : List ℕ) (late ended : Bool)
-      → (ended ≡ true → tag_length ≤ length rest → (length rest ≡ tag_length → i ≡ 0) → Same (nonce_bytes i true) rest)
-      → final_block opening texts i rest late ended ≡ final_block other texts i rest late ended
-  rest_same texts i rest late false f = refl
-  rest_same texts i rest late true f =
-      four (nat_lt 0 (length rest) && nat_lt (length rest) tag_length) (length rest == tag_length && nat_lt 0 i) (length rest == 0) _ _ _ _ _
-      (λ uncut first some. last_both texts i rest late true (f refl (tag_left (length rest) uncut some) (empty_first (length rest) i first)))
-
   module _ (s : Segment) (given : IsAuthentic sealing opening n text s) where
-    auth : AreTried sealing opening n text s
-    auth = tried sealing opening n text s given
+    abbrev here : Frontier
+    here = stop opening n s
 
     abbrev blocks : List (List ℕ)
     blocks = whole_blocks n s.bytes
 
-    abbrev texts : List (List ℕ)
-    texts = front_texts opening s.start blocks
+    abbrev m : ℕ
+    m = length here.texts
 
-    abbrev at : ℕ
-    at = s.start + length texts
-
-    count : length blocks ≡ length s.bytes / (n + tag_length)
-    count = length-first_chunks (n + tag_length) (length s.bytes / (n + tag_length)) s.bytes
-
-    front_is : texts ≡ front_texts other s.start blocks
-    front_is =
-        front_same blocks s.start
-        (λ j l m. elim (cases_lt j (length texts)) [
-          | inl lt ↦ same (nonce_bytes (s.start + j) false) (get_or blocks j []) (auth.front j lt)
-          | inr le ↦
-              (let e : length texts ≡ j = omega (arith, le, m) in
-              let lt : length texts < length s.bytes / (n + tag_length) = omega (arith, e, l, count) in
-              subst (λ (k : ℕ). Same (nonce_bytes (s.start + k) false) (get_or blocks k [])) e
-              (same (nonce_bytes at false) (get_or blocks (length texts) []) (auth.next lt false)))
-        ])
+    not_last : here.whole ≡ true → IsWriters sealing opening n text (nonce_bytes here.index false) here.block
+    not_last whole = given.not_last m (omega arith) (eqb-true (length here.block) (n + tag_length) whole)
 
     compares : outcome opening n s ≡ outcome other n s
     compares =
-        let behind = nat_lt ((length texts + 1) * (n + tag_length)) (length s.bytes) in
-        let rest = rest_bytes n s.bytes in
-        elim (place opening n s) [
-          | inl lt ↦
-              (let b = get_or blocks (length texts) [] in
-              let lt' : length texts < length s.bytes / (n + tag_length) = omega (arith, lt, count) in
-              let lt2 : length (front_texts other s.start blocks) < length blocks = subst (λ (ts : List (List ℕ)). length ts < length blocks) front_is lt in
-              let o = opening (nonce_bytes at false) b in
-              at_place opening n s lt
-              ∙ (block_same texts at b (behind || s.late) s.ended o (same (nonce_bytes at true) b (auth.next lt' true))
-              ∙ (ap (λ (x : Option (List ℕ)). at_block other texts at b (behind || s.late) s.ended x) (same (nonce_bytes at false) b (auth.next lt' false))
-              ∙ (ap (λ (ts : List (List ℕ)). at_block other ts (s.start + length ts) (get_or blocks (length ts) [])
-              (nat_lt ((length ts + 1) * (n + tag_length)) (length s.bytes) || s.late) s.ended
-              (other (nonce_bytes (s.start + length ts) false) (get_or blocks (length ts) []))) front_is
-              ∙ sym (at_place other n s lt2)))))
-          | inr eq ↦
-              (let eq' : length texts ≡ length s.bytes / (n + tag_length) = eq ∙ count in
-              let eq2 : length (front_texts other s.start blocks) ≡ length blocks = subst (λ (ts : List (List ℕ)). length ts ≡ length blocks) front_is eq in
-              past_place opening n s eq
-              ∙ (rest_same texts at rest s.late s.ended
-              (λ t h z. same (nonce_bytes at true) rest (subst (λ (k : ℕ). IsWriters sealing opening n text (nonce_bytes (s.start + k) true) rest) (sym eq')
-              (auth.rest eq' t h (λ g. omega (arith, eq', z g)))))
-              ∙ (ap (λ (ts : List (List ℕ)). final_block other ts (s.start + length ts) rest s.late s.ended) front_is
-              ∙ sym (past_place other n s eq2))))
-        ]
+        let front : here.texts ≡ front_texts other s.start blocks = front_same blocks s.start
+        (λ j l le. let lt : j < length s.bytes / (n + tag_length) = omega (arith, l, length-whole_blocks n s) in
+        subst (Same (nonce_bytes (s.start + j) false)) (block_is n s j lt)
+        (same (nonce_bytes (s.start + j) false) (block_at n s.bytes j) (given.not_last j le (block_full n s j lt)))) in
+        outcome_is opening n s
+        ∙ (by_both opening other here here.texts here.followed here.ended (λ x y. x ≡ y) refl (λ _. refl) (λ _. refl)
+        (λ whole. same (nonce_bytes here.index false) here.block (not_last whole)) (λ tried. same (nonce_bytes here.index true) here.block (given.last tried)) (λ _. refl)
+        ∙ (ap (λ (ts : List (List ℕ)). verdict other (frontier n s ts)) front ∙ sym (outcome_is other n s)))
 
-    block_is : (j : ℕ) → j < length blocks → block_at n s.bytes j ≡ get_or blocks j []
-    block_is j lt = sym (get_or-first_chunks (n + tag_length) (length s.bytes / (n + tag_length)) s.bytes j [] (omega (arith, lt, count)))
-
-    first_wrong : ((last : Bool) → sure (nonce_bytes at last) (block_at n s.bytes (length texts)) ≡ false) → length texts ≤ length blocks
-        → IsFirstWrong sealing n text s at
-    first_wrong none fits =
-        let m : length texts ≡ at - s.start = omega arith in
+    first_wrong : ((last : Bool) → sure (nonce_bytes here.index last) here.block ≡ false) → IsFirstWrong sealing n text s here.index
+    first_wrong none =
+        let at : m ≡ here.index - s.start = omega arith in
         record {
           before = λ j lt.
-              let here : j < length texts = omega (arith, lt) in
-              let b = get_or blocks j [] in
-              let is : block_at n s.bytes j ≡ b = block_is j (omega (arith, here, fits)) in
+              let front : j < m = omega (arith, lt) in
+              let is : block_at n s.bytes j ≡ get_or blocks j [] = block_is n s j (omega (arith, front, texts_fit opening n s)) in
               subst (λ (x : List ℕ). Contains (sealed sealing n text) (nonce_bytes (s.start + j) false, x)) (sym is)
-              (auth.front j here (front_opens blocks s.start j here));
+              (front_written sealing opening valid n text few positive s given j front (front_opens blocks s.start j front));
           there = λ last found.
-              let no = subst (λ (k : ℕ). sure (nonce_bytes at last) (block_at n s.bytes k) ≡ false) m (none last) in
-              let clash : true ≡ false = sym (sure_from_Contains (nonce_bytes at last) (block_at n s.bytes (at - s.start)) found) ∙ no in
+              let no = subst (λ (k : ℕ). sure (nonce_bytes here.index last) (block_at n s.bytes k) ≡ false) at (none last) in
+              let clash : true ≡ false = sym (sure_from_Contains (nonce_bytes here.index last) (block_at n s.bytes (here.index - s.start)) found) ∙ no in
               cc;
         }
+
+    -- it stands at a chunk that a payload may have, if the text reaches its start
+    pub low_within : s.start < chunk_limit → s.start * n ≤ length text → here.index < chunk_limit
+    low_within limit fits =
+        (front_carries sealing opening valid n text few positive blocks s.start fits (front_written sealing opening valid n text few positive s given)).small limit
+
+    -- the block at which it stands doesn't open as one before the last
+    not_before : here.index < chunk_limit → (x : List ℕ) → here.whole ≡ true → opening (nonce_bytes here.index false) here.block ≡ Some x → ⊥
+    not_before low x whole e =
+        let lt : m < length s.bytes / (n + tag_length) = whole_within n s m (texts_fit opening n s) whole in
+        let c = writer_text sealing opening valid n text few positive here.index false here.block x low e (not_last whole) in
+        let below = c.below in
+        let flag = c.flag in
+        let more : here.index + 1 < chunk_count n text = grind (arith, nat_tests) in
+        let t : nat_lt (here.index + 1) chunk_limit ≡ true = lt-ltb (here.index + 1) chunk_limit (omega (arith, more, few)) in
+        let is : text_before_last opening here.index here.block ≡ Some x = ap (unless_greatest here.index) e ∙ ap (λ (y : Bool). cond y (Some x) None) t in
+        let stops = front_stops blocks s.start (omega (arith, lt, length-whole_blocks n s)) in
+        let no : None ≡ Some x = sym stops ∙ (ap (text_before_last opening here.index) (sym (block_is n s m lt)) ∙ is) in
+        cc
+
+    -- one that opens neither as that nor as the last is none of the writer's
+    unsure_here : (whole : Bool) → here.whole ≡ whole → (here.whole ≡ true → opening (nonce_bytes here.index false) here.block ≡ None)
+        → opening (nonce_bytes here.index true) here.block ≡ None → (last : Bool) → sure (nonce_bytes here.index last) here.block ≡ false
+    unsure_here whole is before none true = unsure here.index true here.block none
+    unsure_here true is before none false = unsure here.index false here.block (before is)
+    unsure_here false is before none false =
+        let size = n + tag_length in
+        let most = length-take size (drop (m * size) s.bytes) in
+        let part : length here.block ≡ size → ⊥ = eqb-false (length here.block) size is in
+        unsure_short here.index here.block (elim (cases_lt (length here.block) size) [
+          | inl lt ↦ lt
+          | inr ge ↦ absurd (part (omega (arith, ge, most)))
+        ])
 
     -- what an outcome's status may say
     abbrev Right : Outcome → Type 0
     Right o = ((i : ℕ) → o.status ≡ failed ChunkDamaged i → IsFirstWrong sealing n text s i) × ((i : ℕ) → o.status ≡ failed TooManyChunks i → ⊥)
 
-    right_kind : (ts : List (List ℕ)) (kind : StreamKind) (i : ℕ) → (kind ≡ ChunkDamaged → ⊥) → (kind ≡ TooManyChunks → ⊥)
-        → Right (record { texts = ts; index = i; status = failed kind i })
-    right_kind ts kind i a b = (λ j e. absurd (a (kinds kind ChunkDamaged i j e)), λ j e. b (kinds kind TooManyChunks i j e))
-
-    right_last : (o : Option (List ℕ)) (behind ended : Bool) → (o ≡ None → IsFirstWrong sealing n text s at)
-        → Right (after_last opening texts at o behind ended)
-    right_last None behind ended f = (
-      λ i e. subst (IsFirstWrong sealing n text s) (places ChunkDamaged ChunkDamaged at i e) (f refl),
-      λ i e. let k = kinds ChunkDamaged TooManyChunks at i e in cc,
-    )
-    right_last (Some x) true ended f = right_kind (texts ++ x ∷ []) Trailing at (λ e. cc) (λ e. cc)
-    right_last (Some x) false true f = (λ i e. cc, λ i e. cc)
-    right_last (Some x) false false f = (λ i e. cc, λ i e. cc)
-
-    right_rest : (rest : List ℕ) (late ended : Bool) → (opening (nonce_bytes at true) rest ≡ None → IsFirstWrong sealing n text s at)
-        → Right (final_block opening texts at rest late ended)
-    right_rest rest late false f = (λ i e. cc, λ i e. cc)
-    right_rest rest late true f =
-        let last : Right (after_last opening texts at (opening (nonce_bytes at true) rest) late true) = right_last (opening (nonce_bytes at true) rest)
-        late true f in
-        by_test Right (nat_lt 0 (length rest) && nat_lt (length rest) tag_length) _ _ (λ _. right_kind texts ChunkCut at (λ e. cc) (λ e. cc))
-        (λ _. by_test Right (length rest == tag_length && nat_lt 0 at) _ _ (λ _. right_kind texts EmptyLast at (λ e. cc) (λ e. cc))
-        (λ _. by_test Right (length rest == 0) _ _ (λ _. right_kind texts Truncated at (λ e. cc) (λ e. cc)) (λ _. last)))
-
-    -- it stands at a chunk that a payload may have, if the text reaches its start
-    pub low_within : s.start < chunk_limit → s.start * n ≤ length text → at < chunk_limit
-    low_within limit fits = (front_carries sealing opening valid n text few positive blocks s.start fits auth.front).small limit
-
-    module _ (low : at < chunk_limit) where
-      -- the block at which it stands doesn't open as one before the last
-      not_before : (o : Option (List ℕ)) → length texts < length blocks → opening (nonce_bytes at false) (get_or blocks (length texts) []) ≡ o
-          → opening (nonce_bytes at false) (get_or blocks (length texts) []) ≡ None
-      not_before None lt e = e
-      not_before (Some x) lt e =
-          let b = get_or blocks (length texts) [] in
-          let lt' : length texts < length s.bytes / (n + tag_length) = omega (arith, lt, count) in
-          let c = writer_text sealing opening valid n text few positive at false b x low e (auth.next lt' false) in
-          let below = c.below in
-          let flag = c.flag in
-          let more : at + 1 < chunk_count n text = grind (arith, nat_tests) in
-          let t : nat_lt (at + 1) chunk_limit ≡ true = lt-ltb (at + 1) chunk_limit (omega (arith, more, few)) in
-          let is : text_before_last opening at b ≡ Some x = ap (unless_greatest at) e ∙ ap (λ (y : Bool). cond y (Some x) None) t in
-          let no : None ≡ Some x = sym (front_stops blocks s.start lt) ∙ is in
-          cc
-
-      right_block : length texts < length blocks → (behind ended : Bool)
-          → Right (at_block opening texts at (get_or blocks (length texts) []) behind ended (opening (nonce_bytes at false) (get_or blocks (length texts) [])))
-      right_block lt behind ended =
-          let b = get_or blocks (length texts) [] in
-          let none = not_before (opening (nonce_bytes at false) b) lt refl in
-          let is : block_at n s.bytes (length texts) ≡ b = block_is (length texts) lt in
-          subst (λ (o : Option (List ℕ)). Right (at_block opening texts at b behind ended o)) (sym none)
-          (right_last (opening (nonce_bytes at true) b) behind ended
-          (λ shut. first_wrong (λ last. ap (sure (nonce_bytes at last)) is ∙ neither last b none shut) (omega (arith, lt))))
-        where
-          neither : (last : Bool) (b : List ℕ) → opening (nonce_bytes at false) b ≡ None → opening (nonce_bytes at true) b ≡ None → sure (nonce_bytes at last) b
-              ≡ false
-          neither true b none shut = unsure at true b shut
-          neither false b none shut = unsure at false b none
-
-      right_left : length texts ≡ length blocks → Right (final_block opening texts at (rest_bytes n s.bytes) s.late s.ended)
-      right_left eq =
-          let rest = rest_bytes n s.bytes in
-          let short : length rest < n + tag_length = rest_short n s.bytes in
-          let is : block_at n s.bytes (length texts) ≡ rest =
-          ap (block_at n s.bytes) (eq ∙ count) ∙ take_all (n + tag_length) rest (omega (arith, short)) in
-          right_rest rest s.late s.ended (λ shut. first_wrong (λ last. ap (sure (nonce_bytes at last)) is ∙ neither last rest short shut) (omega (arith, eq)))
-        where
-          neither : (last : Bool) (b : List ℕ) → length b < n + tag_length → opening (nonce_bytes at true) b ≡ None → sure (nonce_bytes at last) b ≡ false
-          neither true b short shut = unsure at true b shut
-          neither false b short shut = unsure_short at b short
-
-      pub in_place : IsInPlace sealing opening n text s (outcome opening n s).status
-      in_place =
-          let right : Right (outcome opening n s) =
-          elim (place opening n s) [
-            | inl lt ↦ subst Right (sym (at_place opening n s lt)) (right_block lt (nat_lt ((length texts + 1) * (n + tag_length)) (length s.bytes) || s.late) s.ended)
-            | inr eq ↦ subst Right (sym (past_place opening n s eq)) (right_left eq)
-          ] in
-          record { compares = compares; damaged = right.0; few = right.1 }
+    pub in_place : here.index < chunk_limit → IsInPlace sealing opening n text s (outcome opening n s).status
+    in_place low =
+        let right : Right (outcome opening n s) = subst Right (sym (outcome_is opening n s)) (by_lines opening Right here (λ _. (λ i e. cc, λ i e. cc))
+        (λ kind a b. (λ i e. absurd (a (kinds kind ChunkDamaged here.index i e)), λ i e. b (kinds kind TooManyChunks here.index i e)))
+        (λ x whole is. absurd (not_before low x whole is))
+        (λ _ before none. (
+          λ i e. subst (IsFirstWrong sealing n text s) (places ChunkDamaged ChunkDamaged here.index i e)
+              (first_wrong (unsure_here here.whole refl before none)),
+          λ i e. let k = kinds ChunkDamaged TooManyChunks here.index i e in cc,
+        ))
+        (λ x _ _. (
+          λ i e. absurd (last_fault here.followed here.ended ChunkDamaged here.index i (λ k. cc) e),
+          λ i e. last_fault here.followed here.ended TooManyChunks here.index i (λ k. cc) e,
+        ))) in
+        record { compares = compares; damaged = right.0; few = right.1 }

@@ -1,7 +1,7 @@
 -- What a segment releases, if what opens is the writer's.
 use Rattle.std.proofs.Common.{take-add, inl, inr, ◌≡◌, ℕ, suc, ◌<◌, ◌≤◌, ◌+◌, ◌*◌, ◌-◌, ◌/◌, ◌^◌, refl, ap, sym, subst, ◌∙◌, List, [], ◌∷◌, ◌++◌, length, take}
 use Rattle.std.proofs.Common.{drop, get_or, Bool, true, false, arith, rules}
-use Rattle.std.specs.Prelude.{Option, Some, None, IsSome, Contains, ◌==◌, nat_lt, cond, ◌||◌, ◌&&◌, slice_get}
+use Rattle.std.specs.Prelude.{Option, Some, None, IsSome, Contains, ◌==◌, nat_lt, cond}
 use Rattle.std.specs.List.{flat_map}
 use Rattle.std.specs.Simd.{first_chunks}
 use Rattle.std.proofs.lemmas.List.{append_assoc, append-nil, take_all, take-append-drop}
@@ -9,21 +9,19 @@ use Rattle.std.proofs.lemmas.List.{flat_map_more}
 use Rattle.std.proofs.lemmas.Bool.{ltb-true, cases_lt, eq-eqb, ne_eqb}
 use Rattle.std.proofs.lemmas.Bool.Decides.{nat_tests}
 use Rattle.std.proofs.Math.Nat.{le-div_iff_mul-le}
-use Rattle.std.proofs.lemmas.Option.{cond_some, slice_get-get_or, slice_get_past}
+use Rattle.std.proofs.lemmas.Option.{cond_some}
 use Rattle.age_chunk.specs.ChunkBoxes.{IsChunkBox, tag_length}
 use Rattle.age_chunk.specs.Payload.{nonce_bytes, chunk_limit, chunk_count, last_index, last_chunk, pair, sealed}
-use Rattle.age_stream.specs.Segment.{Segment, Outcome, outcome, text_before_last, unless_greatest, text_then, front_texts, whole_blocks, rest_bytes, failed}
-use Rattle.age_stream.specs.Segment.{with_piece}
-use Rattle.age_stream.specs.inner.OpenerSteps.{after_last, at_block, final_block}
+use Rattle.age_stream.specs.Segment.{Segment, Outcome, outcome, text_before_last, unless_greatest, text_then, front_texts, whole_blocks, failed}
+use Rattle.age_stream.specs.Segment.{with_piece, stop}
 use Rattle.age_stream.specs.declared.step.Status.{Status}
 use Rattle.age_stream.specs.declared.step.Status.TheVariants.{Open, Done}
-use Rattle.age_chunk.specs.declared.fault.StreamKind.TheVariants.{ChunkDamaged, ChunkCut, EmptyLast, Truncated, TooManyChunks}
+use Rattle.age_chunk.specs.declared.fault.StreamKind.TheVariants.{ChunkDamaged, TooManyChunks}
 use Rattle.age_stream.specs.Headline.{IsWriters, IsAuthentic, IsPrefixOf}
 use Rattle.age_chunk.proofs.NonceLemmas.{nonce_bytes-length, nonce_bytes-number, nonce_bytes-flag}
-use Rattle.age_chunk.proofs.FirstChunkLemmas.{length-first_chunks, get_or-first_chunks}
+use Rattle.age_chunk.proofs.FirstChunkLemmas.{get_or-first_chunks}
 use Rattle.age_stream.proofs.ChunkLemmas.{last_chunk_le, length-sealed, pair_before, pair_last}
-use Rattle.age_stream.proofs.TableLemmas.{verdict_at, by_blocks, length-front_texts}
-use Rattle.age_stream.proofs.TriedLemmas.{tried}
+use Rattle.age_stream.proofs.TableLemmas.{block_full, block_is, by_lines, outcome_is, texts_fit}
 
 -- a pair of the writer's, by its number
 pub record IsPair (sealing : List ℕ → List ℕ → List ℕ) (n : ℕ) (text : List ℕ) (nonce block : List ℕ) : Type 0 where
@@ -61,13 +59,6 @@ IsPair-from_Contains sealing n text nonce block positive h =
 pub by_test : {A : Type 0} (P : A → Type 0) (b : Bool) (x y : A) → (b ≡ true → P x) → (b ≡ false → P y) → P (cond b x y)
 by_test P true x y f g = f refl
 by_test P false x y f g = g refl
-
--- what is left at the end has a tag, and is only a tag at number 0
-pub tag_left : (len : ℕ) → (nat_lt 0 len && nat_lt len tag_length) ≡ false → (len == 0) ≡ false → tag_length ≤ len
-tag_left len uncut some = grind (arith, nat_tests)
-
-pub empty_first : (len i : ℕ) → (len == tag_length && nat_lt 0 i) ≡ false → len ≡ tag_length → i ≡ 0
-empty_first len i first is = grind (arith, nat_tests)
 
 -- x is the chunk at i, and last says whether no other follows
 pub record IsChunk (n : ℕ) (text : List ℕ) (i : ℕ) (last : Bool) (x : List ℕ) : Type 0 where
@@ -200,62 +191,24 @@ module _ (sealing : List ℕ → List ℕ → List ℕ) (opening : List ℕ → 
       ∙ (ap (λ (t : List ℕ). t ++ x) e ∙ (ap (λ (t : List ℕ). take (i * n) text ++ t) c.is
       ∙ (take_chunk i ∙ take_all ((i + 1) * n) text (last_within i c.flag))))
 
-  released_last : (i : ℕ) (start : List ℕ) (texts : List (List ℕ)) (block : List ℕ) (behind ended : Bool) (o : Option (List ℕ)) → i < chunk_limit
-      → opening (nonce_bytes i true) block ≡ o → IsWriters sealing opening n text (nonce_bytes i true) block
-      → start ++ flat_map (λ (t : List ℕ). t) texts ≡ take (i * n) text → IsReleased i start (after_last opening texts i o behind ended)
-  released_last i start texts block behind ended None small is w e = at_carried i start texts (failed ChunkDamaged i) e (λ d. cc)
-  released_last i start texts block behind ended (Some x) small is w e =
-      let all = whole i start texts x e (writer_text i true block x small is w) in
-      record { prefix = ([], append-nil (start ++ flat_map (λ (t : List ℕ). t) (texts ++ x ∷ [])) ∙ all); done = λ d. all }
-
-  released_block : (i : ℕ) (start : List ℕ) (texts : List (List ℕ)) (block : List ℕ) (behind ended : Bool) (o : Option (List ℕ)) → i < chunk_limit
-      → IsWriters sealing opening n text (nonce_bytes i true) block
-      → start ++ flat_map (λ (t : List ℕ). t) texts ≡ take (i * n) text → IsReleased i start (at_block opening texts i block behind ended o)
-  released_block i start texts block behind ended (Some x) small w e = at_carried i start texts (failed TooManyChunks i) e (λ d. cc)
-  released_block i start texts block behind ended None small w e = released_last i start texts block behind ended (opening (nonce_bytes i true) block)
-      small refl w e
-
-  released_rest : (i : ℕ) (start : List ℕ) (texts : List (List ℕ)) (rest : List ℕ) (late ended : Bool) → i < chunk_limit
-      → (ended ≡ true → tag_length ≤ length rest → (length rest ≡ tag_length → i ≡ 0) → IsWriters sealing opening n text (nonce_bytes i true) rest)
-      → start ++ flat_map (λ (t : List ℕ). t) texts ≡ take (i * n) text → IsReleased i start (final_block opening texts i rest late ended)
-  released_rest i start texts rest late false small w e = at_carried i start texts Open e (λ d. cc)
-  released_rest i start texts rest late true small w e =
-      let P : Outcome → Type 0 = IsReleased i start in
-      let last = λ (h : tag_length ≤ length rest) (z : length rest ≡ tag_length → i ≡ 0). released_last i start texts rest late true (opening (nonce_bytes i true) rest)
-      small refl (w refl h z) e in
-      by_test P (nat_lt 0 (length rest) && nat_lt (length rest) tag_length) _ _ (λ t. at_carried i start texts (failed ChunkCut i) e (λ d. cc))
-      (λ uncut. by_test P (length rest == tag_length && nat_lt 0 i) _ _ (λ t. at_carried i start texts (failed EmptyLast i) e (λ d. cc))
-      (λ first. by_test P (length rest == 0) _ _ (λ t. at_carried i start texts (failed Truncated i) e (λ d. cc))
-      (λ some. last (tag_left (length rest) uncut some) (empty_first (length rest) i first))))
+  -- each block in front is the writer's
+  pub front_written : (s : Segment) → IsAuthentic sealing opening n text s → (j : ℕ) → j < length (front_texts opening s.start (whole_blocks n s.bytes))
+      → IsWriters sealing opening n text (nonce_bytes (s.start + j) false) (get_or (whole_blocks n s.bytes) j [])
+  front_written s given j lt =
+      let in_it : j < length s.bytes / (n + tag_length) = omega (arith, lt, texts_fit opening n s) in
+      subst (IsWriters sealing opening n text (nonce_bytes (s.start + j) false)) (block_is n s j in_it) (given.not_last j (omega (arith, lt)) (block_full n s j in_it))
 
   pub released_segment : (s : Segment) (base : List ℕ) → s.start < chunk_limit → s.start * n ≤ length text → base ≡ take (s.start * n) text
       → IsAuthentic sealing opening n text s → IsReleased (s.start + length (front_texts opening s.start (whole_blocks n s.bytes))) base (outcome opening n s)
   released_segment s base small fits e given =
-      let auth = tried sealing opening n text s given in
-      let size = n + tag_length in
-      let blocks = whole_blocks n s.bytes in
-      let texts = front_texts opening s.start blocks in
-      let m = length texts in
-      let i = s.start + m in
-      let count : length blocks ≡ length s.bytes / size = length-first_chunks size (length s.bytes / size) s.bytes in
-      let c : Carries s.start texts = front_carries blocks s.start fits auth.front in
-      let here : base ++ flat_map (λ (t : List ℕ). t) texts ≡ take (i * n) text = ap (λ (t : List ℕ). t ++ flat_map (λ (t : List ℕ). t) texts) e ∙ c.joins in
-      let low : i < chunk_limit = c.small small in
-      let behind = nat_lt ((m + 1) * size) (length s.bytes) in
-      let rest = rest_bytes n s.bytes in
-      subst (IsReleased i base) (sym (by_blocks opening n s))
-      (elim (cases_lt m (length blocks)) [
-        | inl lt ↦
-            (let is : slice_get blocks m ≡ Some (get_or blocks m []) = slice_get-get_or blocks m [] lt in
-            let lt' : m < length s.bytes / size = omega (arith, lt, count) in
-            subst (λ (b : Option (List ℕ)). IsReleased i base (verdict_at opening texts i b behind rest s.late s.ended)) (sym is)
-            (released_block i base texts (get_or blocks m []) (behind || s.late) s.ended
-            (opening (nonce_bytes i false) (get_or blocks m [])) low (auth.next lt' true) here))
-        | inr le ↦
-            (let is : slice_get blocks m ≡ None = slice_get_past blocks m le in
-            let eq : m ≡ length s.bytes / size = omega (arith, le, count, length-front_texts opening blocks s.start) in
-            subst (λ (b : Option (List ℕ)). IsReleased i base (verdict_at opening texts i b behind rest s.late s.ended)) (sym is)
-            (released_rest i base texts rest s.late s.ended low
-            (λ t h z. subst (λ (k : ℕ). IsWriters sealing opening n text (nonce_bytes (s.start + k) true) rest) (sym eq)
-            (auth.rest eq t h (λ g. omega (arith, eq, z g)))) here))
-      ])
+      let b = stop opening n s in
+      let i = b.index in
+      let c : Carries s.start b.texts = front_carries (whole_blocks n s.bytes) s.start fits (front_written s given) in
+      let here : base ++ flat_map (λ (t : List ℕ). t) b.texts ≡ take (i * n) text = ap (λ (t : List ℕ). t ++ flat_map (λ (t : List ℕ). t) b.texts) e ∙ c.joins in
+      let P : Outcome → Type 0 = IsReleased i base in
+      subst P (sym (outcome_is opening n s))
+      (by_lines opening P b (λ _. at_carried i base b.texts Open here (λ d. cc)) (λ kind _ _. at_carried i base b.texts (failed kind i) here (λ d. cc))
+      (λ _ _ _. at_carried i base b.texts (failed TooManyChunks i) here (λ d. cc)) (λ _ _ _. at_carried i base b.texts (failed ChunkDamaged i) here (λ d. cc))
+      (λ x tried is.
+      let all = whole i base b.texts x here (writer_text i true b.block x (c.small small) is (given.last tried)) in
+      record { prefix = ([], append-nil (base ++ flat_map (λ (t : List ℕ). t) (b.texts ++ x ∷ [])) ∙ all); done = λ d. all }))

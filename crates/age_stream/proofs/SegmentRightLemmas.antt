@@ -1,34 +1,102 @@
--- The headline of one segment, and of an opener that was given it.
-use Rattle.std.proofs.Common.{inl, inr, ◌≡◌, ℕ, ◌<◌, ◌≤◌, ◌+◌, ◌*◌, refl, ap, sym, subst, ◌∙◌, List, [], ◌++◌, length, take, Bool, arith}
-use Rattle.std.specs.Prelude.{Option}
+-- The headline of one segment, also of one that starts past the end of the text, and of an opener that was given it.
+use Rattle.std.proofs.Common.{inl, inr, ◌≡◌, ◌≢◌, ℕ, ◌<◌, ◌≤◌, ◌+◌, ◌*◌, ◌-◌, ◌/◌, refl, ap, sym, subst, ◌∙◌, List, [], ◌∷◌, ◌++◌, length, take, get_or}
+use Rattle.std.proofs.Common.{Bool, true, false, arith}
+use Rattle.std.specs.Prelude.{Option, Some, None}
 use Rattle.std.specs.List.{flat_map}
 use Rattle.std.proofs.lemmas.Bool.{cases_lt}
 use Rattle.std.proofs.lemmas.Grind.{flat_map-append}
 use Rattle.std.proofs.lemmas.List.{append-nil, take_all}
-use Rattle.age_chunk.specs.Payload.{chunk_limit, chunk_count}
-use Rattle.age_chunk.specs.ChunkBoxes.{IsChunkBox}
-use Rattle.age_stream.specs.Segment.{Segment, outcome, released, front_texts, whole_blocks}
+use Rattle.std.proofs.Math.Nat.{le-div_iff_mul-le}
+use Rattle.age_chunk.specs.ChunkBoxes.{IsChunkBox, OpensBlock, Seals}
+use Rattle.age_chunk.specs.Payload.{nonce_bytes, chunk_limit, chunk_count}
+use Rattle.age_stream.specs.Segment.{Segment, Outcome, outcome, stop, released, text_before_last, text_then, front_texts, whole_blocks}
 use Rattle.age_stream.specs.Opener.{OpenerView, Stands}
-use Rattle.age_stream.specs.Headline.{IsAuthentic, IsRest, IsRight, ReleasesWritten}
+use Rattle.age_stream.specs.Headline.{IsWriters, IsAuthentic, IsRest, IsRight, ReleasesWritten}
+use Rattle.age_stream.specs.Laws.{IsClosed}
 use Rattle.age_stream.specs.declared.step.Status.TheVariants.{Done}
-use Rattle.age_stream.proofs.SegmentLemmas.{released_segment}
-use Rattle.age_stream.proofs.PastLemmas.{past_front, past_segment}
+use Rattle.age_stream.proofs.SegmentLemmas.{IsChunk, writer_text, opens_before, front_written, released_segment}
+use Rattle.age_stream.proofs.TableLemmas.{by_lines, outcome_is}
 use Rattle.age_stream.proofs.PlaceLemmas.{in_place, low_within}
-use Rattle.age_stream.proofs.UndamagedLemmas.{rest_segment, rest_payload, rest_is_done}
+use Rattle.age_stream.proofs.UndamagedLemmas.{rest_segment, rest_payload, rest_is_done, rest_authentic}
+
+-- ---- A segment that starts past the end of the text.
+
+module _ (sealing : List ℕ → List ℕ → List ℕ) (opening : List ℕ → List ℕ → Option (List ℕ)) (valid : IsChunkBox sealing opening)
+    (n : ℕ) (text : List ℕ) (few : chunk_count n text ≤ chunk_limit) (positive : 0 < n) where
+  -- a chunk of the text begins within it
+  within : (i : ℕ) (last : Bool) (x : List ℕ) → IsChunk n text i last x → i * n ≤ length text
+  within i last x c =
+      let q : i ≤ (length text - 1) / n = omega (arith, c.below) in
+      let m : i * n ≤ length text - 1 = (le-div_iff_mul-le positive).0 q in
+      omega (arith, m)
+
+  none_then : (block : List ℕ) (blocks : List (List ℕ)) (i : ℕ) (o : Option (List ℕ)) → text_before_last opening i block ≡ o
+      → i < chunk_limit → length text < i * n
+      → ((j : ℕ) → j < length (text_then opening o (front_texts opening (i + 1) blocks))
+      → IsWriters sealing opening n text (nonce_bytes (i + j) false) (get_or (block ∷ blocks) j []))
+      → text_then opening o (front_texts opening (i + 1) blocks) ≡ []
+  none_then block blocks i None e small past w = refl
+  none_then block blocks i (Some x) e small past w =
+      let p = opens_before i (opening (nonce_bytes i false) block) x e in
+      let w0 : IsWriters sealing opening n text (nonce_bytes (i + 0) false) block = w 0 (omega arith) in
+      let z : i + 0 ≡ i = omega arith in
+      let w1 = subst (λ (k : ℕ). IsWriters sealing opening n text (nonce_bytes k false) block) z w0 in
+      let c = writer_text sealing opening valid n text few positive i false block x small p.1 w1 in
+      absurd (omega (arith, past, within i false x c))
+
+  none_front : (blocks : List (List ℕ)) (i : ℕ) → i < chunk_limit → length text < i * n
+      → ((j : ℕ) → j < length (front_texts opening i blocks)
+      → IsWriters sealing opening n text (nonce_bytes (i + j) false) (get_or blocks j []))
+      → front_texts opening i blocks ≡ []
+  none_front [] i small past w = refl
+  none_front (block ∷ blocks) i small past w = none_then block blocks i (text_before_last opening i block) refl small past w
+
+  -- nothing is released, and the end isn't reported
+  pub record IsPast (o : Outcome) : Type 0 where
+    pub texts : o.texts ≡ []
+    pub undone : o.status ≢ Done
+
+  -- no block in front opens
+  pub past_front : (s : Segment) → s.start < chunk_limit → length text < s.start * n → IsAuthentic sealing opening n text s
+      → front_texts opening s.start (whole_blocks n s.bytes) ≡ []
+  past_front s small past given = none_front (whole_blocks n s.bytes) s.start small past (front_written sealing opening valid n text few positive s given)
+
+  pub past_segment : (s : Segment) → s.start < chunk_limit → length text < s.start * n
+      → IsAuthentic sealing opening n text s → IsPast (outcome opening n s)
+  past_segment s small past given =
+      let b = stop opening n s in
+      let none : b.texts ≡ [] = past_front s small past given in
+      let at : b.index ≡ s.start = omega (arith, ap length none) in
+      subst IsPast (sym (outcome_is opening n s))
+      (by_lines opening IsPast b (λ _. record { texts = none; undone = λ d. cc }) (λ _ _ _. record { texts = none; undone = λ d. cc })
+      (λ _ _ _. record { texts = none; undone = λ d. cc }) (λ _ _ _. record { texts = none; undone = λ d. cc })
+      (λ x tried is.
+      let c = writer_text sealing opening valid n text few positive b.index true b.block x (omega (arith, at, small)) is (given.last tried) in
+      absurd (omega (arith, past, within b.index true x c, ap (λ (k : ℕ). k * n) at))))
+
+-- ---- Any segment.
 
 module _ (sealing : List ℕ → List ℕ → List ℕ) (opening : List ℕ → List ℕ → Option (List ℕ)) (valid : IsChunkBox sealing opening)
     (n : ℕ) (positive : 0 < n) where
-  rest_done : (text : List ℕ) → chunk_count n text ≤ chunk_limit → (s : Segment) → IsAuthentic sealing opening n text s
-      → IsRest sealing opening n text s → (outcome opening n s).status ≡ Done
-  rest_done text few s auth rest =
-      let r = rest_segment sealing opening valid n positive text few s.start rest.below in
-      let is : s ≡ r =
-      ap (λ (bs : List ℕ). record { start = s.start; bytes = bs; ended = s.ended; late = s.late }) (rest.bytes
-      ∙ rest_payload sealing opening valid n positive text few s.start rest.below)
-      ∙ (ap (λ (b : Bool). record { start = r.start; bytes = r.bytes; ended = b; late = s.late }) rest.ended
-      ∙ ap (λ (b : Bool). record { start = r.start; bytes = r.bytes; ended = r.ended; late = b }) rest.timely) in
-      ap (λ (x : Segment). (outcome opening n x).status) is
-      ∙ rest_is_done sealing opening valid n positive text few s.start rest.below (subst (IsAuthentic sealing opening n text) is auth)
+  -- what is left of the payload is the writer's last blocks
+  module _ (text : List ℕ) (few : chunk_count n text ≤ chunk_limit) (s : Segment) (rest : IsRest sealing opening n text s) where
+    abbrev blocks_left : Segment
+    blocks_left = rest_segment sealing opening valid n positive text few s.start rest.below
+
+    is_left : s ≡ blocks_left
+    is_left =
+        ap (λ (bs : List ℕ). record { start = s.start; bytes = bs; ended = s.ended; late = s.late }) (rest.bytes
+        ∙ rest_payload sealing opening valid n positive text few s.start rest.below)
+        ∙ (ap (λ (b : Bool). record { start = s.start; bytes = blocks_left.bytes; ended = b; late = s.late }) rest.ended
+        ∙ ap (λ (b : Bool). record { start = s.start; bytes = blocks_left.bytes; ended = true; late = b }) rest.timely)
+
+    pub rest_done : IsAuthentic sealing opening n text s → (outcome opening n s).status ≡ Done
+    rest_done auth =
+        ap (λ (x : Segment). (outcome opening n x).status) is_left
+        ∙ rest_is_done sealing opening valid n positive text few s.start rest.below (subst (IsAuthentic sealing opening n text) is_left auth)
+
+    pub rest_right : IsClosed sealing opening n text → IsAuthentic sealing opening n text s
+    rest_right closed = subst (IsAuthentic sealing opening n text) (sym is_left) (rest_authentic sealing opening valid n positive text few s.start rest.below closed)
 
   module _ (s : Segment) (text : List ℕ) (few : chunk_count n text ≤ chunk_limit) (limit : s.start < chunk_limit)
       (auth : IsAuthentic sealing opening n text s) where
@@ -42,7 +110,7 @@ module _ (sealing : List ℕ → List ℕ → List ℕ) (opening : List ℕ → 
           prefix = r.prefix;
           done = r.done;
           within = λ _. fits;
-          whole = λ rest. let d = rest_done text few s auth rest in (r.done d, d);
+          whole = λ rest. let d = rest_done text few s rest auth in (r.done d, d);
           place = in_place sealing opening valid n text few positive s auth (low_within sealing opening valid n text few positive s auth limit fits);
         }
 
@@ -59,7 +127,7 @@ module _ (sealing : List ℕ → List ℕ → List ℕ) (opening : List ℕ → 
           prefix = ([], append-nil (take (s.start * n) text ++ released opening n s) ∙ all);
           done = λ _. all;
           within = λ done. absurd (p.undone done);
-          whole = λ rest. absurd (p.undone (rest_done text few s auth rest));
+          whole = λ rest. absurd (p.undone (rest_done text few s rest auth));
           place = in_place sealing opening valid n text few positive s auth low;
         }
 
@@ -71,24 +139,22 @@ module _ (sealing : List ℕ → List ℕ → List ℕ) (opening : List ℕ → 
       ]
 
 -- an opener that stands for the segment has its status
-pub opener_right : {B : Type 0} (sealing : B → List ℕ → List ℕ → List ℕ) (opening : B → List ℕ → List ℕ → Option (List ℕ)) (n : ℕ) (key : B)
+pub opener_right : {B : Type 0} (sealing : B → Seals) (opening : B → OpensBlock) (n : ℕ) (key : B)
     (new : OpenerView B)
     → IsChunkBox (sealing key) (opening key) → 0 < n → new.key ≡ key → (s : Segment) (text : List ℕ) → Stands opening n new s
     → released (opening key) n s ≡ text → ReleasesWritten (sealing key) (opening key) n s text new.status
 opener_right sealing opening n key new valid positive same s text h is =
-    let m = n in
     let op = opening key in
-    let status : (outcome op m s).status ≡ new.status = sym (h.status ∙ ap (λ k. (outcome (opening k) m s).status) same) in
-    subst (ReleasesWritten (sealing key) op m s text) status
-    (subst (λ (t : List ℕ). ReleasesWritten (sealing key) op m s t (outcome op m s).status) is (segment_right (sealing key) op valid m positive s))
+    let status : (outcome op n s).status ≡ new.status = sym (h.status ∙ ap (λ k. (outcome (opening k) n s).status) same) in
+    subst (ReleasesWritten (sealing key) op n s text) status
+    (subst (λ (t : List ℕ). ReleasesWritten (sealing key) op n s t (outcome op n s).status) is (segment_right (sealing key) op valid n positive s))
 
 -- the headline of an opener that handed over more texts
-pub fed_right : {B : Type 0} (sealing : B → List ℕ → List ℕ → List ℕ) (opening : B → List ℕ → List ℕ → Option (List ℕ)) (n : ℕ) (key : B) (new : OpenerView B)
+pub fed_right : {B : Type 0} (sealing : B → Seals) (opening : B → OpensBlock) (n : ℕ) (key : B) (new : OpenerView B)
     → IsChunkBox (sealing key) (opening key) → 0 < n → new.key ≡ key → (s next : Segment) (texts : List (List ℕ)) → Stands opening n new next
     → (outcome (opening key) n next).texts ≡ (outcome (opening key) n s).texts ++ texts
     → ReleasesWritten (sealing key) (opening key) n next (released (opening key) n s ++ flat_map (λ (t : List ℕ). t) texts) new.status
 fed_right sealing opening n key new valid positive same s next texts h are =
-    let m = n in
-    let is : released (opening key) m next ≡ released (opening key) m s ++ flat_map (λ (t : List ℕ). t) texts =
-    ap (flat_map (λ (t : List ℕ). t)) are ∙ flat_map-append (λ (t : List ℕ). t) (outcome (opening key) m s).texts texts in
-    opener_right sealing opening m key new valid positive same next (released (opening key) m s ++ flat_map (λ (t : List ℕ). t) texts) h is
+    let is : released (opening key) n next ≡ released (opening key) n s ++ flat_map (λ (t : List ℕ). t) texts =
+    ap (flat_map (λ (t : List ℕ). t)) are ∙ flat_map-append (λ (t : List ℕ). t) (outcome (opening key) n s).texts texts in
+    opener_right sealing opening n key new valid positive same next (released (opening key) n s ++ flat_map (λ (t : List ℕ). t) texts) h is

@@ -1,5 +1,5 @@
 use Rattle.std.proofs.Common.{◌≡◌, ap, ◌∙◌, length, arith}
-use Rattle.age_stream.proofs.InPlaceLemmas.{opened_in, closed_in, refilled}
+use Rattle.age_stream.proofs.BlockLemmas.{opened_in, closed_in, refilled}
 use Rattle.age_stream.proofs.SizeLemmas.{list_fits}
 use Rattle.age_stream.proofs.opener.open_in.Goals as goal
 

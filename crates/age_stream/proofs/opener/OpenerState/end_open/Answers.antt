@@ -1,13 +1,11 @@
-use Rattle.std.proofs.Common.{◌≡◌, ◌≤◌, refl, ap, ◌∙◌, length, take, true, arith}
-use Rattle.age_chunk.specs.Payload.{nonce_bytes}
+use Rattle.std.proofs.Common.{◌≡◌, refl, ap, ◌∙◌, length, take, arith}
+use Rattle.std.specs.Prelude.{Some, None}
+use Rattle.age_chunk.specs.ChunkBoxes.{text_length}
 use Rattle.age_chunk.specs.declared.fault.StreamKind.TheVariants.{ChunkDamaged, ChunkCut, EmptyLast, Truncated}
-use Rattle.age_stream.specs.Segment.{failed}
-use Rattle.age_stream.specs.Opener.{held_bytes}
 use Rattle.age_stream.specs.declared.step.Status.TheVariants.{Open}
-use Rattle.age_stream.proofs.LastBlockLemmas.{is_missing, is_cut, is_empty_last, is_damaged, is_opened, ends_refused, ends_opened, moved, is_empty, is_first}
+use Rattle.age_stream.proofs.BlockLemmas.{is_missing, is_cut, is_empty_last, is_last, ends_refused, ends_opened, is_empty, is_first}
 use Rattle.age_stream.proofs.SizeLemmas.{list_fits, opener_state_fits}
 use Rattle.age_stream.proofs.opener.OpenerState.end_open.Goals as goal
-use Rattle.age_chunk.specs.ChunkBoxes.{tag_length, text_length}
 
 pub reclaim-requires : goal.reclaim-requires
 reclaim-requires g c = opener_state_fits c.args.self.now.sizes.1
@@ -32,33 +30,27 @@ open_in-requires g c = (list_fits c.args.self.now.sizes.1, (omega arith, c.args.
 
 pub returns-then-len-eq0-clause-ends : goal.returns-then-len-eq0-clause-ends
 returns-then-len-eq0-clause-ends g c =
-    let old = c.args.self.now in
-    let settled = c.reclaim.ensures in
-    let len = ap length settled.buffer in
-    ends_refused old c.fail.new.self _ (c.fail.ensures.same.1 ∙ settled.same.1) (c.fail.ensures.same.0 ∙ settled.same.0) Truncated c.fail.result
-    (is_missing (g.B.ChunkBox.opening old.key.now) old.index (held_bytes old) (omega (arith, len))) (c.fail.ensures.status ∙ ap (failed Truncated) settled.same.0)
-    (c.fail.ensures.fault ∙ ap (failed Truncated) settled.same.0)
+    let r = c.reclaim in
+    let e = c.fail.ensures in
+    ends_refused g.B.ChunkBox.opening c.args.self.now r.new.self c.fail.new.self r.ensures.same r.ensures.buffer Truncated c.fail.result e.same.0 e.same.1 e.status e.fault
+    (is_missing (g.B.ChunkBox.opening r.new.self.key.now) r.new.self.index r.new.self.buffer.items (omega arith))
 
 pub returns-then-len-lt-TAG_LEN-clause-ends : goal.returns-then-len-lt-TAG_LEN-clause-ends
 returns-then-len-lt-TAG_LEN-clause-ends g c =
-    let old = c.args.self.now in
-    let settled = c.reclaim.ensures in
+    let r = c.reclaim in
     let failing = c.fail-then-len-lt-TAG_LEN in
-    let len = ap length settled.buffer in
-    ends_refused old failing.new.self _ (failing.ensures.same.1 ∙ settled.same.1) (failing.ensures.same.0 ∙ settled.same.0) ChunkCut failing.result
-    (is_cut (g.B.ChunkBox.opening old.key.now) old.index (held_bytes old) (omega (arith, len)) (omega (arith, len)))
-    (failing.ensures.status ∙ ap (failed ChunkCut) settled.same.0) (failing.ensures.fault ∙ ap (failed ChunkCut) settled.same.0)
+    let e = failing.ensures in
+    ends_refused g.B.ChunkBox.opening c.args.self.now r.new.self failing.new.self r.ensures.same r.ensures.buffer ChunkCut failing.result e.same.0 e.same.1 e.status e.fault
+    (is_cut (g.B.ChunkBox.opening r.new.self.key.now) r.new.self.index r.new.self.buffer.items (omega arith) (omega arith))
 
 pub returns-then-is_empty_last-clause-ends : goal.returns-then-is_empty_last-clause-ends
 returns-then-is_empty_last-clause-ends g c =
-    let old = c.args.self.now in
-    let settled = c.reclaim.ensures in
+    let r = c.reclaim in
     let failing = c.fail-then-is_empty_last in
-    let test = is_empty c.is_empty_last.result c.len-len.result c.reclaim.new.self.index c.is_empty_last.ensures c.if-is_empty_last.true in
-    let len = ap length settled.buffer in
-    ends_refused old failing.new.self _ (failing.ensures.same.1 ∙ settled.same.1) (failing.ensures.same.0 ∙ settled.same.0) EmptyLast failing.result
-    (is_empty_last (g.B.ChunkBox.opening old.key.now) old.index (held_bytes old) (omega (arith, len, test.0)) (omega (arith, settled.same.0, test.1)))
-    (failing.ensures.status ∙ ap (failed EmptyLast) settled.same.0) (failing.ensures.fault ∙ ap (failed EmptyLast) settled.same.0)
+    let e = failing.ensures in
+    let test = is_empty c.is_empty_last.result c.len-len.result r.new.self.index c.is_empty_last.ensures c.if-is_empty_last.true in
+    ends_refused g.B.ChunkBox.opening c.args.self.now r.new.self failing.new.self r.ensures.same r.ensures.buffer EmptyLast failing.result e.same.0 e.same.1 e.status e.fault
+    (is_empty_last (g.B.ChunkBox.opening r.new.self.key.now) r.new.self.index r.new.self.buffer.items (omega (arith, test.0)) test.1)
 
 pub invariant_of-self : goal.invariant_of-self
 invariant_of-self g c = record {
@@ -70,20 +62,13 @@ invariant_of-self g c = record {
 
 pub returns-then-open_in-clause-ends : goal.returns-then-open_in-clause-ends
 returns-then-open_in-clause-ends g c =
-    let old = c.args.self.now in
-    let opening = g.B.ChunkBox.opening old.key.now in
-    let settled = c.reclaim.ensures in
-    let len = ap length settled.buffer in
-    let long : tag_length ≤ length (held_bytes old) = omega (arith, len) in
-    let first : length (held_bytes old) ≡ tag_length → old.index ≡ 0 = λ tag.
-    let zero = is_first c.is_empty_last.result c.len-len.result c.reclaim.new.self.index c.is_empty_last.ensures c.if-is_empty_last.false
-    (omega (arith, tag, len)) in
-    omega (arith, zero, settled.same.0) in
-    let block = c.reclaim.new.self.buffer.items in
-    let text = take (text_length (length block)) c.open_in.new.buffer.items in
-    let opens = moved (λ k i b. g.B.ChunkBox.opening k.now (nonce_bytes i true) b) settled.same.1 settled.same.0 settled.buffer c.if-open_in.ensures.opened in
-    ends_opened old _ _ settled.same.1 settled.same.0 _ text (is_opened opening old.index (held_bytes old) long first text opens) refl
-    (ap (λ k. take (text_length k) c.open_in.new.buffer.items) (omega arith)) (omega (arith, c.open_in.ensures.len)) (omega (arith, len))
+    let r = c.reclaim in
+    let mid = r.new.self in
+    let first = is_first c.is_empty_last.result c.len-len.result mid.index c.is_empty_last.ensures c.if-is_empty_last.false in
+    let text = take (text_length (length mid.buffer.items)) c.open_in.new.buffer.items in
+    ends_opened g.B.ChunkBox.opening c.args.self.now mid _ r.ensures.same r.ensures.buffer _ text refl refl refl
+    (is_last (g.B.ChunkBox.opening mid.key.now) mid.index mid.buffer.items (omega arith) (λ tag. first (omega (arith, tag))) (Some text) c.if-open_in.ensures.opened)
+    (ap (λ k. take (text_length k) c.open_in.new.buffer.items) (omega arith)) (omega (arith, c.open_in.ensures.len)) (omega (arith, ap length r.ensures.buffer))
 
 pub invariant_of-self-else-open_in : goal.invariant_of-self-else-open_in
 invariant_of-self-else-open_in g c =
@@ -97,16 +82,9 @@ invariant_of-self-else-open_in g c =
 
 pub returns-clause-ends : goal.returns-clause-ends
 returns-clause-ends g c =
-    let old = c.args.self.now in
-    let opening = g.B.ChunkBox.opening old.key.now in
-    let settled = c.reclaim.ensures in
-    let len = ap length settled.buffer in
-    let long : tag_length ≤ length (held_bytes old) = omega (arith, len) in
-    let first : length (held_bytes old) ≡ tag_length → old.index ≡ 0 = λ tag.
-    let zero = is_first c.is_empty_last.result c.len-len.result c.reclaim.new.self.index c.is_empty_last.ensures c.if-is_empty_last.false
-    (omega (arith, tag, len)) in
-    omega (arith, zero, settled.same.0) in
-    let closed = moved (λ k i b. g.B.ChunkBox.opening k.now (nonce_bytes i true) b) settled.same.1 settled.same.0 settled.buffer c.if-open_in.ensures.closed.0 in
-    ends_refused old c.fail-2.new.self _ (c.fail-2.ensures.same.1 ∙ settled.same.1) (c.fail-2.ensures.same.0 ∙ settled.same.0) ChunkDamaged c.fail-2.result
-    (is_damaged opening old.index (held_bytes old) long first closed) (c.fail-2.ensures.status ∙ ap (failed ChunkDamaged) settled.same.0)
-    (c.fail-2.ensures.fault ∙ ap (failed ChunkDamaged) settled.same.0)
+    let r = c.reclaim in
+    let mid = r.new.self in
+    let e = c.fail-2.ensures in
+    let first = is_first c.is_empty_last.result c.len-len.result mid.index c.is_empty_last.ensures c.if-is_empty_last.false in
+    ends_refused g.B.ChunkBox.opening c.args.self.now mid c.fail-2.new.self r.ensures.same r.ensures.buffer ChunkDamaged c.fail-2.result e.same.0 e.same.1 e.status e.fault
+    (is_last (g.B.ChunkBox.opening mid.key.now) mid.index mid.buffer.items (omega arith) (λ tag. first (omega (arith, tag))) None c.if-open_in.ensures.closed.0)

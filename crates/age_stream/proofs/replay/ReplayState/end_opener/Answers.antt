@@ -1,4 +1,4 @@
-use Rattle.std.proofs.Common.{refl, sym, [], append-nil, arith}
+use Rattle.std.proofs.Common.{refl, sym, [], append-nil}
 use Rattle.age_stream.specs.Replay.{replay_view}
 use Rattle.age_stream.proofs.ReplayLemmas.{end_step}
 use Rattle.age_stream.proofs.SizeLemmas.{opener_fits}
