@@ -2,7 +2,7 @@
 use Rattle.std.proofs.Common.{inl, inr, ◌≡◌, ℕ, zero, suc, ◌<◌, ◌≤◌, ◌+◌, ◌*◌, ◌-◌, ◌/◌, refl, ap, sym, ◌∙◌, List, [], ◌∷◌, ◌++◌, length, take, drop, Bool, true, false, arith}
 use Rattle.std.specs.Prelude.{Option, Some, None, cond, nat_lt, not, ◌||◌, ◌&&◌, ◌==◌}
 use Rattle.std.specs.Simd.{first_chunks}
-use Rattle.std.proofs.lemmas.List.{length-append, length-drop, drop-append-le, take-append-le, drop-drop, drop_all, take_all, append-nil}
+use Rattle.std.proofs.lemmas.List.{length-append, length-drop, drop-append-le, take-append-le, drop-drop, drop_all, take_all, append-nil, append_assoc}
 use Rattle.std.proofs.lemmas.Bool.{cases_lt, lt-ltb, le-ltb, eq-eqb, and_parts, not-true, both_ways, false_from_ne_true}
 use Rattle.std.proofs.lemmas.Nat.{div-mul-add}
 use Rattle.std.proofs.Math.Bool.{or-true, or-false, or_assoc}
@@ -156,6 +156,30 @@ pub ended_piece : (s : Segment) (p : List ℕ) → s.ended ≡ true → with_pie
 ended_piece s p is =
     ap (λ (t : Bool). cond t (record { start = s.start; bytes = s.bytes; ended = true; late = s.late || nat_lt 0 (length p) })
     (record { start = s.start; bytes = s.bytes ++ p; ended = false; late = s.late })) is
+
+-- one piece after another
+some_append : (p r : List ℕ) → (nat_lt 0 (length p) || nat_lt 0 (length r)) ≡ nat_lt 0 (length (p ++ r))
+some_append [] r = refl
+some_append (x ∷ xs) r =
+    let a : nat_lt 0 (length (x ∷ xs)) ≡ true = lt-ltb 0 (length (x ∷ xs)) (omega arith) in
+    let b : nat_lt 0 (length (x ∷ xs ++ r)) ≡ true = lt-ltb 0 (length (x ∷ xs ++ r)) (omega arith) in
+    ap (λ (f : Bool). f || nat_lt 0 (length r)) a ∙ sym b
+
+joined : (start : ℕ) (bytes : List ℕ) (ended late : Bool) (p r : List ℕ)
+    → with_piece (with_piece (record { start = start; bytes = bytes; ended = ended; late = late }) p) r
+    ≡ with_piece (record { start = start; bytes = bytes; ended = ended; late = late }) (p ++ r)
+joined start bytes true late p r =
+    ap (λ (l : Bool). record { start = start; bytes = bytes; ended = true; late = l }) (or_assoc late (nat_lt 0 (length p)) (nat_lt 0 (length r))
+    ∙ ap (λ (f : Bool). late || f) (some_append p r))
+joined start bytes false late p r = ap (λ (b : List ℕ). record { start = start; bytes = b; ended = false; late = late }) (append_assoc bytes p r)
+
+pub pieces_join : (s : Segment) (p r : List ℕ) → with_piece (with_piece s p) r ≡ with_piece s (p ++ r)
+pieces_join s p r = joined s.start s.bytes s.ended s.late p r
+
+pub nothing : (start : ℕ) (bytes : List ℕ) (ended late : Bool) → with_piece (record { start = start; bytes = bytes; ended = ended; late = late }) []
+    ≡ record { start = start; bytes = bytes; ended = ended; late = late }
+nothing start bytes true late = ap (λ (l : Bool). record { start = start; bytes = bytes; ended = true; late = l }) (or-false late)
+nothing start bytes false late = ap (λ (b : List ℕ). record { start = start; bytes = b; ended = false; late = late }) (append-nil bytes)
 
 waits_if : (whole ended : Bool) → whole ≡ false → ended ≡ false → (not whole && not ended) ≡ true
 waits_if true ended w e = cc

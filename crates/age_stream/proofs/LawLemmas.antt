@@ -20,14 +20,14 @@ use Rattle.age_stream.proofs.FreshLemmas.{fresh_outcome}
 use Rattle.age_stream.proofs.SealingLemmas.{last_index_le}
 use Rattle.age_stream.proofs.UndamagedLemmas.{all_full, length-bytes_of, payload_is}
 use Rattle.age_stream.proofs.SegmentRightLemmas.{segment_right}
-use Rattle.age_stream.proofs.ReplayLemmas as replay
+use Rattle.age_stream.proofs.GoingLemmas as goes
 use Rattle.age_stream.proofs.GrowingLemmas as growing
 use Rattle.age_stream.proofs.CountingLemmas as counting
 use Rattle.age_stream.proofs.SealingLemmas as sealings
 use Rattle.age_stream.proofs.HeldLemmas as held
 
 pub pieces_join : PiecesJoin
-pieces_join = replay.pieces_join
+pieces_join = goes.pieces_join
 
 pub released_grows : ReleasedGrows
 released_grows = growing.released_grows

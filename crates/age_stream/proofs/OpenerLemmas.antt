@@ -15,8 +15,7 @@ use Rattle.age_stream.specs.inner.OpenerSteps.{IsTried, TakesPart, TakesWhole, T
 use Rattle.age_stream.specs.declared.opener.OpenerState.{OpenerState}
 use Rattle.age_stream.specs.declared.step.Status.{Status}
 use Rattle.age_stream.specs.declared.step.Status.TheVariants.{Open, LastSeen, Done, Failed}
-use Rattle.age_stream.proofs.GoingLemmas.{going, going_outcome, going_part, going_whole, going_end, after_piece, after_end, ended_piece, unended_piece, IsGoing, IsWhole}
-use Rattle.age_stream.proofs.ReplayLemmas.{pieces_join}
+use Rattle.age_stream.proofs.GoingLemmas.{going, going_outcome, going_part, going_whole, going_end, after_piece, after_end, ended_piece, unended_piece, pieces_join, IsGoing, IsWhole}
 use Rattle.age_stream.proofs.TableLemmas.{prepend}
 
 -- ---- A piece.

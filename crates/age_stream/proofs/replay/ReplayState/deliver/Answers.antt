@@ -1,7 +1,7 @@
 use Rattle.std.proofs.Common.{vec_len, arith}
 use Rattle.age_stream.specs.declared.delivery.Delivery.TheVariants.{Piece, End}
 use Rattle.age_stream.specs.Replay.{replay_view}
-use Rattle.age_stream.proofs.CrampedLemmas.{cramped_by}
+use Rattle.age_stream.proofs.ReplayLemmas.{cramped_by}
 use Rattle.age_stream.proofs.SizeLemmas.{replay_state_fits}
 use Rattle.age_stream.proofs.replay.ReplayState.deliver.Goals as goal
 use Rattle.age_chunk.specs.ChunkBoxes.{text_length}

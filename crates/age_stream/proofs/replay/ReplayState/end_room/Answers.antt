@@ -1,5 +1,5 @@
 use Rattle.std.proofs.Common.{ℕ, ap, sym, ◌∙◌}
-use Rattle.age_stream.proofs.RoomLemmas.{open_number}
+use Rattle.age_stream.proofs.ReplayLemmas.{open_number}
 use Rattle.age_stream.proofs.SizeLemmas.{opener_fits}
 use Rattle.age_stream.proofs.replay.ReplayState.end_room.Goals as goal
 use Rattle.age_chunk.specs.ChunkBoxes.{text_length}

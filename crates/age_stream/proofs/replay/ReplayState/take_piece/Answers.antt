@@ -1,5 +1,5 @@
 use Rattle.std.proofs.Common.{ℕ, ◌+◌, ◌≤◌, ◌∙◌, vec_len, vec_capacity, subst}
-use Rattle.age_stream.proofs.RoomLemmas.{open_number}
+use Rattle.age_stream.proofs.ReplayLemmas.{open_number}
 use Rattle.age_stream.proofs.SizeLemmas.{replay_state_fits}
 use Rattle.age_stream.proofs.replay.ReplayState.take_piece.Goals as goal
 
