@@ -1,5 +1,5 @@
 -- Each block in its place, if what opens is the writer's.
-use Rattle.std.proofs.Common.{inl, inr, ◌≡◌, ℕ, zero, suc, ◌<◌, ◌≤◌, ◌+◌, ◌*◌, ◌-◌, ◌/◌, refl, ap, sym, subst, ◌∙◌, List, [], ◌∷◌, ◌++◌, length, take, drop}
+use Rattle.std.proofs.Common.{inl, inr, ◌≡◌, ℕ, suc, ◌<◌, ◌≤◌, ◌+◌, ◌*◌, ◌-◌, ◌/◌, refl, ap, sym, subst, ◌∙◌, List, [], ◌∷◌, ◌++◌, length, take, drop}
 use Rattle.std.proofs.Common.{get_or, Bool, true, false, arith, rules}
 use Rattle.std.specs.Prelude.{Option, Some, None, IsSome, Contains, ◌==◌, ◌&&◌, ◌||◌, nat_lt, cond, map}
 use Rattle.std.specs.Str.{bytes_eq}
@@ -21,7 +21,7 @@ use Rattle.age_stream.specs.declared.step.Status.{Status}
 use Rattle.age_stream.specs.declared.step.Status.TheVariants.{Failed}
 use Rattle.age_stream.specs.Headline.{IsWriters, IsAuthentic, sealed_as, compared, IsFirstWrong, IsInPlace}
 use Rattle.age_stream.proofs.SegmentLemmas.{writer_text, next_within, opens_before, front_carries, front_written, IsPair-from_Contains}
-use Rattle.age_stream.proofs.TableLemmas.{block_full, block_is, by_both, by_lines, frontier, last_status, length-whole_blocks, outcome_is, texts_fit, whole_within}
+use Rattle.age_stream.proofs.TableLemmas.{block_full, block_is, by_both, by_lines, front_is, frontier, last_status, length-whole_blocks, outcome_is, texts_fit, whole_within}
 
 -- each pair is the sealing of its chunk
 abbrev AreSealed : (List ℕ → List ℕ → List ℕ) → List (List ℕ × List ℕ) → List (List ℕ) → Type 0
@@ -168,43 +168,6 @@ module _ (sealing : List ℕ → List ℕ → List ℕ) (opening : List ℕ → 
   unsure_short : (i : ℕ) (block : List ℕ) → length block < n + tag_length → sure (nonce_bytes i false) block ≡ false
   unsure_short i block short = unsure_short_by i block (sure (nonce_bytes i false) block) short refl
 
-  -- the block after those in front doesn't open as one before the last, unless its number is the greatest
-  stop_step : (block : List ℕ) (blocks : List (List ℕ)) (i : ℕ) (o : Option (List ℕ)) → text_before_last opening i block ≡ o
-      → (length (front_texts opening (i + 1) blocks) < length blocks
-      → text_before_last opening (i + 1 + length (front_texts opening (i + 1) blocks)) (get_or blocks (length (front_texts opening (i + 1) blocks)) []) ≡ None)
-      → length (text_then opening o (front_texts opening (i + 1) blocks)) < suc (length blocks)
-      → text_before_last opening (i + length (text_then opening o (front_texts opening (i + 1) blocks)))
-      (get_or (block ∷ blocks) (length (text_then opening o (front_texts opening (i + 1) blocks))) []) ≡ None
-  stop_step block blocks i None e more lt = let z : i ≡ i + 0 = omega arith in subst (λ (k : ℕ). text_before_last opening k block ≡ None) z e
-  stop_step block blocks i (Some x) e more lt =
-      let k = length (front_texts opening (i + 1) blocks) in
-      let z : i + 1 + k ≡ i + suc k = omega arith in
-      subst (λ (j : ℕ). text_before_last opening j (get_or blocks k []) ≡ None) z (more (omega (arith, lt)))
-
-  front_stops : (blocks : List (List ℕ)) (i : ℕ) → length (front_texts opening i blocks) < length blocks
-      → text_before_last opening (i + length (front_texts opening i blocks)) (get_or blocks (length (front_texts opening i blocks)) []) ≡ None
-  front_stops [] i lt = absurd (omega arith)
-  front_stops (block ∷ blocks) i lt = stop_step block blocks i (text_before_last opening i block) refl (λ l. front_stops blocks (i + 1) l) lt
-
-  -- those in front open
-  opens_step : (block : List ℕ) (blocks : List (List ℕ)) (i j : ℕ) (o : Option (List ℕ)) → text_before_last opening i block ≡ o
-      → ((k : ℕ) → k < length (front_texts opening (i + 1) blocks) → IsSome (opening (nonce_bytes (i + 1 + k) false) (get_or blocks k [])))
-      → j < length (text_then opening o (front_texts opening (i + 1) blocks)) → IsSome (opening (nonce_bytes (i + j) false) (get_or (block ∷ blocks) j []))
-  opens_step block blocks i j None e more lt = absurd (omega arith)
-  opens_step block blocks i zero (Some x) e more lt =
-      let z : i ≡ i + 0 = omega arith in
-      let o = (opens_before i (opening (nonce_bytes i false) block) x e).1 in
-      let some : IsSome (opening (nonce_bytes i false) block) = rw o (search rules) in
-      subst (λ (k : ℕ). IsSome (opening (nonce_bytes k false) block)) z some
-  opens_step block blocks i (suc j) (Some x) e more lt =
-      let z : i + 1 + j ≡ i + suc j = omega arith in
-      subst (λ (k : ℕ). IsSome (opening (nonce_bytes k false) (get_or blocks j []))) z (more j (omega (arith, lt)))
-
-  front_opens : (blocks : List (List ℕ)) (i j : ℕ) → j < length (front_texts opening i blocks)
-      → IsSome (opening (nonce_bytes (i + j) false) (get_or blocks j []))
-  front_opens [] i j lt = absurd (omega arith)
-  front_opens (block ∷ blocks) i j lt = opens_step block blocks i j (text_before_last opening i block) refl (λ k l. front_opens blocks (i + 1) k l) lt
-
   -- the blocks in front are the same
   front_step : (block : List ℕ) (blocks : List (List ℕ)) (i : ℕ) (o : Option (List ℕ)) → text_before_last opening i block ≡ o
       → ((j : ℕ) → j < suc (length blocks) → j ≤ length (text_then opening o (front_texts opening (i + 1) blocks))
@@ -259,8 +222,10 @@ module _ (sealing : List ℕ → List ℕ → List ℕ) (opening : List ℕ → 
           before = λ j lt.
               let front : j < m = omega (arith, lt) in
               let is : block_at n s.bytes j ≡ get_or blocks j [] = block_is n s j (omega (arith, front, texts_fit opening n s)) in
+              let opens = (opens_before (s.start + j) _ _ ((front_is opening blocks s.start).opens j front)).1 in
+              let some : IsSome (opening (nonce_bytes (s.start + j) false) (get_or blocks j [])) = rw opens (search rules) in
               subst (λ (x : List ℕ). Contains (sealed sealing n text) (nonce_bytes (s.start + j) false, x)) (sym is)
-              (front_written sealing opening valid n text few positive s given j front (front_opens blocks s.start j front));
+              (front_written sealing opening valid n text few positive s given j front some);
           there = λ last found.
               let no = subst (λ (k : ℕ). sure (nonce_bytes here.index last) (block_at n s.bytes k) ≡ false) at (none last) in
               let clash : true ≡ false = sym (sure_from_Contains (nonce_bytes here.index last) (block_at n s.bytes (here.index - s.start)) found) ∙ no in
@@ -282,7 +247,7 @@ module _ (sealing : List ℕ → List ℕ → List ℕ) (opening : List ℕ → 
         let more : here.index + 1 < chunk_count n text = grind (arith, nat_tests) in
         let t : nat_lt (here.index + 1) chunk_limit ≡ true = lt-ltb (here.index + 1) chunk_limit (omega (arith, more, few)) in
         let is : text_before_last opening here.index here.block ≡ Some x = ap (unless_greatest here.index) e ∙ ap (λ (y : Bool). cond y (Some x) None) t in
-        let stops = front_stops blocks s.start (omega (arith, lt, length-whole_blocks n s)) in
+        let stops = (front_is opening blocks s.start).stops (omega (arith, lt, length-whole_blocks n s)) in
         let no : None ≡ Some x = sym stops ∙ (ap (text_before_last opening here.index) (sym (block_is n s m lt)) ∙ is) in
         cc
 

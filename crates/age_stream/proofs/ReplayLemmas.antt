@@ -236,9 +236,3 @@ cramped_at opening n r ds i d lt at c =
     let x = get_or ds i d in
     let here = tag_came opening n r.opener (standing op n (take i ds)).segment x at.segment c.some in
     omega (arith, here, segment_len op n (take i ds) begin, came ds i x (take_more ds i d lt))
-
--- a call that is refused memory, as it is only if there is no room, was cramped
-pub cramped_by : {B A E : Type 0} (n : ℕ) (r : ReplayView B) (d : Delivery) (result : Result A E) (len : ℕ) → len ≡ length r.text → len ≤ r.capacity
-    → OnErr result (r.capacity < len + could_release n r.opener d) → OnErr result (IsCramped n r d)
-cramped_by n r d (Ok a) len same room full = tt
-cramped_by n r d (Err e) len same room full = record { some = omega arith; full = omega arith }

@@ -12,7 +12,7 @@ use Rattle.std.proofs.Math.Nat.{le-div_iff_mul-le}
 use Rattle.std.proofs.lemmas.Option.{cond_some}
 use Rattle.age_chunk.specs.ChunkBoxes.{IsChunkBox, tag_length}
 use Rattle.age_chunk.specs.Payload.{nonce_bytes, chunk_limit, chunk_count, last_index, last_chunk, pair, sealed}
-use Rattle.age_stream.specs.Segment.{Segment, Outcome, outcome, text_before_last, unless_greatest, text_then, front_texts, whole_blocks, failed}
+use Rattle.age_stream.specs.Segment.{Segment, Outcome, outcome, unless_greatest, front_texts, whole_blocks, failed}
 use Rattle.age_stream.specs.Segment.{with_piece, stop}
 use Rattle.age_stream.specs.declared.step.Status.{Status}
 use Rattle.age_stream.specs.declared.step.Status.TheVariants.{Open, Done}
@@ -21,7 +21,7 @@ use Rattle.age_stream.specs.Headline.{IsWriters, IsAuthentic, IsPrefixOf}
 use Rattle.age_chunk.proofs.NonceLemmas.{nonce_bytes-length, nonce_bytes-number, nonce_bytes-flag}
 use Rattle.age_chunk.proofs.FirstChunkLemmas.{get_or-first_chunks}
 use Rattle.age_stream.proofs.ChunkLemmas.{last_chunk_le, length-sealed, pair_before, pair_last}
-use Rattle.age_stream.proofs.TableLemmas.{block_full, block_is, by_lines, outcome_is, texts_fit}
+use Rattle.age_stream.proofs.TableLemmas.{block_full, block_is, by_lines, front_is, outcome_is, texts_fit}
 
 -- a pair of the writer's, by its number
 pub record IsPair (sealing : List ℕ → List ℕ → List ℕ) (n : ℕ) (text : List ℕ) (nonce block : List ℕ) : Type 0 where
@@ -116,8 +116,8 @@ module _ (sealing : List ℕ → List ℕ → List ℕ) (opening : List ℕ → 
       let a = take (i * n) text in
       rw e (sym (take-add (i * n) n text))
 
-  step : (i : ℕ) (block x : List ℕ) (rest : List (List ℕ)) → IsChunk n text i false x → i + 1 < chunk_limit → Carries (i + 1) rest → Carries i (x ∷ rest)
-  step i block x rest c lt more =
+  step : (i : ℕ) (x : List ℕ) (rest : List (List ℕ)) → IsChunk n text i false x → i + 1 < chunk_limit → Carries (i + 1) rest → Carries i (x ∷ rest)
+  step i x rest c lt more =
       let e : i + suc (length rest) ≡ i + 1 + length rest = omega arith in
       record {
         within = rw e more.within;
@@ -137,32 +137,26 @@ module _ (sealing : List ℕ → List ℕ → List ℕ) (opening : List ℕ → 
         small = λ g. rw e g;
       }
 
-  front_step : (block : List ℕ) (blocks : List (List ℕ)) (i : ℕ) (o : Option (List ℕ)) → text_before_last opening i block ≡ o → i * n ≤ length text
-      → ((j : ℕ) → j < length (text_then opening o (front_texts opening (i + 1) blocks)) → IsWriters sealing opening n text (nonce_bytes (i + j) false)
-      (get_or (block ∷ blocks) j []))
-      → (((j : ℕ) → j < length (front_texts opening (i + 1) blocks) → IsWriters sealing opening n text (nonce_bytes (i + 1 + j) false) (get_or blocks j []))
-      → (i + 1) * n ≤ length text → Carries (i + 1) (front_texts opening (i + 1) blocks))
-      → Carries i (text_then opening o (front_texts opening (i + 1) blocks))
-  front_step block blocks i None e h w more = none i h
-  front_step block blocks i (Some x) e h w more =
-      let p = opens_before i (opening (nonce_bytes i false) block) x e in
-      let lt : i + 1 < chunk_limit = ltb-true (i + 1) chunk_limit p.0 in
-      let w0 : IsWriters sealing opening n text (nonce_bytes (i + 0) false) block = w 0 (omega arith) in
+  carries : (texts : List (List ℕ)) (i : ℕ) → i * n ≤ length text
+      → ((j : ℕ) → j < length texts → IsChunk n text (i + j) false (get_or texts j []) × (i + j + 1 < chunk_limit)) → Carries i texts
+  carries [] i h f = none i h
+  carries (x ∷ rest) i h f =
       let z : i + 0 ≡ i = omega arith in
-      let w1 : IsWriters sealing opening n text (nonce_bytes i false) block = subst (λ (k : ℕ). IsWriters sealing opening n text (nonce_bytes k false) block)
-      z w0 in
-      let c = writer_text i false block x (omega arith) p.1 w1 in
-      step i block x (front_texts opening (i + 1) blocks) c lt
-      (more
-      (λ j l. let s : i + suc j ≡ i + 1 + j = omega arith in subst (λ (k : ℕ). IsWriters sealing opening n text (nonce_bytes k false) (get_or blocks j []))
-      s (w (suc j) (omega arith)))
-      (next_within i c.below c.flag))
+      let first = f 0 (omega arith) in
+      let c = subst (λ (k : ℕ). IsChunk n text k false x) z first.0 in
+      step i x rest c (omega (arith, first.1)) (carries rest (i + 1) (next_within i c.below c.flag)
+      (λ j lt. let s : i + suc j ≡ i + 1 + j = omega arith in
+      subst (λ (k : ℕ). IsChunk n text k false (get_or rest j []) × (k + 1 < chunk_limit)) s (f (suc j) (omega (arith, lt)))))
 
   pub front_carries : (blocks : List (List ℕ)) (i : ℕ) → i * n ≤ length text
       → ((j : ℕ) → j < length (front_texts opening i blocks) → IsWriters sealing opening n text (nonce_bytes (i + j) false) (get_or blocks j []))
       → Carries i (front_texts opening i blocks)
-  front_carries [] i h w = none i h
-  front_carries (block ∷ blocks) i h w = front_step block blocks i (text_before_last opening i block) refl h w (λ w' h'. front_carries blocks (i + 1) h' w')
+  front_carries blocks i h w =
+      let texts = front_texts opening i blocks in
+      carries texts i h (λ j lt.
+      let p = opens_before (i + j) _ _ ((front_is opening blocks i).opens j lt) in
+      let low : i + j + 1 < chunk_limit = ltb-true (i + j + 1) chunk_limit p.0 in
+      (writer_text (i + j) false (get_or blocks j []) (get_or texts j []) (omega (arith, low)) p.1 (w j lt), low))
 
   last_within : (i : ℕ) → true ≡ (i + 1 == chunk_count n text) → length text ≤ (i + 1) * n
   last_within i flag =

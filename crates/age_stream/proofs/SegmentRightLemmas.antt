@@ -1,21 +1,21 @@
 -- The headline of one segment, also of one that starts past the end of the text, and of an opener that was given it.
-use Rattle.std.proofs.Common.{inl, inr, ◌≡◌, ◌≢◌, ℕ, ◌<◌, ◌≤◌, ◌+◌, ◌*◌, ◌-◌, ◌/◌, refl, ap, sym, subst, ◌∙◌, List, [], ◌∷◌, ◌++◌, length, take, get_or}
+use Rattle.std.proofs.Common.{inl, inr, ◌≡◌, ◌≢◌, ℕ, ◌<◌, ◌≤◌, ◌+◌, ◌*◌, ◌-◌, ◌/◌, refl, ap, sym, subst, ◌∙◌, List, [], ◌++◌, length, take, get_or}
 use Rattle.std.proofs.Common.{Bool, true, false, arith}
-use Rattle.std.specs.Prelude.{Option, Some, None}
+use Rattle.std.specs.Prelude.{Option}
 use Rattle.std.specs.List.{flat_map}
 use Rattle.std.proofs.lemmas.Bool.{cases_lt}
 use Rattle.std.proofs.lemmas.Grind.{flat_map-append}
-use Rattle.std.proofs.lemmas.List.{append-nil, take_all}
+use Rattle.std.proofs.lemmas.List.{append-nil, nil_from_length, take_all}
 use Rattle.std.proofs.Math.Nat.{le-div_iff_mul-le}
 use Rattle.age_chunk.specs.ChunkBoxes.{IsChunkBox, OpensBlock, Seals}
-use Rattle.age_chunk.specs.Payload.{nonce_bytes, chunk_limit, chunk_count}
-use Rattle.age_stream.specs.Segment.{Segment, Outcome, outcome, stop, released, text_before_last, text_then, front_texts, whole_blocks}
+use Rattle.age_chunk.specs.Payload.{chunk_limit, chunk_count}
+use Rattle.age_stream.specs.Segment.{Segment, Outcome, outcome, stop, released, front_texts, whole_blocks}
 use Rattle.age_stream.specs.Opener.{OpenerView, Stands}
-use Rattle.age_stream.specs.Headline.{IsWriters, IsAuthentic, IsRest, IsRight, ReleasesWritten}
+use Rattle.age_stream.specs.Headline.{IsAuthentic, IsRest, IsRight, ReleasesWritten}
 use Rattle.age_stream.specs.Laws.{IsClosed}
 use Rattle.age_stream.specs.declared.step.Status.TheVariants.{Done}
 use Rattle.age_stream.proofs.SegmentLemmas.{IsChunk, writer_text, opens_before, front_written, released_segment}
-use Rattle.age_stream.proofs.TableLemmas.{by_lines, outcome_is}
+use Rattle.age_stream.proofs.TableLemmas.{by_lines, front_is, outcome_is}
 use Rattle.age_stream.proofs.PlaceLemmas.{in_place, low_within}
 use Rattle.age_stream.proofs.UndamagedLemmas.{rest_segment, rest_payload, rest_is_done, rest_authentic}
 
@@ -30,27 +30,6 @@ module _ (sealing : List ℕ → List ℕ → List ℕ) (opening : List ℕ → 
       let m : i * n ≤ length text - 1 = (le-div_iff_mul-le positive).0 q in
       omega (arith, m)
 
-  none_then : (block : List ℕ) (blocks : List (List ℕ)) (i : ℕ) (o : Option (List ℕ)) → text_before_last opening i block ≡ o
-      → i < chunk_limit → length text < i * n
-      → ((j : ℕ) → j < length (text_then opening o (front_texts opening (i + 1) blocks))
-      → IsWriters sealing opening n text (nonce_bytes (i + j) false) (get_or (block ∷ blocks) j []))
-      → text_then opening o (front_texts opening (i + 1) blocks) ≡ []
-  none_then block blocks i None e small past w = refl
-  none_then block blocks i (Some x) e small past w =
-      let p = opens_before i (opening (nonce_bytes i false) block) x e in
-      let w0 : IsWriters sealing opening n text (nonce_bytes (i + 0) false) block = w 0 (omega arith) in
-      let z : i + 0 ≡ i = omega arith in
-      let w1 = subst (λ (k : ℕ). IsWriters sealing opening n text (nonce_bytes k false) block) z w0 in
-      let c = writer_text sealing opening valid n text few positive i false block x small p.1 w1 in
-      absurd (omega (arith, past, within i false x c))
-
-  none_front : (blocks : List (List ℕ)) (i : ℕ) → i < chunk_limit → length text < i * n
-      → ((j : ℕ) → j < length (front_texts opening i blocks)
-      → IsWriters sealing opening n text (nonce_bytes (i + j) false) (get_or blocks j []))
-      → front_texts opening i blocks ≡ []
-  none_front [] i small past w = refl
-  none_front (block ∷ blocks) i small past w = none_then block blocks i (text_before_last opening i block) refl small past w
-
   -- nothing is released, and the end isn't reported
   pub record IsPast (o : Outcome) : Type 0 where
     pub texts : o.texts ≡ []
@@ -59,7 +38,19 @@ module _ (sealing : List ℕ → List ℕ → List ℕ) (opening : List ℕ → 
   -- no block in front opens
   pub past_front : (s : Segment) → s.start < chunk_limit → length text < s.start * n → IsAuthentic sealing opening n text s
       → front_texts opening s.start (whole_blocks n s.bytes) ≡ []
-  past_front s small past given = none_front (whole_blocks n s.bytes) s.start small past (front_written sealing opening valid n text few positive s given)
+  past_front s small past given =
+      let blocks = whole_blocks n s.bytes in
+      let texts = front_texts opening s.start blocks in
+      elim (cases_lt 0 (length texts)) [
+        | inl lt ↦
+            (let z : s.start + 0 ≡ s.start = omega arith in
+            let x = get_or texts 0 [] in
+            let opens = (opens_before (s.start + 0) _ _ ((front_is opening blocks s.start).opens 0 lt)).1 in
+            let w = front_written sealing opening valid n text few positive s given 0 lt in
+            let c = writer_text sealing opening valid n text few positive (s.start + 0) false (get_or blocks 0 []) x (omega (arith, small)) opens w in
+            absurd (omega (arith, past, within (s.start + 0) false x c, ap (λ (k : ℕ). k * n) z)))
+        | inr le ↦ nil_from_length texts (omega (arith, le))
+      ]
 
   pub past_segment : (s : Segment) → s.start < chunk_limit → length text < s.start * n
       → IsAuthentic sealing opening n text s → IsPast (outcome opening n s)

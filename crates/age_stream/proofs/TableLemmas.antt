@@ -1,5 +1,5 @@
 -- The table of an outcome, and where a segment stands: at a whole block, or at what is left after all of them.
-use Rattle.std.proofs.Common.{inl, inr, ◌≡◌, ◌≢◌, ℕ, suc, ◌<◌, ◌≤◌, ◌+◌, ◌*◌, ◌/◌, refl, ap, sym, subst, ◌∙◌, List, [], ◌∷◌, ◌++◌, length, drop, get_or}
+use Rattle.std.proofs.Common.{inl, inr, ◌≡◌, ◌≢◌, ℕ, zero, suc, ◌<◌, ◌≤◌, ◌+◌, ◌*◌, ◌/◌, refl, ap, sym, subst, ◌∙◌, List, [], ◌∷◌, ◌++◌, length, drop, get_or}
 use Rattle.std.proofs.Common.{Bool, true, false, arith}
 use Rattle.std.specs.Prelude.{Option, Some, None, is_some, is_none, cond, nat_lt, not, ◌||◌, ◌&&◌, ◌==◌, slice_get}
 use Rattle.std.proofs.lemmas.List.{append-nil, length-drop, length-take, take_all}
@@ -234,6 +234,37 @@ length-front_texts opening (block ∷ blocks) i =
     let P : List (List ℕ) → Type 0 = λ ts. length ts ≤ suc (length blocks) in
     elim (text_before_last opening i block) as (λ o. P (text_then opening o (front_texts opening (i + 1) blocks)))
     [ None ↦ omega arith | Some x ↦ omega (arith, h) ]
+
+module _ (opening : OpensBlock) where
+  -- the blocks in front open as not last, each to its text, and the next one doesn't
+  pub record IsFront (i : ℕ) (blocks texts : List (List ℕ)) : Type 0 where
+    pub opens : (j : ℕ) → j < length texts → text_before_last opening (i + j) (get_or blocks j []) ≡ Some (get_or texts j [])
+    pub stops : length texts < length blocks → text_before_last opening (i + length texts) (get_or blocks (length texts) []) ≡ None
+
+  front_step : (i : ℕ) (block : List ℕ) (blocks : List (List ℕ)) (o : Option (List ℕ)) → text_before_last opening i block ≡ o
+      → IsFront (i + 1) blocks (front_texts opening (i + 1) blocks) → IsFront i (block ∷ blocks) (text_then opening o (front_texts opening (i + 1) blocks))
+  front_step i block blocks None e more = record {
+    opens = λ j lt. absurd (omega arith);
+    stops = λ lt. let z : i ≡ i + 0 = omega arith in subst (λ (k : ℕ). text_before_last opening k block ≡ None) z e;
+  }
+  front_step i block blocks (Some x) e more =
+      let texts = front_texts opening (i + 1) blocks in
+      let next : i + 1 + length texts ≡ i + suc (length texts) = omega arith in
+      record {
+        opens = λ j lt. by_number j lt;
+        stops = λ lt. subst (λ (k : ℕ). text_before_last opening k (get_or blocks (length texts) []) ≡ None) next (more.stops (omega (arith, lt)));
+      }
+    where
+      by_number : (j : ℕ) → j < suc (length (front_texts opening (i + 1) blocks))
+          → text_before_last opening (i + j) (get_or (block ∷ blocks) j []) ≡ Some (get_or (x ∷ front_texts opening (i + 1) blocks) j [])
+      by_number zero lt = let z : i ≡ i + 0 = omega arith in subst (λ (k : ℕ). text_before_last opening k block ≡ Some x) z e
+      by_number (suc j) lt =
+          let z : i + 1 + j ≡ i + suc j = omega arith in
+          subst (λ (k : ℕ). text_before_last opening k (get_or blocks j []) ≡ Some (get_or (front_texts opening (i + 1) blocks) j [])) z (more.opens j (omega (arith, lt)))
+
+  pub front_is : (blocks : List (List ℕ)) (i : ℕ) → IsFront i blocks (front_texts opening i blocks)
+  front_is [] i = record { opens = λ j lt. absurd (omega arith); stops = λ lt. absurd (omega arith) }
+  front_is (block ∷ blocks) i = front_step i block blocks (text_before_last opening i block) refl (front_is blocks (i + 1))
 
 -- where a segment stands after these texts
 abbrev pub frontier : ℕ → Segment → List (List ℕ) → Frontier
