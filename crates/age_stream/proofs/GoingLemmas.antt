@@ -1,5 +1,6 @@
 -- How an outcome goes on when more bytes come.
-use Rattle.std.proofs.Common.{inl, inr, ◌≡◌, ℕ, zero, suc, ◌<◌, ◌≤◌, ◌+◌, ◌*◌, ◌-◌, ◌/◌, refl, ap, sym, ◌∙◌, List, [], ◌∷◌, ◌++◌, length, take, drop, Bool, true, false, arith}
+use Rattle.std.proofs.Common.{inl, inr, ◌≡◌, ℕ, zero, suc, ◌<◌, ◌≤◌, ◌+◌, ◌*◌, ◌-◌, ◌/◌, refl, ap, sym, ◌∙◌, List, [], ◌∷◌, ◌++◌, length, take, drop, Bool}
+use Rattle.std.proofs.Common.{true, false, arith}
 use Rattle.std.specs.Prelude.{Option, Some, None, cond, nat_lt, not, ◌||◌, ◌&&◌, ◌==◌}
 use Rattle.std.specs.Simd.{first_chunks}
 use Rattle.std.proofs.lemmas.List.{length-append, length-drop, drop-append-le, take-append-le, drop-drop, drop_all, take_all, append-nil, append_assoc}
@@ -13,8 +14,9 @@ use Rattle.age_stream.specs.Segment.{Segment, Outcome, Frontier, outcome, stop, 
 use Rattle.age_stream.specs.Segment.{whole_blocks, rest_bytes, with_piece, with_end}
 use Rattle.age_stream.specs.inner.OpenerSteps.{after_front, one_block, final_block}
 use Rattle.age_stream.specs.declared.step.Status.TheVariants.{Open}
-use Rattle.age_stream.proofs.TableLemmas.{IsAfterBytes, IsAfterEnd, beside, block_full, by_lines, frontier, last_shut, length-whole_blocks, line_waiting, not_whole, outcome_is}
-use Rattle.age_stream.proofs.TableLemmas.{prepend, rest_is, rest_short, texts_fit, verdict-bytes, verdict-end, verdict-prepend, whole_within}
+use Rattle.age_stream.proofs.TableLemmas.{IsAfterBytes, IsAfterEnd, beside, block_full, by_lines, frontier, last_shut, length-whole_blocks, line_waiting}
+use Rattle.age_stream.proofs.TableLemmas.{not_whole, outcome_is, prepend, rest_is, rest_short, texts_fit, verdict-bytes, verdict-end, verdict-prepend}
+use Rattle.age_stream.proofs.TableLemmas.{whole_within}
 
 pub first_chunks-add : (z q d : ℕ) (xs : List ℕ) → first_chunks z (q + d) xs ≡ first_chunks z q xs ++ first_chunks z d (drop (q * z) xs)
 first_chunks-add z zero d xs =

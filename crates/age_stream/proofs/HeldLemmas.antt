@@ -88,7 +88,7 @@ all_last : (P : Segment → Type 0) (xs : List Segment) (x : Segment) → AllByR
 all_last P [] x h = h.0
 all_last P (y ∷ ys) x h = all_last P ys x h.1
 
-module _ (sealing : List ℕ → List ℕ → List ℕ) (opening : List ℕ → List ℕ → Option (List ℕ)) (valid : IsChunkBox sealing opening)
+module _ (sealing : Seals) (opening : OpensBlock) (valid : IsChunkBox sealing opening)
     (n : ℕ) (text : List ℕ) (few : chunk_count n text ≤ chunk_limit) (positive : 0 < n) where
   abbrev Good : Segment → Type 0
   Good = IsAuthentic sealing opening n text

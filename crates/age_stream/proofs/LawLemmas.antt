@@ -1,9 +1,9 @@
 -- Public laws, each with its proof: what the proofs of other crates cite of this one. Each is a clause in `src/laws.rt`.
 use Rattle.std.proofs.Common.{◌≡◌, ℕ, ◌+◌, ◌*◌, refl, ap, sym, ◌∙◌, List, length, Bool, true, false, arith}
-use Rattle.std.specs.Prelude.{Option, nat_lt}
+use Rattle.std.specs.Prelude.{nat_lt}
 use Rattle.std.specs.Simd.{first_chunks}
 use Rattle.std.proofs.lemmas.List.{length-append, length-drop}
-use Rattle.age_chunk.specs.ChunkBoxes.{IsChunkBox, tag_length}
+use Rattle.age_chunk.specs.ChunkBoxes.{IsChunkBox, tag_length, Seals, OpensBlock}
 use Rattle.age_chunk.specs.Payload.{nonce_bytes, chunk_length, last_index, last_chunk, sealed_before_last, block_bytes}
 use Rattle.age_stream.specs.Segment.{Outcome, outcome, with_piece, with_end}
 use Rattle.age_stream.specs.inner.OpenerSteps.{status_after, status_ended}
@@ -75,7 +75,7 @@ end_closes opening n s = (
 
 -- ---- lengths
 
-module _ (sealing : List ℕ → List ℕ → List ℕ) (opening : List ℕ → List ℕ → Option (List ℕ)) (valid : IsChunkBox sealing opening) (n : ℕ) where
+module _ (sealing : Seals) (opening : OpensBlock) (valid : IsChunkBox sealing opening) (n : ℕ) where
   front_length : (text : List ℕ) → length (block_bytes (sealed_before_last sealing n text)) ≡ last_index n text * (n + tag_length)
   front_length text =
       let q = last_index n text in

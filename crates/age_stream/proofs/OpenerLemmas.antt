@@ -1,22 +1,74 @@
 -- A step of an opener, and its end, for each segment that it was given.
 use Rattle.std.proofs.Common.{inl, inr, ◌≡◌, ℕ, ◌<◌, ◌≤◌, ◌+◌, ◌-◌, refl, ap, sym, subst, ◌∙◌, List, [], ◌∷◌, ◌++◌, length, take, drop, Bool, true, false}
 use Rattle.std.proofs.Common.{arith}
-use Rattle.std.specs.Prelude.{Result, Ok, Err, IfOk, MatchResult, nat_lt, if◌then◌else◌}
+use Rattle.std.specs.Prelude.{Result, Ok, Err, IfOk, MatchResult, nat_lt, if◌then◌else◌, Option, Some, None}
 use Rattle.std.specs.List.{flat_map}
 use Rattle.std.proofs.lemmas.Grind.{flat_map-append}
 use Rattle.std.proofs.lemmas.List.{append-nil, length-append, length-take, nil_from_length, take-append-drop, take_all}
 use Rattle.std.proofs.lemmas.Bool.{cases_lt, true≢false}
 use Rattle.age_chunk.specs.ChunkBoxes.{OpensBlock, tag_length, text_length}
 use Rattle.age_chunk.specs.declared.fault.StreamFault.{StreamFault}
-use Rattle.age_stream.specs.Segment.{Segment, Outcome, outcome, released, front_texts, whole_blocks, rest_bytes, with_piece, with_end}
+use Rattle.age_stream.specs.Segment.{Segment, Outcome, outcome, released, front_texts, whole_blocks, rest_bytes, with_piece, with_end, Frontier}
+use Rattle.age_stream.specs.Segment.{unless_greatest, failed}
 use Rattle.age_stream.specs.Opener.{Stands, handed, held_bytes, opener_view}
-use Rattle.age_stream.specs.inner.OpenerSteps.{one_block, final_block, status_after, status_ended, advanced, text_lent, front_bytes}
-use Rattle.age_stream.specs.inner.OpenerSteps.{IsTried, TakesPart, TakesWhole, TakesNone, OpenerEndsAs}
+use Rattle.age_stream.specs.inner.OpenerSteps.{one_block, final_block, status_after, status_ended, advanced, text_lent, front_bytes, IsTried, TakesPart}
+use Rattle.age_stream.specs.inner.OpenerSteps.{TakesWhole, TakesNone, OpenerEndsAs, after_front}
 use Rattle.age_stream.specs.declared.opener.OpenerState.{OpenerState}
 use Rattle.age_stream.specs.declared.step.Status.{Status}
 use Rattle.age_stream.specs.declared.step.Status.TheVariants.{Open, LastSeen, Done, Failed}
-use Rattle.age_stream.proofs.GoingLemmas.{going, going_outcome, going_part, going_whole, going_end, after_piece, after_end, ended_piece, unended_piece, pieces_join, IsGoing, IsWhole}
-use Rattle.age_stream.proofs.TableLemmas.{prepend}
+use Rattle.age_stream.proofs.GoingLemmas.{going, going_outcome, going_part, going_whole, going_end, after_piece, after_end, ended_piece, unended_piece}
+use Rattle.age_stream.proofs.GoingLemmas.{pieces_join, IsGoing, IsWhole}
+use Rattle.age_stream.proofs.TableLemmas.{prepend, last_of, line_last}
+use Rattle.age_chunk.specs.Payload.{nonce_bytes}
+use Rattle.age_chunk.specs.declared.fault.StreamKind.{StreamKind}
+use Rattle.age_chunk.specs.declared.fault.StreamKind.TheVariants.{ChunkDamaged}
+
+-- ---- A whole block.
+
+abbrev pub refused : StreamKind → ℕ → Outcome
+refused kind i = record { texts = []; index = i; status = failed kind i }
+
+-- what one block gives that is in a buffer of n bytes: once it was opened, its text is the buffer's
+-- front
+module _ (opening : OpensBlock) (i n : ℕ) (block new : List ℕ) (len : length block ≡ n) (long : tag_length ≤ length block) where
+  abbrev alone : Frontier
+  alone = record { texts = []; index = i; block = block; whole = true; followed = false; ended = false }
+
+  -- it was tried as the last, since it doesn't open as one before
+  shut_in : (tried : List ℕ) (o : Option (List ℕ)) → opening (nonce_bytes i false) block ≡ None → tried ≡ block → opening (nonce_bytes i true) tried ≡ o
+      → one_block opening i block ≡ last_of alone o
+  shut_in tried o closed same is =
+      ap (λ (o : Option (List ℕ)). after_front opening (unless_greatest i o) i block) closed
+      ∙ line_last opening alone o refl long refl (λ _. closed) (ap (opening (nonce_bytes i true)) (sym same) ∙ is)
+
+  pub last_in : (tried : List ℕ) → opening (nonce_bytes i false) block ≡ None → tried ≡ block
+      → opening (nonce_bytes i true) tried ≡ Some (take (text_length (length tried)) new)
+      → one_block opening i block ≡ record { texts = take (text_length n) new ∷ []; index = i; status = LastSeen }
+  last_in tried closed same opens =
+      shut_in tried (Some (take (text_length n) new)) closed same (opens ∙ ap (λ (k : ℕ). Some (take (text_length k) new)) (ap length same ∙ len))
+
+  pub neither_in : (tried : List ℕ) → opening (nonce_bytes i false) block ≡ None → tried ≡ block → opening (nonce_bytes i true) tried ≡ None
+      → one_block opening i block ≡ refused ChunkDamaged i
+  neither_in tried closed same none = shut_in tried None closed same none
+
+module _ {B : Type 0} {n : ℕ} {g : _} (old new : OpenerState B n g) (outcome : Outcome) (key : new.key ≡ old.key) where
+  pub tried_text : (i : ℕ) (status : Status) → outcome ≡ record { texts = take (text_length n) new.buffer.items ∷ []; index = i; status = status }
+      → new.index ≡ i → new.status ≡ status → new.lent ≡ true → length new.buffer.items ≡ n → IsTried outcome old (Ok tt) new
+  tried_text i status is at stands lent len = record {
+    key = key;
+    index = at ∙ ap (λ (o : Outcome). o.index) (sym is);
+    status = stands ∙ ap (λ (o : Outcome). o.status) (sym is);
+    answered = (lent, len, ap (λ (o : Outcome). o.texts) is);
+  }
+
+  pub tried_fault : (i : ℕ) (kind : StreamKind) (fault : StreamFault) → outcome ≡ refused kind i
+      → new.index ≡ i → new.status ≡ failed kind i → Failed fault ≡ failed kind i → IsTried outcome old (Err fault) new
+  tried_fault i kind fault is at stands same = record {
+    key = key;
+    index = at ∙ ap (λ (o : Outcome). o.index) (sym is);
+    status = stands ∙ ap (λ (o : Outcome). o.status) (sym is);
+    answered = (stands ∙ sym same, ap (λ (o : Outcome). o.texts) is);
+  }
 
 -- ---- A piece.
 
@@ -50,8 +102,7 @@ module _ {B : Type 0} {n : ℕ} {g : _} (opening : B → OpensBlock) (old new : 
   back = omega (arith, big)
 
   to_new : (next : Segment) → new.key ≡ old.key → new.index ≡ (out next).index → new.status
-      ≡ (out next).status
-      → (new.status ≡ Open → held_bytes new ≡ rest_bytes (text_length n) next.bytes) → (next.ended ≡ false → next.late ≡ false)
+      ≡ (out next).status → (new.status ≡ Open → held_bytes new ≡ rest_bytes (text_length n) next.bytes) → (next.ended ≡ false → next.late ≡ false)
       → Stands opening (text_length n) (opener_view new) next
   to_new next key index status held timely =
       record {
@@ -62,8 +113,7 @@ module _ {B : Type 0} {n : ℕ} {g : _} (opening : B → OpensBlock) (old new : 
       }
 
   pub part : (s : Segment) (piece : List ℕ) (answer : Result (ℕ × Bool) StreamFault) → Was s → old.status ≡ Open
-      → length (held_bytes old) + length piece < n → TakesPart old piece answer new
-      → Follows s (with_piece s piece) []
+      → length (held_bytes old) + length piece < n → TakesPart old piece answer new → Follows s (with_piece s piece) []
   part s piece answer h open_ short t =
       let op = opening old.key.now in
       let m = text_length n in
@@ -141,8 +191,7 @@ module _ {B : Type 0} {n : ℕ} {g : _} (opening : B → OpensBlock) (old new : 
         })
 
   by_answer : (s : Segment) (piece : List ℕ) (answer : Result (ℕ × Bool) StreamFault) → ((p : List ℕ) → nat_lt 0 (length p) ≡ nat_lt 0 (length piece)
-      → Follows s (with_piece s p) [])
-      → MatchResult answer (λ a. (a.0 ≡ 0) × (a.1 ≡ false) × (length piece ≡ 0)) (λ fault. new.status ≡ Failed fault)
+      → Follows s (with_piece s p) []) → MatchResult answer (λ a. (a.0 ≡ 0) × (a.1 ≡ false) × (length piece ≡ 0)) (λ fault. new.status ≡ Failed fault)
       → Follows s (advanced s piece answer) (handed (text_lent n new.buffer.items) answer)
   by_answer s piece (Ok a) core t =
       let e : length (take a.0 piece) ≡ length piece = omega (arith, length-take a.0 piece, t.0, t.2) in
@@ -152,8 +201,7 @@ module _ {B : Type 0} {n : ℕ} {g : _} (opening : B → OpensBlock) (old new : 
 
   -- the opener was open no more
   pub none : (s : Segment) (piece : List ℕ) → Was s → (old.status ≡ Open → ⊥) → (answer : Result (ℕ × Bool) StreamFault)
-      → TakesNone old piece answer new
-      → Follows s (advanced s piece answer) (handed (text_lent n new.buffer.items) answer)
+      → TakesNone old piece answer new → Follows s (advanced s piece answer) (handed (text_lent n new.buffer.items) answer)
   none s piece h shut answer t =
       let op = opening old.key.now in
       let m = text_length n in
@@ -185,8 +233,7 @@ module _ {B : Type 0} {n : ℕ} {g : _} (opening : B → OpensBlock) (old new : 
 
   -- the opener was open
   pub open_step : (s : Segment) (piece : List ℕ) (answer : Result (ℕ × Bool) StreamFault) → Was s → old.status
-      ≡ Open → length (held_bytes old) < n
-      → (length (held_bytes old) + length piece < n → TakesPart old piece answer new)
+      ≡ Open → length (held_bytes old) < n → (length (held_bytes old) + length piece < n → TakesPart old piece answer new)
       → (n ≤ length (held_bytes old) + length piece
       → TakesWhole (one_block (opening old.key.now) old.index (held_bytes old ++ take (n - length (held_bytes old)) piece)) old answer new)
       → Follows s (advanced s piece answer) (handed (text_lent n new.buffer.items) answer)

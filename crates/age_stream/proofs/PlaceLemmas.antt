@@ -1,6 +1,6 @@
 -- Each block in its place, if what opens is the writer's.
-use Rattle.std.proofs.Common.{inl, inr, ◌≡◌, ℕ, suc, ◌<◌, ◌≤◌, ◌+◌, ◌*◌, ◌-◌, ◌/◌, refl, ap, sym, subst, ◌∙◌, List, [], ◌∷◌, ◌++◌, length, take, drop}
-use Rattle.std.proofs.Common.{get_or, Bool, true, false, arith, rules}
+use Rattle.std.proofs.Common.{inl, inr, ◌≡◌, ℕ, suc, ◌<◌, ◌≤◌, ◌+◌, ◌*◌, ◌-◌, ◌/◌, refl, ap, sym, subst, ◌∙◌, List, [], ◌∷◌, ◌++◌, length, take, drop, get_or}
+use Rattle.std.proofs.Common.{Bool, true, false, arith, rules}
 use Rattle.std.specs.Prelude.{Option, Some, None, IsSome, Contains, ◌==◌, ◌&&◌, ◌||◌, nat_lt, cond, map}
 use Rattle.std.specs.Str.{bytes_eq}
 use Rattle.std.specs.List.{list_any, enumerate_from}
@@ -10,7 +10,7 @@ use Rattle.std.proofs.lemmas.List.{length-take, length-drop}
 use Rattle.std.proofs.lemmas.List.Folds.{list_any_at, Any-from_list_any}
 use Rattle.std.proofs.lemmas.Bool.{cases_lt, lt-ltb, and_parts, eqb-true, eqb-false}
 use Rattle.std.proofs.lemmas.Bool.Decides.{nat_tests}
-use Rattle.age_chunk.specs.ChunkBoxes.{IsChunkBox, tag_length}
+use Rattle.age_chunk.specs.ChunkBoxes.{IsChunkBox, tag_length, Seals, OpensBlock}
 use Rattle.age_chunk.specs.Payload.{nonce_bytes, chunk_limit, chunks, chunk_count, last_index, last_chunk, pair, sealed}
 use Rattle.age_chunk.specs.declared.fault.StreamKind.{StreamKind}
 use Rattle.age_chunk.specs.declared.fault.StreamKind.TheVariants.{ChunkDamaged, Trailing, TooManyChunks}
@@ -21,7 +21,8 @@ use Rattle.age_stream.specs.declared.step.Status.{Status}
 use Rattle.age_stream.specs.declared.step.Status.TheVariants.{Failed}
 use Rattle.age_stream.specs.Headline.{IsWriters, IsAuthentic, sealed_as, compared, IsFirstWrong, IsInPlace}
 use Rattle.age_stream.proofs.SegmentLemmas.{writer_text, next_within, opens_before, front_carries, front_written, IsPair-from_Contains}
-use Rattle.age_stream.proofs.TableLemmas.{block_full, block_is, by_both, by_lines, front_is, frontier, last_status, length-whole_blocks, outcome_is, texts_fit, whole_within}
+use Rattle.age_stream.proofs.TableLemmas.{block_full, block_is, by_both, by_lines, front_is, frontier, last_status, length-whole_blocks, outcome_is, texts_fit}
+use Rattle.age_stream.proofs.TableLemmas.{whole_within}
 
 -- each pair is the sealing of its chunk
 abbrev AreSealed : (List ℕ → List ℕ → List ℕ) → List (List ℕ × List ℕ) → List (List ℕ) → Type 0
@@ -30,7 +31,7 @@ AreSealed sealing (pair ∷ pairs) [] = ⊥
 AreSealed sealing (pair ∷ pairs) (chunk ∷ chunks) =
     (pair.1 ≡ sealing pair.0 chunk) × ((length pair.0 ≡ 12) × AreSealed sealing pairs chunks)
 
-seals_from : (sealing : List ℕ → List ℕ → List ℕ) (q i : ℕ) (last : List ℕ) (cs : List (List ℕ))
+seals_from : (sealing : Seals) (q i : ℕ) (last : List ℕ) (cs : List (List ℕ))
     → AreSealed sealing (map (pair sealing false) (enumerate_from i cs) ++ pair sealing true (q, last) ∷ []) (cs ++ last ∷ [])
 seals_from sealing q i last [] = (refl, (nonce_bytes-length q true, tt))
 seals_from sealing q i last (c ∷ cs) = (refl, (nonce_bytes-length i false, seals_from sealing q (i + 1) last cs))
@@ -51,10 +52,9 @@ found_none (p ∷ pairs) (chunk ∷ chunks) nonce block e =
     found_none_by (is_pair nonce block p) (list_any (is_pair nonce block) pairs) chunk (sealed_as pairs chunks nonce block)
     (λ more. found_none pairs chunks nonce block more) e
 
-module _ (sealing : List ℕ → List ℕ → List ℕ) (opening : List ℕ → List ℕ → Option (List ℕ)) (valid : IsChunkBox sealing opening) where
+module _ (sealing : Seals) (opening : OpensBlock) (valid : IsChunkBox sealing opening) where
   found_by : (b more : Bool) (p : List ℕ × List ℕ) (chunk nonce block : List ℕ) (rest : Option (List ℕ)) → is_pair nonce block p ≡ b → p.1 ≡ sealing p.0 chunk
-      → length p.0 ≡ 12
-      → (more ≡ true → opening nonce block ≡ rest) → (b || more) ≡ true → opening nonce block ≡ cond b (Some chunk) rest
+      → length p.0 ≡ 12 → (more ≡ true → opening nonce block ≡ rest) → (b || more) ≡ true → opening nonce block ≡ cond b (Some chunk) rest
   found_by true more p chunk nonce block rest is seals len f e =
       let t = and_parts (bytes_eq p.0 nonce) (bytes_eq p.1 block) is in
       let first : p.0 ≡ nonce = (bytes_eq-Decides p.0 nonce).0 t.0 in
@@ -64,8 +64,7 @@ module _ (sealing : List ℕ → List ℕ → List ℕ) (opening : List ℕ → 
   found_by false more p chunk nonce block rest is seals len f e = f e
 
   found_opens : (pairs : List (List ℕ × List ℕ)) (chunks : List (List ℕ)) (nonce block : List ℕ) → AreSealed sealing pairs chunks
-      → list_any (is_pair nonce block) pairs ≡ true
-      → opening nonce block ≡ sealed_as pairs chunks nonce block
+      → list_any (is_pair nonce block) pairs ≡ true → opening nonce block ≡ sealed_as pairs chunks nonce block
   found_opens [] chunks nonce block h e = cc
   found_opens (p ∷ pairs) [] nonce block h e = absurd h
   found_opens (p ∷ pairs) (chunk ∷ chunks) nonce block h e =
@@ -91,7 +90,7 @@ last_fault true ended kind i j other e = other (kinds kind Trailing j i (sym e))
 last_fault false true kind i j other e = cc
 last_fault false false kind i j other e = cc
 
-module _ (sealing : List ℕ → List ℕ → List ℕ) (opening : List ℕ → List ℕ → Option (List ℕ)) (valid : IsChunkBox sealing opening)
+module _ (sealing : Seals) (opening : OpensBlock) (valid : IsChunkBox sealing opening)
     (n : ℕ) (text : List ℕ) (few : chunk_count n text ≤ chunk_limit) (positive : 0 < n) where
   abbrev other : List ℕ → List ℕ → Option (List ℕ)
   other = compared sealing n text

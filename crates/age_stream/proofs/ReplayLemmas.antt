@@ -1,6 +1,6 @@
 -- A step of a replay: where it leads, and how much room it needs.
-use Rattle.std.proofs.Common.{inl, inr, ◌≡◌, ℕ, ◌<◌, ◌≤◌, ◌+◌, ◌*◌, ◌-◌, ◌/◌, refl, ap, sym, subst, ◌∙◌, List, [], ◌∷◌, ◌++◌, length, take, drop, get_or}
-use Rattle.std.proofs.Common.{Bool, true, false, arith}
+use Rattle.std.proofs.Common.{inl, inr, ◌≡◌, ℕ, ◌<◌, ◌≤◌, ◌+◌, ◌*◌, ◌-◌, ◌/◌, refl, ap, sym, subst, ◌∙◌, List, [], ◌∷◌, ◌++◌, length, take, drop, get_or, Bool}
+use Rattle.std.proofs.Common.{true, false, arith}
 use Rattle.std.specs.Prelude.{Result, Ok, Err, OnErr, Option, Some, None, IfSome, IfNone, min, nat_lt, nat_le, ◌&&◌, if◌then◌else◌}
 use Rattle.std.specs.List.{flat_map}
 use Rattle.std.specs.Borrow.{Bor}
@@ -10,8 +10,8 @@ use Rattle.std.proofs.lemmas.Bool.{and_parts, cases_lt, ltb-true}
 use Rattle.std.proofs.Math.Nat.{add-mul-div_left, div-mul-le_self}
 use Rattle.age_chunk.specs.ChunkBoxes.{IsChunkBox, OpensBlock, Seals, tag_length, text_length}
 use Rattle.age_chunk.specs.Payload.{chunk_limit}
-use Rattle.age_stream.specs.Segment.{Segment, Outcome, outcome, released, Standing, with_piece, text_held, accepts, after_delivery, fresh, begin}
-use Rattle.age_stream.specs.Segment.{standing, standing_from}
+use Rattle.age_stream.specs.Segment.{Segment, Outcome, outcome, released, Standing, with_piece, text_held, accepts, after_delivery, fresh, begin, standing}
+use Rattle.age_stream.specs.Segment.{standing_from}
 use Rattle.age_stream.specs.Opener.{OpenerView, Stands, chunk_texts, chunk_bytes, while_open, whole_text}
 use Rattle.age_stream.specs.Replay.{ReplayView, IsReplayAt, Replays, IsCramped, could_release, bytes_in}
 use Rattle.age_stream.specs.Headline.{HoldsWritten, IsRight, IsUndamaged}
@@ -95,10 +95,8 @@ module _ {B : Type 0} (opening : B → OpensBlock) (n : ℕ) (old new : ReplayVi
       })
 
   pub refused_step : (s : Standing) (k : ℕ) → IsReplayAt opening n old s → new.key ≡ old.key
-      → (nat_lt k chunk_limit && nat_le (k * n) (length old.text)) ≡ false
-      → new.opener ≡ old.opener → new.text ≡ old.text
-      → new.refused ≡ min (old.refused + 1) 18446744073709551615
-      → IsReplayAt opening n new (after_delivery (opening old.key) n s (Restart k))
+      → (nat_lt k chunk_limit && nat_le (k * n) (length old.text)) ≡ false → new.opener ≡ old.opener → new.text ≡ old.text
+      → new.refused ≡ min (old.refused + 1) 18446744073709551615 → IsReplayAt opening n new (after_delivery (opening old.key) n s (Restart k))
   refused_step s k h key sure same text refused = subst (IsReplayAt opening n new) (sym (restarts s k false h sure)) (record {
     key = ap (λ o. o.key) same ∙ (h.key ∙ sym key);
     segment = subst (λ o. Stands opening n o s.segment) (sym same) h.segment;
@@ -136,8 +134,7 @@ open_number s k e = ap (λ (x : Status). while_open x k) e
 
 -- what is left to come needs the room that is left
 pub room_left : (n h t p : ℕ) (held : List ℕ) (chunk : Option (Bor (List ℕ)))
-    → IfSome chunk (λ chunk. (length chunk.now ≡ n) × (h + t ≡ n + tag_length) × (held ≡ []))
-    → IfNone chunk (length held ≡ h + t) → t ≤ p
+    → IfSome chunk (λ chunk. (length chunk.now ≡ n) × (h + t ≡ n + tag_length) × (held ≡ [])) → IfNone chunk (length held ≡ h + t) → t ≤ p
     → length (chunk_bytes chunk) + whole_text n (length held + (p - t)) ≤ whole_text n (h + p)
 room_left n h t p held None some none le =
     let e : length held + (p - t) ≡ h + p = omega (arith, none, le) in
@@ -228,8 +225,7 @@ came ds i d more =
       ap length (append-nil (bytes_in d)),
     )
 
-pub cramped_at : {B : Type 0} (opening : B → OpensBlock) (n : ℕ) (r : ReplayView B) (ds : List Delivery) (i : ℕ) (d : Delivery)
-    → i < length ds
+pub cramped_at : {B : Type 0} (opening : B → OpensBlock) (n : ℕ) (r : ReplayView B) (ds : List Delivery) (i : ℕ) (d : Delivery) → i < length ds
     → Replays opening n r (take i ds) → IsCramped n r (get_or ds i d) → tag_length < length (flat_map bytes_in ds)
 cramped_at opening n r ds i d lt at c =
     let op = opening r.key in

@@ -1,15 +1,17 @@
 -- A step of a sealer, for each text that it was given; and how much of a whole text's payload its blocks before the last are.
-use Rattle.std.proofs.Common.{◌≡◌, ℕ, ◌<◌, ◌≤◌, ◌+◌, ◌*◌, ◌-◌, ap, sym, subst, ◌∙◌, List, [], ◌∷◌, ◌++◌, length, take, drop, true, false, take-add, take-append-drop, arith}
+use Rattle.std.proofs.Common.{◌≡◌, ℕ, ◌<◌, ◌≤◌, ◌+◌, ◌*◌, ◌-◌, ap, sym, subst, ◌∙◌, List, [], ◌∷◌, ◌++◌, length, take, drop, true, false, take-add}
+use Rattle.std.proofs.Common.{take-append-drop, arith}
 use Rattle.std.specs.Prelude.{Option, Some, None}
 use Rattle.std.proofs.lemmas.Bool.Decides.{nat_tests}
-use Rattle.std.proofs.lemmas.List.{append-nil, length-append, length-take, take_rest}
+use Rattle.std.proofs.lemmas.List.{append-nil, length-append, length-take, take_rest, take-append-le, take_all}
 use Rattle.std.proofs.lemmas.Grind.{flat_map-append}
-use Rattle.age_chunk.specs.ChunkBoxes.{IsChunkBox, OpensBlock, Seals, tag_length}
+use Rattle.age_chunk.specs.ChunkBoxes.{IsChunkBox, OpensBlock, Seals, tag_length, text_length}
 use Rattle.age_chunk.specs.Payload.{nonce_bytes, chunk_count, last_index, last_chunk, sealed_before_last, block_bytes, pair, payload}
 use Rattle.age_stream.specs.Sealer.{SealerView, Holds, step_len}
 use Rattle.age_stream.specs.inner.SealerSteps.{block_or_none, IsStep, Grows, SealerCloses}
 use Rattle.age_stream.proofs.LawLemmas.{sealed_grows, payload_is_longer}
 use Rattle.age_stream.proofs.SealingLemmas.{grown_index, grown_chunk, grown_blocks, closed_index, closed_chunk, closed_blocks, last_index_le}
+use Rattle.std.specs.List.{refill}
 
 -- no more is taken than came
 pub step_len_le : (m : ℕ) (held piece : List ℕ) → step_len m held piece ≤ length piece
@@ -77,6 +79,25 @@ module _ {B : Type 0} (sealing : B → Seals) (n : ℕ) (old : SealerView B) whe
       e ∙ (ap (λ (i : ℕ). key (nonce_bytes i true) old.held) h.index ∙ ap (key (nonce_bytes (last_index m text) true)) h.held) in
       flat_map-append (λ (p : List ℕ × List ℕ). p.1) (sealed_before_last key m text) (pair key true (last_index m text, last_chunk m text) ∷ [])
       ∙ ap (λ (t : List ℕ). block_bytes (sealed_before_last key m text) ++ t) (append-nil (pair key true (last_index m text, last_chunk m text)).1 ∙ sym is)
+
+-- ---- A block that is sealed in place.
+
+first_bytes : (n : ℕ) (xs ys : List ℕ) → length xs ≡ n → take n (xs ++ ys) ≡ xs
+first_bytes n xs ys len =
+    let le : n ≤ length xs = omega (arith, len) in
+    take-append-le n xs ys le ∙ take_all n xs (omega (arith, len))
+
+-- a buffer that was filled again with as many bytes has those
+refilled : (n : ℕ) (old new : List ℕ) → length new ≡ n → refill n old new ≡ new
+refilled n old new len = first_bytes n new (drop (length new) old) len
+
+pub sealed_in : (sealing : Seals) (given nonce lent block text tag new : List ℕ) → given ≡ nonce → lent ≡ block → block ≡ text ++ tag
+    → length tag ≡ tag_length → length new ≡ length block → new ≡ sealing given (take (text_length (length lent)) lent) → refill (length block) block new ≡ sealing nonce text
+sealed_in sealing given nonce lent block text tag new same is parts tag_len len h =
+    let all : lent ≡ text ++ tag = is ∙ parts in
+    let size : length text ≡ text_length (length lent) = omega (arith, ap length all, length-append text tag, tag_len) in
+    let is_text : take (text_length (length lent)) lent ≡ text = ap (take (text_length (length lent))) all ∙ first_bytes (text_length (length lent)) text tag size in
+    cc (h, same, is_text, refilled (length block) block new len)
 
 -- ---- A whole text.
 

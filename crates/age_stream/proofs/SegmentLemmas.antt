@@ -4,16 +4,14 @@ use Rattle.std.proofs.Common.{drop, get_or, Bool, true, false, arith, rules}
 use Rattle.std.specs.Prelude.{Option, Some, None, IsSome, Contains, ◌==◌, nat_lt, cond}
 use Rattle.std.specs.List.{flat_map}
 use Rattle.std.specs.Simd.{first_chunks}
-use Rattle.std.proofs.lemmas.List.{append_assoc, append-nil, take_all, take-append-drop}
-use Rattle.std.proofs.lemmas.List.{flat_map_more}
+use Rattle.std.proofs.lemmas.List.{append_assoc, append-nil, take_all, take-append-drop, flat_map_more}
 use Rattle.std.proofs.lemmas.Bool.{ltb-true, cases_lt, eq-eqb, ne_eqb}
 use Rattle.std.proofs.lemmas.Bool.Decides.{nat_tests}
 use Rattle.std.proofs.Math.Nat.{le-div_iff_mul-le}
 use Rattle.std.proofs.lemmas.Option.{cond_some}
-use Rattle.age_chunk.specs.ChunkBoxes.{IsChunkBox, tag_length}
+use Rattle.age_chunk.specs.ChunkBoxes.{IsChunkBox, tag_length, Seals, OpensBlock}
 use Rattle.age_chunk.specs.Payload.{nonce_bytes, chunk_limit, chunk_count, last_index, last_chunk, pair, sealed}
-use Rattle.age_stream.specs.Segment.{Segment, Outcome, outcome, unless_greatest, front_texts, whole_blocks, failed}
-use Rattle.age_stream.specs.Segment.{with_piece, stop}
+use Rattle.age_stream.specs.Segment.{Segment, Outcome, outcome, unless_greatest, front_texts, whole_blocks, failed, with_piece, stop}
 use Rattle.age_stream.specs.declared.step.Status.{Status}
 use Rattle.age_stream.specs.declared.step.Status.TheVariants.{Open, Done}
 use Rattle.age_chunk.specs.declared.fault.StreamKind.TheVariants.{ChunkDamaged, TooManyChunks}
@@ -24,13 +22,13 @@ use Rattle.age_stream.proofs.ChunkLemmas.{last_chunk_le, length-sealed, pair_bef
 use Rattle.age_stream.proofs.TableLemmas.{block_full, block_is, by_lines, front_is, outcome_is, texts_fit}
 
 -- a pair of the writer's, by its number
-pub record IsPair (sealing : List ℕ → List ℕ → List ℕ) (n : ℕ) (text : List ℕ) (nonce block : List ℕ) : Type 0 where
+pub record IsPair (sealing : Seals) (n : ℕ) (text : List ℕ) (nonce block : List ℕ) : Type 0 where
   pub at : ℕ
   pub below : at < chunk_count n text
   pub nonce_is : nonce ≡ nonce_bytes at (at + 1 == chunk_count n text)
   pub block_is : block ≡ sealing nonce (take n (drop (at * n) text))
 
-pair_at : (sealing : List ℕ → List ℕ → List ℕ) (n : ℕ) (text nonce block : List ℕ) (last : Bool) (i : ℕ) (x : List ℕ) → (nonce, block)
+pair_at : (sealing : Seals) (n : ℕ) (text nonce block : List ℕ) (last : Bool) (i : ℕ) (x : List ℕ) → (nonce, block)
     ≡ pair sealing last (i, x)
     → i < chunk_count n text → last ≡ (i + 1 == chunk_count n text) → x ≡ take n (drop (i * n) text) → IsPair sealing n text nonce block
 pair_at sealing n text nonce block last i x e below flag is =
@@ -42,7 +40,7 @@ pair_at sealing n text nonce block last i x e below flag is =
       block_is = ap (λ (p : List ℕ × List ℕ). p.1) e ∙ (ap (λ (m : List ℕ). sealing m x) (sym en) ∙ ap (sealing nonce) is);
     }
 
-pub IsPair-from_Contains : (sealing : List ℕ → List ℕ → List ℕ) (n : ℕ) (text nonce block : List ℕ) → 0 < n → Contains (sealed sealing n text) (nonce, block)
+pub IsPair-from_Contains : (sealing : Seals) (n : ℕ) (text nonce block : List ℕ) → 0 < n → Contains (sealed sealing n text) (nonce, block)
     → IsPair sealing n text nonce block
 IsPair-from_Contains sealing n text nonce block positive h =
     let q = last_index n text in
@@ -75,7 +73,7 @@ pub opens_before : (i : ℕ) (o : Option (List ℕ)) (x : List ℕ) → unless_g
 opens_before i None x e = cc
 opens_before i (Some y) x e = let t = cond_some (nat_lt (i + 1) chunk_limit) y x e in (t.0, ap Some t.1)
 
-module _ (sealing : List ℕ → List ℕ → List ℕ) (opening : List ℕ → List ℕ → Option (List ℕ)) (valid : IsChunkBox sealing opening)
+module _ (sealing : Seals) (opening : OpensBlock) (valid : IsChunkBox sealing opening)
     (n : ℕ) (text : List ℕ) (few : chunk_count n text ≤ chunk_limit) (positive : 0 < n) where
   pub writer_text : (i : ℕ) (last : Bool) (block x : List ℕ) → i < chunk_limit → opening (nonce_bytes i last) block ≡ Some x
       → IsWriters sealing opening n text (nonce_bytes i last) block → IsChunk n text i last x
@@ -178,8 +176,7 @@ module _ (sealing : List ℕ → List ℕ → List ℕ) (opening : List ℕ → 
       record { prefix = (drop (i * n) text, ap (λ (t : List ℕ). t ++ drop (i * n) text) e ∙ take-append-drop (i * n) text); done = λ d. absurd (ne d) }
 
   whole : (i : ℕ) (start : List ℕ) (texts : List (List ℕ)) (x : List ℕ) → start ++ flat_map (λ (t : List ℕ). t) texts ≡ take (i * n) text
-      → IsChunk n text i true x
-      → start ++ flat_map (λ (t : List ℕ). t) (texts ++ x ∷ []) ≡ text
+      → IsChunk n text i true x → start ++ flat_map (λ (t : List ℕ). t) (texts ++ x ∷ []) ≡ text
   whole i start texts x e c =
       sym (flat_map_more (λ (t : List ℕ). t) start texts x)
       ∙ (ap (λ (t : List ℕ). t ++ x) e ∙ (ap (λ (t : List ℕ). take (i * n) text ++ t) c.is

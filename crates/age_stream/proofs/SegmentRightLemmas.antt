@@ -1,7 +1,6 @@
 -- The headline of one segment, also of one that starts past the end of the text, and of an opener that was given it.
-use Rattle.std.proofs.Common.{inl, inr, ◌≡◌, ◌≢◌, ℕ, ◌<◌, ◌≤◌, ◌+◌, ◌*◌, ◌-◌, ◌/◌, refl, ap, sym, subst, ◌∙◌, List, [], ◌++◌, length, take, get_or}
-use Rattle.std.proofs.Common.{Bool, true, false, arith}
-use Rattle.std.specs.Prelude.{Option}
+use Rattle.std.proofs.Common.{inl, inr, ◌≡◌, ◌≢◌, ℕ, ◌<◌, ◌≤◌, ◌+◌, ◌*◌, ◌-◌, ◌/◌, refl, ap, sym, subst, ◌∙◌, List, [], ◌++◌, length, take, get_or, Bool, true}
+use Rattle.std.proofs.Common.{false, arith}
 use Rattle.std.specs.List.{flat_map}
 use Rattle.std.proofs.lemmas.Bool.{cases_lt}
 use Rattle.std.proofs.lemmas.Grind.{flat_map-append}
@@ -21,7 +20,7 @@ use Rattle.age_stream.proofs.UndamagedLemmas.{rest_segment, rest_payload, rest_i
 
 -- ---- A segment that starts past the end of the text.
 
-module _ (sealing : List ℕ → List ℕ → List ℕ) (opening : List ℕ → List ℕ → Option (List ℕ)) (valid : IsChunkBox sealing opening)
+module _ (sealing : Seals) (opening : OpensBlock) (valid : IsChunkBox sealing opening)
     (n : ℕ) (text : List ℕ) (few : chunk_count n text ≤ chunk_limit) (positive : 0 < n) where
   -- a chunk of the text begins within it
   within : (i : ℕ) (last : Bool) (x : List ℕ) → IsChunk n text i last x → i * n ≤ length text
@@ -67,7 +66,7 @@ module _ (sealing : List ℕ → List ℕ → List ℕ) (opening : List ℕ → 
 
 -- ---- Any segment.
 
-module _ (sealing : List ℕ → List ℕ → List ℕ) (opening : List ℕ → List ℕ → Option (List ℕ)) (valid : IsChunkBox sealing opening)
+module _ (sealing : Seals) (opening : OpensBlock) (valid : IsChunkBox sealing opening)
     (n : ℕ) (positive : 0 < n) where
   -- what is left of the payload is the writer's last blocks
   module _ (text : List ℕ) (few : chunk_count n text ≤ chunk_limit) (s : Segment) (rest : IsRest sealing opening n text s) where
@@ -131,8 +130,7 @@ module _ (sealing : List ℕ → List ℕ → List ℕ) (opening : List ℕ → 
 
 -- an opener that stands for the segment has its status
 pub opener_right : {B : Type 0} (sealing : B → Seals) (opening : B → OpensBlock) (n : ℕ) (key : B)
-    (new : OpenerView B)
-    → IsChunkBox (sealing key) (opening key) → 0 < n → new.key ≡ key → (s : Segment) (text : List ℕ) → Stands opening n new s
+    (new : OpenerView B) → IsChunkBox (sealing key) (opening key) → 0 < n → new.key ≡ key → (s : Segment) (text : List ℕ) → Stands opening n new s
     → released (opening key) n s ≡ text → ReleasesWritten (sealing key) (opening key) n s text new.status
 opener_right sealing opening n key new valid positive same s text h is =
     let op = opening key in

@@ -134,8 +134,7 @@ module _ (opening other : OpensBlock) (b : Frontier) (texts : List (List ℕ)) (
       → ((fault : StreamFault) → R (stays b (Failed fault)) (stays beside (Failed fault)))
       → (b.whole ≡ true → opening (nonce_bytes b.index false) b.block ≡ other (nonce_bytes b.index false) b.block)
       → (is_tried b ≡ true → opening (nonce_bytes b.index true) b.block ≡ other (nonce_bytes b.index true) b.block)
-      → ((text : List ℕ) → R (last_of b (Some text)) (last_of beside (Some text)))
-      → R (verdict opening b) (verdict other beside)
+      → ((text : List ℕ) → R (last_of b (Some text)) (last_of beside (Some text))) → R (verdict opening b) (verdict other beside)
   by_both R waits waiting fault before last opened =
       by_step R (is_waiting b) (is_waiting beside) _ _ _ _ waits waiting (λ unwaiting.
       by_step R (is_missing b) (is_missing b) _ _ _ _ refl (λ _. fault _) (λ _.

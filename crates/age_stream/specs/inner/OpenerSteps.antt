@@ -38,7 +38,12 @@ module _ (opening : OpensBlock) where
   -- what the last bytes of a segment give after these texts, if they make no whole block
   abbrev pub final_block : List (List ℕ) → ℕ → List ℕ → Bool → Bool → Outcome
   final_block texts i rest late ended = verdict opening (record {
-    texts = texts; index = i; block = rest; whole = false; followed = late; ended = ended;
+    texts = texts;
+    index = i;
+    block = rest;
+    whole = false;
+    followed = late;
+    ended = ended;
   })
 
   -- tried as the last block, with its text if it opened, whether bytes followed it, and whether the
@@ -66,7 +71,12 @@ module _ (opening : OpensBlock) where
   abbrev pub after_front : Option (List ℕ) → ℕ → List ℕ → Outcome
   after_front (Some text) i block = record { texts = text ∷ []; index = i + 1; status = Open }
   after_front None i block = verdict opening (record {
-    texts = []; index = i; block = block; whole = true; followed = false; ended = false;
+    texts = [];
+    index = i;
+    block = block;
+    whole = true;
+    followed = false;
+    ended = false;
   })
 
   abbrev pub one_block : ℕ → List ℕ → Outcome

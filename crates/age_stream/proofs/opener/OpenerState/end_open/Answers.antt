@@ -22,4 +22,3 @@ len-len-requires g c = list_fits c.args.self.now.sizes.1
 
 pub open_in-requires : goal.open_in-requires
 open_in-requires g c = (list_fits c.args.self.now.sizes.1, (omega arith, c.args.self.now.sizes.1))
-

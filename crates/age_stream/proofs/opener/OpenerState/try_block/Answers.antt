@@ -1,7 +1,7 @@
 use Rattle.std.proofs.Common.{refl, ◌∙◌, arith}
 use Rattle.age_chunk.specs.declared.fault.StreamKind.TheVariants.{ChunkDamaged}
 use Rattle.age_stream.specs.declared.step.Status.TheVariants.{LastSeen}
-use Rattle.age_stream.proofs.BlockLemmas.{last_in, neither_in, tried_text, tried_fault}
+use Rattle.age_stream.proofs.OpenerLemmas.{last_in, neither_in, tried_text, tried_fault}
 use Rattle.age_stream.proofs.SizeLemmas.{list_fits, opener_state_fits}
 use Rattle.age_stream.proofs.opener.OpenerState.try_block.Goals as goal
 

@@ -9,4 +9,3 @@ take_end-requires g c = replay_state_fits c.args.self.now.sizes.1
 
 pub restart-requires : goal.restart-requires
 restart-requires g c = replay_state_fits c.args.self.now.sizes.1
-

@@ -13,11 +13,3 @@ feed_all-requires g c =
       λ open_. subst (λ (k : ℕ). vec_len text + k ≤ vec_capacity text)
           (c.piece_room-room.ensures ∙ open_number _ _ open_) c.in_ok-reserve.ensures.ok,
     )
-
-pub returns-clause-fed : goal.returns-clause-fed
-returns-clause-fed g c = λ s h. c.feed_all.ensures.fed s (record {
-  key = h.key;
-  segment = h.segment;
-  text = c.reserve.ensures.items ∙ h.text;
-  refused = h.refused;
-})
