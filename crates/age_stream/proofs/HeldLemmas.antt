@@ -15,9 +15,8 @@ use Rattle.age_stream.specs.Laws.{AreWhole, IsClosed, RestIsAuthentic, WholeIsAu
 use Rattle.age_stream.specs.declared.delivery.Delivery.{Delivery}
 use Rattle.age_stream.specs.declared.delivery.Delivery.TheVariants.{Piece, End, Restart}
 use Rattle.age_stream.specs.declared.step.Status.TheVariants.{Done}
-use Rattle.age_stream.proofs.PlaceLemmas.{in_place, low_within}
 use Rattle.age_stream.proofs.SegmentLemmas.{released_segment, by_test, piece_start}
-use Rattle.age_stream.proofs.SegmentRightLemmas.{rest_done, rest_right}
+use Rattle.age_stream.proofs.SegmentRightLemmas.{in_place, low_within, rest_done, rest_right}
 
 -- ---- Where deliveries lead.
 
