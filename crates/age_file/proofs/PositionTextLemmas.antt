@@ -1,4 +1,3 @@
--- The parts of a position's text.
 use Rattle.std.proofs.Common.{◌≡◌, ℕ, ◌+◌, ◌-◌, ◌≤◌, ◌<◌, List, [], ◌∷◌, ◌++◌, length, take, drop, get_or, Result, Ok, Err, Option, Some, None, Bool, true}
 use Rattle.std.proofs.Common.{false, not, eqb, codes, refl, sym, ap, ◌∙◌, arith, append_assoc}
 use Rattle.std.proofs.lemmas.List.{length-append, take-append-drop, take_rest, length-drop, drop-drop, get_or-drop}
@@ -21,7 +20,7 @@ use Rattle.age_stanza.proofs.Base64Lemmas.{text_of_decoded, decoded_size, never_
 use Rattle.age_file.specs.declared.position.Position.{Position}
 use Rattle.age_file.specs.Bindings.{position_front}
 use Rattle.age_file.specs.Resumes.{position_text, IsDigest}
-use Rattle.age_file.specs.inner.PositionTexts.{index_text, field_text, fields_text}
+use Rattle.age_file.specs.inner.Parts.{index_text, field_text, fields_text}
 use Rattle.age_chunk.specs.Payload.{chunk_limit}
 
 -- a list that is cut where its second part begins

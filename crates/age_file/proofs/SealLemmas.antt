@@ -1,7 +1,7 @@
--- One feed of a sealer, and what then was written.
+-- Sealing a source, and what of the age file was written.
 use Rattle.std.proofs.Common.{◌≡◌, ℕ, ◌+◌, ◌-◌, ◌*◌, ◌^◌, ◌<◌, ◌≤◌, sym, ap, subst, ◌∙◌, List, [], ◌++◌, length, take, drop, Option, append-nil, append_assoc}
-use Rattle.std.proofs.Common.{take-append-drop, take-add, Bool, false, true, arith}
-use Rattle.std.specs.Prelude.{nat_lt, ◌==◌, ◌&&◌, ◌||◌}
+use Rattle.std.proofs.Common.{take-append-drop, take-add, Bool, false, true, arith, refl, ◌/◌, ◌∷◌, Result, Ok, Err, IfOk, IfErr}
+use Rattle.std.specs.Prelude.{nat_lt, ◌==◌, ◌&&◌, ◌||◌, map}
 use Rattle.std.proofs.Math.Nat.{div-le_self, div-mul-le_self}
 use Rattle.std.proofs.lemmas.Nat.{mul-le}
 use Rattle.std.specs.Borrow.{Bor}
@@ -9,16 +9,33 @@ use Rattle.std.proofs.lemmas.Bool.{ltb-true, eqb-true, and_parts}
 use Rattle.std.proofs.lemmas.Bool.Decides.{nat_tests}
 use Rattle.std.proofs.lemmas.List.{length-take, length-append, length-drop, take_rest, take_at}
 use Rattle.age_chunk.specs.ChunkBoxes.{IsChunkBox}
-use Rattle.age_chunk.specs.Payload.{chunk_limit, last_index, block_length}
+use Rattle.age_chunk.specs.Payload.{chunk_limit, last_index, block_length, pair, block_bytes, payload, sealed_before_last, last_chunk, chunk_length}
 use Rattle.age_stream.specs.Sealer.{SealerView, Holds, step_len, needs_too_many}
 use Rattle.age_stream.specs.Opener.{chunk_bytes}
-use Rattle.age_stream.proofs.LawLemmas.{payload_is_longer}
-use Rattle.age_fault.specs.Faults.{HasFailed}
-use Rattle.age_file.specs.inner.Readers.{WriterView}
-use Rattle.age_file.specs.inner.Seals.{front_of, IsTooLong, SealsSome, GoesOn, SealFails, HasRoom, Wrote}
+use Rattle.age_stream.proofs.LawLemmas.{payload_is_longer, sealed_grows}
+use Rattle.age_fault.specs.Faults.{HasFailed, Writes}
+use Rattle.age_file.specs.inner.Readers.{WriterView, ReaderView, PullFails}
+use Rattle.age_file.specs.inner.Seals.{front_of, IsTooLong, SealsSome, GoesOn, SealFails, HasRoom, Wrote, SealingFails, SealsFront, SealsSource, BeginsFile}
+use Rattle.age_file.specs.inner.Seals.{FrontFails, WritesFront, SealsAll}
 use Rattle.age_fault.specs.declared.fault.FileFault.{FileFault}
-use Rattle.age_fault.specs.declared.fault.FileFault.TheVariants.{Stream, Write}
+use Rattle.age_fault.specs.declared.fault.FileFault.TheVariants.{Stream, Write, Read, ReadNeverEnds, Memory}
 use Rattle.age_io.proofs.TakenLemmas.{Appends-trans}
+use Rattle.std.specs.List.{enumerate_from}
+use Rattle.std.specs.Simd.{first_chunks}
+use Rattle.std.proofs.lemmas.Grind.{flat_map-append}
+use Rattle.age_stream.specs.Headline.{IsPrefixOf}
+use Rattle.age_io.specs.Io.{SourceView, SinkView}
+use Rattle.age_file.specs.Runs.{Ports, pull_room, ports, NoneFailed, WriteFailed}
+use Rattle.age_file.proofs.ReadLemmas.{prefix_trans}
+use Rattle.age_io.specs.Taken.{Appends}
+use Rattle.age_io.specs.Supply.{Consumes}
+use Rattle.age_io.proofs.SupplyLemmas.{Consumes-nil}
+use Rattle.age_keys.specs.Keys.{header_mac, IsMacOf, box}
+use Rattle.age_keys.specs.Scrypt.{scrypt_head}
+use Rattle.age_file.specs.Encrypts.{AgeFile, Encrypts, EncryptsFront, EncryptFails, WhyStopped, without_last, SecretView}
+use Rattle.age_file.specs.declared.encryption.Written.{Written}
+
+-- ---- One feed of a sealer, and what then was written.
 
 pub step_len_le : (m : ℕ) (held piece : List ℕ) → step_len m held piece ≤ length piece
 step_len_le m held piece = grind (arith, nat_tests)
@@ -162,3 +179,274 @@ room_left sealing opening n a b was now piece at valid most room some =
     let product : length (text ++ fed) * block_length ≤ 2 ^ 96 * block_length =
     mul-le (length (text ++ fed)) block_length (2 ^ 96) block_length short (omega arith) in
     omega (arith, some.wrote.count, room.count, len, fits, product)
+
+-- ---- A source's text, piece by piece, and what of its payload was written.
+
+-- the blocks before the last begin the payload
+pub front_begins : (sealing : List ℕ → List ℕ → List ℕ) (n : ℕ) (text : List ℕ) → IsPrefixOf (front_of sealing n text) (payload sealing n text)
+front_begins sealing n text = (
+  block_bytes (pair sealing true (last_index n text, last_chunk n text) ∷ []),
+  sym (flat_map-append (λ (p : List ℕ × List ℕ). p.1) (sealed_before_last sealing n text)
+      (pair sealing true (last_index n text, last_chunk n text) ∷ [])),
+)
+
+-- no text has no such blocks
+pub no_front : (sealing : List ℕ → List ℕ → List ℕ) (n : ℕ) → 0 < n → front_of sealing n [] ≡ []
+no_front sealing n positive =
+    let zero : 0 / n ≡ 0 = omega arith in
+    ap (λ (q : ℕ). block_bytes (map (pair sealing false) (enumerate_from 0 (first_chunks n q [])))) zero
+
+module _ {B : Type 0} (sealing : B → List ℕ → List ℕ → List ℕ) (n : ℕ) (a b d : SealerView B) (was mid now : WriterView)
+    (text piece fed left unwritten : List ℕ) (goes : GoesOn sealing n a b text)
+    (fresh : Holds n a []) (wrote : Wrote was mid (front_of (sealing a.key) n text))
+    (some : SealsSome sealing n b d mid now piece fed left unwritten) (positive : 0 < n) where
+  -- the blocks that the piece brought
+  brought : front_of (sealing a.key) n (text ++ fed) ≡ front_of (sealing a.key) n text ++ (some.out ++ unwritten)
+  brought =
+      ap (λ (k : B). front_of (sealing k) n (text ++ fed)) (sym goes.key) ∙ (some.blocks text (goes.holds [] fresh)
+      ∙ ap (λ (k : B). front_of (sealing k) n text ++ (some.out ++ unwritten)) goes.key)
+
+  both : Wrote was now (front_of (sealing a.key) n text ++ some.out)
+  both =
+      record {
+        bytes = Appends-trans was.sink.taken mid.sink.taken now.sink.taken (front_of (sealing a.key) n text) some.out wrote.bytes some.wrote.bytes;
+        count = omega (arith, wrote.count, some.wrote.count, length-append (front_of (sealing a.key) n text) some.out);
+        named = some.wrote.named ∙ wrote.named;
+      }
+
+  -- a whole piece
+  pub piece_done : left ≡ [] → unwritten ≡ [] → GoesOn sealing n b d fed → GoesOn sealing n a d (text ++ piece)
+      × Wrote was now (front_of (sealing a.key) n (text ++ piece))
+  piece_done none whole more =
+      let same : fed ≡ piece = sym (some.parts ∙ ap (λ (t : List ℕ). fed ++ t) none ∙ append-nil fed) in
+      let blocks : front_of (sealing a.key) n text ++ some.out ≡ front_of (sealing a.key) n (text ++ piece) =
+      ap (λ (t : List ℕ). front_of (sealing a.key) n text ++ t) (sym (append-nil some.out) ∙ ap (λ (t : List ℕ). some.out ++ t) (sym whole))
+      ∙ (sym brought ∙ ap (λ (t : List ℕ). front_of (sealing a.key) n (text ++ t)) same) in (
+        subst (λ (t : List ℕ). GoesOn sealing n a d (text ++ t)) same (goes_then sealing n a b d text fed goes more),
+        subst (λ (t : List ℕ). Wrote was now t) blocks both,
+      )
+
+  -- a piece at which it stopped
+  pub piece_cut : (out : List ℕ) × Wrote was now out × IsPrefixOf out (payload (sealing a.key) n (text ++ piece))
+  piece_cut =
+      let key = sealing a.key in
+      let first : IsPrefixOf (front_of key n text ++ some.out) (front_of key n (text ++ fed)) = (
+        unwritten,
+        append_assoc (front_of key n text) some.out unwritten ∙ sym brought,
+      ) in
+      let grown = sealed_grows key n (text ++ fed) left positive in
+      let whole : (text ++ fed) ++ left ≡ text ++ piece = append_assoc text fed left ∙ ap (λ (t : List ℕ). text ++ t) (sym some.parts) in
+      let second : IsPrefixOf (front_of key n (text ++ fed)) (payload key n (text ++ piece)) =
+      subst (λ (t : List ℕ). IsPrefixOf (front_of key n (text ++ fed)) (payload key n t)) whole
+      (prefix_trans _ _ _ grown (front_begins key n ((text ++ fed) ++ left))) in
+      (front_of key n text ++ some.out, both, prefix_trans _ _ _ first second)
+
+-- why no more came
+pub pull_fails : (sealing : List ℕ → List ℕ → List ℕ) (n : ℕ) (old new : Ports) (text : List ℕ) (x z : ReaderView) (fault : FileFault)
+    → x.source.failed ≡ old.source.failed → new.source ≡ z.source → new.sink.failed ≡ old.sink.failed → z.unread.pulls ≤ length text
+    → length text ≤ pull_room * z.unread.pulls → PullFails x z fault → SealingFails sealing n old new text (front_of sealing n text) fault
+pull_fails sealing n old new text x z Read same is kept gave small f = (
+  refl,
+  (
+    subst (λ (k : ℕ). HasFailed k new.source.failed new.source.failing) same
+        (subst (λ (s : SourceView). HasFailed x.source.failed s.failed s.failing) (sym is) f),
+    kept,
+  ),
+)
+pull_fails sealing n old new text x z ReadNeverEnds same is kept gave small f = (
+  refl,
+  (omega (arith, gave, f.0), omega (arith, small, f.0)),
+  (ap (λ (s : SourceView). s.failed) is ∙ (f.1 ∙ same), kept),
+)
+pull_fails sealing n old new text x z other same is kept gave small f = absurd f
+
+-- why a piece wasn't sealed
+pub seal_fails : {B : Type 0} (sealing : B → List ℕ → List ℕ → List ℕ) (n : ℕ) (a b : SealerView B) (old new : Ports) (was now : WriterView)
+    (text piece out : List ℕ) (fault : FileFault) → was.sink.failed ≡ old.sink.failed → new.sink ≡ now.sink
+    → new.source.failed ≡ old.source.failed → GoesOn sealing n a b text → Holds n a [] → SealFails sealing n b was now piece fault
+    → SealingFails (sealing a.key) n old new (text ++ piece) out fault
+seal_fails sealing n a b old new was now text piece out (Stream fault) same is read goes fresh f =
+    (f.0 text (goes.holds [] fresh), f.1, (read, ap (λ (s : SinkView). s.failed) is ∙ (f.2 ∙ same)))
+seal_fails sealing n a b old new was now text piece out Write same is read goes fresh f = (
+  subst (λ (k : ℕ). HasFailed k new.sink.failed new.sink.failing) same
+      (subst (λ (s : SinkView). HasFailed was.sink.failed s.failed s.failing) (sym is) f),
+  read,
+)
+seal_fails sealing n a b old new was now text piece out other same is read goes fresh f = absurd f
+
+-- a source wasn't sealed to its end, by the key that its sealer was made with
+pub sealing_failed : {B : Type 0} (sealing : B → List ℕ → List ℕ → List ℕ) (n : ℕ) (k key : B) (old new : Ports)
+    (was now : ℕ) (fault : FileFault) → k ≡ key → SealsFront (sealing k) n old new was now fault
+    → new.sink.label ≡ old.sink.label → SealsSource (sealing key) n old new was now (Err fault)
+sealing_failed {B} sealing n k key old new was now fault same front named = record {
+  done = tt;
+  counted = tt;
+  fails = subst (λ (c : B). SealsFront (sealing c) n old new was now fault) same front;
+  settled = tt;
+  named = named;
+}
+
+-- ---- the last block
+
+module _ {B : Type 0} (sealing : B → List ℕ → List ℕ → List ℕ) (n : ℕ) (a b : SealerView B) (was mid now : WriterView) (text : List ℕ)
+    (key : b.key ≡ a.key) (holds : Holds n b text) (wrote : Wrote was mid (front_of (sealing a.key) n text)) (out unwritten : List ℕ)
+    (last : Wrote mid now out) (blocks : (t : List ℕ) → Holds n b t
+    → payload (sealing b.key) n t ≡ front_of (sealing b.key) n t ++ (out ++ unwritten)) where
+  whole : payload (sealing a.key) n text ≡ (front_of (sealing a.key) n text ++ out) ++ unwritten
+  whole =
+      ap (λ (k : B). payload (sealing k) n text) (sym key)
+      ∙ (blocks text holds ∙ (ap (λ (k : B). front_of (sealing k) n text ++ (out ++ unwritten)) key
+      ∙ sym (append_assoc (front_of (sealing a.key) n text) out unwritten)))
+
+  pub last_written : Wrote was now (front_of (sealing a.key) n text ++ out)
+  last_written =
+      record {
+        bytes = Appends-trans was.sink.taken mid.sink.taken now.sink.taken (front_of (sealing a.key) n text) out wrote.bytes last.bytes;
+        count = omega (arith, wrote.count, last.count, length-append (front_of (sealing a.key) n text) out);
+        named = last.named ∙ wrote.named;
+      }
+
+  pub last_begins : IsPrefixOf (front_of (sealing a.key) n text ++ out) (payload (sealing a.key) n text)
+  last_begins = (unwritten, sym whole)
+
+  pub last_whole : unwritten ≡ [] → Wrote was now (payload (sealing a.key) n text)
+  last_whole none = subst (λ (t : List ℕ). Wrote was now t) (sym (whole ∙ ap (λ (t : List ℕ). (front_of (sealing a.key) n text ++ out) ++ t) none
+      ∙ append-nil (front_of (sealing a.key) n text ++ out))) last_written
+
+-- ---- A file's front, and what of the file was written.
+
+mac_holds : (pass : List ℕ) (log : ℕ) (salt key : List ℕ) → IsMacOf (scrypt_head pass log salt key) key
+unfolding scrypt_head header_mac
+mac_holds pass log salt key = refl
+
+module _ (s : SecretView) (front : List ℕ) (begins : BeginsFile s front) where
+  pub file_of : (text : List ℕ) → AgeFile s text (front ++ payload (box s.key s.nonce) chunk_length text)
+  file_of text =
+      record {
+        front = begins.front;
+        head = begins.head;
+        mac = mac_holds s.pass s.log s.salt s.key;
+        size = begins.size;
+        parts = ap (λ (t : List ℕ). t ++ payload (box s.key s.nonce) chunk_length text) begins.parts;
+      }
+
+  -- the sink failed in the front
+  pub front_cut : (old new : Ports) (coming : new.source.supply ≡ old.source.supply) (failed : WriteFailed old new)
+      (out unwritten : List ℕ) → front ≡ out ++ unwritten → Appends old.sink.taken new.sink.taken out → EncryptsFront s old new Write
+  unfolding file_of
+  front_cut old new coming failed out unwritten parts wrote =
+      record {
+        text = [];
+        file = front ++ payload (box s.key s.nonce) chunk_length [];
+        out = out;
+        is = file_of [];
+        read = subst (λ t. Consumes old.source.supply t []) (sym coming) (Consumes-nil old.source.supply);
+        wrote = wrote;
+        prefix = (
+          unwritten ++ payload (box s.key s.nonce) chunk_length [],
+          sym (append_assoc out unwritten (payload (box s.key s.nonce) chunk_length []))
+              ∙ ap (λ (t : List ℕ). t ++ payload (box s.key s.nonce) chunk_length []) (sym parts),
+        );
+        why = failed;
+      }
+
+  -- the payload that followed
+  module _ (old mid new : Ports) (mid_written new_written : ℕ) (coming : mid.source.supply ≡ old.source.supply) (read_failed : mid.source.failed
+      ≡ old.source.failed) (write_failed : mid.sink.failed ≡ old.sink.failed) (wrote : Appends old.sink.taken mid.sink.taken front)
+      (count : mid_written ≡ length front) where
+    sealed_all : (w : Written) → w.file ≡ new_written → SealsAll (box s.key s.nonce) chunk_length mid new mid_written new_written w.plain
+        → Encrypts s old new w
+    sealed_all w all a =
+        record {
+          text = a.text;
+          file = front ++ payload (box s.key s.nonce) chunk_length a.text;
+          few = a.few;
+          is = file_of a.text;
+          read = subst (λ t. Consumes t new.source.supply a.text) coming a.moved.read;
+          at_end = a.at_end;
+          wrote = Appends-trans old.sink.taken mid.sink.taken new.sink.taken front
+              (payload (box s.key s.nonce) chunk_length a.text) wrote a.moved.wrote;
+          plain_is = a.plain_is;
+          file_is = omega (arith, all, a.moved.count, count, length-append front (payload (box s.key s.nonce) chunk_length a.text));
+          none_failed = (a.none_failed.0 ∙ read_failed, a.none_failed.1 ∙ write_failed);
+        }
+
+    pub file_done : (result : Result Written FileFault) → IfOk result (λ w. w.file ≡ new_written)
+        → IfOk result (λ w. SealsAll (box s.key s.nonce) chunk_length mid new mid_written new_written w.plain) → IfOk result (Encrypts s old new)
+    file_done (Ok w) all a = sealed_all w all a
+    file_done (Err fault) all a = tt
+
+    none_failed : NoneFailed mid new → NoneFailed old new
+    none_failed f = (f.0 ∙ read_failed, f.1 ∙ write_failed)
+
+    -- the blocks before the last, after what stands before them
+    last_missing : (text out : List ℕ) → out ≡ front_of (box s.key s.nonce) chunk_length text → front ++ out ≡ without_last s begins.front text
+    last_missing text out e =
+        ap (λ (t : List ℕ). front ++ t) e ∙ ap (λ (t : List ℕ). t ++ front_of (box s.key s.nonce) chunk_length text) begins.parts
+
+    why_stopped : (text out : List ℕ) (fault : FileFault) → SealingFails (box s.key s.nonce) chunk_length mid new text out fault
+        → WhyStopped s old new begins.front text (front ++ out) fault
+    why_stopped text out (Stream fault) f = (omega (arith, f.0), f.1, none_failed f.2)
+    why_stopped text out Read f = (
+      last_missing text out f.0,
+      (subst (λ (k : ℕ). HasFailed k new.source.failed new.source.failing) read_failed f.1.0, f.1.1 ∙ write_failed),
+    )
+    why_stopped text out Write f = (subst (λ (k : ℕ). HasFailed k new.sink.failed new.sink.failing) write_failed f.0, f.1 ∙ read_failed)
+    why_stopped text out ReadNeverEnds f = (last_missing text out f.0, f.1, none_failed f.2)
+    why_stopped text out other f = absurd f
+
+    stopped : (fault : FileFault) → SealsFront (box s.key s.nonce) chunk_length mid new mid_written new_written fault → EncryptsFront s old new fault
+    unfolding file_of
+    stopped fault a =
+        record {
+          text = a.text;
+          file = front ++ payload (box s.key s.nonce) chunk_length a.text;
+          out = front ++ a.out;
+          is = file_of a.text;
+          read = subst (λ t. Consumes t new.source.supply a.text) coming a.moved.read;
+          wrote = Appends-trans old.sink.taken mid.sink.taken new.sink.taken front a.out wrote a.moved.wrote;
+          prefix = (a.prefix.0, append_assoc front a.out a.prefix.0 ∙ ap (λ (t : List ℕ). front ++ t) a.prefix.1);
+          why = why_stopped a.text a.out fault a.fails;
+        }
+
+    sealing_stopped : (fault : FileFault) → SealsFront (box s.key s.nonce) chunk_length mid new mid_written new_written fault
+        → EncryptFails s old new fault
+    sealing_stopped Memory a = absurd a.fails
+    sealing_stopped other a = stopped other a
+
+    pub file_stopped : (result : Result Written FileFault)
+        → IfErr result (SealsFront (box s.key s.nonce) chunk_length mid new mid_written new_written) → IfErr result (EncryptFails s old new)
+    file_stopped (Ok w) a = tt
+    file_stopped (Err fault) a = sealing_stopped fault a
+
+-- what stands before the payload was not written
+pub front_fails : (s : SecretView) (source : SourceView) (was now : WriterView) (fault : FileFault) → FrontFails s was now fault
+    → EncryptFails s (ports source was.sink) (ports source now.sink) fault
+front_fails s source was now Memory f = ap (λ w. ports source w.sink) f
+front_fails s source was now Write f =
+    front_cut s f.front f.begins (ports source was.sink) (ports source now.sink) refl (f.failed, refl) f.out f.unwritten f.parts f.wrote
+front_fails s source was now other f = absurd f
+
+-- all of it was, or a front of it
+pub front_written : (s : SecretView) (was now : WriterView) (bytes : List ℕ) → BeginsFile s bytes → was.tally.written ≡ 0
+    → (result : Result (Unit {0}) FileFault) → Writes was.sink now.sink was.tally.written now.tally.written bytes result
+    → IfErr result (λ fault. fault ≡ Write) → WritesFront s was now result
+front_written s was now bytes begins zero (Ok done) put is =
+    let whole : put.out ≡ bytes = sym (put.parts ∙ ap (λ (t : List ℕ). put.out ++ t) put.answered.0 ∙ append-nil put.out) in
+    record {
+      front = bytes;
+      begins = begins;
+      wrote = subst (λ (t : List ℕ). Appends was.sink.taken now.sink.taken t) whole put.wrote;
+      count = omega (arith, put.count, zero, ap length whole);
+      failed = put.answered.1;
+    }
+front_written s was now bytes begins zero (Err fault) put is =
+    subst (λ (f : FileFault). FrontFails s was now f) (sym is) (record {
+      front = bytes;
+      begins = begins;
+      out = put.out;
+      unwritten = put.unwritten;
+      parts = put.parts;
+      wrote = put.wrote;
+      failed = put.answered;
+    })

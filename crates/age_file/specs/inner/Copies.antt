@@ -1,7 +1,7 @@
 -- What reading the nonce, skipping blocks and copying the old text do. Private: no public contract
 -- cites this module.
-use Rattle.std.specs.Prelude.{◌≡◌, ℕ, ◌^◌, ◌<◌, ◌≤◌, List, [], ◌++◌, length, Result, Bool}
-use Rattle.std.specs.Prelude.{Ok, Err, true, false, ◌+◌, ◌*◌, ◌/◌, ◌≢◌, Some, IsSome, MatchResult}
+use Rattle.std.specs.Prelude.{◌≡◌, ℕ, ◌^◌, ◌<◌, ◌≤◌, List, [], ◌++◌, length, Result, Bool, Ok, Err, true}
+use Rattle.std.specs.Prelude.{false, ◌+◌, ◌*◌, ◌/◌, ◌≢◌, Some, IsSome, MatchResult}
 use Rattle.age_io.specs.Taken.{Appends}
 use Rattle.age_io.specs.Supply.{IsAtEnd}
 use Rattle.std.specs.Simd.{first_chunks}
@@ -22,8 +22,7 @@ use Rattle.age_file.specs.Bindings.{file_id, chain}
 use Rattle.age_file.specs.inner.Readers.{Start, start_at, ReaderView, Pulled, PullFails, reader_view}
 use Rattle.age_file.specs.inner.Readers.{WriterView}
 use Rattle.age_file.specs.Runs.{pull_room}
-use Rattle.age_file.specs.inner.Bindings.{link_if, chain_if}
-use Rattle.age_file.specs.inner.Unread.{Unread}
+use Rattle.age_file.specs.inner.Parts.{link_if, chain_if, Unread}
 use Rattle.age_file.specs.declared.position.Position.{Position}
 use Rattle.age_file.specs.declared.position.PositionPolicy.{PositionPolicy}
 use Rattle.age_file.specs.declared.position.PositionPolicy.TheVariants.{Kept}

@@ -1,7 +1,7 @@
 -- Where a run stands, what pulls into the intake did, and a header that is being read. Private: no
 -- public contract cites this module.
-use Rattle.std.specs.Prelude.{◌≡◌, ℕ, ◌+◌, ◌*◌, ◌^◌, ◌<◌, ◌≤◌, List, [], ◌++◌, length, Option}
-use Rattle.std.specs.Prelude.{Result, Ok, Err, Bool, true, false, ◌⊎◌, take, drop, Some, None}
+use Rattle.std.specs.Prelude.{◌≡◌, ℕ, ◌+◌, ◌*◌, ◌^◌, ◌<◌, ◌≤◌, List, [], ◌++◌, length, Option, Result, Ok}
+use Rattle.std.specs.Prelude.{Err, Bool, true, false, ◌⊎◌, take, drop, Some, None}
 use Rattle.age_io.specs.Supply.{Supply, Consumes, IsAtEnd}
 use Rattle.sha2.specs.Hashers.{Holds256}
 use Rattle.age_stanza.specs.Grammar.{HeadText}
@@ -13,7 +13,7 @@ use Rattle.age_fault.specs.Faults.{HasFailed}
 use Rattle.age_fault.specs.declared.fault.FileFault.{FileFault}
 use Rattle.age_fault.specs.declared.fault.FileFault.TheVariants.{Read, ReadNeverEnds}
 use Rattle.age_file.specs.Runs.{Ports, ports, pull_room, StopsAtHeader, EndsInHeader}
-use Rattle.age_file.specs.inner.Unread.{Unread}
+use Rattle.age_file.specs.inner.Parts.{Unread}
 use Rattle.age_file.specs.declared.tally.Tally.{Tally}
 use Rattle.age_file.specs.declared.reader.Reader.{Reader}
 use Rattle.age_file.specs.declared.reader.Writer.{Writer}

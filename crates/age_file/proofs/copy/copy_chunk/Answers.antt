@@ -1,17 +1,15 @@
 use Rattle.std.proofs.Common.{◌≡◌, ◌++◌, ◌+◌, ◌<◌, ◌∙◌, ℕ, List, Option, Some, [], refl, sym, ap, subst, take, length, arith, append-nil, append_assoc}
 use Rattle.std.proofs.lemmas.Result.{err_from_is_err_and}
 use Rattle.std.proofs.lemmas.List.{length-append, length-take}
-use Rattle.age_io.proofs.TakenLemmas.{Appends-nil}
+use Rattle.age_io.proofs.TakenLemmas.{Appends-nil, Appends-trans}
 use Rattle.age_io.specs.Taken.{Appends}
 use Rattle.sha2.specs.Hashers.{Holds256}
 use Rattle.age_stream.specs.Headline.{IsPrefixOf}
 use Rattle.age_fault.specs.Faults.{HasFailed}
 use Rattle.age_file.specs.inner.Readers.{view_of_reader, view_of_writer}
-use Rattle.age_file.specs.inner.Bindings.{link_if}
-use Rattle.age_io.proofs.TakenLemmas.{Appends-trans}
-use Rattle.age_file.proofs.StartLemmas.{uses_front}
-use Rattle.age_file.proofs.SkipLemmas.{passes_then, passes_same, dries_same}
-use Rattle.age_file.proofs.CopyLemmas.{copy_dry, front_written}
+use Rattle.age_file.specs.inner.Parts.{link_if}
+use Rattle.age_file.proofs.ReadLemmas.{uses_front, passes_then, passes_same, dries_same}
+use Rattle.age_file.proofs.ResumeLemmas.{copy_dry, front_written}
 use Rattle.age_file.proofs.copy.copy_chunk.Goals as goal
 
 pub parts-init : goal.parts-init

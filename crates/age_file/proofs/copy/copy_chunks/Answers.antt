@@ -2,12 +2,11 @@ use Rattle.std.proofs.Common.{◌≡◌, ◌++◌, ◌∙◌, ◌+◌, ℕ, List
 use Rattle.std.proofs.lemmas.Result.{err_from_is_err_and}
 use Rattle.std.proofs.lemmas.List.{length-append}
 use Rattle.std.specs.Simd.{first_chunks}
-use Rattle.age_file.specs.inner.Bindings.{chain_if, link_if}
+use Rattle.age_file.specs.inner.Parts.{chain_if, link_if}
 use Rattle.age_file.specs.declared.position.PositionPolicy.TheVariants.{Kept}
-use Rattle.age_io.proofs.TakenLemmas.{Appends-trans}
-use Rattle.age_file.proofs.SkipLemmas.{passes_then}
-use Rattle.age_file.proofs.CopyLemmas.{chain_more, chunk_failed}
-use Rattle.age_io.proofs.TakenLemmas.{Appends-nil}
+use Rattle.age_io.proofs.TakenLemmas.{Appends-trans, Appends-nil}
+use Rattle.age_file.proofs.ReadLemmas.{passes_then}
+use Rattle.age_file.proofs.ResumeLemmas.{chain_more, chunk_failed}
 use Rattle.age_file.specs.inner.Readers.{view_of_reader, view_of_writer}
 use Rattle.age_chunk.specs.Payload.{chunk_length}
 use Rattle.age_file.proofs.copy.copy_chunks.Goals as goal

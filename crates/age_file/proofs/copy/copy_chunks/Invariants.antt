@@ -1,7 +1,7 @@
 use Rattle.std.proofs.Common.{◌≡◌, ◌*◌, ℕ, List, length}
 use Rattle.age_io.specs.Taken.{Appends}
 use Rattle.std.specs.Simd.{first_chunks}
-use Rattle.age_file.specs.inner.Bindings.{chain_if}
+use Rattle.age_file.specs.inner.Parts.{chain_if}
 use Rattle.age_file.specs.declared.position.PositionPolicy.TheVariants.{Kept}
 use Rattle.age_file.specs.inner.Copies.{Passes}
 use Rattle.age_file.specs.inner.Readers.{view_of_reader, SameReader, KeepsOrigin, SameWriter}

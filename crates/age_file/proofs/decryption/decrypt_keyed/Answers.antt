@@ -1,11 +1,10 @@
 use Rattle.std.proofs.Common.{◌++◌, arith, refl, rules, Err, None, Some, subst, List, ℕ, ◌≡◌}
 use Rattle.std.proofs.lemmas.List.{length-append}
-use Rattle.age_file.proofs.ByteLemmas.{stops_unread}
+use Rattle.age_file.proofs.ReadLemmas.{stops_unread, read_last, ports_last}
 use Rattle.age_file.specs.Runs.{ports}
 use Rattle.age_file.specs.inner.Readers.{writer_view, stage, view_of_reader, stage_of}
 use Rattle.age_file.specs.Decrypts.{DecryptsKeyed}
-use Rattle.age_file.proofs.ReaderLemmas.{read_last, ports_last}
-use Rattle.age_file.proofs.DecryptLemmas.{run_ended, stopped_early}
+use Rattle.age_file.proofs.ResumeLemmas.{run_ended, stopped_at_start}
 use Rattle.age_fault.specs.declared.fault.FileFault.TheVariants.{Memory}
 use Rattle.age_file.proofs.decryption.decrypt_keyed.Goals as goal
 
@@ -14,7 +13,7 @@ returns-in_default-clause-decrypts g c =
     let old = ports (g.S.Source.view c.args.reader.now) (g.O.Sink.view c.args.writer.now) in
     let Allows = g.U.Unlock.allows c.args.unlock in
     let Refused = g.U.Unlock.refuses c.args.unlock in
-    rw c.early.ensures (stopped_early c.args.positions Allows Refused old old Memory refl (stops_unread _))
+    rw c.early.ensures (stopped_at_start c.args.positions Allows Refused old old Memory refl (stops_unread _))
 
 pub returns-in-Err-clause-decrypts : goal.returns-in-Err-clause-decrypts
 returns-in-Err-clause-decrypts g c =
@@ -22,7 +21,7 @@ returns-in-Err-clause-decrypts g c =
     let new = ports (g.S.Source.view c.start_once.new.reader.source.now) (g.O.Sink.view c.args.writer.now) in
     let Allows = g.U.Unlock.allows c.args.unlock in
     let Refused = g.U.Unlock.refuses c.args.unlock in
-    let early = stopped_early c.args.positions Allows Refused old new c.in-Err.fault refl c.in-Err.ensures.fails in
+    let early = stopped_at_start c.args.positions Allows Refused old new c.in-Err.fault refl c.in-Err.ensures.fails in
     rw c.early-in-Err.ensures (read_last g.S.Source.view (λ v. DecryptsKeyed c.args.positions Allows Refused old
     (ports v (g.O.Sink.view c.args.writer.now)) (Err (record { fault = c.in-Err.fault; written = 0; position = None })) None)
     _ c.start_once.new.reader.source.now (search rules) early)

@@ -5,9 +5,9 @@ use Rattle.age_keys.specs.Keys.{payload_key}
 use Rattle.age_file.specs.Runs.{ports}
 use Rattle.age_file.specs.inner.Seals.{SealsAll, SealsFront}
 use Rattle.age_file.specs.inner.Readers.{view_of_writer, writer_view}
-use Rattle.age_file.proofs.EncryptLemmas.{front_fails, file_done, file_stopped}
+use Rattle.age_file.proofs.SealLemmas.{front_fails, file_done, file_stopped}
 use Rattle.age_file.specs.Encrypts.{Encrypts, EncryptFails}
-use Rattle.age_file.proofs.ReaderLemmas.{ports_last}
+use Rattle.age_file.proofs.ReadLemmas.{ports_last}
 use Rattle.age_chunk.specs.Payload.{chunk_length}
 use Rattle.age_file.proofs.encryption.encrypt.Goals as goal
 

@@ -1,7 +1,7 @@
 use Rattle.std.proofs.Common.{sym, subst, List, ℕ}
 use Rattle.age_file.specs.inner.Seals.{BeginsFile}
 use Rattle.age_file.specs.inner.Readers.{view_of_writer}
-use Rattle.age_file.proofs.EncryptLemmas.{front_written}
+use Rattle.age_file.proofs.SealLemmas.{front_written}
 use Rattle.age_file.proofs.encryption.write_front.Goals as goal
 
 pub returns-clause-wrote : goal.returns-clause-wrote

@@ -2,7 +2,7 @@ use Rattle.std.proofs.Common.{◌++◌, ◌∙◌, arith}
 use Rattle.std.proofs.lemmas.List.{length-append}
 use Rattle.std.proofs.lemmas.Result.{err_from_is_err_and}
 use Rattle.age_file.specs.inner.Readers.{RestFails, reader_view, view_of_reader}
-use Rattle.age_file.proofs.ByteLemmas.{rest_pulled, cut_pulled, pull_fails_since}
+use Rattle.age_file.proofs.ReadLemmas.{rest_pulled, cut_pulled, pull_fails_since}
 use Rattle.age_file.proofs.inspection.count_rest.Goals as goal
 
 pub returns-clause-counts : goal.returns-clause-counts

@@ -7,8 +7,7 @@ use Rattle.age_file.specs.Runs.{InHeader, NoHeadFault, StopsAtHeader, HeadFails}
 use Rattle.age_file.specs.inner.Readers.{start_at, Pulled, RestFails, ReaderView, view_of_reader}
 use Rattle.age_io.specs.Io.{SourceView}
 use Rattle.age_fault.specs.declared.fault.FileFault.{FileFault}
-use Rattle.age_file.proofs.ByteLemmas.{stops_unread, sound_too, pull_fails}
-use Rattle.age_file.proofs.ReaderLemmas.{read_last}
+use Rattle.age_file.proofs.ReadLemmas.{stops_unread, sound_too, pull_fails, read_last}
 use Rattle.age_file.proofs.inspection.inspect.Goals as goal
 
 -- a rest that could not be read, after a header that was

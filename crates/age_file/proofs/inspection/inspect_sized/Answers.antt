@@ -2,9 +2,7 @@ use Rattle.std.proofs.Common.{◌≡◌, ◌++◌, rules}
 use Rattle.std.proofs.lemmas.Result.{err_from_is_err_and}
 use Rattle.age_io.specs.Supply.{Consumes}
 use Rattle.age_file.specs.Runs.{InHeader, StopsAtHeader, HeadFails}
-use Rattle.age_file.proofs.ByteLemmas.{stops_unread}
-use Rattle.age_file.proofs.ReaderLemmas.{read_last}
-use Rattle.age_file.proofs.InspectLemmas.{whole_of}
+use Rattle.age_file.proofs.ReadLemmas.{stops_unread, read_last, whole_of}
 use Rattle.age_file.proofs.inspection.inspect_sized.Goals as goal
 
 pub returns-in_err-intake-clause-fails : goal.returns-in_err-intake-clause-fails

@@ -6,7 +6,7 @@ use Rattle.age_stream.specs.Segment.{with_piece}
 use Rattle.age_file.specs.inner.Decrypts.{opens, seals}
 use Rattle.age_keys.specs.inner.PayloadBox.{box_valid}
 use Rattle.age_file.specs.inner.Readers.{writer_view, view_of_writer}
-use Rattle.age_file.proofs.ReleaseLemmas.{more_text, fed_front, goes_front, counts_whole, counts_refused, counts_cut}
+use Rattle.age_file.proofs.CountLemmas.{more_text, fed_front, goes_front, counts_whole, counts_refused, counts_cut}
 use Rattle.age_chunk.specs.Payload.{chunk_length}
 use Rattle.age_file.proofs.payload.feed_once.Goals as goal
 

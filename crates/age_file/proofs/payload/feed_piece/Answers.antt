@@ -2,7 +2,7 @@ use Rattle.std.proofs.Common.{◌≡◌, ◌+◌, ◌-◌, length, take, drop, s
 use Rattle.std.proofs.lemmas.Result.{err_from_is_err_and}
 use Rattle.std.proofs.lemmas.List.{take_rest, take-append-drop, length-append, length-drop, append_assoc, take_at, take_all}
 use Rattle.age_file.specs.inner.Decrypts.{opens}
-use Rattle.age_file.proofs.ReleaseLemmas.{both_then, releases_none, releases_then, fails_then}
+use Rattle.age_file.proofs.CountLemmas.{both_then, releases_none, releases_then, fails_then}
 use Rattle.age_file.specs.inner.Readers.{view_of_writer}
 use Rattle.age_chunk.specs.Payload.{chunk_length}
 use Rattle.age_file.proofs.payload.feed_piece.Goals as goal

@@ -1,7 +1,7 @@
 use Rattle.std.proofs.Common.{◌∙◌, rules}
 use Rattle.age_file.specs.inner.Copies.{CopiesBefore}
 use Rattle.age_file.specs.inner.Readers.{view_of_writer}
-use Rattle.age_file.proofs.ReaderLemmas.{read_last}
+use Rattle.age_file.proofs.ReadLemmas.{read_last}
 use Rattle.age_file.proofs.resumption.copy_before.Goals as goal
 
 pub returns-clause-copied : goal.returns-clause-copied

@@ -3,7 +3,7 @@ use Rattle.std.proofs.lemmas.Result.{err_from_is_err_and}
 use Rattle.std.specs.Simd.{first_chunks}
 use Rattle.age_file.specs.Bindings.{chain}
 use Rattle.age_file.specs.inner.Readers.{view_of_reader, view_of_writer}
-use Rattle.age_file.proofs.CopyLemmas.{text_fails}
+use Rattle.age_file.proofs.ResumeLemmas.{text_fails}
 use Rattle.age_chunk.specs.Payload.{chunk_length}
 use Rattle.age_file.proofs.resumption.copy_old.Goals as goal
 

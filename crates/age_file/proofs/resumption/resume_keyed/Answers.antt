@@ -4,8 +4,7 @@ use Rattle.age_file.specs.inner.Readers.{reader_view, writer_view, stage, view_o
 use Rattle.age_file.specs.Runs.{ports}
 use Rattle.age_file.specs.Resumes.{resume_ports, ResumesKeyed}
 use Rattle.age_file.specs.declared.standing.Standing.TheVariants.{Before}
-use Rattle.age_file.proofs.ReaderLemmas.{read_last, ports_last}
-use Rattle.age_file.proofs.ByteLemmas.{stops_unread}
+use Rattle.age_file.proofs.ReadLemmas.{read_last, ports_last, stops_unread}
 use Rattle.age_file.proofs.ResumeLemmas.{place_after, stopped_early, refused, copy_stopped, rest_resumed}
 use Rattle.age_file.proofs.resumption.resume_keyed.Goals as goal
 

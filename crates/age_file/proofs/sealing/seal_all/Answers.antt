@@ -11,10 +11,9 @@ use Rattle.age_fault.specs.Faults.{HasFailed}
 use Rattle.age_file.specs.inner.Seals.{Wrote, front_of, SealingFails, SealsAll}
 use Rattle.age_file.specs.Runs.{ports}
 use Rattle.age_fault.specs.declared.fault.FileFault.{FileFault}
-use Rattle.age_file.proofs.ByteLemmas.{cut_pulled}
-use Rattle.age_file.proofs.SealLemmas.{front_small}
-use Rattle.age_file.proofs.SourceLemmas.{sealing_failed, front_begins, no_front, piece_done, piece_cut, pull_fails, seal_fails, last_written}
-use Rattle.age_file.proofs.SourceLemmas.{last_begins, last_whole}
+use Rattle.age_file.proofs.ReadLemmas.{cut_pulled}
+use Rattle.age_file.proofs.SealLemmas.{front_small, sealing_failed, front_begins, no_front, piece_done, piece_cut, pull_fails, seal_fails, last_written}
+use Rattle.age_file.proofs.SealLemmas.{last_begins, last_whole}
 use Rattle.age_chunk.specs.Payload.{block_length, chunk_length}
 use Rattle.age_file.proofs.sealing.seal_all.Goals as goal
 

@@ -3,8 +3,7 @@ use Rattle.std.proofs.lemmas.Result.{err_from_is_err_and}
 use Rattle.std.proofs.lemmas.List.{length-append, length-take}
 use Rattle.age_file.specs.inner.Readers.{view_of_reader}
 use Rattle.age_chunk.specs.Payload.{block_length}
-use Rattle.age_file.proofs.StartLemmas.{uses_front}
-use Rattle.age_file.proofs.SkipLemmas.{passes_then, passes_same, dries_same, skip_dry}
+use Rattle.age_file.proofs.ReadLemmas.{uses_front, passes_then, passes_same, dries_same, skip_dry}
 use Rattle.age_file.proofs.skip.skip_blocks.Goals as goal
 
 pub returns-then-not-branch-clause-skipped : goal.returns-then-not-branch-clause-skipped

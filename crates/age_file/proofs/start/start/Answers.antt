@@ -1,5 +1,5 @@
 use Rattle.age_file.specs.inner.Readers.{view_of_reader}
-use Rattle.age_file.proofs.StartLemmas.{head_to_start, key_to_start, nonce_found, nonce_missed}
+use Rattle.age_file.proofs.ReadLemmas.{head_to_start, key_to_start, nonce_found, nonce_missed}
 use Rattle.std.proofs.lemmas.Result.{err_from_is_err_and}
 use Rattle.age_file.proofs.start.start.Goals as goal
 

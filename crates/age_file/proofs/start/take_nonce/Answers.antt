@@ -3,7 +3,7 @@ use Rattle.std.proofs.lemmas.Result.{err_from_is_err_and}
 use Rattle.std.proofs.lemmas.List.{length-take, length-drop, take_all}
 use Rattle.age_file.specs.inner.Readers.{reader_view, view_of_reader}
 use Rattle.age_file.specs.inner.Copies.{Uses}
-use Rattle.age_file.proofs.StartLemmas.{uses_then, uses_front, nonce_fails}
+use Rattle.age_file.proofs.ReadLemmas.{uses_then, uses_front, nonce_fails}
 use Rattle.age_file.proofs.start.take_nonce.Goals as goal
 
 pub returns-then-not-branch-clause-fails : goal.returns-then-not-branch-clause-fails

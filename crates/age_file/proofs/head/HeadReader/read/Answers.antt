@@ -3,7 +3,7 @@ use Rattle.std.proofs.lemmas.List.{length-drop}
 use Rattle.std.proofs.lemmas.Result.{err_from_is_err_and}
 use Rattle.age_file.specs.Runs.{EndsInHeader, InHeader}
 use Rattle.age_file.specs.inner.Readers.{start_at, reader_view, view_of_reader}
-use Rattle.age_file.proofs.ByteLemmas.{pull_fails, piece_fails, end_fails, stops_at, cut_pulled, head_pulled}
+use Rattle.age_file.proofs.ReadLemmas.{pull_fails, piece_fails, end_fails, stops_at, cut_pulled, head_pulled}
 use Rattle.age_file.proofs.head.HeadReader.read.Goals as goal
 
 pub returns-clause-fails : goal.returns-clause-fails

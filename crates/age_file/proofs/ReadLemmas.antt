@@ -1,15 +1,14 @@
--- Bytes that are shown, one call after another.
-use Rattle.std.proofs.Common.{◌≡◌, ℕ, ◌≤◌, List, [], ◌++◌, length, take, drop, Option, Some, None, refl, sym, ap, subst, ◌∙◌, append_assoc}
-use Rattle.std.proofs.Common.{append-nil, inl, inr}
-use Rattle.std.proofs.Common.{arith}
-use Rattle.std.specs.Prelude.{◌⊎◌, IfSome}
+-- What was read: bytes, a header, a nonce, and what was passed over.
+use Rattle.std.proofs.Common.{◌≡◌, ℕ, ◌≤◌, List, [], ◌++◌, length, take, drop, Option, Some, None, refl, sym, ap, subst, ◌∙◌, append_assoc, append-nil, inl}
+use Rattle.std.proofs.Common.{inr, arith, ◌<◌, suc, ◌*◌}
+use Rattle.std.specs.Prelude.{◌⊎◌, IfSome, Result, Ok, Err, IfOk, IfErr}
 use Rattle.std.specs.Io.KnownBytes as known
 use Rattle.age_io.specs.Supply.{Supply, Consumes, IsAtEnd}
-use Rattle.std.proofs.lemmas.List.{take-append-drop, take_at, drop_at, length-take-le}
-use Rattle.age_io.specs.Io.{SourceView}
+use Rattle.std.proofs.lemmas.List.{take-append-drop, take_at, drop_at, length-take-le, length-append}
+use Rattle.age_io.specs.Io.{SourceView, SinkView}
 use Rattle.age_stanza.specs.declared.fault.HeadFault.{HeadFault}
 use Rattle.age_stanza.specs.declared.fault.HeadKind.{HeadKind}
-use Rattle.age_stanza.specs.declared.fault.HeadKind.TheVariants.{Memory}
+use Rattle.age_stanza.specs.declared.fault.HeadKind.TheVariants.{Memory as HeadMemory}
 use Rattle.age_stanza.specs.Parsing.{HasHeader, IsFault, memory_fault}
 use Rattle.age_io.proofs.SupplyLemmas.{Consumes-nil}
 use Rattle.age_stanza.proofs.AnyPiecesLemmas.{more_fault}
@@ -17,13 +16,28 @@ use Rattle.age_stanza.proofs.FinishedLineLemmas.{nothing_under_way}
 use Rattle.age_stanza.proofs.PieceLemmas.{none_held}
 use Rattle.age_stanza.proofs.FaultLemmas.{no_fault}
 use Rattle.age_stream.specs.Headline.{IsPrefixOf}
-use Rattle.age_file.specs.Runs.{pull_room, EndsInHeader, InHeader, IsCut, IsHeadFault, ReportsFault, StopsAtHeader, HeadFails}
-use Rattle.age_fault.specs.inner.Faults.{fault_of, fault_by_kind}
+use Rattle.age_file.specs.Runs.{pull_room, EndsInHeader, InHeader, IsCut, IsHeadFault, ReportsFault, StopsAtHeader, HeadFails, Ports, ports}
+use Rattle.age_fault.specs.inner.Faults.{fault_of, fault_by_kind, fault_of_key}
 use Rattle.age_fault.specs.declared.fault.FileFault.{FileFault}
-use Rattle.age_fault.specs.declared.fault.FileFault.TheVariants.{Head, Read, ReadNeverEnds, Memory as FileMemory}
-use Rattle.age_file.specs.inner.Readers.{Start, start_at, start_after, Pulled, PullFails, ReaderView}
+use Rattle.age_fault.specs.declared.fault.FileFault.TheVariants.{Head, Read, ReadNeverEnds, Memory, NonceCut}
+use Rattle.age_file.specs.inner.Readers.{Start, start_at, start_after, Pulled, PullFails, ReaderView, reader_view}
 use Rattle.age_fault.specs.Faults.{HasFailed}
-use Rattle.age_file.specs.inner.Unread.{Unread}
+use Rattle.age_file.specs.inner.Parts.{Unread}
+use Rattle.age_file.specs.Reports.{InspectsFront, IsPlainOf, IsReport}
+use Rattle.age_file.specs.declared.report.Report.{Report}
+use Rattle.sha2.specs.Hashers.{Holds256}
+use Rattle.sha2.specs.declared.Sha256.{Sha256}
+use Rattle.age_stanza.specs.declared.header.Header.{Header}
+use Rattle.age_stanza.specs.Grammar.{HeadText}
+use Rattle.age_keys.specs.declared.fault.KeyFault.{KeyFault}
+use Rattle.age_keys.specs.declared.fault.KeyFault.TheVariants.{Memory as KeyMemory}
+use Rattle.age_keys.specs.Keys.{Opens, Refuses}
+use Rattle.age_file.specs.Decrypts.{StartFails, InNonce}
+use Rattle.age_file.specs.inner.Copies.{Uses, UsesShort, NonceFails, ReadsNonce, StartsAt, Passes, Dries, SkipFails}
+use Rattle.age_file.specs.declared.start.Unlocked.{Unlocked}
+use Rattle.std.proofs.Math.Nat.{mul-le-mul_right}
+
+-- ---- Bytes that are shown, one call after another.
 
 -- a beginning of a beginning
 pub prefix_trans : (x y z : List ℕ) → IsPrefixOf x y → IsPrefixOf y z → IsPrefixOf x z
@@ -94,7 +108,7 @@ stops_unread a =
 -- a fault that the bytes have is the fault that is reported
 fails_by_kind : (old new : SourceView) (kind : HeadKind) (fault : HeadFault) → StopsAtHeader old.supply new.supply
     → ReportsFault old.supply new.supply fault → HeadFails InHeader old new (fault_by_kind kind fault)
-fails_by_kind old new Memory fault stops reported = stops
+fails_by_kind old new HeadMemory fault stops reported = stops
 fails_by_kind old new other fault stops reported = reported
 
 -- what is reported of the bytes that were read is reported of all that the source had
@@ -154,7 +168,7 @@ pub sound_too : (P Q : Supply → Supply → Type 0) (old new : SourceView) (fau
     → (P old.supply new.supply → Q old.supply new.supply) → HeadFails P old new fault → HeadFails Q old new fault
 sound_too P Q old new (Head x) sound f = f
 sound_too P Q old new Read sound f = (sound f.0, f.1)
-sound_too P Q old new FileMemory sound f = f
+sound_too P Q old new Memory sound f = f
 sound_too P Q old new ReadNeverEnds sound f = (sound f.0, f.1)
 sound_too P Q old new other sound f = absurd f
 
@@ -221,3 +235,157 @@ pub rest_pulled : (start : Start) (now : Supply) (pulls new_pulls : ℕ) (used p
 rest_pulled start now pulls new_pulls used passed fresh same h =
     subst (λ (k : ℕ). Pulled start now k (used ++ (passed ++ fresh))) (sym same)
     (subst (λ (t : List ℕ). Pulled start now pulls t) (append_assoc used passed fresh) h)
+
+-- ---- What a reader and a writer lend has its last value once they are gone.
+
+pub read_last : {S : Type 0} (source : S → SourceView) (P : SourceView → Type 0) (s s' : S) → s ≡ s' → P (source s') → P (source s)
+read_last {S} source P s s' e x = subst (λ (t : S). P (source t)) (sym e) x
+
+pub ports_last : {S O : Type 0} (source : S → SourceView) (sink : O → SinkView) (P : Ports → Type 0) (s s' : S) (o o' : O) → s ≡ s' → o ≡ o'
+    → P (ports (source s') (sink o')) → P (ports (source s) (sink o))
+ports_last {S} {O} source sink P s s' o o' e f x =
+    subst (λ (t : S). P (ports (source t) (sink o))) (sym e) (subst (λ (t : O). P (ports (source s') (sink t))) (sym f) x)
+
+-- ---- What a report of a header and a length says of all bytes.
+
+pub whole_of : (size : ℕ) (old : Supply) (bytes : List ℕ) (new : Supply) (r : Report) → old.left ≡ Some bytes → size ≡ length bytes
+    → InspectsFront size old new r → IsReport bytes r
+whole_of size old bytes new r is all f =
+    let rest = left_of old new bytes (f.front ++ f.more) is f.read in
+    let parts = rest.1 ∙ append_assoc f.front f.more rest.0 in
+    let left : r.rest ≡ length (f.more ++ rest.0) = omega (arith, f.rest_is, all, ap length parts, length-append f.front (f.more ++ rest.0)) in
+    record {
+      h = f.h;
+      front = f.front;
+      rest = f.more ++ rest.0;
+      text = f.text;
+      parts = parts;
+      header_is = f.header_is;
+      stanzas_are = f.stanzas_are;
+      rest_is = left;
+      plain_is = subst (λ (n : ℕ). IsPlainOf n r.plain) left f.plain_is;
+    }
+
+-- ---- What was read up to a payload, one step after another.
+
+pub uses_then : (x y z : ReaderView) (p q r : List ℕ) → p ++ q ≡ r → Uses x y p → Uses y z q → Uses x z r
+uses_then x y z p q r e f g = λ start used h.
+    let first = subst (λ (t : List ℕ). Pulled start y.source.supply y.unread.pulls t) (sym (append_assoc used p y.unread.bytes)) (f start used h) in
+    let e' : (used ++ p) ++ (q ++ z.unread.bytes) ≡ used ++ (r ++ z.unread.bytes) = append_assoc used p (q ++ z.unread.bytes)
+    ∙ ap (λ (t : List ℕ). used ++ t) (sym (append_assoc p q z.unread.bytes) ∙ ap (λ (t : List ℕ). t ++ z.unread.bytes) e) in
+    subst (λ (t : List ℕ). Pulled start z.source.supply z.unread.pulls t) e' (g start (used ++ p) first)
+
+pub uses_front : (v : SourceView) (x y : Unread) (piece : List ℕ) (n : ℕ) → y.pulls ≡ x.pulls → piece ≡ x.bytes → y.bytes ≡ drop n x.bytes
+    → Uses (reader_view v x) (reader_view v y) (take n piece)
+uses_front v x y piece n pulls is rest = λ start used h. subst (λ (t : List ℕ). Pulled start v.supply y.pulls t)
+    (append_assoc used (take n piece) y.bytes) (head_pulled start v.supply x y used piece n pulls is rest h)
+
+-- no byte came for the rest of a nonce
+pub nonce_fails : (x y z : ReaderView) (p : List ℕ) (fault : FileFault) → length p < 16 → y.source.failed ≡ x.source.failed → Uses x y p → Uses y z []
+    → z.unread.bytes ≡ [] → PullFails y z fault → NonceFails x z fault
+nonce_fails x y z p Read lt e f g none h = (
+  (p, lt, uses_then x y z p [] p (append-nil p) f g, none),
+  subst (λ (m : ℕ). HasFailed m z.source.failed z.source.failing) e h,
+)
+nonce_fails x y z p ReadNeverEnds lt e f g none h = ((p, lt, uses_then x y z p [] p (append-nil p) f g, none), h.0)
+nonce_fails x y z p other lt e f g none h = absurd h
+
+module _ (Allows : Header → List ℕ → Type 0) (Refused : Header → KeyFault → Type 0) where
+  pub head_to_start : (a b : SourceView) (fault : FileFault) → HeadFails InHeader a b fault → StartFails Allows Refused a b fault
+  head_to_start a b (Head f) h = h
+  head_to_start a b Read h = (inl h.0, h.1)
+  head_to_start a b Memory h = h
+  head_to_start a b ReadNeverEnds h = (inl h.0, h.1)
+  head_to_start a b other h = absurd h
+
+  pub key_to_start : (a b : SourceView) (h : Header) (front rest : List ℕ) (fault : KeyFault) → StopsAtHeader a.supply b.supply → HeadText h front
+      → Consumes a.supply b.supply (front ++ rest) → length rest ≤ pull_room
+      → Refuses Allows Refused h fault → StartFails Allows Refused a b (fault_of_key fault)
+  key_to_start a b h front rest KeyMemory stops text consumed few refuses = stops
+  key_to_start a b h front rest other stops text consumed few refuses = (h, front, rest, text, consumed, λ e. cc, refuses, few)
+
+  -- what was pulled if a nonce fell short
+  short_pulled : (a : Start) (y z : ReaderView) (front : List ℕ) (u : UsesShort y z)
+      → Pulled a y.source.supply y.unread.pulls (front ++ y.unread.bytes) → Pulled a z.source.supply z.unread.pulls (front ++ u.0)
+  short_pulled a y z front u p =
+      cut_pulled a z.source.supply z.unread.pulls (front ++ u.0) z.unread.bytes u.3 (subst (λ (t : List ℕ). Pulled a z.source.supply z.unread.pulls t)
+      (sym (append_assoc front u.0 z.unread.bytes)) (u.2 a front p))
+
+  in_nonce : (a : SourceView) (y z : ReaderView) (h : Header) (front key : List ℕ) → HeadText h front
+      → Opens Allows h key → Pulled (start_at a.supply) y.source.supply y.unread.pulls (front ++ y.unread.bytes)
+      → UsesShort y z → InNonce Allows a.supply z.source.supply
+  in_nonce a y z h front key text opens p u = (h, front, key, u.0, text, opens, u.1, (short_pulled (start_at a.supply) y z front u p).consumed)
+
+  nonce_to_start : (a : SourceView) (y z : ReaderView) (h : Header) (front key : List ℕ) (fault : FileFault) → y.source.failed ≡ a.failed
+      → HeadText h front → Opens Allows h key → Pulled (start_at a.supply) y.source.supply y.unread.pulls (front ++ y.unread.bytes)
+      → NonceFails y z fault → StartFails Allows Refused a z.source fault
+  nonce_to_start a y z h front key NonceCut e text opens p f = (in_nonce a y z h front key text opens p f.0, f.1)
+  nonce_to_start a y z h front key Read e text opens p f = (
+    inr (in_nonce a y z h front key text opens p f.0),
+    subst (λ (m : ℕ). HasFailed m z.source.failed z.source.failing) e f.1,
+  )
+  nonce_to_start a y z h front key ReadNeverEnds e text opens p f =
+      let all = short_pulled (start_at a.supply) y z front f.0 p in (
+        inr (in_nonce a y z h front key text opens p f.0),
+        (front ++ f.0.0, all.consumed, (omega (arith, all.each_gave, f.1), omega (arith, all.small, f.1))),
+      )
+  nonce_to_start a y z h front key other e text opens p f = absurd f
+
+  -- the nonce was read after a header that was opened, or not
+  module _ (a : SourceView) (y z : ReaderView) (h : Header) (front key : List ℕ) (digest : Sha256) (same : y.source.failed
+      ≡ a.failed) (text : HeadText h front) (opens : Opens Allows h key) (hashed : Holds256 digest front)
+      (pulled : Pulled (start_at a.supply) y.source.supply y.unread.pulls (front ++ y.unread.bytes)) where
+    pub nonce_found : (result : Result Unlocked FileFault) → IfOk result (ReadsNonce key digest y z) → IfOk result (StartsAt Allows a z)
+    nonce_found (Ok u) r = record {
+      header = h;
+      front = front;
+      text = text;
+      opens = subst (λ (k : List ℕ). Opens Allows h k) (sym r.key_is) opens;
+      size = r.size;
+      id = r.id front hashed;
+      few = r.takes.few;
+      pulled = subst (λ (t : List ℕ). Pulled (start_at a.supply) z.source.supply z.unread.pulls t) (sym (append_assoc front u.nonce z.unread.bytes))
+          (r.takes.uses (start_at a.supply) front pulled);
+      unfailed = r.takes.unfailed ∙ same;
+    }
+    nonce_found (Err fault) r = tt
+
+    pub nonce_missed : (result : Result Unlocked FileFault) → IfErr result (NonceFails y z) → IfErr result (StartFails Allows Refused a z.source)
+    nonce_missed (Ok u) f = tt
+    nonce_missed (Err fault) f = nonce_to_start a y z h front key fault same text opens pulled f
+
+-- ---- What was passed over, one step after another.
+
+pub passes_then : {x y z : ReaderView} (p q : List ℕ) → Passes x y p → Passes y z q → Passes x z (p ++ q)
+passes_then {x} {y} {z} p q f g = record {
+  uses = uses_then x y z p q (p ++ q) refl f.uses g.uses;
+  unfailed = g.unfailed ∙ f.unfailed;
+}
+
+-- no more bytes
+pub passes_same : {x y z : ReaderView} {p : List ℕ} → Passes x y p → Passes y z [] → Passes x z p
+passes_same {x} {y} {z} {p} f g = subst (Passes x z) (append-nil p) (passes_then p [] f g)
+
+pub dries_then : {x y z : ReaderView} (p q : List ℕ) (fault : FileFault) → Passes x y p → Dries y z q fault → Dries x z (p ++ q) fault
+dries_then {x} {y} {z} p q fault f g = record {
+  uses = uses_then x y z p q (p ++ q) refl f.uses g.uses;
+  used = g.used;
+  why = pull_fails_since x y z fault f.unfailed g.why;
+}
+
+-- if no byte came
+pub dries_same : {x y z : ReaderView} {p : List ℕ} (fault : FileFault) → Passes x y p → Dries y z [] fault → Dries x z p fault
+dries_same {x} {y} {z} {p} fault f g = subst (λ (t : List ℕ). Dries x z t fault) (append-nil p) (dries_then p [] fault f g)
+
+-- whole parts before the last, and less than one more
+pub within : (n blocks j : ℕ) (p q : List ℕ) → length p ≡ j * n → j < blocks → length q < n → length (p ++ q) < blocks * n
+within n blocks j p q size lt short =
+    let more : suc j * n ≤ blocks * n = mul-le-mul_right n lt in
+    omega (arith, more, size, short, length-append p q)
+
+-- a pull gave no more, before all blocks were passed over
+pub skip_dry : (n blocks : ℕ) (x z : ReaderView) (p : List ℕ) (fault : FileFault) → length p < blocks * n → Dries x z p fault
+    → SkipFails n blocks x z fault
+skip_dry n blocks x z p Read lt g = (p, lt, g)
+skip_dry n blocks x z p ReadNeverEnds lt g = (p, lt, g)
+skip_dry n blocks x z p other lt g = absurd g.why
