@@ -24,13 +24,12 @@ use Rattle.age_file.specs.declared.position.PositionPolicy.TheVariants.{Kept, Dr
 use Rattle.age_file.specs.inner.Payloads.{AdvancesTally, CountsChunks, HasCounted, Releases, FeedGoes, FeedFails}
 use Rattle.age_file.specs.declared.tally.Tally.{Tally}
 use Rattle.std.specs.Borrow.{Bor}
-use Rattle.age_io.specs.Taken.{Appends}
+use Rattle.age_file.proofs.ReadLemmas.{wrote_none, wrote_then}
 use Rattle.age_stream.specs.Opener.{has_failed, OpenerView, Stands, chunk_texts, chunk_bytes}
 use Rattle.age_fault.specs.Faults.{HasFailed}
-use Rattle.age_file.specs.inner.Readers.{WriterView}
+use Rattle.age_file.specs.inner.Readers.{WriterView, Wrote}
 use Rattle.age_fault.specs.declared.fault.FileFault.{FileFault}
 use Rattle.age_fault.specs.declared.fault.FileFault.TheVariants.{Stream, Write}
-use Rattle.age_io.proofs.TakenLemmas.{Appends-trans, Appends-nil}
 
 -- ---- Counting the chunks that were written, one step after another. A chunk has n bytes.
 
@@ -428,9 +427,7 @@ module _ {B : Type 0} (opening : B → List ℕ → List ℕ → Option (List �
       record {
         out = [];
         key = refl;
-        wrote = Appends-nil was.sink.taken;
-        named = refl;
-        count = omega arith;
+        wrote = wrote_none was;
         stands = λ s h. subst (Stands opening n o) (sym (no_piece s)) h;
         text = λ s h. ap (released (opening o.key) n) (no_piece s) ∙ sym (append-nil (released (opening o.key) n s));
         counts = λ keep positive s base len h m. subst (λ (t : Segment). CountsChunks keep (opening o.key) n base t [] was.tally)
@@ -438,17 +435,15 @@ module _ {B : Type 0} (opening : B → List ℕ → List ℕ → Option (List �
       }
 
   -- a step, and then a step to any next segment
-  pub releases_next : (a : List ℕ) (next next' : Segment → Segment) (old mid new : OpenerView B) (was between now : WriterView) (unwritten : List ℕ)
+  pub releases_next : (a : List ℕ) (next next' : Segment → Segment) {old mid new : OpenerView B} {was between now : WriterView} {unwritten : List ℕ}
       → ((s : Segment) → next (with_piece s a) ≡ next' s) → Releases opening n (λ s. with_piece s a) old mid was between []
       → Releases opening n next mid new between now unwritten → Releases opening n next' old new was now unwritten
-  releases_next a next next' old mid new was between now unwritten same p q =
+  releases_next a next next' {old} {mid} {new} {was} {between} {now} {unwritten} same p q =
       let op = opening old.key in
       record {
         out = p.out ++ q.out;
         key = q.key ∙ p.key;
-        wrote = Appends-trans was.sink.taken between.sink.taken now.sink.taken p.out q.out p.wrote q.wrote;
-        named = q.named ∙ p.named;
-        count = omega (arith, p.count, q.count, length-append p.out q.out);
+        wrote = wrote_then p.wrote q.wrote;
         stands = λ s h. subst (Stands opening n new) (same s) (q.stands (with_piece s a) (p.stands s h));
         text = λ s h.
             let r = released op n s in
@@ -467,11 +462,10 @@ module _ {B : Type 0} (opening : B → List ℕ → List ℕ → Option (List �
             (subst (λ k. CountsChunks keep (opening k) n base (next (with_piece s a)) unwritten now.tally) p.key then);
       }
 
-  pub releases_then : (a b : List ℕ) (old mid new : OpenerView B) (was between now : WriterView) (unwritten : List ℕ)
+  pub releases_then : (a b : List ℕ) {old mid new : OpenerView B} {was between now : WriterView} {unwritten : List ℕ}
       → Releases opening n (λ s. with_piece s a) old mid was between [] → Releases opening n (λ s. with_piece s b) mid new between now unwritten
       → Releases opening n (λ s. with_piece s (a ++ b)) old new was now unwritten
-  releases_then a b old mid new was between now unwritten p q =
-      releases_next a (λ s. with_piece s b) (λ s. with_piece s (a ++ b)) old mid new was between now unwritten (λ s. pieces_join s a b) p q
+  releases_then a b p q = releases_next a (λ s. with_piece s b) (λ s. with_piece s (a ++ b)) (λ s. pieces_join s a b) p q
 
   -- what `counts` asks of a piece that was fed
   abbrev pub IsMarkedOn : OpenerView B → List ℕ → Tally → Tally → List ℕ → Type 0
@@ -518,16 +512,13 @@ module _ {B : Type 0} (opening : B → List ℕ → List ℕ → Option (List �
   pub fed_front : (old new : OpenerView B) (was now : WriterView) (piece : List ℕ) (taken : ℕ)
       (chunk : Option (Bor (List ℕ))) (out unwritten : List ℕ) → new.key ≡ old.key
       → StandsOn old new (take taken piece) → Lends old (take taken piece) (chunk_texts chunk)
-      → chunk_bytes chunk ≡ out ++ unwritten → Appends was.sink.taken now.sink.taken out → now.sink.label ≡ was.sink.label → now.tally.written
-      ≡ was.tally.written + length out → IsMarkedOn old (take taken piece) was.tally now.tally unwritten
+      → chunk_bytes chunk ≡ out ++ unwritten → Wrote was now out → IsMarkedOn old (take taken piece) was.tally now.tally unwritten
       → Releases opening n (λ s. with_piece s (take taken piece)) old new was now unwritten
-  fed_front old new was now piece taken chunk out unwritten key stands texts lent wrote named count counts =
+  fed_front old new was now piece taken chunk out unwritten key stands texts lent wrote counts =
       record {
         out = out;
         key = key;
         wrote = wrote;
-        named = named;
-        count = count;
         stands = stands;
         text = λ s h. more_text (opening old.key) n s (with_piece s (take taken piece))
             (chunk_texts chunk) (out ++ unwritten) (texts s h) (lent_flat chunk ∙ lent);
@@ -537,13 +528,12 @@ module _ {B : Type 0} (opening : B → List ℕ → List ℕ → Option (List �
   -- how much it then holds and wrote
   pub goes_front : (old new : OpenerView B) (was now : WriterView) (piece : List ℕ) (taken : ℕ)
       (chunk : Option (Bor (List ℕ))) (out unwritten : List ℕ) → taken ≤ length piece → length new.held + length (chunk_bytes chunk) ≤ length old.held
-      + taken → chunk_bytes chunk ≡ out ++ unwritten → now.tally.written ≡ was.tally.written + length out
-      → unwritten ≡ [] → now.sink.failed ≡ was.sink.failed → has_failed new.status ≡ false → (taken ≡ length (take taken piece))
+      + taken → chunk_bytes chunk ≡ out ++ unwritten → Wrote was now out → unwritten ≡ [] → now.sink.failed ≡ was.sink.failed → has_failed new.status ≡ false → (taken ≡ length (take taken piece))
       × FeedGoes opening n old new was now (take taken piece) unwritten
-  goes_front old new was now piece taken chunk out unwritten le room lent count whole failed sound =
+  goes_front old new was now piece taken chunk out unwritten le room lent wrote whole failed sound =
       let len : length (chunk_bytes chunk) ≡ length out = ap length (lent ∙ (ap (λ (t : List ℕ). out ++ t) whole ∙ append-nil out)) in (
         omega (arith, le, length-take taken piece),
-        (omega (arith, le, room, count, len, length-take taken piece), whole, failed, sound),
+        (omega (arith, le, room, wrote.count, len, length-take taken piece), whole, failed, sound),
       )
 
   goes_then : (a b : List ℕ) (old mid new : OpenerView B) (was between now : WriterView) → FeedGoes opening n old mid was between a []
@@ -555,15 +545,15 @@ module _ {B : Type 0} (opening : B → List ℕ → List ℕ → Option (List �
     pub releases : Releases opening n (λ s. with_piece s fed) old new was now []
     pub goes : FeedGoes opening n old new was now fed []
 
-  pub both_then : (a b c : List ℕ) (old mid new : OpenerView B) (was between now : WriterView) (unwritten : List ℕ) → a ++ b ≡ c
+  pub both_then : (a b c : List ℕ) {old mid new : OpenerView B} {was between now : WriterView} {unwritten : List ℕ} → a ++ b ≡ c
       → Releases opening n (λ s. with_piece s a) old mid was between [] → FeedGoes opening n old mid was between a []
       → Releases opening n (λ s. with_piece s b) mid new between now unwritten → FeedGoes opening n mid new between now b unwritten
       → Both old new was now c
-  both_then a b c old mid new was between now unwritten e p pg q qg =
+  both_then a b c {old} {mid} {new} {was} {between} {now} {unwritten} e p pg q qg =
       let q' = subst (λ (t : List ℕ). Releases opening n (λ s. with_piece s b) mid new between now t) qg.1 q in
       let qg' : FeedGoes opening n mid new between now b [] = (qg.0, refl, qg.2, qg.3) in
       subst (λ (t : List ℕ). Both old new was now t) e (record {
-        releases = releases_then a b old mid new was between now [] p q';
+        releases = releases_then a b p q';
         goes = goes_then a b old mid new was between now pg qg';
       })
 

@@ -102,7 +102,7 @@ module _ {B : Type 0} (opening : B → List ℕ → List ℕ → Option (List �
           fed = f.fed ++ fed;
           fresh = f.fresh;
           parts = f.parts ∙ (ap (λ (t : List ℕ). f.fed ++ t) (sym is ∙ parts) ∙ sym (append_assoc f.fed fed left));
-          releases = releases_then opening n f.fed fed a b c old.writer was now unwritten f.releases releases;
+          releases = releases_then opening n f.fed fed f.releases releases;
           pulled = λ start bytes h. subst (λ (k : ℕ). Pulled start source.supply k (bytes ++ f.fresh)) (sym pulls) (f.pulled start bytes h);
         }
 
@@ -294,8 +294,6 @@ module _ {B : Type 0} (sealing : B → List ℕ → List ℕ → List ℕ) (open
           pulled = f.pulled;
           at_end = λ x. cc;
           wrote = f.releases.wrote;
-          named = f.releases.named;
-          count = f.releases.count;
           counts = counts_of next a b old.writer new.writer t.left t.unwritten (segment k (f.fed ++ t.left) false) key h refl f.releases;
           prefix = prefix_of (opening K) n k f.fed t.left f.releases.out t.unwritten e;
           answered = stop_fails b old new f.fed t.left f.releases.out t.unwritten fault e s t.why;
@@ -335,7 +333,7 @@ module _ {B : Type 0} (sealing : B → List ℕ → List ℕ → List ℕ) (open
     pour_ended a b c old mid now result key h t end settled =
         let f = t.flows in
         let next : Segment → Segment = λ s. with_end (with_piece s f.fed) in
-        let all = releases_next opening n f.fed with_end next a b c old.writer mid.writer now end.unwritten (λ s. refl) f.releases end.releases in
+        let all = releases_next opening n f.fed with_end next (λ s. refl) f.releases end.releases in
         let e = from_start next a c old.writer now end.unwritten key h all in
         let s = status_of next a c old.writer now end.unwritten key h all in
         record {
@@ -347,8 +345,6 @@ module _ {B : Type 0} (sealing : B → List ℕ → List ℕ → List ℕ) (open
           pulled = f.pulled;
           at_end = λ x. t.at_end;
           wrote = all.wrote;
-          named = all.named;
-          count = all.count;
           counts = counts_of next a c old.writer now [] end.unwritten (segment k f.fed true) key h (no_piece (segment k f.fed true)) all;
           prefix = (end.unwritten, sym e);
           answered = done_or_fails c old mid now f.fed all.out end.unwritten result t.same e s end.answered;

@@ -1,4 +1,4 @@
--- What was read: bytes, a header, a nonce, and what was passed over.
+-- What was read: bytes, a header, a nonce, and what was passed over; and what was written.
 use Rattle.std.proofs.Common.{◌≡◌, ℕ, ◌≤◌, List, [], ◌++◌, length, take, drop, Option, Some, None, refl, sym, ap, subst, ◌∙◌, append_assoc, append-nil, inl}
 use Rattle.std.proofs.Common.{inr, arith, ◌<◌, suc, ◌*◌}
 use Rattle.std.specs.Prelude.{◌⊎◌, IfSome, Result, Ok, Err, IfOk, IfErr}
@@ -20,7 +20,8 @@ use Rattle.age_file.specs.Runs.{pull_room, EndsInHeader, InHeader, IsCut, IsHead
 use Rattle.age_fault.specs.inner.Faults.{fault_of, fault_by_kind, fault_of_key}
 use Rattle.age_fault.specs.declared.fault.FileFault.{FileFault}
 use Rattle.age_fault.specs.declared.fault.FileFault.TheVariants.{Head, Read, ReadNeverEnds, Memory, NonceCut}
-use Rattle.age_file.specs.inner.Readers.{Start, start_at, start_after, Pulled, PullFails, ReaderView, reader_view}
+use Rattle.age_file.specs.inner.Readers.{Start, start_at, start_after, Pulled, PullFails, ReaderView, reader_view, WriterView, Wrote}
+use Rattle.age_io.proofs.TakenLemmas.{Appends-nil, Appends-trans}
 use Rattle.age_fault.specs.Faults.{HasFailed}
 use Rattle.age_file.specs.inner.Parts.{Unread}
 use Rattle.age_file.specs.Reports.{InspectsFront, IsPlainOf, IsReport}
@@ -246,6 +247,18 @@ pub ports_last : {S O : Type 0} (source : S → SourceView) (sink : O → SinkVi
 ports_last {S} {O} source sink P s s' o o' e f x =
     subst (λ (t : S). P (ports (source t) (sink o))) (sym e) (subst (λ (t : O). P (ports (source s') (sink t))) (sym f) x)
 
+-- ---- What was written, one step after another.
+
+pub wrote_none : (a : WriterView) → Wrote a a []
+wrote_none a = record { bytes = Appends-nil a.sink.taken; count = omega arith; named = refl }
+
+pub wrote_then : {a b c : WriterView} {p q : List ℕ} → Wrote a b p → Wrote b c q → Wrote a c (p ++ q)
+wrote_then {a} {b} {c} {p} {q} f g = record {
+  bytes = Appends-trans a.sink.taken b.sink.taken c.sink.taken p q f.bytes g.bytes;
+  count = omega (arith, f.count, g.count, length-append p q);
+  named = g.named ∙ f.named;
+}
+
 -- ---- What a report of a header and a length says of all bytes.
 
 pub whole_of : (size : ℕ) (old : Supply) (bytes : List ℕ) (new : Supply) (r : Report) → old.left ≡ Some bytes → size ≡ length bytes
@@ -291,13 +304,6 @@ nonce_fails x y z p ReadNeverEnds lt e f g none h = ((p, lt, uses_then x y z p [
 nonce_fails x y z p other lt e f g none h = absurd h
 
 module _ (Allows : Header → List ℕ → Type 0) (Refused : Header → KeyFault → Type 0) where
-  pub head_to_start : (a b : SourceView) (fault : FileFault) → HeadFails InHeader a b fault → StartFails Allows Refused a b fault
-  head_to_start a b (Head f) h = h
-  head_to_start a b Read h = (inl h.0, h.1)
-  head_to_start a b Memory h = h
-  head_to_start a b ReadNeverEnds h = (inl h.0, h.1)
-  head_to_start a b other h = absurd h
-
   pub key_to_start : (a b : SourceView) (h : Header) (front rest : List ℕ) (fault : KeyFault) → StopsAtHeader a.supply b.supply → HeadText h front
       → Consumes a.supply b.supply (front ++ rest) → length rest ≤ pull_room
       → Refuses Allows Refused h fault → StartFails Allows Refused a b (fault_of_key fault)

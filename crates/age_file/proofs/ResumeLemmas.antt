@@ -15,20 +15,18 @@ use Rattle.age_file.specs.declared.start.Unlocked.{Unlocked}
 use Rattle.age_file.specs.inner.Parts.{chain_if, Unread}
 use Rattle.age_file.specs.inner.Copies.{StartsAt, Passes, Dries, FailsInCopy, CopiesChunk, CopiesAll, TextFails, CopiesBefore, TextGoes, SkipFails, Uses}
 use Rattle.age_file.specs.inner.Decrypts.{OpensPayload, IsPositionAt, PositionAt, EndsAs, PositionRefused, StartsFor, StartForFails, ResumesRest}
-use Rattle.age_file.specs.inner.Readers.{Stage, ports_at, start_at, ReaderView, WriterView, reader_view, stage, Start, Pulled, start_after}
+use Rattle.age_file.specs.inner.Readers.{Stage, ports_at, start_at, ReaderView, WriterView, Wrote, reader_view, stage, Start, Pulled, start_after}
 use Rattle.age_file.proofs.RunLemmas.{BeginsAt, run, due, ended, opened, place_at}
 use Rattle.std.proofs.lemmas.List.{length-append, take_all, take-append-drop, length-take}
 use Rattle.std.proofs.Math.Seq.{drop-append_seam}
 use Rattle.std.specs.Simd.{first_chunks}
-use Rattle.age_io.specs.Taken.{Appends}
 use Rattle.age_chunk.proofs.FirstChunkLemmas.{first_chunks-append, first_chunks_more}
 use Rattle.age_stream.specs.Headline.{IsPrefixOf}
 use Rattle.age_fault.specs.Faults.{HasFailed}
 use Rattle.age_file.specs.Bindings.{link, chain}
 use Rattle.age_fault.specs.declared.fault.FileFault.TheVariants.{ShortText, Read, Write, ReadNeverEnds, OldTextDiffers, Stream, OtherFile, PositionForged}
-use Rattle.age_io.proofs.TakenLemmas.{Appends-trans}
 use Rattle.age_file.proofs.CountLemmas.{chain_on}
-use Rattle.age_file.proofs.ReadLemmas.{passes_then, dries_then, within, prefix_trans, left_of, longer, counted_on, counted_back, cut_pulled}
+use Rattle.age_file.proofs.ReadLemmas.{passes_then, dries_then, within, prefix_trans, left_of, longer, counted_on, counted_back, cut_pulled, wrote_then}
 use Rattle.age_file.specs.Resumes.{ResumesKeyed, HasOpened, ResumePorts, resume_ports, WritesOld, IsFrom, IsSame, BeginsWith, StandsAt, IsOldText}
 use Rattle.age_file.specs.Resumes.{NeverEndTogether, BeforeOldFails, InOldFails, StopsInOld, InSkippedFails, StopsInSkipped, ResumeStops}
 use Rattle.age_file.specs.declared.standing.Standing.{Standing}
@@ -76,14 +74,14 @@ module _ (keep : PositionPolicy) (Allows : Header → List ℕ → Type 0) (Refu
       let r = run s [] begins q in
       let from : IsFromStart r = record { zero = refl; none_copied = refl; none_skipped = refl } in
       let at = due s [] begins q in
-      ended s [] begins q (NeverEnds a.supply new.reader.source.supply) old.writer.sink q.wrote s.unfailed refl
+      ended s [] begins q (NeverEnds a.supply new.reader.source.supply) old.writer.sink q.wrote.bytes s.unfailed refl
       (λ bytes h full. (bytes, h.consumed, (omega (arith, h.each_gave, full), omega (arith, h.small, full))))
       (λ e. DecryptsKeyed keep Allows Refused (ports a old.writer.sink) (ports_at new) e (Some unlocked.key)) (λ written d none settled. record {
-        is = record { run = Some r; done = (from, d, none); stopped = tt; settled = settled; named = q.named };
+        is = record { run = Some r; done = (from, d, none); stopped = tt; settled = settled; named = q.wrote.named };
         found = refl;
         due = at;
       }) (λ stop d. record {
-        is = record { run = Some r; done = tt; stopped = (from, d); settled = tt; named = q.named };
+        is = record { run = Some r; done = tt; stopped = (from, d); settled = tt; named = q.wrote.named };
         found = refl;
         due = at;
       }) result o.ended
@@ -120,14 +118,11 @@ copy_fails x y z a b c p q other f same g = absurd g
 
 -- whole chunks, and then one that was not copied
 pub chunk_failed : (n chunks i : ℕ) (x y z : ReaderView) (a b c : WriterView) (p : List ℕ)
-    (fault : FileFault) → length p ≡ i * n → i < chunks → Passes x y p → Appends a.sink.taken b.sink.taken p
-    → b.sink.label ≡ a.sink.label → b.sink.failed ≡ a.sink.failed → b.tally.written ≡ a.tally.written + length p → CopiesChunk n y z b c (Err fault)
-    → CopiesAll n chunks x z a c (Err fault)
-chunk_failed n chunks i x y z a b c p fault size lt f wrote named same count g = record {
+    (fault : FileFault) → length p ≡ i * n → i < chunks → Passes x y p → Wrote a b p → b.sink.failed ≡ a.sink.failed
+    → CopiesChunk n y z b c (Err fault) → CopiesAll n chunks x z a c (Err fault)
+chunk_failed n chunks i x y z a b c p fault size lt f wrote same g = record {
   out = p ++ g.out;
-  wrote = Appends-trans a.sink.taken b.sink.taken c.sink.taken p g.out wrote g.wrote;
-  named = g.named ∙ named;
-  count = omega (arith, count, g.count, length-append p g.out);
+  wrote = wrote_then wrote g.wrote;
   answered = (within n chunks i p g.out size lt g.answered.0, copy_fails x y z a b c p g.out fault f same g.answered.1);
 }
 
@@ -182,13 +177,7 @@ module _ (keep : PositionPolicy) (Allows : Header → List ℕ → Type 0) (Refu
       → StandsAt Allows p old new keep Refused None (Err stopped) standing → new.main.sink.label ≡ old.main.sink.label
       → ResumesKeyed keep Allows Refused p old new (Err stopped) standing
   stopped_with old new stopped standing stops stands named = record {
-    is = record {
-      run = None;
-      done = tt;
-      stopped = stops;
-      settled = tt;
-      named = named;
-    };
+    is = record { run = None; done = tt; stopped = stops; settled = tt; named = named };
     stands = stands;
     due = tt;
   }
@@ -288,8 +277,8 @@ module _ (keep : PositionPolicy) (Allows : Header → List ℕ → Type 0) (Refu
       read = read;
       few = short;
       front = front;
-      wrote = cb.copied.wrote;
-      count = omega (arith, cb.copied.count, zero);
+      wrote = cb.copied.wrote.bytes;
+      count = omega (arith, cb.copied.wrote.count, zero);
       of = old_of p l.supply l'.supply pulled out read front le;
     }
 
@@ -342,7 +331,7 @@ module _ (keep : PositionPolicy) (Allows : Header → List ℕ → Type 0) (Refu
     pub copy_stopped : (fault : FileFault) → TextFails chunk_length p.index p.chain x z first s1.writer out fault
         → ResumesKeyed keep Allows Refused p old (new s1.reader) (Err (stop fault None)) Before
     copy_stopped fault f =
-        stopped_with old (new s1.reader) (stop fault None) Before (inr (inl (text_fails_in_old fault f))) (inr (text_fails_in_old fault f)) cb.copied.named
+        stopped_with old (new s1.reader) (stop fault None) Before (inr (inl (text_fails_in_old fault f))) (inr (text_fails_in_old fault f)) cb.copied.wrote.named
 
     -- ---- a run that went on after the old text
 
@@ -450,7 +439,7 @@ module _ (keep : PositionPolicy) (Allows : Header → List ℕ → Type 0) (Refu
           let here = same_given keep next (subst (λ (c : Option (List ℕ)). PositionAt unlocked s1.writer.tally.index c next) g.4 at) in
           let stops = skipped_fails m next fault here f in
           subst (λ (r : Result Done Stopped). ResumesKeyed keep Allows Refused p old (new m) r Skipping) (sym is)
-          (stopped_with old (new m) (stop fault next) Skipping (inr (inr stops)) stops cb.copied.named)
+          (stopped_with old (new m) (stop fault next) Skipping (inr (inr stops)) stops cb.copied.wrote.named)
 
       -- they were
       module _ (m : ReaderView) (passed : List ℕ) (size : length passed ≡ p.index * block_length) (passes : Passes s1.reader m passed) where
@@ -463,7 +452,7 @@ module _ (keep : PositionPolicy) (Allows : Header → List ℕ → Type 0) (Refu
           copied_size = g.0;
           skipped_size = size;
           pulled = passes.uses start head again;
-          written = omega (arith, cb.copied.count, zero);
+          written = omega (arith, cb.copied.wrote.count, zero);
           index = g.3;
           chain_is = g.4;
         }
@@ -488,29 +477,16 @@ module _ (keep : PositionPolicy) (Allows : Header → List ℕ → Type 0) (Refu
               old_read = old_used.consumed;
               few = cb.few;
             } in
-            let named = q.named ∙ cb.copied.named in
-            let wrote = Appends-trans first.sink.taken s1.writer.sink.taken s2.writer.sink.taken out q.out cb.copied.wrote q.wrote in
-            ended s old_bytes begins q (NeverEndTogether old (resume_ports (ports_at s2) l')) first.sink wrote (passes.unfailed ∙ s.unfailed) g.2
+            let wrote = wrote_then cb.copied.wrote q.wrote in
+            ended s old_bytes begins q (NeverEndTogether old (resume_ports (ports_at s2) l')) first.sink wrote.bytes (passes.unfailed ∙ s.unfailed) g.2
             (never_end s2.reader s2.writer.sink)
             (λ e. ResumesKeyed keep Allows Refused p old (resume_ports (ports_at s2) l') e (InPayload unlocked.key))
             (λ written d none settled. record {
-              is = record {
-                run = Some r;
-                done = (from, g.1.unfailed, d, none);
-                stopped = tt;
-                settled = settled;
-                named = named;
-              };
+              is = record { run = Some r; done = (from, g.1.unfailed, d, none); stopped = tt; settled = settled; named = wrote.named };
               stands = refl;
               due = at;
             }) (λ stopped d. record {
-              is = record {
-                run = Some r;
-                done = tt;
-                stopped = (from, g.1.unfailed, d);
-                settled = tt;
-                named = named;
-              };
+              is = record { run = Some r; done = tt; stopped = (from, g.1.unfailed, d); settled = tt; named = wrote.named };
               stands = refl;
               due = at;
             }) result o.ended

@@ -142,7 +142,7 @@ module _ {keep : PositionPolicy} {Allows : Header → List ℕ → Type 0} {a : 
     skipped_size = begins.skipped_size;
     at_end = q.at_end;
     wrote = wrote;
-    count = omega (arith, q.count, begins.written, length-append copied q.out);
+    count = omega (arith, q.wrote.count, begins.written, length-append copied q.out);
     prefix = q.prefix;
   }
 

@@ -13,10 +13,10 @@ use Rattle.age_chunk.specs.Payload.{chunk_limit, last_index, block_length, pair,
 use Rattle.age_stream.specs.Sealer.{SealerView, Holds, step_len, needs_too_many}
 use Rattle.age_stream.specs.Opener.{chunk_bytes}
 use Rattle.age_stream.proofs.LawLemmas.{payload_is_longer, sealed_grows}
-use Rattle.age_fault.specs.Faults.{HasFailed, Writes}
-use Rattle.age_file.specs.inner.Readers.{WriterView, ReaderView, PullFails}
-use Rattle.age_file.specs.inner.Seals.{front_of, IsTooLong, SealsSome, GoesOn, SealFails, HasRoom, Wrote, SealingFails, SealsFront, SealsSource, BeginsFile}
-use Rattle.age_file.specs.inner.Seals.{FrontFails, WritesFront, SealsAll}
+use Rattle.age_fault.specs.Faults.{HasFailed}
+use Rattle.age_file.specs.inner.Readers.{WriterView, Wrote, ReaderView, PullFails}
+use Rattle.age_file.specs.inner.Seals.{front_of, IsTooLong, SealsSome, SealsRest, GoesOn, SealFails, HasRoom, SealingFails, SealsFront, SealsSource, BeginsFile}
+use Rattle.age_file.specs.inner.Seals.{FrontFails, SealsAll}
 use Rattle.age_fault.specs.declared.fault.FileFault.{FileFault}
 use Rattle.age_fault.specs.declared.fault.FileFault.TheVariants.{Stream, Write, Read, ReadNeverEnds, Memory}
 use Rattle.age_io.proofs.TakenLemmas.{Appends-trans}
@@ -26,7 +26,7 @@ use Rattle.std.proofs.lemmas.Grind.{flat_map-append}
 use Rattle.age_stream.specs.Headline.{IsPrefixOf}
 use Rattle.age_io.specs.Io.{SourceView, SinkView}
 use Rattle.age_file.specs.Runs.{Ports, pull_room, ports, NoneFailed, WriteFailed}
-use Rattle.age_file.proofs.ReadLemmas.{prefix_trans}
+use Rattle.age_file.proofs.ReadLemmas.{prefix_trans, wrote_then}
 use Rattle.age_io.specs.Taken.{Appends}
 use Rattle.age_io.specs.Supply.{Consumes}
 use Rattle.age_io.proofs.SupplyLemmas.{Consumes-nil}
@@ -87,10 +87,9 @@ some_sealed sealing n old new was now piece taken chunk out unwritten is wrote b
 
 -- ---- one after the other
 
-module _ {B : Type 0} (sealing : B → List ℕ → List ℕ → List ℕ) (n : ℕ) where
-  pub goes_then : (a b c : SealerView B) (fed more : List ℕ) → GoesOn sealing n a b fed
-      → GoesOn sealing n b c more → GoesOn sealing n a c (fed ++ more)
-  goes_then a b c fed more p q =
+module _ {B : Type 0} {sealing : B → List ℕ → List ℕ → List ℕ} {n : ℕ} where
+  pub goes_then : {a b c : SealerView B} {fed more : List ℕ} → GoesOn sealing n a b fed → GoesOn sealing n b c more → GoesOn sealing n a c (fed ++ more)
+  goes_then {a} {b} {c} {fed} {more} p q =
       record {
         key = q.key ∙ p.key;
         feeding = q.feeding;
@@ -98,18 +97,14 @@ module _ {B : Type 0} (sealing : B → List ℕ → List ℕ → List ℕ) (n : 
       }
 
   -- what a piece's front gave, and then what of the rest
-  pub some_then : (a b c : SealerView B) (was mid now : WriterView) (front rest fed left unwritten : List ℕ)
+  pub some_then : {a b c : SealerView B} {was mid now : WriterView} {front rest fed left unwritten : List ℕ}
       → SealsSome sealing n a b was mid front front [] [] → GoesOn sealing n a b front → SealsSome sealing n b c mid now rest fed left unwritten
       → SealsSome sealing n a c was now (front ++ rest) (front ++ fed) left unwritten
-  some_then a b c was mid now front rest fed left unwritten p goes q =
+  some_then {a} {b} {c} {was} {mid} {now} {front} {rest} {fed} {left} {unwritten} p goes q =
       record {
         out = p.out ++ q.out;
         parts = ap (λ (t : List ℕ). front ++ t) q.parts ∙ sym (append_assoc front fed left);
-        wrote = record {
-          bytes = Appends-trans was.sink.taken mid.sink.taken now.sink.taken p.out q.out p.wrote.bytes q.wrote.bytes;
-          count = omega (arith, p.wrote.count, q.wrote.count, length-append p.out q.out);
-          named = q.wrote.named ∙ p.wrote.named;
-        };
+        wrote = wrote_then p.wrote q.wrote;
         blocks = λ text h.
             let one = p.blocks text h in
             let two = q.blocks (text ++ front) (goes.holds text h) in
@@ -122,35 +117,35 @@ module _ {B : Type 0} (sealing : B → List ℕ → List ℕ → List ℕ) (n : 
       }
 
   -- only the part that was fed
-  pub fed_alone : (a b : SealerView B) (was now : WriterView) (piece fed left unwritten : List ℕ)
+  pub fed_alone : {a b : SealerView B} {was now : WriterView} {piece fed left unwritten : List ℕ}
       → SealsSome sealing n a b was now piece fed left unwritten → SealsSome sealing n a b was now fed fed [] unwritten
-  fed_alone a b was now piece fed left unwritten p = record { out = p.out; parts = sym (append-nil fed); wrote = p.wrote; blocks = p.blocks }
+  fed_alone {a} {b} {was} {now} {piece} {fed} {left} {unwritten} p = record { out = p.out; parts = sym (append-nil fed); wrote = p.wrote; blocks = p.blocks }
 
   -- the rest of a piece, as a slice has it
-  pub next_some : (a b c : SealerView B) (was mid now : WriterView) (piece : List ℕ) (at : ℕ) (fed left unwritten : List ℕ)
+  pub next_some : {a b c : SealerView B} {was mid now : WriterView} (piece : List ℕ) (at : ℕ) {fed left unwritten : List ℕ}
       → SealsSome sealing n a b was mid (take at piece) (take at piece) [] [] → GoesOn sealing n a b (take at piece)
       → SealsSome sealing n b c mid now (take (length piece - at) (drop at piece)) fed left unwritten
       → SealsSome sealing n a c was now piece (take at piece ++ fed) left unwritten
-  next_some a b c was mid now piece at fed left unwritten p goes q =
+  next_some {a} {b} {c} {was} {mid} {now} piece at {fed} {left} {unwritten} p goes q =
       subst (λ (t : List ℕ). SealsSome sealing n a c was now t (take at piece ++ fed) left unwritten)
       (ap (λ (t : List ℕ). take at piece ++ t) (take_rest piece at) ∙ take-append-drop at piece)
-      (some_then a b c was mid now (take at piece) (take (length piece - at) (drop at piece)) fed left unwritten p goes q)
+      (some_then p goes q)
 
-  -- what was fed up to the next place
-  pub fed_is : (piece : List ℕ) (at taken : ℕ) (fed left : List ℕ) → take (length piece - at) (drop at piece) ≡ fed ++ left → taken ≡ length fed
-      → take at piece ++ fed ≡ take (at + taken) piece
-  fed_is piece at taken fed left parts len =
-      let e : fed ≡ take taken (drop at piece) = sym (take_at fed left taken (sym len)) ∙ ap (take taken) (sym parts ∙ take_rest piece at) in
-      ap (λ (t : List ℕ). take at piece ++ t) e ∙ sym (take-add at taken piece)
-
-  pub fails_then : (a b : SealerView B) (was mid now : WriterView) (front rest : List ℕ) (fault : FileFault) → mid.sink.failed ≡ was.sink.failed
+  pub fails_then : {a b : SealerView B} (was mid now : WriterView) (front rest : List ℕ) (fault : FileFault) → mid.sink.failed ≡ was.sink.failed
       → GoesOn sealing n a b front → SealFails sealing n b mid now rest fault → SealFails sealing n a was now (front ++ rest) fault
-  fails_then a b was mid now front rest (Stream fault) same goes f =
+  fails_then {a} {b} was mid now front rest (Stream fault) same goes f =
       let more : IsTooLong n a (front ++ rest) = λ text h. subst (λ (t : List ℕ). chunk_limit * n < length t) (append_assoc text front rest)
       (f.0 (text ++ front) (goes.holds text h)) in
       (more, f.1, f.2 ∙ same)
-  fails_then a b was mid now front rest Write same goes f = subst (λ (k : ℕ). HasFailed k now.sink.failed now.sink.failing) same f
-  fails_then a b was mid now front rest other same goes f = absurd f
+  fails_then was mid now front rest Write same goes f = subst (λ (k : ℕ). HasFailed k now.sink.failed now.sink.failing) same f
+  fails_then was mid now front rest other same goes f = absurd f
+
+-- what was fed up to the next place
+pub fed_is : (piece : List ℕ) (at taken : ℕ) (fed left : List ℕ) → take (length piece - at) (drop at piece) ≡ fed ++ left → taken ≡ length fed
+    → take at piece ++ fed ≡ take (at + taken) piece
+fed_is piece at taken fed left parts len =
+    let e : fed ≡ take taken (drop at piece) = sym (take_at fed left taken (sym len)) ∙ ap (take taken) (sym parts ∙ take_rest piece at) in
+    ap (λ (t : List ℕ). take at piece ++ t) e ∙ sym (take-add at taken piece)
 
 -- ---- sizes
 
@@ -163,11 +158,11 @@ module _ (sealing : List ℕ → List ℕ → List ℕ) (opening : List ℕ → 
       omega (arith, (payload_is_longer sealing opening valid n text).1, mul-le q (n + 16) (length text) block_length few most)
 
 -- after a piece's front the count of what was written has room for a block
-pub room_left : {B : Type 0} (sealing : B → List ℕ → List ℕ → List ℕ) (opening : List ℕ → List ℕ → Option (List ℕ)) (n : ℕ) (a b : SealerView B)
-    (was now : WriterView) (piece : List ℕ) (at : ℕ) → IsChunkBox (sealing a.key) opening → n + 16 ≤ block_length
+pub room_left : {B : Type 0} {sealing : B → List ℕ → List ℕ → List ℕ} (opening : List ℕ → List ℕ → Option (List ℕ)) {n : ℕ} {a b : SealerView B}
+    {was now : WriterView} (piece : List ℕ) (at : ℕ) → IsChunkBox (sealing a.key) opening → n + 16 ≤ block_length
     → HasRoom sealing n a was.tally.written (length piece) → SealsSome sealing n a b was now (take at piece) (take at piece) [] []
     → now.tally.written ≤ 2 ^ 127
-room_left sealing opening n a b was now piece at valid most room some =
+room_left {B} {sealing} opening {n} {a} {b} {was} {now} piece at valid most room some =
     let text = room.text in
     let fed = take at piece in
     let blocks = some.blocks text room.holds in
@@ -196,8 +191,8 @@ no_front sealing n positive =
     let zero : 0 / n ≡ 0 = omega arith in
     ap (λ (q : ℕ). block_bytes (map (pair sealing false) (enumerate_from 0 (first_chunks n q [])))) zero
 
-module _ {B : Type 0} (sealing : B → List ℕ → List ℕ → List ℕ) (n : ℕ) (a b d : SealerView B) (was mid now : WriterView)
-    (text piece fed left unwritten : List ℕ) (goes : GoesOn sealing n a b text)
+module _ {B : Type 0} {sealing : B → List ℕ → List ℕ → List ℕ} {n : ℕ} {a b d : SealerView B} {was mid now : WriterView}
+    {text piece fed left unwritten : List ℕ} (goes : GoesOn sealing n a b text)
     (fresh : Holds n a []) (wrote : Wrote was mid (front_of (sealing a.key) n text))
     (some : SealsSome sealing n b d mid now piece fed left unwritten) (positive : 0 < n) where
   -- the blocks that the piece brought
@@ -207,12 +202,7 @@ module _ {B : Type 0} (sealing : B → List ℕ → List ℕ → List ℕ) (n : 
       ∙ ap (λ (k : B). front_of (sealing k) n text ++ (some.out ++ unwritten)) goes.key)
 
   both : Wrote was now (front_of (sealing a.key) n text ++ some.out)
-  both =
-      record {
-        bytes = Appends-trans was.sink.taken mid.sink.taken now.sink.taken (front_of (sealing a.key) n text) some.out wrote.bytes some.wrote.bytes;
-        count = omega (arith, wrote.count, some.wrote.count, length-append (front_of (sealing a.key) n text) some.out);
-        named = some.wrote.named ∙ wrote.named;
-      }
+  both = wrote_then wrote some.wrote
 
   -- a whole piece
   pub piece_done : left ≡ [] → unwritten ≡ [] → GoesOn sealing n b d fed → GoesOn sealing n a d (text ++ piece)
@@ -222,7 +212,7 @@ module _ {B : Type 0} (sealing : B → List ℕ → List ℕ → List ℕ) (n : 
       let blocks : front_of (sealing a.key) n text ++ some.out ≡ front_of (sealing a.key) n (text ++ piece) =
       ap (λ (t : List ℕ). front_of (sealing a.key) n text ++ t) (sym (append-nil some.out) ∙ ap (λ (t : List ℕ). some.out ++ t) (sym whole))
       ∙ (sym brought ∙ ap (λ (t : List ℕ). front_of (sealing a.key) n (text ++ t)) same) in (
-        subst (λ (t : List ℕ). GoesOn sealing n a d (text ++ t)) same (goes_then sealing n a b d text fed goes more),
+        subst (λ (t : List ℕ). GoesOn sealing n a d (text ++ t)) same (goes_then goes more),
         subst (λ (t : List ℕ). Wrote was now t) blocks both,
       )
 
@@ -288,30 +278,26 @@ sealing_failed {B} sealing n k key old new was now fault same front named = reco
 
 -- ---- the last block
 
-module _ {B : Type 0} (sealing : B → List ℕ → List ℕ → List ℕ) (n : ℕ) (a b : SealerView B) (was mid now : WriterView) (text : List ℕ)
-    (key : b.key ≡ a.key) (holds : Holds n b text) (wrote : Wrote was mid (front_of (sealing a.key) n text)) (out unwritten : List ℕ)
-    (last : Wrote mid now out) (blocks : (t : List ℕ) → Holds n b t
-    → payload (sealing b.key) n t ≡ front_of (sealing b.key) n t ++ (out ++ unwritten)) where
-  whole : payload (sealing a.key) n text ≡ (front_of (sealing a.key) n text ++ out) ++ unwritten
+module _ {B : Type 0} {sealing : B → List ℕ → List ℕ → List ℕ} {n : ℕ} {a b : SealerView B} {was mid now : WriterView} {text : List ℕ}
+    {result : Result (Unit {0}) FileFault} (goes : GoesOn sealing n a b text) (fresh : Holds n a [])
+    (wrote : Wrote was mid (front_of (sealing a.key) n text)) (last : SealsRest sealing n b mid now result) where
+  abbrev written : List ℕ
+  written = front_of (sealing a.key) n text ++ last.out
+
+  whole : payload (sealing a.key) n text ≡ written ++ last.unwritten
   whole =
-      ap (λ (k : B). payload (sealing k) n text) (sym key)
-      ∙ (blocks text holds ∙ (ap (λ (k : B). front_of (sealing k) n text ++ (out ++ unwritten)) key
-      ∙ sym (append_assoc (front_of (sealing a.key) n text) out unwritten)))
+      ap (λ (k : B). payload (sealing k) n text) (sym goes.key) ∙ (last.blocks text (goes.holds [] fresh)
+      ∙ (ap (λ (k : B). front_of (sealing k) n text ++ (last.out ++ last.unwritten)) goes.key
+      ∙ sym (append_assoc (front_of (sealing a.key) n text) last.out last.unwritten)))
 
-  pub last_written : Wrote was now (front_of (sealing a.key) n text ++ out)
-  last_written =
-      record {
-        bytes = Appends-trans was.sink.taken mid.sink.taken now.sink.taken (front_of (sealing a.key) n text) out wrote.bytes last.bytes;
-        count = omega (arith, wrote.count, last.count, length-append (front_of (sealing a.key) n text) out);
-        named = last.named ∙ wrote.named;
-      }
+  pub last_written : Wrote was now written
+  last_written = wrote_then wrote last.wrote
 
-  pub last_begins : IsPrefixOf (front_of (sealing a.key) n text ++ out) (payload (sealing a.key) n text)
-  last_begins = (unwritten, sym whole)
+  pub last_begins : IsPrefixOf written (payload (sealing a.key) n text)
+  last_begins = (last.unwritten, sym whole)
 
-  pub last_whole : unwritten ≡ [] → Wrote was now (payload (sealing a.key) n text)
-  last_whole none = subst (λ (t : List ℕ). Wrote was now t) (sym (whole ∙ ap (λ (t : List ℕ). (front_of (sealing a.key) n text ++ out) ++ t) none
-      ∙ append-nil (front_of (sealing a.key) n text ++ out))) last_written
+  pub last_whole : last.unwritten ≡ [] → Wrote was now (payload (sealing a.key) n text)
+  last_whole none = subst (λ (t : List ℕ). Wrote was now t) (sym (whole ∙ ap (λ (t : List ℕ). written ++ t) none ∙ append-nil written)) last_written
 
 -- ---- A file's front, and what of the file was written.
 
@@ -426,27 +412,3 @@ front_fails s source was now Memory f = ap (λ w. ports source w.sink) f
 front_fails s source was now Write f =
     front_cut s f.front f.begins (ports source was.sink) (ports source now.sink) refl (f.failed, refl) f.out f.unwritten f.parts f.wrote
 front_fails s source was now other f = absurd f
-
--- all of it was, or a front of it
-pub front_written : (s : SecretView) (was now : WriterView) (bytes : List ℕ) → BeginsFile s bytes → was.tally.written ≡ 0
-    → (result : Result (Unit {0}) FileFault) → Writes was.sink now.sink was.tally.written now.tally.written bytes result
-    → IfErr result (λ fault. fault ≡ Write) → WritesFront s was now result
-front_written s was now bytes begins zero (Ok done) put is =
-    let whole : put.out ≡ bytes = sym (put.parts ∙ ap (λ (t : List ℕ). put.out ++ t) put.answered.0 ∙ append-nil put.out) in
-    record {
-      front = bytes;
-      begins = begins;
-      wrote = subst (λ (t : List ℕ). Appends was.sink.taken now.sink.taken t) whole put.wrote;
-      count = omega (arith, put.count, zero, ap length whole);
-      failed = put.answered.1;
-    }
-front_written s was now bytes begins zero (Err fault) put is =
-    subst (λ (f : FileFault). FrontFails s was now f) (sym is) (record {
-      front = bytes;
-      begins = begins;
-      out = put.out;
-      unwritten = put.unwritten;
-      parts = put.parts;
-      wrote = put.wrote;
-      failed = put.answered;
-    })

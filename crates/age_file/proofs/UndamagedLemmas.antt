@@ -25,7 +25,7 @@ use Rattle.age_keys.specs.inner.PayloadBox.{box_valid}
 use Rattle.age_fault.specs.declared.fault.FileFault.{FileFault}
 use Rattle.age_fault.specs.declared.fault.FileFault.TheVariants.{Head, Key, NonceCut, Stream, Read, Write, Memory, ReadNeverEnds, OtherFile, ShortText}
 use Rattle.age_fault.specs.declared.fault.FileFault.TheVariants.{PositionForged, OldTextDiffers}
-use Rattle.age_file.specs.Runs.{Ports, IsHeadFault, Run, run_outcome, IsRun, PayloadFails, IsDone, Reads, OpenedFile, HasId, NeverEnds}
+use Rattle.age_file.specs.Runs.{Ports, IsHeadFault, Run, run_outcome, IsRun, PayloadFails, IsDone, Reads, OpenedFile, NeverEnds}
 use Rattle.age_file.specs.Decrypts.{StartFails, IsWhole, WritesText, StopsOutside, DecryptEnds, DecryptStops, IsUndamagedFile}
 use Rattle.age_file.specs.inner.Payloads.{segment}
 use Rattle.age_file.proofs.ReadLemmas.{fault_of_all, left_of, none_left, same_front, regroup}
@@ -72,7 +72,7 @@ failed_stays op n k bytes more false fault e none =
     let still : (outcome op n fed).status ≡ Open → ⊥ = λ o. let clash : Open ≡ Failed fault = sym o ∙ later in cc in
     (closed_stays op n fed (λ _. refl) still).1.fault fault later
 
-module _ (one : OneHeader) (Allows : Header → List ℕ → Type 0) (Refused : Header → KeyFault → Type 0) (coming : Supply) (text : List ℕ)
+module _ (one : OneHeader) {Allows : Header → List ℕ → Type 0} {Refused : Header → KeyFault → Type 0} {coming : Supply} {text : List ℕ}
     (u : IsWhole Allows Refused coming text) where
   -- what was read of the header is the file's
   pub record IsFront (h : Header) (front behind : List ℕ) : Type 0 where
@@ -140,28 +140,25 @@ module _ (one : OneHeader) (Allows : Header → List ℕ → Type 0) (Refused : 
     pub left_is : after.left ≡ Some left
     pub payload_is : behind ++ left ≡ payload (box u.key u.nonce) chunk_length text
 
-  -- the file's front is that which was read
-  pub front_is : (after : Supply) (h : Header) (front nonce behind : List ℕ) → HeadText h front → Consumes coming after ((front ++ nonce) ++ behind)
-      → front ≡ u.file.front
-  front_is after h front nonce behind text_is consumed =
-      let t = left_of coming after u.bytes ((front ++ nonce) ++ behind) u.all consumed in
-      let parts = t.1 ∙ regroup front nonce behind t.0 in
-      (fronts h front (nonce ++ (behind ++ t.0)) text_is parts).front_is
-
-  pub opened_as : (after : Supply) (h : Header) (front key nonce behind : List ℕ) → HeadText h front → Allows h key → length nonce ≡ 16
-      → Consumes coming after ((front ++ nonce) ++ behind) → IsOpenedAs key nonce behind after
-  opened_as after h front key nonce behind text_is allows size consumed =
-      let t = left_of coming after u.bytes ((front ++ nonce) ++ behind) u.all consumed in
-      let parts = t.1 ∙ regroup front nonce behind t.0 in
-      let same = fronts h front (nonce ++ (behind ++ t.0)) text_is parts in
-      let both = same_front nonce u.nonce (behind ++ t.0) (payload (box u.key u.nonce) chunk_length text) (size ∙ sym u.file.size) same.rest_is in
+  pub opened_as : {after : Supply} {f : OpenedFile} {behind : List ℕ} → Reads Allows coming after f behind → IsOpenedAs f.key f.nonce behind after
+  opened_as {after} {f} {behind} r =
+      let front = f.header_bytes in
+      let t = left_of coming after u.bytes ((front ++ f.nonce) ++ behind) u.all r.read in
+      let same = fronts f.header front (f.nonce ++ (behind ++ t.0)) r.text (t.1 ∙ regroup front f.nonce behind t.0) in
+      let both = same_front f.nonce u.nonce (behind ++ t.0) (payload (box u.key u.nonce) chunk_length text) (r.size ∙ sym u.file.size) same.rest_is in
       record {
-        key_is = u.only key (subst (λ (x : Header). Allows x key) same.header_is allows);
+        key_is = u.only f.key (subst (λ (x : Header). Allows x f.key) same.header_is r.opens.allowed);
         nonce_is = both.0;
         left = t.0;
         left_is = t.2;
         payload_is = both.1;
       }
+
+  -- and so is the file's front that which was read
+  pub front_is : {after : Supply} {f : OpenedFile} {behind : List ℕ} → Reads Allows coming after f behind → f.header_bytes ≡ u.file.front
+  front_is {after} {f} {behind} r =
+      let t = left_of coming after u.bytes ((f.header_bytes ++ f.nonce) ++ behind) u.all r.read in
+      (fronts f.header f.header_bytes (f.nonce ++ (behind ++ t.0)) r.text (t.1 ∙ regroup f.header_bytes f.nonce behind t.0)).front_is
 
   -- from a chunk of the text on, whose blocks are the writer's
   module _ (k : ℕ) (below : k < chunk_count chunk_length text) (authentic : IsAuthentic (box u.key u.nonce) (unbox u.key u.nonce) chunk_length text
@@ -210,12 +207,12 @@ module _ (one : OneHeader) (Allows : Header → List ℕ → Type 0) (Refused : 
         cc
 
 -- no fault of what is before a payload
-module _ (one : OneHeader) (Allows : Header → List ℕ → Type 0) (Refused : Header → KeyFault → Type 0) (before after : SourceView) (text : List ℕ)
+module _ (one : OneHeader) {Allows : Header → List ℕ → Type 0} {Refused : Header → KeyFault → Type 0} (before after : SourceView) {text : List ℕ}
     (u : IsWhole Allows Refused before.supply text) where
   pub start_undamaged : (fault : FileFault) → StartFails Allows Refused before after fault → StopsOutside fault
-  start_undamaged (Head x) f = absurd (no_head_fault one Allows Refused before.supply text u x (fault_of_all before.supply after.supply x f))
-  start_undamaged (Key x) f = absurd (no_key_fault one Allows Refused before.supply text u after.supply f.0 f.1 f.2 x f.3 f.4 f.5 f.6)
-  start_undamaged NonceCut f = absurd (no_nonce_cut one Allows Refused before.supply text u after.supply f.0.0 f.0.1 f.0.3 f.0.4 f.0.6 f.0.7 f.1)
+  start_undamaged (Head x) f = absurd (no_head_fault one u x (fault_of_all before.supply after.supply x f))
+  start_undamaged (Key x) f = absurd (no_key_fault one u after.supply f.0 f.1 f.2 x f.3 f.4 f.5 f.6)
+  start_undamaged NonceCut f = absurd (no_nonce_cut one u after.supply f.0.0 f.0.1 f.0.3 f.0.4 f.0.6 f.0.7 f.1)
   start_undamaged Read f = tt
   start_undamaged Write f = tt
   start_undamaged Memory f = tt
@@ -237,23 +234,14 @@ own_authentic key nonce text few closed k below =
     (record { below = below; bytes = refl; ended = refl; timely = refl })
 
 -- a run of an undamaged file, from a chunk of its text
-module _ (one : OneHeader) (Allows : Header → List ℕ → Type 0) (Refused : Header → KeyFault → Type 0) (old new : Ports) (text : List ℕ)
-    (u : IsWhole Allows Refused old.source.supply text) (closed : IsClosed (box u.key u.nonce) (unbox u.key u.nonce) chunk_length text) (written : ℕ)
-    (r : Run) (below : r.first < chunk_count chunk_length text) where
-  abbrev rest : List ℕ
-  rest = drop (r.first * block_length) (payload (box u.key u.nonce) chunk_length text)
-
-  run_opened : IsRun Allows old new written r → IsOpenedAs one Allows Refused old.source.supply text u r.file.key r.file.nonce
-      (r.skipped ++ r.bytes) new.source.supply
-  run_opened is =
-      opened_as one Allows Refused old.source.supply text u new.source.supply r.file.header r.file.header_bytes r.file.key r.file.nonce
-      (r.skipped ++ r.bytes) is.reads.text is.reads.opens.allowed is.reads.size is.reads.read
-
+module _ (one : OneHeader) {Allows : Header → List ℕ → Type 0} {Refused : Header → KeyFault → Type 0} {old new : Ports} {text : List ℕ}
+    (u : IsWhole Allows Refused old.source.supply text) (closed : IsClosed (box u.key u.nonce) (unbox u.key u.nonce) chunk_length text) {written : ℕ}
+    {r : Run} (below : r.first < chunk_count chunk_length text) where
   -- opens to its end
   pub run_opens : (fault : StreamFault) → IsRun Allows old new written r → (run_outcome r).status ≡ Failed fault → ⊥
   run_opens fault is failed =
-      no_stream_fault one Allows Refused old.source.supply text u r.first below (own_authentic u.key u.nonce text u.few closed r.first below)
-      new.source.supply r.file.key r.file.nonce r.skipped r.bytes r.ended fault (run_opened is) is.skipped_size is.at_end failed
+      no_stream_fault one u r.first below (own_authentic u.key u.nonce text u.few closed r.first below)
+      new.source.supply r.file.key r.file.nonce r.skipped r.bytes r.ended fault (opened_as one u is.reads) is.skipped_size is.at_end failed
 
   -- so it has no fault
   pub payload_undamaged : (never : Type 0) (fault : FileFault) → IsRun Allows old new written r
@@ -269,8 +257,9 @@ module _ (one : OneHeader) (Allows : Header → List ℕ → Type 0) (Refused : 
       → WritesText old.sink.taken new.sink.taken written text
   run_writes old_text d =
       let is = d.is in
-      let o = run_opened is in
+      let o = opened_as one u is.reads in
       let none = none_left new.source.supply o.left o.left_is (is.at_end d.ended) in
+      let rest : List ℕ = drop (r.first * block_length) (payload (box u.key u.nonce) chunk_length text) in
       let after : r.bytes ++ o.left ≡ rest = sym (drop_at r.skipped (r.bytes ++ o.left) (r.first * block_length) is.skipped_size)
       ∙ ap (drop (r.first * block_length)) (sym (append_assoc r.skipped r.bytes o.left) ∙ o.payload_is) in
       let bytes_are : r.bytes ≡ rest = sym (append-nil r.bytes) ∙ (ap (λ (t : List ℕ). r.bytes ++ t) (sym none) ∙ after) in
@@ -284,21 +273,8 @@ module _ (one : OneHeader) (Allows : Header → List ℕ → Type 0) (Refused : 
 -- ---- What can't stop a resumed decryption of an age file that is undamaged, after the text that it was
 -- made for.
 
-module _ (one : OneHeader) (Allows : Header → List ℕ → Type 0) (Refused : Header → KeyFault
-    → Type 0) (p : Position) (old new : ResumePorts) (text : List ℕ)
-    (u : IsUndamagedRest Allows Refused p old.main.source.supply old.old.supply text) where
-  opened_of : (f : OpenedFile) (rest : List ℕ) → Reads Allows old.main.source.supply new.main.source.supply f rest
-      → IsOpenedAs one Allows Refused old.main.source.supply text u.whole f.key f.nonce rest new.main.source.supply
-  opened_of f rest r = opened_as one Allows Refused old.main.source.supply text u.whole new.main.source.supply f.header f.header_bytes f.key
-      f.nonce rest r.text r.opens.allowed r.size r.read
-
-  own_file : (f : OpenedFile) (rest : List ℕ) → Reads Allows old.main.source.supply new.main.source.supply f rest → HasId p f
-  own_file f rest r =
-      let o = opened_of f rest r in
-      let front = front_is one Allows Refused old.main.source.supply text u.whole new.main.source.supply f.header f.header_bytes f.nonce rest
-      r.text r.read in
-      cc (u.own, front, o.nonce_is)
-
+module _ (one : OneHeader) {Allows : Header → List ℕ → Type 0} {Refused : Header → KeyFault → Type 0} {p : Position} (old new : ResumePorts)
+    {text : List ℕ} (u : IsUndamagedRest Allows Refused p old.main.source.supply old.old.supply text) where
   -- the old text is long enough
   old_is_long : (written : ℕ) (copied : List ℕ) (w : WritesOld p old new written copied)
       → copied ≡ w.pulled → IsAtEnd new.old.supply → p.index * chunk_length ≤ length copied
@@ -328,9 +304,9 @@ module _ (one : OneHeader) (Allows : Header → List ℕ → Type 0) (Refused : 
 
   -- the position is the file's, and was made under its key
   before_undamaged : (fault : FileFault) → BeforeOldFails Allows p old new Refused fault → StopsOutside fault
-  before_undamaged OtherFile f = absurd (f.2 (own_file f.0 f.1.0 f.1.2))
-  before_undamaged PositionForged f = let o = opened_of f.0 f.1.0 f.1.2 in absurd (f.3 (cc (u.tagged, o.key_is, o.nonce_is)))
-  before_undamaged other f = start_undamaged one Allows Refused old.main.source new.main.source text u.whole other f
+  before_undamaged OtherFile f = absurd (f.2 (cc (u.own, front_is one u.whole f.1.2, (opened_as one u.whole f.1.2).nonce_is)))
+  before_undamaged PositionForged f = let o = opened_as one u.whole f.1.2 in absurd (f.3 (cc (u.tagged, o.key_is, o.nonce_is)))
+  before_undamaged other f = start_undamaged one old.main.source new.main.source u.whole other f
 
   -- the old text is long enough, and the text's
   old_undamaged : (written : ℕ) (copied : List ℕ) (w : WritesOld p old new written copied) (fault : FileFault)
@@ -348,9 +324,8 @@ module _ (one : OneHeader) (Allows : Header → List ℕ → Type 0) (Refused : 
   skipped_undamaged : (keep : PositionPolicy) (stopped : Stopped) (s : StopsInSkipped Allows p old new keep stopped) (fault : FileFault)
       → InSkippedFails Allows p old new s.skipped fault → StopsOutside fault
   skipped_undamaged keep stopped s (Stream x) f =
-      absurd (no_early_end one Allows Refused old.main.source.supply text u.whole p.index u.below
-      (own_authentic u.whole.key u.whole.nonce text u.whole.few u.closed p.index u.below) new.main.source.supply s.file.key
-      s.file.nonce s.skipped (opened_of s.file s.skipped s.reads) s.short f.2)
+      absurd (no_early_end one u.whole p.index u.below (own_authentic u.whole.key u.whole.nonce text u.whole.few u.closed p.index u.below)
+      new.main.source.supply s.file.key s.file.nonce s.skipped (opened_as one u.whole s.reads) s.short f.2)
   skipped_undamaged keep stopped s Read f = tt
   skipped_undamaged keep stopped s ReadNeverEnds f = tt
   skipped_undamaged keep stopped s other f = absurd f
@@ -361,8 +336,7 @@ module _ (one : OneHeader) (Allows : Header → List ℕ → Type 0) (Refused : 
   undamaged_rest keep None stopped (inr (inl s)) = old_undamaged stopped.written s.copied s.writes stopped.fault s.why
   undamaged_rest keep None stopped (inr (inr s)) = skipped_undamaged keep stopped s stopped.fault s.why
   undamaged_rest keep (Some r) stopped f =
-      payload_undamaged one Allows Refused old.main new.main text u.whole u.closed stopped.written r (omega (arith, f.0.index, u.below))
-      (NeverEndTogether old new) stopped.fault f.2.is f.2.why
+      payload_undamaged one u.whole u.closed (omega (arith, f.0.index, u.below)) (NeverEndTogether old new) stopped.fault f.2.is f.2.why
 
   -- an undamaged file that was read to its end gave its text, after the old text that is the text's
   -- beginning
@@ -377,7 +351,7 @@ module _ (one : OneHeader) (Allows : Header → List ℕ → Type 0) (Refused : 
       sym (append_assoc r.copied from.more t.0) ∙ (sym t.1 ∙ sym b.begins.1) in
       let old_is = same_front r.copied (take (p.index * chunk_length) text) (from.more ++ t.0) b.begins.0 (from.old_text.size ∙ sym size) both in
       let at : r.copied ≡ take (r.first * chunk_length) text = old_is.0 ∙ ap (λ (k : ℕ). take (k * chunk_length) text) (sym from.index) in
-      run_writes one Allows Refused old.main new.main text u.whole u.closed written r (omega (arith, from.index, u.below)) at d
+      run_writes one u.whole u.closed (omega (arith, from.index, u.below)) at d
 
 -- ---- What one call wrote of an age file that is undamaged.
 
@@ -388,13 +362,12 @@ module _ (one : OneHeader) (Allows : Header → List ℕ → Type 0) (Refused : 
       → MatchResult result (λ done. WritesText old.sink.taken new.sink.taken done.written text) (λ stopped. StopsOutside stopped.fault)
   undamaged_decrypted old new text (Ok done) None ends stops whole = absurd ends
   undamaged_decrypted old new text (Ok done) (Some r) ends stops whole =
-      run_writes one Allows Refused old new text whole.whole whole.closed done.written r
-      (omega (arith, ends.0.zero)) (none_before r ends.0 text) ends.1
+      run_writes one whole.whole whole.closed (omega (arith, ends.0.zero)) (none_before r ends.0 text) ends.1
   undamaged_decrypted old new text (Err s) None ends stops whole =
-      start_undamaged one Allows Refused old.source new.source text whole.whole s.fault stops.1
+      start_undamaged one old.source new.source whole.whole s.fault stops.1
   undamaged_decrypted old new text (Err s) (Some r) ends stops whole =
-      payload_undamaged one Allows Refused old new text whole.whole whole.closed s.written r
-      (omega (arith, stops.0.zero)) (NeverEnds old.source.supply new.source.supply) s.fault stops.1.is stops.1.why
+      payload_undamaged one whole.whole whole.closed (omega (arith, stops.0.zero)) (NeverEnds old.source.supply new.source.supply) s.fault
+      stops.1.is stops.1.why
 
   pub undamaged_resumed : (p : Position) (old new : ResumePorts) (text : List ℕ) (result : Result Done Stopped) (run : Option Run)
       → IfOk result (λ done. IsSomeAnd run (ResumeEnds Allows p old new done)) → IfErr result (ResumeStops Allows p old new keep Refused run)
@@ -402,8 +375,8 @@ module _ (one : OneHeader) (Allows : Header → List ℕ → Type 0) (Refused : 
       (λ done. WritesText old.main.sink.taken new.main.sink.taken done.written text) (λ stopped. StopsOutside stopped.fault)
   undamaged_resumed p old new text (Ok done) None ends stops whole = absurd ends
   undamaged_resumed p old new text (Ok done) (Some r) ends stops whole =
-      undamaged_rest_done one Allows Refused p old new text whole done.written r ends.0 ends.2
-  undamaged_resumed p old new text (Err s) run ends stops whole = undamaged_rest one Allows Refused p old new text whole keep run s stops
+      undamaged_rest_done one old new whole done.written r ends.0 ends.2
+  undamaged_resumed p old new text (Err s) run ends stops whole = undamaged_rest one old new whole keep run s stops
 
 -- ---- What was encrypted under a passphrase, decrypted with it.
 
@@ -426,16 +399,6 @@ whole opens s max_log text bytes coming shown is within few file =
       never = a.never;
     }
 
-undamaged_of : PassphraseOpens → (s : SecretView) (max_log : ℕ) (text bytes : List ℕ) (coming : Supply) → coming.left ≡ Some bytes → IsSecret s
-    → s.log ≤ max_log → chunk_count chunk_length text ≤ chunk_limit
-    → IsClosed (box s.key s.nonce) (unbox s.key s.nonce) chunk_length text → AgeFile s text bytes
-    → IsUndamagedFile (IsPassphraseKey (passphrase_identity s max_log)) (PassphraseRefuses (passphrase_identity s max_log)) coming text
-unfolding whole
-undamaged_of opens s max_log text bytes coming shown is within few closed file = record {
-  whole = whole opens s max_log text bytes coming shown is within few file;
-  closed = closed;
-}
-
 answered : (keep : PositionPolicy) → OneHeader → (w : PassphraseIdentity) (text : List ℕ) (now last : Ports) (result : Result Done Stopped)
     (run : Option Run) → IsUndamagedFile (IsPassphraseKey w) (PassphraseRefuses w) now.source.supply text
     → DecryptAnswers PassphraseIdentity IsPassphraseKey PassphraseRefuses keep w now last result run
@@ -446,6 +409,7 @@ answered keep one w text now last (Err s) run u f =
     undamaged_decrypted one (IsPassphraseKey w) (PassphraseRefuses w) keep now last text (Err s) run tt f u
 
 pub there_and_back : OneHeader → PassphraseOpens → RoundTrip
+unfolding whole
 there_and_back one opens keep s max_log was became now last written e result run is within closed coming f =
     answered keep one (passphrase_identity s max_log) e.text now last result run
-    (undamaged_of opens s max_log e.text e.file now.source.supply coming is within e.few closed e.is) f
+    (record { whole = whole opens s max_log e.text e.file now.source.supply coming is within e.few e.is; closed = closed }) f

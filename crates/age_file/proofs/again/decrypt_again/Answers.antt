@@ -6,15 +6,6 @@ use Rattle.age_file.proofs.ReadLemmas.{read_last}
 use Rattle.age_file.proofs.AgainLawLemmas.{place_after, found_again}
 use Rattle.age_file.proofs.again.decrypt_again.Goals as goal
 
-pub returns-in_default-clause-found : goal.returns-in_default-clause-found
-returns-in_default-clause-found g c = λ copied before. rw c.early.ensures tt
-
-pub returns-in-Err-clause-found : goal.returns-in-Err-clause-found
-returns-in-Err-clause-found g c = λ copied before. rw c.early-in-Err.ensures tt
-
-pub returns-in-Err-skip_blocks-clause-found : goal.returns-in-Err-skip_blocks-clause-found
-returns-in-Err-skip_blocks-clause-found g c = λ copied before. rw c.early-in-Err-skip_blocks.ensures tt
-
 pub open_payload-requires-clause-room : goal.open_payload-requires-clause-room
 open_payload-requires-clause-room g c =
     let skipped = c.in-Ok-skip_blocks.ensures.skipped in

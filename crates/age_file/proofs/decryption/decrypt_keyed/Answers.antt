@@ -1,5 +1,4 @@
-use Rattle.std.proofs.Common.{◌++◌, arith, refl, rules, Err, None, Some, subst, List, ℕ, ◌≡◌}
-use Rattle.std.proofs.lemmas.List.{length-append}
+use Rattle.std.proofs.Common.{refl, rules, Err, None, Some, subst, List, ℕ, ◌≡◌}
 use Rattle.age_file.proofs.ReadLemmas.{stops_unread, read_last, ports_last}
 use Rattle.age_file.specs.Runs.{ports}
 use Rattle.age_file.specs.inner.Readers.{writer_view, stage, view_of_reader, stage_of}
@@ -42,12 +41,3 @@ returns-clause-decrypts g c =
     (run_ended c.args.positions Allows Refused first c.in-Ok-start_once.unlocked old new c.open_payload-result.result
     c.new-tally.ensures.written c.new-tally.ensures.index c.new-tally.ensures.chain c.in-Ok-start_once.ensures.found
     c.open_payload-result.ensures.opened))
-
-pub open_payload-result-requires-clause-room : goal.open_payload-result-requires-clause-room
-open_payload-result-requires-clause-room g c =
-    let found = c.in-Ok-start_once.ensures.found in
-    let unread = c.start_once.new.reader.intake.now.bytes in
-    let p = found.pulled in (
-      omega (arith, c.new-tally.ensures.written, p.small, length-append (found.front ++ c.in-Ok-start_once.unlocked.nonce) unread),
-      p.most,
-    )

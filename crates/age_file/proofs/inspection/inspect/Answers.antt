@@ -1,9 +1,9 @@
-use Rattle.std.proofs.Common.{◌≡◌, ◌++◌, ◌∙◌, ℕ, List, refl, inl, inr, rules}
+use Rattle.std.proofs.Common.{◌≡◌, ◌++◌, ℕ, List, refl, inl, inr, rules}
 use Rattle.std.proofs.lemmas.Result.{err_from_is_err_and}
 use Rattle.age_io.specs.Supply.{Consumes, IsAtEnd}
 use Rattle.age_stanza.specs.declared.header.Header.{Header}
 use Rattle.age_stanza.specs.Grammar.{HeadText}
-use Rattle.age_file.specs.Runs.{InHeader, NoHeadFault, StopsAtHeader, HeadFails}
+use Rattle.age_file.specs.Runs.{InHeader, NoHeadFault, HeadFails}
 use Rattle.age_file.specs.inner.Readers.{start_at, Pulled, RestFails, ReaderView, view_of_reader}
 use Rattle.age_io.specs.Io.{SourceView}
 use Rattle.age_fault.specs.declared.fault.FileFault.{FileFault}
@@ -32,18 +32,6 @@ returns-in_err-head-clause-fails g c =
     (λ h. (h.0, h.1, inl h.2)) c.in_err-head.ensures.fails in
     rw (p.1, p.2) (read_last g.S.Source.view (λ v. HeadFails NoHeadFault first v c.in_err-head.field-0.0) _ c.read_head.new.reader.source.now
     (search rules) fails)
-
-pub returns-in_err-stanzas-clause-fails : goal.returns-in_err-stanzas-clause-fails
-returns-in_err-stanzas-clause-fails g c =
-    let p = err_from_is_err_and c.from_residual-in_err-stanzas.result c.from_residual-in_err-stanzas.ensures.1 in
-    let first = g.S.Source.view c.args.source.now in
-    rw (p.1, p.2) (read_last g.S.Source.view (λ v. StopsAtHeader first.supply v.supply) _ c.read_head.new.reader.source.now (search rules)
-    c.in_ok-head.ensures.found.last)
-
-pub returns-clause-unfailed : goal.returns-clause-unfailed
-returns-clause-unfailed g c =
-    read_last g.S.Source.view (λ v. v.failed ≡ (g.S.Source.view c.args.source.now).failed) _ c.count_rest.new.reader.source.now (search rules)
-    (c.in_ok-rest.ensures.counts.unfailed ∙ c.in_ok-head.ensures.found.unfailed)
 
 pub returns-in_err-rest-clause-fails : goal.returns-in_err-rest-clause-fails
 returns-in_err-rest-clause-fails g c =

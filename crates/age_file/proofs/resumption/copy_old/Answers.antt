@@ -14,18 +14,11 @@ returns-in_err-copy_chunks-clause-copied g c =
     record {
       out = f.out;
       wrote = f.wrote;
-      named = f.named;
-      count = f.count;
       answered = rw (p.1, p.2) (text_fails chunk_length c.args.position.now.index c.args.position.now.chain
           (view_of_reader g.L.Source.view c.args.reader.now) (view_of_reader g.L.Source.view c.copy_chunks.new.reader)
           (view_of_writer g.O.Sink.view c.args.writer.now) (view_of_writer g.O.Sink.view c.copy_chunks.new.writer) f.out
           c.in_err-copy_chunks.field-0.0 f.answered);
     }
-
-pub returns-then-ne-clause-copied : goal.returns-then-ne-clause-copied
-returns-then-ne-clause-copied g c =
-    let f = c.in_ok-copy_chunks.ensures.copied in
-    record { out = f.out; wrote = f.wrote; named = f.named; count = f.count; answered = (f.answered, search rules) }
 
 pub returns-clause-copied : goal.returns-clause-copied
 returns-clause-copied g c =
@@ -36,8 +29,6 @@ returns-clause-copied g c =
     let same : chain chunks ≡ c.args.position.now.chain = cc in
     record {
       out = f.out;
-      wrote = f.wrote;
-      named = f.named;
-      count = c.keep.ensures.written ∙ f.count;
+      wrote = record { bytes = f.wrote.bytes; count = c.keep.ensures.written ∙ f.wrote.count; named = f.wrote.named };
       answered = (f.answered.0, f.answered.1, f.answered.2, c.keep.ensures.index ∙ f.answered.3, c.keep.ensures.chain chunks f.answered.4, same);
     }

@@ -1,15 +1,6 @@
-use Rattle.std.proofs.Common.{◌≡◌, refl, rules}
+use Rattle.std.proofs.Common.{◌≡◌, rules}
 use Rattle.age_file.specs.inner.Readers.{view_of_reader}
 use Rattle.age_file.proofs.resumption.resume_rest.Goals as goal
-
-pub returns-in-Err-clause-resumes : goal.returns-in-Err-clause-resumes
-returns-in-Err-clause-resumes g c =
-    rw c.skipping.ensures.standing (record {
-      fault = c.in-Err.fault;
-      why = c.in-Err.ensures.skipped;
-      ended = c.skipping.ensures.ended;
-      same = refl;
-    })
 
 pub open_payload-result-requires-clause-room : goal.open_payload-result-requires-clause-room
 open_payload-result-requires-clause-room g c =

@@ -1,14 +1,7 @@
 use Rattle.age_file.specs.inner.Readers.{view_of_reader}
-use Rattle.age_file.proofs.ReadLemmas.{head_to_start, key_to_start, nonce_found, nonce_missed}
+use Rattle.age_file.proofs.ReadLemmas.{key_to_start, nonce_found, nonce_missed}
 use Rattle.std.proofs.lemmas.Result.{err_from_is_err_and}
 use Rattle.age_file.proofs.start.start.Goals as goal
-
-pub returns-in_err-head-clause-fails : goal.returns-in_err-head-clause-fails
-returns-in_err-head-clause-fails g c =
-    let p = err_from_is_err_and c.from_residual.result c.from_residual.ensures.1 in
-    rw (p.1, p.2) (head_to_start (g.U.Unlock.allows c.args.unlock.now) (g.U.Unlock.refuses c.args.unlock.now)
-    (g.S.Source.view c.args.reader.now.source.now) (g.S.Source.view c.read_head.new.reader.source.now) c.in_err-head.field-0.0
-    c.in_err-head.ensures.fails)
 
 pub returns-in_err-key-clause-fails : goal.returns-in_err-key-clause-fails
 returns-in_err-key-clause-fails g c =

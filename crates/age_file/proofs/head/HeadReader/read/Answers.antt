@@ -30,9 +30,6 @@ returns-in_err-refill-clause-fails g c =
     rw (p.1, p.2) (pull_fails InHeader old (view_of_reader g.S.Source.view c.pieces.reader)
     (reader_view new c.refill.new.self) kept.held c.in_err-refill.field-0.0 kept.unfailed (kept.held, all.consumed, kept.front.inside) all a.2)
 
-pub take-requires : goal.take-requires
-take-requires g c = (c.pieces.invariant.held, c.pieces.invariant.front)
-
 pub returns-in_err-header-clause-fails : goal.returns-in_err-header-clause-fails
 returns-in_err-header-clause-fails g c =
     let p = err_from_is_err_and c.from_residual-in_err-header.result c.from_residual-in_err-header.ensures.1 in
