@@ -20,7 +20,7 @@ use Rattle.age_file.specs.declared.tally.Tally.{Tally}
 use Rattle.age_file.specs.inner.Parts.{chain_if}
 use Rattle.age_file.specs.inner.Copies.{Passes, StartsAt}
 use Rattle.age_file.specs.inner.Decrypts.{opens, OpensPayload, EndsAs}
-use Rattle.age_file.specs.inner.Payloads.{HasPlace, DecryptsPayload}
+use Rattle.age_file.specs.inner.Payloads.{HasPlace, DecryptsPayload, segment}
 use Rattle.age_file.specs.inner.Readers.{start_at, Pulled, ReaderView, Stage, stage, writer_view}
 use Rattle.age_file.proofs.RunLemmas.{place_at, BeginsAt, run, is_run, given}
 use Rattle.std.specs.List.{flat_map}
@@ -78,10 +78,9 @@ found_by Allows from copied old new r written (Some p) first_is copied_is is her
 }
 
 -- the file was started, and the blocks before the chunk were passed over
-module _ (Allows : Header → List ℕ → Type 0) (from : Option Position) (a : SourceView)
-    (unlocked : Unlocked) (s1 m : ReaderView) (s : StartsAt Allows a s1 unlocked)
-    (passed : List ℕ) (size : length passed ≡ first_of from * block_length) (passes : Passes s1 m passed) (sink : SinkView) (t : Tally)
-    (written : t.written ≡ first_of from * chunk_length) (index : t.index ≡ first_of from) where
+module _ {Allows : Header → List ℕ → Type 0} (from : Option Position) {a : SourceView} {unlocked : Unlocked} {s1 m : ReaderView}
+    (s : StartsAt Allows a s1 unlocked) {passed : List ℕ} (passes : Passes s1 m passed) (size : length passed ≡ first_of from * block_length)
+    (sink : SinkView) (t : Tally) (written : t.written ≡ first_of from * chunk_length) (index : t.index ≡ first_of from) where
   abbrev head : List ℕ
   head = s.front ++ unlocked.nonce
 
@@ -189,13 +188,7 @@ module _ (sealing : List ℕ → List ℕ → List ℕ) (opening : List ℕ → 
   longer_text : (a b : Segment) → IsPrefixOf (released opening n a) (released opening n b)
       → length (base ++ released opening n a) ≤ length (base ++ released opening n b)
   longer_text a b p =
-      omega (
-        arith,
-        length-append base (released opening n a),
-        length-append base (released opening n b),
-        length-append (released opening n a) p.0,
-        ap length p.1,
-      )
+      omega (arith, length-append {A = ℕ}, ap length p.1)
 
   extends_on : (a b c : Segment) → Extends a b → Extends b c → Extends a c
   extends_on a b c x y =
@@ -226,24 +219,21 @@ module _ (sealing : List ℕ → List ℕ → List ℕ) (opening : List ℕ → 
               absurd (omega (arith, m, within, f.0, positive)))
         ]
 
-  abbrev part : ℕ → List ℕ → Bool → Segment
-  part k bytes ended = record { start = k; bytes = bytes; ended = ended; late = false }
-
   -- of two readings of the same bytes one goes on where the other stands
   one_extends : (k : ℕ) (bytes more : List ℕ) (e f : Bool) → length base ≡ k * n → (e ≡ true → more ≡ [])
-      → Extends (part k bytes e) (part k (bytes ++ more) f) ⊎ Extends (part k (bytes ++ more) f) (part k bytes e)
-  one_extends k bytes more false false len none = inl (piece_extends (part k bytes false) more len (λ _. refl))
+      → Extends (segment k bytes e) (segment k (bytes ++ more) f) ⊎ Extends (segment k (bytes ++ more) f) (segment k bytes e)
+  one_extends k bytes more false false len none = inl (piece_extends (segment k bytes false) more len (λ _. refl))
   one_extends k bytes more false true len none =
-      inl (extends_on (part k bytes false) (part k (bytes ++ more) false)
-      (part k (bytes ++ more) true) (piece_extends (part k bytes false) more len (λ _. refl))
-      (end_extends (part k (bytes ++ more) false) (λ _. refl)))
+      inl (extends_on (segment k bytes false) (segment k (bytes ++ more) false)
+      (segment k (bytes ++ more) true) (piece_extends (segment k bytes false) more len (λ _. refl))
+      (end_extends (segment k (bytes ++ more) false) (λ _. refl)))
   one_extends k bytes more true false len none =
       let same : bytes ++ more ≡ bytes = ap (λ (t : List ℕ). bytes ++ t) (none refl) ∙ append-nil bytes in
-      inr (subst (λ (t : List ℕ). Extends (part k t false) (part k bytes true)) (sym same) (end_extends (part k bytes false) (λ _. refl)))
+      inr (subst (λ (t : List ℕ). Extends (segment k t false) (segment k bytes true)) (sym same) (end_extends (segment k bytes false) (λ _. refl)))
   one_extends k bytes more true true len none =
       let same : bytes ++ more ≡ bytes = ap (λ (t : List ℕ). bytes ++ t) (none refl) ∙ append-nil bytes in
-      inl (subst (λ (t : List ℕ). Extends (part k bytes true) (part k t true)) (sym same)
-      (record { text = ([], append-nil (released opening n (part k bytes true))); place = inl refl }))
+      inl (subst (λ (t : List ℕ). Extends (segment k bytes true) (segment k t true)) (sym same)
+      (record { text = ([], append-nil (released opening n (segment k bytes true))); place = inl refl }))
 
   -- what both wrote, if it is as much, and where they stand
   pub record StandAlike (a b : Segment) (x y : List ℕ) : Type 0 where
@@ -255,13 +245,7 @@ module _ (sealing : List ℕ → List ℕ → List ℕ) (opening : List ℕ → 
   alike a b x y positive ext p q len =
       let long = prefix_trans x (released opening n a) (released opening n b) p ext.text in
       let same = (same_front x y long.0 q.0 len (long.1 ∙ sym q.1)).0 in
-      let within : length (base ++ x) ≤ length (base ++ released opening n a) = omega (
-        arith,
-        length-append base x,
-        length-append base (released opening n a),
-        length-append x p.0,
-        ap length p.1,
-      ) in
+      let within : length (base ++ x) ≤ length (base ++ released opening n a) = omega (arith, length-append {A = ℕ}, ap length p.1) in
       record {
         wrote = same;
         place = same_place a b (length (base ++ x)) positive ext within ∙ ap (λ (t : List ℕ). min (length (base ++ t) / n) (at b)) same;
@@ -271,28 +255,28 @@ module _ (sealing : List ℕ → List ℕ → List ℕ) (opening : List ℕ → 
   turned a b x y s = record { wrote = sym s.wrote; place = sym s.place }
 
   pub stand_alike : (k : ℕ) (s t a b : List ℕ) (e f : Bool) (x y : List ℕ) → 0 < n
-      → length base ≡ k * n → s ++ a ≡ t ++ b → (e ≡ true → a ≡ []) → (f ≡ true → b ≡ []) → IsPrefixOf x (released opening n (part k s e))
-      → IsPrefixOf y (released opening n (part k t f)) → length x ≡ length y → StandAlike (part k s e) (part k t f) x y
+      → length base ≡ k * n → s ++ a ≡ t ++ b → (e ≡ true → a ≡ []) → (f ≡ true → b ≡ []) → IsPrefixOf x (released opening n (segment k s e))
+      → IsPrefixOf y (released opening n (segment k t f)) → length x ≡ length y → StandAlike (segment k s e) (segment k t f) x y
   stand_alike k s t a b e f x y positive start both ends_a ends_b p q len =
       elim (cases_lt (length t) (length s)) [
-        | inl lt ↦ turned (part k t f) (part k s e) y x (ordered t s b a f e y x (sym both) ends_b q p (sym len) (omega (arith, lt)))
+        | inl lt ↦ turned (segment k t f) (segment k s e) y x (ordered t s b a f e y x (sym both) ends_b q p (sym len) (omega (arith, lt)))
         | inr le ↦ ordered s t a b e f x y both ends_a p q len le
       ] where
-        either : (s m : List ℕ) (e f : Bool) (x y : List ℕ) → IsPrefixOf x (released opening n (part k s e))
-            → IsPrefixOf y (released opening n (part k (s ++ m) f)) → length x ≡ length y
-            → Extends (part k s e) (part k (s ++ m) f) ⊎ Extends (part k (s ++ m) f) (part k s e) → StandAlike (part k s e) (part k (s ++ m) f) x y
-        either s m e f x y p q len (inl ext) = alike (part k s e) (part k (s ++ m) f) x y positive ext p q len
+        either : (s m : List ℕ) (e f : Bool) (x y : List ℕ) → IsPrefixOf x (released opening n (segment k s e))
+            → IsPrefixOf y (released opening n (segment k (s ++ m) f)) → length x ≡ length y
+            → Extends (segment k s e) (segment k (s ++ m) f) ⊎ Extends (segment k (s ++ m) f) (segment k s e) → StandAlike (segment k s e) (segment k (s ++ m) f) x y
+        either s m e f x y p q len (inl ext) = alike (segment k s e) (segment k (s ++ m) f) x y positive ext p q len
         either s m e f x y p q len (inr ext) =
-            turned (part k (s ++ m) f) (part k s e) y x (alike (part k (s ++ m) f) (part k s e) y x positive ext q p (sym len))
+            turned (segment k (s ++ m) f) (segment k s e) y x (alike (segment k (s ++ m) f) (segment k s e) y x positive ext q p (sym len))
 
         ordered : (s t a b : List ℕ) (e f : Bool) (x y : List ℕ) → s ++ a ≡ t ++ b
-            → (e ≡ true → a ≡ []) → IsPrefixOf x (released opening n (part k s e))
-            → IsPrefixOf y (released opening n (part k t f)) → length x ≡ length y → length s ≤ length t → StandAlike (part k s e) (part k t f) x y
+            → (e ≡ true → a ≡ []) → IsPrefixOf x (released opening n (segment k s e))
+            → IsPrefixOf y (released opening n (segment k t f)) → length x ≡ length y → length s ≤ length t → StandAlike (segment k s e) (segment k t f) x y
         ordered s t a b e f x y both ends p q len le =
             let m = longer s t a b both le in
             let none : e ≡ true → m.0 ≡ [] = λ is. (none_more m.0 b (sym (ends is) ∙ m.2)).0 in
-            let q2 = subst (λ (u : List ℕ). IsPrefixOf y (released opening n (part k u f))) m.1 q in
-            subst (λ (u : List ℕ). StandAlike (part k s e) (part k u f) x y) (sym m.1)
+            let q2 = subst (λ (u : List ℕ). IsPrefixOf y (released opening n (segment k u f))) m.1 q in
+            subst (λ (u : List ℕ). StandAlike (segment k s e) (segment k u f) x y) (sym m.1)
             (either s m.0 e f x y p q2 len (one_extends k s m.0 e f start none))
 
 -- ---- A position that is found by reading again is the run's.
@@ -349,10 +333,10 @@ module _ (r q : Run) (k : ℕ) (at : Position) (left rest : List ℕ) (limit : k
     (end_r : r.ended ≡ true → left ≡ []) (end_q : q.ended ≡ true → rest ≡ [])
     (prefix_r : IsPrefixOf r.out (run_text r)) (prefix_q : IsPrefixOf q.out (run_text q)) where
   abbrev part_of : Run → Segment
-  part_of x = record { start = k; bytes = x.bytes; ended = x.ended; late = false }
+  part_of x = segment k x.bytes x.ended
 
   seg : (x : Run) → x.first ≡ k → segment_of x ≡ part_of x
-  seg x is = ap (λ (i : ℕ). record { start = i; bytes = x.bytes; ended = x.ended; late = false }) is
+  seg x is = ap (λ (i : ℕ). segment i x.bytes x.ended) is
 
   abbrev open_r : List ℕ → List ℕ → Option (List ℕ)
   open_r = unbox r.file.key r.file.nonce

@@ -271,14 +271,7 @@ module _ (sealing : List ℕ → List ℕ → List ℕ) (opening : List ℕ → 
   cut_len : (base : List ℕ) (s next : Segment) (out unwritten : List ℕ) → released opening n next ≡ released opening n s ++ (out ++ unwritten)
       → length (base ++ released opening n next) - length unwritten ≡ length (base ++ released opening n s) + length out
   cut_len base s next out unwritten e =
-      omega (
-        arith,
-        length-append base (released opening n next),
-        ap length e,
-        length-append (released opening n s) (out ++ unwritten),
-        length-append out unwritten,
-        length-append base (released opening n s),
-      )
+      omega (arith, length-append {A = ℕ}, ap length e)
 
   -- the same, and some of what it lent was not written
   pub mark_cut : (base : List ℕ) (s : Segment) (piece : List ℕ) (ts : List (List ℕ)) (out unwritten : List ℕ) (was now : Tally) → length base
@@ -320,18 +313,7 @@ module _ (sealing : List ℕ → List ℕ → List ℕ) (opening : List ℕ → 
               | inl lt ↦
                   (let r = raised base s piece ts len timely more_is lt in
                   let all : length text' ≡ at s * n + n = r.whole ∙ (ap (λ (k : ℕ). k * n) r.by_one ∙ step) in
-                  inl (omega (
-                    arith,
-                    all,
-                    some,
-                    step,
-                    left,
-                    ap length e,
-                    length-append base (released opening n next),
-                    length-append (released opening n s) (out ++ unwritten),
-                    length-append out unwritten,
-                    length-append base (released opening n s),
-                  )))
+                  inl (omega (arith, all, some, step, left, ap length e, length-append {A = ℕ})))
               | inr le ↦
                   (let same : at next ≡ at s = omega (arith, le, index_stays s piece timely) in
                   elim (stays next timely') [
@@ -384,13 +366,7 @@ module _ (sealing : List ℕ → List ℕ → List ℕ) (opening : List ℕ → 
       ≡ out ++ unwritten → CountsChunks keep opening n base s unwritten p → HasCounted keep opening n (base ++ out) last p
   marked base s last more out unwritten p is parts m =
       let text = base ++ out in
-      let left : length (base ++ released opening n s) - length unwritten ≡ length text = omega (
-        arith,
-        length-append base (released opening n s),
-        ap length parts,
-        length-append out unwritten,
-        length-append base out,
-      ) in
+      let left : length (base ++ released opening n s) - length unwritten ≡ length text = omega (arith, length-append {A = ℕ}, ap length parts) in
       let e : p.index ≡ min (length text / n) (at last) = m.index more
       ∙ (ap (λ (t : Segment). min ((length (base ++ released opening n s) - length unwritten) / n) (at t)) is
       ∙ ap (λ (k : ℕ). min (k / n) (at last)) left) in

@@ -17,6 +17,7 @@ use Rattle.age_file.specs.Decrypts.{DecryptStops, DecryptEnds, WritesText}
 use Rattle.age_file.specs.Resumes.{ResumePorts, WritesOld, IsFrom, IsSame, NeverEndTogether, StopsInSkipped, ResumeStops, ResumeEnds}
 use Rattle.age_file.specs.InARow.{AnswersRight, FirstCall, NextCall, DecryptAnswers, ResumeAnswers, last_took, AreInARow, AreTexts, AllAnswerRight, GaveFile}
 use Rattle.age_file.specs.InARow.{GaveOld, GaveRest, GaveFront}
+use Rattle.age_file.specs.inner.Payloads.{segment}
 use Rattle.age_file.specs.declared.decryption.Done.{Done}
 use Rattle.age_file.specs.declared.decryption.Stopped.{Stopped}
 use Rattle.age_file.specs.declared.position.Position.{Position}
@@ -76,72 +77,37 @@ abbrev Right : List ℕ → List ℕ → Option Position → Type 0
 Right text took position = IsPrefixOf took text × IfSome position (CarriesText text)
 
 -- nothing was written
-none_right : (text : List ℕ) (old new : Ports) (stopped : Stopped) (out : List ℕ)
-    → Appends old.sink.taken new.sink.taken out → WritesNone old new stopped → Right text out stopped.position
-none_right text old new stopped out wrote w =
+none_right : (text : List ℕ) {old new : Ports} {stopped : Stopped} (out : List ℕ) → Appends old.sink.taken new.sink.taken out
+    → WritesNone old new stopped → Right text out stopped.position
+none_right text {old} {new} {stopped} out wrote w =
     let none : out ≡ [] = one_taken old.sink.taken new.sink.taken out [] wrote
-    (subst (λ (s : SinkView). Appends old.sink.taken s.taken []) (sym w.sink) (Appends-nil old.sink.taken)) in (
-      (text, ap (λ (t : List ℕ). t ++ text) none),
-      none_carries (CarriesText text) stopped.position w.position,
-    )
+    (subst (λ (s : SinkView). Appends old.sink.taken s.taken []) (sym w.sink) (Appends-nil old.sink.taken)) in
+    ((text, ap (λ (t : List ℕ). t ++ text) none), none_carries (CarriesText text) stopped.position w.position)
 
 -- of an authentic run, its output begins the text
-run_right : (text : List ℕ) (keep : PositionPolicy) (A : Header → List ℕ → Type 0) (never : Type 0)
-    (old new : Ports) (stopped : Stopped) (r : Run) (out : List ℕ) → r.first < chunk_limit
-    → Appends old.sink.taken new.sink.taken out → StopsInPayload keep A never old new stopped r
+run_right : (text : List ℕ) {keep : PositionPolicy} {A : Header → List ℕ → Type 0} {never : Type 0} {old new : Ports} {stopped : Stopped} {r : Run}
+    (out : List ℕ) → r.first < chunk_limit → Appends old.sink.taken new.sink.taken out → StopsInPayload keep A never old new stopped r
     → IsAuthenticRun r text → Right text out stopped.position
-run_right text keep A never old new stopped r out limit wrote s auth = (
+run_right text {keep} {A} {never} {old} {new} {stopped} {r} out limit wrote s auth = (
   subst (λ (t : List ℕ). IsPrefixOf t text) (one_taken old.sink.taken new.sink.taken (held r) out s.is.wrote wrote)
       (writes_of r limit s.is.prefix text auth),
   given_carries keep (IsPositionOf r) (CarriesText text) stopped.position s.here (λ p h. position_carries r p limit s.is.prefix h text auth),
 )
 
--- ---- a decryption
+-- of a resumed one, if the old text begins the text
+module _ (text : List ℕ) (p : Position) (old new : ResumePorts) (out : List ℕ) (wrote : Appends old.main.sink.taken new.main.sink.taken out)
+    (before : (given : List ℕ) → Consumes old.old.supply new.old.supply given → IsPrefixOf given text) where
+  copied_begins : {written : ℕ} {copied : List ℕ} → WritesOld p old new written copied → IsPrefixOf copied text
+  copied_begins {written} {copied} w = prefix_trans copied w.pulled text w.front (before w.pulled w.read)
 
-module _ (text : List ℕ) (few : chunk_count chunk_length text ≤ chunk_limit) (keep : PositionPolicy)
-    (A : Header → List ℕ → Type 0) (R : Header → KeyFault → Type 0) where
-  stop_right : (old new : Ports) (run : Option Run) (stopped : Stopped) (out : List ℕ)
-      → Appends old.sink.taken new.sink.taken out → DecryptStops keep A R old new run stopped
-      → IfSome run (IsTexts text) → Right text out stopped.position
-  stop_right old new None stopped out wrote f auth = none_right text old new stopped out wrote f.0
-  stop_right old new (Some r) stopped out wrote f auth =
-      run_right text keep A (NeverEnds old.source.supply new.source.supply) old new stopped r
-      out (omega (arith, f.0.zero)) wrote f.1 (from_start r f.0 text few auth)
+  old_right : {written : ℕ} {copied : List ℕ} → WritesOld p old new written copied → IsPrefixOf out text
+  old_right {written} {copied} w =
+      subst (λ (t : List ℕ). IsPrefixOf t text) (one_taken old.main.sink.taken new.main.sink.taken copied out w.wrote wrote) (copied_begins w)
 
--- ---- a resumed one, if the old text begins the text
-
-module _ (text : List ℕ) (few : chunk_count chunk_length text ≤ chunk_limit) (A : Header → List ℕ → Type 0) (R : Header → KeyFault → Type 0) where
-  module _ (p : Position) (old new : ResumePorts) (out : List ℕ) (wrote : Appends old.main.sink.taken new.main.sink.taken out)
-      (before : (given : List ℕ) → Consumes old.old.supply new.old.supply given → IsPrefixOf given text) where
-    copied_begins : (written : ℕ) (copied : List ℕ) → WritesOld p old new written copied → IsPrefixOf copied text
-    copied_begins written copied w = prefix_trans copied w.pulled text w.front (before w.pulled w.read)
-
-    old_right : (written : ℕ) (copied : List ℕ) → WritesOld p old new written copied → IsPrefixOf out text
-    old_right written copied w =
-        subst (λ (t : List ℕ). IsPrefixOf t text) (one_taken old.main.sink.taken new.main.sink.taken copied out w.wrote wrote)
-        (copied_begins written copied w)
-
-    in_skipped_right : (keep : PositionPolicy) (stopped : Stopped) → StopsInSkipped A p old new keep stopped → Right text out stopped.position
-    in_skipped_right keep stopped s = (
-      old_right stopped.written s.copied s.writes,
-      given_carries keep (IsSame p) (CarriesText text) stopped.position s.here (λ q same. same_carries p q s.copied text s.old_text
-          (copied_begins stopped.written s.copied s.writes) same),
-    )
-
-    run_authentic : (r : Run) → IsFrom p old.old new.old r → IsTexts text r → IsAuthenticRun r text
-    run_authentic r from auth =
-        let whole = before (r.copied ++ from.more) from.old_read in
-        authentic_of text p r few from.index from.old_text (prefix_trans r.copied (r.copied ++ from.more) text (from.more, refl) whole) auth
-
-    next_right : (keep : PositionPolicy) (run : Option Run) (stopped : Stopped)
-        → ResumeStops A p old new keep R run stopped → IfSome run (IsTexts text) → Right text out stopped.position
-    next_right keep None stopped (inl f) auth = none_right text old.main new.main stopped out wrote f.0
-    next_right keep None stopped (inr (inl s)) auth =
-        (old_right stopped.written s.copied s.writes, none_carries (CarriesText text) stopped.position s.nowhere)
-    next_right keep None stopped (inr (inr s)) auth = in_skipped_right keep stopped s
-    next_right keep (Some r) stopped f auth =
-        run_right text keep A (NeverEndTogether old new) old.main new.main stopped r out
-        (omega (arith, f.0.index, p.within)) wrote f.2 (run_authentic r f.0 auth)
+  run_authentic : (r : Run) → chunk_count chunk_length text ≤ chunk_limit → IsFrom p old.old new.old r → IsTexts text r → IsAuthenticRun r text
+  run_authentic r few from auth =
+      let whole = before (r.copied ++ from.more) from.old_read in
+      authentic_of text p r few from.index from.old_text (prefix_trans r.copied (r.copied ++ from.more) text (from.more, refl) whole) auth
 
 -- ---- the row
 
@@ -158,19 +124,28 @@ module _ (Who : Type 0) (Allows : Who → Header → List ℕ → Type 0) (Refus
       one_taken old.sink.taken new.sink.taken out (held r) wrote f.1.is.wrote
       ∙ writes_all r (omega (arith, f.0.zero)) f.1.whole f.1.done text (from_start r f.0 text few auth)
   first_right keep who old new (Ok done) None out wrote f auth = absurd f
-  first_right keep who old new (Err s) run out wrote f auth = stop_right text few keep (Allows who) (Refused who) old new run s out wrote f auth
+  first_right keep who old new (Err s) None out wrote f auth = none_right text out wrote f.0
+  first_right keep who old new (Err s) (Some r) out wrote f auth =
+      run_right text out (omega (arith, f.0.zero)) wrote f.1 (from_start r f.0 text few auth)
 
   call_right : (keep : PositionPolicy) (who : Who) (p : Position) (old new : ResumePorts)
       (result : Result Done Stopped) (run : Option Run) (out : List ℕ) → Appends old.main.sink.taken new.main.sink.taken out
       → ((given : List ℕ) → Consumes old.old.supply new.old.supply given → IsPrefixOf given text)
       → ResumeAnswers Who Allows Refused keep who p old new result run → IfSome run (IsTexts text) → AnswersRight text out result
   call_right keep who p old new (Ok done) (Some r) out wrote before f auth =
-      let whole = run_authentic text few (Allows who) (Refused who) p old new out wrote before r f.0 auth in
       one_taken old.main.sink.taken new.main.sink.taken out (held r) wrote f.2.is.wrote
-      ∙ writes_all r (omega (arith, f.0.index, p.within)) f.2.whole f.2.done text whole
+      ∙ writes_all r (omega (arith, f.0.index, p.within)) f.2.whole f.2.done text (run_authentic text p old new out wrote before r few f.0 auth)
   call_right keep who p old new (Ok done) None out wrote before f auth = absurd f
-  call_right keep who p old new (Err s) run out wrote before f auth =
-      next_right text few (Allows who) (Refused who) p old new out wrote before keep run s f auth
+  call_right keep who p old new (Err s) None out wrote before (inl f) auth = none_right text out wrote f.0
+  call_right keep who p old new (Err s) None out wrote before (inr (inl f)) auth =
+      (old_right text p old new out wrote before f.writes, none_carries (CarriesText text) s.position f.nowhere)
+  call_right keep who p old new (Err s) None out wrote before (inr (inr f)) auth = (
+    old_right text p old new out wrote before f.writes,
+    given_carries keep (IsSame p) (CarriesText text) s.position f.here
+        (λ q same. same_carries p q f.copied text f.old_text (copied_begins text p old new out wrote before f.writes) same),
+  )
+  call_right keep who p old new (Err s) (Some r) out wrote before f auth =
+      run_right text out (omega (arith, f.0.index, p.within)) wrote f.2 (run_authentic text p old new out wrote before r few f.0 auth)
 
   last_began : (first : FirstCall Who Allows Refused) (calls : List (NextCall Who Allows Refused))
       → AllAnswerRight Who Allows Refused text first calls → IsPrefixOf (last_took Who Allows Refused first calls) text
@@ -189,10 +164,6 @@ module _ (Who : Type 0) (Allows : Who → Header → List ℕ → Type 0) (Refus
       )
 
 -- ---- The rest of a payload that opens to its end is the rest of the payload of its text, after any chunks before it.
-
--- what came of a payload from this block on, and whether that is all
-abbrev pub part : ℕ → List ℕ → Bool → Segment
-part k bytes ended = record { start = k; bytes = bytes; ended = ended; late = false }
 
 -- ---- tests
 
@@ -289,7 +260,7 @@ module _ (sealing : List ℕ → List ℕ → List ℕ) (opening : List ℕ → 
     z = n + tag_length
 
     abbrev s : Segment
-    s = part k bytes true
+    s = segment k bytes true
 
     abbrev ts : List (List ℕ)
     ts = opened k bytes true
@@ -427,15 +398,15 @@ module _ (sealing : List ℕ → List ℕ → List ℕ) (opening : List ℕ → 
 
   module _ (bytes : List ℕ) (ended : Bool) where
     -- the blocks before the chunk at which a segment stands begin the payload of each text that begins as it does
-    pub begins_payload : (j : ℕ) (out text : List ℕ) → j ≤ (outcome opening n (part 0 bytes ended)).index → j * n ≤ length out
-        → IsPrefixOf out (released opening n (part 0 bytes ended)) → IsPrefixOf (take (j * n) out) text → j < chunk_count n text
+    pub begins_payload : (j : ℕ) (out text : List ℕ) → j ≤ (outcome opening n (segment 0 bytes ended)).index → j * n ≤ length out
+        → IsPrefixOf out (released opening n (segment 0 bytes ended)) → IsPrefixOf (take (j * n) out) text → j < chunk_count n text
         → IsPrefixOf (take (j * (n + tag_length)) (payload sealing n text)) bytes
     begins_payload j out text at within front same below =
         let z = n + tag_length in
         let ts = opened 0 bytes ended in
         let m = length ts in
         let none : length {A = ℕ} [] ≡ 0 * n = omega arith in
-        let counted = chunks_are_counted sealing opening valid n [] (part 0 bytes ended) none in
+        let counted = chunks_are_counted sealing opening valid n [] (segment 0 bytes ended) none in
         let first = take j ts in
         let behind = drop j ts in
         let start = take (j * n) out in
@@ -445,7 +416,7 @@ module _ (sealing : List ℕ → List ℕ → List ℕ) (opening : List ℕ → 
         ∙ (chunks_of start same.0 (omega (arith, start_size))
         ∙ (sym (ap (first_chunks n j) (sym (take-append-drop (j * n) out)) ∙ chunks_of start (drop (j * n) out) (omega (arith, start_size)))
         ∙ (sym (ap (first_chunks n j) (sym front.1) ∙ chunks_of out front.0 within)
-        ∙ (counted.chunks j at ∙ ap (take j) (counted_are opening n (part 0 bytes ended)))))) in
+        ∙ (counted.chunks j at ∙ ap (take j) (counted_are opening n (segment 0 bytes ended)))))) in
         let parts : ts ≡ first ++ behind = sym (take-append-drop j ts) in
         let all : seals 0 ts ≡ take (m * z) bytes = front_is 0 bytes ended in
         let rest = seals (0 + length first) behind in (
@@ -461,16 +432,16 @@ module _ (sealing : List ℕ → List ℕ → List ℕ) (opening : List ℕ → 
 -- a run that is done read the rest of the payload of all that it wrote, from its first chunk on
 rest_read : (Allows : Header → List ℕ → Type 0) (old new : Ports) (written : ℕ) (r : Run) → IsDone Allows old new written r → r.first < chunk_limit
     → (chunk_count chunk_length (held r) ≤ chunk_limit)
-    × IsRest (box r.file.key r.file.nonce) (unbox r.file.key r.file.nonce) chunk_length (held r) (part r.first r.bytes true)
+    × IsRest (box r.file.key r.file.nonce) (unbox r.file.key r.file.nonce) chunk_length (held r) (segment r.first r.bytes true)
 rest_read Allows old new written r d limit =
     let sealing = box r.file.key r.file.nonce in
     let opening = unbox r.file.key r.file.nonce in
-    let same : segment_of r ≡ part r.first r.bytes true = ap (part r.first r.bytes) d.ended in
-    let done : (outcome opening chunk_length (part r.first r.bytes true)).status ≡ AllDone =
+    let same : segment_of r ≡ segment r.first r.bytes true = ap (segment r.first r.bytes) d.ended in
+    let done : (outcome opening chunk_length (segment r.first r.bytes true)).status ≡ AllDone =
     ap (λ (s : Segment). (outcome opening chunk_length s).status) (sym same) ∙ d.done in
-    let all : held r ≡ r.copied ++ released opening chunk_length (part r.first r.bytes true) = ap (λ (t : List ℕ). r.copied ++ t)
+    let all : held r ≡ r.copied ++ released opening chunk_length (segment r.first r.bytes true) = ap (λ (t : List ℕ). r.copied ++ t)
     (d.whole ∙ ap (λ (s : Segment). released opening chunk_length s) same) in
-    subst (λ (t : List ℕ). (chunk_count chunk_length t ≤ chunk_limit) × IsRest sealing opening chunk_length t (part r.first r.bytes true)) (sym all)
+    subst (λ (t : List ℕ). (chunk_count chunk_length t ≤ chunk_limit) × IsRest sealing opening chunk_length t (segment r.first r.bytes true)) (sym all)
     (is_rest_of sealing opening (box_valid (payload_key r.file.key r.file.nonce)) chunk_length (omega arith) r.first limit r.copied r.bytes
     d.is.copied_size done)
 
@@ -603,8 +574,8 @@ module _ (Allows : Header → List ℕ → Type 0) (Refused : Header → KeyFaul
       let positive : 0 < chunk_length = omega arith in
       let le : p.index ≤ length (held r) / chunk_length = omega (arith, at.index) in
       let within : p.index * chunk_length ≤ length (held r) = (le-div_iff_mul-le positive).0 le in
-      let here = part 0 r.bytes r.ended in
-      let same : segment_of r ≡ here = ap (λ (i : ℕ). part i r.bytes r.ended) from.zero in
+      let here = segment 0 r.bytes r.ended in
+      let same : segment_of r ≡ here = ap (λ (i : ℕ). segment i r.bytes r.ended) from.zero in
       let stands : p.index ≤ (outcome (unbox f.key f.nonce) chunk_length here).index =
       subst (λ (s : Segment). p.index ≤ (outcome (unbox f.key f.nonce) chunk_length s).index) same (omega (arith, at.index)) in
       let prefix = subst (λ (s : Segment). IsPrefixOf (held r) (released (unbox f.key f.nonce) chunk_length s)) same

@@ -159,15 +159,7 @@ two_parts p = regroup (codes "age-position/v2 ") (decimal p.index) (codes " ") (
 
 length-fields : (id links tag : List ℕ) → IsDigest id → IsDigest links → IsDigest tag → length (fields_text id links tag) ≡ 133
 length-fields id links tag d1 d2 d3 =
-    omega (
-      arith,
-      length-append (field_text id) (field_text links ++ (field_text tag ++ codes "\n")),
-      length-append (field_text links) (field_text tag ++ codes "\n"),
-      length-append (field_text tag) (codes "\n"),
-      length-field id d1,
-      length-field links d2,
-      length-field tag d3,
-    )
+    simp length-append (omega (arith, length-field id d1, length-field links d2, length-field tag d3))
 
 module _ (words : List ℕ) (p : Position) (d1 : IsDigest p.file_id) (d2 : IsDigest p.chain) (d3 : IsDigest p.tag) (e : words ≡ position_text p) where
   pub words_are : words ≡ index_text p.index ++ fields_text p.file_id p.chain p.tag

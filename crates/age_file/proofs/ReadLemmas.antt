@@ -1,7 +1,7 @@
 -- What was read: bytes, a header, a nonce, and what was passed over; and what was written.
 use Rattle.std.proofs.Common.{◌≡◌, ℕ, ◌≤◌, List, [], ◌++◌, length, take, drop, Option, Some, None, refl, sym, ap, subst, ◌∙◌, append_assoc, append-nil, inl}
 use Rattle.std.proofs.Common.{inr, arith, ◌<◌, suc, ◌*◌}
-use Rattle.std.specs.Prelude.{◌⊎◌, IfSome, Result, Ok, Err, IfOk, IfErr}
+use Rattle.std.specs.Prelude.{Bool, ◌⊎◌, IfSome, Result, Ok, Err, IfOk, IfErr}
 use Rattle.std.specs.Io.KnownBytes as known
 use Rattle.age_io.specs.Supply.{Supply, Consumes, IsAtEnd}
 use Rattle.std.proofs.lemmas.List.{take-append-drop, take_at, drop_at, length-take-le, length-append}
@@ -20,7 +20,7 @@ use Rattle.age_file.specs.Runs.{pull_room, EndsInHeader, InHeader, IsCut, IsHead
 use Rattle.age_fault.specs.inner.Faults.{fault_of, fault_by_kind, fault_of_key}
 use Rattle.age_fault.specs.declared.fault.FileFault.{FileFault}
 use Rattle.age_fault.specs.declared.fault.FileFault.TheVariants.{Head, Read, ReadNeverEnds, Memory, NonceCut}
-use Rattle.age_file.specs.inner.Readers.{Start, start_at, start_after, Pulled, PullFails, ReaderView, reader_view, WriterView, Wrote}
+use Rattle.age_file.specs.inner.Readers.{Start, start_at, start_after, Pulled, PullFails, ReaderView, reader_view, WriterView, Wrote, ReadsHead, Refills}
 use Rattle.age_io.proofs.TakenLemmas.{Appends-nil, Appends-trans}
 use Rattle.age_fault.specs.Faults.{HasFailed}
 use Rattle.age_file.specs.inner.Parts.{Unread}
@@ -36,6 +36,7 @@ use Rattle.age_keys.specs.Keys.{Opens, Refuses}
 use Rattle.age_file.specs.Decrypts.{StartFails, InNonce}
 use Rattle.age_file.specs.inner.Copies.{Uses, UsesShort, NonceFails, ReadsNonce, StartsAt, Passes, Dries, SkipFails}
 use Rattle.age_file.specs.declared.start.Unlocked.{Unlocked}
+use Rattle.age_file.specs.declared.head.Head.{Head as TheHead}
 use Rattle.std.proofs.Math.Nat.{mul-le-mul_right}
 
 -- ---- Bytes that are shown, one call after another.
@@ -174,10 +175,14 @@ sound_too P Q old new ReadNeverEnds sound f = (sound f.0, f.1)
 sound_too P Q old new other sound f = absurd f
 
 -- a refill that gave nothing
-pub cut_pulled : (start : Start) (now : Supply) (pulls : ℕ) (held bytes : List ℕ) → bytes ≡ [] → Pulled start now pulls (held ++ bytes)
+pub cut_pulled : {start : Start} {now : Supply} {pulls : ℕ} (held : List ℕ) {bytes : List ℕ} → bytes ≡ [] → Pulled start now pulls (held ++ bytes)
     → Pulled start now pulls held
-cut_pulled start now pulls held bytes none h =
+cut_pulled {start} {now} {pulls} held {bytes} none h =
     subst (λ (t : List ℕ). Pulled start now pulls t) (ap (λ (t : List ℕ). held ++ t) none ∙ append-nil held) h
+
+pub nothing_pulled : {x z : ReaderView} {result : Result Bool FileFault} {start : Start} {held : List ℕ} → Refills x z result → z.unread.bytes ≡ []
+    → Pulled start x.source.supply x.unread.pulls held → Pulled start z.source.supply z.unread.pulls held
+nothing_pulled {x} {z} {result} {start} {held} r none h = cut_pulled held none (r.pulled start held h)
 
 -- no more came, and what came is sound
 pub pull_fails : (Sound : Supply → Supply → Type 0) (old : SourceView) (mid now : ReaderView) (held : List ℕ)
@@ -304,61 +309,49 @@ nonce_fails x y z p ReadNeverEnds lt e f g none h = ((p, lt, uses_then x y z p [
 nonce_fails x y z p other lt e f g none h = absurd h
 
 module _ (Allows : Header → List ℕ → Type 0) (Refused : Header → KeyFault → Type 0) where
-  pub key_to_start : (a b : SourceView) (h : Header) (front rest : List ℕ) (fault : KeyFault) → StopsAtHeader a.supply b.supply → HeadText h front
-      → Consumes a.supply b.supply (front ++ rest) → length rest ≤ pull_room
-      → Refuses Allows Refused h fault → StartFails Allows Refused a b (fault_of_key fault)
-  key_to_start a b h front rest KeyMemory stops text consumed few refuses = stops
-  key_to_start a b h front rest other stops text consumed few refuses = (h, front, rest, text, consumed, λ e. cc, refuses, few)
+  pub key_to_start : {a : SourceView} {y : ReaderView} {h : TheHead} → ReadsHead a y h → (fault : KeyFault) → Refuses Allows Refused h.header fault
+      → StartFails Allows Refused a y.source (fault_of_key fault)
+  key_to_start {a} {y} {h} head KeyMemory refuses = head.last
+  key_to_start {a} {y} {h} head other refuses =
+      (h.header, head.front, y.unread.bytes, head.text, head.pulled.consumed, λ e. cc, refuses, head.few)
 
-  -- what was pulled if a nonce fell short
-  short_pulled : (a : Start) (y z : ReaderView) (front : List ℕ) (u : UsesShort y z)
-      → Pulled a y.source.supply y.unread.pulls (front ++ y.unread.bytes) → Pulled a z.source.supply z.unread.pulls (front ++ u.0)
-  short_pulled a y z front u p =
-      cut_pulled a z.source.supply z.unread.pulls (front ++ u.0) z.unread.bytes u.3 (subst (λ (t : List ℕ). Pulled a z.source.supply z.unread.pulls t)
-      (sym (append_assoc front u.0 z.unread.bytes)) (u.2 a front p))
+  -- a header was read and opened
+  module _ {a : SourceView} {y : ReaderView} (z : ReaderView) {h : TheHead} {key : List ℕ} (head : ReadsHead a y h) (opens : Opens Allows h.header key) where
+    -- what was pulled if a nonce fell short
+    short_pulled : (u : UsesShort y z) → Pulled (start_at a.supply) z.source.supply z.unread.pulls (head.front ++ u.0)
+    short_pulled u = cut_pulled (head.front ++ u.0) u.3 (subst (λ (t : List ℕ). Pulled (start_at a.supply) z.source.supply z.unread.pulls t) (sym (append_assoc head.front u.0 z.unread.bytes))
+        (u.2 (start_at a.supply) head.front head.pulled))
 
-  in_nonce : (a : SourceView) (y z : ReaderView) (h : Header) (front key : List ℕ) → HeadText h front
-      → Opens Allows h key → Pulled (start_at a.supply) y.source.supply y.unread.pulls (front ++ y.unread.bytes)
-      → UsesShort y z → InNonce Allows a.supply z.source.supply
-  in_nonce a y z h front key text opens p u = (h, front, key, u.0, text, opens, u.1, (short_pulled (start_at a.supply) y z front u p).consumed)
+    in_nonce : UsesShort y z → InNonce Allows a.supply z.source.supply
+    in_nonce u = (h.header, head.front, key, u.0, head.text, opens, u.1, (short_pulled u).consumed)
 
-  nonce_to_start : (a : SourceView) (y z : ReaderView) (h : Header) (front key : List ℕ) (fault : FileFault) → y.source.failed ≡ a.failed
-      → HeadText h front → Opens Allows h key → Pulled (start_at a.supply) y.source.supply y.unread.pulls (front ++ y.unread.bytes)
-      → NonceFails y z fault → StartFails Allows Refused a z.source fault
-  nonce_to_start a y z h front key NonceCut e text opens p f = (in_nonce a y z h front key text opens p f.0, f.1)
-  nonce_to_start a y z h front key Read e text opens p f = (
-    inr (in_nonce a y z h front key text opens p f.0),
-    subst (λ (m : ℕ). HasFailed m z.source.failed z.source.failing) e f.1,
-  )
-  nonce_to_start a y z h front key ReadNeverEnds e text opens p f =
-      let all = short_pulled (start_at a.supply) y z front f.0 p in (
-        inr (in_nonce a y z h front key text opens p f.0),
-        (front ++ f.0.0, all.consumed, (omega (arith, all.each_gave, f.1), omega (arith, all.small, f.1))),
-      )
-  nonce_to_start a y z h front key other e text opens p f = absurd f
+    nonce_to_start : (fault : FileFault) → NonceFails y z fault → StartFails Allows Refused a z.source fault
+    nonce_to_start NonceCut f = (in_nonce f.0, f.1)
+    nonce_to_start Read f = (inr (in_nonce f.0), subst (λ (m : ℕ). HasFailed m z.source.failed z.source.failing) head.unfailed f.1)
+    nonce_to_start ReadNeverEnds f =
+        let all = short_pulled f.0 in
+        (inr (in_nonce f.0), (head.front ++ f.0.0, all.consumed, (omega (arith, all.each_gave, f.1), omega (arith, all.small, f.1))))
+    nonce_to_start other f = absurd f
 
-  -- the nonce was read after a header that was opened, or not
-  module _ (a : SourceView) (y z : ReaderView) (h : Header) (front key : List ℕ) (digest : Sha256) (same : y.source.failed
-      ≡ a.failed) (text : HeadText h front) (opens : Opens Allows h key) (hashed : Holds256 digest front)
-      (pulled : Pulled (start_at a.supply) y.source.supply y.unread.pulls (front ++ y.unread.bytes)) where
-    pub nonce_found : (result : Result Unlocked FileFault) → IfOk result (ReadsNonce key digest y z) → IfOk result (StartsAt Allows a z)
+    -- the nonce after it was read, or not
+    pub nonce_found : (result : Result Unlocked FileFault) → IfOk result (ReadsNonce key h.digest y z) → IfOk result (StartsAt Allows a z)
     nonce_found (Ok u) r = record {
-      header = h;
-      front = front;
-      text = text;
-      opens = subst (λ (k : List ℕ). Opens Allows h k) (sym r.key_is) opens;
+      header = h.header;
+      front = head.front;
+      text = head.text;
+      opens = subst (λ (k : List ℕ). Opens Allows h.header k) (sym r.key_is) opens;
       size = r.size;
-      id = r.id front hashed;
+      id = r.id head.front head.hashed;
       few = r.takes.few;
-      pulled = subst (λ (t : List ℕ). Pulled (start_at a.supply) z.source.supply z.unread.pulls t) (sym (append_assoc front u.nonce z.unread.bytes))
-          (r.takes.uses (start_at a.supply) front pulled);
-      unfailed = r.takes.unfailed ∙ same;
+      pulled = subst (λ (t : List ℕ). Pulled (start_at a.supply) z.source.supply z.unread.pulls t)
+          (sym (append_assoc head.front u.nonce z.unread.bytes)) (r.takes.uses (start_at a.supply) head.front head.pulled);
+      unfailed = r.takes.unfailed ∙ head.unfailed;
     }
     nonce_found (Err fault) r = tt
 
     pub nonce_missed : (result : Result Unlocked FileFault) → IfErr result (NonceFails y z) → IfErr result (StartFails Allows Refused a z.source)
     nonce_missed (Ok u) f = tt
-    nonce_missed (Err fault) f = nonce_to_start a y z h front key fault same text opens pulled f
+    nonce_missed (Err fault) f = nonce_to_start fault f
 
 -- ---- What was passed over, one step after another.
 

@@ -56,11 +56,11 @@ module _ (keep : PositionPolicy) (Allows : Header → List ℕ → Type 0) (Refu
   }
 
   -- it was opened from its first chunk on
-  pub run_ended : (a : SourceView) (unlocked : Unlocked) (old new : Stage) (result : Result Done Stopped)
+  pub run_ended : {a : SourceView} {unlocked : Unlocked} {old new : Stage} {result : Result Done Stopped}
       → old.writer.tally.written ≡ 0 → old.writer.tally.index ≡ 0 → old.writer.tally.chain ≡ chain_if keep []
       → StartsAt Allows a old.reader unlocked → OpensPayload unlocked 0 old new result
       → DecryptsKeyed keep Allows Refused (ports a old.writer.sink) (ports_at new) result (Some unlocked.key)
-  run_ended a unlocked old new result written index chain_is s o =
+  run_ended {a} {unlocked} {old} {new} {result} written index chain_is s o =
       let q = o.decrypts in
       let begins : BeginsAt keep (start_at a.supply) (s.front ++ unlocked.nonce) old 0 [] [] = record {
         limit = omega arith;
@@ -218,9 +218,8 @@ module _ (keep : PositionPolicy) (Allows : Header → List ℕ → Type 0) (Refu
   refused old new u fault same text (inr f) = stopped_before old new fault same text (verdict_fails old new u f.0 fault f.1 f.2)
 
   -- the file was started, and the old text was copied, or a front of it; the pulls of both count together
-  module _ (a : SourceView) (unlocked : Unlocked) (s1 : Stage) (u : Unread)
-      (st : StartsFor Allows p a (reader_view s1.reader.source u) unlocked) (first : WriterView)
-      (zero : first.tally.written ≡ 0) (l l' : SourceView) (result : Result (Unit {0}) FileFault)
+  module _ {a : SourceView} {unlocked : Unlocked} (s1 : Stage) {u : Unread} (st : StartsFor Allows p a (reader_view s1.reader.source u) unlocked)
+      {first : WriterView} (zero : first.tally.written ≡ 0) {l l' : SourceView} {result : Result (Unit {0}) FileFault}
       (cb : CopiesBefore keep p l l' u s1.reader.unread first s1.writer result) where
     abbrev s : StartsAt Allows a (reader_view s1.reader.source u) unlocked
     s = st.starts
@@ -266,7 +265,7 @@ module _ (keep : PositionPolicy) (Allows : Header → List ℕ → Type 0) (Refu
         uses old_start [] (subst (λ (t : List ℕ). Pulled old_start l.supply x.unread.pulls t) (sym cb.none) fresh)
 
     old_dried : (used : List ℕ) → z.unread.bytes ≡ [] → Uses x z used → Pulled old_start l'.supply z.unread.pulls used
-    old_dried used empty uses = cut_pulled old_start l'.supply z.unread.pulls used z.unread.bytes empty (old_pulled used uses)
+    old_dried used empty uses = cut_pulled used empty (old_pulled used uses)
 
     -- no more than these bytes of the old text was written
     writes_old : (m : ReaderView) (pulled : List ℕ) → length out ≤ p.index * chunk_length

@@ -122,15 +122,7 @@ module _ (one : OneHeader) {Allows : Header → List ℕ → Type 0} {Refused : 
       let t = left_of coming after u.bytes (front ++ short) u.all consumed in
       let same = fronts h front (short ++ t.0) text_is (t.1 ∙ append_assoc front short t.0) in
       let none : t.0 ≡ [] = none_left after t.0 t.2 ended in
-      omega (
-        arith,
-        lt,
-        ap length same.rest_is,
-        length-append short t.0,
-        ap length none,
-        length-append u.nonce (payload (box u.key u.nonce) chunk_length text),
-        u.file.size,
-      )
+      omega (arith, lt, ap length same.rest_is, length-append {A = ℕ}, ap length none, u.file.size)
 
   -- what was read after the nonce is the payload's beginning
   pub record IsOpenedAs (key nonce behind : List ℕ) (after : Supply) : Type 0 where

@@ -77,16 +77,7 @@ returns-in_err-write_all-clause-copied g c =
       out = kept.copied ++ put.out;
       wrote = wrote_then kept.wrote (record { bytes = put.wrote; count = put.count; named = c.in_err-write_all.ensures.named });
       answered = rw (p.1, p.2, c.in_err-write_all.ensures.fault) (
-        omega (
-          arith,
-          kept.size,
-          put.stopped,
-          ap length put.parts,
-          length-append put.out put.unwritten,
-          length-take n bytes,
-          c.min-n.ensures,
-          length-append kept.copied put.out,
-        ),
+        omega (arith, kept.size, put.stopped, ap length put.parts, length-append {A = ℕ}, length-take n bytes, c.min-n.ensures),
         (
           kept.copied,
           passes_same kept.passes (record { uses = c.has_bytes.ensures.uses; unfailed = r.1 }),

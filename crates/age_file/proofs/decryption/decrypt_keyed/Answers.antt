@@ -27,10 +27,8 @@ returns-in-Err-clause-decrypts g c =
 
 pub returns-clause-decrypts : goal.returns-clause-decrypts
 returns-clause-decrypts g c =
-    let old = stage (view_of_reader g.S.Source.view c.start_once.new.reader) (writer_view (g.O.Sink.view c.args.writer.now) c.new-tally.result) in
     let new = stage_of g.S.Source.view g.O.Sink.view c.open_payload-result.new.reader c.open_payload-result.new.writer in
-    let first = g.S.Source.view c.args.reader.now in
-    let before = ports first (g.O.Sink.view c.args.writer.now) in
+    let before = ports (g.S.Source.view c.args.reader.now) (g.O.Sink.view c.args.writer.now) in
     let Allows = g.U.Unlock.allows c.args.unlock in
     let Refused = g.U.Unlock.refuses c.args.unlock in
     let given : c.in-Ok-start_once.unlocked.key ≡ c.new-2.result = search rules in
@@ -38,6 +36,5 @@ returns-clause-decrypts g c =
     (Some c.new-2.result)) _ c.open_payload-result.new.reader.source.now _ c.open_payload-result.new.writer.sink.now (search rules) (search rules)
     (subst (λ (k : List ℕ). DecryptsKeyed c.args.positions Allows Refused before
     (ports new.reader.source new.writer.sink) c.open_payload-result.result (Some k)) given
-    (run_ended c.args.positions Allows Refused first c.in-Ok-start_once.unlocked old new c.open_payload-result.result
-    c.new-tally.ensures.written c.new-tally.ensures.index c.new-tally.ensures.chain c.in-Ok-start_once.ensures.found
-    c.open_payload-result.ensures.opened))
+    (run_ended c.args.positions Allows Refused c.new-tally.ensures.written c.new-tally.ensures.index c.new-tally.ensures.chain
+    c.in-Ok-start_once.ensures.found c.open_payload-result.ensures.opened))

@@ -2,20 +2,18 @@ use Rattle.std.proofs.Common.{◌++◌, ◌∙◌, arith}
 use Rattle.std.proofs.lemmas.List.{length-append}
 use Rattle.std.proofs.lemmas.Result.{err_from_is_err_and}
 use Rattle.age_file.specs.inner.Readers.{RestFails, reader_view, view_of_reader}
-use Rattle.age_file.proofs.ReadLemmas.{rest_pulled, cut_pulled, pull_fails_since}
+use Rattle.age_file.proofs.ReadLemmas.{rest_pulled, nothing_pulled, pull_fails_since}
 use Rattle.age_file.proofs.inspection.count_rest.Goals as goal
 
 pub returns-clause-counts : goal.returns-clause-counts
 returns-clause-counts g c =
     let kept = c.pulls.invariant in
     let r = rw c.if-branch.false at c.in_ok-refill.ensures.refills.answered in
-    let now = (g.S.Source.view c.refill.new.source).supply in
     record {
       counts = λ start used h. (
         kept.passed,
         kept.count_is,
-        (cut_pulled start now c.refill.new.self.pulls (used ++ kept.passed) c.refill.new.self.bytes r.0
-            (c.refill.ensures.refills.pulled start (used ++ kept.passed) (kept.pulled start used h))).consumed,
+        (nothing_pulled c.refill.ensures.refills r.0 (kept.pulled start used h)).consumed,
       );
       at_end = r.2;
       small = omega (arith, kept.small, kept.most);
@@ -51,11 +49,7 @@ returns-in_err-refill-clause-fails g c =
     let source = g.S.Source.view c.refill.new.source in
     let new = reader_view source c.refill.new.self in
     let fails : RestFails old new c.in_err-refill.field-0.0 = record {
-      more = λ start used h. (
-        kept.passed,
-        cut_pulled start source.supply c.refill.new.self.pulls (used ++ kept.passed) c.refill.new.self.bytes a.0
-            (c.refill.ensures.refills.pulled start (used ++ kept.passed) (kept.pulled start used h)),
-      );
+      more = λ start used h. (kept.passed, nothing_pulled c.refill.ensures.refills a.0 (kept.pulled start used h));
       why = pull_fails_since old mid new c.in_err-refill.field-0.0 kept.unfailed a.2;
     } in
     rw (p.1, p.2) fails

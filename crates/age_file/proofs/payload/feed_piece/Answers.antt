@@ -34,15 +34,7 @@ loop-at-preserved g c =
     (fed_is piece at c.in_ok-at.field-0 fed.fed fed.left fed.parts fed.answered.0) kept.releases kept.goes fed.releases fed.answered.1 in
     record {
       same = c.in_ok-at.ensures.same ∙ kept.same;
-      within = omega (
-        arith,
-        ap length fed.parts,
-        length-append fed.fed fed.left,
-        fed.answered.0,
-        length-drop at piece,
-        ap length (take_rest piece at),
-        kept.within,
-      );
+      within = omega (arith, ap length fed.parts, length-append {A = ℕ}, fed.answered.0, length-drop at piece, ap length (take_rest piece at), kept.within);
       releases = both.releases;
       goes = both.goes;
     }

@@ -10,7 +10,7 @@ use Rattle.age_fault.specs.Faults.{HasFailed}
 use Rattle.age_file.specs.inner.Seals.{front_of, SealingFails, SealsAll}
 use Rattle.age_file.specs.Runs.{ports}
 use Rattle.age_fault.specs.declared.fault.FileFault.{FileFault}
-use Rattle.age_file.proofs.ReadLemmas.{cut_pulled, wrote_none}
+use Rattle.age_file.proofs.ReadLemmas.{nothing_pulled, wrote_none}
 use Rattle.age_file.proofs.SealLemmas.{front_small, sealing_failed, front_begins, no_front, piece_done, piece_cut, pull_fails, seal_fails, last_written}
 use Rattle.age_file.proofs.SealLemmas.{last_begins, last_whole}
 use Rattle.age_chunk.specs.Payload.{block_length, chunk_length}
@@ -51,7 +51,7 @@ returns-in_err-refill-clause-sealed g c =
     let p = err_from_is_err_and c.from_residual.result c.from_residual.ensures.1 in
     let kept = c.pulls.invariant in
     let r = c.in_err-refill.ensures.refills in
-    let all = cut_pulled _ _ _ kept.text _ r.answered.0 (r.pulled _ kept.text kept.pulled) in
+    let all = nothing_pulled r r.answered.0 kept.pulled in
     let n : ℕ = chunk_length in
     let old = ports (g.S.Source.view c.args.reader.now.source.now) (g.O.Sink.view c.args.writer.now.sink.now) in
     let new = ports (g.S.Source.view c.refill.new.source) (g.O.Sink.view c.pulls.writer.sink.now) in
@@ -135,12 +135,7 @@ pulls-preserved g c =
       pulled = subst (λ (k : ℕ). Pulled (start_at (g.S.Source.view c.args.reader.now.source.now).supply)
           (g.S.Source.view c.refill.new.source).supply k (kept.text ++ piece)) (sym c.use_all.ensures.pulls) all;
       unread = c.use_all.ensures.bytes;
-      plain_is = omega (
-        arith,
-        kept.plain_is,
-        length-append kept.text c.bytes.result.now,
-        ap length (c.bytes.ensures.bytes ∙ sym c.bytes-in-pulls.ensures.bytes),
-      );
+      plain_is = omega (arith, kept.plain_is, length-append {A = ℕ}, ap length (c.bytes.ensures.bytes ∙ sym c.bytes-in-pulls.ensures.bytes));
       goes = done.0;
       wrote = done.1;
       read_failed = r.answered.4 ∙ kept.read_failed;
@@ -151,7 +146,7 @@ pub finish-requires : goal.finish-requires
 finish-requires g c =
     let kept = c.pulls.invariant in
     let r = rw c.if-branch.false at c.in_ok-refill.ensures.refills in
-    let all = cut_pulled _ _ _ kept.text _ r.answered.0 (r.pulled _ kept.text kept.pulled) in
+    let all = nothing_pulled r r.answered.0 kept.pulled in
     let small : length kept.text ≤ 2 ^ 80 = omega (arith, all.small, all.most) in
     let n : ℕ = chunk_length in
     let key = c.new-sealer.result.key in
@@ -165,7 +160,7 @@ returns-in_err-finish-clause-sealed g c =
     let p = err_from_is_err_and c.from_residual-in_err-finish.result c.from_residual-in_err-finish.ensures.1 in
     let kept = c.pulls.invariant in
     let r = rw c.if-branch.false at c.in_ok-refill.ensures.refills in
-    let all = cut_pulled _ _ _ kept.text _ r.answered.0 (r.pulled _ kept.text kept.pulled) in
+    let all = nothing_pulled r r.answered.0 kept.pulled in
     let small : length kept.text ≤ 2 ^ 80 = omega (arith, all.small, all.most) in
     let l = c.in_err-finish.ensures.sealed in
     let n : ℕ = chunk_length in
@@ -190,7 +185,7 @@ pub returns-clause-sealed : goal.returns-clause-sealed
 returns-clause-sealed g c =
     let kept = c.pulls.invariant in
     let r = rw c.if-branch.false at c.in_ok-refill.ensures.refills in
-    let all = cut_pulled _ _ _ kept.text _ r.answered.0 (r.pulled _ kept.text kept.pulled) in
+    let all = nothing_pulled r r.answered.0 kept.pulled in
     let small : length kept.text ≤ 2 ^ 80 = omega (arith, all.small, all.most) in
     let l = c.in_ok-finish.ensures.sealed in
     let n : ℕ = chunk_length in
