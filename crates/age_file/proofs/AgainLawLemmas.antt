@@ -187,8 +187,7 @@ module _ (sealing : List ℕ → List ℕ → List ℕ) (opening : List ℕ → 
 
   longer_text : (a b : Segment) → IsPrefixOf (released opening n a) (released opening n b)
       → length (base ++ released opening n a) ≤ length (base ++ released opening n b)
-  longer_text a b p =
-      omega (arith, length-append {A = ℕ}, ap length p.1)
+  longer_text a b p = omega (arith, length-append {A = ℕ}, ap length p.1)
 
   extends_on : (a b c : Segment) → Extends a b → Extends b c → Extends a c
   extends_on a b c x y =

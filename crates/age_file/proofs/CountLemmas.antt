@@ -39,8 +39,7 @@ min_is x n i j positive low le (inl high) =
     let below : i ≤ x / n = (le-div_iff_mul-le positive).1 low in
     elim (cases_lt (x / n) (i + 1)) [
       | inl lt ↦ omega (arith, lt, below, le)
-      | inr past ↦ (let m : (i + 1) * n ≤ x =
-          (le-div_iff_mul-le positive).0 past in absurd (omega (arith, m, high)))
+      | inr past ↦ (let m : (i + 1) * n ≤ x = (le-div_iff_mul-le positive).0 past in absurd (omega (arith, m, high)))
     ]
 min_is x n i j positive low le (inr same) =
     let below : i ≤ x / n = (le-div_iff_mul-le positive).1 low in
@@ -50,12 +49,7 @@ min_is x n i j positive low le (inr same) =
 pub no_piece : (s : Segment) → with_piece s [] ≡ s
 no_piece s = nothing s.start s.bytes s.ended s.late where
   nothing : (start : ℕ) (bytes : List ℕ) (ended late : Bool) → with_piece (record { start = start; bytes = bytes; ended = ended; late = late }) []
-      ≡ record {
-        start = start;
-        bytes = bytes;
-        ended = ended;
-        late = late;
-      }
+      ≡ record { start = start; bytes = bytes; ended = ended; late = late }
   nothing start bytes true late = ap (λ (l : Bool). record { start = start; bytes = bytes; ended = true; late = l }) (or-false late)
   nothing start bytes false late = ap (λ (b : List ℕ). record { start = start; bytes = b; ended = false; late = late }) (append-nil bytes)
 
@@ -126,8 +120,7 @@ module _ (sealing : List ℕ → List ℕ → List ℕ) (opening : List ℕ → 
       record {
         index = λ more.
             let side : (length text < (at s + 1) * n) ⊎ (at (with_piece s more) ≡ at s) = elim (stays s timely) [
-              | inl o ↦ (let e : (at s + 1) * n ≡ at s * n + n =
-                  omega arith in inl (omega (arith, open_text base s len (c.all o), e, positive)))
+              | inl o ↦ (let e : (at s + 1) * n ≡ at s * n + n = omega arith in inl (omega (arith, open_text base s len (c.all o), e, positive)))
               | inr same ↦ inr (same more).0
             ] in
             index ∙ (min_is (length text) n (at s) (at (with_piece s more)) positive c.within (index_stays s more timely) side
@@ -270,8 +263,7 @@ module _ (sealing : List ℕ → List ℕ → List ℕ) (opening : List ℕ → 
   -- what is known of the text if it was not written
   cut_len : (base : List ℕ) (s next : Segment) (out unwritten : List ℕ) → released opening n next ≡ released opening n s ++ (out ++ unwritten)
       → length (base ++ released opening n next) - length unwritten ≡ length (base ++ released opening n s) + length out
-  cut_len base s next out unwritten e =
-      omega (arith, length-append {A = ℕ}, ap length e)
+  cut_len base s next out unwritten e = omega (arith, length-append {A = ℕ}, ap length e)
 
   -- the same, and some of what it lent was not written
   pub mark_cut : (base : List ℕ) (s : Segment) (piece : List ℕ) (ts : List (List ℕ)) (out unwritten : List ℕ) (was now : Tally) → length base
@@ -299,11 +291,9 @@ module _ (sealing : List ℕ → List ℕ → List ℕ) (opening : List ℕ → 
         | inr same ↦ (let none = none_lent ts (omega (arith, size, ap length (same piece).1)) in absurd (omega (arith, lent, ap length none)))
       ] in
       let start = piece_start s piece in
-      let some_text : length ts ≡ 0 → ⊥ = λ z. let none =
-      none_lent ts z in omega (arith, lent, ap length none) in
+      let some_text : length ts ≡ 0 → ⊥ = λ z. let none = none_lent ts z in omega (arith, lent, ap length none) in
       let whole = open_text base s len (c.all o) in
-      let count : s.start + length (outcome opening n s).texts ≡ at s =
-      ap (λ (xs : List (List ℕ)). s.start + length xs) (sym (c.all o)) ∙ c.count in
+      let count : s.start + length (outcome opening n s).texts ≡ at s = ap (λ (xs : List (List ℕ)). s.start + length xs) (sym (c.all o)) ∙ c.count in
       let step : (at s + 1) * n ≡ at s * n + n = omega arith in
       record {
         index = λ more.
@@ -458,11 +448,11 @@ module _ {B : Type 0} (opening : B → List ℕ → List ℕ → Option (List �
       → (outcome (opening old.key) n (with_piece s fed)).texts ≡ (outcome (opening old.key) n s).texts ++ ts
 
   -- what the opener lent of a piece was written whole, and counted
-  pub counts_whole : (sealing : List ℕ → List ℕ → List ℕ) (old new : OpenerView B) (was now : Tally) (fed : List ℕ) (chunk : Option (Bor (List ℕ)))
+  pub counts_whole : {sealing : List ℕ → List ℕ → List ℕ} {old new : OpenerView B} {was now : Tally} (fed : List ℕ) (chunk : Option (Bor (List ℕ)))
       (index : ℕ) → IsChunkBox sealing (opening old.key) → new.key ≡ old.key → index ≡ new.index
       → StandsOn old new fed → Lends old fed (chunk_texts chunk) → AdvancesTally was.index was.chain index (link_if was.chain (chunk_bytes chunk)) now
       → IsMarkedOn old fed was now []
-  counts_whole sealing old new was now fed chunk index valid key is stands texts a keep positive s base len h m =
+  counts_whole {sealing} {old} {new} {was} {now} fed chunk index valid key is stands texts a keep positive s base len h m =
       let a' = subst (λ (l : Option (List ℕ)). AdvancesTally was.index was.chain index l now) (ap (link_if was.chain) (sym (lent_flat chunk))) a in
       let at : index ≡ (outcome (opening old.key) n (with_piece s fed)).index = is
       ∙ ((stands s h).index ∙ ap (λ k. (outcome (opening k) n (with_piece s fed)).index) key) in
@@ -470,27 +460,27 @@ module _ {B : Type 0} (opening : B → List ℕ → List ℕ → Option (List �
       was now len h.timely (stands s h).timely (texts s h) (chunk_few chunk) at a' m
 
   -- the opener refused it, and lent nothing
-  pub counts_refused : (sealing : List ℕ → List ℕ → List ℕ) (old new : OpenerView B) (was : Tally) (fed : List ℕ)
+  pub counts_refused : {sealing : List ℕ → List ℕ → List ℕ} {old new : OpenerView B} {was : Tally} (fed : List ℕ)
       → IsChunkBox sealing (opening old.key) → StandsOn old new fed → Lends old fed [] → IsMarkedOn old fed was was []
-  counts_refused sealing old new was fed valid stands texts keep positive s base len h m =
+  counts_refused {sealing} {old} {new} {was} fed valid stands texts keep positive s base len h m =
       mark_none sealing (opening old.key) valid n positive keep base s fed was len h.timely (stands s h).timely (texts s h) m
 
   -- some of what it lent was not written
-  pub counts_cut : (sealing : List ℕ → List ℕ → List ℕ) (old new : OpenerView B) (was now : Tally) (fed : List ℕ) (chunk : Option (Bor (List ℕ)))
+  pub counts_cut : {sealing : List ℕ → List ℕ → List ℕ} {old new : OpenerView B} {was now : Tally} (fed : List ℕ) (chunk : Option (Bor (List ℕ)))
       (out unwritten : List ℕ) → IsChunkBox sealing (opening old.key) → StandsOn old new fed → Lends old fed (chunk_texts chunk)
       → chunk_bytes chunk ≡ out ++ unwritten → 0 < length unwritten → now.index ≡ was.index
       → now.chain ≡ was.chain → IsMarkedOn old fed was now unwritten
-  counts_cut sealing old new was now fed chunk out unwritten valid stands texts lent some index chain_same keep positive s base len h m =
+  counts_cut {sealing} {old} {new} {was} {now} fed chunk out unwritten valid stands texts lent some index chain_same keep positive s base len h m =
       mark_cut sealing (opening old.key) valid n positive keep base s fed (chunk_texts chunk) out unwritten was now len h.timely (stands s h).timely
       (texts s h) (chunk_few chunk) (lent_flat chunk ∙ lent) some index chain_same m
 
   -- a call that took the front of a piece and lent a chunk, of which this much was written
-  pub fed_front : (old new : OpenerView B) (was now : WriterView) (piece : List ℕ) (taken : ℕ)
-      (chunk : Option (Bor (List ℕ))) (out unwritten : List ℕ) → new.key ≡ old.key
+  pub fed_front : {old new : OpenerView B} {was now : WriterView} (piece : List ℕ) (taken : ℕ)
+      (chunk : Option (Bor (List ℕ))) {out unwritten : List ℕ} → new.key ≡ old.key
       → StandsOn old new (take taken piece) → Lends old (take taken piece) (chunk_texts chunk)
       → chunk_bytes chunk ≡ out ++ unwritten → Wrote was now out → IsMarkedOn old (take taken piece) was.tally now.tally unwritten
       → Releases opening n (λ s. with_piece s (take taken piece)) old new was now unwritten
-  fed_front old new was now piece taken chunk out unwritten key stands texts lent wrote counts =
+  fed_front {old} {new} {was} {now} piece taken chunk {out} {unwritten} key stands texts lent wrote counts =
       record {
         out = out;
         key = key;
@@ -502,11 +492,11 @@ module _ {B : Type 0} (opening : B → List ℕ → List ℕ → Option (List �
       }
 
   -- how much it then holds and wrote
-  pub goes_front : (old new : OpenerView B) (was now : WriterView) (piece : List ℕ) (taken : ℕ)
-      (chunk : Option (Bor (List ℕ))) (out unwritten : List ℕ) → taken ≤ length piece → length new.held + length (chunk_bytes chunk) ≤ length old.held
+  pub goes_front : (old new : OpenerView B) {was now : WriterView} (piece : List ℕ) (taken : ℕ)
+      (chunk : Option (Bor (List ℕ))) {out unwritten : List ℕ} → taken ≤ length piece → length new.held + length (chunk_bytes chunk) ≤ length old.held
       + taken → chunk_bytes chunk ≡ out ++ unwritten → Wrote was now out → unwritten ≡ [] → now.sink.failed ≡ was.sink.failed → has_failed new.status ≡ false → (taken ≡ length (take taken piece))
       × FeedGoes opening n old new was now (take taken piece) unwritten
-  goes_front old new was now piece taken chunk out unwritten le room lent wrote whole failed sound =
+  goes_front old new {was} {now} piece taken chunk {out} {unwritten} le room lent wrote whole failed sound =
       let len : length (chunk_bytes chunk) ≡ length out = ap length (lent ∙ (ap (λ (t : List ℕ). out ++ t) whole ∙ append-nil out)) in (
         omega (arith, le, length-take taken piece),
         (omega (arith, le, room, wrote.count, len, length-take taken piece), whole, failed, sound),

@@ -11,10 +11,10 @@ use Rattle.age_stream.specs.Headline.{IsPrefixOf, IsRest}
 use Rattle.age_chunk.specs.Payload.{chunk_count, chunk_length, chunk_limit, nonce_bytes, last_index, last_chunk, pair, block_bytes, payload, block_length}
 use Rattle.age_keys.specs.declared.fault.KeyFault.{KeyFault}
 use Rattle.age_io.specs.Io.{SinkView}
-use Rattle.age_file.specs.Runs.{Ports, Run, held, IsTexts, IsAuthenticRun, IsPositionOf, CarriesText, GivesPosition, WritesNone, StopsInPayload, NeverEnds}
+use Rattle.age_file.specs.Runs.{Ports, Run, held, IsTexts, IsAuthenticRun, IsPositionOf, CarriesText, GivesPosition, WritesNone, StopsInPayload}
 use Rattle.age_file.specs.Runs.{OpenedFile, Reads, IsRun, IsDone, IsFromStart, segment_of, run_text}
 use Rattle.age_file.specs.Decrypts.{DecryptStops, DecryptEnds, WritesText}
-use Rattle.age_file.specs.Resumes.{ResumePorts, WritesOld, IsFrom, IsSame, NeverEndTogether, StopsInSkipped, ResumeStops, ResumeEnds}
+use Rattle.age_file.specs.Resumes.{ResumePorts, WritesOld, IsFrom, IsSame, ResumeEnds}
 use Rattle.age_file.specs.InARow.{AnswersRight, FirstCall, NextCall, DecryptAnswers, ResumeAnswers, last_took, AreInARow, AreTexts, AllAnswerRight, GaveFile}
 use Rattle.age_file.specs.InARow.{GaveOld, GaveRest, GaveFront}
 use Rattle.age_file.specs.inner.Payloads.{segment}
@@ -234,8 +234,7 @@ module _ (sealing : List ℕ → List ℕ → List ℕ) (opening : List ℕ → 
   few_then : (b : List ℕ) (ts : List (List ℕ)) (i : ℕ) (o : Option (List ℕ)) → text_before_last opening i b ≡ o → i < chunk_limit
       → (i + 1 < chunk_limit → i + 1 + length ts < chunk_limit) → i + length (text_then opening o ts) < chunk_limit
   few_then b ts i None e h rest = omega (arith, h)
-  few_then b ts i (Some t) e h rest =
-      omega (arith, rest (ltb-true (i + 1) chunk_limit (opens_before i (opening (nonce_bytes i false) b) t e).0))
+  few_then b ts i (Some t) e h rest = omega (arith, rest (ltb-true (i + 1) chunk_limit (opens_before i (opening (nonce_bytes i false) b) t e).0))
 
   few_front : (blocks : List (List ℕ)) (i : ℕ) → i < chunk_limit → i + length (front_texts opening i blocks) < chunk_limit
   few_front [] i h = omega (arith, h)
@@ -298,8 +297,7 @@ module _ (sealing : List ℕ → List ℕ → List ℕ) (opening : List ℕ → 
         let at = (stands_at opening n s).index in
         let all : length (first_chunks n k copied ++ ts) ≤ (outcome opening n s).index =
         omega (arith, at, length-append (first_chunks n k copied) ts, length-first_chunks n k copied) in
-        ap (λ (i : ℕ). first_chunks n i all_text) (sym at)
-        ∙ (counted.chunks ((outcome opening n s).index) (omega arith)
+        ap (λ (i : ℕ). first_chunks n i all_text) (sym at) ∙ (counted.chunks ((outcome opening n s).index) (omega arith)
         ∙ (ap (λ (cs : List (List ℕ)). take ((outcome opening n s).index) (first_chunks n k copied ++ cs)) (counted_are opening n s)
         ∙ take_all ((outcome opening n s).index) (first_chunks n k copied ++ ts) all))
 
@@ -358,8 +356,7 @@ module _ (sealing : List ℕ → List ℕ → List ℕ) (opening : List ℕ → 
           let last = sealing (nonce_bytes q true) (last_chunk n all_text) in
           let last_same : last ≡ drop (length ts * z) bytes = ap (λ (i : ℕ). sealing (nonce_bytes i true) (last_chunk n all_text)) q_is
           ∙ (ap (sealing (nonce_bytes b.index true)) last_is ∙ (last_block ∙ block_is)) in
-          sym (from_chunk sealing opening valid n positive all_text few k below
-          ∙ (ap (λ (cs : List (List ℕ)). seals k cs ++ last) chunks_are
+          sym (from_chunk sealing opening valid n positive all_text few k below ∙ (ap (λ (cs : List (List ℕ)). seals k cs ++ last) chunks_are
           ∙ (ap (λ (x : List ℕ). x ++ last) (front_is k bytes true)
           ∙ (ap (λ (x : List ℕ). take (length ts * z) bytes ++ x) last_same ∙ take-append-drop (length ts * z) bytes))))
 
@@ -412,8 +409,7 @@ module _ (sealing : List ℕ → List ℕ → List ℕ) (opening : List ℕ → 
         let start = take (j * n) out in
         let start_size : length start ≡ j * n = length-take-le (j * n) out within in
         let chunks_of : (x y : List ℕ) → j * n ≤ length x → first_chunks n j (x ++ y) ≡ first_chunks n j x = first_chunks-append n j in
-        let texts : first_chunks n j text ≡ first = ap (first_chunks n j) (sym same.1)
-        ∙ (chunks_of start same.0 (omega (arith, start_size))
+        let texts : first_chunks n j text ≡ first = ap (first_chunks n j) (sym same.1) ∙ (chunks_of start same.0 (omega (arith, start_size))
         ∙ (sym (ap (first_chunks n j) (sym (take-append-drop (j * n) out)) ∙ chunks_of start (drop (j * n) out) (omega (arith, start_size)))
         ∙ (sym (ap (first_chunks n j) (sym front.1) ∙ chunks_of out front.0 within)
         ∙ (counted.chunks j at ∙ ap (take j) (counted_are opening n (segment 0 bytes ended)))))) in
@@ -516,8 +512,7 @@ module _ (Allows : Header → List ℕ → Type 0) (old new : Ports) where
 module _ (Allows : Header → List ℕ → Type 0) (p : Position) (old new : ResumePorts) where
   abbrev GivesRest : Done → Type 0
   GivesRest done = (text : List ℕ) × GaveOld p old.old.supply new.old.supply text
-      × GaveRest Allows p old.main.source.supply new.main.source.supply text
-      × WritesText old.main.sink.taken new.main.sink.taken done.written text
+      × GaveRest Allows p old.main.source.supply new.main.source.supply text × WritesText old.main.sink.taken new.main.sink.taken done.written text
 
   gave_rest : (done : Done) (r : Run) → ResumeEnds Allows p old new done r → GivesRest done
   gave_rest done r d =

@@ -91,8 +91,7 @@ module _ {B : Type 0} (opening : B → List ℕ → List ℕ → Option (List �
       }
 
   module _ {a b : OpenerView B} (c : OpenerView B) {old : Stage} {source : SourceView} {u : Unread} (v : Unread) {was : WriterView} (now : WriterView)
-      {piece : List ℕ} (is : piece ≡ u.bytes)
-      (pulls : v.pulls ≡ u.pulls) (p : GoesOn a b old (stage (reader_view source u) was)) where
+      {piece : List ℕ} (is : piece ≡ u.bytes) (pulls : v.pulls ≡ u.pulls) (p : GoesOn a b old (stage (reader_view source u) was)) where
     -- this much of the piece that was unread was fed
     fed_on : (fed left unwritten : List ℕ) → piece ≡ fed ++ left → Releases opening n (λ s. with_piece s fed) b c was now unwritten
         → Flows a c old (stage (reader_view source v) now) left unwritten

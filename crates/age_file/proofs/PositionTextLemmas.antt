@@ -65,11 +65,10 @@ never_differs xs ys test e =
     absurd cc
 
 pub same_unless : (xs ys : List ℕ) → false ≡ not (pointwise eqb xs ys) → xs ≡ ys
-same_unless xs ys test = same_text xs ys (sym (from_not (pointwise eqb xs ys) test))
-  where
-    from_not : (b : Bool) → false ≡ not b → b ≡ true
-    from_not true e = refl
-    from_not false e = absurd cc
+same_unless xs ys test = same_text xs ys (sym (from_not (pointwise eqb xs ys) test)) where
+  from_not : (b : Bool) → false ≡ not b → b ≡ true
+  from_not true e = refl
+  from_not false e = absurd cc
 
 pub index_read : (r : Option ℕ) (front version : List ℕ) → take 16 front ≡ version → IfSome r (λ index. take (length front - 16) (drop 16 front)
     ≡ decimal index) → IfSome r (λ index. front ≡ version ++ decimal index)
@@ -158,8 +157,7 @@ unfolding position_front
 two_parts p = regroup (codes "age-position/v2 ") (decimal p.index) (codes " ") (text p.file_id) (text p.chain) (text p.tag) (codes "\n")
 
 length-fields : (id links tag : List ℕ) → IsDigest id → IsDigest links → IsDigest tag → length (fields_text id links tag) ≡ 133
-length-fields id links tag d1 d2 d3 =
-    simp length-append (omega (arith, length-field id d1, length-field links d2, length-field tag d3))
+length-fields id links tag d1 d2 d3 = simp length-append (omega (arith, length-field id d1, length-field links d2, length-field tag d3))
 
 module _ (words : List ℕ) (p : Position) (d1 : IsDigest p.file_id) (d2 : IsDigest p.chain) (d3 : IsDigest p.tag) (e : words ≡ position_text p) where
   pub words_are : words ≡ index_text p.index ++ fields_text p.file_id p.chain p.tag

@@ -26,10 +26,7 @@ use Rattle.age_fault.specs.Faults.{HasFailed}
 use Rattle.age_file.specs.inner.Parts.{Unread}
 use Rattle.age_file.specs.Reports.{InspectsFront, IsPlainOf, IsReport}
 use Rattle.age_file.specs.declared.report.Report.{Report}
-use Rattle.sha2.specs.Hashers.{Holds256}
-use Rattle.sha2.specs.declared.Sha256.{Sha256}
 use Rattle.age_stanza.specs.declared.header.Header.{Header}
-use Rattle.age_stanza.specs.Grammar.{HeadText}
 use Rattle.age_keys.specs.declared.fault.KeyFault.{KeyFault}
 use Rattle.age_keys.specs.declared.fault.KeyFault.TheVariants.{Memory as KeyMemory}
 use Rattle.age_keys.specs.Keys.{Opens, Refuses}
@@ -312,8 +309,7 @@ module _ (Allows : Header → List ℕ → Type 0) (Refused : Header → KeyFaul
   pub key_to_start : {a : SourceView} {y : ReaderView} {h : TheHead} → ReadsHead a y h → (fault : KeyFault) → Refuses Allows Refused h.header fault
       → StartFails Allows Refused a y.source (fault_of_key fault)
   key_to_start {a} {y} {h} head KeyMemory refuses = head.last
-  key_to_start {a} {y} {h} head other refuses =
-      (h.header, head.front, y.unread.bytes, head.text, head.pulled.consumed, λ e. cc, refuses, head.few)
+  key_to_start {a} {y} {h} head other refuses = (h.header, head.front, y.unread.bytes, head.text, head.pulled.consumed, λ e. cc, refuses, head.few)
 
   -- a header was read and opened
   module _ {a : SourceView} {y : ReaderView} (z : ReaderView) {h : TheHead} {key : List ℕ} (head : ReadsHead a y h) (opens : Opens Allows h.header key) where

@@ -141,12 +141,6 @@ copy_dry x z a b p Read g same = (g, same)
 copy_dry x z a b p ReadNeverEnds g same = (g, same)
 copy_dry x z a b p other g same = absurd g.why
 
--- why the old text was not copied
-pub text_fails : (n chunks : ℕ) (links : List ℕ) (old new : ReaderView) (was now : WriterView) (out : List ℕ) (fault : FileFault)
-    → (length out < chunks * n) × FailsInCopy old new was now out fault → TextFails n chunks links old new was now out fault
-text_fails n chunks links old new was now out OldTextDiffers h = absurd h.1
-text_fails n chunks links old new was now out other h = h
-
 -- ---- From what was read, copied, skipped and decrypted to what a resumed decryption did.
 
 -- ---- the old text
@@ -168,8 +162,7 @@ old_of p coming now pulled copied read front le text b =
 module _ (keep : PositionPolicy) (Allows : Header → List ℕ → Type 0) (Refused : Header → KeyFault → Type 0) (p : Position) where
   -- the file was opened, and no more than one pull gives was read after its nonce
   has_opened : (old new : ResumePorts) (u : Unread) (unlocked : Unlocked)
-      (s : StartsAt Allows old.main.source (reader_view new.main.source u) unlocked)
-      → HasOpened Allows p old new (opened s)
+      (s : StartsAt Allows old.main.source (reader_view new.main.source u) unlocked) → HasOpened Allows p old new (opened s)
   has_opened old new u unlocked s = (u.bytes, s.few, record { text = s.text; opens = s.opens; size = s.size; read = s.pulled.consumed })
 
   -- a call that came to no payload

@@ -25,10 +25,8 @@ use Rattle.std.specs.Simd.{first_chunks}
 use Rattle.std.proofs.lemmas.Grind.{flat_map-append}
 use Rattle.age_stream.specs.Headline.{IsPrefixOf}
 use Rattle.age_io.specs.Io.{SourceView, SinkView}
-use Rattle.age_file.specs.Runs.{Ports, pull_room, ports, NoneFailed, WriteFailed}
+use Rattle.age_file.specs.Runs.{Ports, pull_room, ports}
 use Rattle.age_file.proofs.ReadLemmas.{prefix_trans, wrote_then}
-use Rattle.age_io.specs.Taken.{Appends}
-use Rattle.age_io.specs.Supply.{Consumes}
 use Rattle.age_io.proofs.SupplyLemmas.{Consumes-nil}
 use Rattle.age_keys.specs.Keys.{header_mac, IsMacOf, box}
 use Rattle.age_keys.specs.Scrypt.{scrypt_head}
@@ -128,8 +126,7 @@ module _ {B : Type 0} {sealing : B → List ℕ → List ℕ → List ℕ} {n : 
       → SealsSome sealing n a c was now piece (take at piece ++ fed) left unwritten
   next_some {a} {b} {c} {was} {mid} {now} piece at {fed} {left} {unwritten} p goes q =
       subst (λ (t : List ℕ). SealsSome sealing n a c was now t (take at piece ++ fed) left unwritten)
-      (ap (λ (t : List ℕ). take at piece ++ t) (take_rest piece at) ∙ take-append-drop at piece)
-      (some_then p goes q)
+      (ap (λ (t : List ℕ). take at piece ++ t) (take_rest piece at) ∙ take-append-drop at piece) (some_then p goes q)
 
   pub fails_then : {a b : SealerView B} (was mid now : WriterView) (front rest : List ℕ) (fault : FileFault) → mid.sink.failed ≡ was.sink.failed
       → GoesOn sealing n a b front → SealFails sealing n b mid now rest fault → SealFails sealing n a was now (front ++ rest) fault
@@ -364,8 +361,7 @@ module _ {s : SecretView} {was mid : WriterView} (front : WroteFront s was mid) 
 
   -- the blocks before the last, after what stands before them
   last_missing : (text out : List ℕ) → out ≡ front_of seal chunk_length text → front.front ++ out ≡ without_last s front.begins.front text
-  last_missing text out e =
-      ap (λ (t : List ℕ). front.front ++ t) e ∙ ap (λ (t : List ℕ). t ++ front_of seal chunk_length text) front.begins.parts
+  last_missing text out e = ap (λ (t : List ℕ). front.front ++ t) e ∙ ap (λ (t : List ℕ). t ++ front_of seal chunk_length text) front.begins.parts
 
   why_stopped : (text out : List ℕ) (fault : FileFault) → SealingFails seal chunk_length between new text out fault
       → WhyStopped s before new front.begins.front text (front.front ++ out) fault

@@ -355,8 +355,7 @@ module _ (one : OneHeader) (Allows : Header → List ℕ → Type 0) (Refused : 
   undamaged_decrypted old new text (Ok done) None ends stops whole = absurd ends
   undamaged_decrypted old new text (Ok done) (Some r) ends stops whole =
       run_writes one whole.whole whole.closed (omega (arith, ends.0.zero)) (none_before r ends.0 text) ends.1
-  undamaged_decrypted old new text (Err s) None ends stops whole =
-      start_undamaged one old.source new.source whole.whole s.fault stops.1
+  undamaged_decrypted old new text (Err s) None ends stops whole = start_undamaged one old.source new.source whole.whole s.fault stops.1
   undamaged_decrypted old new text (Err s) (Some r) ends stops whole =
       payload_undamaged one whole.whole whole.closed (omega (arith, stops.0.zero)) (NeverEnds old.source.supply new.source.supply) s.fault
       stops.1.is stops.1.why
@@ -366,8 +365,7 @@ module _ (one : OneHeader) (Allows : Header → List ℕ → Type 0) (Refused : 
       → IsUndamagedRest Allows Refused p old.main.source.supply old.old.supply text → MatchResult result
       (λ done. WritesText old.main.sink.taken new.main.sink.taken done.written text) (λ stopped. StopsOutside stopped.fault)
   undamaged_resumed p old new text (Ok done) None ends stops whole = absurd ends
-  undamaged_resumed p old new text (Ok done) (Some r) ends stops whole =
-      undamaged_rest_done one old new whole done.written r ends.0 ends.2
+  undamaged_resumed p old new text (Ok done) (Some r) ends stops whole = undamaged_rest_done one old new whole done.written r ends.0 ends.2
   undamaged_resumed p old new text (Err s) run ends stops whole = undamaged_rest one old new whole keep run s stops
 
 -- ---- What was encrypted under a passphrase, decrypted with it.

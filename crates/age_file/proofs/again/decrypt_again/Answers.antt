@@ -1,7 +1,7 @@
 use Rattle.std.proofs.Common.{◌∙◌, rules}
 use Rattle.std.specs.Prelude.{IfErr, IfSome}
 use Rattle.age_file.specs.Again.{IsFoundAgain}
-use Rattle.age_file.specs.inner.Readers.{view_of_reader, stage_of}
+use Rattle.age_file.specs.inner.Readers.{stage_of}
 use Rattle.age_file.proofs.ReadLemmas.{read_last}
 use Rattle.age_file.proofs.AgainLawLemmas.{place_after, found_again}
 use Rattle.age_file.proofs.again.decrypt_again.Goals as goal

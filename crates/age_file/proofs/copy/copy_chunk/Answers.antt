@@ -1,4 +1,4 @@
-use Rattle.std.proofs.Common.{◌≡◌, ◌++◌, ◌+◌, ◌<◌, ◌∙◌, ℕ, List, Option, Some, [], refl, sym, ap, subst, take, length, arith, append-nil, append_assoc}
+use Rattle.std.proofs.Common.{◌≡◌, ◌++◌, ◌∙◌, ℕ, List, Some, [], refl, sym, ap, subst, take, length, arith, append-nil, append_assoc}
 use Rattle.std.proofs.lemmas.Result.{err_from_is_err_and}
 use Rattle.std.proofs.lemmas.List.{length-append, length-take}
 use Rattle.sha2.specs.Hashers.{Holds256}
@@ -6,7 +6,6 @@ use Rattle.age_stream.specs.Headline.{IsPrefixOf}
 use Rattle.age_fault.specs.Faults.{HasFailed}
 use Rattle.age_file.specs.inner.Readers.{view_of_reader, view_of_writer}
 use Rattle.age_io.specs.Taken.{Appends}
-use Rattle.age_file.specs.inner.Parts.{link_if}
 use Rattle.age_file.proofs.ReadLemmas.{uses_front, passes_then, passes_same, dries_same, wrote_none, wrote_then}
 use Rattle.age_file.proofs.ResumeLemmas.{copy_dry, front_written}
 use Rattle.age_file.proofs.copy.copy_chunk.Goals as goal
@@ -126,22 +125,4 @@ parts-preserved g c =
       chain = kept.chain;
       hashed = λ links kept_is. subst (λ (t : List ℕ). Holds256 c.update-in-parts.new.self t) (append_assoc links kept.copied (take n bytes))
           (c.update-in-parts.ensures (links ++ kept.copied) (kept.hashed links kept_is));
-    }
-
-pub returns-clause-copied : goal.returns-clause-copied
-returns-clause-copied g c =
-    let kept = c.parts.invariant in
-    let risen : c.parts.writer.tally.index < c.parts.writer.tally.index + 1 = omega arith in
-    let further = c.advance.ensures.counted.further risen in
-    record {
-      out = kept.copied;
-      wrote = record { bytes = kept.wrote.bytes; count = c.advance.ensures.same ∙ kept.wrote.count; named = kept.wrote.named };
-      answered = (
-        omega (arith, kept.size, c.parts-test.false),
-        kept.passes,
-        kept.failures,
-        omega (arith, further.0, kept.index),
-        further.1 ∙ (ap Some (c.finalize.ensures (c.in-Some.chain ++ kept.copied) (kept.hashed c.in-Some.chain c.in-Some.is))
-            ∙ ap (λ (l : Option (List ℕ)). link_if l kept.copied) (sym c.in-Some.is)),
-      );
     }

@@ -1,10 +1,10 @@
-use Rattle.std.proofs.Common.{◌≡◌, ◌++◌, ◌∙◌, ◌+◌, ℕ, List, Option, Some, [], refl, sym, ap, suc, arith}
+use Rattle.std.proofs.Common.{◌≡◌, ◌++◌, ◌∙◌, ◌+◌, ℕ, List, Option, Some, sym, ap, suc, arith}
 use Rattle.std.proofs.lemmas.Result.{err_from_is_err_and}
 use Rattle.std.proofs.lemmas.List.{length-append}
 use Rattle.std.specs.Simd.{first_chunks}
 use Rattle.age_file.specs.inner.Parts.{chain_if, link_if}
 use Rattle.age_file.specs.declared.position.PositionPolicy.TheVariants.{Kept}
-use Rattle.age_file.proofs.ReadLemmas.{passes_then, wrote_none, wrote_then}
+use Rattle.age_file.proofs.ReadLemmas.{passes_then, wrote_then}
 use Rattle.age_file.proofs.ResumeLemmas.{chain_more, chunk_failed}
 use Rattle.age_file.specs.inner.Readers.{view_of_reader, view_of_writer}
 use Rattle.age_chunk.specs.Payload.{chunk_length}
@@ -22,20 +22,6 @@ returns-in_err-copy_chunk-clause-copied g c =
     let now = view_of_writer g.O.Sink.view c.copy_chunk.new.writer in
     rw (p.1, p.2) (chunk_failed chunk_length c.args.chunks c.loop-copied._copied old mid new was
     between now kept.out c.in_err-copy_chunk.field-0.0 kept.size (omega arith) kept.passes kept.wrote kept.failures c.in_err-copy_chunk.ensures.copied)
-
-pub loop-copied-init : goal.loop-copied-init
-loop-copied-init g c = record {
-  same_reader = (refl, refl);
-  began = λ from so. so;
-  same_writer = refl;
-  out = [];
-  size = omega arith;
-  passes = record { uses = λ start used h. h; unfailed = refl };
-  wrote = wrote_none _;
-  failures = refl;
-  index = c.requires.fresh.1;
-  chain_is = c.requires.fresh.2;
-}
 
 pub loop-copied-preserved : goal.loop-copied-preserved
 loop-copied-preserved g c =

@@ -1,7 +1,7 @@
 use Rattle.std.proofs.Common.{refl, rules, Err, None, Some, subst, List, ℕ, ◌≡◌}
 use Rattle.age_file.proofs.ReadLemmas.{stops_unread, read_last, ports_last}
 use Rattle.age_file.specs.Runs.{ports}
-use Rattle.age_file.specs.inner.Readers.{writer_view, stage, view_of_reader, stage_of}
+use Rattle.age_file.specs.inner.Readers.{stage_of}
 use Rattle.age_file.specs.Decrypts.{DecryptsKeyed}
 use Rattle.age_file.proofs.ResumeLemmas.{run_ended, stopped_at_start}
 use Rattle.age_fault.specs.declared.fault.FileFault.TheVariants.{Memory}

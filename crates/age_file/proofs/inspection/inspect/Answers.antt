@@ -1,8 +1,6 @@
-use Rattle.std.proofs.Common.{◌≡◌, ◌++◌, ℕ, List, refl, inl, inr, rules}
+use Rattle.std.proofs.Common.{◌++◌, refl, inl, inr, rules}
 use Rattle.std.proofs.lemmas.Result.{err_from_is_err_and}
 use Rattle.age_io.specs.Supply.{Consumes, IsAtEnd}
-use Rattle.age_stanza.specs.declared.header.Header.{Header}
-use Rattle.age_stanza.specs.Grammar.{HeadText}
 use Rattle.age_file.specs.Runs.{InHeader, NoHeadFault, HeadFails}
 use Rattle.age_file.specs.inner.Readers.{start_at, ReadsHead, RestFails, ReaderView}
 use Rattle.age_file.specs.declared.head.Head.{Head}

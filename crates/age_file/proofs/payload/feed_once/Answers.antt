@@ -2,7 +2,7 @@ use Rattle.std.proofs.Common.{length, ◌∙◌, ◌++◌, Some, None, List, ℕ
 use Rattle.std.proofs.lemmas.Result.{err_from_is_err_and}
 use Rattle.std.proofs.lemmas.List.{take-append-drop}
 use Rattle.age_stream.specs.Segment.{with_piece}
-use Rattle.age_file.specs.inner.Decrypts.{opens, seals}
+use Rattle.age_file.specs.inner.Decrypts.{opens}
 use Rattle.age_keys.specs.inner.PayloadBox.{box_valid}
 use Rattle.age_file.specs.inner.Readers.{writer_view, view_of_writer, Wrote}
 use Rattle.age_file.proofs.ReadLemmas.{wrote_none}
@@ -28,8 +28,7 @@ returns-in_err-step-clause-fed g c =
         wrote = wrote_none _;
         stands = after.stands;
         text = λ s h. more_text (opens key) chunk_length s (with_piece s piece) [] [] (c.in_err-step.ensures.feeds.texts s h) refl;
-        counts = counts_refused opens chunk_length (seals key) c.args.opener.now
-            c.feed.follows.lender-at-none c.args.writer.now.tally piece (box_valid key) after.stands c.in_err-step.ensures.feeds.texts;
+        counts = counts_refused opens chunk_length piece (box_valid key) after.stands c.in_err-step.ensures.feeds.texts;
       };
       answered = rw (p.1, p.2) (after.fault, refl, refl, refl);
     }
@@ -42,7 +41,6 @@ returns-in_default-clause-fed g c =
     let step = c.in_ok-step.step in
     let piece = c.args.piece.now in
     let key = c.args.opener.now.key in
-    let new = c.feed.follows.lender-at-none in
     let was = view_of_writer g.O.Sink.view c.args.writer.now in
     let texts = rw c.in_default.is at ok.texts in
     let held = rw c.in_default.is at after.unlent in
@@ -51,11 +49,10 @@ returns-in_default-clause-fed g c =
       left = drop step.taken piece;
       unwritten = [];
       parts = sym (take-append-drop step.taken piece);
-      releases = fed_front opens chunk_length c.args.opener.now new was was piece step.taken None []
-          [] after.key after.stands texts refl (wrote_none was)
-          (counts_refused opens chunk_length (seals key) c.args.opener.now new c.args.writer.now.tally (take step.taken piece) (box_valid key) after.stands texts);
-      answered = goes_front opens chunk_length c.args.opener.now new was was piece step.taken None
-          [] [] (omega (arith, ok.taken)) (omega (arith, held)) refl (wrote_none was) refl refl after.unfailed;
+      releases = fed_front opens chunk_length piece step.taken None after.key after.stands texts refl (wrote_none was)
+          (counts_refused opens chunk_length (take step.taken piece) (box_valid key) after.stands texts);
+      answered = goes_front opens chunk_length c.args.opener.now c.feed.follows.lender-at-none piece step.taken None (omega (arith, ok.taken))
+          (omega (arith, held)) refl (wrote_none was) refl refl after.unfailed;
     }
 
 -- the sink failed
@@ -70,17 +67,14 @@ returns-in_err-write_all-clause-fed g c =
     let key = c.args.opener.now.key in
     let texts = rw c.in-Some.is at ok.texts in
     let chunk = Some c.in-Some.chunk in
-    let was = view_of_writer g.O.Sink.view c.args.writer.now in
     record {
       fed = take step.taken piece;
       left = drop step.taken piece;
       unwritten = put.unwritten;
       parts = sym (take-append-drop step.taken piece);
-      releases = fed_front opens chunk_length c.args.opener.now c.feed.follows.lender-at-none was _
-          piece step.taken chunk put.out put.unwritten after.key after.stands texts put.parts
-          (record { bytes = put.wrote; count = put.count; named = c.in_err-write_all.ensures.named }) (counts_cut opens chunk_length (seals key) c.args.opener.now c.feed.follows.lender-at-none
-          c.args.writer.now.tally _ (take step.taken piece) chunk
-          put.out put.unwritten (box_valid key) after.stands texts put.parts put.stopped refl refl);
+      releases = fed_front opens chunk_length piece step.taken chunk after.key after.stands texts put.parts
+          (record { bytes = put.wrote; count = put.count; named = c.in_err-write_all.ensures.named }) (counts_cut opens chunk_length
+          (take step.taken piece) chunk put.out put.unwritten (box_valid key) after.stands texts put.parts put.stopped refl refl);
       answered = rw (p.1, p.2, c.in_err-write_all.ensures.fault) (put.answered, inl put.stopped);
     }
 
@@ -108,11 +102,8 @@ returns-clause-fed g c =
       left = drop step.taken piece;
       unwritten = [];
       parts = sym (take-append-drop step.taken piece);
-      releases = fed_front opens chunk_length c.args.opener.now c.feed.follows.lender-at-none was
-          now piece step.taken chunk put.out [] after.key after.stands texts whole wrote
-          (counts_whole opens chunk_length (seals key) c.args.opener.now c.feed.follows.lender-at-none c.args.writer.now.tally c.count.new.self
+      releases = fed_front opens chunk_length piece step.taken chunk after.key after.stands texts whole wrote (counts_whole opens chunk_length
           (take step.taken piece) chunk step.index (box_valid key) after.key after.index after.stands texts c.count.ensures.counted);
-      answered = goes_front opens chunk_length c.args.opener.now c.feed.follows.lender-at-none was
-          now piece step.taken chunk put.out [] (omega (arith, ok.taken))
+      answered = goes_front opens chunk_length c.args.opener.now c.feed.follows.lender-at-none piece step.taken chunk (omega (arith, ok.taken))
           (omega (arith, lent.0, lent.1, ap length lent.2)) whole wrote refl put.answered.1 after.unfailed;
     }

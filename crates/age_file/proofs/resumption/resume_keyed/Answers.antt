@@ -1,6 +1,6 @@
-use Rattle.std.proofs.Common.{None, refl, rules, Ok, Err}
+use Rattle.std.proofs.Common.{None, refl, rules, Err}
 use Rattle.age_fault.specs.declared.fault.FileFault.TheVariants.{Memory}
-use Rattle.age_file.specs.inner.Readers.{reader_view, writer_view, stage, view_of_writer, stage_of}
+use Rattle.age_file.specs.inner.Readers.{reader_view, stage, view_of_writer, stage_of}
 use Rattle.age_file.specs.Runs.{ports}
 use Rattle.age_file.specs.Resumes.{resume_ports, ResumesKeyed}
 use Rattle.age_file.specs.declared.standing.Standing.TheVariants.{Before}

@@ -1,7 +1,7 @@
 use Rattle.std.proofs.Common.{◌≡◌, ◌+◌, ◌-◌, length, take, drop, ap, sym, subst, ◌∙◌, arith, List, ℕ, [], ◌++◌, refl, append-nil}
 use Rattle.std.proofs.lemmas.Result.{err_from_is_err_and}
 use Rattle.age_file.proofs.ReadLemmas.{wrote_none}
-use Rattle.std.proofs.lemmas.List.{take-append-drop, take_all, take_rest, length-append, length-drop}
+use Rattle.std.proofs.lemmas.List.{take-append-drop, take_rest, length-append, length-drop}
 use Rattle.age_file.specs.inner.Decrypts.{opens, seals}
 use Rattle.age_keys.specs.inner.PayloadBox.{box_valid}
 use Rattle.age_file.specs.inner.Seals.{SealsSome, GoesOn, SealFails, front_of}
@@ -87,21 +87,4 @@ returns-in_err-at-clause-sealed g c =
       some = next_some piece at kept.some kept.goes s.some;
       answered = rw (p.1, p.2) (subst (λ (t : List ℕ). SealFails seals n c.args.sealer.now was now t c.in_err-at.field-0.0) whole
           (fails_then was mid now (take at piece) (take (length piece - at) (drop at piece)) c.in_err-at.field-0.0 kept.failures kept.goes s.answered));
-    }
-
-pub returns-clause-sealed : goal.returns-clause-sealed
-returns-clause-sealed g c =
-    let kept = c.loop-at.invariant in
-    let n : ℕ = chunk_length in
-    let piece = c.args.piece.now in
-    let at = c.loop-at.at in
-    let was = view_of_writer g.O.Sink.view c.args.writer.now in
-    let now = view_of_writer g.O.Sink.view c.loop-at.writer in
-    let all : take at piece ≡ piece = take_all at piece (omega arith) in
-    record {
-      fed = take at piece;
-      left = [];
-      unwritten = [];
-      some = subst (λ (t : List ℕ). SealsSome seals n c.args.sealer.now c.loop-at.sealer was now t (take at piece) [] []) all kept.some;
-      answered = (refl, refl, kept.failures, kept.goes);
     }
