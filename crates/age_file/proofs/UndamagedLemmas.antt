@@ -348,25 +348,25 @@ module _ (one : OneHeader) {Allows : Header → List ℕ → Type 0} {Refused : 
 -- ---- What one call wrote of an age file that is undamaged.
 
 module _ (one : OneHeader) (Allows : Header → List ℕ → Type 0) (Refused : Header → KeyFault → Type 0) (keep : PositionPolicy) where
-  pub undamaged_decrypted : (old new : Ports) (text : List ℕ) (result : Result Done Stopped)
+  pub decrypted : (old new : Ports) (text : List ℕ) (result : Result Done Stopped)
       (run : Option Run) → IfOk result (λ done. IsSomeAnd run (DecryptEnds Allows old new done))
       → IfErr result (DecryptStops keep Allows Refused old new run) → IsUndamagedFile Allows Refused old.source.supply text
       → MatchResult result (λ done. WritesText old.sink.taken new.sink.taken done.written text) (λ stopped. StopsOutside stopped.fault)
-  undamaged_decrypted old new text (Ok done) None ends stops whole = absurd ends
-  undamaged_decrypted old new text (Ok done) (Some r) ends stops whole =
+  decrypted old new text (Ok done) None ends stops whole = absurd ends
+  decrypted old new text (Ok done) (Some r) ends stops whole =
       run_writes one whole.whole whole.closed (omega (arith, ends.0.zero)) (none_before r ends.0 text) ends.1
-  undamaged_decrypted old new text (Err s) None ends stops whole = start_undamaged one old.source new.source whole.whole s.fault stops.1
-  undamaged_decrypted old new text (Err s) (Some r) ends stops whole =
+  decrypted old new text (Err s) None ends stops whole = start_undamaged one old.source new.source whole.whole s.fault stops.1
+  decrypted old new text (Err s) (Some r) ends stops whole =
       payload_undamaged one whole.whole whole.closed (omega (arith, stops.0.zero)) (NeverEnds old.source.supply new.source.supply) s.fault
       stops.1.is stops.1.why
 
-  pub undamaged_resumed : (p : Position) (old new : ResumePorts) (text : List ℕ) (result : Result Done Stopped) (run : Option Run)
+  pub resumed : (p : Position) (old new : ResumePorts) (text : List ℕ) (result : Result Done Stopped) (run : Option Run)
       → IfOk result (λ done. IsSomeAnd run (ResumeEnds Allows p old new done)) → IfErr result (ResumeStops Allows p old new keep Refused run)
       → IsUndamagedRest Allows Refused p old.main.source.supply old.old.supply text → MatchResult result
       (λ done. WritesText old.main.sink.taken new.main.sink.taken done.written text) (λ stopped. StopsOutside stopped.fault)
-  undamaged_resumed p old new text (Ok done) None ends stops whole = absurd ends
-  undamaged_resumed p old new text (Ok done) (Some r) ends stops whole = undamaged_rest_done one old new whole done.written r ends.0 ends.2
-  undamaged_resumed p old new text (Err s) run ends stops whole = undamaged_rest one old new whole keep run s stops
+  resumed p old new text (Ok done) None ends stops whole = absurd ends
+  resumed p old new text (Ok done) (Some r) ends stops whole = undamaged_rest_done one old new whole done.written r ends.0 ends.2
+  resumed p old new text (Err s) run ends stops whole = undamaged_rest one old new whole keep run s stops
 
 -- ---- What was encrypted under a passphrase, decrypted with it.
 
@@ -394,9 +394,9 @@ answered : (keep : PositionPolicy) → OneHeader → (w : PassphraseIdentity) (t
     → DecryptAnswers PassphraseIdentity IsPassphraseKey PassphraseRefuses keep w now last result run
     → MatchResult result (λ done. Appends now.sink.taken last.sink.taken text) (λ stopped. StopsOutside stopped.fault)
 answered keep one w text now last (Ok done) run u f =
-    (undamaged_decrypted one (IsPassphraseKey w) (PassphraseRefuses w) keep now last text (Ok done) run f tt u).0
+    (decrypted one (IsPassphraseKey w) (PassphraseRefuses w) keep now last text (Ok done) run f tt u).0
 answered keep one w text now last (Err s) run u f =
-    undamaged_decrypted one (IsPassphraseKey w) (PassphraseRefuses w) keep now last text (Err s) run tt f u
+    decrypted one (IsPassphraseKey w) (PassphraseRefuses w) keep now last text (Err s) run tt f u
 
 pub there_and_back : OneHeader → PassphraseOpens → RoundTrip
 unfolding whole

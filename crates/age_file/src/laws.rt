@@ -89,7 +89,7 @@ pub fn head_faults_stay()
 /// by [`decrypt`](crate::decrypt) and at a position of it by [`resume`](crate::resume), or the call
 /// stops with `Read` (26), `Write` (27), `Memory` (28) or `ReadNeverEnds` (29). Of the call no more
 /// is assumed than what its contract promises.
-#[tactic(auto, using(crate::proofs::UndamagedLemmas::undamaged_decrypted, crate::proofs::UndamagedLemmas::undamaged_resumed))]
+#[tactic(auto, using(crate::proofs::UndamagedLemmas::decrypted, crate::proofs::UndamagedLemmas::resumed))]
 pub fn undamaged_is_written<U: Unlock>()
     ensures decrypted { (keep : PositionPolicy) (who : U) (result : Result Done Stopped)
         (text : List ℕ) → UndamagedIsDecrypted U U.allows U.refuses keep who result text }
