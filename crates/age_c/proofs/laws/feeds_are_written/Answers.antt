@@ -1,4 +1,4 @@
-use Rattle.age_c.proofs.StreamCallLemmas.{feeds_are_written}
+use Rattle.age_c.proofs.StreamLemmas.{feeds_are_written}
 use Rattle.age_c.proofs.laws.feeds_are_written.Goals as goal
 
 pub returns : goal.returns

@@ -1,4 +1,4 @@
-use Rattle.age_c.proofs.AuthenticCallLemmas.{parts_are_written}
+use Rattle.age_c.proofs.CallLemmas.{parts_are_written}
 use Rattle.age_c.proofs.laws.parts_are_written.Goals as goal
 
 pub returns : goal.returns
