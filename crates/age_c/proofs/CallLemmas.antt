@@ -20,11 +20,11 @@ use Rattle.age_stream.proofs.FreshLemmas.{fresh_outcome}
 use Rattle.age_stream.proofs.LawLemmas.{closed_stays, released_is_written, rest_is_authentic}
 use Rattle.age_c.specs.declared.reader.Reader.{Reader}
 use Rattle.age_c.specs.Calls.{Answers, answer_of, misused, reader_status}
-use Rattle.age_c.specs.Readers.{AllAnswer, AnswersAreCalls, AreCalls, AreCallsAuthentic, AreParts, AreUndamaged, Call, CallsAreWritten, CanBeUsed, GoesTo}
-use Rattle.age_c.specs.Readers.{IsAt, IsCall, IsTextRight, Part, PartsAreWritten, SameFile, after_block, after_call, after_end, given_by, last_reader}
-use Rattle.age_c.specs.Readers.{reader_text, segment_from, texts_of}
+use Rattle.age_c.specs.Readers.{AllAnswer, AnswersAreCalls, AreCalls, AreCallsAuthentic, AreParts, AreUndamaged, Call, CallsAreWritten, CanBeUsed, GoesTo, IsAt}
+use Rattle.age_c.specs.Readers.{IsCall, IsTextRight, Part, PartsAreWritten, SameFile, after_block, after_call, after_end, given_by, last_reader, reader_text}
+use Rattle.age_c.specs.Readers.{segment_from, texts_of}
 use Rattle.age_c.specs.Places.{OpeningsAreParts}
-use Rattle.age_c.specs.inner.Keys.{key_of_reader as key_of, opens, seals}
+use Rattle.age_c.specs.inner.Readers.{key_of_reader as key_of, opens, seals}
 use Rattle.age_c.proofs.ReaderLemmas.{key_same, some_is}
 
 -- ---- One call.
@@ -475,7 +475,7 @@ goes_usable chunk old new g below = record {
 }
 
 pub openings_are_parts : OpeningsAreParts
-openings_are_parts old new chunk block before after answer written it other =
+openings_are_parts old new chunk block before after answer count it other =
     let opens_it = it.taken other in
     let fits = it.meant other in (
       opens_it.begun,

@@ -1,11 +1,7 @@
 pub mod ReaderLemmas
 pub mod CallLemmas
-pub mod StreamLemmas
 pub mod WriterLemmas
-pub mod WriteStreamLemmas
+pub mod StreamLemmas
 pub mod FrontLemmas
-pub mod FrontSizeLemmas
-pub mod KeyHeadLemmas
 pub mod HeaderLemmas
-pub mod StanzaPlaceLemmas
 pub mod UndamagedOpeningLemmas

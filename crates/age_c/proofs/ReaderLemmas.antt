@@ -1,6 +1,6 @@
 -- From a reader's numbers to an opener and back.
-use Rattle.std.proofs.Common.{◌≡◌, ◌≢◌, ℕ, ◌+◌, ◌*◌, ◌/◌, ◌<◌, ap, sym, subst, ◌∙◌, refl, arith, List, [], ◌∷◌, ◌++◌, length, true, false, Some}
-use Rattle.std.proofs.Common.{None, Bool, append-nil}
+use Rattle.std.proofs.Common.{◌≡◌, ◌≢◌, ℕ, ◌+◌, ◌*◌, ◌/◌, ◌<◌, ap, sym, subst, ◌∙◌, refl, arith, List, [], ◌∷◌, ◌++◌, length, true, false, Some, None, Bool}
+use Rattle.std.proofs.Common.{append-nil}
 use Rattle.std.specs.Prelude.{Option, IfSome}
 use Rattle.std.specs.List.{flat_map}
 use Rattle.std.specs.Borrow.{Bor}
@@ -13,8 +13,7 @@ use Rattle.age_stream.specs.declared.step.Status.TheVariants.{Open}
 use Rattle.age_c.specs.declared.reader.Reader.{Reader}
 use Rattle.age_c.specs.Calls.{answer_of, reader_status}
 use Rattle.age_c.specs.Readers.{IsAt, SameFile, TakesBlock}
-use Rattle.age_c.specs.inner.Blocks.{Keeps, PassesOn}
-use Rattle.age_c.specs.inner.Keys.{key_of_reader as key_of, opens}
+use Rattle.age_c.specs.inner.Readers.{Keeps, PassesOn, key_of_reader as key_of, opens}
 use Rattle.age_chunk.specs.Payload.{chunk_length, block_length}
 
 pub some_is : {A : Type 0} {a b : A} → Some a ≡ Some b → a ≡ b

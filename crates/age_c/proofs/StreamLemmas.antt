@@ -15,12 +15,12 @@ use Rattle.age_c.specs.declared.reader.Reader.{Reader}
 use Rattle.age_c.specs.declared.stream.Stream.{Stream}
 use Rattle.age_c.specs.Calls.{answer_of, reader_status}
 use Rattle.age_c.specs.Readers.{IsAt, IsBlockCall, SameFile, TakesBlock, TakesEnd, after_block, after_call, after_end, reader_outcome, reader_text}
-use Rattle.age_c.specs.Streams.{AnswersAreFeedCalls, AreFeedCalls, FeedCall, FeedsAreWritten, FeedsStream, FinishesStream, IsStreamCall, Moves}
-use Rattle.age_c.specs.Streams.{PiecesReadBack, StreamIsAt, bytes_written, held_block, reader_call, reader_calls, text_taken}
-use Rattle.age_c.specs.inner.Keys.{key_of_reader as key_of, opens}
+use Rattle.age_c.specs.Streams.{AnswersAreFeedCalls, AreFeedCalls, FeedCall, FeedsAreWritten, FeedsStream, FinishesStream, IsStreamCall, Moves, PiecesReadBack}
+use Rattle.age_c.specs.Streams.{StreamIsAt, bytes_written, held_block, reader_call, reader_calls, text_taken}
+use Rattle.age_c.specs.inner.Readers.{key_of_reader as key_of, opens}
 use Rattle.age_c.proofs.CallLemmas.{AreKnown, Timely, a_call, known_misused, known_taken, misused_next, next, taken_next, text_right, timely_piece}
 use Rattle.age_c.proofs.ReaderLemmas.{key_same, some_is}
-use Rattle.age_c.proofs.WriteStreamLemmas.{payload_written, few_chunks}
+use Rattle.age_c.proofs.WriterLemmas.{payload_written, few_chunks}
 
 nil_by : (start : ℕ) (bytes : List ℕ) (ended late : Bool) → with_piece (record { start = start; bytes = bytes; ended = ended; late = late }) []
     ≡ record { start = start; bytes = bytes; ended = ended; late = late }

@@ -1,5 +1,6 @@
 -- A block that came undamaged at its place is opened.
-use Rattle.std.proofs.Common.{inl, inr, ◌≡◌, ◌≢◌, ℕ, ◌+◌, ◌*◌, ◌/◌, ◌<◌, ◌≤◌, refl, ap, sym, subst, ◌∙◌, arith, List, [], ◌∷◌, ◌++◌, length, get_or, take, drop, Bool, true, false, Option, Some, None}
+use Rattle.std.proofs.Common.{inl, inr, ◌≡◌, ◌≢◌, ℕ, ◌+◌, ◌*◌, ◌/◌, ◌<◌, ◌≤◌, refl, ap, sym, subst, ◌∙◌, arith, List, [], ◌∷◌, ◌++◌, length, get_or, take, drop}
+use Rattle.std.proofs.Common.{Bool, true, false, Option, Some, None}
 use Rattle.std.specs.Prelude.{◌==◌, ◌||◌, if◌then◌else◌, nat_lt, slice_get}
 use Rattle.std.specs.List.{flat_map, AllByRecursion}
 use Rattle.std.specs.Simd.{first_chunks}
@@ -9,7 +10,8 @@ use Rattle.std.proofs.lemmas.Grind.{flat_map-append}
 use Rattle.std.proofs.lemmas.List.{append-nil, drop_at, get_or_append_left, get_or_push, length-drop, length-take, length_push, take_all}
 use Rattle.std.proofs.lemmas.Nat.{div-mul-add}
 use Rattle.age_chunk.specs.ChunkBoxes.{tag_length}
-use Rattle.age_chunk.specs.Payload.{block_bytes, block_length, chunk_count, chunk_length, chunk_limit, chunks, last_chunk, last_index, nonce_bytes, pair, payload, sealed, sealed_before_last}
+use Rattle.age_chunk.specs.Payload.{block_bytes, block_length, chunk_count, chunk_length, chunk_limit, chunks, last_chunk, last_index, nonce_bytes, pair}
+use Rattle.age_chunk.specs.Payload.{payload, sealed, sealed_before_last}
 use Rattle.age_chunk.specs.declared.fault.StreamFault.{StreamFault}
 use Rattle.age_chunk.proofs.FirstChunkLemmas.{get_or-first_chunks, length-first_chunks}
 use Rattle.age_chunk.proofs.NonceLemmas.{nonce_bytes-length}
@@ -29,7 +31,7 @@ use Rattle.age_c.specs.Calls.{answer_of, misused, reader_status}
 use Rattle.age_c.specs.Readers.{Call, IsAt, SameFile, TakesBlock, TakesEnd, after_block}
 use Rattle.age_c.specs.Places.{AreOpenings, IsOpenedRight, Opening, OpensAt, UndamagedOpens, chunk_of}
 use Rattle.age_c.specs.declared.reader.Reader.{Reader}
-use Rattle.age_c.specs.inner.Keys.{key_of_reader as key_of, opens, seals}
+use Rattle.age_c.specs.inner.Readers.{key_of_reader as key_of, opens, seals}
 use Rattle.age_c.proofs.CallLemmas.{calls_are_written, fault_from, refused_of, same_file, taken_next}
 use Rattle.age_c.proofs.ReaderLemmas.{key_same}
 

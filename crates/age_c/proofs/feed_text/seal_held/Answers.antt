@@ -1,7 +1,7 @@
 use Rattle.std.proofs.Common.{◌≡◌, length, refl, take}
 use Rattle.age_chunk.specs.Payload.{chunk_length}
 use Rattle.age_c.specs.declared.write_stream.WriteStream.{WriteStream}
-use Rattle.age_c.proofs.WriteStreamLemmas.{feeds_full}
+use Rattle.age_c.proofs.WriterLemmas.{feeds_full}
 use Rattle.age_c.proofs.feed_text.seal_held.Goals as goal
 
 pub returns-clause-feeds : goal.returns-clause-feeds

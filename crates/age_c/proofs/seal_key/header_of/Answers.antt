@@ -1,7 +1,7 @@
 use Rattle.std.proofs.Common.{inl, inr, ◌≡◌, List, ℕ, length, ap, refl, sym, subst, ◌∙◌, arith}
 use Rattle.age_c.specs.Readers.{HasHead, HasNoHead}
-use Rattle.age_c.specs.inner.Sealing.{zero_text}
-use Rattle.age_c.proofs.KeyHeadLemmas.{has_header, lines_read, no_header, none_of_lines}
+use Rattle.age_c.specs.inner.Writers.{zero_text}
+use Rattle.age_c.proofs.FrontLemmas.{has_header, lines_read, no_header, none_of_lines}
 use Rattle.age_c.proofs.seal_key.header_of.Goals as goal
 
 pub returns-in-Err-2-clause-refused : goal.returns-in-Err-2-clause-refused

@@ -4,7 +4,7 @@ use Rattle.std.proofs.lemmas.Result.{IfOk-weaker}
 use Rattle.age_stanza.specs.declared.header.Header.{Header}
 use Rattle.age_keys.specs.Scrypt.{scrypt_head}
 use Rattle.age_c.specs.Writers.{IsFileFront}
-use Rattle.age_c.proofs.FrontSizeLemmas.{front_size}
+use Rattle.age_c.proofs.FrontLemmas.{front_size}
 use Rattle.age_c.proofs.sealing.passphrase_front.Goals as goal
 
 pub returns-in-Ok-clause-front : goal.returns-in-Ok-clause-front

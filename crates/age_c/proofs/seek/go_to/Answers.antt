@@ -4,7 +4,7 @@ use Rattle.age_chunk.specs.Payload.{chunk_length}
 use Rattle.age_keys.specs.Keys.{payload_key}
 use Rattle.age_stream.specs.Segment.{Outcome}
 use Rattle.age_stream.proofs.FreshLemmas.{fresh_outcome, fresh_rest}
-use Rattle.age_c.specs.inner.Keys.{opens}
+use Rattle.age_c.specs.inner.Readers.{opens}
 use Rattle.age_c.proofs.seek.go_to.Goals as goal
 
 pub returns : goal.returns

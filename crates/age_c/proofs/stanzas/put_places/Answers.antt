@@ -1,9 +1,8 @@
 use Rattle.std.proofs.Common.{ℕ, ◌+◌, ◌++◌, length, set, take, drop, ap, ap₂, ◌∙◌, arith}
 use Rattle.std.proofs.lemmas.List.{drop-set-lt}
 use Rattle.age_stanza.proofs.TextLengthLemmas.{stanza_within}
-use Rattle.age_c.specs.inner.StanzaPlaces.{places_from}
-use Rattle.age_c.proofs.HeaderLemmas.{body_within, length-stanza}
-use Rattle.age_c.proofs.StanzaPlaceLemmas.{place_next, stanzas_next}
+use Rattle.age_c.specs.inner.Readers.{places_from}
+use Rattle.age_c.proofs.HeaderLemmas.{body_within, length-stanza, place_next, stanzas_next}
 use Rattle.age_c.proofs.stanzas.put_places.Goals as goal
 
 pub overflow_add-body_at : goal.overflow_add-body_at

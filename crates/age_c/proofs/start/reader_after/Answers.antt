@@ -2,7 +2,7 @@ use Rattle.std.proofs.Common.{ap, sym, refl}
 use Rattle.age_stream.specs.Segment.{Outcome}
 use Rattle.age_stream.proofs.FreshLemmas.{fresh_outcome, fresh_rest}
 use Rattle.std.specs.Prelude.{Some}
-use Rattle.age_c.specs.inner.Keys.{opens}
+use Rattle.age_c.specs.inner.Readers.{opens}
 use Rattle.age_keys.specs.Keys.{payload_key}
 use Rattle.age_c.proofs.start.reader_after.Goals as goal
 use Rattle.age_chunk.specs.Payload.{chunk_length}
