@@ -1,13 +1,11 @@
 -- What a call leaves as it was, and what a power cut leaves after it.
-use Rattle.std.proofs.Common.{◌≡◌, ◌⊎◌, inl, inr, ℕ, List, [], ◌∷◌, Bool, Option, Some, None}
-use Rattle.std.proofs.Common.{refl, sym, ◌∙◌, ap, subst}
+use Rattle.std.proofs.Common.{◌≡◌, ◌⊎◌, inl, inr, ℕ, List, [], ◌∷◌, Bool, Option, Some, None, refl, sym, ◌∙◌, ap, subst}
 use Rattle.std.specs.Prelude.{bytes_eq, if◌then◌else◌}
 use Rattle.std.proofs.lemmas.Bool.{false_from_ne_true, eq-eqb, ne_eqb}
 use Rattle.std.proofs.lemmas.Slice.Eq.{bytes_eq-Decides}
-use Rattle.age_machine.specs.Calls.{FileCall, Made, Wrote, Cut, Broke, Measured, Synced, Unwaited, IsOf}
-use Rattle.age_machine.specs.Calls.{Locked, Unlockable, Linked, Renamed, Removed, SyncedNames}
-use Rattle.age_machine.specs.Disk.{Disk, at_path, for_file, changed, after_call}
-use Rattle.age_machine.specs.Disk.{IsAmong, MayLead, MayLeaveFile, MayLeave}
+use Rattle.age_machine.specs.Calls.{FileCall, Made, Wrote, Cut, Broke, Measured, Synced, Unwaited, IsOf, Locked, Unlockable, Linked, Renamed, Removed}
+use Rattle.age_machine.specs.Calls.{SyncedNames}
+use Rattle.age_machine.specs.Disk.{Disk, at_path, for_file, changed, after_call, IsAmong, MayLead, MayLeaveFile, MayLeave}
 use Rattle.age_machine.specs.inner.Steps.{Has}
 
 -- ---- Values at one path, or for one file.
@@ -34,12 +32,7 @@ pub record Apart (n : ℕ) (path : List ℕ) (old new : Disk) : Type 0 where
   pub is_kept : (m : ℕ) → (n ≡ m → ⊥) → new.is_kept m ≡ old.is_kept m
 
 apart_same : (n : ℕ) (path : List ℕ) (disk : Disk) → Apart n path disk disk
-apart_same n path disk = record {
-  file = refl;
-  before = refl;
-  bytes = λ m other. refl;
-  is_kept = λ m other. refl;
-}
+apart_same n path disk = record { file = refl; before = refl; bytes = λ m other. refl; is_kept = λ m other. refl }
 
 pub apart_made : (n : ℕ) (path p : List ℕ) (disk : Disk) → (p ≡ path → ⊥) → Apart n path disk (after_call (Made p n) disk)
 apart_made n path p disk apart = record {
@@ -49,36 +42,30 @@ apart_made n path p disk apart = record {
   is_kept = λ m other. file_other n m _ disk.is_kept other;
 }
 
-apart_changed : (n : ℕ) (path bytes : List ℕ) (disk : Disk) → Apart n path disk (changed n bytes disk)
-apart_changed n path bytes disk = record {
+apart_changed : (n m : ℕ) (path bytes : List ℕ) (disk : Disk) → m ≡ n → Apart n path disk (changed m bytes disk)
+apart_changed n m path bytes disk of = record {
   file = refl;
   before = refl;
-  bytes = λ m other. file_other n m bytes disk.bytes other;
-  is_kept = λ m other. file_other n m _ disk.is_kept other;
+  bytes = λ k other. file_other m k bytes disk.bytes (λ same. other (sym of ∙ same));
+  is_kept = λ k other. file_other m k _ disk.is_kept (λ same. other (sym of ∙ same));
 }
 
-apart_broke : (n : ℕ) (path : List ℕ) (disk : Disk) → Apart n path disk (after_call (Broke n) disk)
-apart_broke n path disk = record {
+-- what a power cut does to the file may differ
+apart_kept : (n m : ℕ) (path : List ℕ) (is_kept : Bool) (is_lost : ℕ → Bool) (disk : Disk) → m ≡ n
+    → Apart n path disk (record disk { is_kept = for_file m is_kept disk.is_kept; is_lost = is_lost })
+apart_kept n m path is_kept is_lost disk of = record {
   file = refl;
   before = refl;
-  bytes = λ m other. refl;
-  is_kept = λ m other. file_other n m _ disk.is_kept other;
-}
-
-apart_synced : (n : ℕ) (path : List ℕ) (disk : Disk) → Apart n path disk (after_call (Synced n) disk)
-apart_synced n path disk = record {
-  file = refl;
-  before = refl;
-  bytes = λ m other. refl;
-  is_kept = λ m other. file_other n m _ disk.is_kept other;
+  bytes = λ k other. refl;
+  is_kept = λ k other. file_other m k is_kept disk.is_kept (λ same. other (sym of ∙ same));
 }
 
 -- after a call about the one file
 pub apart_of : (n : ℕ) (path : List ℕ) (call : FileCall) (disk : Disk) → IsOf n call → Apart n path disk (after_call call disk)
-apart_of n path (Wrote m at part) disk of = subst (λ (k : ℕ). Apart k path disk (after_call (Wrote m at part) disk)) of (apart_changed m path _ disk)
-apart_of n path (Cut m len) disk of = subst (λ (k : ℕ). Apart k path disk (after_call (Cut m len) disk)) of (apart_changed m path _ disk)
-apart_of n path (Broke m) disk of = subst (λ (k : ℕ). Apart k path disk (after_call (Broke m) disk)) of (apart_broke m path disk)
-apart_of n path (Synced m) disk of = subst (λ (k : ℕ). Apart k path disk (after_call (Synced m) disk)) of (apart_synced m path disk)
+apart_of n path (Wrote m at part) disk of = apart_changed n m path _ disk of
+apart_of n path (Cut m len) disk of = apart_changed n m path _ disk of
+apart_of n path (Broke m) disk of = apart_kept n m path _ _ disk of
+apart_of n path (Synced m) disk of = apart_kept n m path _ _ disk of
 apart_of n path (Measured m len) disk of = apart_same n path disk
 apart_of n path (Unwaited m) disk of = apart_same n path disk
 apart_of n path (Locked m) disk of = apart_same n path disk

@@ -1,5 +1,5 @@
 use Rattle.std.proofs.Common.{◌∙◌}
-use Rattle.age_machine.proofs.FillLemmas.{about_then, sound_settled}
+use Rattle.age_machine.proofs.SaveLemmas.{about_then, sound_settled}
 use Rattle.age_machine.proofs.beside.keep_room.Goals as goal
 
 pub returns-in_err-settle-clause-about : goal.returns-in_err-settle-clause-about

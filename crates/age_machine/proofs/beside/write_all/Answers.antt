@@ -1,9 +1,8 @@
-use Rattle.std.proofs.Common.{◌≡◌, ◌-◌, ◌≤◌, ◌∷◌, List, ℕ, length, drop, take, ap, ◌∙◌, refl, subst, arith}
-use Rattle.std.proofs.Common.{length-drop}
+use Rattle.std.proofs.Common.{◌≡◌, ◌-◌, ◌≤◌, ◌∷◌, List, ℕ, length, drop, take, ap, ◌∙◌, refl, subst, arith, length-drop}
 use Rattle.std.proofs.lemmas.List.{take_rest}
 use Rattle.age_machine.specs.Calls.{Wrote}
 use Rattle.age_machine.specs.inner.Steps.{WritesOver}
-use Rattle.age_machine.proofs.FillLemmas.{about_none, about_more, writes_none, writes_more}
+use Rattle.age_machine.proofs.SaveLemmas.{about_none, about_more, writes_none, writes_more}
 use Rattle.age_machine.proofs.beside.write_all.Goals as goal
 
 pub returns-in_err-n-clause-about : goal.returns-in_err-n-clause-about

@@ -1,6 +1,5 @@
 use Rattle.std.proofs.Common.{refl}
-use Rattle.age_machine.proofs.LockLemmas.{held_one, held_same, held_named}
-use Rattle.age_machine.proofs.OutLemmas.{begun_named, begun_same}
+use Rattle.age_machine.proofs.OutLemmas.{held_one, held_same, held_named, begun_named, begun_same}
 use Rattle.age_machine.proofs.in_place.close_named.Goals as goal
 
 pub returns-in_err-close-clause-held : goal.returns-in_err-close-clause-held

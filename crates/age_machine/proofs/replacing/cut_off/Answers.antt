@@ -1,5 +1,5 @@
 use Rattle.std.proofs.Common.{refl, arith}
-use Rattle.age_machine.proofs.FillLemmas.{about_none, about_more, cuts_short, cuts_off}
+use Rattle.age_machine.proofs.SaveLemmas.{about_none, about_more, cuts_short, cuts_off}
 use Rattle.age_machine.proofs.replacing.cut_off.Goals as goal
 
 pub returns-then-shown-len-clause-about : goal.returns-then-shown-len-clause-about

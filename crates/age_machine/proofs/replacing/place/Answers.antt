@@ -1,5 +1,5 @@
 use Rattle.std.proofs.Common.{[]}
-use Rattle.age_machine.proofs.PutLemmas.{tried_same, tried_text, tried_named, put_text, safe_named}
+use Rattle.age_machine.proofs.SaveLemmas.{tried_same, tried_text, tried_named, put_text, safe_named}
 use Rattle.age_machine.proofs.replacing.place.Goals as goal
 
 pub returns-in_err-check_folder-clause-tried : goal.returns-in_err-check_folder-clause-tried

@@ -1,7 +1,6 @@
 use Rattle.std.proofs.Common.{string_bytes}
 use Rattle.age_machine.specs.inner.Steps.{HasTried}
-use Rattle.age_machine.proofs.SaveLemmas.{beside_about, replaces_tried}
-use Rattle.age_machine.proofs.PutLemmas.{tried_beside, tried_taken_back, ready_filled}
+use Rattle.age_machine.proofs.SaveLemmas.{beside_about, replaces_tried, tried_beside, tried_taken_back, ready_filled}
 use Rattle.age_machine.proofs.replacing.place_or_remove.Goals as goal
 use Rattle.age_machine.proofs.replacing.place_or_remove.Goals.{in-Ok+in-Err-place, in-Err}
 

@@ -1,5 +1,4 @@
-use Rattle.age_machine.proofs.SaveLemmas.{beside_about, replaces_tried, replaces_again}
-use Rattle.age_machine.proofs.PutLemmas.{tried_beside, tried_taken_back, ready_filled}
+use Rattle.age_machine.proofs.SaveLemmas.{beside_about, replaces_tried, replaces_again, tried_beside, tried_taken_back, ready_filled}
 use Rattle.age_machine.proofs.replacing.replace_by_kept.Goals as goal
 
 pub returns-in-Ok-clause-replaces : goal.returns-in-Ok-clause-replaces

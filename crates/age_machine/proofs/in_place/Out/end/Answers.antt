@@ -2,8 +2,7 @@ use Rattle.std.proofs.Common.{◌≡◌, ◌∙◌, ℕ, List, true, length, ref
 use Rattle.std.proofs.lemmas.Result.{on_ok_weaker}
 use Rattle.age_machine.specs.Saves.{IsSafe, LeadsTo}
 use Rattle.age_machine.specs.Outs.{OutView, IsClaimed, TouchesFile, text_of}
-use Rattle.age_machine.proofs.LockLemmas.{touches_held, waited_for}
-use Rattle.age_machine.proofs.OutLemmas.{out_held, ended_as, ended_held, ended_safe, ended_there, touches_now}
+use Rattle.age_machine.proofs.OutLemmas.{touches_held, waited_for, out_held, ended_as, ended_held, ended_safe, ended_there, touches_now}
 use Rattle.age_machine.proofs.in_place.Out.end.Goals as goal
 
 pub returns-in-Ok-clause-safe : goal.returns-in-Ok-clause-safe
