@@ -479,16 +479,6 @@ openings_are_parts old new chunk block before after answer count it other =
     let opens_it = it.taken other in
     let fits = it.meant other in (
       opens_it.begun,
-      λ whole. (
-        fits.within,
-        opens_it.goes,
-        (inr (other, opens_it.whole whole, λ is. absurd (false≢true is)), tt),
-        tt,
-      ),
-      λ rest. (
-        fits.within,
-        opens_it.goes,
-        (inr (other, (opens_it.rest rest).takes, λ is zero. (opens_it.rest rest).done zero), tt),
-        tt,
-      ),
+      λ whole. (fits.within, opens_it.goes, (inr (other, opens_it.whole whole, λ is. absurd (false≢true is)), tt), tt),
+      λ rest. (fits.within, opens_it.goes, (inr (other, (opens_it.rest rest).takes, λ is zero. (opens_it.rest rest).done zero), tt), tt),
     )

@@ -66,7 +66,7 @@ zero_head lines h has =
     other.1.spells.bytes_are ∙ ap (λ (t : List ℕ). line version ++ (t ++ line (end_line zeros))) (sym has.lines_are) in
     subst (HeadText (with_zeros h)) same other.1
 
-pub has_header : (lines : List ℕ) (h : Header) → HasLines lines h → HasHeader (zero_text lines)
+has_header : (lines : List ℕ) (h : Header) → HasLines lines h → HasHeader (zero_text lines)
 has_header lines h has = (with_zeros h, zero_text lines, [], zero_head lines h has, sym (append-nil (zero_text lines)))
 
 -- and whatever header is read of it is all of the text
@@ -79,30 +79,32 @@ read_whole law lines h p len has head =
     omega (arith, length-take len text, ap length one.1)
 
 -- so no header has the lines if less is read
-pub none_of_lines : OneHeader → (lines : List ℕ) (p : Header) (len : ℕ) → HasHead (zero_text lines) p len
+pub none_of_lines : OneHeader → (lines text : List ℕ) (p : Header) (len : ℕ) → text ≡ zero_text lines → HasHead text p len
     → len < length (zero_text lines) → (h : Header) → ¬ HasLines lines h
-none_of_lines law lines p len head short h has = absurd (omega (arith, short, read_whole law lines h p len has head))
+none_of_lines law lines text p len same head short h has =
+    absurd (omega (arith, short, read_whole law lines h p len has (rw same at head)))
 
 -- what is refused, and not for want of memory, begins with no header
-pub no_header : (front : List ℕ) (fault : StartFault) → HasNoHead front fault → start_fault_number fault ≢ 28 → ¬ HasHeader front
+no_header : (front : List ℕ) (fault : StartFault) → HasNoHead front fault → start_fault_number fault ≢ 28 → ¬ HasHeader front
 no_header front More none other = none.1
 no_header front (Head fault) (inl memory) other = absurd (other (ap (λ (f : HeadFault). head_fault_number f.kind) memory))
 no_header front (Head fault) (inr none) other = none.0
 no_header front (Key fault) none other = absurd none
 
+-- and is made of no header's lines
+pub no_lines : (lines text : List ℕ) (fault : StartFault) → text ≡ zero_text lines → HasNoHead text fault → start_fault_number fault ≢ 28
+    → (h : Header) → ¬ HasLines lines h
+no_lines lines text fault same none other h has = no_header (zero_text lines) fault (rw same at none) other (has_header lines h has)
+
 -- ---- what was read of that text
 
 length_end : (mac : List ℕ) → length mac ≡ 32 → length (line (end_line mac)) ≡ 48
-length_end mac long = omega (
-  arith,
-  long,
-  length-append (end_line mac) (10 ∷ []),
-  length-append (codes "--- ") (base64_text mac),
-  length-text mac,
-)
+length_end mac long = omega (arith, long, length-append (end_line mac) (10 ∷ []), length-append (codes "--- ") (base64_text mac), length-text mac)
 
-pub lines_read : (lines : List ℕ) (p : Header) (len : ℕ) → HasHead (zero_text lines) p len → length (zero_text lines) ≤ len → HasLines lines p
-lines_read lines p len head whole =
+pub lines_read : (lines bytes : List ℕ) (p : Header) (len : ℕ) → bytes ≡ zero_text lines → HasHead bytes p len → length (zero_text lines) ≤ len
+    → HasLines lines p
+lines_read lines bytes p len same read whole =
+    let head = rw same at read in
     let text : List ℕ = zero_text lines in
     let last : List ℕ = line (end_line zeros) in
     let ending : List ℕ = line (end_line p.mac) in

@@ -82,10 +82,7 @@ module _ (sealing : List ℕ → List ℕ → List ℕ) (m k : ℕ) (text : List
       ap (λ (cs : List (List ℕ)). map (pair sealing false) (enumerate_from 0 cs))
       (ap (λ (n : ℕ). first_chunks m n (text ++ rest)) index ∙ same_front rest) in
       let last : (last_index m (text ++ rest), last_chunk m (text ++ rest)) ≡ (k, rest) =
-      cc (
-        index,
-        ap (λ (n : ℕ). drop (n * m) (text ++ rest)) index ∙ drop_at text rest (k * m) whole,
-      ) in
+      cc (index, ap (λ (n : ℕ). drop (n * m) (text ++ rest)) index ∙ drop_at text rest (k * m) whole) in
       block_more (map (pair sealing false) (enumerate_from 0 (first_chunks m (last_index m (text ++ rest)) (text ++ rest))))
       (pair sealing true (last_index m (text ++ rest), last_chunk m (text ++ rest))) ∙ (ap (λ (pairs : List (List ℕ × List ℕ)). block_bytes pairs
       ++ (pair sealing true (last_index m (text ++ rest), last_chunk m (text ++ rest))).1) front
@@ -100,13 +97,7 @@ seals_chunk old new chunk bytes first still next limit same size is =
     record {
       sealed = λ text h. record {
         unfinished = still ∙ first;
-        whole = omega (
-          arith,
-          length-append text chunk,
-          h.whole,
-          size,
-          ap (λ (n : ℕ). n * chunk_length) next,
-        );
+        whole = omega (arith, length-append text chunk, h.whole, size, ap (λ (n : ℕ). n * chunk_length) next);
       };
       blocks = λ text h. let more = blocks_more (seals (key_of old)) chunk_length old.chunk text h.whole chunk size in
           let key = key_same old new same in
@@ -125,11 +116,7 @@ seals_last old new rest bytes limit finished same short some is =
     record {
       payload_is = λ text h. payload_more (seals (key_of old)) chunk_length old.chunk text h.whole rest positive short some
           ∙ ap (λ (b : List ℕ). blocks_of old text ++ b) (sym is);
-      few = λ text h. omega (
-        arith,
-        rest_index (seals (key_of old)) chunk_length old.chunk text h.whole rest positive short some,
-        limit,
-      );
+      few = λ text h. omega (arith, rest_index (seals (key_of old)) chunk_length old.chunk text h.whole rest positive short some, limit);
       finished = finished;
       same = same;
     }

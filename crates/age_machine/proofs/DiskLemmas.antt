@@ -2,6 +2,7 @@
 use Rattle.std.proofs.Common.{◌≡◌, ◌⊎◌, inl, inr, ℕ, List, [], ◌∷◌, Bool, Option, Some, None, refl, sym, ◌∙◌, ap, subst}
 use Rattle.std.specs.Prelude.{bytes_eq, if◌then◌else◌}
 use Rattle.std.proofs.lemmas.Bool.{false_from_ne_true, eq-eqb, ne_eqb}
+use Rattle.std.proofs.lemmas.Bool.Decides.{eqb_tells}
 use Rattle.std.proofs.lemmas.Slice.Eq.{bytes_eq-Decides}
 use Rattle.age_machine.specs.Calls.{FileCall, Made, Wrote, Cut, Broke, Measured, Synced, Unwaited, IsOf, Locked, Unlockable, Linked, Renamed, Removed}
 use Rattle.age_machine.specs.Calls.{SyncedNames}
@@ -93,7 +94,7 @@ leaves_apart n path old new apart nowhere left leaves =
           (leaves.0, leaves.1, λ kept. leaves.2 (apart.is_kept m other ∙ kept) ∙ apart.bytes m other)
 
 -- where the files hold what they held, and the path leads nowhere else
-leaves_fewer : (path : List ℕ) (old new : Disk) → ((m : ℕ) → new.bytes m ≡ old.bytes m) → ((m : ℕ) → new.is_kept m ≡ old.is_kept m)
+pub leaves_fewer : (path : List ℕ) (old new : Disk) → ((m : ℕ) → new.bytes m ≡ old.bytes m) → ((m : ℕ) → new.is_kept m ≡ old.is_kept m)
     → ((to : Option ℕ) → MayLead new path to → MayLead old path to) → (left : Option (List ℕ)) → MayLeave new path left → MayLeave old path left
 leaves_fewer path old new bytes is_kept fewer left leaves =
     (leaves.0, fewer leaves.0 leaves.1, files leaves.0 leaves.2) where
@@ -133,6 +134,21 @@ leaves_only n path bytes disk file before has left leaves =
       first to (inl is) = is
       first to (inr none) = absurd none
 
+-- where the path comes to lead to it, and no other file is changed
+pub leaves_new : (n : ℕ) (path bytes : List ℕ) (old new : Disk) → Has n bytes new → ((m : ℕ) → (n ≡ m → ⊥) → new.bytes m ≡ old.bytes m)
+    → ((m : ℕ) → (n ≡ m → ⊥) → new.is_kept m ≡ old.is_kept m) → new.file path ≡ Some n → new.before path ≡ old.file path ∷ old.before path
+    → (left : Option (List ℕ)) → MayLeave new path left → MayLeave old path left ⊎ (left ≡ Some bytes)
+leaves_new n path bytes old new has same_bytes same_kept file before left leaves =
+    cases leaves.0 leaves.2 (led _ _ _ _ leaves.0 file before leaves.1) where
+      cases : (to : Option ℕ) → MayLeaveFile new to left → IsAmong to (Some n ∷ old.file path ∷ old.before path)
+          → MayLeave old path left ⊎ (left ≡ Some bytes)
+      cases to leaves (inl is) = inr (leaves_kept n bytes new to left has is leaves)
+      cases None leaves (inr may) = inl (None, may, leaves)
+      cases (Some m) leaves (inr may) = elim (eqb_tells n m) [
+        | inl same ↦ inr (leaves_kept n bytes new (Some m) left has (ap Some (sym same.1)) leaves)
+        | inr other ↦ inl (Some m, may, (leaves.0, leaves.1, λ kept. leaves.2 (same_kept m other.1 ∙ kept) ∙ same_bytes m other.1))
+      ]
+
 -- where the path comes to lead to that file too
 module _ (n : ℕ) (from path : List ℕ) (disk : Disk) (apart : from ≡ path → ⊥) (is : disk.file from ≡ Some n) where
   pub file_renamed : (after_call (Renamed from path) disk).file path ≡ Some n
@@ -144,16 +160,9 @@ module _ (n : ℕ) (from path : List ℕ) (disk : Disk) (apart : from ≡ path �
   more : (bytes : List ℕ) → Has n bytes disk → (new : Disk) → ((m : ℕ) → new.bytes m ≡ disk.bytes m) → ((m : ℕ) → new.is_kept m ≡ disk.is_kept m)
       → new.file path ≡ Some n → new.before path ≡ disk.file path ∷ disk.before path → (left : Option (List ℕ)) → MayLeave new path left
       → MayLeave disk path left ⊎ (left ≡ Some bytes)
-  more bytes has new same_bytes same_kept file before left leaves =
-      cases leaves.0 (same leaves.0 leaves.2) (led _ _ _ _ leaves.0 file before leaves.1) where
-        same : (to : Option ℕ) → MayLeaveFile new to left → MayLeaveFile disk to left
-        same None leaves = leaves
-        same (Some m) leaves = (leaves.0, leaves.1, λ kept. leaves.2 (same_kept m ∙ kept) ∙ same_bytes m)
-
-        cases : (to : Option ℕ) → MayLeaveFile disk to left → IsAmong to (Some n ∷ disk.file path ∷ disk.before path)
-            → MayLeave disk path left ⊎ (left ≡ Some bytes)
-        cases to leaves (inl new) = inr (leaves_kept n bytes disk to left has new leaves)
-        cases to leaves (inr old) = inl (to, old, leaves)
+  more bytes has new bytes_same kept_same =
+      leaves_new n path bytes disk new (record { bytes = bytes_same n ∙ has.bytes; is_kept = kept_same n ∙ has.is_kept })
+      (λ m other. bytes_same m) (λ m other. kept_same m)
 
   pub leaves_renamed : (bytes : List ℕ) → Has n bytes disk → (left : Option (List ℕ)) → MayLeave (after_call (Renamed from path) disk) path left
       → MayLeave disk path left ⊎ (left ≡ Some bytes)

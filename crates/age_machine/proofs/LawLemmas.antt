@@ -109,14 +109,8 @@ module _ (n : ℕ) (path bytes : List ℕ) where
   pub outs_answered : (AllAnswered path (overwritten n path bytes) (bare_but path n) × HasOneLock n (overwritten n path bytes) (Opened path n (Regular true) ∷ []))
       × (AllAnswered path (put_out n path bytes) bare × HasOneLock n (put_out n path bytes) (Opened path n (Regular true) ∷ []))
   outs_answered = (
-    (
-      (tt, (tt, (tt, (tt, (tt, ((refl, there_already, refl), tt)))))),
-      opened_beside n path (overwritten n path bytes) (4, omega arith, refl),
-    ),
-    (
-      (tt, (tt, (tt, (tt, ((refl, nowhere path n), tt))))),
-      opened_beside n path (put_out n path bytes) (3, omega arith, refl),
-    ),
+    ((tt, (tt, (tt, (tt, (tt, ((refl, there_already, refl), tt)))))), opened_beside n path (overwritten n path bytes) (4, omega arith, refl)),
+    ((tt, (tt, (tt, (tt, ((refl, nowhere path n), tt))))), opened_beside n path (put_out n path bytes) (3, omega arith, refl)),
   )
 
   pub unsynced : IsSafe path bytes (SyncedNames path ∷ Wrote n 0 bytes ∷ Locked n ∷ Made path n ∷ []) → ⊥

@@ -1,5 +1,5 @@
 -- A file that is written in place, call by call.
-use Rattle.std.proofs.Common.{◌≡◌, ◌⊎◌, inl, inr, ⊎_elim, ℕ, ◌+◌, ◌<◌, List, [], ◌∷◌, ◌++◌, Bool, true, false, not, Option, Some, None, length, take, drop}
+use Rattle.std.proofs.Common.{◌≡◌, ◌⊎◌, inl, inr, ⊎_elim, ℕ, ◌+◌, ◌<◌, List, [], ◌∷◌, ◌++◌, Bool, true, false, not, Option, None, length, take, drop}
 use Rattle.std.proofs.Common.{refl, sym, ◌∙◌, ap, subst, arith, length-append, length-take}
 use Rattle.std.specs.Prelude.{Contains}
 use Rattle.std.proofs.lemmas.Bool.{cases_Bool}
@@ -11,13 +11,13 @@ use Rattle.age_machine.specs.declared.in_place.Opening.{Opening}
 use Rattle.age_machine.specs.declared.in_place.Opening.TheVariants as way
 use Rattle.age_machine.specs.declared.machine.Kind.{Kind}
 use Rattle.age_machine.specs.declared.machine.Kind.TheVariants.{Regular}
-use Rattle.age_machine.specs.Disk.{Disk, sized, after_call, after_calls, IsAmong, MayLead, MayLeaveFile, MayLeave}
+use Rattle.age_machine.specs.Disk.{Disk, sized, after_call, after_calls, IsAmong, MayLead, MayLeave}
 use Rattle.age_machine.specs.Saves.{IsAnswered, AllAnswered, HasMade, SavesWhole, IsSafe, LeadsTo}
 use Rattle.age_machine.specs.Outs.{OutFile, OutView, opening_of, is_making, text_of, IsOn, AllOn, MayChange, IsClaimed, LocksFirst, TouchesFile}
 use Rattle.age_machine.specs.Laws.{HasOneLock, IsUnchanged}
 use Rattle.age_machine.specs.Held.{HasWritten, IsBegun, IsJustOpened, IsOut}
-use Rattle.age_machine.specs.inner.Steps.{AllOf, Has, IsAbout, IsHeld, IsInPlace, StaysHeld, RemovesAt, is_waited}
-use Rattle.age_machine.proofs.DiskLemmas.{path_same, file_same, file_other, led, leaves_synced, leaves_kept}
+use Rattle.age_machine.specs.inner.Steps.{AllOf, IsAbout, IsHeld, IsInPlace, StaysHeld, RemovesAt, is_waited}
+use Rattle.age_machine.proofs.DiskLemmas.{path_same, file_same, file_other, led, leaves_fewer, leaves_new, leaves_synced}
 use Rattle.age_machine.proofs.SaveLemmas.{contains_first, contains_later, if_either, if_made, if_waited, safe_named, saves_loudly, saves_none, saves_quietly}
 use Rattle.age_machine.proofs.SaveLemmas.{sized_within}
 
@@ -370,60 +370,28 @@ module _ (path : List ℕ) (n : ℕ) (opening : Opening) (is_stale is_lost is_cl
 
 -- ---- Where nothing was written.
 
-module _ (path : List ℕ) (n : ℕ) (disk : Disk) (elsewhere : MayLead disk path (Some n) → ⊥) (left : Option (List ℕ)) where
-  abbrev made : Disk
-  made = after_call (Made path n) disk
-
-  empty : Has n [] made
-  empty = record { bytes = file_same n [] disk.bytes; is_kept = file_same n true disk.is_kept }
-
-  before : (to : Option ℕ) → MayLead disk path to → MayLeaveFile made to left → MayLeaveFile disk to left
-  before None may file = file
-  before (Some m) may file =
-      let other : n ≡ m → ⊥ =
-      λ same. elsewhere (subst (λ (k : ℕ). MayLead disk path (Some k)) (sym same) may) in (
-        file.0,
-        file.1,
-        λ kept. file.2 (file_other n m true disk.is_kept other ∙ kept) ∙ file_other n m [] disk.bytes other,
-      )
-
-  one : (to : Option ℕ) → MayLeaveFile made to left → IsAmong to (Some n ∷ disk.file path ∷ disk.before path)
-      → MayLeave disk path left ⊎ (left ≡ Some [])
-  one to file (inl is) = inr (leaves_kept n [] made to left empty is file)
-  one to file (inr may) = inl (to, may, before to may file)
-
-  leaves_made : MayLeave made path left → MayLeave disk path left ⊎ (left ≡ Some [])
-  leaves_made leaves = one leaves.0 leaves.2 (led _ _ _ _ leaves.0 (path_same path _ disk.file) (path_same path _ disk.before) leaves.1)
-
 saves_made : (path : List ℕ) (n : ℕ) → SavesWhole path [] [] (Made path n ∷ [])
-saves_made path n = saves_loudly path [] [] (Made path n) [] (saves_none path [] []) (λ disk answers left. leaves_made path n disk answers.0.1 left)
+saves_made path n =
+    saves_loudly path [] [] (Made path n) [] (saves_none path [] []) (λ disk answers. leaves_new n path [] disk (after_call (Made path n) disk)
+    (record { bytes = file_same n [] disk.bytes; is_kept = file_same n true disk.is_kept }) (λ m other. file_other n m [] disk.bytes other)
+    (λ m other. file_other n m true disk.is_kept other) (path_same path _ disk.file) (path_same path _ disk.before))
 
 saves_opened : (path : List ℕ) (n : ℕ) (kind : Kind) → SavesWhole path [] [] (Opened path n kind ∷ [])
 saves_opened path n kind = saves_quietly path [] [] (Opened path n kind) [] (saves_none path [] []) (λ disk answers left leaves. leaves)
 
 -- what was made where nothing was is removed
-module _ (path : List ℕ) (n : ℕ) (disk : Disk) (nothing : disk.file path ≡ None) (left : Option (List ℕ)) where
-  same : (to : Option ℕ) → MayLeaveFile (after_call (Removed path) (after_call (Made path n) disk)) to left
-      → MayLeaveFile (after_call (Made path n) disk) to left
-  same None leaves = leaves
-  same (Some m) leaves = leaves
+leaves_taken : (path : List ℕ) (n : ℕ) (disk : Disk) → disk.file path ≡ None → (left : Option (List ℕ))
+    → MayLeave (after_call (Removed path) (after_call (Made path n) disk)) path left → MayLeave (after_call (Made path n) disk) path left
+leaves_taken path n disk nothing =
+    leaves_fewer path made (after_call (Removed path) made) (λ m. refl) (λ m. refl)
+    (λ to may. among to (led _ _ _ _ to (path_same path None made.file) (path_same path _ made.before) may)) where
+      made : Disk
+      made = after_call (Made path n) disk
 
-  none : IsAmong None ((after_call (Made path n) disk).before path)
-  none = subst (λ (l : List (Option ℕ)). IsAmong None l) (sym (path_same path (disk.file path ∷ disk.before path) disk.before)) (inl (sym nothing))
-
-  among : (to : Option ℕ) → MayLeaveFile (after_call (Made path n) disk) to left → IsAmong to (None ∷ (after_call (Made path n) disk).file path
-      ∷ (after_call (Made path n) disk).before path) → MayLeave (after_call (Made path n) disk) path left
-  among to file (inl is) = (
-    None,
-    inr none,
-    subst (λ (o : Option ℕ). MayLeaveFile (after_call (Made path n) disk) o left) is file,
-  )
-  among to file (inr may) = (to, may, file)
-
-  leaves_taken : MayLeave (after_call (Removed path) (after_call (Made path n) disk)) path left → MayLeave (after_call (Made path n) disk) path left
-  leaves_taken leaves =
-      among leaves.0 (same leaves.0 leaves.2) (led _ _ _ _ leaves.0 (path_same path _ (after_call (Made path n) disk).file)
-      (path_same path _ (after_call (Made path n) disk).before) leaves.1)
+      among : (to : Option ℕ) → IsAmong to (None ∷ made.file path ∷ made.before path) → MayLead made path to
+      among to (inl is) =
+          inr (subst (IsAmong to) (sym (path_same path (disk.file path ∷ disk.before path) disk.before)) (inl (is ∙ sym nothing)))
+      among to (inr may) = may
 
 -- a file that was opened or made, and perhaps claimed
 saves_claimed : (path : List ℕ) (n : ℕ) (calls later : List FileCall) → SavesWhole path [] [] calls

@@ -45,10 +45,7 @@ module _ (path : List ℕ) (P : Disk → List FileCall → Type 0) (old : List F
   throughout_more call calls before here = record {
     since = call ∷ before.since;
     are = ap (λ (l : List FileCall). call ∷ l) before.are;
-    each = λ disk answers. (
-      subst (λ (l : List FileCall). P disk (call ∷ l)) before.are (here disk answers),
-      before.each disk answers.1,
-    );
+    each = λ disk answers. (subst (λ (l : List FileCall). P disk (call ∷ l)) before.are (here disk answers), before.each disk answers.1);
   }
 
   at_last : (Q : List FileCall → Type 0) (since : List FileCall) → AtEachMoment Q since old → Q (since ++ old)

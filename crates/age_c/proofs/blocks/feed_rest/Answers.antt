@@ -1,9 +1,9 @@
-use Rattle.std.proofs.Common.{sym, ap, subst, refl, ◌∙◌, arith, append-nil, List, ℕ, [], None, take, length, ◌≡◌}
+use Rattle.std.proofs.Common.{sym, ap, subst, refl, ◌∙◌, arith, append-nil, List, ℕ, take, length, ◌≡◌}
 use Rattle.std.proofs.lemmas.List.{take_all}
 use Rattle.age_stream.specs.Segment.{with_piece, outcome, released}
 use Rattle.age_stream.specs.Opener.{Stands}
 use Rattle.age_c.specs.inner.Readers.{opens}
-use Rattle.age_c.proofs.ReaderLemmas.{block_text, rest_open, rest_text}
+use Rattle.age_c.proofs.ReaderLemmas.{rest_open, rest_text}
 use Rattle.age_c.proofs.blocks.feed_rest.Goals as goal
 use Rattle.age_chunk.specs.Payload.{chunk_length}
 

@@ -1,4 +1,4 @@
-use Rattle.std.proofs.Common.{◌≡◌, ◌∙◌, ℕ, List, true, length, refl, ap, sym, subst, OnOk}
+use Rattle.std.proofs.Common.{◌∙◌, length, refl, ap, sym, subst, OnOk}
 use Rattle.std.proofs.lemmas.Result.{on_ok_weaker}
 use Rattle.age_machine.specs.Saves.{IsSafe, LeadsTo}
 use Rattle.age_machine.specs.Outs.{OutView, IsClaimed, TouchesFile, text_of}
