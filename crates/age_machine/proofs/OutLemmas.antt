@@ -18,7 +18,7 @@ use Rattle.age_machine.specs.Laws.{HasOneLock, IsUnchanged}
 use Rattle.age_machine.specs.Held.{HasWritten, IsBegun, IsJustOpened, IsOut}
 use Rattle.age_machine.specs.inner.Steps.{AllOf, IsAbout, IsHeld, IsInPlace, StaysHeld, RemovesAt, is_waited}
 use Rattle.age_machine.proofs.DiskLemmas.{path_same, file_same, file_other, led, leaves_fewer, leaves_new, leaves_synced}
-use Rattle.age_machine.proofs.SaveLemmas.{contains_first, contains_later, if_either, if_made, if_waited, safe_named, saves_loudly, saves_none, saves_quietly}
+use Rattle.age_machine.proofs.SaveLemmas.{contains_first, contains_later, if_either, if_made, if_waited, saves_loudly, saves_none, saves_quietly}
 use Rattle.age_machine.proofs.SaveLemmas.{sized_within}
 
 -- ---- What calls contain.
@@ -433,27 +433,10 @@ saves_discarded path n way.New calls later fresh removes same =
     saves_named path removes.mid later (if_made (SavesWhole path [] []) (Removed path) calls removes.mid
     (saves_claimed path n (Made path n ∷ []) calls (saves_made path n) fresh) (saves_removed path n calls fresh) removes.removed) removes.named
 
--- ---- What is told by the text of a name.
+-- ---- It was ended.
 
-module _ (path text : List ℕ) (n : ℕ) (same : text ≡ path) where
-  pub ended_held : (opening : FileCall) (calls finished closed : List FileCall) → StaysHeld path n opening calls finished
-      → StaysHeld text n opening finished closed → IsHeld path n opening calls → IsHeld path n opening closed
-  ended_held opening calls finished closed first second held =
-      subst (λ (p : List ℕ). IsHeld p n opening closed) same
-      (second (subst (λ (p : List ℕ). IsHeld p n opening finished) (sym same) (first held)))
-
-  pub ended_safe : (bytes : List ℕ) (finished closed : List FileCall) → IsInPlace path n bytes finished
-      → Waited (SyncedNames text) (UnwaitedNames text) finished closed → IsSafe path bytes closed
-  ended_safe bytes finished closed put waited =
-      safe_named path [] n bytes [] finished closed put (subst (λ (p : List ℕ). Waited (SyncedNames p) (UnwaitedNames p) finished closed) same waited)
-
-  pub ended_there : (bytes : List ℕ) (finished closed : List FileCall)
-      → ((bytes : List ℕ) → IsBegun text n false bytes finished → IsBegun text n false bytes closed)
-      → IsBegun path n false bytes finished → LeadsTo path n bytes closed
-  ended_there bytes finished closed keeps begun disk answers =
-      let kept = keeps bytes (subst (λ (p : List ℕ). IsBegun p n false bytes finished) (sym same) begun) in
-      let holds = subst (λ (p : List ℕ). IsBegun p n false bytes closed) same kept disk answers in
-      (holds.file, holds.whole refl, holds.is_lost)
+pub leads_begun : (path : List ℕ) (n : ℕ) (bytes : List ℕ) (calls : List FileCall) → IsBegun path n false bytes calls → LeadsTo path n bytes calls
+leads_begun path n bytes calls begun disk answers = let holds = begun disk answers in (holds.file, holds.whole refl, holds.is_lost)
 
 -- what holds of it once it was ended
 pub ended_as : (P : OutFile → List ℕ → Type 0) (view now : OutView) (file : OutFile) (text : List ℕ) → view ≡ now → now.file ≡ file

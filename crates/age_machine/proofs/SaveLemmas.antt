@@ -390,6 +390,15 @@ fills_same n bytes old mid new fills same = subst (Fills n bytes old) (sym same)
 
 -- ---- How a file that was filled comes to its path.
 
+pub safe_named : (path : List ℕ) (n : ℕ) (bytes : List ℕ) (calls new : List FileCall) → IsInPlace path n bytes calls
+    → Waited (SyncedNames path) (UnwaitedNames path) calls new → IsSafe path bytes new
+safe_named path n bytes calls new put =
+    if_waited (IsSafe path bytes) (SyncedNames path) (UnwaitedNames path) calls new (λ disk answers.
+    let has = put.has disk answers.1 in
+    leaves_only n path bytes (after_call (SyncedNames path) (after_calls calls disk))
+    (put.file disk answers.1) (path_same path [] (after_calls calls disk).before) (record { bytes = has.bytes; is_kept = has.is_kept }))
+    (λ disk answers. absurd answers.0)
+
 module _ (path from : List ℕ) (n : ℕ) (bytes : List ℕ) (old : List FileCall) where
   -- names that the file gets
   full_linked : (calls : List FileCall) → IsFull path from n bytes old calls → IsFull path from n bytes old (Linked from path ∷ calls)
@@ -447,15 +456,6 @@ module _ (path from : List ℕ) (n : ℕ) (bytes : List ℕ) (old : List FileCal
       → looked ≡ Missing path ∷ calls → new ≡ Renamed from path ∷ looked → IsInPlace path n bytes new
   put_looked calls looked new full missing is =
       put_renamed looked new (subst (IsFull path from n bytes old) (sym missing) (full_missing calls full)) is
-
-  pub safe_named : (calls new : List FileCall) → IsInPlace path n bytes calls
-      → Waited (SyncedNames path) (UnwaitedNames path) calls new → IsSafe path bytes new
-  safe_named calls new put =
-      if_waited (IsSafe path bytes) (SyncedNames path) (UnwaitedNames path) calls new (λ disk answers.
-      let has = put.has disk answers.1 in
-      leaves_only n path bytes (after_call (SyncedNames path) (after_calls calls disk))
-      (put.file disk answers.1) (path_same path [] (after_calls calls disk).before) (record { bytes = has.bytes; is_kept = has.is_kept }))
-      (λ disk answers. absurd answers.0)
 
   -- ---- All that is said of a try.
 
@@ -571,26 +571,3 @@ module _ (path from : List ℕ) (n : ℕ) (bytes : List ℕ) (old : List FileCal
             has = λ disk answers. (fills synced).on path disk answers (kept.sound disk);
           };
         }
-
--- ---- What is told by the text of a name, after a call that notes nothing.
-
-module _ (path from text : List ℕ) (n : ℕ) (calls checked new : List FileCall) (same : text ≡ from) (kept : checked ≡ calls) where
-  pub tried_text : (to : Spot) (wanted : Durability) (bytes : List ℕ) (old : List FileCall)
-      → (IsReady wanted path text n bytes old checked → HasTried to wanted path text n bytes old new)
-      → IsReady wanted path from n bytes old calls → HasTried to wanted path from n bytes old new
-  tried_text to wanted bytes old tried ready =
-      subst (λ (l : List ℕ). IsReady wanted path l n bytes old checked → HasTried to wanted path l n bytes old new) same tried
-      (subst (IsReady wanted path from n bytes old) (sym kept) ready)
-
-  pub put_text : (bytes : List ℕ) (old : List FileCall) → (IsFull path text n bytes old checked → IsInPlace path n bytes new)
-      → IsFull path from n bytes old calls → IsInPlace path n bytes new
-  put_text bytes old put full =
-      put (subst (λ (l : List ℕ). IsFull path l n bytes old checked) (sym same)
-      (subst (IsFull path from n bytes old) (sym kept) full))
-
--- a file was removed by the text of its name
-pub tried_taken_back : (to : Spot) (wanted : Durability) (path from text : List ℕ) (n : ℕ)
-    (bytes : List ℕ) (old calls new : List FileCall) → text ≡ from → (from ≡ path → ⊥)
-    → HasTried to wanted path from n bytes old calls → MayHave (Removed text) calls new → HasTried to wanted path from n bytes old new
-tried_taken_back to wanted path from text n bytes old calls new same apart tried removed =
-    tried_removed path from n bytes old wanted to calls new apart tried (subst (λ (l : List ℕ). MayHave (Removed l) calls new) same removed)
