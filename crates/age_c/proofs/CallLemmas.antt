@@ -25,7 +25,7 @@ use Rattle.age_c.specs.Readers.{IsCall, IsTextRight, Part, PartsAreWritten, Same
 use Rattle.age_c.specs.Readers.{segment_from, texts_of}
 use Rattle.age_c.specs.Places.{OpeningsAreParts}
 use Rattle.age_c.specs.inner.Readers.{key_of_reader as key_of, opens, seals}
-use Rattle.age_c.proofs.ReaderLemmas.{key_same, some_is}
+use Rattle.age_c.proofs.ReaderLemmas.{key_same, some_is, unchanged}
 
 -- ---- One call.
 
@@ -438,11 +438,11 @@ same_file a b c x y = record {
 }
 
 same_call : (r : Reader) (c : Call) → IsCall r c → SameFile r c.after
-same_call r c (inl idle) = subst (SameFile r) (sym idle.1) (record { file_key = refl; nonce = refl; payload_at = refl })
+same_call r c (inl idle) = subst (SameFile r) (sym idle.1) (unchanged r)
 same_call r c (inr taken) = taken.1.same
 
 same_calls : (calls : List Call) (r : Reader) → AreCalls r calls → SameFile r (last_reader r calls)
-same_calls [] r are = record { file_key = refl; nonce = refl; payload_at = refl }
+same_calls [] r are = unchanged r
 same_calls (c ∷ calls) r are = same_file r c.after (last_reader c.after calls) (same_call r c are.0) (same_calls calls c.after are.1)
 
 -- parts from a reader of the same file on
@@ -458,7 +458,7 @@ parts_from first r (p ∷ parts) same are text few =
     )
 
 pub parts_are_written : PartsAreWritten
-parts_are_written r parts are text few = parts_from r r parts (record { file_key = refl; nonce = refl; payload_at = refl }) are text few
+parts_are_written r parts are text few = parts_from r r parts (unchanged r) are text few
 
 pub goes_open : (chunk : ℕ) (old new : Reader) → GoesTo chunk old new → reader_status new.state new.fault_chunk ≡ Some Open
 goes_open chunk old new g =

@@ -6,10 +6,11 @@ use Rattle.std.specs.List.{flat_map}
 use Rattle.std.specs.Borrow.{Bor}
 use Rattle.std.proofs.lemmas.List.{length-append, length-drop, nil_from_length}
 use Rattle.std.proofs.lemmas.Grind.{flat_map-append}
-use Rattle.age_stream.specs.Segment.{Segment, outcome, released, rest_bytes, with_piece}
+use Rattle.age_stream.specs.Segment.{Segment, Outcome, fresh, outcome, released, rest_bytes, with_piece}
 use Rattle.age_stream.specs.Opener.{chunk_bytes, OpenerView, Stands, chunk_texts, has_failed}
 use Rattle.age_stream.specs.declared.step.Status.{Status}
 use Rattle.age_stream.specs.declared.step.Status.TheVariants.{Open}
+use Rattle.age_stream.proofs.FreshLemmas.{fresh_outcome, fresh_rest}
 use Rattle.age_c.specs.declared.reader.Reader.{Reader}
 use Rattle.age_c.specs.Calls.{answer_of, reader_status}
 use Rattle.age_c.specs.Readers.{IsAt, SameFile, TakesBlock}
@@ -18,6 +19,20 @@ use Rattle.age_chunk.specs.Payload.{chunk_length, block_length}
 
 pub some_is : {A : Type 0} {a b : A} → Some a ≡ Some b → a ≡ b
 some_is e = search
+
+-- a reader that is open at a chunk was given nothing there
+pub at_fresh : (r : Reader) → reader_status r.state r.fault_chunk ≡ Some Open → IsAt r (fresh r.chunk)
+at_fresh r is_open =
+    let o = fresh_outcome (opens (key_of r)) chunk_length r.chunk in
+    record {
+      status = is_open ∙ ap (λ (o : Outcome). Some o.status) (sym o);
+      index = ap (λ (o : Outcome). o.index) (sym o);
+      whole = λ _. fresh_rest chunk_length r.chunk;
+      timely = λ _. refl;
+    }
+
+pub unchanged : (r : Reader) → SameFile r r
+unchanged r = record { file_key = refl; nonce = refl; payload_at = refl }
 
 -- the opener of a reader
 abbrev pub opener_of : Reader → Status → OpenerView (List ℕ)

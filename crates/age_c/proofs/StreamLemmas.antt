@@ -19,7 +19,7 @@ use Rattle.age_c.specs.Streams.{AnswersAreFeedCalls, AreFeedCalls, FeedCall, Fee
 use Rattle.age_c.specs.Streams.{StreamIsAt, bytes_written, held_block, reader_call, reader_calls, text_taken}
 use Rattle.age_c.specs.inner.Readers.{key_of_reader as key_of, opens}
 use Rattle.age_c.proofs.CallLemmas.{AreKnown, Timely, a_call, known_misused, known_taken, misused_next, next, taken_next, text_right, timely_piece}
-use Rattle.age_c.proofs.ReaderLemmas.{key_same, some_is}
+use Rattle.age_c.proofs.ReaderLemmas.{key_same, some_is, unchanged}
 use Rattle.age_c.proofs.WriterLemmas.{payload_written, few_chunks}
 
 nil_by : (start : ℕ) (bytes : List ℕ) (ended late : Bool) → with_piece (record { start = start; bytes = bytes; ended = ended; late = late }) []
@@ -54,9 +54,6 @@ stream_same st s h =
     let size = length-take st.held st.block in
     ap (reader_outcome st.reader) h.given ∙ part_same st.reader h.blocks (held_block st) h.at (λ some. h.is_open (omega (arith, some, size)))
     (omega (arith, h.short, size))
-
-unchanged : (r : Reader) → SameFile r r
-unchanged r = record { file_key = refl; nonce = refl; payload_at = refl }
 
 -- bytes more, after those that are held
 given_more : (st : Stream) (s : Segment) (h : StreamIsAt st s) (more all : List ℕ)

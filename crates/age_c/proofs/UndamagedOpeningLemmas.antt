@@ -1,5 +1,5 @@
 -- A block that came undamaged at its place is opened.
-use Rattle.std.proofs.Common.{inl, inr, ◌≡◌, ◌≢◌, ℕ, ◌+◌, ◌*◌, ◌/◌, ◌<◌, ◌≤◌, refl, ap, sym, subst, ◌∙◌, arith, List, [], ◌∷◌, ◌++◌, length, get_or, take, drop}
+use Rattle.std.proofs.Common.{inl, inr, ◌≡◌, ◌≢◌, ℕ, ◌+◌, ◌*◌, ◌/◌, ◌<◌, ◌≤◌, ap, sym, subst, ◌∙◌, arith, List, [], ◌∷◌, ◌++◌, length, get_or, take, drop}
 use Rattle.std.proofs.Common.{Bool, true, false, Option, Some, None}
 use Rattle.std.specs.Prelude.{◌==◌, ◌||◌, if◌then◌else◌, nat_lt, slice_get}
 use Rattle.std.specs.List.{flat_map, AllByRecursion}
@@ -33,7 +33,7 @@ use Rattle.age_c.specs.Places.{AreOpenings, IsOpenedRight, Opening, OpensAt, Und
 use Rattle.age_c.specs.declared.reader.Reader.{Reader}
 use Rattle.age_c.specs.inner.Readers.{key_of_reader as key_of, opens, seals}
 use Rattle.age_c.proofs.CallLemmas.{calls_are_written, fault_from, refused_of, same_file, taken_next}
-use Rattle.age_c.proofs.ReaderLemmas.{key_same}
+use Rattle.age_c.proofs.ReaderLemmas.{key_same, unchanged}
 
 -- ---- a segment of one whole block
 
@@ -270,4 +270,4 @@ openings_from first r (o ∷ openings) same (inr it, are) text few closed =
 
 pub undamaged_opens : UndamagedOpens
 undamaged_opens r openings are text few closed =
-    openings_from r r openings (record { file_key = refl; nonce = refl; payload_at = refl }) are text few closed
+    openings_from r r openings (unchanged r) are text few closed
