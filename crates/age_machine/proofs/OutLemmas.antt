@@ -12,7 +12,7 @@ use Rattle.age_machine.specs.declared.in_place.Opening.TheVariants as way
 use Rattle.age_machine.specs.declared.machine.Kind.{Kind}
 use Rattle.age_machine.specs.declared.machine.Kind.TheVariants.{Regular}
 use Rattle.age_machine.specs.Disk.{Disk, sized, after_call, after_calls, IsAmong, MayLead, MayLeave}
-use Rattle.age_machine.specs.Saves.{IsAnswered, AllAnswered, HasMade, SavesWhole, IsSafe, LeadsTo}
+use Rattle.age_machine.specs.Saves.{IsAnswered, AllAnswered, HasMade, SavesWhole, LeadsTo}
 use Rattle.age_machine.specs.Outs.{OutFile, OutView, opening_of, is_making, text_of, IsOn, AllOn, MayChange, IsClaimed, LocksFirst, TouchesFile}
 use Rattle.age_machine.specs.Laws.{HasOneLock, IsUnchanged}
 use Rattle.age_machine.specs.Held.{HasWritten, IsBegun, IsJustOpened, IsOut}

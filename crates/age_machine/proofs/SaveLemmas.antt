@@ -163,9 +163,6 @@ touches_then path old mid new first second = record {
 
 -- ---- A file beside the path.
 
-pub no_longer : (a b c : List ℕ) → c ≡ a ++ b → 0 < length b → c ≡ a → ⊥
-no_longer a b c joined some same = omega (arith, length-append a b, ap length joined, ap length same)
-
 pub has_more : (path from : List ℕ) (n : ℕ) (old : List FileCall) (call : FileCall) (calls : List FileCall) → HasBeside path from n old calls
     → ((since : List FileCall) → Contains since (Made from n) → IsWithin path since call) → HasBeside path from n old (call ∷ calls)
 has_more path from n old call calls has within = record {
