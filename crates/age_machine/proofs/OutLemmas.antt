@@ -232,27 +232,12 @@ begun_wrote : (path : List ℕ) (n : ℕ) (is_stale : Bool) (text part : List �
     → IsBegun path n is_stale (text ++ part) (Wrote n (length text) part ∷ calls)
 begun_wrote path n is_stale text part calls begun disk answers = holds_wrote path n is_stale text (after_calls calls disk) (begun disk answers.1) part
 
--- it stays so while something is waited for
-begun_waited : (path : List ℕ) (n : ℕ) (is_stale : Bool) (text : List ℕ) (waits cant : FileCall) (calls later : List FileCall)
-    → ((disk : Disk) → HasWritten path n is_stale text disk → HasWritten path n is_stale text (after_call waits disk))
-    → ((disk : Disk) → IsAnswered path cant disk → ⊥) → (later ≡ calls) ⊎ Waited waits cant calls later
-    → IsBegun path n is_stale text calls → IsBegun path n is_stale text later
-begun_waited path n is_stale text waits cant calls later keeps never either begun =
-    if_either (IsBegun path n is_stale text) waits cant calls later begun (λ disk answers. keeps (after_calls calls disk) (begun disk answers.1))
-    (λ disk answers. absurd (never (after_calls calls disk) answers.0)) either
-
+-- it stays so while it is waited for
 pub begun_settled : (path : List ℕ) (n : ℕ) (is_stale : Bool) (text : List ℕ) (calls later : List FileCall)
     → (later ≡ calls) ⊎ Waited (Synced n) (Unwaited n) calls later → IsBegun path n is_stale text calls → IsBegun path n is_stale text later
-begun_settled path n is_stale text calls later =
-    begun_waited path n is_stale text (Synced n) (Unwaited n) calls later
-    (λ disk holds. record { file = holds.file; front = holds.front; whole = holds.whole; is_lost = holds.is_lost }) (λ disk never. never)
-
-pub begun_named : (path : List ℕ) (n : ℕ) (is_stale : Bool) (text : List ℕ) (calls later : List FileCall)
-    → (later ≡ calls) ⊎ Waited (SyncedNames path) (UnwaitedNames path) calls later
-    → IsBegun path n is_stale text calls → IsBegun path n is_stale text later
-begun_named path n is_stale text calls later =
-    begun_waited path n is_stale text (SyncedNames path) (UnwaitedNames path) calls later
-    (λ disk holds. record { file = holds.file; front = holds.front; whole = holds.whole; is_lost = holds.is_lost }) (λ disk never. never)
+begun_settled path n is_stale text calls later either begun =
+    if_either (IsBegun path n is_stale text) (Synced n) (Unwaited n) calls later begun (λ disk answers. let holds = begun disk answers.1 in
+    record { file = holds.file; front = holds.front; whole = holds.whole; is_lost = holds.is_lost }) (λ disk answers. absurd answers.0) either
 
 pub begun_same : (path : List ℕ) (n : ℕ) (is_stale : Bool) (text : List ℕ) (calls later : List FileCall) → later ≡ calls
     → IsBegun path n is_stale text calls → IsBegun path n is_stale text later

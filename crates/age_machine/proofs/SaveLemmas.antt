@@ -1,5 +1,5 @@
 -- How a replacement goes on, call by call.
-use Rattle.std.proofs.Common.{◌≡◌, ◌⊎◌, inl, inr, ⊎_elim, ℕ, ◌+◌, ◌-◌, ◌≤◌, ◌<◌, List, [], ◌∷◌, ◌++◌, Option, Some, None, false, length, take, drop, not, refl}
+use Rattle.std.proofs.Common.{◌≡◌, ◌⊎◌, inl, inr, ⊎_elim, ℕ, ◌+◌, ◌-◌, ◌≤◌, List, [], ◌∷◌, ◌++◌, Option, Some, None, false, length, take, drop, not, refl}
 use Rattle.std.proofs.Common.{sym, ◌∙◌, ap, subst, arith, append_assoc, length-append, length-drop, take-add}
 use Rattle.std.specs.Prelude.{Contains, Result, Err, OnOk, replicate}
 use Rattle.std.proofs.lemmas.List.{append-nil, take_at, drop_at, take_all, drop-drop, length-take-le}
@@ -14,7 +14,7 @@ use Rattle.age_machine.specs.Disk.{Disk, after_call, after_calls, MayLeave, size
 use Rattle.age_machine.specs.Saves.{AllAnswered, AtEachMoment, Throughout, SavesWhole, SparesFile, HasMade, IsLonger, IsWithin, AllWithin, Touches, IsSafe}
 use Rattle.age_machine.specs.Saved.{Replaces}
 use Rattle.age_machine.specs.Beside.{HasBeside, IsBeside, IsKept}
-use Rattle.age_machine.specs.inner.Steps.{AllOf, IsAbout, HasTried, Fills, IsFull, IsInPlace, IsReady, StaysSound, WritesOver, CutsOff}
+use Rattle.age_machine.specs.inner.Steps.{AllOf, IsAbout, HasTried, Fills, IsFull, IsInPlace, IsReady, WritesOver, CutsOff}
 use Rattle.age_machine.proofs.DiskLemmas.{path_same, path_other, file_same, apart_made, apart_of, led, leaves_apart, leaves_renamed, leaves_linked}
 use Rattle.age_machine.proofs.DiskLemmas.{file_renamed, file_linked, leaves_removed, leaves_synced, leaves_only}
 
@@ -301,9 +301,6 @@ pub about_waited : (n : ℕ) (old new : List FileCall) → Waited (Synced n) (Un
 about_waited n old new (inl synced) = about_more n (Synced n) old old new (about_none n old) synced refl
 about_waited n old new (inr unwaited) = about_more n (Unwaited n) old old new (about_none n old) unwaited refl
 
-pub sound_settled : (n : ℕ) (old new : List FileCall) → (new ≡ old) ⊎ Waited (Synced n) (Unwaited n) old new → StaysSound n old new
-sound_settled n old new = if_either (StaysSound n old) (Synced n) (Unwaited n) old new (λ disk. refl) (λ disk. refl) (λ disk. refl)
-
 -- ---- What is written.
 
 none_missing : (n : ℕ) → n ≡ 0 → replicate {A = ℕ} n 0 ≡ []
@@ -328,9 +325,6 @@ over at m bytes held begun within =
     ap (λ (l : List ℕ). (l ++ part) ++ drop (at + length part) all) first ∙ (ap (λ (l : List ℕ). (front ++ part) ++ l) rest
     ∙ ap (λ (l : List ℕ). l ++ drop (at + m) held) (sym (take-add at m bytes)))
 
-pub writes_none : (n : ℕ) (bytes : List ℕ) (old : List FileCall) → WritesOver n 0 bytes old old
-writes_none n bytes old = record { sound = λ disk. refl; bytes = λ disk. refl }
-
 pub writes_more : (n at m : ℕ) (bytes : List ℕ) (old new later : List FileCall) → at ≤ length bytes
     → m ≤ length bytes - at → WritesOver n at bytes old new
     → later ≡ Wrote n at (take m (drop at bytes)) ∷ new → WritesOver n (at + m) bytes old later
@@ -339,26 +333,6 @@ writes_more n at m bytes old new later begun within writes is =
       sound = writes.sound;
       bytes = λ disk. file_same n _ (after_calls new disk).bytes ∙ (ap (λ (l : List ℕ). written at (take m (drop at bytes)) l) (writes.bytes disk)
           ∙ over at m bytes ((after_calls old disk).bytes n) begun within);
-    })
-
--- ---- It is cut off.
-
--- nothing stands beyond
-pub cuts_short : (n len shown : ℕ) (old new : List FileCall) → shown ≤ len → new ≡ Measured n shown ∷ old → CutsOff n len old new
-cuts_short n len shown old new within is =
-    subst (CutsOff n len old) (sym is) (record {
-      sound = λ disk. refl;
-      bytes = λ path disk answers. sym (take_all len ((after_calls old disk).bytes n) (omega (arith, answers.0)));
-    })
-
-pub cuts_off : (n len shown : ℕ) (old seen new : List FileCall) → len < shown
-    → seen ≡ Measured n shown ∷ old → new ≡ Cut n len ∷ seen → CutsOff n len old new
-cuts_off n len shown old seen new beyond saw is =
-    subst (CutsOff n len old) (sym (is ∙ ap (λ (l : List FileCall). Cut n len ∷ l) saw))
-    (record {
-      sound = λ disk. refl;
-      bytes = λ path disk answers. file_same n _ (after_calls old disk).bytes
-          ∙ sized_within len ((after_calls old disk).bytes n) (omega (arith, answers.1.0));
     })
 
 -- ---- It reaches the disk.
