@@ -1,5 +1,5 @@
 -- The lines of a header: a body's, an argument line, an end line.
-use Rattle.std.proofs.Common.{◌≡◌, ℕ, zero, suc, ◌<◌, ◌≤◌, ◌+◌, ◌*◌, ◌/◌, Bool, true, false, cond, leb, eqb, nat_eq, ◌&&◌, List, [], ◌∷◌, ◌++◌, length, take}
+use Rattle.std.proofs.Common.{◌≡◌, ℕ, zero, suc, ◌<◌, ◌≤◌, ◌+◌, ◌*◌, ◌/◌, ◌%◌, Bool, true, false, cond, leb, eqb, nat_eq, ◌&&◌, List, [], ◌∷◌, ◌++◌, length, take}
 use Rattle.std.proofs.Common.{drop, Option, Some, None, refl, sym, ap, subst, ◌∙◌, arith, inl, inr}
 use Rattle.std.specs.Prelude.{codes, ◌⊎◌}
 use Rattle.std.specs.List.{flat_map, AllByRecursion, starts_with}
@@ -14,7 +14,7 @@ use Rattle.base64.specs.GeneralPurpose.{IsBytes}
 use Rattle.age_stanza.specs.inner.LineMachine.{whole_lines, base64_bytes, arguments_from, arguments_of, mac_of, whole_mac}
 use Rattle.age_stanza.specs.Text.{base64_text}
 use Rattle.age_stanza.specs.Grammar.{line, IsArgument, argument_line, in_lines, end_line}
-use Rattle.age_stanza.proofs.TextLemmas.{text_of_decoded, decoded-text, IsBytes-drop}
+use Rattle.age_stanza.proofs.TextLemmas.{text_of_decoded, decoded-text, IsBytes-drop, text-append, length-text}
 
 -- ---- a test that was passed or not
 
@@ -22,9 +22,14 @@ pub chosen : {A : Type 0} (b : Bool) (x y z : A) → cond b x y ≡ z → ((b �
 chosen true x y z e = inl (refl, e)
 chosen false x y z e = inr (refl, e)
 
-pub by_cases : (b : Bool) → cond b true false ≡ b
-by_cases true = refl
-by_cases false = refl
+-- what holds of both answers of a test holds of its answer
+pub by_test : {A : Type 0} (P : A → Type 0) (b : Bool) (x y : A) → (b ≡ true → P x) → (b ≡ false → P y) → P (cond b x y)
+by_test P true x y f g = f refl
+by_test P false x y f g = g refl
+
+tested : (b : Bool) → (b ≡ true) ⊎ (b ≡ false)
+tested true = inl refl
+tested false = inr refl
 
 -- ---- what a line starts with
 
@@ -91,6 +96,33 @@ length-in_lines cs =
       length-append l rest,
     ))
     (length cs / 64) cs refl
+
+-- ---- a body in lines: each but the last spells 48 bytes
+
+pub full_line : (body : List ℕ) → 48 ≤ length body → in_lines (base64_text body)
+    ≡ line (base64_text (take 48 body)) ++ in_lines (base64_text (drop 48 body))
+full_line body le =
+    let len : length (take 48 body) ≡ 48 = omega (arith, length-take 48 body) in
+    let long : length (base64_text (take 48 body)) ≡ 64 = omega (arith, length-text (take 48 body)) in
+    let whole : length (take 48 body) % 3 ≡ 0 = omega arith in
+    ap (λ (b : List ℕ). in_lines (base64_text b)) (sym (take-append-drop 48 body)) ∙ ap in_lines (text-append (take 48 body) (drop 48 body) whole)
+    ∙ in_lines-full (base64_text (take 48 body)) (base64_text (drop 48 body)) (omega arith)
+
+pub last_line : (body : List ℕ) → length body < 48 → in_lines (base64_text body) ≡ line (base64_text body)
+last_line body lt = in_lines-short (base64_text body) (omega (arith, length-text body))
+
+-- a line more is written
+pub line_written : (out next all rest : List ℕ) → 48 ≤ length rest → next ≡ out ++ line (base64_text (take 48 rest))
+    → out ++ in_lines (base64_text rest) ≡ all → next ++ in_lines (base64_text (drop 48 rest)) ≡ all
+line_written out next all rest le puts same =
+    let after = in_lines (base64_text (drop 48 rest)) in
+    ap (λ (t : List ℕ). t ++ after) puts ∙ append_assoc out (line (base64_text (take 48 rest))) after
+    ∙ ap (λ (t : List ℕ). out ++ t) (sym (full_line rest le)) ∙ same
+
+-- the last line is written
+pub last_written : (out next all rest : List ℕ) → length rest < 48 → next ≡ out ++ line (base64_text rest) → out ++ in_lines (base64_text rest) ≡ all
+    → next ≡ all
+last_written out next all rest lt puts same = puts ∙ ap (λ (t : List ℕ). out ++ t) (sym (last_line rest lt)) ∙ same
 
 -- ---- an argument line
 
@@ -212,22 +244,18 @@ bad_word : (done : List (List ℕ)) (word w cs : List ℕ) → EndsWord cs → A
     → (IsArgument (word ++ w) → ⊥)
     → arguments_from done word (w ++ cs) ≡ None
 unfolding arguments_from
-bad_word done word [] cs ends others visible bad = elim (chosen (eqb (length word) 0) true false (eqb (length word) 0) (by_cases (eqb (length word) 0))) [
-  | inl h ↦ no_word done word cs ends h.0
-  | inr h ↦ absurd (bad (rw append-nil (some_length word h.0, visible)))
+bad_word done word [] cs ends others visible bad = elim (tested (eqb (length word) 0)) [
+  | inl h ↦ no_word done word cs ends h
+  | inr h ↦ absurd (bad (rw append-nil (some_length word h, visible)))
 ]
 bad_word done word (c ∷ w) cs ends others visible bad =
     let space : eqb c 32 ≡ false = ne_eqb c 32 others.0 in
-    elim (chosen (leb 33 c && leb c 126) true false (leb 33 c && leb c 126) (by_cases (leb 33 c && leb c 126))) [
+    elim (tested (leb 33 c && leb c 126)) [
       | inl h ↦
-          let parts = and_parts (leb 33 c) (leb c 126) h.0 in
-          rw (
-            space,
-            h.0,
-          ) (bad_word done (word ++ c ∷ []) w cs ends others.1
-          (All-append IsVisible word (c ∷ []) visible ((leb-true 33 c parts.0, leb-true c 126 parts.1), tt))
-          (λ valid. bad (rw (← append_assoc word (c ∷ []) w) valid)))
-      | inr h ↦ rw (space, h.0) refl
+          let parts = and_parts (leb 33 c) (leb c 126) h in
+          let seen = All-append IsVisible word (c ∷ []) visible ((leb-true 33 c parts.0, leb-true c 126 parts.1), tt) in
+          rw (space, h) (bad_word done (word ++ c ∷ []) w cs ends others.1 seen (λ valid. bad (rw (← append_assoc word (c ∷ []) w) valid)))
+      | inr h ↦ rw (space, h) refl
     ]
 
 -- a word that is no argument, before a space and at the end

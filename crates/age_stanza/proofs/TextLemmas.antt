@@ -50,6 +50,9 @@ line_refused s (Err e) h = not_decoded s e h
 
 -- ---- lists of bytes
 
+pub no_bytes : IsBytes []
+no_bytes = bytes_from_pass [] refl
+
 pub IsBytes-tail : (a b : List ℕ) → IsBytes (a ++ b) → IsBytes b
 IsBytes-tail [] b h = h
 IsBytes-tail (x ∷ a) b h = IsBytes-tail a b (λ i. h (suc i))
@@ -150,10 +153,3 @@ symbols_line t (a ∷ b ∷ c ∷ rest) h = (h _, (h _, (h _, (h _, symbols_line
 
 pub text_line : (m : List ℕ) → IsLine (base64_text m)
 text_line m = rw text-symbols (symbols_line the_symbols m (λ i. at_line the_symbols i (line_from_test the_symbols refl)))
-
-no_symbols : encode_symbols the_symbols [] ≡ []
-unfolding encode_symbols
-no_symbols = refl
-
-pub text-nil : base64_text [] ≡ []
-text-nil = text-symbols [] ∙ no_symbols

@@ -6,7 +6,7 @@ use Rattle.age_stanza.specs.declared.header.Header.{Header}
 use Rattle.age_stanza.specs.Text.{base64_text}
 use Rattle.age_stanza.specs.Grammar.{line, version, stanza_text, HeadText}
 use Rattle.age_stanza.proofs.TextLemmas.{length-text}
-use Rattle.age_stanza.proofs.PlaceAfterLemmas.{regrouped}
+use Rattle.age_stanza.proofs.PlaceLemmas.{regrouped}
 use Rattle.age_stanza.proofs.laws.mac_text_is_front.Goals as goal
 
 front_of : (h : Header) (bytes : List ℕ) → HeadText h bytes → (last : List ℕ) × (length last ≡ 45)
