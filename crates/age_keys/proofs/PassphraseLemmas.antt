@@ -142,8 +142,7 @@ only_memory w h key only wraps within typed BadX25519 r = absurd r
 only_memory w h key only wraps within typed Memory r = refl
 
 pub opens_alone : (w : PassphraseIdentity) (log : ℕ) (salt key : List ℕ) → 1 ≤ log → log ≤ 22 → log ≤ w.max_log → length salt ≡ 16 → IsBytes salt
-    → length key ≡ 16
-    → AllowsAlone (IsPassphraseKey w) (PassphraseRefuses w) (scrypt_head w.pass log salt key) key
+    → length key ≡ 16 → AllowsAlone (IsPassphraseKey w) (PassphraseRefuses w) (scrypt_head w.pass log salt key) key
 opens_alone w log salt key some few within size fits key_size =
     let h : Header = scrypt_head w.pass log salt key in
     let has : HasOwn w h log key = own w log salt key some few size fits key_size in

@@ -12,8 +12,7 @@ use Rattle.age_stanza.proofs.Base64Lemmas.{one_text}
 -- one stanza more
 pub all_more : (P : Stanza → Type 0) (ss : List Stanza) (i : ℕ) (s : Stanza) → i < length ss → s ≡ get_or ss i s → AllByRecursion P (take i ss) → P s
     → AllByRecursion P (take (i + 1) ss)
-all_more P ss i s lt is all here =
-    rw (take_more ss i s lt) (All-append P (take i ss) (get_or ss i s ∷ []) all (subst P is here, tt))
+all_more P ss i s lt is all here = rw (take_more ss i s lt) (All-append P (take i ss) (get_or ss i s ∷ []) all (subst P is here, tt))
 
 -- those before a stanza, it, and those after it
 pub around : (ss : List Stanza) (i : ℕ) (s : Stanza) → i < length ss → s ≡ get_or ss i s → ss ≡ take i ss ++ s ∷ drop (i + 1) ss

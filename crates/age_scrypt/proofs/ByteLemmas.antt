@@ -8,19 +8,15 @@ use Rattle.age_scrypt.specs.Scrypt.{part, word_at, words_of}
 
 -- the number that the first four bytes spell
 number_is : (xs : List ℕ) → little_number 4 xs ≡ from_le_bytes w32 (take 4 xs)
-number_is xs =
-    rw (
+number_is xs = rw (
       get_or-take 4 xs 0 0 (omega arith),
       get_or-take 4 xs 1 0 (omega arith),
       get_or-take 4 xs 2 0 (omega arith),
       get_or-take 4 xs 3 0 (omega arith),
     ) (omega arith)
 
-pub words_all : (bytes words : List ℕ) → length bytes ≡ 1024 → length words ≡ 256
-    → IsRead little_number 4 bytes words
-    → words ≡ words_of bytes
+pub words_all : (bytes words : List ℕ) → length bytes ≡ 1024 → length words ≡ 256 → IsRead little_number 4 bytes words → words ≡ words_of bytes
 unfolding word_at words_of part
 words_all bytes words lb lw read =
     let count : length bytes / 4 ≡ 256 = omega arith in
-    rw count (fill_by_all (λ k. word_at bytes k) words 256 0 lw
-    (λ k below. read k (omega arith) ∙ number_is (drop (4 * k) bytes)))
+    rw count (fill_by_all (λ k. word_at bytes k) words 256 0 lw (λ k below. read k (omega arith) ∙ number_is (drop (4 * k) bytes)))

@@ -8,8 +8,7 @@ use Rattle.age_scrypt.specs.Scrypt.{add32, quarter, columns, rows, double_rounds
 use Rattle.age_scrypt.specs.inner.Workspace.{quarters, transpose}
 
 -- what holds of every list of four words written out
-pub for_four : (P : List ℕ → Type 0) → ((p q r s : ℕ) → P (p ∷ q ∷ r ∷ s ∷ [])) → (xs : List ℕ)
-    → length xs ≡ 4 → P xs
+pub for_four : (P : List ℕ → Type 0) → ((p q r s : ℕ) → P (p ∷ q ∷ r ∷ s ∷ [])) → (xs : List ℕ) → length xs ≡ 4 → P xs
 for_four P h [] len = absurd (omega arith)
 for_four P h (p ∷ []) len = absurd (omega arith)
 for_four P h (p ∷ q ∷ []) len = absurd (omega arith)
@@ -20,16 +19,14 @@ for_four P h (p ∷ q ∷ r ∷ s ∷ t ∷ rest) len = absurd (omega arith)
 -- two shifts and an or are a rotation
 pub shifts_rotate : (k : ℕ) → 0 < k → k < 32 → (words : List ℕ) → length words ≡ 4
     → zip2 bit_or (zip2 (λ x by. x * 2 ^ by % 2 ^ 32) words (k ∷ k ∷ k ∷ k ∷ []))
-    (zip2 (λ x by. x / 2 ^ by) words ((32 - k) ∷ (32 - k) ∷ (32 - k) ∷ (32 - k) ∷ []))
-    ≡ map (λ x. rotate_left w32 x k) words
+    (zip2 (λ x by. x / 2 ^ by) words ((32 - k) ∷ (32 - k) ∷ (32 - k) ∷ (32 - k) ∷ [])) ≡ map (λ x. rotate_left w32 x k) words
 shifts_rotate k some below =
     let left : k % 32 ≡ k = omega arith in
     let right : (32 - k) % 32 ≡ 32 - k = omega arith in
     for_four _ (λ p q r s. rw (left, right) refl)
 
 -- what holds of all words of four vectors holds of four vectors
-pub for_sixteen : (P : List ℕ → List ℕ → List ℕ → List ℕ → Type 0)
-    → ((a0 a1 a2 a3 b0 b1 b2 b3 c0 c1 c2 c3 d0 d1 d2 d3 : ℕ)
+pub for_sixteen : (P : List ℕ → List ℕ → List ℕ → List ℕ → Type 0) → ((a0 a1 a2 a3 b0 b1 b2 b3 c0 c1 c2 c3 d0 d1 d2 d3 : ℕ)
     → P (a0 ∷ a1 ∷ a2 ∷ a3 ∷ []) (b0 ∷ b1 ∷ b2 ∷ b3 ∷ []) (c0 ∷ c1 ∷ c2 ∷ c3 ∷ [])
     (d0 ∷ d1 ∷ d2 ∷ d3 ∷ []))
     → (a b c d : List ℕ) → length a ≡ 4 → length b ≡ 4 → length c ≡ 4 → length d ≡ 4 → P a b c d
@@ -48,35 +45,24 @@ xor_rotated_lanes b x y k = zip2 bit_xor b (map (λ sum. rotate_left w32 sum k) 
 -- a quarter round on each lane, as it is computed on vectors
 pub record IsQuarter (a b c d : List ℕ) : Type 0 where
   pub second : xor_rotated_lanes b a d 7 ≡ map (λ q. q.1) (quarters a b c d)
-  pub third : xor_rotated_lanes c (map (λ q. q.1) (quarters a b c d)) a 9
-      ≡ map (λ q. q.2) (quarters a b c d)
-  pub fourth : xor_rotated_lanes d (map (λ q. q.2) (quarters a b c d))
-      (map (λ q. q.1) (quarters a b c d)) 13 ≡ map (λ q. q.3) (quarters a b c d)
-  pub first : xor_rotated_lanes a (map (λ q. q.3) (quarters a b c d))
-      (map (λ q. q.2) (quarters a b c d)) 18 ≡ map (λ q. q.0) (quarters a b c d)
+  pub third : xor_rotated_lanes c (map (λ q. q.1) (quarters a b c d)) a 9 ≡ map (λ q. q.2) (quarters a b c d)
+  pub fourth : xor_rotated_lanes d (map (λ q. q.2) (quarters a b c d)) (map (λ q. q.1) (quarters a b c d)) 13 ≡ map (λ q. q.3) (quarters a b c d)
+  pub first : xor_rotated_lanes a (map (λ q. q.3) (quarters a b c d)) (map (λ q. q.2) (quarters a b c d)) 18 ≡ map (λ q. q.0) (quarters a b c d)
 
-pub quarter_lanes : (a b c d : List ℕ) → length a ≡ 4 → length b ≡ 4 → length c ≡ 4 → length d ≡ 4
-    → IsQuarter a b c d
+pub quarter_lanes : (a b c d : List ℕ) → length a ≡ 4 → length b ≡ 4 → length c ≡ 4 → length d ≡ 4 → IsQuarter a b c d
 unfolding quarter
-quarter_lanes =
-    for_sixteen IsQuarter
-    (λ a0 a1 a2 a3 b0 b1 b2 b3 c0 c1 c2 c3 d0 d1 d2 d3.
+quarter_lanes = for_sixteen IsQuarter (λ a0 a1 a2 a3 b0 b1 b2 b3 c0 c1 c2 c3 d0 d1 d2 d3.
     record { second = refl; third = refl; fourth = refl; first = refl })
 
 -- sixteen words, written out
-pub sixteen_words : (P : List ℕ → Type 0)
-    → ((x0 x1 x2 x3 x4 x5 x6 x7 x8 x9 x10 x11 x12 x13 x14 x15 : ℕ)
+pub sixteen_words : (P : List ℕ → Type 0) → ((x0 x1 x2 x3 x4 x5 x6 x7 x8 x9 x10 x11 x12 x13 x14 x15 : ℕ)
     → P (x0 ∷ x1 ∷ x2 ∷ x3 ∷ x4 ∷ x5 ∷ x6 ∷ x7 ∷ x8 ∷ x9 ∷ x10 ∷ x11 ∷ x12 ∷ x13 ∷ x14 ∷ x15 ∷ []))
     → (x : List ℕ) → length x ≡ 16 → P x
 sixteen_words P h x len =
-    let cut : (i : ℕ) → take 4 (drop i x) ++ drop (i + 4) x ≡ drop i x =
-    λ i. rw (← drop-drop) (take-append-drop 4 (drop i x)) in
+    let cut : (i : ℕ) → take 4 (drop i x) ++ drop (i + 4) x ≡ drop i x = λ i. rw (← drop-drop) (take-append-drop 4 (drop i x)) in
     let parts : take 4 x ++ take 4 (drop 4 x) ++ take 4 (drop 8 x) ++ drop 12 x ≡ x =
-    append_assoc (take 4 x ++ take 4 (drop 4 x)) (take 4 (drop 8 x)) (drop 12 x)
-    ∙ ap (λ rest. take 4 x ++ take 4 (drop 4 x) ++ rest) (cut 8)
-    ∙ append_assoc (take 4 x) (take 4 (drop 4 x)) (drop 8 x)
-    ∙ ap (λ rest. take 4 x ++ rest) (cut 4)
-    ∙ take-append-drop 4 x in
+    append_assoc (take 4 x ++ take 4 (drop 4 x)) (take 4 (drop 8 x)) (drop 12 x) ∙ ap (λ rest. take 4 x ++ take 4 (drop 4 x) ++ rest) (cut 8)
+    ∙ append_assoc (take 4 x) (take 4 (drop 4 x)) (drop 8 x) ∙ ap (λ rest. take 4 x ++ rest) (cut 4) ∙ take-append-drop 4 x in
     subst P parts
     (for_sixteen (λ a b c d. P (a ++ b ++ c ++ d)) h (take 4 x) (take 4 (drop 4 x))
     (take 4 (drop 8 x)) (drop 12 x)
@@ -86,23 +72,18 @@ sixteen_words P h x len =
     (omega (arith, length-drop 12 x)))
 
 -- the rows are the columns of the transpose
-pub transpose-columns_of-transpose : (x : List ℕ) → length x ≡ 16
-    → transpose (columns (transpose x)) ≡ rows x
+pub transpose-columns_of-transpose : (x : List ℕ) → length x ≡ 16 → transpose (columns (transpose x)) ≡ rows x
 unfolding transpose columns rows
 transpose-columns_of-transpose = sixteen_words (λ x. transpose (columns (transpose x)) ≡ rows x)
     (λ x0 x1 x2 x3 x4 x5 x6 x7 x8 x9 x10 x11 x12 x13 x14 x15. refl)
 
 pub length-columns : (x : List ℕ) → length x ≡ 16 → length (columns x) ≡ 16
 unfolding columns
-length-columns =
-    sixteen_words (λ x. length (columns x) ≡ 16)
-    (λ x0 x1 x2 x3 x4 x5 x6 x7 x8 x9 x10 x11 x12 x13 x14 x15. refl)
+length-columns = sixteen_words (λ x. length (columns x) ≡ 16) (λ x0 x1 x2 x3 x4 x5 x6 x7 x8 x9 x10 x11 x12 x13 x14 x15. refl)
 
 pub length-rows : (x : List ℕ) → length x ≡ 16 → length (rows x) ≡ 16
 unfolding rows
-length-rows =
-    sixteen_words (λ x. length (rows x) ≡ 16)
-    (λ x0 x1 x2 x3 x4 x5 x6 x7 x8 x9 x10 x11 x12 x13 x14 x15. refl)
+length-rows = sixteen_words (λ x. length (rows x) ≡ 16) (λ x0 x1 x2 x3 x4 x5 x6 x7 x8 x9 x10 x11 x12 x13 x14 x15. refl)
 
 pub length-double_rounds : (n : ℕ) (x : List ℕ) → length x ≡ 16 → length (double_rounds n x) ≡ 16
 unfolding double_rounds

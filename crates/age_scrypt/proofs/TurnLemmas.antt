@@ -14,14 +14,12 @@ use Rattle.age_scrypt.proofs.SalsaLemmas.{rows_of_words}
 use Rattle.age_scrypt.proofs.PartLemmas.{part-xor, parts_joined, same_pieces}
 
 -- an operation on turned words is the turned result
-pub zip2-turned : (f : ℕ → ℕ → ℕ) (x y : List ℕ) → length x ≡ 16 → length y ≡ 16
-    → zip2 f (turned x) (turned y) ≡ turned (zip2 f x y)
+pub zip2-turned : (f : ℕ → ℕ → ℕ) (x y : List ℕ) → length x ≡ 16 → length y ≡ 16 → zip2 f (turned x) (turned y) ≡ turned (zip2 f x y)
 unfolding turned
 zip2-turned f x y x_len y_len =
     sixteen_words (λ x. zip2 f (turned x) (turned y) ≡ turned (zip2 f x y))
     (λ x0 x1 x2 x3 x4 x5 x6 x7 x8 x9 x10 x11 x12 x13 x14 x15.
-    let x : List ℕ = x0 ∷ x1 ∷ x2 ∷ x3 ∷ x4 ∷ x5 ∷ x6 ∷ x7 ∷ x8 ∷ x9 ∷ x10 ∷ x11 ∷ x12 ∷ x13 ∷ x14
-    ∷ x15 ∷ [] in
+    let x : List ℕ = x0 ∷ x1 ∷ x2 ∷ x3 ∷ x4 ∷ x5 ∷ x6 ∷ x7 ∷ x8 ∷ x9 ∷ x10 ∷ x11 ∷ x12 ∷ x13 ∷ x14 ∷ x15 ∷ [] in
     sixteen_words (λ y. zip2 f (turned x) (turned y) ≡ turned (zip2 f x y))
     (λ y0 y1 y2 y3 y4 y5 y6 y7 y8 y9 y10 y11 y12 y13 y14 y15. refl) y y_len) x x_len
 
@@ -85,22 +83,17 @@ part_after xs ys i len =
     let at : 16 * suc i ≡ length xs + 16 * i = omega arith in
     ap (λ n. take 16 (drop n (xs ++ ys))) at ∙ ap (take 16) (drop-append-add xs ys (16 * i))
 
-part-pieces : (f : ℕ → List ℕ) (xs : List ℕ)
-    → ((m : ℕ) → m < length xs → length (f (get_or xs m 0)) ≡ 16) → (i : ℕ) → i < length xs
+part-pieces : (f : ℕ → List ℕ) (xs : List ℕ) → ((m : ℕ) → m < length xs → length (f (get_or xs m 0)) ≡ 16) → (i : ℕ) → i < length xs
     → part 16 (flat_map f xs) i ≡ f (get_or xs i 0)
 unfolding part
 part-pieces f [] len i below = absurd (omega arith)
 part-pieces f (x ∷ xs) len zero below = take_at (f x) (flat_map f xs) 16 (len 0 (omega arith))
 part-pieces f (x ∷ xs) len (suc i) below =
-    part_after (f x) (flat_map f xs) i (len 0 (omega arith))
-    ∙ part-pieces f xs (λ m h. len (suc m) (omega arith)) i (omega arith)
+    part_after (f x) (flat_map f xs) i (len 0 (omega arith)) ∙ part-pieces f xs (λ m h. len (suc m) (omega arith)) i (omega arith)
 
-length-pieces : (f : ℕ → List ℕ) (xs : List ℕ)
-    → ((m : ℕ) → m < length xs → length (f (get_or xs m 0)) ≡ 16)
-    → length (flat_map f xs) ≡ 16 * length xs
+length-pieces : (f : ℕ → List ℕ) (xs : List ℕ) → ((m : ℕ) → m < length xs → length (f (get_or xs m 0)) ≡ 16) → length (flat_map f xs) ≡ 16 * length xs
 length-pieces f [] len = refl
-length-pieces f (x ∷ xs) len =
-    omega (
+length-pieces f (x ∷ xs) len = omega (
       arith,
       length-append (f x) (flat_map f xs),
       len 0 (omega arith),
@@ -111,8 +104,7 @@ length-pieces f (x ∷ xs) len =
 abbrev order : List ℕ
 order = 0 ∷ 2 ∷ 4 ∷ 6 ∷ 8 ∷ 10 ∷ 12 ∷ 14 ∷ 1 ∷ 3 ∷ 5 ∷ 7 ∷ 9 ∷ 11 ∷ 13 ∷ 15 ∷ []
 
-lengths_of_outputs : (b : List ℕ) → length b ≡ 256 → (m : ℕ) → m < 16
-    → length (x_part b (get_or order m 0 + 1)) ≡ 16
+lengths_of_outputs : (b : List ℕ) → length b ≡ 256 → (m : ℕ) → m < 16 → length (x_part b (get_or order m 0 + 1)) ≡ 16
 lengths_of_outputs b len =
     each_of_sixteen (λ m. length (x_part b (get_or order m 0 + 1)) ≡ 16)
     (length-chained b 1 len (omega arith)) (length-chained b 3 len (omega arith))
@@ -127,8 +119,7 @@ lengths_of_outputs b len =
     (length-chained b 16 len (omega arith))
 
 -- outputs that are turned, each at its place, are the turned block
-pub mixed_turned : (b to : List ℕ) → length b ≡ 256
-    → ((j : ℕ) → j < 16 → part 16 to (j / 2 + j % 2 * 8) ≡ turned (x_part b (j + 1)))
+pub mixed_turned : (b to : List ℕ) → length b ≡ 256 → ((j : ℕ) → j < 16 → part 16 to (j / 2 + j % 2 * 8) ≡ turned (x_part b (j + 1)))
     → IsTurned (block_mix b) to
 unfolding block_mix
 mixed_turned b to len h =
@@ -142,39 +133,28 @@ mixed_turned b to len h =
     (h 13 (omega arith)) (h 15 (omega arith)) in
     record {
       len = length-pieces f order (lengths_of_outputs b len);
-      at = λ i below.
-          placed i below
-          ∙ ap turned (sym (part-pieces f order (lengths_of_outputs b len) i below));
+      at = λ i below. placed i below ∙ ap turned (sym (part-pieces f order (lengths_of_outputs b len) i below));
     }
 
-pub xor_turned : (a b x y : List ℕ) → IsTurned a x → IsTurned b y → length x ≡ 256 → length y ≡ 256
-    → IsTurned (xor_words a b) (xor_words x y)
+pub xor_turned : (a b x y : List ℕ) → IsTurned a x → IsTurned b y → length x ≡ 256 → length y ≡ 256 → IsTurned (xor_words a b) (xor_words x y)
 xor_turned a b x y s t x_len y_len =
     let same : length a ≡ length b = s.len ∙ sym t.len in
     record {
       len = length-zip2 bit_xor a b same ∙ s.len;
       at = λ i below.
-          part-xor x y (x_len ∙ sym y_len) i
-          ∙ ap₂ xor_words (s.at i below) (t.at i below)
+          part-xor x y (x_len ∙ sym y_len) i ∙ ap₂ xor_words (s.at i below) (t.at i below)
           ∙ zip2-turned bit_xor (part 16 a i) (part 16 b i) (length-part a i s.len below)
-          (length-part b i t.len below)
-          ∙ ap turned (sym (part-xor a b same i));
+          (length-part b i t.len below) ∙ ap turned (sym (part-xor a b same i));
     }
 
 -- the first word of the last part stays in its place
 pub word_240 : (b y : List ℕ) → IsTurned b y → get_or y 240 0 ≡ get_or b 240 0
 unfolding part turned
 word_240 b y t =
-    sym (get_or-drop 240 y 0 0)
-    ∙ sym (get_or-take 16 (drop 240 y) 0 0 (omega arith))
-    ∙ ap (λ x. get_or x 0 0) (t.at 15 (omega arith))
-    ∙ get_or-take 16 (drop 240 b) 0 0 (omega arith)
-    ∙ get_or-drop 240 b 0 0
+    sym (get_or-drop 240 y 0 0) ∙ sym (get_or-take 16 (drop 240 y) 0 0 (omega arith)) ∙ ap (λ x. get_or x 0 0) (t.at 15 (omega arith))
+    ∙ get_or-take 16 (drop 240 b) 0 0 (omega arith) ∙ get_or-drop 240 b 0 0
 
 -- two blocks with the same parts
-pub same_parts : (x y : List ℕ) → length x ≡ 256 → length y ≡ 256
-    → ((i : ℕ) → i < 16 → part 16 x i ≡ part 16 y i) → x ≡ y
+pub same_parts : (x y : List ℕ) → length x ≡ 256 → length y ≡ 256 → ((i : ℕ) → i < 16 → part 16 x i ≡ part 16 y i) → x ≡ y
 same_parts x y x_len y_len h =
-    parts_joined 16 16 x x_len
-    ∙ same_pieces (part 16 x) (part 16 y) 0 16 (λ i low high. h i (omega arith))
-    ∙ sym (parts_joined 16 16 y y_len)
+    parts_joined 16 16 x x_len ∙ same_pieces (part 16 x) (part 16 y) 0 16 (λ i low high. h i (omega arith)) ∙ sym (parts_joined 16 16 y y_len)

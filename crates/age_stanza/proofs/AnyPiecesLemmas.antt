@@ -67,8 +67,7 @@ no_text bytes before l f h front text lt is =
 
 pub more_fault : (bytes piece : List ℕ) (fault : HeadFault) → (HasHeader bytes → ⊥) → IsFault bytes fault → (HasHeader (bytes ++ piece) → ⊥)
     × IsFault (bytes ++ piece) fault
-more_fault bytes piece fault inside (inl f) =
-    (none_longer bytes piece inside (no_text bytes f.0 f.1 f.2), inl (more_line_fault bytes piece fault f))
+more_fault bytes piece fault inside (inl f) = (none_longer bytes piece inside (no_text bytes f.0 f.1 f.2), inl (more_line_fault bytes piece fault f))
 more_fault bytes piece fault inside (inr f) =
     let long : 1048576 ≤ length bytes = omega (arith, length-take 1048576 bytes, f.1) in
     let same : take 1048576 (bytes ++ piece) ≡ take 1048576 bytes = take-append-le 1048576 bytes piece long in
@@ -87,8 +86,7 @@ step_stands : (bytes piece : List ℕ) (old new : Parsing) (result : Result Head
     → StandsFor new (bytes ++ piece)
 step_stands bytes piece (reading held) new (Ok More) e is-open f = subst (λ (p : Parsing). StandsFor p (bytes ++ piece)) (sym f.0)
     (ap (λ (t : List ℕ). t ++ piece) e)
-step_stands bytes piece (reading held) new (Ok (Ready taken h)) e is-open f =
-    subst (λ (p : Parsing). StandsFor p (bytes ++ piece)) (sym f.0) (
+step_stands bytes piece (reading held) new (Ok (Ready taken h)) e is-open f = subst (λ (p : Parsing). StandsFor p (bytes ++ piece)) (sym f.0) (
       h,
       held ++ take taken piece,
       drop taken piece,

@@ -1,6 +1,6 @@
 -- A walk that meets a faulty line meets the first one, a walk that meets none has none, and no bytes have two first faults.
-use Rattle.std.proofs.Common.{◌≡◌, ℕ, ◌<◌, ◌≤◌, ◌+◌, Bool, true, false, eqb, nat_eq, cond, List, [], ◌∷◌, ◌++◌, length, take, drop, Option, Some, None, Result, Ok}
-use Rattle.std.proofs.Common.{Err, refl, sym, ap, subst, ◌∙◌, arith, inl, inr}
+use Rattle.std.proofs.Common.{◌≡◌, ℕ, ◌<◌, ◌≤◌, ◌+◌, Bool, true, false, eqb, nat_eq, cond, List, [], ◌∷◌, ◌++◌, length, take, drop, Option, Some, None, Result}
+use Rattle.std.proofs.Common.{Ok, Err, refl, sym, ap, subst, ◌∙◌, arith, inl, inr}
 use Rattle.std.specs.Prelude.{codes, count_by}
 use Rattle.std.specs.List.{flat_map, AllByRecursion, starts_with}
 use Rattle.std.proofs.lemmas.Bool.{eqb-true, eqb-false, ne_eqb, cases_lt}
@@ -18,8 +18,10 @@ use Rattle.age_stanza.specs.declared.place.Place.TheVariants.{Start, Between, In
 use Rattle.age_stanza.specs.declared.place.Next.{Next}
 use Rattle.age_stanza.specs.declared.place.Next.TheVariants.{Go, Done}
 use Rattle.age_stanza.specs.Grammar.{line, version, stanza_text, end_line, head_text, IsStanza, IsHeader, Spells}
-use Rattle.age_stanza.specs.Parsing.{Begins, IsLine, AreLines, FirstFault, stanzas_text, IsEndLine, RefusesBetween, RefusesLine, line_after, NoFault, IsLineFault, IsFault}
-use Rattle.age_stanza.specs.inner.LineMachine.{base64_bytes, Walked, unfinished, ready, faulty, walk, after, step, arguments_of, mac_of, fault_at, bytes_before, IsPlace, LeadTo}
+use Rattle.age_stanza.specs.Parsing.{Begins, IsLine, AreLines, FirstFault, stanzas_text, IsEndLine, RefusesBetween, RefusesLine, line_after, NoFault}
+use Rattle.age_stanza.specs.Parsing.{IsLineFault, IsFault}
+use Rattle.age_stanza.specs.inner.LineMachine.{base64_bytes, Walked, unfinished, ready, faulty, walk, after, step, arguments_of, mac_of, fault_at, bytes_before}
+use Rattle.age_stanza.specs.inner.LineMachine.{IsPlace, LeadTo}
 use Rattle.age_stanza.proofs.TextLemmas.{bytes_from_pass, no_bytes, IsBytes-append, IsBytes-take, IsBytes-tail, IsLine-append, decoded-text, text-none}
 use Rattle.age_stanza.proofs.LineLemmas.{chosen, by_test, All-append, All-front, All-back, end_line_read}
 use Rattle.age_stanza.proofs.PlaceLemmas.{stanzas_pushed, Reports, Leads, leads, no_end, walk_text, walk_go, step_last, stanzas_walk, text_walk}

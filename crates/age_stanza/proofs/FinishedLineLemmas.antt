@@ -50,8 +50,7 @@ last_finished held lines n (inr (front, is)) size line_count =
 
 pub finished_number : (place : Place) (lines n : ℕ) → LeadTo place (lines + 1) → length (bytes_before place ++ []) ≡ n + 1 → lines
     ≡ line_after (take n (bytes_before place ++ []))
-finished_number place lines n led size =
-    rw append-nil (last_finished (bytes_before place) lines n led.are_lines (rw append-nil at size) led.line_is)
+finished_number place lines n led size = rw append-nil (last_finished (bytes_before place) lines n led.are_lines (rw append-nil at size) led.line_is)
 
 -- the line of the last byte, if that is a character of the begun line
 pub begun_number_of_last : (place : Place) (k n : ℕ) (l : List ℕ) → LeadTo place k → IsLine l → (l ≡ [] → ⊥) → length (bytes_before place ++ l) ≡ n + 1
@@ -108,8 +107,7 @@ next_partial place next bytes lines l known room e =
 
 -- what is kept with more characters of the line
 pub longer_partial : (place : Place) (bytes lines : ℕ) (l more : List ℕ) → IsPartial place l bytes lines → IsLine more → IsBytes more → bytes + length more
-    ≤ 1048576
-    → IsPartial place (l ++ more) (bytes + length more) lines
+    ≤ 1048576 → IsPartial place (l ++ more) (bytes + length more) lines
 longer_partial place bytes lines l more known lined fits room =
     let size = known.size in
     record {
@@ -122,8 +120,7 @@ longer_partial place bytes lines l more known lined fits room =
 
 -- a partial header whose line grew, if this much is held
 pub whole_partial : (place : Place) (bytes lines : ℕ) (l more held : List ℕ) → IsPartial place l bytes lines → bytes_before place ++ l ≡ held → IsLine more
-    → IsBytes more
-    → length held + length more ≤ 1048576 → IsPartial place (l ++ more) (bytes + length more) lines
+    → IsBytes more → length held + length more ≤ 1048576 → IsPartial place (l ++ more) (bytes + length more) lines
 whole_partial place bytes lines l more held known is lined fits room =
     let size = known.size in
     longer_partial place bytes lines l more known lined fits (omega (arith, ap length is))
@@ -133,13 +130,7 @@ whole_held place l more held is = sym (append_assoc (bytes_before place) l more)
 
 -- nothing came yet
 pub new_partial : IsPartial Start [] 0 0
-new_partial = record {
-  lead_to = at_start;
-  one_line = tt;
-  line_bytes = no_bytes;
-  size = refl;
-  within = omega arith;
-}
+new_partial = record { lead_to = at_start; one_line = tt; line_bytes = no_bytes; size = refl; within = omega arith }
 
 pub nothing_under_way : IsUnfinished []
 nothing_under_way = under_way Start 1 [] at_start tt no_bytes

@@ -1,6 +1,6 @@
 -- The lines of a header: a body's, an argument line, an end line.
-use Rattle.std.proofs.Common.{◌≡◌, ℕ, zero, suc, ◌<◌, ◌≤◌, ◌+◌, ◌*◌, ◌/◌, ◌%◌, Bool, true, false, cond, leb, eqb, nat_eq, ◌&&◌, List, [], ◌∷◌, ◌++◌, length, take}
-use Rattle.std.proofs.Common.{drop, Option, Some, None, refl, sym, ap, subst, ◌∙◌, arith, inl, inr}
+use Rattle.std.proofs.Common.{◌≡◌, ℕ, zero, suc, ◌<◌, ◌≤◌, ◌+◌, ◌*◌, ◌/◌, ◌%◌, Bool, true, false, cond, leb, eqb, nat_eq, ◌&&◌, List, [], ◌∷◌, ◌++◌, length}
+use Rattle.std.proofs.Common.{take, drop, Option, Some, None, refl, sym, ap, subst, ◌∙◌, arith, inl, inr}
 use Rattle.std.specs.Prelude.{codes, ◌⊎◌}
 use Rattle.std.specs.List.{flat_map, AllByRecursion, starts_with}
 use Rattle.std.proofs.lemmas.Bool.{eqb-true, eqb-false, eq-eqb, ne_eqb, leb-true, le-leb, and_parts, and_from}
@@ -68,8 +68,7 @@ in_lines-full l rest len =
     let last : drop (length all / 64 * 64) all ≡ drop (n * 64) rest =
     ap (λ (k : ℕ). drop k all) count ∙ sym (drop-drop (n * 64) 64 all) ∙ ap (drop (n * 64)) (drop_at l rest 64 len) in
     ap (λ (w : List ℕ). w ++ line (drop (length all / 64 * 64) all)) (whole_lines-full l rest len)
-    ∙ ap (λ (d : List ℕ). (line l ++ whole_lines rest) ++ line d) last
-    ∙ append_assoc (line l) (whole_lines rest) (line (drop (n * 64) rest))
+    ∙ ap (λ (d : List ℕ). (line l ++ whole_lines rest) ++ line d) last ∙ append_assoc (line l) (whole_lines rest) (line (drop (n * 64) rest))
 
 -- a text is fewer than 64 characters, or a line of 64 before such a text
 pub by_lines : (P : List ℕ → Type 0) → ((cs : List ℕ) → length cs < 64 → P cs) → ((l rest : List ℕ) → length l ≡ 64 → P rest → P (l ++ rest))
@@ -94,8 +93,7 @@ length-in_lines cs =
       length-append (line l) (in_lines rest),
       length-append l (10 ∷ []),
       length-append l rest,
-    ))
-    (length cs / 64) cs refl
+    )) (length cs / 64) cs refl
 
 -- ---- a body in lines: each but the last spells 48 bytes
 
@@ -189,8 +187,7 @@ arguments_sound done word (c ∷ cs) args dones visible e = elim (chosen (eqb c 
 ]
 
 pub arguments_complete : (done : List (List ℕ)) (word w : List ℕ) (ws : List (List ℕ)) → 0 < length (word ++ w) → AllByRecursion IsVisible w
-    → AllByRecursion IsArgument ws
-    → arguments_from done word (w ++ spaced ws) ≡ Some (done ++ (word ++ w) ∷ ws)
+    → AllByRecursion IsArgument ws → arguments_from done word (w ++ spaced ws) ≡ Some (done ++ (word ++ w) ∷ ws)
 unfolding arguments_from
 arguments_complete done word [] [] some visible args =
     let long : eqb (length word) 0 ≡ false = ne_eqb (length word) 0 (λ e. omega (arith, ap length (append-nil word))) in
@@ -241,8 +238,7 @@ no_word done word cs (inl e) none = rw (e, none) refl
 no_word done word cs (inr (rest, e)) none = rw (e, none) refl
 
 bad_word : (done : List (List ℕ)) (word w cs : List ℕ) → EndsWord cs → AllByRecursion (λ c. c ≡ 32 → ⊥) w → AllByRecursion IsVisible word
-    → (IsArgument (word ++ w) → ⊥)
-    → arguments_from done word (w ++ cs) ≡ None
+    → (IsArgument (word ++ w) → ⊥) → arguments_from done word (w ++ cs) ≡ None
 unfolding arguments_from
 bad_word done word [] cs ends others visible bad = elim (tested (eqb (length word) 0)) [
   | inl h ↦ no_word done word cs ends h
@@ -321,8 +317,6 @@ none_unless None never = refl
 none_unless (Some mac) never = absurd (never mac refl)
 
 pub no_mac : (l : List ℕ) → IsBytes l → ((mac : List ℕ) → IsBytes mac → length mac ≡ 32 → drop 4 l ≡ base64_text mac → ⊥) → None ≡ mac_of l
-no_mac l fits never =
-    none_unless (mac_of l)
-    (λ mac e.
+no_mac l fits never = none_unless (mac_of l) (λ mac e.
     let read = end_line_read l mac fits e in
     never mac read.2 read.1 (ap (drop 4) read.0))

@@ -1,6 +1,6 @@
 -- Where the lines of a header lead: each to a place that says of the bytes before it what they are, and those of a header's text to the header.
-use Rattle.std.proofs.Common.{◌≡◌, ℕ, zero, suc, ◌<◌, ◌≤◌, ◌+◌, ◌*◌, ◌/◌, ◌%◌, Bool, true, false, cond, ltb, eqb, nat_eq, ◌||◌, List, [], ◌∷◌, ◌++◌, length, take}
-use Rattle.std.proofs.Common.{drop, Option, Some, None, Result, Ok, Err, refl, sym, ap, ◌∙◌, arith, inl, inr}
+use Rattle.std.proofs.Common.{◌≡◌, ℕ, zero, suc, ◌<◌, ◌≤◌, ◌+◌, ◌*◌, ◌/◌, ◌%◌, Bool, true, false, cond, ltb, eqb, nat_eq, ◌||◌, List, [], ◌∷◌, ◌++◌, length}
+use Rattle.std.proofs.Common.{take, drop, Option, Some, None, Result, Ok, Err, refl, sym, ap, ◌∙◌, arith, inl, inr}
 use Rattle.std.specs.Prelude.{codes}
 use Rattle.std.specs.List.{flat_map, AllByRecursion, starts_with}
 use Rattle.std.specs.Str.{bytes_eq}
@@ -21,12 +21,12 @@ use Rattle.age_stanza.specs.declared.place.Next.TheVariants.{Go, Done}
 use Rattle.age_stanza.specs.Text.{base64_text}
 use Rattle.age_stanza.specs.Grammar.{line, version, IsArgument, argument_line, in_lines, stanza_text, end_line, head_text, IsStanza, IsHeader}
 use Rattle.age_stanza.specs.Parsing.{IsLine, stanzas_text, armor, IsEndLine, RefusesBetween}
-use Rattle.age_stanza.specs.inner.LineMachine.{base64_bytes, ready, walk, after, step, end_line_result, argument_line_result, body_line_result, arguments_of, mac_of}
-use Rattle.age_stanza.specs.inner.LineMachine.{whole_lines, bytes_before, IsPlace}
-use Rattle.age_stanza.proofs.TextLemmas.{text-append, text-none, length-text, text_of_decoded, decoded-text, no_bytes, IsBytes-append, IsBytes-take, IsBytes-drop}
-use Rattle.age_stanza.proofs.TextLemmas.{IsLine-append, text_line, line_from_test}
-use Rattle.age_stanza.proofs.LineLemmas.{IsVisible, by_test, starts_from, All-append, by_lines, whole_lines-full, in_lines-full, in_lines-short, full_line, last_line}
-use Rattle.age_stanza.proofs.LineLemmas.{argument_line_read, read_argument_line, end_line_read, read_end_line}
+use Rattle.age_stanza.specs.inner.LineMachine.{base64_bytes, ready, walk, after, step, end_line_result, argument_line_result, body_line_result, arguments_of}
+use Rattle.age_stanza.specs.inner.LineMachine.{mac_of, whole_lines, bytes_before, IsPlace}
+use Rattle.age_stanza.proofs.TextLemmas.{text-append, text-none, length-text, text_of_decoded, decoded-text, no_bytes, IsBytes-append, IsBytes-take}
+use Rattle.age_stanza.proofs.TextLemmas.{IsBytes-drop, IsLine-append, text_line, line_from_test}
+use Rattle.age_stanza.proofs.LineLemmas.{IsVisible, by_test, starts_from, All-append, by_lines, whole_lines-full, in_lines-full, in_lines-short, full_line}
+use Rattle.age_stanza.proofs.LineLemmas.{last_line, argument_line_read, read_argument_line, end_line_read, read_end_line}
 
 pub regrouped : (a b c d : List ℕ) → a ++ (b ++ (c ++ d)) ≡ (a ++ (b ++ c)) ++ d
 regrouped a b c d = simp append_assoc

@@ -22,8 +22,7 @@ length-body body =
     omega arith
 
 pub length-head : (h : Header) → length h.mac ≡ 32 → length (head_text h) ≡ length (flat_map stanza_text h.stanzas) + 70
-length-head h long =
-    omega (
+length-head h long = omega (
       arith,
       length-append (line version) (flat_map stanza_text h.stanzas ++ line (end_line h.mac)),
       length-append (flat_map stanza_text h.stanzas) (line (end_line h.mac)),

@@ -6,8 +6,7 @@ use Rattle.age_scrypt.proofs.derive_in.Goals as goal
 pub returns-clause-key : goal.returns-clause-key
 unfolding scrypt
 returns-clause-key c =
-    c.pbkdf2_once-2.ensures
-    ∙ ap (λ block. pbkdf2_once c.args.pass.now block 32)
+    c.pbkdf2_once-2.ensures ∙ ap (λ block. pbkdf2_once c.args.pass.now block 32)
     (c.write_bytes.ensures
     ∙ ap bytes_of
     (c.romix.ensures.x

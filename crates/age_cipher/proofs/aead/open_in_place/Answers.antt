@@ -3,7 +3,7 @@ use Rattle.std.proofs.lemmas.Bool.{OnTrue_from}
 use Rattle.std.proofs.lemmas.List.{take_at}
 use Rattle.age_cipher.specs.Keystream.{ciphertext}
 use Rattle.age_cipher.specs.Aead.{sealing, tag}
-use Rattle.age_cipher.proofs.AeadLemmas.{opens_if, opens_of}
+use Rattle.age_cipher.proofs.SealingLemmas.{opens_if, opens_of}
 use Rattle.age_cipher.proofs.aead.open_in_place.Goals as goal
 
 pub returns-then-same-clause-exact : goal.returns-then-same-clause-exact
@@ -17,8 +17,7 @@ returns-then-same-clause-exact c =
     let tags = c.tag.ensures ∙ ap (tag key nonce aad) split.front in (
       λ h. (
         ciphertext key nonce 1 (take n block),
-        opens_if key nonce aad block n c.tag.result c.split_at_mut-cipher.result.1.now (c.is_tag-same.ensures.0 h)
-            tags split.back,
+        opens_if key nonce aad block n c.tag.result c.split_at_mut-cipher.result.1.now (c.is_tag-same.ensures.0 h) tags split.back,
       ),
       λ w. c.if-same.true,
     )
@@ -49,8 +48,7 @@ returns-else-same-clause-exact c =
     let tags = c.tag.ensures ∙ ap (tag key nonce aad) split.front in (
       λ h. (
         ciphertext key nonce 1 (take n block),
-        opens_if key nonce aad block n c.tag.result c.split_at_mut-cipher.result.1.now (c.is_tag-same.ensures.0 h)
-            tags split.back,
+        opens_if key nonce aad block n c.tag.result c.split_at_mut-cipher.result.1.now (c.is_tag-same.ensures.0 h) tags split.back,
       ),
       λ w. c.is_tag-same.ensures.1 (opens_of key nonce aad block c.tag.result c.split_at_mut-cipher.result.1.now tags split.back w),
     )

@@ -9,7 +9,6 @@ pub returns-clause-key : goal.returns-clause-key
 unfolding wrap_key
 returns-clause-key c =
     let label : c.copy_from_slice.new.self ≡ codes "age-encryption.org/v1/scrypt" = c.copy_from_slice.ensures.after in
-    c.in_ok-derive.ensures.key
-    ∙ ap (λ (s : List ℕ). scrypt c.args.pass.now s c.args.log)
+    c.in_ok-derive.ensures.key ∙ ap (λ (s : List ℕ). scrypt c.args.pass.now s c.args.log)
     (over_the_end 28 16 _ _ c.copy_from_slice-2.new.self (ap length label) refl
     ∙ ap₂ (λ (a s : List ℕ). a ++ s) label c.copy_from_slice-2.ensures.after)

@@ -13,6 +13,5 @@ pub returns-clause-key : goal.returns-clause-key
 unfolding wrapped_key
 returns-clause-key c =
     let block : List ℕ = c.open_in_place.new.block in
-    c.if-not-open_in_place.ensures.text
-    ∙ ap (λ (x : List ℕ). sealing c.args.wrap_key.now (replicate 12 0) [] x)
+    c.if-not-open_in_place.ensures.text ∙ ap (λ (x : List ℕ). sealing c.args.wrap_key.now (replicate 12 0) [] x)
     (ap (λ (n : ℕ). take (n - 16) block) c.told-body ∙ (sym c.copy_from_slice.ensures.after ∙ sym c.new.ensures))

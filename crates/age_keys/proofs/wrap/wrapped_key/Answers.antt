@@ -8,6 +8,5 @@ use Rattle.age_keys.proofs.wrap.wrapped_key.Goals as goal
 pub returns : goal.returns
 unfolding wrapped_key
 returns c =
-    c.seal_in_place.ensures
-    ∙ ap (λ (x : List ℕ). sealing c.args.wrap_key.now (replicate 12 0) [] x)
+    c.seal_in_place.ensures ∙ ap (λ (x : List ℕ). sealing c.args.wrap_key.now (replicate 12 0) [] x)
     (front_of c.copy_from_slice.new.self _ refl ∙ (c.copy_from_slice.ensures.after ∙ c.bytes.ensures))

@@ -7,8 +7,6 @@ pub returns-clause-x : goal.returns-clause-x
 returns-clause-x c =
     let b : List ℕ = c.args.x.now in
     let n : ℕ = c.block_count-n.result in
-    let table : IsTable b n c.deref.result.now =
-    subst (IsTable b n) (sym c.deref.ensures.value)
-    (c.fill.ensures.filled.blocks b c.turn.ensures) in
+    let table : IsTable b n c.deref.result.now = subst (IsTable b n) (sym c.deref.ensures.value) (c.fill.ensures.filled.blocks b c.turn.ensures) in
     let mixed = c.look_up.ensures.x b table (c.fill.ensures.filled.mixed b c.turn.ensures) in
     c.turn_back.ensures (romix n b) mixed ∙ ap (λ n. romix n b) c.block_count-n.ensures.value

@@ -10,8 +10,7 @@ returns c x len h =
     let y = columns x in
     let q = c.quarter.ensures in
     let r = c.quarter-2.ensures in
-    let first : IsDiagonals y c.quarter.result =
-    columns_on_diagonals x c.args.p c.quarter.result len h q.a q.b q.c q.d in
+    let first : IsDiagonals y c.quarter.result = columns_on_diagonals x c.args.p c.quarter.result len h q.a q.b q.c q.d in
     let turned : IsDiagonals (transpose y) c.transposed.result = c.transposed.ensures y first in
     let second : IsDiagonals (columns (transpose y)) c.quarter-2.result =
     columns_on_diagonals (transpose y) c.transposed.result c.quarter-2.result (length-transpose y)

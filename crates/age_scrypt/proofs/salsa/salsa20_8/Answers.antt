@@ -14,9 +14,7 @@ pub loop-round-preserved : goal.loop-round-preserved
 unfolding double_rounds
 loop-round-preserved c x len e =
     let y : List ℕ = double_rounds c.loop-round._round x in
-    rw add-one
-    (c.double_round-mixed.ensures y (length-double_rounds c.loop-round._round x len)
-    (c.loop-round.invariant x len e))
+    rw add-one (c.double_round-mixed.ensures y (length-double_rounds c.loop-round._round x len) (c.loop-round.invariant x len e))
 
 pub returns : goal.returns
 unfolding salsa20_8
@@ -24,7 +22,5 @@ returns c x len e =
     let n : ℕ = c.loop-round._round in
     let all : n ≡ 4 = omega arith in
     let mixed : words c.loop-round.mixed ≡ turned (double_rounds 4 x) =
-    words_of_diagonals (double_rounds n x) c.loop-round.mixed (c.loop-round.invariant x len e)
-    ∙ ap (λ n. turned (double_rounds n x)) all in
-    c.wrapping_add.ensures ∙ ap₂ (zip2 add32) mixed e
-    ∙ zip2-turned add32 (double_rounds 4 x) x (length-double_rounds 4 x len) len
+    words_of_diagonals (double_rounds n x) c.loop-round.mixed (c.loop-round.invariant x len e) ∙ ap (λ n. turned (double_rounds n x)) all in
+    c.wrapping_add.ensures ∙ ap₂ (zip2 add32) mixed e ∙ zip2-turned add32 (double_rounds 4 x) x (length-double_rounds 4 x len) len

@@ -11,8 +11,7 @@ loop-i-preserved c =
     (λ j below. c.write.ensures.others j (omega arith) (omega arith) ∙ c.loop-i.invariant j below)
     (c.write.ensures.here
     ∙ words_of_diagonals (words p) c.diagonals.result
-    (c.diagonals.ensures (words p) (rows_of_words p))
-    ∙ ap turned c.read.ensures)
+    (c.diagonals.ensures (words p) (rows_of_words p)) ∙ ap turned c.read.ensures)
 
 pub returns : goal.returns
 returns c = record { len = c.requires.from; at = λ i below. c.loop-i.invariant i (omega arith) }

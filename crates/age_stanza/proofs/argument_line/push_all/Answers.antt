@@ -30,9 +30,7 @@ loop-end-preserved c =
     )
 
 pub returns-clause-all : goal.returns-clause-all
-returns-clause-all c =
-    IfOk-weaker c.push_valid-2.result _ _
-    (λ r h yes.
+returns-clause-all c = IfOk-weaker c.push_valid-2.result _ _ (λ r h yes.
     let pushed = h yes in
     sym c.loop-end.invariant.0 ∙ (last_argument c.loop-end.args _ pushed.0 ∙ ap Some (sym pushed.1))) c.push_valid-2.ensures.pushed
 

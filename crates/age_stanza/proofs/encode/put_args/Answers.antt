@@ -10,8 +10,7 @@ loop-argument-preserved c =
       c.in_ok-extend_from_slice.ensures.items,
       c.in_ok-push.ensures.items,
       c.as_slice.ensures,
-    )
-    (append_assoc out (32 ∷ []) c.argument-item.result) in
+    ) (append_assoc out (32 ∷ []) c.argument-item.result) in
     written_next (λ a. 32 ∷ a) _ _ _ c.args.args.now _ c.argument-item.result (omega arith) c.argument-item.is puts c.loop-argument.invariant
 
 pub returns : goal.returns

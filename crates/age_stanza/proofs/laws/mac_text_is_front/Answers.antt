@@ -16,8 +16,7 @@ front_of h bytes is =
     let long = is.spells.valid.mac_length in (
       last,
       omega (arith, length-append (base64_text h.mac) (10 ∷ []), length-text h.mac),
-      is.spells.bytes_are
-          ∙ regrouped (line version) (flat_map stanza_text h.stanzas) (codes "---") last,
+      is.spells.bytes_are ∙ regrouped (line version) (flat_map stanza_text h.stanzas) (codes "---") last,
     )
 
 pub returns : goal.returns

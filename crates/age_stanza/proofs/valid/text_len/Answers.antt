@@ -28,6 +28,5 @@ returns c =
       omega arith,
       long,
       c.characters_of.ensures.bytes,
-      subst (λ (ss : List Stanza). AllByRecursion (λ s. IsBytes s.body) ss) (take_all _ _ (omega arith))
-          c.loop-stanza.invariant.bodies,
+      subst (λ (ss : List Stanza). AllByRecursion (λ s. IsBytes s.body) ss) (take_all _ _ (omega arith)) c.loop-stanza.invariant.bodies,
     )

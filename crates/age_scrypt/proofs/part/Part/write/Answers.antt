@@ -16,8 +16,7 @@ returns-clause-here c =
     c.write_row-4.new.words p.a p.b p.c p.d at (omega arith)
     p.a_len p.b_len p.c_len c.write_row.ensures c.write_row-2.ensures c.write_row-3.ensures
     c.write_row-4.ensures in
-    ap (λ b. part 16 b c.args.i) written
-    ∙ part-put_here 16 16 old (words p) c.args.i refl (omega arith) (length-words p)
+    ap (λ b. part 16 b c.args.i) written ∙ part-put_here 16 16 old (words p) c.args.i refl (omega arith) (length-words p)
 
 pub returns-clause-others : goal.returns-clause-others
 returns-clause-others c j below other =
@@ -29,5 +28,4 @@ returns-clause-others c j below other =
     c.write_row-4.new.words p.a p.b p.c p.d at (omega arith)
     p.a_len p.b_len p.c_len c.write_row.ensures c.write_row-2.ensures c.write_row-3.ensures
     c.write_row-4.ensures in
-    ap (λ b. part 16 b j) written
-    ∙ part-put_other 16 16 old (words p) c.args.i j refl (omega arith) (length-words p) other
+    ap (λ b. part 16 b j) written ∙ part-put_other 16 16 old (words p) c.args.i j refl (omega arith) (length-words p) other
