@@ -19,7 +19,8 @@ use Rattle.age_stanza.specs.declared.place.Place.TheVariants.{Start, Between, In
 use Rattle.age_stanza.specs.declared.place.Next.{Next}
 use Rattle.age_stanza.specs.declared.place.Next.TheVariants.{Go, Done}
 use Rattle.age_stanza.specs.Text.{base64_text}
-use Rattle.age_stanza.specs.Grammar.{line, version, IsArgument, argument_line, in_lines, stanza_text, end_line, head_text, IsStanza, IsHeader}
+use Rattle.age_stanza.specs.Grammar.{line, version, IsArgument, argument_line, in_lines, stanza_text, end_line, head_text, IsStanza, IsHeader, Spells, HeadText}
+use Rattle.age_stanza.specs.Grammar.{mac_text}
 use Rattle.age_stanza.specs.Parsing.{IsLine, stanzas_text, armor, IsEndLine, RefusesBetween}
 use Rattle.age_stanza.specs.inner.LineMachine.{base64_bytes, ready, walk, after, step, end_line_result, argument_line_result, body_line_result, arguments_of}
 use Rattle.age_stanza.specs.inner.LineMachine.{mac_of, whole_lines, bytes_before, IsPlace}
@@ -28,7 +29,7 @@ use Rattle.age_stanza.proofs.TextLemmas.{IsBytes-drop, IsLine-append, text_line,
 use Rattle.age_stanza.proofs.LineLemmas.{IsVisible, by_test, starts_from, All-append, by_lines, whole_lines-full, in_lines-full, in_lines-short, full_line}
 use Rattle.age_stanza.proofs.LineLemmas.{last_line, argument_line_read, read_argument_line, end_line_read, read_end_line}
 
-pub regrouped : (a b c d : List ℕ) → a ++ (b ++ (c ++ d)) ≡ (a ++ (b ++ c)) ++ d
+regrouped : (a b c d : List ℕ) → a ++ (b ++ (c ++ d)) ≡ (a ++ (b ++ c)) ++ d
 regrouped a b c d = simp append_assoc
 
 pub two_parts : (a b c d : List ℕ) → (a ++ (b ++ c)) ++ d ≡ (a ++ b) ++ (c ++ d)
@@ -295,3 +296,24 @@ text_walk h rest valid =
     ap (walk Start 1 []) (two_parts (line version) (flat_map stanza_text h.stanzas) (line (end_line h.mac)) rest) ∙ reach.1
     ∙ walk_done (Between h.stanzas) h reach.0 (end_line h.mac) rest (end_line_line h.mac)
     (step_end h.stanzas h.mac valid.some_stanza valid.mac_length valid.mac)
+
+-- ---- laws of headers' texts
+
+same_header : (h k : Header) (x y : List ℕ) → ready h x ≡ ready k y → h ≡ k
+same_header h k x y e = cc
+
+pub one_header : (h k : Header) (a b x y : List ℕ) → Spells h a → Spells k b → a ++ x ≡ b ++ y → (h ≡ k) × (a ≡ b)
+one_header h k a b x y p q e =
+    let left : walk Start 1 [] (a ++ x) ≡ ready h x = rw p.bytes_are (text_walk h x p.valid) in
+    let right : walk Start 1 [] (b ++ y) ≡ ready k y = rw q.bytes_are (text_walk k y q.valid) in
+    let same = same_header h k x y (sym left ∙ ap (walk Start 1 []) e ∙ right) in
+    (same, p.bytes_are ∙ ap head_text same ∙ sym q.bytes_are)
+
+pub mac_text_is_front : (h : Header) (bytes : List ℕ) → HeadText h bytes → (last : List ℕ) × (length last ≡ 45) × (bytes ≡ mac_text h ++ last)
+mac_text_is_front h bytes is =
+    let last : List ℕ = 32 ∷ (base64_text h.mac ++ 10 ∷ []) in
+    let long = is.spells.valid.mac_length in (
+      last,
+      omega (arith, length-append (base64_text h.mac) (10 ∷ []), length-text h.mac),
+      is.spells.bytes_are ∙ regrouped (line version) (flat_map stanza_text h.stanzas) (codes "---") last,
+    )

@@ -15,7 +15,7 @@ use Rattle.base64.proofs.EngineFacts.{decode_of-encode_of, decode_of_strict, enc
 use Rattle.base64.proofs.RoundTrip.{length-encode_symbols}
 use Rattle.age_stanza.specs.Text.{base64_text}
 use Rattle.age_stanza.specs.Parsing.{IsLine}
-use Rattle.age_stanza.specs.Laws.{character}
+use Rattle.age_stanza.specs.Laws.{character, IsBase64}
 use Rattle.age_stanza.specs.inner.LineMachine.{base64_bytes, only_bytes}
 
 pub bytes_pass : (b : List ℕ) → IsBytes b → list_all (λ x. ltb x 256) b ≡ true
@@ -81,7 +81,7 @@ pub text-none : base64_text [] ≡ []
 unfolding encode_symbols
 text-none = text-symbols []
 
-pub text-one : (a : ℕ) → base64_text (a ∷ []) ≡ character (a / 4) ∷ character (a % 4 * 16) ∷ []
+text-one : (a : ℕ) → base64_text (a ∷ []) ≡ character (a / 4) ∷ character (a % 4 * 16) ∷ []
 unfolding encode_symbols
 text-one a = text-symbols (a ∷ [])
 
@@ -97,6 +97,9 @@ text-three a b c rest =
     text-symbols (a ∷ b ∷ c ∷ rest)
     ∙ ap (λ (more : List ℕ). character (a / 4) ∷ character (a % 4 * 16 + b / 16) ∷ character (b % 16 * 4 + c / 64) ∷ character (c % 64) ∷ more)
     (sym (text-symbols rest))
+
+pub text_is_base64 : IsBase64
+text_is_base64 = record { none = text-none; one = text-one; two = text-two; three = text-three }
 
 pub length-text : (m : List ℕ) → length (base64_text m) ≡ (4 * length m + 2) / 3
 length-text m = ap length (text-symbols m) ∙ length-encode_symbols the_symbols m

@@ -1,6 +1,6 @@
 use Rattle.std.proofs.Common.{◌≡◌, ◌∷◌, ◌++◌, [], arith}
 use Rattle.std.proofs.lemmas.List.{append_assoc}
-use Rattle.age_stanza.proofs.ElementLemmas.{written_next, written_all}
+use Rattle.age_stanza.proofs.ElementLemmas.{written_next}
 use Rattle.age_stanza.proofs.encode.put_args.Goals as goal
 
 pub loop-argument-preserved : goal.loop-argument-preserved
@@ -12,6 +12,3 @@ loop-argument-preserved c =
       c.as_slice.ensures,
     ) (append_assoc out (32 ∷ []) c.argument-item.result) in
     written_next (λ a. 32 ∷ a) _ _ _ c.args.args.now _ c.argument-item.result (omega arith) c.argument-item.is puts c.loop-argument.invariant
-
-pub returns : goal.returns
-returns c = written_all (λ a. 32 ∷ a) _ _ c.args.args.now _ (omega arith) c.loop-argument.invariant
