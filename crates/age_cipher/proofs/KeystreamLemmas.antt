@@ -22,9 +22,6 @@ pub record IsXoredBelow (stream : ℕ → ℕ) (i : ℕ) (old text : List ℕ) :
   pub done : (j : ℕ) → j < i → j < length old → slice_index text j ≡ bit_xor (slice_index old j) (stream j)
   pub left : (j : ℕ) → i ≤ j → slice_index text j ≡ slice_index old j
 
-pub none_xored : (stream : ℕ → ℕ) (text : List ℕ) → IsXoredBelow stream 0 text text
-none_xored stream text = record { done = λ j h short. absurd (omega arith); left = λ j h. refl }
-
 -- ---- an element after a write to a part of k elements from a on
 
 pub get_or-put_below : (a k : ℕ) (xs ys : List ℕ) (j : ℕ) → j < a → a ≤ length xs → get_or (put_mid a k xs ys) j 0 ≡ get_or xs j 0

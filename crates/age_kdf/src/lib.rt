@@ -32,7 +32,7 @@ fn key_with_zeros(key: &[u8]) -> [u8; 64]
 }
 
 /// The key as a block. A key longer than a block stands as its digest first.
-#[tactic(auto, unfolding(crate::specs::Derivation::key_block), using(crate::proofs::KeyLemmas::length_tests))]
+#[tactic(auto, unfolding(crate::specs::Derivation::key_block), using(crate::proofs::BlockLemmas::length_tests))]
 fn key_block(key: &[u8]) -> [u8; 64]
     ensures { result ≡ key_block key.now }
 {

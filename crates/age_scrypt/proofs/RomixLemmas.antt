@@ -1,12 +1,17 @@
--- Steps of ROMix's two loops.
+-- The two loops of ROMix, and the words of its bytes.
 use Rattle.std.proofs.Common.{◌≡◌, ◌++◌, ◌+◌, ◌-◌, ◌*◌, ◌/◌, ◌%◌, ◌^◌, ◌<◌, ◌≤◌, ℕ, suc, List, [], ◌∷◌, length, take, drop, get_or, refl, sym, ap, ◌∙◌, subst}
 use Rattle.std.proofs.Common.{arith, add-one, length-drop, below_more}
+use Rattle.std.specs.Int.{w32, from_le_bytes}
 use Rattle.std.proofs.Math.Nat.{add-mul-mod_self_left, mul_assoc, div-add-mod, mod-lt, mul-mod_left, pow-le-pow_right}
-use Rattle.std.proofs.lemmas.List.{get_or-drop}
+use Rattle.std.proofs.lemmas.List.{get_or-drop, get_or-take}
+use Rattle.std.proofs.lemmas.List.FromFn.{fill_by_all}
 use Rattle.std.proofs.lemmas.Nat.{pow-add}
-use Rattle.age_scrypt.specs.Scrypt.{part, xor_words, block_mix, v_block, number, integerify, x_block}
+use Rattle.byteorder.specs.Endian.{little_number, IsRead}
+use Rattle.age_scrypt.specs.Scrypt.{part, xor_words, block_mix, v_block, number, integerify, x_block, word_at, words_of}
 use Rattle.age_scrypt.specs.inner.Workspace.{IsTable, IsTurned}
 use Rattle.age_scrypt.proofs.PartLemmas.{part-append_left, part-append_right}
+
+-- ---- steps of ROMix's two loops
 
 number_of_front : (xs : List ℕ) (k : ℕ) → 0 < length xs → (rest : ℕ) × (number (take (suc k) xs) ≡ get_or xs 0 0 + 2 ^ 32 * rest)
 unfolding number
@@ -65,3 +70,20 @@ pub table_at : (n : ℕ) (b table x : List ℕ) (at : ℕ) → IsTable b n table
 table_at n b table x at t some place =
     let within : at < n = omega (arith, place, mod-lt (integerify x) some) in
     subst (λ k. IsTurned (v_block b k) (part 256 table at)) place (t.at at within)
+
+-- ---- words read from bytes
+
+-- the number that the first four bytes spell
+number_is : (xs : List ℕ) → little_number 4 xs ≡ from_le_bytes w32 (take 4 xs)
+number_is xs = rw (
+      get_or-take 4 xs 0 0 (omega arith),
+      get_or-take 4 xs 1 0 (omega arith),
+      get_or-take 4 xs 2 0 (omega arith),
+      get_or-take 4 xs 3 0 (omega arith),
+    ) (omega arith)
+
+pub words_all : (bytes words : List ℕ) → length bytes ≡ 1024 → length words ≡ 256 → IsRead little_number 4 bytes words → words ≡ words_of bytes
+unfolding word_at words_of part
+words_all bytes words lb lw read =
+    let count : length bytes / 4 ≡ 256 = omega arith in
+    rw count (fill_by_all (λ k. word_at bytes k) words 256 0 lw (λ k below. read k (omega arith) ∙ number_is (drop (4 * k) bytes)))

@@ -41,6 +41,3 @@ written_next {X} f out next all xs i x lt is puts same =
     let after = flat_map f (drop (i + 1) xs) in
     let first : drop i xs ≡ x ∷ drop (i + 1) xs = drop_more xs i x lt ∙ ap (λ (y : X). y ∷ drop (i + 1) xs) (sym is) in
     ap (λ (t : List ℕ). t ++ after) puts ∙ append_assoc out (f x) after ∙ ap (λ (ys : List X). out ++ flat_map f ys) (sym first) ∙ same
-
-pub written_all : {X : Type 0} (f : X → List ℕ) (out all : List ℕ) (xs : List X) (i : ℕ) → length xs ≤ i → out ++ flat_map f (drop i xs) ≡ all → out ≡ all
-written_all {X} f out all xs i le same = sym (append-nil out) ∙ ap (λ (ys : List X). out ++ flat_map f ys) (sym (drop_all i xs le)) ∙ same

@@ -129,8 +129,5 @@ pub whole_held : (place : Place) (l more held : List ℕ) → bytes_before place
 whole_held place l more held is = sym (append_assoc (bytes_before place) l more) ∙ ap (λ (t : List ℕ). t ++ more) is
 
 -- nothing came yet
-pub new_partial : IsPartial Start [] 0 0
-new_partial = record { lead_to = at_start; one_line = tt; line_bytes = no_bytes; size = refl; within = omega arith }
-
 pub nothing_under_way : IsUnfinished []
 nothing_under_way = under_way Start 1 [] at_start tt no_bytes

@@ -17,9 +17,6 @@ loop-i-init c = record {
   counted = omega arith;
 }
 
-pub unwrap-requires : goal.unwrap-requires
-unwrap-requires c = c.extend_from_slice.ensures.succeeds (omega arith)
-
 pub loop-i-preserved : goal.loop-i-preserved
 unfolding part
 loop-i-preserved c =

@@ -2,7 +2,7 @@ use Rattle.std.proofs.Common.{◌≡◌, ◌+◌, ◌-◌, ◌*◌, ◌%◌, ◌
 use Rattle.std.proofs.lemmas.List.{length-take, length-drop}
 use Rattle.age_scrypt.specs.Scrypt.{part, xor_words, v_block, x_block, integerify}
 use Rattle.age_scrypt.specs.inner.Workspace.{IsTable, IsTurned}
-use Rattle.age_scrypt.proofs.TurnLemmas.{xor_turned}
+use Rattle.age_scrypt.proofs.PartLemmas.{xor_turned}
 use Rattle.age_scrypt.proofs.RomixLemmas.{table_at, looked_up_more}
 use Rattle.age_scrypt.proofs.romix.look_up.Goals as goal
 

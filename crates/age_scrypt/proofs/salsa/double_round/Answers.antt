@@ -1,8 +1,7 @@
 use Rattle.std.proofs.Common.{subst}
 use Rattle.age_scrypt.specs.Scrypt.{columns}
 use Rattle.age_scrypt.specs.inner.Workspace.{IsDiagonals, transpose}
-use Rattle.age_scrypt.proofs.LaneLemmas.{length-columns, length-transpose, transpose-columns_of-transpose}
-use Rattle.age_scrypt.proofs.SalsaLemmas.{columns_on_diagonals}
+use Rattle.age_scrypt.proofs.SalsaLemmas.{length-columns, length-transpose, transpose-columns_of-transpose, columns_on_diagonals}
 use Rattle.age_scrypt.proofs.salsa.double_round.Goals as goal
 
 pub returns : goal.returns

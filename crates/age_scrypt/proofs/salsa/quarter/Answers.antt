@@ -1,6 +1,6 @@
 use Rattle.std.proofs.Common.{◌≡◌, ◌∙◌, ap, ap₂, map}
 use Rattle.age_scrypt.specs.inner.Workspace.{quarters}
-use Rattle.age_scrypt.proofs.LaneLemmas.{xor_rotated_lanes, quarter_lanes}
+use Rattle.age_scrypt.proofs.SalsaLemmas.{xor_rotated_lanes, quarter_lanes}
 use Rattle.age_scrypt.proofs.salsa.quarter.Goals as goal
 
 pub returns : goal.returns

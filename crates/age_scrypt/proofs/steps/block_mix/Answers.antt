@@ -2,7 +2,7 @@ use Rattle.std.proofs.Common.{◌≡◌, ◌+◌, ◌*◌, ◌/◌, ◌%◌, ◌
 use Rattle.std.proofs.lemmas.Simd.{length-zip2}
 use Rattle.age_scrypt.specs.Scrypt.{part, x_part, xor_words}
 use Rattle.age_scrypt.specs.inner.Workspace.{words, turned, IsTurned}
-use Rattle.age_scrypt.proofs.TurnLemmas.{zip2-turned, length-part, length-chained, mixed_turned}
+use Rattle.age_scrypt.proofs.PartLemmas.{zip2-turned, length-part, length-chained, mixed_turned}
 use Rattle.age_scrypt.proofs.steps.block_mix.Goals as goal
 
 pub loop-i-init : goal.loop-i-init
