@@ -7,9 +7,6 @@ use Rattle.age_kdf.specs.Derivation.{pbkdf2_once}
 use Rattle.age_kdf.proofs.BlockLemmas.{joined, length-joined, length-pbkdf2_block, joined_more, chunk_written}
 use Rattle.age_kdf.proofs.pbkdf2_once.Goals as goal
 
-pub loop-i-init : goal.loop-i-init
-loop-i-init c = sym (take_all (length c.args.out.now) _ (omega arith))
-
 pub loop-i-preserved : goal.loop-i-preserved
 loop-i-preserved c =
     let i : ℕ = c.loop-i.i in
