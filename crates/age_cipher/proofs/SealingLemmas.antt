@@ -149,9 +149,19 @@ pub opens_if : (key nonce aad block : List ℕ) (n : ℕ) (t e : List ℕ) → t
     → block ≡ sealing key nonce aad (ciphertext key nonce 1 (take n block))
 opens_if key nonce aad block n t e same tags ends = sealed_by_tag key nonce aad block n (sym ends ∙ sym same ∙ tags)
 
-pub opens_of : (key nonce aad block : List ℕ) (t e : List ℕ) → t ≡ tag key nonce aad (take (length block - 16) block) → e ≡ drop (length block - 16) block
+opens_of : (key nonce aad block : List ℕ) (t e : List ℕ) → t ≡ tag key nonce aad (take (length block - 16) block) → e ≡ drop (length block - 16) block
     → IsSealing key nonce aad block → t ≡ e
 opens_of key nonce aad block t e tags ends w = sym (ends ∙ end_is_tag key nonce aad w.0 block w.1 ∙ sym tags)
+
+-- a test of the tag tells whether the block is a sealing
+pub opens_exactly : (same : Bool) (key nonce aad block front t e : List ℕ) → (IsTrue same ↔ (t ≡ e)) → t ≡ tag key nonce aad front
+    → front ≡ take (length block - 16) block → e ≡ drop (length block - 16) block → IsTrue same ↔ IsSealing key nonce aad block
+opens_exactly same key nonce aad block front t e tested tags front_is end_is =
+    let n : ℕ = length block - 16 in
+    let tagged : t ≡ tag key nonce aad (take n block) = tags ∙ ap (tag key nonce aad) front_is in (
+      λ h. (ciphertext key nonce 1 (take n block), opens_if key nonce aad block n t e (tested.0 h) tagged end_is),
+      λ w. tested.1 (opens_of key nonce aad block t e tagged end_is w),
+    )
 
 -- ---- differences, gathered by or
 

@@ -33,7 +33,7 @@ tested false = inr refl
 
 -- ---- what a line starts with
 
-pub starts_at : (s p : List ℕ) → starts_with nat_eq s p ≡ true → s ≡ p ++ drop (length p) s
+starts_at : (s p : List ℕ) → starts_with nat_eq s p ≡ true → s ≡ p ++ drop (length p) s
 starts_at s p e = (starts_is Decides-eqb s p (starts_with nat_eq s p) refl).0 e
 
 pub starts_from : (s p rest : List ℕ) → s ≡ p ++ rest → starts_with nat_eq s p ≡ true
@@ -150,7 +150,7 @@ some_length word e =
     let ne = eqb-false (length word) 0 e in
     omega arith
 
-pub arguments_sound : (done : List (List ℕ)) (word cs : List ℕ) (args : List (List ℕ)) → AllByRecursion IsArgument done → AllByRecursion IsVisible word
+arguments_sound : (done : List (List ℕ)) (word cs : List ℕ) (args : List (List ℕ)) → AllByRecursion IsArgument done → AllByRecursion IsVisible word
     → arguments_from done word cs ≡ Some args
     → (spaced done ++ (32 ∷ (word ++ cs)) ≡ spaced args) × (0 < length args) × AllByRecursion IsArgument args
 unfolding arguments_from
@@ -186,24 +186,6 @@ arguments_sound done word (c ∷ cs) args dones visible e = elim (chosen (eqb c 
   ]
 ]
 
-pub arguments_complete : (done : List (List ℕ)) (word w : List ℕ) (ws : List (List ℕ)) → 0 < length (word ++ w) → AllByRecursion IsVisible w
-    → AllByRecursion IsArgument ws → arguments_from done word (w ++ spaced ws) ≡ Some (done ++ (word ++ w) ∷ ws)
-unfolding arguments_from
-arguments_complete done word [] [] some visible args =
-    let long : eqb (length word) 0 ≡ false = ne_eqb (length word) 0 (λ e. omega (arith, ap length (append-nil word))) in
-    rw (append-nil word, long) refl
-arguments_complete done word [] (v ∷ vs) some visible args =
-    let long : eqb (length word) 0 ≡ false = ne_eqb (length word) 0 (λ e. omega (arith, ap length (append-nil word))) in
-    rw (append-nil word, long) (arguments_complete (done ++ word ∷ []) [] v vs args.0.0 args.0.1 args.1
-    ∙ ap (λ (xs : List (List ℕ)). Some xs) (append_assoc done (word ∷ []) (v ∷ vs)))
-arguments_complete done word (c ∷ cs) ws some visible args =
-    let seen : IsVisible c = visible.0 in
-    let space : eqb c 32 ≡ false = ne_eqb c 32 (λ e. omega arith) in
-    let pass : (leb 33 c && leb c 126) ≡ true = and_from (leb 33 c) (leb c 126) (le-leb 33 c seen.0) (le-leb c 126 seen.1) in
-    let longer : 0 < length ((word ++ c ∷ []) ++ cs) = rw append_assoc some in
-    rw (space, pass) (arguments_complete done (word ++ c ∷ []) cs ws longer visible.1 args
-    ∙ ap (λ (xs : List ℕ). Some (done ++ xs ∷ ws)) (append_assoc word (c ∷ []) cs))
-
 -- the letters of a word, and what follows it
 word_read : (done : List (List ℕ)) (word w cs : List ℕ) → AllByRecursion IsVisible w → arguments_from done word (w ++ cs) ≡ arguments_from done (word ++ w) cs
 unfolding arguments_from
@@ -227,6 +209,13 @@ last_argument done w valid =
     let size = valid.0 in
     let long : eqb (length w) 0 ≡ false = ne_eqb (length w) 0 (λ e. omega arith) in
     ap (arguments_from done []) (sym (append-nil w)) ∙ word_read done [] w [] valid.1 ∙ rw long refl
+
+arguments_complete : (done : List (List ℕ)) (w : List ℕ) (ws : List (List ℕ)) → IsArgument w → AllByRecursion IsArgument ws
+    → arguments_from done [] (w ++ spaced ws) ≡ Some (done ++ w ∷ ws)
+arguments_complete done w [] valid args = ap (arguments_from done []) (append-nil w) ∙ last_argument done w valid
+arguments_complete done w (v ∷ vs) valid args =
+    next_argument done w (v ++ spaced vs) valid ∙ arguments_complete (done ++ w ∷ []) v vs args.0 args.1
+    ∙ ap (λ (xs : List (List ℕ)). Some xs) (append_assoc done (w ∷ []) (v ∷ vs))
 
 -- the line ends here, or a space follows
 abbrev pub EndsWord : List ℕ → Type 0
@@ -276,7 +265,7 @@ argument_line_read l args e = elim (chosen (starts_with nat_eq l (codes "-> ")) 
 pub read_argument_line : (args : List (List ℕ)) → 0 < length args → AllByRecursion IsArgument args → arguments_of (argument_line args) ≡ Some args
 unfolding arguments_of
 read_argument_line [] some valid = absurd (omega arith)
-read_argument_line (a ∷ as') some valid = arguments_complete [] [] a as' valid.0.0 valid.0.1 valid.1
+read_argument_line (a ∷ as') some valid = arguments_complete [] a as' valid.0 valid.1
 
 -- ---- an end line
 
