@@ -3,6 +3,7 @@ use Rattle.std.proofs.Common.{◌≡◌, ℕ, ◌-◌, ◌*◌, ◌/◌, ◌%◌
 use Rattle.std.proofs.Common.{suc, ◌+◌, arith, sym}
 use Rattle.std.specs.Int.{w32, rotate_left}
 use Rattle.std.specs.Simd.Lanes.{zip2}
+use Rattle.std.proofs.lemmas.Simd.{length-zip2}
 use Rattle.std.proofs.lemmas.List.{append_assoc, take-append-drop, drop-drop, length-take, length-drop, length-append}
 use Rattle.age_scrypt.specs.declared.part.Part.{Part}
 use Rattle.age_scrypt.specs.Scrypt.{add32, quarter, columns, rows, double_rounds}
@@ -161,6 +162,9 @@ zip2-words f p q =
     zip2-append f (p.a ++ p.b ++ p.c) p.d (q.a ++ q.b ++ q.c) q.d abc
     ∙ ap (λ front. front ++ zip2 f p.d q.d) (zip2-append f (p.a ++ p.b) p.c (q.a ++ q.b) q.c ab
     ∙ ap (λ front. front ++ zip2 f p.c q.c) (zip2-append f p.a p.b q.a q.b (p.a_len ∙ sym q.a_len)))
+
+-- what an operation on two parts keeps of their vectors
+pub ruleset part_rules = (length-zip2, zip2-words)
 
 record FourRows (a b c d : List ℕ) : Type 0 where
   pub first : a ≡ at_places (a ++ b ++ c ++ d) 0 1 2 3
