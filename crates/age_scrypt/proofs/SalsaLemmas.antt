@@ -147,8 +147,8 @@ zip2-append f [] ys (u ∷ us) vs len = absurd (omega arith)
 zip2-append f (x ∷ xs) ys [] vs len = absurd (omega arith)
 zip2-append f (x ∷ xs) ys (u ∷ us) vs len = ap (λ rest. f x u ∷ rest) (zip2-append f xs ys us vs (omega arith))
 
-pub zip2-words : (f : ℕ → ℕ → ℕ) (p q : Part) → zip2 f (words p) (words q) ≡ zip2 f p.a q.a ++ zip2 f p.b q.b ++ zip2 f p.c q.c ++ zip2 f p.d q.d
-zip2-words f p q =
+pub zip2_words : (f : ℕ → ℕ → ℕ) (p q : Part) → zip2 f (words p) (words q) ≡ zip2 f p.a q.a ++ zip2 f p.b q.b ++ zip2 f p.c q.c ++ zip2 f p.d q.d
+zip2_words f p q =
     let ab : length (p.a ++ p.b) ≡ length (q.a ++ q.b) =
     omega
     (arith, length-append p.a p.b, length-append q.a q.b, p.a_len, p.b_len, q.a_len, q.b_len) in
@@ -163,8 +163,8 @@ zip2-words f p q =
     ∙ ap (λ front. front ++ zip2 f p.d q.d) (zip2-append f (p.a ++ p.b) p.c (q.a ++ q.b) q.c ab
     ∙ ap (λ front. front ++ zip2 f p.c q.c) (zip2-append f p.a p.b q.a q.b (p.a_len ∙ sym q.a_len)))
 
--- what an operation on two parts keeps of their vectors
-pub ruleset part_rules = (length-zip2, zip2-words)
+-- an operation on two vectors keeps their length
+pub ruleset vector_lengths = (length-zip2)
 
 record FourRows (a b c d : List ℕ) : Type 0 where
   pub first : a ≡ at_places (a ++ b ++ c ++ d) 0 1 2 3
