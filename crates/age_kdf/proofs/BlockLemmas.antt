@@ -37,11 +37,11 @@ joined pass salt q = flat_map (pbkdf2_block pass salt) (range_with_len 1 q)
 length-joined_from : (pass salt : List ℕ) (a q : ℕ) → length (flat_map (pbkdf2_block pass salt) (range_with_len a q)) ≡ 32 * q
 length-joined_from pass salt a zero = refl
 length-joined_from pass salt a (suc q) = omega (
-      arith,
-      length-append (pbkdf2_block pass salt a) (flat_map (pbkdf2_block pass salt) (range_with_len (a + 1) q)),
-      length-pbkdf2_block pass salt a,
-      length-joined_from pass salt (a + 1) q,
-    )
+  arith,
+  length-append (pbkdf2_block pass salt a) (flat_map (pbkdf2_block pass salt) (range_with_len (a + 1) q)),
+  length-pbkdf2_block pass salt a,
+  length-joined_from pass salt (a + 1) q,
+)
 
 pub length-joined : (pass salt : List ℕ) (q : ℕ) → length (joined pass salt q) ≡ 32 * q
 length-joined pass salt q = length-joined_from pass salt 1 q

@@ -214,11 +214,11 @@ part-pieces f (x ∷ xs) len (suc i) below =
 length-pieces : (f : ℕ → List ℕ) (xs : List ℕ) → ((m : ℕ) → m < length xs → length (f (get_or xs m 0)) ≡ 16) → length (flat_map f xs) ≡ 16 * length xs
 length-pieces f [] len = refl
 length-pieces f (x ∷ xs) len = omega (
-      arith,
-      length-append (f x) (flat_map f xs),
-      len 0 (omega arith),
-      length-pieces f xs (λ m h. len (suc m) (omega arith)),
-    )
+  arith,
+  length-append (f x) (flat_map f xs),
+  len 0 (omega arith),
+  length-pieces f xs (λ m h. len (suc m) (omega arith)),
+)
 
 -- the parts in the order of the outputs
 abbrev order : List ℕ

@@ -76,11 +76,11 @@ table_at n b table x at t some place =
 -- the number that the first four bytes spell
 number_is : (xs : List ℕ) → little_number 4 xs ≡ from_le_bytes w32 (take 4 xs)
 number_is xs = rw (
-      get_or-take 4 xs 0 0 (omega arith),
-      get_or-take 4 xs 1 0 (omega arith),
-      get_or-take 4 xs 2 0 (omega arith),
-      get_or-take 4 xs 3 0 (omega arith),
-    ) (omega arith)
+  get_or-take 4 xs 0 0 (omega arith),
+  get_or-take 4 xs 1 0 (omega arith),
+  get_or-take 4 xs 2 0 (omega arith),
+  get_or-take 4 xs 3 0 (omega arith),
+) (omega arith)
 
 pub words_all : (bytes words : List ℕ) → length bytes ≡ 1024 → length words ≡ 256 → IsRead little_number 4 bytes words → words ≡ words_of bytes
 unfolding word_at words_of part

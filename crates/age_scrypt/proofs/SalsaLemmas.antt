@@ -130,15 +130,15 @@ columns_on_diagonals x p q len h a b c d =
 
 pub length-words : (p : Part) → length (words p) ≡ 16
 length-words p = omega (
-      arith,
-      length-append (p.a ++ p.b ++ p.c) p.d,
-      length-append (p.a ++ p.b) p.c,
-      length-append p.a p.b,
-      p.a_len,
-      p.b_len,
-      p.c_len,
-      p.d_len,
-    )
+  arith,
+  length-append (p.a ++ p.b ++ p.c) p.d,
+  length-append (p.a ++ p.b) p.c,
+  length-append p.a p.b,
+  p.a_len,
+  p.b_len,
+  p.c_len,
+  p.d_len,
+)
 
 -- an operation on two parts is one on each pair of their vectors
 zip2-append : (f : ℕ → ℕ → ℕ) (xs ys us vs : List ℕ) → length xs ≡ length us → zip2 f (xs ++ ys) (us ++ vs) ≡ zip2 f xs us ++ zip2 f ys vs

@@ -87,13 +87,13 @@ step_stands : (bytes piece : List ℕ) (old new : Parsing) (result : Result Head
 step_stands bytes piece (reading held) new (Ok More) e is-open f = subst (λ (p : Parsing). StandsFor p (bytes ++ piece)) (sym f.0)
     (ap (λ (t : List ℕ). t ++ piece) e)
 step_stands bytes piece (reading held) new (Ok (Ready taken h)) e is-open f = subst (λ (p : Parsing). StandsFor p (bytes ++ piece)) (sym f.0) (
-      h,
-      held ++ take taken piece,
-      drop taken piece,
-      f.2,
-      ap (λ (t : List ℕ). t ++ piece) (sym e)
-          ∙ ap (λ (t : List ℕ). held ++ t) (sym (take-append-drop taken piece)) ∙ sym (append_assoc held (take taken piece) (drop taken piece)),
-    )
+  h,
+  held ++ take taken piece,
+  drop taken piece,
+  f.2,
+  ap (λ (t : List ℕ). t ++ piece) (sym e)
+      ∙ ap (λ (t : List ℕ). held ++ t) (sym (take-append-drop taken piece)) ∙ sym (append_assoc held (take taken piece) (drop taken piece)),
+)
 step_stands bytes piece (reading held) new (Err fault) e is-open f =
     subst (λ (p : Parsing). StandsFor p (bytes ++ piece)) (sym f.0)
     (subst (λ (b : List ℕ). (fault ≡ memory_fault) ⊎ ((HasHeader (b ++ piece) → ⊥) × IsFault (b ++ piece) fault)) e f.1)

@@ -23,12 +23,12 @@ length-body body =
 
 pub length-head : (h : Header) → length h.mac ≡ 32 → length (head_text h) ≡ length (flat_map stanza_text h.stanzas) + 70
 length-head h long = omega (
-      arith,
-      length-append (line version) (flat_map stanza_text h.stanzas ++ line (end_line h.mac)),
-      length-append (flat_map stanza_text h.stanzas) (line (end_line h.mac)),
-      length-append (end_line h.mac) (10 ∷ []),
-      length-text h.mac,
-    )
+  arith,
+  length-append (line version) (flat_map stanza_text h.stanzas ++ line (end_line h.mac)),
+  length-append (flat_map stanza_text h.stanzas) (line (end_line h.mac)),
+  length-append (end_line h.mac) (10 ∷ []),
+  length-text h.mac,
+)
 
 -- what a difference leaves
 pub leaves : (r : Option ℕ) (size n room : ℕ) → SomeIff r (size ≤ room) (room - size) → n ≡ size → Leaves room n r

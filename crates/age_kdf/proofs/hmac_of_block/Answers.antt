@@ -8,12 +8,12 @@ use Rattle.age_kdf.proofs.hmac_of_block.Goals as goal
 
 pub loop-part-preserved : goal.loop-part-preserved
 loop-part-preserved c = rw (
-      take_more c.args.parts.now c.loop-part.part-index (record { ref_ptr = (0, 0); now = [] }) c.loop-part-test.true,
-      map-append,
-      concat-append,
-      append-nil,
-      ← append_assoc,
-    ) (c.update-in-loop-part.ensures _ c.loop-part.invariant)
+  take_more c.args.parts.now c.loop-part.part-index (record { ref_ptr = (0, 0); now = [] }) c.loop-part-test.true,
+  map-append,
+  concat-append,
+  append-nil,
+  ← append_assoc,
+) (c.update-in-loop-part.ensures _ c.loop-part.invariant)
 
 pub returns : goal.returns
 unfolding hmac
