@@ -40,6 +40,10 @@ only_one [] s most least e = absurd (omega arith)
 only_one (t ∷ []) s most least e = ap (λ x. x ∷ []) (sym e)
 only_one (t ∷ u ∷ rest) s most least e = absurd (omega arith)
 
+-- and of a slice of them
+pub only_one_of : (ss items : List Stanza) (s : Stanza) → items ≡ ss → 1 ≤ length items → length items < 2 → s ≡ get_or items 0 s → ss ≡ s ∷ []
+only_one_of ss items s same most least e = sym same ∙ only_one items s most least e
+
 -- nothing stands beside a stanza that is the only one
 pub not_beside : (h : Header) (s : Stanza) → h.stanzas ≡ s ∷ [] → ¬ IsScryptNotAlone h
 not_beside h s one beside =

@@ -177,24 +177,12 @@ length-chained b (suc i) len below =
     length-salsa20_8 _ (length-zip2 bit_xor (x_part b i) (part 16 b i) (x ∙ sym y) ∙ x)
 
 -- what holds of each number below sixteen
-each_of_sixteen : (P : ℕ → Type 0) → P 0 → P 1 → P 2 → P 3 → P 4 → P 5 → P 6 → P 7 → P 8 → P 9
-    → P 10 → P 11 → P 12 → P 13 → P 14 → P 15 → (k : ℕ) → k < 16 → P k
+each_of_sixteen : (P : ℕ → Type 0) → P 0 → P 1 → P 2 → P 3 → P 4 → P 5 → P 6 → P 7 → P 8 → P 9 → P 10 → P 11 → P 12 → P 13 → P 14 → P 15
+    → (k : ℕ) → k < 16 → P k
 each_of_sixteen P p0 p1 p2 p3 p4 p5 p6 p7 p8 p9 p10 p11 p12 p13 p14 p15 =
-    below_more P 15
-    (below_more P 14
-    (below_more P 13
-    (below_more P 12
-    (below_more P 11
-    (below_more P 10
-    (below_more P 9
-    (below_more P 8
-    (below_more P 7
-    (below_more P 6
-    (below_more P 5
-    (below_more P 4
-    (below_more P 3 (below_more P 2 (below_more P 1 (below_more P 0 (below_none P) p0) p1) p2)
-    p3) p4) p5)
-    p6) p7) p8) p9) p10) p11) p12) p13) p14) p15
+    below_more P 15 (below_more P 14 (below_more P 13 (below_more P 12 (below_more P 11 (below_more P 10 (below_more P 9 (below_more P 8
+    (below_more P 7 (below_more P 6 (below_more P 5 (below_more P 4 (below_more P 3 (below_more P 2 (below_more P 1 (below_more P 0 (below_none P)
+    p0) p1) p2) p3) p4) p5) p6) p7) p8) p9) p10) p11) p12) p13) p14) p15
 
 -- pieces of sixteen, joined
 part_after : (xs ys : List ℕ) (i : ℕ) → length xs ≡ 16 → part 16 (xs ++ ys) (suc i) ≡ part 16 ys i
@@ -224,19 +212,18 @@ length-pieces f (x ∷ xs) len = omega (
 abbrev order : List ℕ
 order = 0 ∷ 2 ∷ 4 ∷ 6 ∷ 8 ∷ 10 ∷ 12 ∷ 14 ∷ 1 ∷ 3 ∷ 5 ∷ 7 ∷ 9 ∷ 11 ∷ 13 ∷ 15 ∷ []
 
+-- which output stands at place i, and that its place is i
+in_order : (i : ℕ) → i < 16 → (get_or order i 0 < 16) × (get_or order i 0 / 2 + get_or order i 0 % 2 * 8 ≡ i)
+in_order =
+    each_of_sixteen (λ i. (get_or order i 0 < 16) × (get_or order i 0 / 2 + get_or order i 0 % 2 * 8 ≡ i))
+    (omega arith, refl) (omega arith, refl) (omega arith, refl) (omega arith, refl) (omega arith, refl) (omega arith, refl)
+    (omega arith, refl) (omega arith, refl) (omega arith, refl) (omega arith, refl) (omega arith, refl) (omega arith, refl)
+    (omega arith, refl) (omega arith, refl) (omega arith, refl) (omega arith, refl)
+
 lengths_of_outputs : (b : List ℕ) → length b ≡ 256 → (m : ℕ) → m < 16 → length (x_part b (get_or order m 0 + 1)) ≡ 16
-lengths_of_outputs b len =
-    each_of_sixteen (λ m. length (x_part b (get_or order m 0 + 1)) ≡ 16)
-    (length-chained b 1 len (omega arith)) (length-chained b 3 len (omega arith))
-    (length-chained b 5 len (omega arith)) (length-chained b 7 len (omega arith))
-    (length-chained b 9 len (omega arith)) (length-chained b 11 len (omega arith))
-    (length-chained b 13 len (omega arith))
-    (length-chained b 15 len (omega arith)) (length-chained b 2 len (omega arith))
-    (length-chained b 4 len (omega arith))
-    (length-chained b 6 len (omega arith)) (length-chained b 8 len (omega arith))
-    (length-chained b 10 len (omega arith))
-    (length-chained b 12 len (omega arith)) (length-chained b 14 len (omega arith))
-    (length-chained b 16 len (omega arith))
+lengths_of_outputs b len m below =
+    let few = (in_order m below).0 in
+    length-chained b (get_or order m 0 + 1) len (omega arith)
 
 -- outputs that are turned, each at its place, are the turned block
 pub mixed_turned : (b to : List ℕ) → length b ≡ 256 → ((j : ℕ) → j < 16 → part 16 to (j / 2 + j % 2 * 8) ≡ turned (x_part b (j + 1)))
@@ -244,16 +231,11 @@ pub mixed_turned : (b to : List ℕ) → length b ≡ 256 → ((j : ℕ) → j <
 unfolding block_mix
 mixed_turned b to len h =
     let f : ℕ → List ℕ = λ j. x_part b (j + 1) in
-    let placed : (i : ℕ) → i < 16 → part 16 to i ≡ turned (x_part b (get_or order i 0 + 1)) =
-    each_of_sixteen (λ i. part 16 to i ≡ turned (x_part b (get_or order i 0 + 1)))
-    (h 0 (omega arith)) (h 2 (omega arith)) (h 4 (omega arith)) (h 6 (omega arith))
-    (h 8 (omega arith)) (h 10 (omega arith)) (h 12 (omega arith))
-    (h 14 (omega arith)) (h 1 (omega arith)) (h 3 (omega arith)) (h 5 (omega arith))
-    (h 7 (omega arith)) (h 9 (omega arith)) (h 11 (omega arith))
-    (h 13 (omega arith)) (h 15 (omega arith)) in
     record {
       len = length-pieces f order (lengths_of_outputs b len);
-      at = λ i below. placed i below ∙ ap turned (sym (part-pieces f order (lengths_of_outputs b len) i below));
+      at = λ i below.
+          let placed = in_order i below in
+          ap (part 16 to) (sym placed.1) ∙ h (get_or order i 0) placed.0 ∙ ap turned (sym (part-pieces f order (lengths_of_outputs b len) i below));
     }
 
 pub xor_turned : (a b x y : List ℕ) → IsTurned a x → IsTurned b y → length x ≡ 256 → length y ≡ 256 → IsTurned (xor_words a b) (xor_words x y)
