@@ -1,15 +1,7 @@
 pub mod ReaderLemmas
 pub mod CallLemmas
-pub mod CallFaultLemmas
-pub mod AuthenticCallLemmas
-pub mod StreamLemmas
 pub mod WriterLemmas
-pub mod WriteStreamLemmas
-pub mod StreamCallLemmas
+pub mod StreamLemmas
 pub mod FrontLemmas
-pub mod FrontSizeLemmas
-pub mod KeyHeadLemmas
-pub mod SeekLemmas
 pub mod HeaderLemmas
-pub mod StanzaPlaceLemmas
 pub mod UndamagedOpeningLemmas

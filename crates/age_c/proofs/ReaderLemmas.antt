@@ -1,29 +1,44 @@
 -- From a reader's numbers to an opener and back.
-use Rattle.std.proofs.Common.{◌≡◌, ◌≢◌, ℕ, ◌+◌, ◌*◌, ◌/◌, ◌<◌, ap, sym, subst, ◌∙◌, refl, arith, List, [], ◌∷◌, ◌++◌, length, true, false, Some}
-use Rattle.std.proofs.Common.{None, Bool, append-nil}
+use Rattle.std.proofs.Common.{◌≡◌, ◌≢◌, ℕ, ◌+◌, ◌*◌, ◌/◌, ◌<◌, ap, sym, subst, ◌∙◌, refl, arith, List, [], ◌∷◌, ◌++◌, length, true, false, Some, None, Bool}
+use Rattle.std.proofs.Common.{append-nil}
 use Rattle.std.specs.Prelude.{Option, IfSome}
 use Rattle.std.specs.List.{flat_map}
 use Rattle.std.specs.Borrow.{Bor}
 use Rattle.std.proofs.lemmas.List.{length-append, length-drop, nil_from_length}
 use Rattle.std.proofs.lemmas.Grind.{flat_map-append}
-use Rattle.age_stream.specs.Segment.{Segment, outcome, released, rest_bytes, with_piece, with_end}
-use Rattle.age_stream.specs.Opener.{chunk_bytes, OpenerView, Stands, chunk_texts}
+use Rattle.age_stream.specs.Segment.{Segment, Outcome, fresh, outcome, released, rest_bytes, with_piece}
+use Rattle.age_stream.specs.Opener.{chunk_bytes, OpenerView, Stands, chunk_texts, has_failed}
 use Rattle.age_stream.specs.declared.step.Status.{Status}
 use Rattle.age_stream.specs.declared.step.Status.TheVariants.{Open}
+use Rattle.age_stream.proofs.FreshLemmas.{fresh_outcome, fresh_rest}
 use Rattle.age_c.specs.declared.reader.Reader.{Reader}
-use Rattle.age_c.specs.Calls.{reader_status}
-use Rattle.age_c.specs.Readers.{IsAt, SameFile}
-use Rattle.age_c.specs.inner.Keys.{key_of_reader as key_of, opens}
+use Rattle.age_c.specs.Calls.{answer_of, reader_status}
+use Rattle.age_c.specs.Readers.{IsAt, SameFile, TakesBlock}
+use Rattle.age_c.specs.inner.Readers.{Keeps, PassesOn, key_of_reader as key_of, opens}
 use Rattle.age_chunk.specs.Payload.{chunk_length, block_length}
 
 pub some_is : {A : Type 0} {a b : A} → Some a ≡ Some b → a ≡ b
 some_is e = search
 
+-- a reader that is open at a chunk was given nothing there
+pub at_fresh : (r : Reader) → reader_status r.state r.fault_chunk ≡ Some Open → IsAt r (fresh r.chunk)
+at_fresh r is_open =
+    let o = fresh_outcome (opens (key_of r)) chunk_length r.chunk in
+    record {
+      status = is_open ∙ ap (λ (o : Outcome). Some o.status) (sym o);
+      index = ap (λ (o : Outcome). o.index) (sym o);
+      whole = λ _. fresh_rest chunk_length r.chunk;
+      timely = λ _. refl;
+    }
+
+pub unchanged : (r : Reader) → SameFile r r
+unchanged r = record { file_key = refl; nonce = refl; payload_at = refl }
+
 -- the opener of a reader
 abbrev pub opener_of : Reader → Status → OpenerView (List ℕ)
 opener_of r status = record { key = key_of r; held = []; index = r.chunk; status = status }
 
-pub stands_of : (r : Reader) (status : Status) (s : Segment) → reader_status r.state r.fault_chunk ≡ Some status → IsAt r s
+stands_of : (r : Reader) (status : Status) (s : Segment) → reader_status r.state r.fault_chunk ≡ Some status → IsAt r s
     → Stands opens chunk_length (opener_of r status) s
 stands_of r status s e h =
     let same : status ≡ (outcome (opens (key_of r)) chunk_length s).status =
@@ -35,7 +50,7 @@ stands_of r status s e h =
       timely = h.timely;
     }
 
-pub at_of : (r : Reader) (o : OpenerView (List ℕ)) (s : Segment) → o.key ≡ key_of r
+at_of : (r : Reader) (o : OpenerView (List ℕ)) (s : Segment) → o.key ≡ key_of r
     → o.index ≡ r.chunk → reader_status r.state r.fault_chunk ≡ Some o.status
     → (o.status ≡ Open → rest_bytes chunk_length s.bytes ≡ []) → Stands opens chunk_length o s → IsAt r s
 at_of r o s key index status whole h =
@@ -68,34 +83,36 @@ whole_parts : (a : ℕ) (b : List ℕ) (ended late : Bool) (block : List ℕ) �
 whole_parts a b true late block none len = none
 whole_parts a b false late block none len = rest_more b block none len
 
-whole_piece : (s : Segment) (block : List ℕ) → rest_bytes chunk_length s.bytes ≡ []
+pub whole_piece : (s : Segment) (block : List ℕ) → rest_bytes chunk_length s.bytes ≡ []
     → length block ≡ block_length → rest_bytes chunk_length (with_piece s block).bytes ≡ []
 whole_piece s = whole_parts s.start s.bytes s.ended s.late
 
--- a reader that was given a whole block more
-pub block_at : (r r' : Reader) (status : Status) (o o' : OpenerView (List ℕ)) (s : Segment) (block : List ℕ) → o ≡ opener_of r status → SameFile r r'
-    → o'.key ≡ o.key → o'.index ≡ r'.chunk → reader_status r'.state r'.fault_chunk ≡ Some o'.status → (o'.status ≡ Open → o.status ≡ Open)
-    → reader_status r.state r.fault_chunk ≡ Some status → length block ≡ block_length
-    → (Stands opens chunk_length o s → Stands opens chunk_length o' (with_piece s block)) → IsAt r s → IsAt r' (with_piece s block)
-block_at r r' status o o' s block view same key index code was_open old_code len stands h =
-    let before = stands_of r status s old_code h in
-    let is_key : o'.key ≡ key_of r' =
-    key ∙ (ap (λ (o : OpenerView (List ℕ)). o.key) view ∙ sym (key_same r r' same)) in
-    let is_status : o.status ≡ status = ap (λ (o : OpenerView (List ℕ)). o.status) view in
-    at_of r' o' (with_piece s block) is_key index code (λ is_open. whole_piece s block
-    (h.whole (sym before.status ∙ (sym is_status ∙ was_open is_open))) len)
-    (stands (subst (λ (o : OpenerView (List ℕ)). Stands opens chunk_length o s) (sym view) before))
+-- a refusal writes nothing
+nothing_of : (failed : Bool) (answer : ℕ) (text : List ℕ) → (failed ≡ false → answer ≡ 0) → (failed ≡ true → text ≡ []) → answer ≢ 0 → text ≡ []
+nothing_of true answer text fine none some = none refl
+nothing_of false answer text fine none some = absurd (some (fine refl))
 
--- one that is open to no more, and was given bytes
-pub rest_at : (r r' : Reader) (status : Status) (o o' : OpenerView (List ℕ)) (s : Segment) (rest : List ℕ) → o ≡ opener_of r status → SameFile r r'
-    → o'.key ≡ o.key → o'.index ≡ r'.chunk → reader_status r'.state r'.fault_chunk ≡ Some o'.status
-    → o'.status ≢ Open → reader_status r.state r.fault_chunk ≡ Some status
-    → (Stands opens chunk_length o s → Stands opens chunk_length o' (with_piece s rest)) → IsAt r s → IsAt r' (with_piece s rest)
-rest_at r r' status o o' s rest view same key index code shut old_code stands h =
-    let is_key : o'.key ≡ key_of r' =
-    key ∙ (ap (λ (o : OpenerView (List ℕ)). o.key) view ∙ sym (key_same r r' same)) in
-    at_of r' o' (with_piece s rest) is_key index code (λ is_open. absurd (shut is_open))
-    (stands (subst (λ (o : OpenerView (List ℕ)). Stands opens chunk_length o s) (sym view) (stands_of r status s old_code h)))
+-- a reader that keeps what an opener passes on takes it: if the opener stays open, no part of a block is left over
+pub takes_of : (next : Segment → Segment) (r r' : Reader) (status kept : Status) (index : ℕ) (o o' : OpenerView (List ℕ)) (text : List ℕ)
+    → o ≡ opener_of r status → reader_status r.state r.fault_chunk ≡ Some status → PassesOn next o o' text
+    → index ≡ o'.index → kept ≡ o'.status → Keeps index kept r r'
+    → ((s : Segment) → rest_bytes chunk_length s.bytes ≡ [] → o'.status ≡ Open → rest_bytes chunk_length (next s).bytes ≡ [])
+    → TakesBlock next r (answer_of r'.state) text r'
+takes_of next r r' status kept index o o' text view code passes index_is kept_is keeps whole =
+    let key : o.key ≡ key_of r = ap (λ (o : OpenerView (List ℕ)). o.key) view in
+    let stood : (s : Segment) → IsAt r s → Stands opens chunk_length o s =
+    λ s h. subst (λ (o : OpenerView (List ℕ)). Stands opens chunk_length o s) (sym view) (stands_of r status s code h) in
+    record {
+      at = λ s h. at_of r' o' (next s) (passes.key ∙ (key ∙ sym (key_same r r' keeps.same))) (sym (keeps.index ∙ index_is))
+          (keeps.status ∙ ap Some kept_is) (λ is_open. whole s (h.whole (sym (stands_of r status s code h).status
+          ∙ (sym (ap (λ (o : OpenerView (List ℕ)). o.status) view) ∙ passes.was_open is_open))) is_open)
+          (passes.stands s (stood s h));
+      released = λ s h. subst (λ (k : List ℕ). released (opens k) chunk_length (next s) ≡ released (opens k) chunk_length s ++ text) key
+          (passes.text_is s (stood s h));
+      same = keeps.same;
+      answer_is = refl;
+      nothing = nothing_of (has_failed kept) (answer_of r'.state) text keeps.unfailed (λ failed. passes.nothing (sym (ap has_failed kept_is) ∙ failed));
+    }
 
 -- fewer bytes than a block, if none were held, give no text
 no_text : (chunk : Option (Bor (List ℕ))) (held new : List ℕ) (taken : ℕ)
@@ -125,53 +142,18 @@ block_text op s next chunk text e is =
     ap (flat_map (λ (t : List ℕ). t)) e ∙ (flat_map-append (λ (t : List ℕ). t) (outcome op chunk_length s).texts (chunk_texts chunk)
     ∙ ap (λ (x : List ℕ). released op chunk_length s ++ x) (bytes_of_texts chunk ∙ sym is))
 
--- what an opener released, of its reader
-pub text_at : (r : Reader) (status : Status) (o : OpenerView (List ℕ)) (s next : Segment) (text : List ℕ) → o ≡ opener_of r status
-    → reader_status r.state r.fault_chunk ≡ Some status → (Stands opens chunk_length o s
-    → released (opens o.key) chunk_length next ≡ released (opens o.key) chunk_length s ++ text)
-    → IsAt r s → released (opens (key_of r)) chunk_length next ≡ released (opens (key_of r)) chunk_length s ++ text
-text_at r status o s next text view code gives h =
-    subst (λ (o : OpenerView (List ℕ)). released (opens o.key) chunk_length next ≡ released (opens o.key) chunk_length s ++ text) view
-    (gives (subst (λ (o : OpenerView (List ℕ)). Stands opens chunk_length o s) (sym view) (stands_of r status s code h)))
-
--- a reader that was given what was left before the end, and the end
-pub end_at : (r r' : Reader) (status : Status) (o between after : OpenerView (List ℕ)) (s : Segment) (rest : List ℕ) → o ≡ opener_of r status
-    → SameFile r r' → between.key ≡ o.key → after.key ≡ between.key → after.index ≡ r'.chunk
-    → reader_status r'.state r'.fault_chunk ≡ Some after.status → after.status ≢ Open → reader_status r.state r.fault_chunk ≡ Some status
-    → (Stands opens chunk_length o s → Stands opens chunk_length between (with_piece s rest)) → (Stands opens chunk_length between (with_piece s rest)
-    → Stands opens chunk_length after (with_end (with_piece s rest))) → IsAt r s → IsAt r' (with_end (with_piece s rest))
-end_at r r' status o between after s rest view same key last_key index code shut old_code stands ends h =
-    let before = stands_of r status s old_code h in
-    let is_key : after.key ≡ key_of r' =
-    last_key ∙ (key ∙ (ap (λ (o : OpenerView (List ℕ)). o.key) view ∙ sym (key_same r r' same))) in
-    at_of r' after (with_end (with_piece s rest)) is_key index code (λ is_open. absurd (shut is_open))
-    (ends (stands (subst (λ (o : OpenerView (List ℕ)). Stands opens chunk_length o s) (sym view) before)))
-
--- no text came of what was left before the end
-pub end_text : (r : Reader) (status : Status) (o between : OpenerView (List ℕ)) (s : Segment) (rest text : List ℕ) → o ≡ opener_of r status
-    → reader_status r.state r.fault_chunk ≡ Some status → between.key ≡ o.key
-    → (Stands opens chunk_length o s → Stands opens chunk_length between (with_piece s rest))
-    → (Stands opens chunk_length o s → released (opens o.key) chunk_length (with_piece s rest) ≡ released (opens o.key) chunk_length s)
-    → (Stands opens chunk_length between (with_piece s rest) → released (opens between.key) chunk_length (with_end (with_piece s rest))
-    ≡ released (opens between.key) chunk_length (with_piece s rest) ++ text)
-    → IsAt r s → released (opens (key_of r)) chunk_length (with_end (with_piece s rest)) ≡ released (opens (key_of r)) chunk_length s ++ text
-end_text r status o between s rest text view code key stands none some h =
-    let before : Stands opens chunk_length o s =
-    subst (λ (o : OpenerView (List ℕ)). Stands opens chunk_length o s) (sym view) (stands_of r status s code h) in
-    let is : between.key ≡ key_of r = key ∙ ap (λ (o : OpenerView (List ℕ)). o.key) view in
-    let first : released (opens (key_of r)) chunk_length (with_piece s rest) ≡ released (opens (key_of r)) chunk_length s =
-    subst (λ (k : List ℕ). released (opens k) chunk_length (with_piece s rest) ≡ released (opens k) chunk_length s)
-    (ap (λ (o : OpenerView (List ℕ)). o.key) view) (none before) in
-    let second : released (opens (key_of r)) chunk_length (with_end (with_piece s rest))
-    ≡ released (opens (key_of r)) chunk_length (with_piece s rest) ++ text =
-    subst (λ (k : List ℕ). released (opens k) chunk_length (with_end (with_piece s rest))
-    ≡ released (opens k) chunk_length (with_piece s rest) ++ text) is (some (stands before)) in
-    second ∙ ap (λ (xs : List ℕ). xs ++ text) first
-
--- a refusal writes nothing
-pub nothing_of : (failed : Bool) (answer : ℕ) (text : List ℕ) → (failed ≡ false → answer ≡ 0) → (failed ≡ true → text ≡ []) → answer ≢ 0 → text ≡ []
-nothing_of true answer text fine none some = none refl
-nothing_of false answer text fine none some = absurd (some (fine refl))
+-- what is passed on after no text was
+pub passes_both : (first second : Segment → Segment) (a b c : OpenerView (List ℕ)) (text : List ℕ) → PassesOn first a b [] → PassesOn second b c text
+    → PassesOn (λ s. second (first s)) a c text
+passes_both first second a b c text none some = record {
+  key = some.key ∙ none.key;
+  stands = λ s h. some.stands (first s) (none.stands s h);
+  text_is = λ s h. subst (λ (k : List ℕ). released (opens k) chunk_length (second (first s)) ≡ released (opens k) chunk_length (first s) ++ text)
+      none.key (some.text_is (first s) (none.stands s h))
+      ∙ ap (λ (t : List ℕ). t ++ text) (none.text_is s h ∙ append-nil (released (opens a.key) chunk_length s));
+  nothing = some.nothing;
+  was_open = λ is_open. none.was_open (some.was_open is_open);
+}
 
 -- an opener that is open after a piece was open before
 pub rest_open : (rest : List ℕ) (old new : Status) → (0 < length rest → old ≡ Open) → (length rest ≡ 0 → new ≡ old) → new ≡ Open → old ≡ Open

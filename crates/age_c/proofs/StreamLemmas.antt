@@ -1,22 +1,26 @@
--- What a stream's steps do to the segment that it was given.
-use Rattle.std.proofs.Common.{inl, inr, ◌≡◌, ◌≢◌, ℕ, ◌+◌, ◌<◌, ◌≤◌, refl, ap, sym, subst, ◌∙◌, arith, List, [], ◌++◌, length, take, Bool, true, false}
+-- What a stream's steps, and any calls on it, do to the segment that it was given.
+use Rattle.std.proofs.Common.{inl, inr, ◌≡◌, ◌≢◌, ℕ, ◌+◌, ◌<◌, ◌≤◌, refl, ap, sym, subst, ◌∙◌, arith, List, [], ◌∷◌, ◌++◌, length, take, Bool, true, false}
 use Rattle.std.specs.Prelude.{Some, min, ◌-◌}
 use Rattle.std.specs.List.{flat_map}
-use Rattle.std.proofs.lemmas.Bool.{cases_lt}
+use Rattle.std.proofs.lemmas.Bool.{cases_lt, false≢true}
 use Rattle.std.proofs.lemmas.List.{append-nil, length-take, nil_from_length}
 use Rattle.std.proofs.Math.Bool.{or-false}
-use Rattle.age_chunk.specs.Payload.{block_length, chunk_length}
-use Rattle.age_keys.specs.Keys.{unbox}
-use Rattle.age_stream.specs.Segment.{with_end, with_piece, Segment, Outcome}
+use Rattle.age_chunk.specs.Payload.{block_length, chunk_length, payload}
+use Rattle.age_keys.specs.Keys.{box, unbox}
+use Rattle.age_stream.specs.Segment.{Segment, Outcome, fresh, outcome, released, with_end, with_piece}
 use Rattle.age_stream.specs.declared.step.Status.TheVariants.{Open}
 use Rattle.age_stream.proofs.GoingLemmas.{going, going_part}
 use Rattle.age_stream.proofs.LawLemmas.{pieces_join}
 use Rattle.age_c.specs.declared.reader.Reader.{Reader}
 use Rattle.age_c.specs.declared.stream.Stream.{Stream}
 use Rattle.age_c.specs.Calls.{answer_of, reader_status}
-use Rattle.age_c.specs.Readers.{TakesBlock, TakesEnd, after_block, IsAt, SameFile, reader_outcome, IsBlockCall, reader_text}
-use Rattle.age_c.specs.Streams.{FeedsStream, FinishesStream, IsStreamCall, StreamIsAt, held_block}
-use Rattle.age_c.proofs.ReaderLemmas.{some_is}
+use Rattle.age_c.specs.Readers.{IsAt, IsBlockCall, SameFile, TakesBlock, TakesEnd, after_block, after_call, after_end, reader_outcome, reader_text}
+use Rattle.age_c.specs.Streams.{AnswersAreFeedCalls, AreFeedCalls, FeedCall, FeedsAreWritten, FeedsStream, FinishesStream, IsStreamCall, Moves, PiecesReadBack}
+use Rattle.age_c.specs.Streams.{StreamIsAt, bytes_written, held_block, reader_call, reader_calls, text_taken}
+use Rattle.age_c.specs.inner.Readers.{key_of_reader as key_of, opens}
+use Rattle.age_c.proofs.CallLemmas.{AreKnown, Timely, a_call, known_misused, known_taken, misused_next, next, taken_next, text_right, timely_piece}
+use Rattle.age_c.proofs.ReaderLemmas.{key_same, some_is, unchanged}
+use Rattle.age_c.proofs.WriterLemmas.{payload_written, few_chunks}
 
 nil_by : (start : ℕ) (bytes : List ℕ) (ended late : Bool) → with_piece (record { start = start; bytes = bytes; ended = ended; late = late }) []
     ≡ record { start = start; bytes = bytes; ended = ended; late = late }
@@ -24,7 +28,7 @@ nil_by start bytes true late = ap (λ (l : Bool). record { start = start; bytes 
 nil_by start bytes false late = ap (λ (b : List ℕ). record { start = start; bytes = b; ended = false; late = late }) (append-nil bytes)
 
 -- no bytes change nothing
-pub piece_nil : (s : Segment) → with_piece s [] ≡ s
+piece_nil : (s : Segment) → with_piece s [] ≡ s
 piece_nil s = nil_by s.start s.bytes s.ended s.late
 
 -- a part of a block releases nothing
@@ -45,14 +49,11 @@ abbrev released_of : Outcome → List ℕ
 released_of o = flat_map (λ (t : List ℕ). t) o.texts
 
 -- what is held releases nothing
-pub stream_same : (st : Stream) (s : Segment) → (h : StreamIsAt st s) → reader_outcome st.reader s ≡ reader_outcome st.reader h.blocks
+stream_same : (st : Stream) (s : Segment) → (h : StreamIsAt st s) → reader_outcome st.reader s ≡ reader_outcome st.reader h.blocks
 stream_same st s h =
     let size = length-take st.held st.block in
     ap (reader_outcome st.reader) h.given ∙ part_same st.reader h.blocks (held_block st) h.at (λ some. h.is_open (omega (arith, some, size)))
     (omega (arith, h.short, size))
-
-unchanged : (r : Reader) → SameFile r r
-unchanged r = record { file_key = refl; nonce = refl; payload_at = refl }
 
 -- bytes more, after those that are held
 given_more : (st : Stream) (s : Segment) (h : StreamIsAt st s) (more all : List ℕ)
@@ -61,7 +62,7 @@ given_more st s h more all is =
     ap (λ (t : Segment). with_piece t more) h.given ∙ (pieces_join h.blocks (held_block st) more ∙ ap (with_piece h.blocks) is)
 
 -- a stream that holds nothing
-pub nothing_held : (st : Stream) (s : Segment) → st.held ≡ 0 → IsAt st.reader s → StreamIsAt st s
+nothing_held : (st : Stream) (s : Segment) → st.held ≡ 0 → IsAt st.reader s → StreamIsAt st s
 nothing_held st s zero at = record {
   short = omega (arith, zero);
   blocks = s;
@@ -102,21 +103,25 @@ feeds_part piece count old new same held more fits count_is short is = record {
   all = λ left. absurd (omega (arith, count_is, left, short, fits, more));
 }
 
--- ---- bytes that fill the block
+-- ---- bytes that are opened with those that are held
+
+-- what is held and the bytes are opened together, and nothing is held then
+moves_of : (with_held next : Segment → Segment) (answer : ℕ) (text : List ℕ) (old new : Stream) → TakesBlock with_held old.reader answer text new.reader
+    → new.held ≡ 0 → ((s : Segment) → (h : StreamIsAt old s) → next s ≡ with_held h.blocks) → Moves next old answer text new
+moves_of with_held next answer text old new takes zero is = record {
+  at = λ s h. subst (StreamIsAt new) (sym (is s h)) (nothing_held new (with_held h.blocks) zero (takes.at h.blocks h.at));
+  released = λ s h. ap (reader_text old.reader) (is s h) ∙ (takes.released h.blocks h.at
+      ∙ ap (λ (o : Outcome). released_of o ++ text) (sym (stream_same old s h)));
+  same = takes.same;
+  answer_is = takes.answer_is;
+  nothing = takes.nothing;
+}
 
 pub feeds_whole : (piece : List ℕ) (count answer : ℕ) (block text : List ℕ) (old new : Stream)
     → TakesBlock (after_block block) old.reader answer text new.reader → new.held ≡ 0 → held_block old ++ take count piece ≡ block
     → count ≡ min (length piece) (block_length - old.held) → old.held < block_length → FeedsStream piece old answer count text new
 feeds_whole piece count answer block text old new takes zero is count_is short = record {
-  moves = record {
-    at = λ s h. subst (StreamIsAt new) (sym (given_more old s h (take count piece) block is))
-        (nothing_held new (with_piece h.blocks block) zero (takes.at h.blocks h.at));
-    released = λ s h. ap (reader_text old.reader) (given_more old s h (take count piece) block is) ∙ (takes.released h.blocks h.at
-        ∙ ap (λ (o : Outcome). released_of o ++ text) (sym (stream_same old s h)));
-    same = takes.same;
-    answer_is = takes.answer_is;
-    nothing = takes.nothing;
-  };
+  moves = moves_of (after_block block) _ answer text old new takes zero (λ s h. given_more old s h (take count piece) block is);
   most = omega (arith, count_is);
   some = λ some. omega (arith, count_is, some, short);
   all = λ _. zero;
@@ -131,8 +136,7 @@ block_call s piece out call whole = record {
   room = call.room;
 }
 
--- ---- bytes after the last block, or after a fault
-
+-- bytes after the last block, or after a fault
 pub feeds_closed : (piece : List ℕ) (count answer : ℕ) (text : List ℕ) (old new : Stream)
     → TakesBlock (λ (s : Segment). with_piece s (take count piece)) old.reader answer text new.reader → new.held ≡ 0 → count ≡ min (length piece) 1
     → (reader_status old.reader.state old.reader.fault_chunk ≢ Some Open) → FeedsStream piece old answer count text new
@@ -143,33 +147,92 @@ feeds_closed piece count answer text old new takes zero count_is shut =
           h.given ∙ (ap (λ (n : ℕ). with_piece h.blocks (take n old.block)) held ∙ piece_nil h.blocks))
     ] in
     record {
-      moves = record {
-        at = λ s h. let is = none s h in
-            nothing_held new (with_piece s (take count piece)) zero (takes.at s (subst (IsAt old.reader) (sym is) h.at));
-        released = λ s h. takes.released s (subst (IsAt old.reader) (sym (none s h)) h.at);
-        same = takes.same;
-        answer_is = takes.answer_is;
-        nothing = takes.nothing;
-      };
+      moves = moves_of _ _ answer text old new takes zero (λ s h. ap (λ (t : Segment). with_piece t (take count piece)) (none s h));
       most = omega (arith, count_is);
       some = λ some. omega (arith, count_is, some);
       all = λ _. zero;
     }
 
--- ---- the end
-
+-- the end
 pub finishes : (answer : ℕ) (text : List ℕ) (old new : Stream) → TakesEnd (held_block old) old.reader answer text new.reader → new.held ≡ 0
     → FinishesStream old answer text new
-finishes answer text old new ends zero =
-    let takes = ends.takes in
-    record {
-      moves = record {
-        at = λ s h. nothing_held new (with_end s) zero (subst (λ (t : Segment). IsAt new.reader (with_end t)) (sym h.given) (takes.at h.blocks h.at));
-        released = λ s h. ap (λ (t : Segment). reader_text old.reader (with_end t)) h.given ∙ (takes.released h.blocks h.at
-            ∙ ap (λ (o : Outcome). released_of o ++ text) (sym (stream_same old s h)));
-        same = takes.same;
-        answer_is = takes.answer_is;
-        nothing = takes.nothing;
-      };
-      done = ends.done;
-    }
+finishes answer text old new ends zero = record {
+  moves = moves_of (after_end (held_block old)) with_end answer text old new ends.takes zero (λ s h. ap with_end h.given);
+  done = ends.done;
+}
+
+-- ---- a list of calls
+
+-- what is held leaves the status as it is
+status_there : (k : List ℕ) (s : Stream) (g : Segment) → key_of s.reader ≡ k → StreamIsAt s g
+    → reader_status s.reader.state s.reader.fault_chunk ≡ Some (outcome (opens k) chunk_length g).status
+status_there k s g key h =
+    h.at.status ∙ (ap (λ (o : Outcome). Some o.status) (sym (stream_same s g h)) ∙ ap (λ (k : List ℕ). Some (outcome (opens k) chunk_length g).status) key)
+
+timely_there : (s : Stream) (g : Segment) → StreamIsAt s g → Timely g
+timely_there s g h = subst Timely (sym h.given) (timely_piece h.blocks (held_block s) h.at.timely)
+
+feeds_known : (k : List ℕ) (calls : List FeedCall) (s : Stream) (was : Segment) → key_of s.reader ≡ k → StreamIsAt s was → AreFeedCalls s calls
+    → AreKnown k was (reader_calls calls)
+feeds_known k [] s was key at are = tt
+feeds_known k (c ∷ calls) s was key at (inl idle, are) =
+    let call = reader_call c in
+    let here : StreamIsAt c.after was = subst (λ (s : Stream). StreamIsAt s was) (sym idle.1) at in
+    let same : key_of c.after.reader ≡ k = ap (λ (s : Stream). key_of s.reader) idle.1 ∙ key in (
+      known_misused k call was idle.0 idle.2 (timely_there c.after was here) (status_there k c.after was same here),
+      feeds_known k calls c.after (next call was) same (subst (StreamIsAt c.after) (sym (misused_next call was idle.0)) here) are,
+    )
+feeds_known k (c ∷ calls) s was key at (inr taken, are) =
+    let call = reader_call c in
+    let moves = taken.1 in
+    let now = after_call call was in
+    let here : StreamIsAt c.after now = moves.at was at in
+    let same : key_of c.after.reader ≡ k = key_same s.reader c.after.reader moves.same ∙ key in (
+      known_taken k call was taken.0 (timely_there c.after now here) (status_there k c.after now same here)
+          (subst (λ (k : List ℕ). released (opens k) chunk_length now ≡ released (opens k) chunk_length was ++ c.text) key (moves.released was at))
+          moves.answer_is taken.2,
+      feeds_known k calls c.after (next call was) same (subst (StreamIsAt c.after) (sym (taken_next call was taken.0)) here) are,
+    )
+
+pub feeds_are_written : FeedsAreWritten
+feeds_are_written s start at empty limit calls are text few =
+    text_right s.reader start limit (reader_calls calls) text few
+    (feeds_known (key_of s.reader) calls s (fresh start) refl (nothing_held s (fresh start) empty at) are)
+
+-- ---- answers are calls
+
+-- an end that is given no bytes
+ends_with_none : (old : Stream) (answer : ℕ) (text : List ℕ) (new : Stream) → Moves with_end old answer text new
+    → Moves (λ (s : Segment). with_end (with_piece s [])) old answer text new
+ends_with_none old answer text new moves = record {
+  at = λ s h. subst (λ (t : Segment). StreamIsAt new (with_end t)) (sym (piece_nil s)) (moves.at s h);
+  released = λ s h. ap (λ (t : Segment). reader_text old.reader (with_end t)) (piece_nil s) ∙ moves.released s h;
+  same = moves.same;
+  answer_is = moves.answer_is;
+  nothing = moves.nothing;
+}
+
+pub answers_are_feed_calls : AnswersAreFeedCalls
+answers_are_feed_calls old new piece before after answer taken written = (
+  λ it. a_call _ _ old new answer written before after _ _ it (λ feeds. (feeds.moves, λ is. absurd (false≢true is))),
+  λ it. a_call _ _ old new answer written before after _ _ it
+      (λ ends. (ends_with_none old answer (take written after) new ends.moves, λ is zero. ends.done zero)),
+)
+
+-- ---- the round trip
+
+pub pieces_read_back : PiecesReadBack
+pieces_read_back header key nonce front w texts last writes s at empty has_key has_nonce calls are given closed =
+    let text = text_taken texts in
+    let few = few_chunks header key nonce front w texts last writes in
+    let right = feeds_are_written s 0 at empty (omega arith) calls are text few in
+    let written : payload (box s.reader.file_key s.reader.nonce) chunk_length text ≡ bytes_written texts ++ last.bytes =
+    ap (λ (k : List ℕ). payload (box k s.reader.nonce) chunk_length text) (has_key ∙ sym writes.begins.has_key)
+    ∙ (ap (λ (n : List ℕ). payload (box w.writer.file_key n) chunk_length text) (has_nonce ∙ sym writes.begins.has_nonce)
+    ∙ payload_written header key nonce front w texts last writes) in
+    right.whole closed (omega arith) (given ∙ ap (λ (b : List ℕ). record {
+      start = 0;
+      bytes = b;
+      ended = true;
+      late = false;
+    }) (sym written))

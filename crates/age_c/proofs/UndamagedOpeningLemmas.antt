@@ -1,5 +1,6 @@
 -- A block that came undamaged at its place is opened.
-use Rattle.std.proofs.Common.{inl, inr, ◌≡◌, ◌≢◌, ℕ, ◌+◌, ◌*◌, ◌/◌, ◌<◌, ◌≤◌, refl, ap, sym, subst, ◌∙◌, arith, List, [], ◌∷◌, ◌++◌, length, get_or, take, drop, Bool, true, false, Option, Some, None}
+use Rattle.std.proofs.Common.{inl, inr, ◌≡◌, ◌≢◌, ℕ, ◌+◌, ◌*◌, ◌/◌, ◌<◌, ◌≤◌, ap, sym, subst, ◌∙◌, arith, List, [], ◌∷◌, ◌++◌, length, get_or, take, drop}
+use Rattle.std.proofs.Common.{Bool, true, false, Option, Some, None}
 use Rattle.std.specs.Prelude.{◌==◌, ◌||◌, if◌then◌else◌, nat_lt, slice_get}
 use Rattle.std.specs.List.{flat_map, AllByRecursion}
 use Rattle.std.specs.Simd.{first_chunks}
@@ -9,7 +10,8 @@ use Rattle.std.proofs.lemmas.Grind.{flat_map-append}
 use Rattle.std.proofs.lemmas.List.{append-nil, drop_at, get_or_append_left, get_or_push, length-drop, length-take, length_push, take_all}
 use Rattle.std.proofs.lemmas.Nat.{div-mul-add}
 use Rattle.age_chunk.specs.ChunkBoxes.{tag_length}
-use Rattle.age_chunk.specs.Payload.{block_bytes, block_length, chunk_count, chunk_length, chunk_limit, chunks, last_chunk, last_index, nonce_bytes, pair, payload, sealed, sealed_before_last}
+use Rattle.age_chunk.specs.Payload.{block_bytes, block_length, chunk_count, chunk_length, chunk_limit, chunks, last_chunk, last_index, nonce_bytes, pair}
+use Rattle.age_chunk.specs.Payload.{payload, sealed, sealed_before_last}
 use Rattle.age_chunk.specs.declared.fault.StreamFault.{StreamFault}
 use Rattle.age_chunk.proofs.FirstChunkLemmas.{get_or-first_chunks, length-first_chunks}
 use Rattle.age_chunk.proofs.NonceLemmas.{nonce_bytes-length}
@@ -29,11 +31,9 @@ use Rattle.age_c.specs.Calls.{answer_of, misused, reader_status}
 use Rattle.age_c.specs.Readers.{Call, IsAt, SameFile, TakesBlock, TakesEnd, after_block}
 use Rattle.age_c.specs.Places.{AreOpenings, IsOpenedRight, Opening, OpensAt, UndamagedOpens, chunk_of}
 use Rattle.age_c.specs.declared.reader.Reader.{Reader}
-use Rattle.age_c.specs.inner.Keys.{key_of_reader as key_of, opens, seals}
-use Rattle.age_c.proofs.AuthenticCallLemmas.{calls_are_written}
-use Rattle.age_c.proofs.CallFaultLemmas.{fault_from, refused_of}
-use Rattle.age_c.proofs.CallLemmas.{taken_next}
-use Rattle.age_c.proofs.ReaderLemmas.{key_same}
+use Rattle.age_c.specs.inner.Readers.{key_of_reader as key_of, opens, seals}
+use Rattle.age_c.proofs.CallLemmas.{calls_are_written, fault_from, refused_of, same_file, taken_next}
+use Rattle.age_c.proofs.ReaderLemmas.{key_same, unchanged}
 
 -- ---- a segment of one whole block
 
@@ -141,145 +141,112 @@ never_misused n answer is misused_is =
 
 -- ---- one opening
 
--- a whole block that gives one text
-whole_gives : (r new : Reader) (chunk answer : ℕ) (block opened text : List ℕ) (status : Status) (index : ℕ)
-    → IsAt r (fresh chunk) → TakesBlock (after_block block) r answer opened new
-    → outcome (opens (key_of r)) chunk_length (record { start = chunk; bytes = block; ended = false; late = false })
-    ≡ record { texts = text ∷ []; index = index; status = status } → ((f : StreamFault) → Some status ≡ Some (Failed f) → ⊥)
-    → (answer ≡ 0) × (opened ≡ text)
-whole_gives r new chunk answer block opened text status index at takes is unfailed =
-    let given : Segment = record { start = chunk; bytes = block; ended = false; late = false } in
-    let after : IsAt new given = takes.at (fresh chunk) at in
-    let key : key_of new ≡ key_of r = key_same r new takes.same in
-    let stands : reader_status new.state new.fault_chunk ≡ Some status =
-    after.status ∙ (ap (λ (k : List ℕ). Some (outcome (opens k) chunk_length given).status) key ∙ ap (λ (o : Outcome). Some o.status) is) in
-    let Texts : Outcome → List ℕ = λ o. flat_map (λ (t : List ℕ). t) o.texts in (
-      answers_zero new.state new.fault_chunk answer status takes.answer_is stands unfailed,
-      ap (λ (o : Outcome). Texts o ++ opened) (sym (fresh_outcome (opens (key_of r)) chunk_length chunk)) ∙ (sym (takes.released (fresh chunk) at)
-          ∙ (ap Texts is ∙ append-nil text)),
-    )
+-- of a reader that is at a chunk and was given nothing
+module _ (r new : Reader) (chunk answer : ℕ) (block opened text : List ℕ) (at : IsAt r (fresh chunk))
+    (few : chunk_count chunk_length text ≤ chunk_limit) (closed : IsClosed (seals (key_of r)) (opens (key_of r)) chunk_length text)
+    (whole : length block ≡ block_length → TakesBlock (after_block block) r answer opened new)
+    (rest : length block ≢ block_length → TakesEnd block r answer opened new) where
+  abbrev k : List ℕ
+  k = key_of r
 
--- what a reader at a chunk did with a block there
-record OpensThere (r new : Reader) (block : List ℕ) (answer : ℕ) (opened : List ℕ) : Type 0 where
-  pub whole : length block ≡ block_length → TakesBlock (after_block block) r answer opened new
-  pub rest : length block ≢ block_length → TakesEnd block r answer opened new
-
-module _ (k text : List ℕ) (few : chunk_count chunk_length text ≤ chunk_limit) (closed : IsClosed (seals k) (opens k) chunk_length text)
-    (r new : Reader) (key : key_of r ≡ k) (chunk answer : ℕ) (block opened : List ℕ) (at : IsAt r (fresh chunk)) where
   abbrev Gives : Type 0
   Gives = (answer ≡ 0) × (opened ≡ chunk_of text chunk)
 
+  -- the block is what its writer sealed the chunk as
+  abbrev IsSealed : Bool → Type 0
+  IsSealed last = block ≡ seals k (nonce_bytes chunk last) (chunk_of text chunk)
+
+  size_by : (last : Bool) → IsSealed last → length block ≡ length (chunk_of text chunk) + tag_length
+  size_by last is = ap length is ∙ (box_valid k).longer (nonce_bytes chunk last) (chunk_of text chunk) (nonce_bytes-length chunk last)
+
+  opened_by : (last : Bool) → IsSealed last → opens k (nonce_bytes chunk last) block ≡ Some (chunk_of text chunk)
+  opened_by last is =
+      ap (opens k (nonce_bytes chunk last)) is ∙ (box_valid k).opens (nonce_bytes chunk last) (chunk_of text chunk) (nonce_bytes-length chunk last)
+
+  -- a whole block that opens as the chunk
+  whole_gives : (status : Status) (index : ℕ) → length block ≡ block_length
+      → outcome (opens k) chunk_length (record { start = chunk; bytes = block; ended = false; late = false })
+      ≡ record { texts = chunk_of text chunk ∷ []; index = index; status = status } → ((f : StreamFault) → Some status ≡ Some (Failed f) → ⊥) → Gives
+  whole_gives status index size is unfailed =
+      let takes = whole size in
+      let given : Segment = record { start = chunk; bytes = block; ended = false; late = false } in
+      let after : IsAt new given = takes.at (fresh chunk) at in
+      let stands : reader_status new.state new.fault_chunk ≡ Some status =
+      after.status ∙ (ap (λ (k : List ℕ). Some (outcome (opens k) chunk_length given).status) (key_same r new takes.same)
+      ∙ ap (λ (o : Outcome). Some o.status) is) in
+      let Texts : Outcome → List ℕ = λ o. flat_map (λ (t : List ℕ). t) o.texts in (
+        answers_zero new.state new.fault_chunk answer status takes.answer_is stands unfailed,
+        ap (λ (o : Outcome). Texts o ++ opened) (sym (fresh_outcome (opens k) chunk_length chunk)) ∙ (sym (takes.released (fresh chunk) at)
+            ∙ (ap Texts is ∙ append-nil (chunk_of text chunk))),
+      )
+
   -- a block before the last
-  gives_before : chunk < last_index chunk_length text → block ≡ seals k (nonce_bytes chunk false) (chunk_of text chunk)
-      → (length block ≡ block_length → TakesBlock (after_block block) r answer opened new) → Gives
-  gives_before lt is whole =
-      let valid = box_valid k in
-      let size : length block ≡ block_length = omega (
-        arith,
-        ap length is,
-        valid.longer (nonce_bytes chunk false) (chunk_of text chunk) (nonce_bytes-length chunk false),
-        full_chunk text chunk lt,
-      ) in
-      let opened_as : opens (key_of r) (nonce_bytes chunk false) block ≡ Some (chunk_of text chunk) =
-      ap (λ (k : List ℕ). opens k (nonce_bytes chunk false) block) key ∙ (ap (opens k (nonce_bytes chunk false)) is
-      ∙ valid.opens (nonce_bytes chunk false) (chunk_of text chunk) (nonce_bytes-length chunk false)) in
-      whole_gives r new chunk answer block opened (chunk_of text chunk) Open (chunk + 1) at (whole size)
-      (opens_before (opens (key_of r)) chunk_length chunk block (chunk_of text chunk) size opened_as (omega (arith, lt, few))) (λ f e. cc)
+  gives_before : chunk < last_index chunk_length text → IsSealed false → Gives
+  gives_before lt is =
+      let size : length block ≡ block_length = omega (arith, size_by false is, full_chunk text chunk lt) in
+      whole_gives Open (chunk + 1) size
+      (opens_before (opens k) chunk_length chunk block (chunk_of text chunk) size (opened_by false is) (omega (arith, lt, few))) (λ f e. cc)
 
-  -- the last block, if it is whole
-  gives_full : chunk ≡ last_index chunk_length text → block ≡ seals k (nonce_bytes chunk true) (chunk_of text chunk)
-      → length (chunk_of text chunk) ≡ chunk_length → (length block ≡ block_length → TakesBlock (after_block block) r answer opened new) → Gives
-  gives_full last is full whole =
-      let valid = box_valid k in
-      let part = last_chunk_is text chunk last in
-      let size : length block ≡ block_length = omega (
-        arith,
-        ap length is,
-        valid.longer (nonce_bytes chunk true) (chunk_of text chunk) (nonce_bytes-length chunk true),
-        full,
-      ) in
-      let as_written : block ≡ seals k (nonce_bytes (last_index chunk_length text) true) (last_chunk chunk_length text) =
+  -- ---- the last block
+
+  as_written : chunk ≡ last_index chunk_length text → IsSealed true
+      → block ≡ seals k (nonce_bytes (last_index chunk_length text) true) (last_chunk chunk_length text)
+  as_written last is =
       is ∙ (ap (λ (j : ℕ). seals k (nonce_bytes j true) (chunk_of text chunk)) last
-      ∙ ap (seals k (nonce_bytes (last_index chunk_length text) true)) part) in
-      let shut : opens (key_of r) (nonce_bytes chunk false) block ≡ None =
-      ap (λ (k : List ℕ). opens k (nonce_bytes chunk false) block) key ∙ (ap (λ (j : ℕ). opens k (nonce_bytes j false) block) last
-      ∙ (ap (opens k (nonce_bytes (last_index chunk_length text) false)) as_written ∙ closed (sym (ap length part) ∙ full))) in
-      let opened_as : opens (key_of r) (nonce_bytes chunk true) block ≡ Some (chunk_of text chunk) =
-      ap (λ (k : List ℕ). opens k (nonce_bytes chunk true) block) key ∙ (ap (opens k (nonce_bytes chunk true)) is
-      ∙ valid.opens (nonce_bytes chunk true) (chunk_of text chunk) (nonce_bytes-length chunk true)) in
-      whole_gives r new chunk answer block opened (chunk_of text chunk) LastSeen chunk at (whole size)
-      (opens_last (opens (key_of r)) chunk_length chunk block (chunk_of text chunk) size shut opened_as) (λ f e. cc)
+      ∙ ap (seals k (nonce_bytes (last_index chunk_length text) true)) (last_chunk_is text chunk last))
 
-  -- the last block, if it is shorter
-  gives_short : chunk ≡ last_index chunk_length text → block ≡ seals k (nonce_bytes chunk true) (chunk_of text chunk)
-      → length (chunk_of text chunk) < chunk_length → (length block ≢ block_length → TakesEnd block r answer opened new) → Gives
-  gives_short last is short rest =
-      let valid = box_valid k in
-      let part = last_chunk_is text chunk last in
-      let size : length block ≢ block_length = λ e. omega (
-        arith,
-        e,
-        ap length is,
-        valid.longer (nonce_bytes chunk true) (chunk_of text chunk) (nonce_bytes-length chunk true),
-        short,
-      ) in
-      let ends = rest size in
+  -- if it is whole
+  gives_full : chunk ≡ last_index chunk_length text → IsSealed true → length (chunk_of text chunk) ≡ chunk_length → Gives
+  gives_full last is full =
+      let size : length block ≡ block_length = omega (arith, size_by true is, full) in
+      let shut : opens k (nonce_bytes chunk false) block ≡ None =
+      ap (λ (j : ℕ). opens k (nonce_bytes j false) block) last ∙ (ap (opens k (nonce_bytes (last_index chunk_length text) false)) (as_written last is)
+      ∙ closed (sym (ap length (last_chunk_is text chunk last)) ∙ full)) in
+      whole_gives LastSeen chunk size
+      (opens_last (opens k) chunk_length chunk block (chunk_of text chunk) size shut (opened_by true is)) (λ f e. cc)
+
+  -- if it is shorter
+  gives_short : chunk ≡ last_index chunk_length text → IsSealed true → length (chunk_of text chunk) < chunk_length → Gives
+  gives_short last is short =
+      let ends = rest (λ e. omega (arith, e, size_by true is, short)) in
       let other : answer ≢ misused = never_misused new.state answer ends.takes.answer_is in
       let call : Call = record { is_end = true; bytes = block; answer = answer; text = opened; after = new } in
-      let as_written : block ≡ seals k (nonce_bytes (last_index chunk_length text) true) (last_chunk chunk_length text) =
-      is ∙ (ap (λ (j : ℕ). seals k (nonce_bytes j true) (chunk_of text chunk)) last
-      ∙ ap (seals k (nonce_bytes (last_index chunk_length text) true)) part) in
-      let there : block ≡ drop (chunk * block_length) (payload (seals (key_of r)) chunk_length text) =
-      payload_end k text block as_written ∙ (ap (λ (j : ℕ). drop (j * block_length) (payload (seals k) chunk_length text)) (sym last)
-      ∙ ap (λ (k : List ℕ). drop (chunk * block_length) (payload (seals k) chunk_length text)) (sym key)) in
+      let there : block ≡ drop (chunk * block_length) (payload (seals k) chunk_length text) =
+      payload_end k text block (as_written last is) ∙ ap (λ (j : ℕ). drop (j * block_length) (payload (seals k) chunk_length text)) (sym last) in
       let right = calls_are_written r chunk at (omega (arith, last, few)) (call ∷ [])
       (inr (other, ends.takes, λ _ zero. ends.done zero), tt) text few in
-      let closed_here : IsClosed (seals (key_of r)) (opens (key_of r)) chunk_length text =
-      subst (λ (k : List ℕ). IsClosed (seals k) (opens k) chunk_length text) (sym key) closed in
-      let gives = right.whole closed_here (omega (arith, last)) (taken_next call (fresh chunk) other
+      let gives = right.whole closed (omega (arith, last)) (taken_next call (fresh chunk) other
       ∙ ap (λ (b : List ℕ). record { start = chunk; bytes = b; ended = true; late = false }) there) in (
         gives.1.0 other,
-        sym (append-nil opened) ∙ (gives.0 ∙ (ap (λ (j : ℕ). drop (j * chunk_length) text) last ∙ sym part)),
+        sym (append-nil opened)
+            ∙ (gives.0 ∙ (ap (λ (j : ℕ). drop (j * chunk_length) text) last ∙ sym (last_chunk_is text chunk last))),
       )
 
   -- any block
-  gives : chunk < chunk_count chunk_length text → OpensThere r new block answer opened
-      → block ≡ (get_or (sealed (seals k) chunk_length text) chunk ([], [])).1 → Gives
-  gives below it is =
+  gives : chunk < chunk_count chunk_length text → block ≡ (get_or (sealed (seals k) chunk_length text) chunk ([], [])).1 → Gives
+  gives below is =
       let count = chunks_size text chunk in
       let sealed_is = ap (λ (p : List ℕ × List ℕ). p.1) (sealed_at (seals k) chunk_length text chunk (omega (arith, count, below))) in
-      let flagged : (last : Bool) → (chunk + 1 == length (chunks chunk_length text)) ≡ last
-      → block ≡ seals k (nonce_bytes chunk last) (chunk_of text chunk) =
+      let flagged : (last : Bool) → (chunk + 1 == length (chunks chunk_length text)) ≡ last → IsSealed last =
       λ last e. is ∙ (sealed_is ∙ ap (λ (b : Bool). seals k (nonce_bytes chunk b) (chunk_of text chunk)) e) in
       elim (cases_lt chunk (last_index chunk_length text)) [
-        | inl lt ↦ gives_before lt
-            (flagged false (ne_eqb (chunk + 1) (length (chunks chunk_length text)) (λ e. omega (arith, lt, e, count)))) it.whole
+        | inl lt ↦ gives_before lt (flagged false (ne_eqb (chunk + 1) (length (chunks chunk_length text)) (λ e. omega (arith, lt, e, count))))
         | inr le ↦
             (let last : chunk ≡ last_index chunk_length text = omega (arith, le, below) in
             let as_last = flagged true (eq-eqb (chunk + 1) (length (chunks chunk_length text)) (omega (arith, last, count))) in
-            let most : length (chunk_of text chunk) ≤ chunk_length = omega (
-              arith,
-              ap length (last_chunk_is text chunk last),
-              last_chunk_le chunk_length text (omega arith),
-            ) in
+            let most : length (chunk_of text chunk) ≤ chunk_length =
+            omega (arith, ap length (last_chunk_is text chunk last), last_chunk_le chunk_length text (omega arith)) in
             elim (cases_lt (length (chunk_of text chunk)) chunk_length) [
-              | inl short ↦ gives_short last as_last short it.rest
-              | inr full ↦ gives_full last as_last (omega (arith, full, most)) it.whole
+              | inl short ↦ gives_short last as_last short
+              | inr full ↦ gives_full last as_last (omega (arith, full, most))
             ])
       ]
 
 -- ---- a list of openings
 
-same_through : (a b c : Reader) → SameFile a b → SameFile b c → SameFile a c
-same_through a b c x y = record {
-  file_key = y.file_key ∙ x.file_key;
-  nonce = y.nonce ∙ x.nonce;
-  payload_at = y.payload_at ∙ x.payload_at;
-}
-
 after_opening : (chunk answer : ℕ) (block text : List ℕ) (old new : Reader) → OpensAt chunk block old answer text new → SameFile old new
 after_opening chunk answer block text old new it =
-    same_through old it.begun new it.goes.same (elim (eqb_tells (length block) block_length) [
+    same_file old it.begun new it.goes.same (elim (eqb_tells (length block) block_length) [
       | inl is ↦ (it.whole is.1).same
       | inr is ↦ (it.rest is.1).takes.same
     ])
@@ -293,13 +260,14 @@ openings_from first r (o ∷ openings) same (inl idle, are) text few closed = (
   openings_from first o.after openings (subst (SameFile first) (sym idle.1) same) are text few closed,
 )
 openings_from first r (o ∷ openings) same (inr it, are) text few closed =
-    let key : key_of it.begun ≡ key_of first = key_same r it.begun it.goes.same ∙ key_same first r same in (
-      λ _ below is. gives (key_of first) text few closed it.begun o.after key o.chunk o.answer o.block o.text it.goes.at below
-          (record { whole = it.whole; rest = it.rest }) is,
+    let key : key_of first ≡ key_of it.begun = sym (key_same r it.begun it.goes.same ∙ key_same first r same) in (
+      λ _ below is. gives it.begun o.after o.chunk o.answer o.block o.text text it.goes.at few
+          (subst (λ (k : List ℕ). IsClosed (seals k) (opens k) chunk_length text) key closed) it.whole it.rest below
+          (subst (λ (k : List ℕ). o.block ≡ (get_or (sealed (seals k) chunk_length text) o.chunk ([], [])).1) key is),
       openings_from first o.after openings
-          (same_through first r o.after same (after_opening o.chunk o.answer o.block o.text r o.after it)) are text few closed,
+          (same_file first r o.after same (after_opening o.chunk o.answer o.block o.text r o.after it)) are text few closed,
     )
 
 pub undamaged_opens : UndamagedOpens
 undamaged_opens r openings are text few closed =
-    openings_from r r openings (record { file_key = refl; nonce = refl; payload_at = refl }) are text few closed
+    openings_from r r openings (unchanged r) are text few closed

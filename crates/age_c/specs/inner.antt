@@ -1,6 +1,2 @@
-pub mod Blocks
-pub mod Holding
-pub mod Counts
-pub mod Keys
-pub mod Sealing
-pub mod StanzaPlaces
+pub mod Readers
+pub mod Writers

@@ -6,8 +6,7 @@ ghost use Rattle.age_stream.specs.Segment.{with_piece, with_end};
 ghost use Rattle.age_stream.specs.Opener.{chunk_bytes, has_failed};
 ghost use Rattle.age_c.specs.Calls.{PutsFront, answer_of, reader_status};
 ghost use Rattle.age_c.specs.Readers.{IsBlockCall, IsEndCall, TakesBlock, TakesEnd, after_block, CanBeUsed};
-ghost use Rattle.age_c.specs.inner.Blocks.{Keeps, PassesOn};
-ghost use Rattle.age_c.specs.inner.Keys.{key_of_reader};
+ghost use Rattle.age_c.specs.inner.Readers.{Keeps, PassesOn, key_of_reader};
 ghost use Rattle.age_chunk.specs.Payload.{chunk_length, block_length};
 ghost use Rattle.age_chunk.specs.ChunkBoxes.{tag_length};
 

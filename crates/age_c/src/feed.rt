@@ -5,7 +5,7 @@ ghost use Rattle.age_chunk.specs.Payload.{chunk_length, block_length};
 ghost use Rattle.age_c.specs.Calls.{Answers, PutsFront, answer_of, misused, reader_status};
 ghost use Rattle.age_c.specs.Readers.{CanBeUsed};
 ghost use Rattle.age_c.specs.Streams.{FeedsStream, FinishesStream, IsStreamCall};
-ghost use Rattle.age_c.specs.inner.Holding.{HoldsPiece};
+ghost use Rattle.age_c.specs.inner.Readers.{HoldsPiece};
 
 use crate::MISUSED;
 use crate::blocks::{open_block, open_last, refuse_more, status_at};

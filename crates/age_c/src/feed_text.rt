@@ -5,7 +5,7 @@ ghost use Rattle.age_chunk.specs.Payload.{block_length, chunk_length, chunk_limi
 ghost use Rattle.age_c.specs.Calls.{Answers, PutsFront};
 ghost use Rattle.age_c.specs.Writers.{CanSeal, WritesOrRefuses, FeedsText, FinishesText, IsTextCall};
 ghost use Rattle.age_c.specs.Writers.{RefusesText};
-ghost use Rattle.age_c.specs.inner.Holding.{HoldsText};
+ghost use Rattle.age_c.specs.inner.Writers.{HoldsText};
 
 use crate::MISUSED;
 use crate::seal::{TOO_MANY_CHUNKS, can_be_used};

@@ -12,6 +12,7 @@ ghost use Rattle.age_c.specs.Streams.{PiecesReadBack, TextsAreFiles};
 /// text from that chunk on, and all of it if the last call is an end that answered 0; then the
 /// chunk begins within the text, so that its length is known. An undamaged payload gives all of it,
 /// and 0 each time.
+#[tactic(auto, using(crate::proofs::CallLemmas::calls_are_written))]
 pub fn calls_are_written()
     ensures { CallsAreWritten }
 {}
@@ -20,12 +21,14 @@ pub fn calls_are_written()
 /// any calls of [`age_c_block`](crate::age_c_block), [`age_c_end`](crate::age_c_end) and
 /// [`age_c_seek`](crate::age_c_seek) on one reader. Each text that was written stands in the
 /// writer's text at its place.
+#[tactic(auto, using(crate::proofs::CallLemmas::parts_are_written))]
 pub fn parts_are_written()
     ensures { PartsAreWritten }
 {}
 
 /// What [`age_c_block`](crate::age_c_block) and [`age_c_end`](crate::age_c_end) promise makes each
 /// use of them one of the calls that [`calls_are_written`] speaks of.
+#[tactic(auto, using(crate::proofs::CallLemmas::answers_are_calls))]
 pub fn answers_are_calls()
     ensures { AnswersAreCalls }
 {}
@@ -33,6 +36,7 @@ pub fn answers_are_calls()
 /// What [`age_c_open_at`](crate::age_c_open_at) promises makes each use of it one of the seeks and
 /// calls that [`parts_are_written`] speaks of: what it writes stands in the writer's text at the
 /// chunk's place.
+#[tactic(auto, using(crate::proofs::CallLemmas::openings_are_parts))]
 pub fn openings_are_parts()
     ensures { OpeningsAreParts }
 {}
@@ -41,6 +45,7 @@ pub fn openings_are_parts()
 /// of [`age_c_open_at`](crate::age_c_open_at) on one reader, each chunk whose block was given as the
 /// writer sealed it, at its place, was opened and written. So the chunks that didn't open are just
 /// those that were damaged.
+#[tactic(auto, using(crate::proofs::UndamagedOpeningLemmas::undamaged_opens))]
 pub fn undamaged_opens()
     ensures { UndamagedOpens }
 {}
@@ -48,6 +53,7 @@ pub fn undamaged_opens()
 /// The headline for a caller whose pieces have any length: what [`calls_are_written`] says of blocks
 /// and their end holds after any calls of [`age_c_feed`](crate::age_c_feed) and
 /// [`age_c_finish`](crate::age_c_finish), of the bytes that they took.
+#[tactic(auto, using(crate::proofs::StreamLemmas::feeds_are_written))]
 pub fn feeds_are_written()
     ensures { FeedsAreWritten }
 {}
@@ -76,6 +82,7 @@ pub fn answers_are_feed_calls()
 /// What [`age_c_feed_text`](crate::age_c_feed_text) and
 /// [`age_c_finish_text`](crate::age_c_finish_text) promise makes each use of them one of the calls
 /// that [`texts_are_files`] and [`pieces_read_back`] speak of.
+#[tactic(auto, using(crate::proofs::WriterLemmas::answers_are_text_calls))]
 pub fn answers_are_text_calls()
     ensures { AnswersAreTextCalls }
 {}

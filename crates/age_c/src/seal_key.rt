@@ -4,7 +4,7 @@ ghost use Rattle.std.specs.Prelude.{◌≡◌, ◌≤◌, ◌+◌, length, take,
 ghost use Rattle.age_keys.specs.Keys.{IsScryptNotAlone};
 ghost use Rattle.age_c.specs.Calls.{Answers};
 ghost use Rattle.age_c.specs.Writers.{BeginsFileWith, HasLines, IsKeyCall, RefusesLines, WritesOrRefuses};
-ghost use Rattle.age_c.specs.inner.Sealing.{HasKeyFront, zero_text};
+ghost use Rattle.age_c.specs.inner.Writers.{HasKeyFront, zero_text};
 
 use crate::MISUSED;
 use crate::blocks::put;

@@ -8,8 +8,7 @@ ghost use Rattle.age_keys.specs.Scrypt.{IsAllowed, scrypt_head};
 ghost use Rattle.age_c.specs.Readers.{start_fault_number};
 ghost use Rattle.age_c.specs.Calls.{PutsFront};
 ghost use Rattle.age_c.specs.Writers.{IsFileFront};
-ghost use Rattle.age_c.specs.inner.Sealing.{IsChunkCall, IsLastCall, SealsChunk, SealsLast};
-ghost use Rattle.age_c.specs.inner.Keys.{key_of_writer};
+ghost use Rattle.age_c.specs.inner.Writers.{IsChunkCall, IsLastCall, SealsChunk, SealsLast, key_of_writer};
 ghost use Rattle.age_chunk.specs.ChunkBoxes.{tag_length};
 
 use crate::start::StartFault;

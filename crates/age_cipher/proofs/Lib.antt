@@ -1,12 +1,3 @@
-pub mod ProductLemmas
-pub mod PolynomialLemmas
-pub mod BlockLemmas
-pub mod SumLemmas
-pub mod ByteLemmas
-pub mod WordLemmas
-pub mod PlaceLemmas
-pub mod LaneLemmas
+pub mod Poly1305Lemmas
 pub mod KeystreamLemmas
 pub mod SealingLemmas
-pub mod AeadLemmas
-pub mod StandardLemmas

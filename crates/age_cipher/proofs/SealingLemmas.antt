@@ -1,17 +1,22 @@
--- What the crates above may use of ciphertexts, sealings and openings.
+-- Ciphertexts, tags, sealings and openings; the crates above use some of it.
 use Rattle.std.proofs.Common.{◌≡◌, ℕ, ◌+◌, ◌-◌, ◌<◌, List, ◌++◌, length, take, drop, get_or, slice_index, bit_xor, refl, sym, ap, ◌∙◌, arith, length-append}
-use Rattle.std.proofs.Common.{Bool, true, false}
-use Rattle.std.specs.Prelude.{Option, Some, None, cond, IsTrue, ◌↔◌}
+use Rattle.std.proofs.Common.{Bool, true, false, [], ◌∷◌, ap₂, bit_or}
 use Rattle.std.specs.Bool.{OnTrue, OnFalse}
+use Rattle.std.specs.Int.{w64, to_le_bytes}
+use Rattle.std.specs.Int.Bits.{xor_assoc, xor_self, xor_zero_r, xor_add_and}
+use Rattle.std.specs.List.{concat}
+use Rattle.std.specs.Prelude.{Option, Some, None, cond, IsTrue, ◌↔◌}
 use Rattle.std.specs.Str.{bytes_eq}
-use Rattle.std.specs.Int.Bits.{xor_assoc, xor_self, xor_zero_r}
-use Rattle.std.proofs.lemmas.Slice.Eq.{bytes_eq-Decides}
-use Rattle.std.proofs.lemmas.List.{take_at, drop_at, ext_get_or}
+use Rattle.std.proofs.lemmas.List.{take_at, drop_at, ext_get_or, take-append-drop}
 use Rattle.std.proofs.lemmas.List.FromFn.{length-map-range_with_len, get_or-map-range_with_len}
+use Rattle.std.proofs.lemmas.Nat.{le_or_l, le_or_r, and_le_l, and_le_r}
 use Rattle.std.proofs.lemmas.Option.{cond_some}
+use Rattle.std.proofs.lemmas.Slice.Eq.{bytes_eq-Decides}
+use Rattle.age_cipher.specs.Aead.{tag, sealing, IsSealing, opening, one_time_key, padding, mac_data}
 use Rattle.age_cipher.specs.Keystream.{keystream_byte, ciphertext}
 use Rattle.age_cipher.specs.Poly1305.{poly1305}
-use Rattle.age_cipher.specs.Aead.{tag, sealing, IsSealing, opening}
+
+-- ---- what the crates above may use of ciphertexts, sealings and openings
 
 pub length-ciphertext : (key nonce : List ℕ) (counter : ℕ) (text : List ℕ) → length (ciphertext key nonce counter text) ≡ length text
 unfolding ciphertext
@@ -28,12 +33,10 @@ pub twice : (key nonce : List ℕ) (counter : ℕ) (text : List ℕ) → ciphert
 twice key nonce counter text =
     let c : List ℕ = ciphertext key nonce counter text in
     let len : length c ≡ length text = length-ciphertext key nonce counter text in
-    ext_get_or 0 (ciphertext key nonce counter c) text (length-ciphertext key nonce counter c ∙ len)
-    (λ j h.
+    ext_get_or 0 (ciphertext key nonce counter c) text (length-ciphertext key nonce counter c ∙ len) (λ j h.
     let in_c : j < length c = omega (arith, length-ciphertext key nonce counter c) in
     let k : ℕ = keystream_byte key nonce counter j in
-    get_or-ciphertext key nonce counter c j in_c
-    ∙ ap (λ x. bit_xor x k) (get_or-ciphertext key nonce counter text j (omega arith))
+    get_or-ciphertext key nonce counter c j in_c ∙ ap (λ x. bit_xor x k) (get_or-ciphertext key nonce counter text j (omega arith))
     ∙ xor_assoc (get_or text j 0) k k ∙ ap (bit_xor (get_or text j 0)) (xor_self k) ∙ xor_zero_r (get_or text j 0))
 
 pub length-tag : (key nonce aad cipher : List ℕ) → length (tag key nonce aad cipher) ≡ 16
@@ -72,9 +75,7 @@ deciphered_front key nonce aad text = ap (ciphertext key nonce 1) (front_of_seal
 -- a block is the sealing of one text at most
 pub one_text : (key nonce aad text other : List ℕ) → sealing key nonce aad text ≡ sealing key nonce aad other → text ≡ other
 one_text key nonce aad text other e =
-    sym (deciphered_front key nonce aad text)
-    ∙ ap (λ b. ciphertext key nonce 1 (take (length b - 16) b)) e
-    ∙ deciphered_front key nonce aad other
+    sym (deciphered_front key nonce aad text) ∙ ap (λ b. ciphertext key nonce 1 (take (length b - 16) b)) e ∙ deciphered_front key nonce aad other
 
 -- ---- openings
 
@@ -116,3 +117,63 @@ opening_where_false true key nonce aad block e = tt
 opening_where_false false key nonce aad block e =
     none_of (opening key nonce aad block)
     (λ text is. let bad : IsTrue false = e.1 (text, sealing_of_opening key nonce aad block text is) in not_true bad)
+
+-- ---- the tag of a block, and the comparison of a block's end with it
+
+pub tag_is : (key nonce aad cipher one az cz al cl : List ℕ) → one ≡ one_time_key key nonce → az ≡ padding aad → cz ≡ padding cipher
+    → al ≡ to_le_bytes w64 (length aad) → cl ≡ to_le_bytes w64 (length cipher)
+    → poly1305 one (concat (aad ∷ az ∷ cipher ∷ cz ∷ al ∷ cl ∷ [])) ≡ tag key nonce aad cipher
+unfolding tag mac_data
+tag_is key nonce aad cipher one az cz al cl o a c la lc =
+    ap₂ poly1305 o (ap concat (ap₂ (λ x y. aad ∷ x ∷ cipher ∷ y) a (ap₂ (λ u xs. u ∷ xs) c (ap₂ (λ u v. u ∷ v ∷ []) la lc))))
+
+-- a sealing's end is the tag of its front
+pub end_is_tag : (key nonce aad text block : List ℕ) → block ≡ sealing key nonce aad text
+    → drop (length block - 16) block ≡ tag key nonce aad (take (length block - 16) block)
+end_is_tag key nonce aad text block e =
+    ap (λ b. drop (length b - 16) b) e ∙ end_of_sealing key nonce aad text
+    ∙ ap (tag key nonce aad) (sym (ap (λ b. take (length b - 16) b) e ∙ front_of_sealing key nonce aad text))
+
+-- and if it is, the block is the sealing of what the front deciphers to
+pub sealed_by_tag : (key nonce aad block : List ℕ) (n : ℕ) → drop n block ≡ tag key nonce aad (take n block)
+    → block ≡ sealing key nonce aad (ciphertext key nonce 1 (take n block))
+unfolding sealing
+sealed_by_tag key nonce aad block n e =
+    sym (take-append-drop n block) ∙ ap₂ ◌++◌ (sym (twice key nonce 1 (take n block)))
+    (e ∙ ap (tag key nonce aad) (sym (twice key nonce 1 (take n block))))
+
+-- ---- the comparison of a block's end with a tag
+
+-- the clauses of an opening
+pub opens_if : (key nonce aad block : List ℕ) (n : ℕ) (t e : List ℕ) → t ≡ e → t ≡ tag key nonce aad (take n block) → e ≡ drop n block
+    → block ≡ sealing key nonce aad (ciphertext key nonce 1 (take n block))
+opens_if key nonce aad block n t e same tags ends = sealed_by_tag key nonce aad block n (sym ends ∙ sym same ∙ tags)
+
+opens_of : (key nonce aad block : List ℕ) (t e : List ℕ) → t ≡ tag key nonce aad (take (length block - 16) block) → e ≡ drop (length block - 16) block
+    → IsSealing key nonce aad block → t ≡ e
+opens_of key nonce aad block t e tags ends w = sym (ends ∙ end_is_tag key nonce aad w.0 block w.1 ∙ sym tags)
+
+-- a test of the tag tells whether the block is a sealing
+pub opens_exactly : (same : Bool) (key nonce aad block front t e : List ℕ) → (IsTrue same ↔ (t ≡ e)) → t ≡ tag key nonce aad front
+    → front ≡ take (length block - 16) block → e ≡ drop (length block - 16) block → IsTrue same ↔ IsSealing key nonce aad block
+opens_exactly same key nonce aad block front t e tested tags front_is end_is =
+    let n : ℕ = length block - 16 in
+    let tagged : t ≡ tag key nonce aad (take n block) = tags ∙ ap (tag key nonce aad) front_is in (
+      λ h. (ciphertext key nonce 1 (take n block), opens_if key nonce aad block n t e (tested.0 h) tagged end_is),
+      λ w. tested.1 (opens_of key nonce aad block t e tagged end_is w),
+    )
+
+-- ---- differences, gathered by or
+
+both_zero : (a b : ℕ) → bit_or a b ≡ 0 → (a ≡ 0) × (b ≡ 0)
+both_zero a b e = (omega (arith, le_or_l a b), omega (arith, le_or_r a b))
+
+no_difference : (a b : ℕ) → bit_xor a b ≡ 0 → a ≡ b
+no_difference a b e = omega (arith, xor_add_and a b, and_le_l a b, and_le_r a b)
+
+pub still_same : (d a b : ℕ) → bit_or d (bit_xor a b) ≡ 0 → (d ≡ 0) × (a ≡ b)
+still_same d a b e =
+    let each = both_zero d (bit_xor a b) e in (each.0, no_difference a b each.1)
+
+pub still_none : (d a b : ℕ) → d ≡ 0 → a ≡ b → bit_or d (bit_xor a b) ≡ 0
+still_none d a b e f = rw (e, f, xor_self) refl

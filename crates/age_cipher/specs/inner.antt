@@ -1,4 +1,3 @@
 pub mod Absorbing
 pub mod Limbs
 pub mod Places
-pub mod Sums

@@ -24,6 +24,7 @@ fn padding(bytes: &[u8]) -> &'static [u8]
 }
 
 /// The one-time key of Poly1305 (RFC 8439, 2.6).
+#[tactic(auto, unfolding(crate::specs::Aead::one_time_key))]
 fn one_time_key(key: &[u8; 32], nonce: &[u8; 12]) -> [u8; 32]
     ensures { result ≡ one_time_key key.now nonce.now }
 {

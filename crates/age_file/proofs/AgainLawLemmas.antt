@@ -1,27 +1,284 @@
--- A position that is found by reading again is the run's.
-use Rattle.std.proofs.Common.{◌≡◌, ℕ, ◌/◌, ◌<◌, min, List, [], ◌++◌, length, Option, Some, None}
-use Rattle.std.proofs.Common.{refl, sym, ap, subst, ◌∙◌, arith, append_assoc, true, false, ◌*◌}
-use Rattle.std.proofs.lemmas.List.{length-append}
-use Rattle.age_io.specs.Supply.{Supply}
-use Rattle.age_chunk.specs.Payload.{block_length, chunk_limit, chunk_length}
+-- A stop in the payload, found by reading the file once more.
+use Rattle.std.proofs.Common.{◌≡◌, ℕ, ◌*◌, List, [], ◌++◌, length, Option, Some, None, refl, sym, ap, subst, ◌∙◌, arith, true, false, ◌+◌, ◌/◌, ◌<◌, ◌≤◌, min}
+use Rattle.std.proofs.Common.{◌∷◌, take, Bool, inl, inr, append-nil, append_assoc}
+use Rattle.std.specs.Prelude.{Result, Ok, Err, IfErr, IfSome, ◌⊎◌}
+use Rattle.std.specs.Simd.{first_chunks}
+use Rattle.age_io.specs.Io.{SourceView, SinkView}
+use Rattle.age_io.specs.Taken.{Appends}
 use Rattle.age_stanza.specs.declared.header.Header.{Header}
-use Rattle.age_stanza.specs.Laws.{OneHeader}
+use Rattle.age_chunk.specs.Payload.{block_length, chunk_length, chunk_limit}
+use Rattle.age_keys.specs.Keys.{payload_key, box, unbox}
+use Rattle.age_fault.specs.declared.fault.FileFault.{FileFault}
+use Rattle.age_file.specs.Runs.{ports, Run, IsRun, IsPositionOf, GivesPosition, held, Ports, Reads, run_text, segment_of, run_outcome}
+use Rattle.age_file.specs.Again.{first_of, IsTextBefore, IsFoundAgain, ReadAgain, RestReadAgain}
+use Rattle.age_file.specs.declared.decryption.Done.{Done}
+use Rattle.age_file.specs.declared.decryption.Stopped.{Stopped}
+use Rattle.age_file.specs.declared.position.Position.{Position}
+use Rattle.age_file.specs.declared.position.PositionPolicy.TheVariants.{Kept, Dropped}
+use Rattle.age_file.specs.declared.start.Unlocked.{Unlocked}
+use Rattle.age_file.specs.declared.tally.Tally.{Tally}
+use Rattle.age_file.specs.inner.Parts.{chain_if}
+use Rattle.age_file.specs.inner.Copies.{Passes, StartsAt}
+use Rattle.age_file.specs.inner.Decrypts.{opens, OpensPayload, EndsAs}
+use Rattle.age_file.specs.inner.Payloads.{HasPlace, DecryptsPayload, segment}
+use Rattle.age_file.specs.inner.Readers.{start_at, Pulled, ReaderView, Stage, stage, writer_view}
+use Rattle.age_file.proofs.RunLemmas.{place_at, BeginsAt, run, is_run, given}
+use Rattle.std.specs.List.{flat_map}
+use Rattle.std.proofs.lemmas.Grind.{flat_map-append}
+use Rattle.std.proofs.lemmas.List.{length-append, length-take}
+use Rattle.std.proofs.lemmas.Bool.{cases_lt}
+use Rattle.std.proofs.Math.Nat.{le-div_iff_mul-le}
+use Rattle.age_chunk.specs.ChunkBoxes.{IsChunkBox}
 use Rattle.age_stream.specs.Headline.{IsPrefixOf}
-use Rattle.age_stream.specs.Segment.{Segment, outcome, released}
-use Rattle.age_io.specs.Io.{SourceView}
+use Rattle.age_stream.specs.Segment.{Segment, Outcome, outcome, released, with_piece, with_end}
+use Rattle.age_stream.specs.declared.step.Status.{Status}
+use Rattle.age_stream.specs.declared.step.Status.TheVariants.{Open}
+use Rattle.age_stream.proofs.GoingLemmas.{going, going_outcome}
+use Rattle.age_stream.proofs.GrowingLemmas.{stands_at}
+use Rattle.age_stream.proofs.LawLemmas.{chunks_are_counted, closed_stays, end_closes, released_grows}
+use Rattle.age_file.proofs.ReadLemmas.{prefix_trans, same_front, longer, left_of, none_left, regroup}
+use Rattle.age_io.specs.Supply.{Supply}
+use Rattle.age_stanza.specs.Laws.{OneHeader}
 use Rattle.age_keys.specs.declared.fault.KeyFault.{KeyFault}
 use Rattle.age_file.specs.Decrypts.{DecryptStops}
 use Rattle.age_file.specs.Resumes.{ResumePorts, ResumeStops}
-use Rattle.age_file.specs.Again.{first_of, IsFoundAgain, ReadAgain, RestReadAgain}
-use Rattle.age_file.specs.declared.decryption.Stopped.{Stopped}
-use Rattle.age_file.specs.declared.position.PositionPolicy.TheVariants.{Kept, Dropped}
-use Rattle.age_keys.specs.Keys.{payload_key, box, unbox}
 use Rattle.age_keys.specs.inner.PayloadBox.{box_valid}
 use Rattle.age_file.specs.Bindings.{chain_over}
-use Rattle.age_file.specs.Runs.{Ports, Run, IsRun, IsPositionOf, Reads, held, run_text, segment_of, run_outcome}
-use Rattle.age_file.specs.declared.position.Position.{Position}
-use Rattle.age_file.proofs.ByteLemmas.{left_of, none_left, same_front, regroup}
-use Rattle.age_file.proofs.AgainRunLemmas.{stand_alike}
+
+-- ---- From what was read again, skipped and decrypted to the position of its run.
+
+-- how long the text before the chunk is
+pub size_before : (from : Option Position) (copied : List ℕ) → IsTextBefore from copied → length copied ≡ first_of from * chunk_length
+size_before None copied is = omega (arith, ap length is)
+size_before (Some p) copied is = is.size
+
+-- a sink that took these bytes
+abbrev that_took : List ℕ → SinkView
+that_took bytes = record {
+  taken = record { bytes = bytes; contents = None };
+  failed = 0;
+  failing = false;
+  label = [];
+  settled = true;
+}
+
+found_by : (Allows : Header → List ℕ → Type 0) (from : Option Position) (copied : List ℕ)
+    (old new : SourceView) (r : Run) (written : ℕ) (position : Option Position) → r.first ≡ first_of from → r.copied ≡ copied
+    → IsRun Allows (ports old (that_took [])) (ports new (that_took (held r))) written r → GivesPosition Kept (IsPositionOf r) position
+    → IfSome position (IsFoundAgain Allows from copied old new written)
+found_by Allows from copied old new r written None first_is copied_is is here = absurd here
+found_by Allows from copied old new r written (Some p) first_is copied_is is here = record {
+  run = r;
+  first_is = first_is;
+  copied_is = copied_is;
+  before = that_took [];
+  after = that_took (held r);
+  is = is;
+  here = here;
+}
+
+-- the file was started, and the blocks before the chunk were passed over
+module _ {Allows : Header → List ℕ → Type 0} (from : Option Position) {a : SourceView} {unlocked : Unlocked} {s1 m : ReaderView}
+    (s : StartsAt Allows a s1 unlocked) {passed : List ℕ} (passes : Passes s1 m passed) (size : length passed ≡ first_of from * block_length)
+    (sink : SinkView) (t : Tally) (written : t.written ≡ first_of from * chunk_length) (index : t.index ≡ first_of from) where
+  abbrev head : List ℕ
+  head = s.front ++ unlocked.nonce
+
+  abbrev old : Stage
+  old = stage m (writer_view sink t)
+
+  after_blocks : Pulled (start_at a.supply) m.source.supply m.unread.pulls (head ++ (passed ++ m.unread.bytes))
+  after_blocks = passes.uses (start_at a.supply) head s.pulled
+
+  -- there is room for what is after them
+  pub place_after : HasPlace old
+  place_after = place_at head passed old t.index t.within (omega (arith, written, index)) after_blocks
+
+  module _ (copied : List ℕ) (before : IsTextBefore from copied)
+      (chained : t.chain ≡ chain_if Kept (first_chunks chunk_length (first_of from) copied)) (s2 : Stage) where
+    begins : BeginsAt Kept (start_at a.supply) head old t.index copied passed
+    begins = record {
+      limit = t.within;
+      copied_size = omega (arith, size_before from copied before, index);
+      skipped_size = omega (arith, size, index);
+      pulled = after_blocks;
+      written = omega (arith, written, size_before from copied before);
+      index = refl;
+      chain_is = chained ∙ ap (λ (k : ℕ). chain_if Kept (first_chunks chunk_length k copied)) (sym index);
+    }
+
+    abbrev Found : Result Done Stopped → Type 0
+    Found result = IfErr result (λ stopped. IfSome stopped.position (IsFoundAgain Allows from copied a s2.reader.source stopped.written))
+
+    -- the position of a stop
+    pub found_again : (result : Result Done Stopped) → OpensPayload unlocked t.index old s2 result → Found result
+    found_again result o = found o.run o.decrypts o.ended where
+      found : (end : Result (Unit {0}) FileFault) → DecryptsPayload (opens (payload_key unlocked.key unlocked.nonce)) chunk_length t.index old s2 end
+          → EndsAs unlocked s2.writer.tally end result → Found result
+      found (Ok u) q is = subst Found (sym is) tt
+      found (Err fault) q (next, at, is) =
+          let r = run s [] begins q in
+          let took : Appends (that_took []).taken (that_took (held r)).taken (held r) = record { bytes = refl; contents = tt } in
+          subst Found (sym is) (found_by Allows from copied a s2.reader.source r s2.writer.tally.written next index refl
+          (is_run s [] begins q (that_took []) (that_took (held r)) took) (given s [] begins q next at))
+
+-- ---- Two runs over the same bytes that wrote as many: they stand at the same place.
+
+-- nothing before nothing
+none_more : (more b : List ℕ) → [] ≡ more ++ b → (more ≡ []) × (b ≡ [])
+none_more [] b e = (refl, sym e)
+none_more (x ∷ more) b e = cc
+
+module _ (sealing : List ℕ → List ℕ → List ℕ) (opening : List ℕ → List ℕ → Option (List ℕ)) (valid : IsChunkBox sealing opening) (n : ℕ)
+    (base : List ℕ) where
+  abbrev at : Segment → ℕ
+  at s = (outcome opening n s).index
+
+  abbrev IsTimely : Segment → Type 0
+  IsTimely s = s.ended ≡ false → s.late ≡ false
+
+  -- the second goes on where the first stands, or both stand at the same chunk
+  pub record Extends (a b : Segment) : Type 0 where
+    pub text : IsPrefixOf (released opening n a) (released opening n b)
+    pub place : (at b ≡ at a) ⊎ ((length (base ++ released opening n a) ≤ at a * n) × (at a ≤ at b))
+
+  open_text : (s : Segment) → length base ≡ s.start * n → (outcome opening n s).status ≡ Open → length (base ++ released opening n s) ≤ at s * n
+  open_text s len is =
+      let c = chunks_are_counted sealing opening valid n base s len in
+      let text = base ++ released opening n s in
+      let e : text ≡ take (at s * n) text = ap (λ (ts : List (List ℕ)). base ++ flat_map (λ (t : List ℕ). t) ts) (sym (c.all is)) ∙ c.join in
+      omega (arith, ap length e, length-take (at s * n) text)
+
+  -- with more bytes
+  piece_extends : (s : Segment) (piece : List ℕ) → length base ≡ s.start * n → IsTimely s → Extends s (with_piece s piece)
+  piece_extends s piece len timely = by_status (outcome opening n s).status refl where
+    by_status : (status : Status) → (outcome opening n s).status ≡ status → Extends s (with_piece s piece)
+    by_status Open e =
+        let g = released_grows opening n s piece timely in
+        record { text = g.0; place = inr (open_text s len e, g.1) }
+    by_status other e =
+        record {
+          text = (released_grows opening n s piece timely).0;
+          place = inl ((closed_stays opening n s timely (λ o. cc)).0 piece).index;
+        }
+
+  -- with the end
+  end_extends : (s : Segment) → IsTimely s → Extends s (with_end s)
+  end_extends s timely = by_status (outcome opening n s).status refl where
+    by_status : (status : Status) → (outcome opening n s).status ≡ status → Extends s (with_end s)
+    by_status Open e =
+        let flat : List (List ℕ) → List ℕ = flat_map (λ (t : List ℕ). t) in
+        let here = ap (λ (o : Outcome). o.texts) (going_outcome opening n s (going opening n s e)) in
+        let b = stands_at opening n (with_end s) in
+        record {
+          text = (
+            flat b.more,
+            sym (ap flat (b.texts_are ∙ ap (λ (ts : List (List ℕ)). ts ++ b.more) (sym here))
+                ∙ flat_map-append (λ (t : List ℕ). t) (outcome opening n s).texts b.more),
+          );
+          place = inl (end_closes opening n s).1;
+        }
+    by_status other e =
+        let after = (closed_stays opening n s timely (λ o. cc)).1 in
+        record {
+          text = ([], append-nil (released opening n s) ∙ sym (ap (flat_map (λ (t : List ℕ). t)) after.texts));
+          place = inl (end_closes opening n s).1;
+        }
+
+  longer_text : (a b : Segment) → IsPrefixOf (released opening n a) (released opening n b)
+      → length (base ++ released opening n a) ≤ length (base ++ released opening n b)
+  longer_text a b p = omega (arith, length-append {A = ℕ}, ap length p.1)
+
+  extends_on : (a b c : Segment) → Extends a b → Extends b c → Extends a c
+  extends_on a b c x y =
+      record {
+        text = prefix_trans (released opening n a) (released opening n b) (released opening n c) x.text y.text;
+        place = on x.place y.place;
+      } where
+        on : ((at b ≡ at a) ⊎ ((length (base ++ released opening n a) ≤ at a * n) × (at a ≤ at b)))
+            → ((at c ≡ at b) ⊎ ((length (base ++ released opening n b) ≤ at b * n) × (at b ≤ at c)))
+            → (at c ≡ at a) ⊎ ((length (base ++ released opening n a) ≤ at a * n) × (at a ≤ at c))
+        on (inl e) (inl f) = inl (f ∙ e)
+        on (inl e) (inr f) = inr (
+          subst (λ (k : ℕ). length (base ++ released opening n a) ≤ k * n) e (omega (arith, longer_text a b x.text, f.0)),
+          omega (arith, e, f.1),
+        )
+        on (inr e) (inl f) = inr (e.0, omega (arith, e.1, f))
+        on (inr e) (inr f) = inr (e.0, omega (arith, e.1, f.1))
+
+  -- so as many bytes of both end at the same chunk
+  same_place : (a b : Segment) (w : ℕ) → 0 < n → Extends a b → w ≤ length (base ++ released opening n a) → min (w / n) (at a) ≡ min (w / n) (at b)
+  same_place a b w positive x within = by x.place where
+    by : ((at b ≡ at a) ⊎ ((length (base ++ released opening n a) ≤ at a * n) × (at a ≤ at b))) → min (w / n) (at a) ≡ min (w / n) (at b)
+    by (inl e) = ap (min (w / n)) (sym e)
+    by (inr f) =
+        elim (cases_lt (w / n) (at a + 1)) [
+          | inl lt ↦ omega (arith, lt, f.1)
+          | inr past ↦ (let m : (at a + 1) * n ≤ w = (le-div_iff_mul-le positive).0 past in
+              absurd (omega (arith, m, within, f.0, positive)))
+        ]
+
+  -- of two readings of the same bytes one goes on where the other stands
+  one_extends : (k : ℕ) (bytes more : List ℕ) (e f : Bool) → length base ≡ k * n → (e ≡ true → more ≡ [])
+      → Extends (segment k bytes e) (segment k (bytes ++ more) f) ⊎ Extends (segment k (bytes ++ more) f) (segment k bytes e)
+  one_extends k bytes more false false len none = inl (piece_extends (segment k bytes false) more len (λ _. refl))
+  one_extends k bytes more false true len none =
+      inl (extends_on (segment k bytes false) (segment k (bytes ++ more) false)
+      (segment k (bytes ++ more) true) (piece_extends (segment k bytes false) more len (λ _. refl))
+      (end_extends (segment k (bytes ++ more) false) (λ _. refl)))
+  one_extends k bytes more true false len none =
+      let same : bytes ++ more ≡ bytes = ap (λ (t : List ℕ). bytes ++ t) (none refl) ∙ append-nil bytes in
+      inr (subst (λ (t : List ℕ). Extends (segment k t false) (segment k bytes true)) (sym same) (end_extends (segment k bytes false) (λ _. refl)))
+  one_extends k bytes more true true len none =
+      let same : bytes ++ more ≡ bytes = ap (λ (t : List ℕ). bytes ++ t) (none refl) ∙ append-nil bytes in
+      inl (subst (λ (t : List ℕ). Extends (segment k bytes true) (segment k t true)) (sym same)
+      (record { text = ([], append-nil (released opening n (segment k bytes true))); place = inl refl }))
+
+  -- what both wrote, if it is as much, and where they stand
+  pub record StandAlike (a b : Segment) (x y : List ℕ) : Type 0 where
+    pub wrote : x ≡ y
+    pub place : min (length (base ++ x) / n) (at a) ≡ min (length (base ++ y) / n) (at b)
+
+  alike : (a b : Segment) (x y : List ℕ) → 0 < n → Extends a b → IsPrefixOf x (released opening n a) → IsPrefixOf y (released opening n b)
+      → length x ≡ length y → StandAlike a b x y
+  alike a b x y positive ext p q len =
+      let long = prefix_trans x (released opening n a) (released opening n b) p ext.text in
+      let same = (same_front x y long.0 q.0 len (long.1 ∙ sym q.1)).0 in
+      let within : length (base ++ x) ≤ length (base ++ released opening n a) = omega (arith, length-append {A = ℕ}, ap length p.1) in
+      record {
+        wrote = same;
+        place = same_place a b (length (base ++ x)) positive ext within ∙ ap (λ (t : List ℕ). min (length (base ++ t) / n) (at b)) same;
+      }
+
+  turned : (a b : Segment) (x y : List ℕ) → StandAlike a b x y → StandAlike b a y x
+  turned a b x y s = record { wrote = sym s.wrote; place = sym s.place }
+
+  pub stand_alike : (k : ℕ) (s t a b : List ℕ) (e f : Bool) (x y : List ℕ) → 0 < n
+      → length base ≡ k * n → s ++ a ≡ t ++ b → (e ≡ true → a ≡ []) → (f ≡ true → b ≡ []) → IsPrefixOf x (released opening n (segment k s e))
+      → IsPrefixOf y (released opening n (segment k t f)) → length x ≡ length y → StandAlike (segment k s e) (segment k t f) x y
+  stand_alike k s t a b e f x y positive start both ends_a ends_b p q len =
+      elim (cases_lt (length t) (length s)) [
+        | inl lt ↦ turned (segment k t f) (segment k s e) y x (ordered t s b a f e y x (sym both) ends_b q p (sym len) (omega (arith, lt)))
+        | inr le ↦ ordered s t a b e f x y both ends_a p q len le
+      ] where
+        either : (s m : List ℕ) (e f : Bool) (x y : List ℕ) → IsPrefixOf x (released opening n (segment k s e))
+            → IsPrefixOf y (released opening n (segment k (s ++ m) f)) → length x ≡ length y
+            → Extends (segment k s e) (segment k (s ++ m) f) ⊎ Extends (segment k (s ++ m) f) (segment k s e) → StandAlike (segment k s e) (segment k (s ++ m) f) x y
+        either s m e f x y p q len (inl ext) = alike (segment k s e) (segment k (s ++ m) f) x y positive ext p q len
+        either s m e f x y p q len (inr ext) =
+            turned (segment k (s ++ m) f) (segment k s e) y x (alike (segment k (s ++ m) f) (segment k s e) y x positive ext q p (sym len))
+
+        ordered : (s t a b : List ℕ) (e f : Bool) (x y : List ℕ) → s ++ a ≡ t ++ b
+            → (e ≡ true → a ≡ []) → IsPrefixOf x (released opening n (segment k s e))
+            → IsPrefixOf y (released opening n (segment k t f)) → length x ≡ length y → length s ≤ length t → StandAlike (segment k s e) (segment k t f) x y
+        ordered s t a b e f x y both ends p q len le =
+            let m = longer s t a b both le in
+            let none : e ≡ true → m.0 ≡ [] = λ is. (none_more m.0 b (sym (ends is) ∙ m.2)).0 in
+            let q2 = subst (λ (u : List ℕ). IsPrefixOf y (released opening n (segment k u f))) m.1 q in
+            subst (λ (u : List ℕ). StandAlike (segment k s e) (segment k u f) x y) (sym m.1)
+            (either s m.0 e f x y p q2 len (one_extends k s m.0 e f start none))
+
+-- ---- A position that is found by reading again is the run's.
 
 -- two files that were opened at the front of the same bytes
 pub record IsSameFront (r q : Run) (left rest : List ℕ) : Type 0 where
@@ -75,10 +332,10 @@ module _ (r q : Run) (k : ℕ) (at : Position) (left rest : List ℕ) (limit : k
     (end_r : r.ended ≡ true → left ≡ []) (end_q : q.ended ≡ true → rest ≡ [])
     (prefix_r : IsPrefixOf r.out (run_text r)) (prefix_q : IsPrefixOf q.out (run_text q)) where
   abbrev part_of : Run → Segment
-  part_of x = record { start = k; bytes = x.bytes; ended = x.ended; late = false }
+  part_of x = segment k x.bytes x.ended
 
   seg : (x : Run) → x.first ≡ k → segment_of x ≡ part_of x
-  seg x is = ap (λ (i : ℕ). record { start = i; bytes = x.bytes; ended = x.ended; late = false }) is
+  seg x is = ap (λ (i : ℕ). segment i x.bytes x.ended) is
 
   abbrev open_r : List ℕ → List ℕ → Option (List ℕ)
   open_r = unbox r.file.key r.file.nonce

@@ -1,4 +1,3 @@
--- The parts of a position's text.
 use Rattle.std.proofs.Common.{◌≡◌, ℕ, ◌+◌, ◌-◌, ◌≤◌, ◌<◌, List, [], ◌∷◌, ◌++◌, length, take, drop, get_or, Result, Ok, Err, Option, Some, None, Bool, true}
 use Rattle.std.proofs.Common.{false, not, eqb, codes, refl, sym, ap, ◌∙◌, arith, append_assoc}
 use Rattle.std.proofs.lemmas.List.{length-append, take-append-drop, take_rest, length-drop, drop-drop, get_or-drop}
@@ -21,7 +20,7 @@ use Rattle.age_stanza.proofs.Base64Lemmas.{text_of_decoded, decoded_size, never_
 use Rattle.age_file.specs.declared.position.Position.{Position}
 use Rattle.age_file.specs.Bindings.{position_front}
 use Rattle.age_file.specs.Resumes.{position_text, IsDigest}
-use Rattle.age_file.specs.inner.PositionTexts.{index_text, field_text, fields_text}
+use Rattle.age_file.specs.inner.Parts.{index_text, field_text, fields_text}
 use Rattle.age_chunk.specs.Payload.{chunk_limit}
 
 -- a list that is cut where its second part begins
@@ -66,11 +65,10 @@ never_differs xs ys test e =
     absurd cc
 
 pub same_unless : (xs ys : List ℕ) → false ≡ not (pointwise eqb xs ys) → xs ≡ ys
-same_unless xs ys test = same_text xs ys (sym (from_not (pointwise eqb xs ys) test))
-  where
-    from_not : (b : Bool) → false ≡ not b → b ≡ true
-    from_not true e = refl
-    from_not false e = absurd cc
+same_unless xs ys test = same_text xs ys (sym (from_not (pointwise eqb xs ys) test)) where
+  from_not : (b : Bool) → false ≡ not b → b ≡ true
+  from_not true e = refl
+  from_not false e = absurd cc
 
 pub index_read : (r : Option ℕ) (front version : List ℕ) → take 16 front ≡ version → IfSome r (λ index. take (length front - 16) (drop 16 front)
     ≡ decimal index) → IfSome r (λ index. front ≡ version ++ decimal index)
@@ -159,16 +157,7 @@ unfolding position_front
 two_parts p = regroup (codes "age-position/v2 ") (decimal p.index) (codes " ") (text p.file_id) (text p.chain) (text p.tag) (codes "\n")
 
 length-fields : (id links tag : List ℕ) → IsDigest id → IsDigest links → IsDigest tag → length (fields_text id links tag) ≡ 133
-length-fields id links tag d1 d2 d3 =
-    omega (
-      arith,
-      length-append (field_text id) (field_text links ++ (field_text tag ++ codes "\n")),
-      length-append (field_text links) (field_text tag ++ codes "\n"),
-      length-append (field_text tag) (codes "\n"),
-      length-field id d1,
-      length-field links d2,
-      length-field tag d3,
-    )
+length-fields id links tag d1 d2 d3 = simp length-append (omega (arith, length-field id d1, length-field links d2, length-field tag d3))
 
 module _ (words : List ℕ) (p : Position) (d1 : IsDigest p.file_id) (d2 : IsDigest p.chain) (d3 : IsDigest p.tag) (e : words ≡ position_text p) where
   pub words_are : words ≡ index_text p.index ++ fields_text p.file_id p.chain p.tag

@@ -1,42 +1,147 @@
--- From what was read, copied, skipped and decrypted to what a resumed decryption did.
-use Rattle.std.proofs.Common.{◌≡◌, ℕ, ◌+◌, ◌*◌, ◌<◌, ◌≤◌, List, [], ◌++◌, length, take, drop, Option, Some, None, refl, inl, inr, sym, ap, subst, ◌∙◌}
-use Rattle.std.proofs.Common.{◌^◌, arith, append-nil}
-use Rattle.std.specs.Prelude.{Result, Err}
-use Rattle.age_file.specs.Resumes.{ResumesKeyed, HasOpened, ResumePorts, resume_ports, WritesOld, IsFrom, IsSame, BeginsWith, StandsAt}
-use Rattle.age_file.specs.declared.standing.Standing.{Standing}
-use Rattle.age_file.specs.declared.standing.Standing.TheVariants.{Before, Skipping, InPayload}
-use Rattle.age_file.specs.Resumes.{IsOldText, NeverEndTogether, BeforeOldFails, InOldFails, StopsInOld, InSkippedFails, StopsInSkipped, ResumeStops}
+-- From what was read, copied and decrypted to what a decryption did, from the start or from a position on.
+use Rattle.std.proofs.Common.{Some, None, refl, ◌≡◌, ℕ, List, [], ◌++◌, ap, arith, append_assoc, suc, ◌+◌, ◌*◌, ◌<◌, Err, ◌∷◌, length, take, drop, sym, subst}
+use Rattle.std.proofs.Common.{◌∙◌, append-nil, ◌≤◌, Option, inl, inr, ◌^◌}
+use Rattle.std.specs.Prelude.{Result}
+use Rattle.age_io.specs.Io.{SourceView, SinkView}
+use Rattle.age_stanza.specs.declared.header.Header.{Header}
+use Rattle.age_keys.specs.declared.fault.KeyFault.{KeyFault}
+use Rattle.age_fault.specs.declared.fault.FileFault.{FileFault}
+use Rattle.age_file.specs.Decrypts.{StartFails, DecryptsKeyed}
+use Rattle.age_file.specs.Runs.{Ports, ports, NeverEnds, IsFromStart, GivesPosition, OpenedFile, pull_room}
 use Rattle.age_file.specs.declared.decryption.Done.{Done}
 use Rattle.age_file.specs.declared.decryption.Stopped.{Stopped}
-use Rattle.std.specs.Simd.{first_chunks}
-use Rattle.age_io.specs.Supply.{Supply, Consumes}
-use Rattle.std.proofs.lemmas.List.{length-append, length-take, take-append-drop}
-use Rattle.age_stanza.specs.declared.header.Header.{Header}
-use Rattle.age_stream.specs.Headline.{IsPrefixOf}
-use Rattle.age_keys.specs.declared.fault.KeyFault.{KeyFault}
-use Rattle.age_file.specs.inner.Decrypts.{IsPositionAt, PositionAt, EndsAs, OpensPayload}
-use Rattle.age_file.specs.Bindings.{chain}
-use Rattle.age_file.specs.inner.Bindings.{chain_if}
-use Rattle.age_file.specs.declared.position.PositionPolicy.TheVariants.{Kept, Dropped}
-use Rattle.age_file.specs.inner.Copies.{CopiesBefore, TextFails, TextGoes, Passes, SkipFails, Uses, StartsAt}
-use Rattle.age_fault.specs.Faults.{HasFailed}
-use Rattle.age_file.specs.inner.Readers.{ReaderView, reader_view, WriterView, Stage, stage, ports_at, Start, Pulled, start_after}
-use Rattle.age_file.specs.inner.Payloads.{HasPlace}
-use Rattle.age_file.specs.Runs.{ports, GivesPosition, OpenedFile, pull_room}
-use Rattle.age_file.specs.inner.Verdicts.{PositionRefused, StartsFor, StartForFails}
-use Rattle.age_file.specs.inner.Rests.{ResumesRest}
-use Rattle.age_file.specs.Decrypts.{StartFails}
-use Rattle.age_io.specs.Io.{SourceView, SinkView}
-use Rattle.age_file.specs.inner.Unread.{Unread}
-use Rattle.age_fault.specs.declared.fault.FileFault.{FileFault}
-use Rattle.age_fault.specs.declared.fault.FileFault.TheVariants.{Stream, OtherFile, ShortText, Read, Write, ReadNeverEnds, PositionForged, OldTextDiffers}
-use Rattle.age_file.specs.declared.position.Position.{Position}
 use Rattle.age_file.specs.declared.position.PositionPolicy.{PositionPolicy}
 use Rattle.age_file.specs.declared.start.Unlocked.{Unlocked}
-use Rattle.age_file.proofs.ByteLemmas.{prefix_trans, left_of, longer, counted_on, counted_back, cut_pulled}
-use Rattle.age_io.proofs.TakenLemmas.{Appends-trans}
-use Rattle.age_file.proofs.PayloadRunLemmas.{opened, place_at, BeginsAt, run, due, ended}
+use Rattle.age_file.specs.inner.Parts.{chain_if, Unread}
+use Rattle.age_file.specs.inner.Copies.{StartsAt, Passes, Dries, FailsInCopy, CopiesChunk, CopiesAll, TextFails, CopiesBefore, TextGoes, SkipFails, Uses}
+use Rattle.age_file.specs.inner.Decrypts.{OpensPayload, IsPositionAt, PositionAt, EndsAs, PositionRefused, StartsFor, StartForFails, ResumesRest}
+use Rattle.age_file.specs.inner.Readers.{Stage, ports_at, start_at, ReaderView, WriterView, Wrote, reader_view, stage, Start, Pulled, start_after}
+use Rattle.age_file.proofs.RunLemmas.{BeginsAt, run, due, ended, opened, place_at}
+use Rattle.std.proofs.lemmas.List.{length-append, take_all, take-append-drop, length-take}
+use Rattle.std.proofs.Math.Seq.{drop-append_seam}
+use Rattle.std.specs.Simd.{first_chunks}
+use Rattle.age_chunk.proofs.FirstChunkLemmas.{first_chunks-append, first_chunks_more}
+use Rattle.age_stream.specs.Headline.{IsPrefixOf}
+use Rattle.age_fault.specs.Faults.{HasFailed}
+use Rattle.age_file.specs.Bindings.{link, chain}
+use Rattle.age_fault.specs.declared.fault.FileFault.TheVariants.{ShortText, Read, Write, ReadNeverEnds, OldTextDiffers, Stream, OtherFile, PositionForged}
+use Rattle.age_file.proofs.CountLemmas.{chain_on}
+use Rattle.age_file.proofs.ReadLemmas.{passes_then, dries_then, within, prefix_trans, left_of, longer, counted_on, counted_back, cut_pulled, wrote_then}
+use Rattle.age_file.specs.Resumes.{ResumesKeyed, HasOpened, ResumePorts, resume_ports, WritesOld, IsFrom, IsSame, BeginsWith, StandsAt, IsOldText}
+use Rattle.age_file.specs.Resumes.{NeverEndTogether, BeforeOldFails, InOldFails, StopsInOld, InSkippedFails, StopsInSkipped, ResumeStops}
+use Rattle.age_file.specs.declared.standing.Standing.{Standing}
+use Rattle.age_file.specs.declared.standing.Standing.TheVariants.{Before, Skipping, InPayload}
+use Rattle.age_io.specs.Supply.{Supply, Consumes}
+use Rattle.age_file.specs.declared.position.PositionPolicy.TheVariants.{Kept, Dropped}
+use Rattle.age_file.specs.inner.Payloads.{HasPlace}
+use Rattle.age_file.specs.declared.position.Position.{Position}
 use Rattle.age_chunk.specs.Payload.{block_length, chunk_length}
+
+-- ---- From what was read and decrypted from a file's start on to what a decryption did.
+
+module _ (keep : PositionPolicy) (Allows : Header → List ℕ → Type 0) (Refused : Header → KeyFault → Type 0) where
+  -- no payload came to be opened
+  pub stopped_at_start : (old new : Ports) (fault : FileFault) → new.sink ≡ old.sink → StartFails Allows Refused old.source new.source fault
+      → DecryptsKeyed keep Allows Refused old new (Err (record { fault = fault; written = 0; position = None })) None
+  stopped_at_start old new fault same f = record {
+    is = record {
+      run = None;
+      done = tt;
+      stopped = (record { sink = same; written = refl; position = refl }, f);
+      settled = tt;
+      named = ap (λ (s : SinkView). s.label) same;
+    };
+    found = refl;
+    due = tt;
+  }
+
+  -- it was opened from its first chunk on
+  pub run_ended : {a : SourceView} {unlocked : Unlocked} {old new : Stage} {result : Result Done Stopped}
+      → old.writer.tally.written ≡ 0 → old.writer.tally.index ≡ 0 → old.writer.tally.chain ≡ chain_if keep []
+      → StartsAt Allows a old.reader unlocked → OpensPayload unlocked 0 old new result
+      → DecryptsKeyed keep Allows Refused (ports a old.writer.sink) (ports_at new) result (Some unlocked.key)
+  run_ended {a} {unlocked} {old} {new} {result} written index chain_is s o =
+      let q = o.decrypts in
+      let begins : BeginsAt keep (start_at a.supply) (s.front ++ unlocked.nonce) old 0 [] [] = record {
+        limit = omega arith;
+        copied_size = omega arith;
+        skipped_size = omega arith;
+        pulled = s.pulled;
+        written = written;
+        index = index;
+        chain_is = chain_is;
+      } in
+      let r = run s [] begins q in
+      let from : IsFromStart r = record { zero = refl; none_copied = refl; none_skipped = refl } in
+      let at = due s [] begins q in
+      ended s [] begins q (NeverEnds a.supply new.reader.source.supply) old.writer.sink q.wrote.bytes s.unfailed refl
+      (λ bytes h full. (bytes, h.consumed, (omega (arith, h.each_gave, full), omega (arith, h.small, full))))
+      (λ e. DecryptsKeyed keep Allows Refused (ports a old.writer.sink) (ports_at new) e (Some unlocked.key)) (λ written d none settled. record {
+        is = record { run = Some r; done = (from, d, none); stopped = tt; settled = settled; named = q.wrote.named };
+        found = refl;
+        due = at;
+      }) (λ stop d. record {
+        is = record { run = Some r; done = tt; stopped = (from, d); settled = tt; named = q.wrote.named };
+        found = refl;
+        due = at;
+      }) result o.ended
+
+-- ---- What was copied, one step after another.
+
+-- the chain over one chunk more
+pub chain_more : (n i : ℕ) (out chunk : List ℕ) → length out ≡ i * n → length chunk ≡ n
+    → chain (first_chunks n (suc i) (out ++ chunk)) ≡ link (chain (first_chunks n i out)) chunk
+chain_more n i out chunk whole size =
+    let behind : drop (i * n) (out ++ chunk) ≡ chunk = rw (← whole) (drop-append_seam out chunk) in
+    let last : take n (drop (i * n) (out ++ chunk)) ≡ chunk = ap (take n) behind ∙ take_all n chunk (omega (arith, size)) in
+    ap chain (first_chunks_more n i (out ++ chunk) ∙ ap (λ (xs : List (List ℕ)). xs ++ take n (drop (i * n) (out ++ chunk)) ∷ [])
+    (first_chunks-append n i out chunk (omega (arith, whole))) ∙ ap (λ (c : List ℕ). first_chunks n i out ++ c ∷ []) last)
+    ∙ chain_on (first_chunks n i out) chunk
+
+copy_fails : (x y z : ReaderView) (a b c : WriterView) (p q : List ℕ) (fault : FileFault) → Passes x y p → b.sink.failed ≡ a.sink.failed
+    → FailsInCopy y z b c q fault → FailsInCopy x z a c (p ++ q) fault
+copy_fails x y z a b c p q ShortText f same g = (passes_then p q f g.0, g.1, g.2, g.3 ∙ same)
+copy_fails x y z a b c p q Write f same g =
+    let more : IsPrefixOf (p ++ q) ((p ++ g.0) ++ z.unread.bytes) = (
+      g.2.0,
+      append_assoc p q g.2.0 ∙ ap (λ (t : List ℕ). p ++ t) g.2.1 ∙ sym (append_assoc p g.0 z.unread.bytes),
+    ) in (
+      p ++ g.0,
+      passes_then p g.0 f g.1,
+      more,
+      subst (λ (m : ℕ). HasFailed m c.sink.failed c.sink.failing) same g.3,
+      omega (arith, g.4, length-append p g.0, length-append p q),
+    )
+copy_fails x y z a b c p q Read f same g = (dries_then p q Read f g.0, g.1 ∙ same)
+copy_fails x y z a b c p q ReadNeverEnds f same g = (dries_then p q ReadNeverEnds f g.0, g.1 ∙ same)
+copy_fails x y z a b c p q other f same g = absurd g
+
+-- whole chunks, and then one that was not copied
+pub chunk_failed : (n chunks i : ℕ) (x y z : ReaderView) (a b c : WriterView) (p : List ℕ)
+    (fault : FileFault) → length p ≡ i * n → i < chunks → Passes x y p → Wrote a b p → b.sink.failed ≡ a.sink.failed
+    → CopiesChunk n y z b c (Err fault) → CopiesAll n chunks x z a c (Err fault)
+chunk_failed n chunks i x y z a b c p fault size lt f wrote same g = record {
+  out = p ++ g.out;
+  wrote = wrote_then wrote g.wrote;
+  answered = (within n chunks i p g.out size lt g.answered.0, copy_fails x y z a b c p g.out fault f same g.answered.1);
+}
+
+-- the front of a piece was written after what was used
+pub front_written : (used out unwritten bytes : List ℕ) (n : ℕ) → take n bytes ≡ out ++ unwritten → IsPrefixOf (used ++ out) (used ++ bytes)
+front_written used out unwritten bytes n parts = (
+  unwritten ++ drop n bytes,
+  append_assoc used out (unwritten ++ drop n bytes) ∙ ap (λ (t : List ℕ). used ++ t) (sym (append_assoc out unwritten (drop n bytes))
+      ∙ ap (λ (t : List ℕ). t ++ drop n bytes) (sym parts) ∙ take-append-drop n bytes),
+)
+
+-- a pull gave no more
+pub copy_dry : (x z : ReaderView) (a b : WriterView) (p : List ℕ) (fault : FileFault) → Dries x z p fault → b.sink.failed ≡ a.sink.failed
+    → FailsInCopy x z a b p fault
+copy_dry x z a b p Read g same = (g, same)
+copy_dry x z a b p ReadNeverEnds g same = (g, same)
+copy_dry x z a b p other g same = absurd g.why
+
+-- ---- From what was read, copied, skipped and decrypted to what a resumed decryption did.
 
 -- ---- the old text
 
@@ -57,8 +162,7 @@ old_of p coming now pulled copied read front le text b =
 module _ (keep : PositionPolicy) (Allows : Header → List ℕ → Type 0) (Refused : Header → KeyFault → Type 0) (p : Position) where
   -- the file was opened, and no more than one pull gives was read after its nonce
   has_opened : (old new : ResumePorts) (u : Unread) (unlocked : Unlocked)
-      (s : StartsAt Allows old.main.source (reader_view new.main.source u) unlocked)
-      → HasOpened Allows p old new (opened Allows old.main.source (reader_view new.main.source u) unlocked s)
+      (s : StartsAt Allows old.main.source (reader_view new.main.source u) unlocked) → HasOpened Allows p old new (opened s)
   has_opened old new u unlocked s = (u.bytes, s.few, record { text = s.text; opens = s.opens; size = s.size; read = s.pulled.consumed })
 
   -- a call that came to no payload
@@ -66,13 +170,7 @@ module _ (keep : PositionPolicy) (Allows : Header → List ℕ → Type 0) (Refu
       → StandsAt Allows p old new keep Refused None (Err stopped) standing → new.main.sink.label ≡ old.main.sink.label
       → ResumesKeyed keep Allows Refused p old new (Err stopped) standing
   stopped_with old new stopped standing stops stands named = record {
-    is = record {
-      run = None;
-      done = tt;
-      stopped = stops;
-      settled = tt;
-      named = named;
-    };
+    is = record { run = None; done = tt; stopped = stops; settled = tt; named = named };
     stands = stands;
     due = tt;
   }
@@ -113,15 +211,14 @@ module _ (keep : PositionPolicy) (Allows : Header → List ℕ → Type 0) (Refu
   refused old new u fault same text (inr f) = stopped_before old new fault same text (verdict_fails old new u f.0 fault f.1 f.2)
 
   -- the file was started, and the old text was copied, or a front of it; the pulls of both count together
-  module _ (a : SourceView) (unlocked : Unlocked) (s1 : Stage) (u : Unread)
-      (st : StartsFor Allows p a (reader_view s1.reader.source u) unlocked) (first : WriterView)
-      (zero : first.tally.written ≡ 0) (l l' : SourceView) (result : Result (Unit {0}) FileFault)
+  module _ {a : SourceView} {unlocked : Unlocked} (s1 : Stage) {u : Unread} (st : StartsFor Allows p a (reader_view s1.reader.source u) unlocked)
+      {first : WriterView} (zero : first.tally.written ≡ 0) {l l' : SourceView} {result : Result (Unit {0}) FileFault}
       (cb : CopiesBefore keep p l l' u s1.reader.unread first s1.writer result) where
     abbrev s : StartsAt Allows a (reader_view s1.reader.source u) unlocked
     s = st.starts
 
     abbrev file : OpenedFile
-    file = opened Allows a (reader_view s1.reader.source u) unlocked s
+    file = opened s
 
     abbrev head : List ℕ
     head = s.front ++ unlocked.nonce
@@ -161,7 +258,7 @@ module _ (keep : PositionPolicy) (Allows : Header → List ℕ → Type 0) (Refu
         uses old_start [] (subst (λ (t : List ℕ). Pulled old_start l.supply x.unread.pulls t) (sym cb.none) fresh)
 
     old_dried : (used : List ℕ) → z.unread.bytes ≡ [] → Uses x z used → Pulled old_start l'.supply z.unread.pulls used
-    old_dried used empty uses = cut_pulled old_start l'.supply z.unread.pulls used z.unread.bytes empty (old_pulled used uses)
+    old_dried used empty uses = cut_pulled used empty (old_pulled used uses)
 
     -- no more than these bytes of the old text was written
     writes_old : (m : ReaderView) (pulled : List ℕ) → length out ≤ p.index * chunk_length
@@ -172,8 +269,8 @@ module _ (keep : PositionPolicy) (Allows : Header → List ℕ → Type 0) (Refu
       read = read;
       few = short;
       front = front;
-      wrote = cb.copied.wrote;
-      count = omega (arith, cb.copied.count, zero);
+      wrote = cb.copied.wrote.bytes;
+      count = omega (arith, cb.copied.wrote.count, zero);
       of = old_of p l.supply l'.supply pulled out read front le;
     }
 
@@ -199,14 +296,14 @@ module _ (keep : PositionPolicy) (Allows : Header → List ℕ → Type 0) (Refu
     dried_in_old fault empty uses short why =
         stops_in_old fault out (omega (arith, short)) (old_dried out empty uses).consumed (omega (arith, short)) ([], append-nil out) why
 
-    copy_fails : (fault : FileFault) → TextFails chunk_length p.index p.chain x z first s1.writer out fault
+    text_fails_in_old : (fault : FileFault) → TextFails chunk_length p.index p.chain x z first s1.writer out fault
         → StopsInOld Allows p old (new s1.reader) (stop fault None)
-    copy_fails ShortText f = dried_in_old ShortText f.1.1 f.1.0.uses f.0 (f.0, (refl, f.1.2))
-    copy_fails Write f =
+    text_fails_in_old ShortText f = dried_in_old ShortText f.1.1 f.1.0.uses f.0 (f.0, (refl, f.1.2))
+    text_fails_in_old Write f =
         stops_in_old Write (f.1.0 ++ z.unread.bytes) (omega (arith, f.0)) (old_pulled f.1.0 f.1.1.uses).consumed
         (omega (arith, f.0, f.1.4, cb.few, length-append f.1.0 z.unread.bytes)) f.1.2 (f.0, ((f.1.3, s.unfailed), f.1.1.unfailed))
-    copy_fails Read f = dried_in_old Read f.1.0.used f.1.0.uses f.0 (f.0, (refl, (s.unfailed, f.1.1), f.1.0.why))
-    copy_fails ReadNeverEnds f =
+    text_fails_in_old Read f = dried_in_old Read f.1.0.used f.1.0.uses f.0 (f.0, (refl, (s.unfailed, f.1.1), f.1.0.why))
+    text_fails_in_old ReadNeverEnds f =
         let all = old_dried out f.1.0.used f.1.0.uses in
         let both = length-append started out in
         let never : NeverEndTogether old (new s1.reader) = (
@@ -217,16 +314,16 @@ module _ (keep : PositionPolicy) (Allows : Header → List ℕ → Type 0) (Refu
           (omega (arith, all.each_gave, f.1.0.why.0, both), omega (arith, all.small, f.1.0.why.0, both)),
         ) in
         dried_in_old ReadNeverEnds f.1.0.used f.1.0.uses f.0 (f.0, (refl, never))
-    copy_fails OldTextDiffers f =
+    text_fails_in_old OldTextDiffers f =
         let le : length out ≤ p.index * chunk_length = omega (arith, f.0.0) in
         stops_in_old OldTextDiffers (out ++ z.unread.bytes) le (old_pulled out f.0.1.uses).consumed
         (omega (arith, le, cb.few, length-append out z.unread.bytes)) (z.unread.bytes, refl) (f.0.0, λ e. f.1 (f.0.4 ∙ ap Some e))
-    copy_fails other f = absurd f.1
+    text_fails_in_old other f = absurd f.1
 
     pub copy_stopped : (fault : FileFault) → TextFails chunk_length p.index p.chain x z first s1.writer out fault
         → ResumesKeyed keep Allows Refused p old (new s1.reader) (Err (stop fault None)) Before
     copy_stopped fault f =
-        stopped_with old (new s1.reader) (stop fault None) Before (inr (inl (copy_fails fault f))) (inr (copy_fails fault f)) cb.copied.named
+        stopped_with old (new s1.reader) (stop fault None) Before (inr (inl (text_fails_in_old fault f))) (inr (text_fails_in_old fault f)) cb.copied.wrote.named
 
     -- ---- a run that went on after the old text
 
@@ -334,7 +431,7 @@ module _ (keep : PositionPolicy) (Allows : Header → List ℕ → Type 0) (Refu
           let here = same_given keep next (subst (λ (c : Option (List ℕ)). PositionAt unlocked s1.writer.tally.index c next) g.4 at) in
           let stops = skipped_fails m next fault here f in
           subst (λ (r : Result Done Stopped). ResumesKeyed keep Allows Refused p old (new m) r Skipping) (sym is)
-          (stopped_with old (new m) (stop fault next) Skipping (inr (inr stops)) stops cb.copied.named)
+          (stopped_with old (new m) (stop fault next) Skipping (inr (inr stops)) stops cb.copied.wrote.named)
 
       -- they were
       module _ (m : ReaderView) (passed : List ℕ) (size : length passed ≡ p.index * block_length) (passes : Passes s1.reader m passed) where
@@ -347,23 +444,22 @@ module _ (keep : PositionPolicy) (Allows : Header → List ℕ → Type 0) (Refu
           copied_size = g.0;
           skipped_size = size;
           pulled = passes.uses start head again;
-          written = omega (arith, cb.copied.count, zero);
+          written = omega (arith, cb.copied.wrote.count, zero);
           index = g.3;
           chain_is = g.4;
         }
 
         -- there is room for what is after them
         pub place_after : HasPlace before_rest
-        place_after = place_at start head passed before_rest p.index p.within (omega (arith, begins.written, begins.copied_size)) begins.pulled
+        place_after = place_at head passed before_rest p.index p.within (omega (arith, begins.written, begins.copied_size)) begins.pulled
 
         -- the whole run
         rest_ended : (s2 : Stage) (result : Result Done Stopped) → OpensPayload unlocked p.index before_rest s2 result
             → ResumesKeyed keep Allows Refused p old (resume_ports (ports_at s2) l') result (InPayload unlocked.key)
         rest_ended s2 result o =
             let q = o.decrypts in
-            let here = reader_view s1.reader.source u in
-            let r = run keep Allows a here unlocked s old_bytes before_rest p.index out passed begins s2 o.run q in
-            let at = due keep Allows a here unlocked s old_bytes before_rest p.index out passed begins s2 o.run q in
+            let r = run s old_bytes begins q in
+            let at = due s old_bytes begins q in
             let from : IsFrom p l l' r = record {
               index = refl;
               own = st.own ∙ s.id;
@@ -373,30 +469,16 @@ module _ (keep : PositionPolicy) (Allows : Header → List ℕ → Type 0) (Refu
               old_read = old_used.consumed;
               few = cb.few;
             } in
-            let named = q.named ∙ cb.copied.named in
-            let wrote = Appends-trans first.sink.taken s1.writer.sink.taken s2.writer.sink.taken out q.out cb.copied.wrote q.wrote in
-            ended keep Allows a here unlocked s old_bytes before_rest p.index out passed begins s2 o.run q
-            (NeverEndTogether old (resume_ports (ports_at s2) l')) first.sink wrote (passes.unfailed ∙ s.unfailed) g.2
+            let wrote = wrote_then cb.copied.wrote q.wrote in
+            ended s old_bytes begins q (NeverEndTogether old (resume_ports (ports_at s2) l')) first.sink wrote.bytes (passes.unfailed ∙ s.unfailed) g.2
             (never_end s2.reader s2.writer.sink)
             (λ e. ResumesKeyed keep Allows Refused p old (resume_ports (ports_at s2) l') e (InPayload unlocked.key))
             (λ written d none settled. record {
-              is = record {
-                run = Some r;
-                done = (from, g.1.unfailed, d, none);
-                stopped = tt;
-                settled = settled;
-                named = named;
-              };
+              is = record { run = Some r; done = (from, g.1.unfailed, d, none); stopped = tt; settled = settled; named = wrote.named };
               stands = refl;
               due = at;
             }) (λ stopped d. record {
-              is = record {
-                run = Some r;
-                done = tt;
-                stopped = (from, g.1.unfailed, d);
-                settled = tt;
-                named = named;
-              };
+              is = record { run = Some r; done = tt; stopped = (from, g.1.unfailed, d); settled = tt; named = wrote.named };
               stands = refl;
               due = at;
             }) result o.ended

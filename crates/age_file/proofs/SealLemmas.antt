@@ -1,7 +1,7 @@
--- One feed of a sealer, and what then was written.
+-- Sealing a source, and what of the age file was written.
 use Rattle.std.proofs.Common.{◌≡◌, ℕ, ◌+◌, ◌-◌, ◌*◌, ◌^◌, ◌<◌, ◌≤◌, sym, ap, subst, ◌∙◌, List, [], ◌++◌, length, take, drop, Option, append-nil, append_assoc}
-use Rattle.std.proofs.Common.{take-append-drop, take-add, Bool, false, true, arith}
-use Rattle.std.specs.Prelude.{nat_lt, ◌==◌, ◌&&◌, ◌||◌}
+use Rattle.std.proofs.Common.{take-append-drop, take-add, Bool, false, true, arith, refl, ◌/◌, ◌∷◌, Result, Ok, Err, IfOk, IfErr}
+use Rattle.std.specs.Prelude.{nat_lt, ◌==◌, ◌&&◌, ◌||◌, map}
 use Rattle.std.proofs.Math.Nat.{div-le_self, div-mul-le_self}
 use Rattle.std.proofs.lemmas.Nat.{mul-le}
 use Rattle.std.specs.Borrow.{Bor}
@@ -9,16 +9,31 @@ use Rattle.std.proofs.lemmas.Bool.{ltb-true, eqb-true, and_parts}
 use Rattle.std.proofs.lemmas.Bool.Decides.{nat_tests}
 use Rattle.std.proofs.lemmas.List.{length-take, length-append, length-drop, take_rest, take_at}
 use Rattle.age_chunk.specs.ChunkBoxes.{IsChunkBox}
-use Rattle.age_chunk.specs.Payload.{chunk_limit, last_index, block_length}
+use Rattle.age_chunk.specs.Payload.{chunk_limit, last_index, block_length, pair, block_bytes, payload, sealed_before_last, last_chunk, chunk_length}
 use Rattle.age_stream.specs.Sealer.{SealerView, Holds, step_len, needs_too_many}
 use Rattle.age_stream.specs.Opener.{chunk_bytes}
-use Rattle.age_stream.proofs.LawLemmas.{payload_is_longer}
+use Rattle.age_stream.proofs.LawLemmas.{payload_is_longer, sealed_grows}
 use Rattle.age_fault.specs.Faults.{HasFailed}
-use Rattle.age_file.specs.inner.Readers.{WriterView}
-use Rattle.age_file.specs.inner.Seals.{front_of, IsTooLong, SealsSome, GoesOn, SealFails, HasRoom, Wrote}
+use Rattle.age_file.specs.inner.Readers.{WriterView, Wrote, ReaderView, PullFails}
+use Rattle.age_file.specs.inner.Seals.{front_of, IsTooLong, SealsSome, SealsRest, GoesOn, SealFails, HasRoom, SealingFails, SealsFront, SealsSource, BeginsFile}
+use Rattle.age_file.specs.inner.Seals.{FrontFails, WroteFront, SealsAll}
 use Rattle.age_fault.specs.declared.fault.FileFault.{FileFault}
-use Rattle.age_fault.specs.declared.fault.FileFault.TheVariants.{Stream, Write}
+use Rattle.age_fault.specs.declared.fault.FileFault.TheVariants.{Stream, Write, Read, ReadNeverEnds, Memory}
 use Rattle.age_io.proofs.TakenLemmas.{Appends-trans}
+use Rattle.std.specs.List.{enumerate_from}
+use Rattle.std.specs.Simd.{first_chunks}
+use Rattle.std.proofs.lemmas.Grind.{flat_map-append}
+use Rattle.age_stream.specs.Headline.{IsPrefixOf}
+use Rattle.age_io.specs.Io.{SourceView, SinkView}
+use Rattle.age_file.specs.Runs.{Ports, pull_room, ports}
+use Rattle.age_file.proofs.ReadLemmas.{prefix_trans, wrote_then}
+use Rattle.age_io.proofs.SupplyLemmas.{Consumes-nil}
+use Rattle.age_keys.specs.Keys.{header_mac, IsMacOf, box}
+use Rattle.age_keys.specs.Scrypt.{scrypt_head}
+use Rattle.age_file.specs.Encrypts.{AgeFile, Encrypts, EncryptsFront, EncryptFails, WhyStopped, without_last, SecretView}
+use Rattle.age_file.specs.declared.encryption.Written.{Written}
+
+-- ---- One feed of a sealer, and what then was written.
 
 pub step_len_le : (m : ℕ) (held piece : List ℕ) → step_len m held piece ≤ length piece
 step_len_le m held piece = grind (arith, nat_tests)
@@ -70,10 +85,9 @@ some_sealed sealing n old new was now piece taken chunk out unwritten is wrote b
 
 -- ---- one after the other
 
-module _ {B : Type 0} (sealing : B → List ℕ → List ℕ → List ℕ) (n : ℕ) where
-  pub goes_then : (a b c : SealerView B) (fed more : List ℕ) → GoesOn sealing n a b fed
-      → GoesOn sealing n b c more → GoesOn sealing n a c (fed ++ more)
-  goes_then a b c fed more p q =
+module _ {B : Type 0} {sealing : B → List ℕ → List ℕ → List ℕ} {n : ℕ} where
+  pub goes_then : {a b c : SealerView B} {fed more : List ℕ} → GoesOn sealing n a b fed → GoesOn sealing n b c more → GoesOn sealing n a c (fed ++ more)
+  goes_then {a} {b} {c} {fed} {more} p q =
       record {
         key = q.key ∙ p.key;
         feeding = q.feeding;
@@ -81,18 +95,14 @@ module _ {B : Type 0} (sealing : B → List ℕ → List ℕ → List ℕ) (n : 
       }
 
   -- what a piece's front gave, and then what of the rest
-  pub some_then : (a b c : SealerView B) (was mid now : WriterView) (front rest fed left unwritten : List ℕ)
+  pub some_then : {a b c : SealerView B} {was mid now : WriterView} {front rest fed left unwritten : List ℕ}
       → SealsSome sealing n a b was mid front front [] [] → GoesOn sealing n a b front → SealsSome sealing n b c mid now rest fed left unwritten
       → SealsSome sealing n a c was now (front ++ rest) (front ++ fed) left unwritten
-  some_then a b c was mid now front rest fed left unwritten p goes q =
+  some_then {a} {b} {c} {was} {mid} {now} {front} {rest} {fed} {left} {unwritten} p goes q =
       record {
         out = p.out ++ q.out;
         parts = ap (λ (t : List ℕ). front ++ t) q.parts ∙ sym (append_assoc front fed left);
-        wrote = record {
-          bytes = Appends-trans was.sink.taken mid.sink.taken now.sink.taken p.out q.out p.wrote.bytes q.wrote.bytes;
-          count = omega (arith, p.wrote.count, q.wrote.count, length-append p.out q.out);
-          named = q.wrote.named ∙ p.wrote.named;
-        };
+        wrote = wrote_then p.wrote q.wrote;
         blocks = λ text h.
             let one = p.blocks text h in
             let two = q.blocks (text ++ front) (goes.holds text h) in
@@ -105,35 +115,34 @@ module _ {B : Type 0} (sealing : B → List ℕ → List ℕ → List ℕ) (n : 
       }
 
   -- only the part that was fed
-  pub fed_alone : (a b : SealerView B) (was now : WriterView) (piece fed left unwritten : List ℕ)
+  pub fed_alone : {a b : SealerView B} {was now : WriterView} {piece fed left unwritten : List ℕ}
       → SealsSome sealing n a b was now piece fed left unwritten → SealsSome sealing n a b was now fed fed [] unwritten
-  fed_alone a b was now piece fed left unwritten p = record { out = p.out; parts = sym (append-nil fed); wrote = p.wrote; blocks = p.blocks }
+  fed_alone {a} {b} {was} {now} {piece} {fed} {left} {unwritten} p = record { out = p.out; parts = sym (append-nil fed); wrote = p.wrote; blocks = p.blocks }
 
   -- the rest of a piece, as a slice has it
-  pub next_some : (a b c : SealerView B) (was mid now : WriterView) (piece : List ℕ) (at : ℕ) (fed left unwritten : List ℕ)
+  pub next_some : {a b c : SealerView B} {was mid now : WriterView} (piece : List ℕ) (at : ℕ) {fed left unwritten : List ℕ}
       → SealsSome sealing n a b was mid (take at piece) (take at piece) [] [] → GoesOn sealing n a b (take at piece)
       → SealsSome sealing n b c mid now (take (length piece - at) (drop at piece)) fed left unwritten
       → SealsSome sealing n a c was now piece (take at piece ++ fed) left unwritten
-  next_some a b c was mid now piece at fed left unwritten p goes q =
+  next_some {a} {b} {c} {was} {mid} {now} piece at {fed} {left} {unwritten} p goes q =
       subst (λ (t : List ℕ). SealsSome sealing n a c was now t (take at piece ++ fed) left unwritten)
-      (ap (λ (t : List ℕ). take at piece ++ t) (take_rest piece at) ∙ take-append-drop at piece)
-      (some_then a b c was mid now (take at piece) (take (length piece - at) (drop at piece)) fed left unwritten p goes q)
+      (ap (λ (t : List ℕ). take at piece ++ t) (take_rest piece at) ∙ take-append-drop at piece) (some_then p goes q)
 
-  -- what was fed up to the next place
-  pub fed_is : (piece : List ℕ) (at taken : ℕ) (fed left : List ℕ) → take (length piece - at) (drop at piece) ≡ fed ++ left → taken ≡ length fed
-      → take at piece ++ fed ≡ take (at + taken) piece
-  fed_is piece at taken fed left parts len =
-      let e : fed ≡ take taken (drop at piece) = sym (take_at fed left taken (sym len)) ∙ ap (take taken) (sym parts ∙ take_rest piece at) in
-      ap (λ (t : List ℕ). take at piece ++ t) e ∙ sym (take-add at taken piece)
-
-  pub fails_then : (a b : SealerView B) (was mid now : WriterView) (front rest : List ℕ) (fault : FileFault) → mid.sink.failed ≡ was.sink.failed
+  pub fails_then : {a b : SealerView B} (was mid now : WriterView) (front rest : List ℕ) (fault : FileFault) → mid.sink.failed ≡ was.sink.failed
       → GoesOn sealing n a b front → SealFails sealing n b mid now rest fault → SealFails sealing n a was now (front ++ rest) fault
-  fails_then a b was mid now front rest (Stream fault) same goes f =
+  fails_then {a} {b} was mid now front rest (Stream fault) same goes f =
       let more : IsTooLong n a (front ++ rest) = λ text h. subst (λ (t : List ℕ). chunk_limit * n < length t) (append_assoc text front rest)
       (f.0 (text ++ front) (goes.holds text h)) in
       (more, f.1, f.2 ∙ same)
-  fails_then a b was mid now front rest Write same goes f = subst (λ (k : ℕ). HasFailed k now.sink.failed now.sink.failing) same f
-  fails_then a b was mid now front rest other same goes f = absurd f
+  fails_then was mid now front rest Write same goes f = subst (λ (k : ℕ). HasFailed k now.sink.failed now.sink.failing) same f
+  fails_then was mid now front rest other same goes f = absurd f
+
+-- what was fed up to the next place
+pub fed_is : (piece : List ℕ) (at taken : ℕ) (fed left : List ℕ) → take (length piece - at) (drop at piece) ≡ fed ++ left → taken ≡ length fed
+    → take at piece ++ fed ≡ take (at + taken) piece
+fed_is piece at taken fed left parts len =
+    let e : fed ≡ take taken (drop at piece) = sym (take_at fed left taken (sym len)) ∙ ap (take taken) (sym parts ∙ take_rest piece at) in
+    ap (λ (t : List ℕ). take at piece ++ t) e ∙ sym (take-add at taken piece)
 
 -- ---- sizes
 
@@ -146,11 +155,11 @@ module _ (sealing : List ℕ → List ℕ → List ℕ) (opening : List ℕ → 
       omega (arith, (payload_is_longer sealing opening valid n text).1, mul-le q (n + 16) (length text) block_length few most)
 
 -- after a piece's front the count of what was written has room for a block
-pub room_left : {B : Type 0} (sealing : B → List ℕ → List ℕ → List ℕ) (opening : List ℕ → List ℕ → Option (List ℕ)) (n : ℕ) (a b : SealerView B)
-    (was now : WriterView) (piece : List ℕ) (at : ℕ) → IsChunkBox (sealing a.key) opening → n + 16 ≤ block_length
+pub room_left : {B : Type 0} {sealing : B → List ℕ → List ℕ → List ℕ} (opening : List ℕ → List ℕ → Option (List ℕ)) {n : ℕ} {a b : SealerView B}
+    {was now : WriterView} (piece : List ℕ) (at : ℕ) → IsChunkBox (sealing a.key) opening → n + 16 ≤ block_length
     → HasRoom sealing n a was.tally.written (length piece) → SealsSome sealing n a b was now (take at piece) (take at piece) [] []
     → now.tally.written ≤ 2 ^ 127
-room_left sealing opening n a b was now piece at valid most room some =
+room_left {B} {sealing} opening {n} {a} {b} {was} {now} piece at valid most room some =
     let text = room.text in
     let fed = take at piece in
     let blocks = some.blocks text room.holds in
@@ -162,3 +171,222 @@ room_left sealing opening n a b was now piece at valid most room some =
     let product : length (text ++ fed) * block_length ≤ 2 ^ 96 * block_length =
     mul-le (length (text ++ fed)) block_length (2 ^ 96) block_length short (omega arith) in
     omega (arith, some.wrote.count, room.count, len, fits, product)
+
+-- ---- A source's text, piece by piece, and what of its payload was written.
+
+-- the blocks before the last begin the payload
+pub front_begins : (sealing : List ℕ → List ℕ → List ℕ) (n : ℕ) (text : List ℕ) → IsPrefixOf (front_of sealing n text) (payload sealing n text)
+front_begins sealing n text = (
+  block_bytes (pair sealing true (last_index n text, last_chunk n text) ∷ []),
+  sym (flat_map-append (λ (p : List ℕ × List ℕ). p.1) (sealed_before_last sealing n text)
+      (pair sealing true (last_index n text, last_chunk n text) ∷ [])),
+)
+
+-- no text has no such blocks
+pub no_front : (sealing : List ℕ → List ℕ → List ℕ) (n : ℕ) → 0 < n → front_of sealing n [] ≡ []
+no_front sealing n positive =
+    let zero : 0 / n ≡ 0 = omega arith in
+    ap (λ (q : ℕ). block_bytes (map (pair sealing false) (enumerate_from 0 (first_chunks n q [])))) zero
+
+module _ {B : Type 0} {sealing : B → List ℕ → List ℕ → List ℕ} {n : ℕ} {a b d : SealerView B} {was mid now : WriterView}
+    {text piece fed left unwritten : List ℕ} (goes : GoesOn sealing n a b text)
+    (fresh : Holds n a []) (wrote : Wrote was mid (front_of (sealing a.key) n text))
+    (some : SealsSome sealing n b d mid now piece fed left unwritten) (positive : 0 < n) where
+  -- the blocks that the piece brought
+  brought : front_of (sealing a.key) n (text ++ fed) ≡ front_of (sealing a.key) n text ++ (some.out ++ unwritten)
+  brought =
+      ap (λ (k : B). front_of (sealing k) n (text ++ fed)) (sym goes.key) ∙ (some.blocks text (goes.holds [] fresh)
+      ∙ ap (λ (k : B). front_of (sealing k) n text ++ (some.out ++ unwritten)) goes.key)
+
+  both : Wrote was now (front_of (sealing a.key) n text ++ some.out)
+  both = wrote_then wrote some.wrote
+
+  -- a whole piece
+  pub piece_done : left ≡ [] → unwritten ≡ [] → GoesOn sealing n b d fed → GoesOn sealing n a d (text ++ piece)
+      × Wrote was now (front_of (sealing a.key) n (text ++ piece))
+  piece_done none whole more =
+      let same : fed ≡ piece = sym (some.parts ∙ ap (λ (t : List ℕ). fed ++ t) none ∙ append-nil fed) in
+      let blocks : front_of (sealing a.key) n text ++ some.out ≡ front_of (sealing a.key) n (text ++ piece) =
+      ap (λ (t : List ℕ). front_of (sealing a.key) n text ++ t) (sym (append-nil some.out) ∙ ap (λ (t : List ℕ). some.out ++ t) (sym whole))
+      ∙ (sym brought ∙ ap (λ (t : List ℕ). front_of (sealing a.key) n (text ++ t)) same) in (
+        subst (λ (t : List ℕ). GoesOn sealing n a d (text ++ t)) same (goes_then goes more),
+        subst (λ (t : List ℕ). Wrote was now t) blocks both,
+      )
+
+  -- a piece at which it stopped
+  pub piece_cut : (out : List ℕ) × Wrote was now out × IsPrefixOf out (payload (sealing a.key) n (text ++ piece))
+  piece_cut =
+      let key = sealing a.key in
+      let first : IsPrefixOf (front_of key n text ++ some.out) (front_of key n (text ++ fed)) = (
+        unwritten,
+        append_assoc (front_of key n text) some.out unwritten ∙ sym brought,
+      ) in
+      let grown = sealed_grows key n (text ++ fed) left positive in
+      let whole : (text ++ fed) ++ left ≡ text ++ piece = append_assoc text fed left ∙ ap (λ (t : List ℕ). text ++ t) (sym some.parts) in
+      let second : IsPrefixOf (front_of key n (text ++ fed)) (payload key n (text ++ piece)) =
+      subst (λ (t : List ℕ). IsPrefixOf (front_of key n (text ++ fed)) (payload key n t)) whole
+      (prefix_trans _ _ _ grown (front_begins key n ((text ++ fed) ++ left))) in
+      (front_of key n text ++ some.out, both, prefix_trans _ _ _ first second)
+
+-- why no more came
+pub pull_fails : (sealing : List ℕ → List ℕ → List ℕ) (n : ℕ) (old new : Ports) (text : List ℕ) (x z : ReaderView) (fault : FileFault)
+    → x.source.failed ≡ old.source.failed → new.source ≡ z.source → new.sink.failed ≡ old.sink.failed → z.unread.pulls ≤ length text
+    → length text ≤ pull_room * z.unread.pulls → PullFails x z fault → SealingFails sealing n old new text (front_of sealing n text) fault
+pull_fails sealing n old new text x z Read same is kept gave small f = (
+  refl,
+  (
+    subst (λ (k : ℕ). HasFailed k new.source.failed new.source.failing) same
+        (subst (λ (s : SourceView). HasFailed x.source.failed s.failed s.failing) (sym is) f),
+    kept,
+  ),
+)
+pull_fails sealing n old new text x z ReadNeverEnds same is kept gave small f = (
+  refl,
+  (omega (arith, gave, f.0), omega (arith, small, f.0)),
+  (ap (λ (s : SourceView). s.failed) is ∙ (f.1 ∙ same), kept),
+)
+pull_fails sealing n old new text x z other same is kept gave small f = absurd f
+
+-- why a piece wasn't sealed
+pub seal_fails : {B : Type 0} (sealing : B → List ℕ → List ℕ → List ℕ) (n : ℕ) (a b : SealerView B) (old new : Ports) (was now : WriterView)
+    (text piece out : List ℕ) (fault : FileFault) → was.sink.failed ≡ old.sink.failed → new.sink ≡ now.sink
+    → new.source.failed ≡ old.source.failed → GoesOn sealing n a b text → Holds n a [] → SealFails sealing n b was now piece fault
+    → SealingFails (sealing a.key) n old new (text ++ piece) out fault
+seal_fails sealing n a b old new was now text piece out (Stream fault) same is read goes fresh f =
+    (f.0 text (goes.holds [] fresh), f.1, (read, ap (λ (s : SinkView). s.failed) is ∙ (f.2 ∙ same)))
+seal_fails sealing n a b old new was now text piece out Write same is read goes fresh f = (
+  subst (λ (k : ℕ). HasFailed k new.sink.failed new.sink.failing) same
+      (subst (λ (s : SinkView). HasFailed was.sink.failed s.failed s.failing) (sym is) f),
+  read,
+)
+seal_fails sealing n a b old new was now text piece out other same is read goes fresh f = absurd f
+
+-- a source wasn't sealed to its end, by the key that its sealer was made with
+pub sealing_failed : {B : Type 0} (sealing : B → List ℕ → List ℕ → List ℕ) (n : ℕ) (k key : B) (old new : Ports)
+    (was now : ℕ) (fault : FileFault) → k ≡ key → SealsFront (sealing k) n old new was now fault
+    → new.sink.label ≡ old.sink.label → SealsSource (sealing key) n old new was now (Err fault)
+sealing_failed {B} sealing n k key old new was now fault same front named = record {
+  done = tt;
+  counted = tt;
+  fails = subst (λ (c : B). SealsFront (sealing c) n old new was now fault) same front;
+  settled = tt;
+  named = named;
+}
+
+-- ---- the last block
+
+module _ {B : Type 0} {sealing : B → List ℕ → List ℕ → List ℕ} {n : ℕ} {a b : SealerView B} {was mid now : WriterView} {text : List ℕ}
+    {result : Result (Unit {0}) FileFault} (goes : GoesOn sealing n a b text) (fresh : Holds n a [])
+    (wrote : Wrote was mid (front_of (sealing a.key) n text)) (last : SealsRest sealing n b mid now result) where
+  abbrev written : List ℕ
+  written = front_of (sealing a.key) n text ++ last.out
+
+  whole : payload (sealing a.key) n text ≡ written ++ last.unwritten
+  whole =
+      ap (λ (k : B). payload (sealing k) n text) (sym goes.key) ∙ (last.blocks text (goes.holds [] fresh)
+      ∙ (ap (λ (k : B). front_of (sealing k) n text ++ (last.out ++ last.unwritten)) goes.key
+      ∙ sym (append_assoc (front_of (sealing a.key) n text) last.out last.unwritten)))
+
+  pub last_written : Wrote was now written
+  last_written = wrote_then wrote last.wrote
+
+  pub last_begins : IsPrefixOf written (payload (sealing a.key) n text)
+  last_begins = (last.unwritten, sym whole)
+
+  pub last_whole : last.unwritten ≡ [] → Wrote was now (payload (sealing a.key) n text)
+  last_whole none = subst (λ (t : List ℕ). Wrote was now t) (sym (whole ∙ ap (λ (t : List ℕ). written ++ t) none ∙ append-nil written)) last_written
+
+-- ---- A file's front, and what of the file was written.
+
+mac_holds : (pass : List ℕ) (log : ℕ) (salt key : List ℕ) → IsMacOf (scrypt_head pass log salt key) key
+unfolding scrypt_head header_mac
+mac_holds pass log salt key = refl
+
+file_of : {s : SecretView} {front : List ℕ} → BeginsFile s front → (text : List ℕ) → AgeFile s text (front ++ payload (box s.key s.nonce) chunk_length text)
+file_of {s} {front} begins text = record {
+  front = begins.front;
+  head = begins.head;
+  mac = mac_holds s.pass s.log s.salt s.key;
+  size = begins.size;
+  parts = ap (λ (t : List ℕ). t ++ payload (box s.key s.nonce) chunk_length text) begins.parts;
+}
+
+-- what stands before the payload was not written
+pub front_fails : (s : SecretView) (source : SourceView) (was now : WriterView) (fault : FileFault) → FrontFails s was now fault
+    → EncryptFails s (ports source was.sink) (ports source now.sink) fault
+unfolding file_of
+front_fails s source was now Memory f = ap (λ w. ports source w.sink) f
+front_fails s source was now Write f =
+    let none = payload (box s.key s.nonce) chunk_length [] in
+    record {
+      text = [];
+      file = f.front ++ none;
+      out = f.out;
+      is = file_of f.begins [];
+      read = Consumes-nil source.supply;
+      wrote = f.wrote;
+      prefix = (f.unwritten ++ none, sym (append_assoc f.out f.unwritten none) ∙ ap (λ (t : List ℕ). t ++ none) (sym f.parts));
+      why = (f.failed, refl);
+    }
+front_fails s source was now other f = absurd f
+
+-- it was, and the payload followed
+module _ {s : SecretView} {was mid : WriterView} (front : WroteFront s was mid) (source : SourceView) (new : Ports) (total : ℕ) where
+  abbrev before : Ports
+  before = ports source was.sink
+
+  abbrev between : Ports
+  between = ports source mid.sink
+
+  abbrev seal : List ℕ → List ℕ → List ℕ
+  seal = box s.key s.nonce
+
+  pub file_done : (result : Result Written FileFault) → IfOk result (λ w. w.file ≡ total)
+      → IfOk result (λ w. SealsAll seal chunk_length between new mid.tally.written total w.plain) → IfOk result (Encrypts s before new)
+  file_done (Ok w) all a =
+      let sealed = payload seal chunk_length a.text in
+      record {
+        text = a.text;
+        file = front.front ++ sealed;
+        few = a.few;
+        is = file_of front.begins a.text;
+        read = a.moved.read;
+        at_end = a.at_end;
+        wrote = Appends-trans was.sink.taken mid.sink.taken new.sink.taken front.front sealed front.wrote a.moved.wrote;
+        plain_is = a.plain_is;
+        file_is = omega (arith, all, a.moved.count, front.count, length-append front.front sealed);
+        none_failed = (a.none_failed.0, a.none_failed.1 ∙ front.failed);
+      }
+  file_done (Err fault) all a = tt
+
+  -- the blocks before the last, after what stands before them
+  last_missing : (text out : List ℕ) → out ≡ front_of seal chunk_length text → front.front ++ out ≡ without_last s front.begins.front text
+  last_missing text out e = ap (λ (t : List ℕ). front.front ++ t) e ∙ ap (λ (t : List ℕ). t ++ front_of seal chunk_length text) front.begins.parts
+
+  why_stopped : (text out : List ℕ) (fault : FileFault) → SealingFails seal chunk_length between new text out fault
+      → WhyStopped s before new front.begins.front text (front.front ++ out) fault
+  why_stopped text out (Stream fault) f = (omega (arith, f.0), f.1, (f.2.0, f.2.1 ∙ front.failed))
+  why_stopped text out Read f = (last_missing text out f.0, (f.1.0, f.1.1 ∙ front.failed))
+  why_stopped text out Write f = (subst (λ (k : ℕ). HasFailed k new.sink.failed new.sink.failing) front.failed f.0, f.1)
+  why_stopped text out ReadNeverEnds f = (last_missing text out f.0, f.1, (f.2.0, f.2.1 ∙ front.failed))
+  why_stopped text out other f = absurd f
+
+  stopped : (fault : FileFault) → SealsFront seal chunk_length between new mid.tally.written total fault → EncryptsFront s before new fault
+  unfolding file_of
+  stopped fault a =
+      record {
+        text = a.text;
+        file = front.front ++ payload seal chunk_length a.text;
+        out = front.front ++ a.out;
+        is = file_of front.begins a.text;
+        read = a.moved.read;
+        wrote = Appends-trans was.sink.taken mid.sink.taken new.sink.taken front.front a.out front.wrote a.moved.wrote;
+        prefix = (a.prefix.0, append_assoc front.front a.out a.prefix.0 ∙ ap (λ (t : List ℕ). front.front ++ t) a.prefix.1);
+        why = why_stopped a.text a.out fault a.fails;
+      }
+
+  pub file_stopped : (result : Result Written FileFault)
+      → IfErr result (SealsFront seal chunk_length between new mid.tally.written total) → IfErr result (EncryptFails s before new)
+  file_stopped (Ok w) a = tt
+  file_stopped (Err Memory) a = absurd a.fails
+  file_stopped (Err other) a = stopped other a

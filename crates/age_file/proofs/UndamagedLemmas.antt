@@ -1,10 +1,10 @@
--- What can't stop the decryption of an age file that is undamaged.
+-- What can't stop the decryption of an age file that is undamaged, and what it writes.
 use Rattle.std.proofs.Common.{inl, inr, ◌≡◌, ℕ, ◌+◌, ◌*◌, ◌<◌, ◌≤◌, List, [], ◌++◌, length, take, drop, Option, Some, refl, sym, ap, subst, ◌∙◌, arith}
-use Rattle.std.proofs.Common.{append-nil, append_assoc, Bool, true, false}
-use Rattle.std.proofs.lemmas.List.{length-append, drop_at, drop_all}
+use Rattle.std.proofs.Common.{append-nil, append_assoc, Bool, true, false, None, Result, Ok, Err, IfOk, IfErr, MatchResult}
+use Rattle.std.proofs.lemmas.List.{length-append, drop_at, drop_all, length-take}
 use Rattle.age_io.specs.Taken.{Appends}
 use Rattle.age_io.specs.Supply.{Supply, Consumes, IsAtEnd}
-use Rattle.std.specs.Prelude.{IfSome}
+use Rattle.std.specs.Prelude.{IfSome, IsSomeAnd}
 use Rattle.age_stanza.specs.declared.header.Header.{Header}
 use Rattle.age_stanza.specs.declared.fault.HeadFault.{HeadFault}
 use Rattle.age_stanza.specs.Grammar.{HeadText}
@@ -13,7 +13,7 @@ use Rattle.age_chunk.specs.declared.fault.StreamFault.{StreamFault}
 use Rattle.age_chunk.specs.declared.fault.StreamKind.TheVariants.{Truncated}
 use Rattle.age_chunk.specs.Payload.{payload, chunk_count, block_length, chunk_length, chunk_limit}
 use Rattle.age_io.specs.Io.{SourceView}
-use Rattle.age_stream.specs.declared.step.Status.TheVariants.{Open, Failed, Done}
+use Rattle.age_stream.specs.declared.step.Status.TheVariants.{Open, Failed, Done as AllDone}
 use Rattle.age_stream.specs.Segment.{outcome}
 use Rattle.age_stream.specs.Headline.{IsAuthentic, IsRest}
 use Rattle.age_stream.specs.Laws.{IsClosed}
@@ -23,12 +23,27 @@ use Rattle.age_keys.specs.declared.fault.KeyFault.TheVariants.{MacMismatch, Memo
 use Rattle.age_keys.specs.Keys.{IsMacOf, payload_key, Refuses, RefusesKey, box, unbox}
 use Rattle.age_keys.specs.inner.PayloadBox.{box_valid}
 use Rattle.age_fault.specs.declared.fault.FileFault.{FileFault}
-use Rattle.age_fault.specs.declared.fault.FileFault.TheVariants.{Head, Key, NonceCut, Stream, Read, Write, Memory, ReadNeverEnds}
-use Rattle.age_file.specs.Runs.{Ports, IsHeadFault, Run, run_outcome, IsRun, PayloadFails, IsDone}
-use Rattle.age_file.specs.Decrypts.{StartFails, IsWhole, WritesText, StopsOutside}
+use Rattle.age_fault.specs.declared.fault.FileFault.TheVariants.{Head, Key, NonceCut, Stream, Read, Write, Memory, ReadNeverEnds, OtherFile, ShortText}
+use Rattle.age_fault.specs.declared.fault.FileFault.TheVariants.{PositionForged, OldTextDiffers}
+use Rattle.age_file.specs.Runs.{Ports, IsHeadFault, Run, run_outcome, IsRun, PayloadFails, IsDone, Reads, OpenedFile, NeverEnds}
+use Rattle.age_file.specs.Decrypts.{StartFails, IsWhole, WritesText, StopsOutside, DecryptEnds, DecryptStops, IsUndamagedFile}
 use Rattle.age_file.specs.inner.Payloads.{segment}
-use Rattle.age_file.proofs.ByteLemmas.{fault_of_all, left_of, none_left, same_front, regroup}
-use Rattle.age_file.proofs.RunLemmas.{writes_all}
+use Rattle.age_file.proofs.ReadLemmas.{fault_of_all, left_of, none_left, same_front, regroup}
+use Rattle.age_file.proofs.RunLemmas.{writes_all, none_before}
+use Rattle.std.specs.Simd.{first_chunks}
+use Rattle.age_chunk.proofs.FirstChunkLemmas.{first_chunks-append}
+use Rattle.age_file.specs.Bindings.{chain}
+use Rattle.age_file.specs.Resumes.{ResumePorts, WritesOld, IsFrom, IsUndamagedRest, NeverEndTogether, BeforeOldFails, InOldFails, InSkippedFails}
+use Rattle.age_file.specs.Resumes.{StopsInSkipped, ResumeStops, ResumeEnds}
+use Rattle.age_file.specs.declared.decryption.Stopped.{Stopped}
+use Rattle.age_file.specs.declared.position.Position.{Position}
+use Rattle.age_file.specs.declared.position.PositionPolicy.{PositionPolicy}
+use Rattle.age_file.specs.declared.decryption.Done.{Done}
+use Rattle.age_keys.specs.Scrypt.{PassphraseOpens, PassphraseIdentity, IsPassphraseKey, PassphraseRefuses, scrypt_head}
+use Rattle.age_file.specs.Encrypts.{SecretView, AgeFile}
+use Rattle.age_file.specs.InARow.{DecryptAnswers, IsSecret, passphrase_identity, RoundTrip}
+
+-- ---- What can't stop the decryption of an age file that is undamaged.
 
 -- a key whose MAC is the header's is refused only if memory runs out
 pub for_memory : (h : Header) (key : List ℕ) (fault : KeyFault) → IsMacOf h key → RefusesKey h key fault → fault ≡ KeyMemory
@@ -57,7 +72,7 @@ failed_stays op n k bytes more false fault e none =
     let still : (outcome op n fed).status ≡ Open → ⊥ = λ o. let clash : Open ≡ Failed fault = sym o ∙ later in cc in
     (closed_stays op n fed (λ _. refl) still).1.fault fault later
 
-module _ (one : OneHeader) (Allows : Header → List ℕ → Type 0) (Refused : Header → KeyFault → Type 0) (coming : Supply) (text : List ℕ)
+module _ (one : OneHeader) {Allows : Header → List ℕ → Type 0} {Refused : Header → KeyFault → Type 0} {coming : Supply} {text : List ℕ}
     (u : IsWhole Allows Refused coming text) where
   -- what was read of the header is the file's
   pub record IsFront (h : Header) (front behind : List ℕ) : Type 0 where
@@ -107,15 +122,7 @@ module _ (one : OneHeader) (Allows : Header → List ℕ → Type 0) (Refused : 
       let t = left_of coming after u.bytes (front ++ short) u.all consumed in
       let same = fronts h front (short ++ t.0) text_is (t.1 ∙ append_assoc front short t.0) in
       let none : t.0 ≡ [] = none_left after t.0 t.2 ended in
-      omega (
-        arith,
-        lt,
-        ap length same.rest_is,
-        length-append short t.0,
-        ap length none,
-        length-append u.nonce (payload (box u.key u.nonce) chunk_length text),
-        u.file.size,
-      )
+      omega (arith, lt, ap length same.rest_is, length-append {A = ℕ}, ap length none, u.file.size)
 
   -- what was read after the nonce is the payload's beginning
   pub record IsOpenedAs (key nonce behind : List ℕ) (after : Supply) : Type 0 where
@@ -125,35 +132,32 @@ module _ (one : OneHeader) (Allows : Header → List ℕ → Type 0) (Refused : 
     pub left_is : after.left ≡ Some left
     pub payload_is : behind ++ left ≡ payload (box u.key u.nonce) chunk_length text
 
-  -- the file's front is that which was read
-  pub front_is : (after : Supply) (h : Header) (front nonce behind : List ℕ) → HeadText h front → Consumes coming after ((front ++ nonce) ++ behind)
-      → front ≡ u.file.front
-  front_is after h front nonce behind text_is consumed =
-      let t = left_of coming after u.bytes ((front ++ nonce) ++ behind) u.all consumed in
-      let parts = t.1 ∙ regroup front nonce behind t.0 in
-      (fronts h front (nonce ++ (behind ++ t.0)) text_is parts).front_is
-
-  pub opened_as : (after : Supply) (h : Header) (front key nonce behind : List ℕ) → HeadText h front → Allows h key → length nonce ≡ 16
-      → Consumes coming after ((front ++ nonce) ++ behind) → IsOpenedAs key nonce behind after
-  opened_as after h front key nonce behind text_is allows size consumed =
-      let t = left_of coming after u.bytes ((front ++ nonce) ++ behind) u.all consumed in
-      let parts = t.1 ∙ regroup front nonce behind t.0 in
-      let same = fronts h front (nonce ++ (behind ++ t.0)) text_is parts in
-      let both = same_front nonce u.nonce (behind ++ t.0) (payload (box u.key u.nonce) chunk_length text) (size ∙ sym u.file.size) same.rest_is in
+  pub opened_as : {after : Supply} {f : OpenedFile} {behind : List ℕ} → Reads Allows coming after f behind → IsOpenedAs f.key f.nonce behind after
+  opened_as {after} {f} {behind} r =
+      let front = f.header_bytes in
+      let t = left_of coming after u.bytes ((front ++ f.nonce) ++ behind) u.all r.read in
+      let same = fronts f.header front (f.nonce ++ (behind ++ t.0)) r.text (t.1 ∙ regroup front f.nonce behind t.0) in
+      let both = same_front f.nonce u.nonce (behind ++ t.0) (payload (box u.key u.nonce) chunk_length text) (r.size ∙ sym u.file.size) same.rest_is in
       record {
-        key_is = u.only key (subst (λ (x : Header). Allows x key) same.header_is allows);
+        key_is = u.only f.key (subst (λ (x : Header). Allows x f.key) same.header_is r.opens.allowed);
         nonce_is = both.0;
         left = t.0;
         left_is = t.2;
         payload_is = both.1;
       }
 
+  -- and so is the file's front that which was read
+  pub front_is : {after : Supply} {f : OpenedFile} {behind : List ℕ} → Reads Allows coming after f behind → f.header_bytes ≡ u.file.front
+  front_is {after} {f} {behind} r =
+      let t = left_of coming after u.bytes ((f.header_bytes ++ f.nonce) ++ behind) u.all r.read in
+      (fronts f.header f.header_bytes (f.nonce ++ (behind ++ t.0)) r.text (t.1 ∙ regroup f.header_bytes f.nonce behind t.0)).front_is
+
   -- from a chunk of the text on, whose blocks are the writer's
   module _ (k : ℕ) (below : k < chunk_count chunk_length text) (authentic : IsAuthentic (box u.key u.nonce) (unbox u.key u.nonce) chunk_length text
       (segment k (drop (k * block_length) (payload (box u.key u.nonce) chunk_length text)) true)) where
     -- the rest of the payload opens to its end
     rest_done : (outcome (unbox u.key u.nonce) chunk_length (segment k (drop (k * block_length) (payload (box u.key u.nonce) chunk_length text))
-        true)).status ≡ Done
+        true)).status ≡ AllDone
     rest_done =
         let valid = box_valid (payload_key u.key u.nonce) in
         let positive : 0 < chunk_length = omega arith in
@@ -173,7 +177,7 @@ module _ (one : OneHeader) (Allows : Header → List ℕ → Type 0) (Refused : 
         let here = rw (o.key_is, o.nonce_is) at failed in
         let stays = failed_stays (unbox u.key u.nonce) chunk_length k bytes o.left ended fault here
         (λ e. none_left after o.left o.left_is (at_end e)) in
-        let clash : Done ≡ Failed fault = sym rest_done ∙ (ap (λ (x : List ℕ).
+        let clash : AllDone ≡ Failed fault = sym rest_done ∙ (ap (λ (x : List ℕ).
         (outcome (unbox u.key u.nonce) chunk_length (segment k x true)).status) (sym rest) ∙ stays) in
         cc
 
@@ -190,17 +194,17 @@ module _ (one : OneHeader) (Allows : Header → List ℕ → Type 0) (Refused : 
           length-append passed o.left,
           ap length none,
         )) in
-        let clash : Done ≡ Failed (record { kind = Truncated; chunk = k + 0 }) = sym rest_done ∙ (ap (λ (x : List ℕ).
+        let clash : AllDone ≡ Failed (record { kind = Truncated; chunk = k + 0 }) = sym rest_done ∙ (ap (λ (x : List ℕ).
         (outcome (unbox u.key u.nonce) chunk_length (segment k x true)).status) nothing ∙ no_bytes (unbox u.key u.nonce) k) in
         cc
 
 -- no fault of what is before a payload
-module _ (one : OneHeader) (Allows : Header → List ℕ → Type 0) (Refused : Header → KeyFault → Type 0) (before after : SourceView) (text : List ℕ)
+module _ (one : OneHeader) {Allows : Header → List ℕ → Type 0} {Refused : Header → KeyFault → Type 0} (before after : SourceView) {text : List ℕ}
     (u : IsWhole Allows Refused before.supply text) where
   pub start_undamaged : (fault : FileFault) → StartFails Allows Refused before after fault → StopsOutside fault
-  start_undamaged (Head x) f = absurd (no_head_fault one Allows Refused before.supply text u x (fault_of_all before.supply after.supply x f))
-  start_undamaged (Key x) f = absurd (no_key_fault one Allows Refused before.supply text u after.supply f.0 f.1 f.2 x f.3 f.4 f.5 f.6)
-  start_undamaged NonceCut f = absurd (no_nonce_cut one Allows Refused before.supply text u after.supply f.0.0 f.0.1 f.0.3 f.0.4 f.0.6 f.0.7 f.1)
+  start_undamaged (Head x) f = absurd (no_head_fault one u x (fault_of_all before.supply after.supply x f))
+  start_undamaged (Key x) f = absurd (no_key_fault one u after.supply f.0 f.1 f.2 x f.3 f.4 f.5 f.6)
+  start_undamaged NonceCut f = absurd (no_nonce_cut one u after.supply f.0.0 f.0.1 f.0.3 f.0.4 f.0.6 f.0.7 f.1)
   start_undamaged Read f = tt
   start_undamaged Write f = tt
   start_undamaged Memory f = tt
@@ -222,23 +226,14 @@ own_authentic key nonce text few closed k below =
     (record { below = below; bytes = refl; ended = refl; timely = refl })
 
 -- a run of an undamaged file, from a chunk of its text
-module _ (one : OneHeader) (Allows : Header → List ℕ → Type 0) (Refused : Header → KeyFault → Type 0) (old new : Ports) (text : List ℕ)
-    (u : IsWhole Allows Refused old.source.supply text) (closed : IsClosed (box u.key u.nonce) (unbox u.key u.nonce) chunk_length text) (written : ℕ)
-    (r : Run) (below : r.first < chunk_count chunk_length text) where
-  abbrev rest : List ℕ
-  rest = drop (r.first * block_length) (payload (box u.key u.nonce) chunk_length text)
-
-  run_opened : IsRun Allows old new written r → IsOpenedAs one Allows Refused old.source.supply text u r.file.key r.file.nonce
-      (r.skipped ++ r.bytes) new.source.supply
-  run_opened is =
-      opened_as one Allows Refused old.source.supply text u new.source.supply r.file.header r.file.header_bytes r.file.key r.file.nonce
-      (r.skipped ++ r.bytes) is.reads.text is.reads.opens.allowed is.reads.size is.reads.read
-
+module _ (one : OneHeader) {Allows : Header → List ℕ → Type 0} {Refused : Header → KeyFault → Type 0} {old new : Ports} {text : List ℕ}
+    (u : IsWhole Allows Refused old.source.supply text) (closed : IsClosed (box u.key u.nonce) (unbox u.key u.nonce) chunk_length text) {written : ℕ}
+    {r : Run} (below : r.first < chunk_count chunk_length text) where
   -- opens to its end
   pub run_opens : (fault : StreamFault) → IsRun Allows old new written r → (run_outcome r).status ≡ Failed fault → ⊥
   run_opens fault is failed =
-      no_stream_fault one Allows Refused old.source.supply text u r.first below (own_authentic u.key u.nonce text u.few closed r.first below)
-      new.source.supply r.file.key r.file.nonce r.skipped r.bytes r.ended fault (run_opened is) is.skipped_size is.at_end failed
+      no_stream_fault one u r.first below (own_authentic u.key u.nonce text u.few closed r.first below)
+      new.source.supply r.file.key r.file.nonce r.skipped r.bytes r.ended fault (opened_as one u is.reads) is.skipped_size is.at_end failed
 
   -- so it has no fault
   pub payload_undamaged : (never : Type 0) (fault : FileFault) → IsRun Allows old new written r
@@ -254,8 +249,9 @@ module _ (one : OneHeader) (Allows : Header → List ℕ → Type 0) (Refused : 
       → WritesText old.sink.taken new.sink.taken written text
   run_writes old_text d =
       let is = d.is in
-      let o = run_opened is in
+      let o = opened_as one u is.reads in
       let none = none_left new.source.supply o.left o.left_is (is.at_end d.ended) in
+      let rest : List ℕ = drop (r.first * block_length) (payload (box u.key u.nonce) chunk_length text) in
       let after : r.bytes ++ o.left ≡ rest = sym (drop_at r.skipped (r.bytes ++ o.left) (r.first * block_length) is.skipped_size)
       ∙ ap (drop (r.first * block_length)) (sym (append_assoc r.skipped r.bytes o.left) ∙ o.payload_is) in
       let bytes_are : r.bytes ≡ rest = sym (append-nil r.bytes) ∙ (ap (λ (t : List ℕ). r.bytes ++ t) (sym none) ∙ after) in
@@ -265,3 +261,145 @@ module _ (one : OneHeader) (Allows : Header → List ℕ → Type 0) (Refused : 
         old_text = old_text;
         authentic = rw (o.key_is, o.nonce_is, bytes_are, d.ended) own;
       }) in (subst (λ (t : List ℕ). Appends old.sink.taken new.sink.taken t) whole is.wrote, is.count ∙ ap length whole)
+
+-- ---- What can't stop a resumed decryption of an age file that is undamaged, after the text that it was
+-- made for.
+
+module _ (one : OneHeader) {Allows : Header → List ℕ → Type 0} {Refused : Header → KeyFault → Type 0} {p : Position} (old new : ResumePorts)
+    {text : List ℕ} (u : IsUndamagedRest Allows Refused p old.main.source.supply old.old.supply text) where
+  -- the old text is long enough
+  old_is_long : (written : ℕ) (copied : List ℕ) (w : WritesOld p old new written copied)
+      → copied ≡ w.pulled → IsAtEnd new.old.supply → p.index * chunk_length ≤ length copied
+  old_is_long written copied w whole ended =
+      let b = u.old_text in
+      let t = left_of old.old.supply new.old.supply b.all w.pulled b.shown w.read in
+      let none = none_left new.old.supply t.0 t.2 ended in
+      omega (
+        arith,
+        b.within,
+        length-take (p.index * chunk_length) text,
+        ap length b.begins.1,
+        length-append (take (p.index * chunk_length) text) b.begins.0,
+        ap length t.1,
+        length-append w.pulled t.0,
+        ap length none,
+        ap length whole,
+      )
+
+  -- and has the position's chain
+  old_is_same : (written : ℕ) (copied : List ℕ) → WritesOld p old new written copied → length copied ≡ p.index * chunk_length
+      → chain (first_chunks chunk_length p.index copied) ≡ p.chain
+  old_is_same written copied w size =
+      let front = w.of text u.old_text in
+      sym (u.carries ∙ (ap (λ (t : List ℕ). chain (first_chunks chunk_length p.index t)) (sym front.1)
+      ∙ ap chain (first_chunks-append chunk_length p.index copied front.0 (omega (arith, size)))))
+
+  -- the position is the file's, and was made under its key
+  before_undamaged : (fault : FileFault) → BeforeOldFails Allows p old new Refused fault → StopsOutside fault
+  before_undamaged OtherFile f = absurd (f.2 (cc (u.own, front_is one u.whole f.1.2, (opened_as one u.whole f.1.2).nonce_is)))
+  before_undamaged PositionForged f = let o = opened_as one u.whole f.1.2 in absurd (f.3 (cc (u.tagged, o.key_is, o.nonce_is)))
+  before_undamaged other f = start_undamaged one old.main.source new.main.source u.whole other f
+
+  -- the old text is long enough, and the text's
+  old_undamaged : (written : ℕ) (copied : List ℕ) (w : WritesOld p old new written copied) (fault : FileFault)
+      → InOldFails Allows p old new w.pulled copied fault → StopsOutside fault
+  old_undamaged written copied w ShortText f =
+      let long = old_is_long written copied w f.1.0 f.1.1 in
+      absurd (omega (arith, long, f.0))
+  old_undamaged written copied w OldTextDiffers f = absurd (f.1 (old_is_same written copied w f.0))
+  old_undamaged written copied w Read f = tt
+  old_undamaged written copied w Write f = tt
+  old_undamaged written copied w ReadNeverEnds f = tt
+  old_undamaged written copied w other f = absurd f.1
+
+  -- the blocks before the position's are all there
+  skipped_undamaged : (keep : PositionPolicy) (stopped : Stopped) (s : StopsInSkipped Allows p old new keep stopped) (fault : FileFault)
+      → InSkippedFails Allows p old new s.skipped fault → StopsOutside fault
+  skipped_undamaged keep stopped s (Stream x) f =
+      absurd (no_early_end one u.whole p.index u.below (own_authentic u.whole.key u.whole.nonce text u.whole.few u.closed p.index u.below)
+      new.main.source.supply s.file.key s.file.nonce s.skipped (opened_as one u.whole s.reads) s.short f.2)
+  skipped_undamaged keep stopped s Read f = tt
+  skipped_undamaged keep stopped s ReadNeverEnds f = tt
+  skipped_undamaged keep stopped s other f = absurd f
+
+  pub undamaged_rest : (keep : PositionPolicy) (run : Option Run) (stopped : Stopped) → ResumeStops Allows p old new keep Refused run stopped
+      → StopsOutside stopped.fault
+  undamaged_rest keep None stopped (inl f) = before_undamaged stopped.fault f.2
+  undamaged_rest keep None stopped (inr (inl s)) = old_undamaged stopped.written s.copied s.writes stopped.fault s.why
+  undamaged_rest keep None stopped (inr (inr s)) = skipped_undamaged keep stopped s stopped.fault s.why
+  undamaged_rest keep (Some r) stopped f =
+      payload_undamaged one u.whole u.closed (omega (arith, f.0.index, u.below)) (NeverEndTogether old new) stopped.fault f.2.is f.2.why
+
+  -- an undamaged file that was read to its end gave its text, after the old text that is the text's
+  -- beginning
+  pub undamaged_rest_done : (written : ℕ) (r : Run) → IsFrom p old.old new.old r → IsDone Allows old.main new.main written r
+      → WritesText old.main.sink.taken new.main.sink.taken written text
+  undamaged_rest_done written r from d =
+      let b = u.old_text in
+      let t = left_of old.old.supply new.old.supply b.all (r.copied ++ from.more) b.shown from.old_read in
+      let size : length (take (p.index * chunk_length) text) ≡ p.index * chunk_length =
+      omega (arith, length-take (p.index * chunk_length) text, b.within) in
+      let both : r.copied ++ (from.more ++ t.0) ≡ take (p.index * chunk_length) text ++ b.begins.0 =
+      sym (append_assoc r.copied from.more t.0) ∙ (sym t.1 ∙ sym b.begins.1) in
+      let old_is = same_front r.copied (take (p.index * chunk_length) text) (from.more ++ t.0) b.begins.0 (from.old_text.size ∙ sym size) both in
+      let at : r.copied ≡ take (r.first * chunk_length) text = old_is.0 ∙ ap (λ (k : ℕ). take (k * chunk_length) text) (sym from.index) in
+      run_writes one u.whole u.closed (omega (arith, from.index, u.below)) at d
+
+-- ---- What one call wrote of an age file that is undamaged.
+
+module _ (one : OneHeader) (Allows : Header → List ℕ → Type 0) (Refused : Header → KeyFault → Type 0) (keep : PositionPolicy) where
+  pub decrypted : (old new : Ports) (text : List ℕ) (result : Result Done Stopped)
+      (run : Option Run) → IfOk result (λ done. IsSomeAnd run (DecryptEnds Allows old new done))
+      → IfErr result (DecryptStops keep Allows Refused old new run) → IsUndamagedFile Allows Refused old.source.supply text
+      → MatchResult result (λ done. WritesText old.sink.taken new.sink.taken done.written text) (λ stopped. StopsOutside stopped.fault)
+  decrypted old new text (Ok done) None ends stops whole = absurd ends
+  decrypted old new text (Ok done) (Some r) ends stops whole =
+      run_writes one whole.whole whole.closed (omega (arith, ends.0.zero)) (none_before r ends.0 text) ends.1
+  decrypted old new text (Err s) None ends stops whole = start_undamaged one old.source new.source whole.whole s.fault stops.1
+  decrypted old new text (Err s) (Some r) ends stops whole =
+      payload_undamaged one whole.whole whole.closed (omega (arith, stops.0.zero)) (NeverEnds old.source.supply new.source.supply) s.fault
+      stops.1.is stops.1.why
+
+  pub resumed : (p : Position) (old new : ResumePorts) (text : List ℕ) (result : Result Done Stopped) (run : Option Run)
+      → IfOk result (λ done. IsSomeAnd run (ResumeEnds Allows p old new done)) → IfErr result (ResumeStops Allows p old new keep Refused run)
+      → IsUndamagedRest Allows Refused p old.main.source.supply old.old.supply text → MatchResult result
+      (λ done. WritesText old.main.sink.taken new.main.sink.taken done.written text) (λ stopped. StopsOutside stopped.fault)
+  resumed p old new text (Ok done) None ends stops whole = absurd ends
+  resumed p old new text (Ok done) (Some r) ends stops whole = undamaged_rest_done one old new whole done.written r ends.0 ends.2
+  resumed p old new text (Err s) run ends stops whole = undamaged_rest one old new whole keep run s stops
+
+-- ---- What was encrypted under a passphrase, decrypted with it.
+
+pub whole : PassphraseOpens → (s : SecretView) (max_log : ℕ) (text bytes : List ℕ) (coming : Supply) → coming.left ≡ Some bytes → IsSecret s
+    → s.log ≤ max_log → chunk_count chunk_length text ≤ chunk_limit → AgeFile s text bytes
+    → IsWhole (IsPassphraseKey (passphrase_identity s max_log)) (PassphraseRefuses (passphrase_identity s max_log)) coming text
+whole opens s max_log text bytes coming shown is within few file =
+    let a = opens (passphrase_identity s max_log) s.log s.salt s.key is.within.least_log is.within.most_log
+    within is.salt_length is.salt_bytes is.key_length in
+    record {
+      header = scrypt_head s.pass s.log s.salt s.key;
+      key = s.key;
+      nonce = s.nonce;
+      bytes = bytes;
+      file = file;
+      all = shown;
+      few = few;
+      alone = a.alone;
+      only = a.no_other;
+      never = a.never;
+    }
+
+answered : (keep : PositionPolicy) → OneHeader → (w : PassphraseIdentity) (text : List ℕ) (now last : Ports) (result : Result Done Stopped)
+    (run : Option Run) → IsUndamagedFile (IsPassphraseKey w) (PassphraseRefuses w) now.source.supply text
+    → DecryptAnswers PassphraseIdentity IsPassphraseKey PassphraseRefuses keep w now last result run
+    → MatchResult result (λ done. Appends now.sink.taken last.sink.taken text) (λ stopped. StopsOutside stopped.fault)
+answered keep one w text now last (Ok done) run u f =
+    (decrypted one (IsPassphraseKey w) (PassphraseRefuses w) keep now last text (Ok done) run f tt u).0
+answered keep one w text now last (Err s) run u f =
+    decrypted one (IsPassphraseKey w) (PassphraseRefuses w) keep now last text (Err s) run tt f u
+
+pub there_and_back : OneHeader → PassphraseOpens → RoundTrip
+unfolding whole
+there_and_back one opens keep s max_log was became now last written e result run is within closed coming f =
+    answered keep one (passphrase_identity s max_log) e.text now last result run
+    (record { whole = whole opens s max_log e.text e.file now.source.supply coming is within e.few e.is; closed = closed }) f

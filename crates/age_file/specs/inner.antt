@@ -1,10 +1,6 @@
-pub mod Bindings
+pub mod Parts
 pub mod Decrypts
 pub mod Copies
 pub mod Payloads
 pub mod Seals
 pub mod Readers
-pub mod PositionTexts
-pub mod Unread
-pub mod Verdicts
-pub mod Rests

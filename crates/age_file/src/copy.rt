@@ -2,7 +2,7 @@
 
 ghost use Rattle.std.specs.Prelude.{◌≡◌, ◌<◌, []};
 ghost use Rattle.age_file.specs.declared.position.PositionPolicy.TheVariants.{Kept};
-ghost use Rattle.age_file.specs.inner.Bindings.{chain_if};
+ghost use Rattle.age_file.specs.inner.Parts.{chain_if};
 ghost use Rattle.age_file.specs.inner.Readers.{view_of_reader, view_of_writer, SameReader, SameWriter};
 ghost use Rattle.age_file.specs.inner.Readers.{KeepsOrigin};
 ghost use Rattle.age_file.specs.inner.Copies.{CanCopy, CopiesChunk, CopiesAll};

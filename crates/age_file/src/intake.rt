@@ -29,7 +29,7 @@ pub(crate) struct Intake {
 }
 
 impl Model for Intake {
-    ghost use Rattle.age_file.specs.inner.Unread.{Unread};
+    ghost use Rattle.age_file.specs.inner.Parts.{Unread};
 
     ghost Value = { Unread };
 

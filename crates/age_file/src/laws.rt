@@ -17,6 +17,7 @@ use age_stanza::one_header;
 /// output begins the text, the last is all of it if its run ended, a run that stops while it copies
 /// that output wrote a beginning of the text too, and each position that is handed out carries the
 /// chain over the text's first chunks.
+#[tactic(auto, using(crate::proofs::RunLemmas::in_a_row))]
 pub fn runs_in_a_row()
     ensures { RunsInARow }
 {}
@@ -26,6 +27,7 @@ pub fn runs_in_a_row()
 /// block opens except as the writer of a text sealed it, what each call's sink took begins the
 /// text, is all of it if the call is done, and each position that is handed out carries the chain
 /// over the text's first chunks. Of each call no more is assumed than what its contract promises.
+#[tactic(auto, using(crate::proofs::GivenLemmas::in_a_row))]
 pub fn calls_in_a_row<U: Unlock>()
     ensures { CallsInARow U U.allows U.refuses }
 {}
@@ -87,6 +89,7 @@ pub fn head_faults_stay()
 /// by [`decrypt`](crate::decrypt) and at a position of it by [`resume`](crate::resume), or the call
 /// stops with `Read` (26), `Write` (27), `Memory` (28) or `ReadNeverEnds` (29). Of the call no more
 /// is assumed than what its contract promises.
+#[tactic(auto, using(crate::proofs::UndamagedLemmas::decrypted, crate::proofs::UndamagedLemmas::resumed))]
 pub fn undamaged_is_written<U: Unlock>()
     ensures decrypted { (keep : PositionPolicy) (who : U) (result : Result Done Stopped)
         (text : List ℕ) → UndamagedIsDecrypted U U.allows U.refuses keep who result text }
@@ -103,6 +106,7 @@ pub fn undamaged_is_written<U: Unlock>()
 /// the sink those that it holds. If they do, as over memory, the age file is all that was to come,
 /// and the sink holds the text after what it held. Of the call no more is assumed than what its
 /// contract promises.
+#[tactic(auto, using(crate::proofs::GivenLemmas::done_gave_file, crate::proofs::GivenLemmas::done_is_file))]
 pub fn done_gave_file<U: Unlock>()
     ensures gave { DoneGaveFile U U.allows U.refuses }
     ensures shown { DoneIsFile U U.allows U.refuses }

@@ -4,15 +4,14 @@ ghost use Rattle.std.specs.Prelude.{◌≡◌, [], Err, IfOk, IfErr};
 ghost use Rattle.age_chunk.specs.Payload.{chunk_length};
 ghost use Rattle.age_io.specs.Io.{Origin};
 ghost use Rattle.age_file.specs.declared.standing.Standing.TheVariants.{Before, Skipping};
-ghost use Rattle.age_file.specs.inner.Decrypts.{EndsAs};
+ghost use Rattle.age_file.specs.inner.Decrypts.{EndsAs, VerdictOn, StartsFor, StartForFails, HasRoomAfter};
+ghost use Rattle.age_file.specs.inner.Decrypts.{ResumesRest};
 ghost use Rattle.age_file.specs.inner.Readers.{view_of_reader, view_of_writer, stage_of, SameReader};
 ghost use Rattle.age_file.specs.inner.Readers.{KeepsOrigin, SameWriter};
 ghost use Rattle.age_file.specs.inner.Copies.{CopiesText, CopiesBefore};
 ghost use Rattle.age_file.specs.Runs.{ports};
 ghost use Rattle.age_file.specs.declared.position.PositionPolicy.TheVariants.{Kept};
-ghost use Rattle.age_file.specs.inner.Bindings.{chain_if};
-ghost use Rattle.age_file.specs.inner.Verdicts.{VerdictOn, StartsFor, StartForFails};
-ghost use Rattle.age_file.specs.inner.Rests.{HasRoomAfter, ResumesRest};
+ghost use Rattle.age_file.specs.inner.Parts.{chain_if};
 ghost use Rattle.age_file.specs.Resumes.{resume_ports, ResumesText, ResumesKeyed};
 
 use crate::copy::copy_chunks;

@@ -1,7 +1,7 @@
 //! How far a run has come.
 
 ghost use Rattle.std.specs.Prelude.{◌≡◌, ◌<◌, ◌*◌, ℕ, List, [], Some};
-ghost use Rattle.age_file.specs.inner.Bindings.{chain_if, link_if};
+ghost use Rattle.age_file.specs.inner.Parts.{chain_if, link_if};
 ghost use Rattle.age_file.specs.declared.position.PositionPolicy.TheVariants.{Kept};
 ghost use Rattle.age_chunk.specs.Payload.{chunk_limit, chunk_length};
 ghost use Rattle.std.specs.Simd.{first_chunks};

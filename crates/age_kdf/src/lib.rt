@@ -32,7 +32,7 @@ fn key_with_zeros(key: &[u8]) -> [u8; 64]
 }
 
 /// The key as a block. A key longer than a block stands as its digest first.
-#[tactic(auto, unfolding(crate::specs::Derivation::key_block), using(crate::proofs::KeyLemmas::length_tests))]
+#[tactic(auto, unfolding(crate::specs::Derivation::key_block), using(crate::proofs::BlockLemmas::length_tests))]
 fn key_block(key: &[u8]) -> [u8; 64]
     ensures { result ≡ key_block key.now }
 {
@@ -88,6 +88,7 @@ pub fn hkdf32(ikm: &[u8], salt: &[u8], info: &[u8]) -> [u8; 32]
 }
 
 /// The block of number `i`, from 1, for each passphrase that has this key block.
+#[tactic(auto, unfolding(crate::specs::Derivation::pbkdf2_block))]
 fn pbkdf2_block(block: &[u8; 64], salt: &[u8], i: u32) -> [u8; 32]
     ensures { (pass : List ℕ) → block.now ≡ key_block pass
         → result ≡ pbkdf2_block pass salt.now i }

@@ -1,7 +1,4 @@
-pub mod CountLemmas
-pub mod PartLemmas
-pub mod PassphraseLemmas
 pub mod ScryptLemmas
-pub mod SharedLemmas
-pub mod StanzaLemmas
 pub mod WorkFactorLemmas
+pub mod StanzaLemmas
+pub mod PassphraseLemmas

@@ -1,24 +1,34 @@
 -- What the passphrase that a header was made for finds in it.
-use Rattle.std.proofs.Common.{◌≡◌, ◌≢◌, ℕ, ◌+◌, ◌≤◌, true, Option, Some, None, Result, List, [], ◌∷◌, length, get_or, replicate, refl, sym, ap, ap₂, ◌∙◌, arith}
-use Rattle.std.proofs.lemmas.Bool.{false≢true}
-use Rattle.std.specs.Prelude.{codes, IfSome, IfNone, MatchResult}
-use Rattle.std.specs.Option.{ok_or}
+use Rattle.std.proofs.Common.{◌≡◌, ℕ, ◌+◌, ◌≤◌, Option, Some, None, Result, List, ◌≢◌, true, [], ◌∷◌, length, get_or, replicate, refl, sym, ap, ap₂, ◌∙◌, arith}
 use Rattle.std.specs.Fmt.{decimal}
+use Rattle.std.specs.Option.{ok_or}
+use Rattle.std.specs.Prelude.{codes, IfSome, IfNone, MatchResult}
 use Rattle.std.specs.Str.Parse.{digits_value}
+use Rattle.std.proofs.lemmas.Bool.{false≢true}
 use Rattle.std.proofs.lemmas.Fmt.{decimal_is_IsNumeral, first_decimal}
-use Rattle.base64.specs.GeneralPurpose.{IsBytes}
+use Rattle.age_cipher.proofs.SealingLemmas.{length-sealing, one_text as one_sealed}
+use Rattle.age_stanza.proofs.Base64Lemmas.{one_text}
+use Rattle.age_stanza.specs.Text.{base64_text}
 use Rattle.age_stanza.specs.declared.header.Header.{Header}
 use Rattle.age_stanza.specs.declared.header.Stanza.{Stanza}
-use Rattle.age_stanza.specs.Text.{base64_text}
-use Rattle.age_cipher.proofs.SealingLemmas.{length-sealing, one_text as one_sealed}
+use Rattle.base64.specs.GeneralPurpose.{IsBytes}
 use Rattle.age_keys.specs.declared.fault.KeyFault.{KeyFault}
-use Rattle.age_keys.specs.declared.fault.KeyFault.TheVariants.{ScryptNotAlone, BadScrypt, WorkTooHigh, NoMatch, WrongKey, MacMismatch, BadX25519, Memory}
-use Rattle.age_keys.specs.Keys.{header_mac, wrapped_key, has_scrypt, IsMacOf, AllowsAlone}
+use Rattle.age_keys.specs.declared.fault.KeyFault.TheVariants.{WrongKey, ScryptNotAlone, BadScrypt, WorkTooHigh, NoMatch, MacMismatch, BadX25519, Memory}
+use Rattle.age_keys.specs.Keys.{Counts, header_mac, wrapped_key, has_scrypt, IsMacOf, AllowsAlone}
 use Rattle.age_keys.specs.Scrypt.{PassphraseIdentity, IsPassphraseKey, PassphraseRefuses, wrap_key, IsWorkFactor, IsScryptStanza, OnlyScrypt, scrypt_stanza}
 use Rattle.age_keys.specs.Scrypt.{scrypt_head}
-use Rattle.age_stanza.proofs.Base64Lemmas.{one_text}
 use Rattle.age_keys.proofs.StanzaLemmas.{not_beside}
 use Rattle.age_keys.proofs.WorkFactorLemmas.{zero_first}
+
+-- ---- what a count of steps says of an answer
+
+-- a body was tried
+pub was_tried : (most : ℕ) (found : Option (List ℕ)) (result : Result (List ℕ) KeyFault) (old new : ℕ) → new ≤ old + most → result ≡ ok_or found WrongKey
+    → Counts most result old new
+was_tried most (Some key) result old new within e = rw e (record { before = tt; within = within })
+was_tried most None result old new within e = rw e (record { before = tt; within = within })
+
+-- ---- what the passphrase that a header was made for finds in it
 
 length-wrapped : (wrap key : List ℕ) → length (wrapped_key wrap key) ≡ length key + 16
 unfolding wrapped_key
@@ -142,8 +152,7 @@ only_memory w h key only wraps within typed BadX25519 r = absurd r
 only_memory w h key only wraps within typed Memory r = refl
 
 pub opens_alone : (w : PassphraseIdentity) (log : ℕ) (salt key : List ℕ) → 1 ≤ log → log ≤ 22 → log ≤ w.max_log → length salt ≡ 16 → IsBytes salt
-    → length key ≡ 16
-    → AllowsAlone (IsPassphraseKey w) (PassphraseRefuses w) (scrypt_head w.pass log salt key) key
+    → length key ≡ 16 → AllowsAlone (IsPassphraseKey w) (PassphraseRefuses w) (scrypt_head w.pass log salt key) key
 opens_alone w log salt key some few within size fits key_size =
     let h : Header = scrypt_head w.pass log salt key in
     let has : HasOwn w h log key = own w log salt key some few size fits key_size in

@@ -98,12 +98,10 @@ scrypt_size salt body log size body_size few =
 pub size_of_one : (s : Stanza) (mac : List ℕ) → length mac ≡ 32
     → length (head_text (record { stanzas = s ∷ []; mac = mac })) ≡ length (stanza_text s) + 70
 size_of_one s mac long =
-    length-head (record { stanzas = s ∷ []; mac = mac }) long
-    ∙ ap (λ n. n + 70) (omega (arith, length-append (stanza_text s) []))
+    length-head (record { stanzas = s ∷ []; mac = mac }) long ∙ ap (λ n. n + 70) (omega (arith, length-append (stanza_text s) []))
 
 pub scrypt_has_text : (salt body mac : List ℕ) (log : ℕ) → length salt ≡ 16 → IsBytes salt → length body ≡ 32 → IsBytes body → log ≤ 22 → length mac
-    ≡ 32 → IsBytes mac
-    → HasText (record { stanzas = scrypt_stanza salt log body ∷ []; mac = mac })
+    ≡ 32 → IsBytes mac → HasText (record { stanzas = scrypt_stanza salt log body ∷ []; mac = mac })
 scrypt_has_text salt body mac log size fits body_size body_fits few mac_size mac_fits =
     let h : Header = record { stanzas = scrypt_stanza salt log body ∷ []; mac = mac } in
     let whole = size_of_one (scrypt_stanza salt log body) mac mac_size in

@@ -43,6 +43,7 @@ impl ChunkBox for PayloadKey {
 
 /// The key of the payload that follows a nonce: HKDF of the file key, salted with the nonce, under
 /// the label `payload` (<https://c2sp.org/age#payload>).
+#[tactic(auto, unfolding(crate::specs::Keys::payload_key))]
 pub fn payload_key(key: &FileKey, nonce: &[u8; PAYLOAD_NONCE_LEN]) -> PayloadKey
     ensures { result ≡ payload_key key.now nonce.now }
 {
@@ -53,6 +54,7 @@ pub fn payload_key(key: &FileKey, nonce: &[u8; PAYLOAD_NONCE_LEN]) -> PayloadKey
 
 /// The key of the tags of positions in a payload: HKDF of the file key, salted with the payload's
 /// nonce, under the label `age-tool position v2`. It is no part of the age format.
+#[tactic(auto, unfolding(crate::specs::Keys::position_key))]
 pub fn position_key(key: &FileKey, nonce: &[u8; PAYLOAD_NONCE_LEN]) -> [u8; 32]
     ensures { result ≡ position_key key.now nonce.now }
 {

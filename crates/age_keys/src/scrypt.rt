@@ -118,6 +118,7 @@ impl ScryptStanza {
 }
 
 /// The argument that spells a salt.
+#[tactic(auto, unfolding(age_stanza::specs::Text::base64_text))]
 fn salt_argument(alloc: Global, salt: &[u8; 16]) -> Result<Argument, AllocError>
     ensures { IfOk result (λ argument. argument ≡ base64_text salt.now) }
 {
@@ -147,6 +148,7 @@ fn push_arguments(
 }
 
 /// The stanza of a salt, a work factor and a body.
+#[tactic(auto, unfolding(crate::specs::Scrypt::scrypt_stanza))]
 fn scrypt_stanza(
     alloc: Global,
     salt: &[u8; 16],

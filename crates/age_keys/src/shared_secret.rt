@@ -94,6 +94,7 @@ impl SharedSecret {
     }
 
     /// The key that the file key is wrapped under in the stanza of a share.
+    #[tactic(auto, unfolding(crate::specs::X25519::shared_wrap_key))]
     fn wrap_key(&self, share: &[u8; 32]) -> [u8; 32]
         ensures { result ≡ shared_wrap_key self.now share.now }
     {

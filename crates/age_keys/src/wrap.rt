@@ -11,6 +11,7 @@ use age_cipher::{open_in_place, seal_in_place};
 const NONCE: &[u8; 12] = &[0; 12];
 
 /// The body that wraps a file key.
+#[tactic(auto, unfolding(crate::specs::Keys::wrapped_key), using(crate::proofs::StanzaLemmas::front_of))]
 pub(crate) fn wrapped_key(wrap_key: &[u8; 32], key: &FileKey) -> [u8; 32]
     ensures { result ≡ wrapped_key wrap_key.now key.now }
 {
@@ -21,6 +22,7 @@ pub(crate) fn wrapped_key(wrap_key: &[u8; 32], key: &FileKey) -> [u8; 32]
 }
 
 /// The file key that this body wraps; `None` if it wraps none.
+#[tactic(auto, unfolding(crate::specs::Keys::wrapped_key))]
 pub(crate) fn unwrapped_key(wrap_key: &[u8; 32], body: &[u8; 32]) -> Option<FileKey>
     ensures key { IfSome result (λ key. body.now ≡ wrapped_key wrap_key.now key) }
     ensures none { IfNone result ((key : List ℕ) → body.now ≢ wrapped_key wrap_key.now key) }

@@ -1,13 +1,12 @@
 -- What a call leaves as it was, and what a power cut leaves after it.
-use Rattle.std.proofs.Common.{◌≡◌, ◌⊎◌, inl, inr, ℕ, List, [], ◌∷◌, Bool, Option, Some, None}
-use Rattle.std.proofs.Common.{refl, sym, ◌∙◌, ap, subst}
+use Rattle.std.proofs.Common.{◌≡◌, ◌⊎◌, inl, inr, ℕ, List, [], ◌∷◌, Bool, Option, Some, None, refl, sym, ◌∙◌, ap, subst}
 use Rattle.std.specs.Prelude.{bytes_eq, if◌then◌else◌}
 use Rattle.std.proofs.lemmas.Bool.{false_from_ne_true, eq-eqb, ne_eqb}
+use Rattle.std.proofs.lemmas.Bool.Decides.{eqb_tells}
 use Rattle.std.proofs.lemmas.Slice.Eq.{bytes_eq-Decides}
-use Rattle.age_machine.specs.Calls.{FileCall, Made, Wrote, Cut, Broke, Measured, Synced, Unwaited, IsOf}
-use Rattle.age_machine.specs.Calls.{Locked, Unlockable, Linked, Renamed, Removed, SyncedNames}
-use Rattle.age_machine.specs.Disk.{Disk, at_path, for_file, changed, after_call}
-use Rattle.age_machine.specs.Disk.{IsAmong, MayLead, MayLeaveFile, MayLeave}
+use Rattle.age_machine.specs.Calls.{FileCall, Made, Wrote, Cut, Broke, Measured, Synced, Unwaited, IsOf, Locked, Unlockable, Linked, Renamed, Removed}
+use Rattle.age_machine.specs.Calls.{SyncedNames}
+use Rattle.age_machine.specs.Disk.{Disk, at_path, for_file, changed, after_call, IsAmong, MayLead, MayLeaveFile, MayLeave}
 use Rattle.age_machine.specs.inner.Steps.{Has}
 
 -- ---- Values at one path, or for one file.
@@ -34,12 +33,7 @@ pub record Apart (n : ℕ) (path : List ℕ) (old new : Disk) : Type 0 where
   pub is_kept : (m : ℕ) → (n ≡ m → ⊥) → new.is_kept m ≡ old.is_kept m
 
 apart_same : (n : ℕ) (path : List ℕ) (disk : Disk) → Apart n path disk disk
-apart_same n path disk = record {
-  file = refl;
-  before = refl;
-  bytes = λ m other. refl;
-  is_kept = λ m other. refl;
-}
+apart_same n path disk = record { file = refl; before = refl; bytes = λ m other. refl; is_kept = λ m other. refl }
 
 pub apart_made : (n : ℕ) (path p : List ℕ) (disk : Disk) → (p ≡ path → ⊥) → Apart n path disk (after_call (Made p n) disk)
 apart_made n path p disk apart = record {
@@ -49,36 +43,30 @@ apart_made n path p disk apart = record {
   is_kept = λ m other. file_other n m _ disk.is_kept other;
 }
 
-apart_changed : (n : ℕ) (path bytes : List ℕ) (disk : Disk) → Apart n path disk (changed n bytes disk)
-apart_changed n path bytes disk = record {
+apart_changed : (n m : ℕ) (path bytes : List ℕ) (disk : Disk) → m ≡ n → Apart n path disk (changed m bytes disk)
+apart_changed n m path bytes disk of = record {
   file = refl;
   before = refl;
-  bytes = λ m other. file_other n m bytes disk.bytes other;
-  is_kept = λ m other. file_other n m _ disk.is_kept other;
+  bytes = λ k other. file_other m k bytes disk.bytes (λ same. other (sym of ∙ same));
+  is_kept = λ k other. file_other m k _ disk.is_kept (λ same. other (sym of ∙ same));
 }
 
-apart_broke : (n : ℕ) (path : List ℕ) (disk : Disk) → Apart n path disk (after_call (Broke n) disk)
-apart_broke n path disk = record {
+-- what a power cut does to the file may differ
+apart_kept : (n m : ℕ) (path : List ℕ) (is_kept : Bool) (is_lost : ℕ → Bool) (disk : Disk) → m ≡ n
+    → Apart n path disk (record disk { is_kept = for_file m is_kept disk.is_kept; is_lost = is_lost })
+apart_kept n m path is_kept is_lost disk of = record {
   file = refl;
   before = refl;
-  bytes = λ m other. refl;
-  is_kept = λ m other. file_other n m _ disk.is_kept other;
-}
-
-apart_synced : (n : ℕ) (path : List ℕ) (disk : Disk) → Apart n path disk (after_call (Synced n) disk)
-apart_synced n path disk = record {
-  file = refl;
-  before = refl;
-  bytes = λ m other. refl;
-  is_kept = λ m other. file_other n m _ disk.is_kept other;
+  bytes = λ k other. refl;
+  is_kept = λ k other. file_other m k is_kept disk.is_kept (λ same. other (sym of ∙ same));
 }
 
 -- after a call about the one file
 pub apart_of : (n : ℕ) (path : List ℕ) (call : FileCall) (disk : Disk) → IsOf n call → Apart n path disk (after_call call disk)
-apart_of n path (Wrote m at part) disk of = subst (λ (k : ℕ). Apart k path disk (after_call (Wrote m at part) disk)) of (apart_changed m path _ disk)
-apart_of n path (Cut m len) disk of = subst (λ (k : ℕ). Apart k path disk (after_call (Cut m len) disk)) of (apart_changed m path _ disk)
-apart_of n path (Broke m) disk of = subst (λ (k : ℕ). Apart k path disk (after_call (Broke m) disk)) of (apart_broke m path disk)
-apart_of n path (Synced m) disk of = subst (λ (k : ℕ). Apart k path disk (after_call (Synced m) disk)) of (apart_synced m path disk)
+apart_of n path (Wrote m at part) disk of = apart_changed n m path _ disk of
+apart_of n path (Cut m len) disk of = apart_changed n m path _ disk of
+apart_of n path (Broke m) disk of = apart_kept n m path _ _ disk of
+apart_of n path (Synced m) disk of = apart_kept n m path _ _ disk of
 apart_of n path (Measured m len) disk of = apart_same n path disk
 apart_of n path (Unwaited m) disk of = apart_same n path disk
 apart_of n path (Locked m) disk of = apart_same n path disk
@@ -106,7 +94,7 @@ leaves_apart n path old new apart nowhere left leaves =
           (leaves.0, leaves.1, λ kept. leaves.2 (apart.is_kept m other ∙ kept) ∙ apart.bytes m other)
 
 -- where the files hold what they held, and the path leads nowhere else
-leaves_fewer : (path : List ℕ) (old new : Disk) → ((m : ℕ) → new.bytes m ≡ old.bytes m) → ((m : ℕ) → new.is_kept m ≡ old.is_kept m)
+pub leaves_fewer : (path : List ℕ) (old new : Disk) → ((m : ℕ) → new.bytes m ≡ old.bytes m) → ((m : ℕ) → new.is_kept m ≡ old.is_kept m)
     → ((to : Option ℕ) → MayLead new path to → MayLead old path to) → (left : Option (List ℕ)) → MayLeave new path left → MayLeave old path left
 leaves_fewer path old new bytes is_kept fewer left leaves =
     (leaves.0, fewer leaves.0 leaves.1, files leaves.0 leaves.2) where
@@ -146,6 +134,21 @@ leaves_only n path bytes disk file before has left leaves =
       first to (inl is) = is
       first to (inr none) = absurd none
 
+-- where the path comes to lead to it, and no other file is changed
+pub leaves_new : (n : ℕ) (path bytes : List ℕ) (old new : Disk) → Has n bytes new → ((m : ℕ) → (n ≡ m → ⊥) → new.bytes m ≡ old.bytes m)
+    → ((m : ℕ) → (n ≡ m → ⊥) → new.is_kept m ≡ old.is_kept m) → new.file path ≡ Some n → new.before path ≡ old.file path ∷ old.before path
+    → (left : Option (List ℕ)) → MayLeave new path left → MayLeave old path left ⊎ (left ≡ Some bytes)
+leaves_new n path bytes old new has same_bytes same_kept file before left leaves =
+    cases leaves.0 leaves.2 (led _ _ _ _ leaves.0 file before leaves.1) where
+      cases : (to : Option ℕ) → MayLeaveFile new to left → IsAmong to (Some n ∷ old.file path ∷ old.before path)
+          → MayLeave old path left ⊎ (left ≡ Some bytes)
+      cases to leaves (inl is) = inr (leaves_kept n bytes new to left has is leaves)
+      cases None leaves (inr may) = inl (None, may, leaves)
+      cases (Some m) leaves (inr may) = elim (eqb_tells n m) [
+        | inl same ↦ inr (leaves_kept n bytes new (Some m) left has (ap Some (sym same.1)) leaves)
+        | inr other ↦ inl (Some m, may, (leaves.0, leaves.1, λ kept. leaves.2 (same_kept m other.1 ∙ kept) ∙ same_bytes m other.1))
+      ]
+
 -- where the path comes to lead to that file too
 module _ (n : ℕ) (from path : List ℕ) (disk : Disk) (apart : from ≡ path → ⊥) (is : disk.file from ≡ Some n) where
   pub file_renamed : (after_call (Renamed from path) disk).file path ≡ Some n
@@ -157,16 +160,9 @@ module _ (n : ℕ) (from path : List ℕ) (disk : Disk) (apart : from ≡ path �
   more : (bytes : List ℕ) → Has n bytes disk → (new : Disk) → ((m : ℕ) → new.bytes m ≡ disk.bytes m) → ((m : ℕ) → new.is_kept m ≡ disk.is_kept m)
       → new.file path ≡ Some n → new.before path ≡ disk.file path ∷ disk.before path → (left : Option (List ℕ)) → MayLeave new path left
       → MayLeave disk path left ⊎ (left ≡ Some bytes)
-  more bytes has new same_bytes same_kept file before left leaves =
-      cases leaves.0 (same leaves.0 leaves.2) (led _ _ _ _ leaves.0 file before leaves.1) where
-        same : (to : Option ℕ) → MayLeaveFile new to left → MayLeaveFile disk to left
-        same None leaves = leaves
-        same (Some m) leaves = (leaves.0, leaves.1, λ kept. leaves.2 (same_kept m ∙ kept) ∙ same_bytes m)
-
-        cases : (to : Option ℕ) → MayLeaveFile disk to left → IsAmong to (Some n ∷ disk.file path ∷ disk.before path)
-            → MayLeave disk path left ⊎ (left ≡ Some bytes)
-        cases to leaves (inl new) = inr (leaves_kept n bytes disk to left has new leaves)
-        cases to leaves (inr old) = inl (to, old, leaves)
+  more bytes has new bytes_same kept_same =
+      leaves_new n path bytes disk new (record { bytes = bytes_same n ∙ has.bytes; is_kept = kept_same n ∙ has.is_kept })
+      (λ m other. bytes_same m) (λ m other. kept_same m)
 
   pub leaves_renamed : (bytes : List ℕ) → Has n bytes disk → (left : Option (List ℕ)) → MayLeave (after_call (Renamed from path) disk) path left
       → MayLeave disk path left ⊎ (left ≡ Some bytes)

@@ -1,16 +1,32 @@
 -- A disk, and what a power cut leaves of it, for each law.
-use Rattle.std.proofs.Common.{◌≡◌, ◌⊎◌, inl, inr, ⊎_elim, ℕ, ◌+◌, List, [], ◌∷◌, ◌++◌, Option, Some, None}
-use Rattle.std.proofs.Common.{true, false, length, refl, sym, ◌∙◌, ap, subst, arith}
+use Rattle.std.proofs.Common.{◌≡◌, ◌⊎◌, inl, inr, ⊎_elim, ℕ, ◌+◌, List, [], ◌∷◌, ◌++◌, Option, Some, None, true, false, length, refl, sym, ◌∙◌, ap, subst}
+use Rattle.std.proofs.Common.{arith}
+use Rattle.std.proofs.lemmas.Bool.{false≢true}
 use Rattle.std.proofs.lemmas.List.{append-nil, drop_all}
-use Rattle.age_machine.specs.Calls.{FileCall, Made, Opened, Wrote, Cut, Synced, Linked, Renamed, Removed}
-use Rattle.age_machine.specs.Calls.{SyncedNames, Locked}
+use Rattle.age_machine.specs.Calls.{FileCall, Made, Opened, Wrote, Cut, Synced, Linked, Renamed, Removed, SyncedNames, Locked}
 use Rattle.age_machine.specs.declared.machine.Kind.TheVariants.{Regular}
 use Rattle.age_machine.specs.Disk.{Disk, at_path, written, after_call, after_calls, IsAmong, MayLead, MayLeave}
 use Rattle.age_machine.specs.Saves.{AllAnswered, AtEachMoment, SavesWhole, IsSafe}
 use Rattle.age_machine.specs.Laws.{filled, renamed, linked, bare, bare_but, overwritten, put_out, HasOneLock}
 use Rattle.age_machine.proofs.DiskLemmas.{path_same, path_other, file_same, file_renamed, file_linked}
-use Rattle.age_machine.proofs.LockLemmas.{opened_beside}
+use Rattle.age_machine.proofs.OutLemmas.{opened_beside}
 use Rattle.age_machine.proofs.SaveLemmas.{throughout_last}
+
+-- ---- What a power cut may leave.
+
+-- no path of a bare disk leads to a file
+nowhere : (path : List ℕ) (n : ℕ) → MayLead bare path (Some n) → ⊥
+nowhere path n (inl is) = cc
+nowhere path n (inr none) = none
+
+-- what isn't kept may hold anything
+torn : (n : ℕ) (path bytes : List ℕ) (disk : Disk) → disk.file path ≡ Some n → disk.is_kept n ≡ false → MayLeave disk path (Some (0 ∷ bytes))
+torn n path bytes disk leads unkept = (Some n, inl (sym leads), (0 ∷ bytes, refl, λ kept. absurd (false≢true (sym unkept ∙ kept))))
+
+garbage : (bytes : List ℕ) → Some (0 ∷ bytes) ≡ Some bytes → ⊥
+garbage bytes same = let same_list : (0 ∷ bytes) ≡ bytes = cc in omega (arith, ap length same_list)
+
+-- ---- A file that is put to a path.
 
 module _ (n : ℕ) (from path bytes : List ℕ) (apart : from ≡ path → ⊥) where
   -- the new file, before and after it was written, and when it was waited for
@@ -25,12 +41,8 @@ module _ (n : ℕ) (from path bytes : List ℕ) (apart : from ≡ path → ⊥) 
       file_same n (written 0 bytes (begun.bytes n)) begun.bytes ∙ (ap (λ (l : List ℕ). written 0 bytes l) (file_same n [] bare.bytes)
       ∙ (ap (λ (l : List ℕ). bytes ++ l) (drop_all (0 + length bytes) [] (omega arith)) ∙ append-nil bytes))
 
-  nowhere : MayLead bare path (Some n) → ⊥
-  nowhere (inl is) = cc
-  nowhere (inr none) = none
-
   answered : AllAnswered path (filled n from bytes) bare
-  answered = (ap length held, (tt, ((refl, nowhere), tt)))
+  answered = (ap length held, (tt, ((refl, nowhere path n), tt)))
 
   there : wrote.file from ≡ Some n
   there = path_same from (Some n) bare.file
@@ -41,16 +53,6 @@ module _ (n : ℕ) (from path bytes : List ℕ) (apart : from ≡ path → ⊥) 
   at_once : (after_call (Renamed from path) wrote).file path ≡ Some n
   at_once = file_renamed n from path wrote apart there
 
-  garbage : Some (0 ∷ bytes) ≡ Some bytes → ⊥
-  garbage same = let same_list : (0 ∷ bytes) ≡ bytes = cc in omega (arith, ap length same_list)
-
-  -- what is there before it was waited for
-  torn : (disk : Disk) → disk.file path ≡ Some n → disk.is_kept n ≡ false → MayLeave disk path (Some (0 ∷ bytes))
-  torn disk leads unkept =
-      (Some n, inl (sym leads), (0 ∷ bytes, refl, λ kept. absurd (differ (sym unkept ∙ kept)))) where
-        differ : false ≡ true → ⊥
-        differ same = cc
-
   never : (MayLeave (after_calls [] bare) path (Some (0 ∷ bytes)) → ⊥)
   never (None, may, is) = cc
   never (Some m, inl is, file) = cc
@@ -58,8 +60,8 @@ module _ (n : ℕ) (from path bytes : List ℕ) (apart : from ≡ path → ⊥) 
 
   pub unwaited : SavesWhole path bytes [] (SyncedNames path ∷ Renamed from path ∷ filled n from bytes) → ⊥
   unwaited saves =
-      ⊎_elim never garbage (throughout_last path _ [] (SyncedNames path ∷ Renamed from path ∷ filled n from bytes) saves
-      bare (tt, (tt, answered)) (Some (0 ∷ bytes)) (torn (after_call (SyncedNames path) (after_call (Renamed from path) wrote)) at_once
+      ⊎_elim never (garbage bytes) (throughout_last path _ [] (SyncedNames path ∷ Renamed from path ∷ filled n from bytes) saves
+      bare (tt, (tt, answered)) (Some (0 ∷ bytes)) (torn n path bytes (after_call (SyncedNames path) (after_call (Renamed from path) wrote)) at_once
       (file_same n false begun.is_kept)))
 
   pub renamed_first : SavesWhole path bytes [] (SyncedNames path ∷ Synced n ∷ Renamed from path ∷ filled n from bytes) → ⊥
@@ -68,7 +70,7 @@ module _ (n : ℕ) (from path bytes : List ℕ) (apart : from ≡ path → ⊥) 
       sym (append-nil saves.since) ∙ sym saves.are in
       let each = subst (λ (l : List FileCall). AtEachMoment (λ calls. (left : Option (List ℕ)) → MayLeave (after_calls calls bare) path left
       → MayLeave (after_calls [] bare) path left ⊎ (left ≡ Some bytes)) l []) all (saves.each bare (tt, (tt, (tt, answered)))) in
-      ⊎_elim never garbage (each.1.1.0 (Some (0 ∷ bytes)) (torn (after_call (Renamed from path) wrote) at_once (file_same n false begun.is_kept)))
+      ⊎_elim never (garbage bytes) (each.1.1.0 (Some (0 ∷ bytes)) (torn n path bytes (after_call (Renamed from path) wrote) at_once (file_same n false begun.is_kept)))
 
   pub names_unwaited : IsSafe path bytes (Renamed from path ∷ Synced n ∷ filled n from bytes) → ⊥
   names_unwaited safe =
@@ -101,45 +103,26 @@ module _ (n : ℕ) (from path bytes : List ℕ) (apart : from ≡ path → ⊥) 
 -- ---- A file that is written in place.
 
 module _ (n : ℕ) (path bytes : List ℕ) where
-  nowhere_bare : MayLead bare path (Some n) → ⊥
-  nowhere_bare (inl is) = cc
-  nowhere_bare (inr none) = none
-
   there_already : (bare_but path n).file path ≡ Some n
   there_already = path_same path (Some n) bare.file
 
   pub outs_answered : (AllAnswered path (overwritten n path bytes) (bare_but path n) × HasOneLock n (overwritten n path bytes) (Opened path n (Regular true) ∷ []))
       × (AllAnswered path (put_out n path bytes) bare × HasOneLock n (put_out n path bytes) (Opened path n (Regular true) ∷ []))
   outs_answered = (
-    (
-      (tt, (tt, (tt, (tt, (tt, ((refl, there_already, refl), tt)))))),
-      opened_beside n path (overwritten n path bytes) (4, omega arith, refl),
-    ),
-    (
-      (tt, (tt, (tt, (tt, ((refl, nowhere_bare), tt))))),
-      opened_beside n path (put_out n path bytes) (3, omega arith, refl),
-    ),
+    ((tt, (tt, (tt, (tt, (tt, ((refl, there_already, refl), tt)))))), opened_beside n path (overwritten n path bytes) (4, omega arith, refl)),
+    ((tt, (tt, (tt, (tt, ((refl, nowhere path n), tt))))), opened_beside n path (put_out n path bytes) (3, omega arith, refl)),
   )
-
-  other : Some (0 ∷ bytes) ≡ Some bytes → ⊥
-  other same = let same_list : (0 ∷ bytes) ≡ bytes = cc in omega (arith, ap length same_list)
-
-  torn_out : (disk : Disk) → disk.file path ≡ Some n → disk.is_kept n ≡ false → MayLeave disk path (Some (0 ∷ bytes))
-  torn_out disk leads unkept =
-      (Some n, inl (sym leads), (0 ∷ bytes, refl, λ kept. absurd (differ (sym unkept ∙ kept)))) where
-        differ : false ≡ true → ⊥
-        differ same = cc
 
   pub unsynced : IsSafe path bytes (SyncedNames path ∷ Wrote n 0 bytes ∷ Locked n ∷ Made path n ∷ []) → ⊥
   unsynced safe =
       let made : Disk = after_call (Made path n) bare in
-      other (safe bare (tt, (tt, (tt, ((refl, nowhere_bare), tt)))) (Some (0 ∷ bytes))
-      (torn_out (after_calls (SyncedNames path ∷ Wrote n 0 bytes ∷ Locked n ∷ Made path n ∷ []) bare)
+      garbage bytes (safe bare (tt, (tt, (tt, ((refl, nowhere path n), tt)))) (Some (0 ∷ bytes))
+      (torn n path bytes (after_calls (SyncedNames path ∷ Wrote n 0 bytes ∷ Locked n ∷ Made path n ∷ []) bare)
       (path_same path (Some n) bare.file) (file_same n false made.is_kept)))
 
   pub cut_last : IsSafe path bytes (SyncedNames path ∷ Cut n (length bytes) ∷ Synced n ∷ Wrote n 0 bytes ∷ Locked n ∷ Opened path n (Regular true) ∷ []) → ⊥
   cut_last safe =
       let synced : Disk = after_calls (Synced n ∷ Wrote n 0 bytes ∷ Locked n ∷ Opened path n (Regular true) ∷ []) (bare_but path n) in
-      other (safe (bare_but path n) (tt, (tt, (tt, (tt, (tt, ((refl, there_already, refl), tt)))))) (Some (0 ∷ bytes))
-      (torn_out (after_calls (SyncedNames path ∷ Cut n (length bytes) ∷ Synced n ∷ Wrote n 0 bytes
+      garbage bytes (safe (bare_but path n) (tt, (tt, (tt, (tt, (tt, ((refl, there_already, refl), tt)))))) (Some (0 ∷ bytes))
+      (torn n path bytes (after_calls (SyncedNames path ∷ Cut n (length bytes) ∷ Synced n ∷ Wrote n 0 bytes
       ∷ Locked n ∷ Opened path n (Regular true) ∷ []) (bare_but path n)) there_already (file_same n false synced.is_kept)))

@@ -1,27 +1,212 @@
 -- A file that is written in place, call by call.
-use Rattle.std.proofs.Common.{◌≡◌, ◌⊎◌, inl, inr, ⊎_elim, ℕ, ◌+◌, ◌<◌, List, [], ◌∷◌, ◌++◌, Bool, true, false}
-use Rattle.std.proofs.Common.{not, Option, Some, None, length, take, drop, refl, sym, ◌∙◌, ap, subst, arith}
-use Rattle.std.proofs.Common.{length-append, length-take}
+use Rattle.std.proofs.Common.{◌≡◌, ◌⊎◌, inl, inr, ⊎_elim, ℕ, ◌+◌, ◌<◌, List, [], ◌∷◌, ◌++◌, Bool, true, false, not, Option, None, length, take, drop}
+use Rattle.std.proofs.Common.{refl, sym, ◌∙◌, ap, subst, arith, length-append, length-take}
+use Rattle.std.specs.Prelude.{Contains}
 use Rattle.std.proofs.lemmas.Bool.{cases_Bool}
 use Rattle.std.proofs.lemmas.List.{append-nil, take_at, drop_all}
-use Rattle.age_machine.specs.Calls.{FileCall, Made, Opened, Wrote, Broke, Synced, Unwaited, Locked, Unlockable}
-use Rattle.age_machine.specs.Calls.{Removed, SyncedNames, UnwaitedNames, MayHave, Waited}
-use Rattle.age_machine.specs.Disk.{Disk, sized, after_call, after_calls, IsAmong, MayLead, MayLeaveFile}
-use Rattle.age_machine.specs.Disk.{MayLeave}
-use Rattle.age_machine.specs.Saves.{IsAnswered, SavesWhole, IsSafe, LeadsTo}
-use Rattle.age_machine.specs.Outs.{OutFile, OutView, opening_of, is_making, text_of, IsClaimed, TouchesFile}
+use Rattle.std.proofs.lemmas.List.Elements.{Contains-append_cases, Contains-push_cases}
+use Rattle.age_machine.specs.Calls.{FileCall, Made, Opened, Wrote, Cut, Broke, Synced, Unwaited, Locked, Unlockable, Removed, SyncedNames, UnwaitedNames, IsOf}
+use Rattle.age_machine.specs.Calls.{Waited}
 use Rattle.age_machine.specs.declared.in_place.Opening.{Opening}
 use Rattle.age_machine.specs.declared.in_place.Opening.TheVariants as way
 use Rattle.age_machine.specs.declared.machine.Kind.{Kind}
 use Rattle.age_machine.specs.declared.machine.Kind.TheVariants.{Regular}
+use Rattle.age_machine.specs.Disk.{Disk, sized, after_call, after_calls, IsAmong, MayLead, MayLeave}
+use Rattle.age_machine.specs.Saves.{IsAnswered, AllAnswered, HasMade, SavesWhole, LeadsTo}
+use Rattle.age_machine.specs.Outs.{OutFile, OutView, opening_of, is_making, text_of, IsOn, AllOn, MayChange, IsClaimed, LocksFirst, TouchesFile}
+use Rattle.age_machine.specs.Laws.{HasOneLock, IsUnchanged}
 use Rattle.age_machine.specs.Held.{HasWritten, IsBegun, IsJustOpened, IsOut}
-use Rattle.age_machine.specs.inner.Steps.{Has, IsInPlace, IsHeld, StaysHeld, RemovesAt}
-use Rattle.age_machine.proofs.DiskLemmas.{path_same, file_same, file_other, led, leaves_synced}
-use Rattle.age_machine.proofs.DiskLemmas.{leaves_kept}
-use Rattle.age_machine.proofs.FillLemmas.{sized_within}
-use Rattle.age_machine.proofs.LockLemmas.{claimed_later, no_claim, no_text, held_one}
-use Rattle.age_machine.proofs.PutLemmas.{safe_named}
-use Rattle.age_machine.proofs.SaveLemmas.{contains_later, saves_none, saves_quietly, saves_loudly}
+use Rattle.age_machine.specs.inner.Steps.{AllOf, IsAbout, IsHeld, IsInPlace, StaysHeld, RemovesAt, is_waited}
+use Rattle.age_machine.proofs.DiskLemmas.{path_same, file_same, file_other, led, leaves_fewer, leaves_new, leaves_synced}
+use Rattle.age_machine.proofs.SaveLemmas.{contains_first, contains_later, if_either, if_made, if_waited, saves_loudly, saves_none, saves_quietly}
+use Rattle.age_machine.proofs.SaveLemmas.{sized_within}
+
+-- ---- What calls contain.
+
+contains_none : (call : FileCall) → Contains [] call → ⊥
+contains_none call held = omega (arith, held.1)
+
+contains_cases : (call first : FileCall) (calls : List FileCall) → Contains (first ∷ calls) call → (first ≡ call) ⊎ Contains calls call
+contains_cases call first calls held =
+    ⊎_elim (λ at. ⊎_elim (λ none. absurd (contains_none call none)) (λ same. inl same) (Contains-push_cases [] first call at)) (λ later. inr later)
+    (Contains-append_cases (first ∷ []) calls call held)
+
+pub claimed_later : (n : ℕ) (call : FileCall) (calls : List FileCall) → IsClaimed n calls → IsClaimed n (call ∷ calls)
+claimed_later n call calls (inl held) = inl (contains_later call (Locked n) calls held)
+claimed_later n call calls (inr held) = inr (contains_later call (Unlockable n) calls held)
+
+-- ---- What only opening has done.
+
+module _ (path : List ℕ) (n : ℕ) where
+  no_lock : (opening : Opening) (call : FileCall) → (Made path n ≡ call → ⊥) → ((kind : Kind) → Opened path n kind ≡ call → ⊥)
+      → Contains (opening_of path n opening ∷ []) call → ⊥
+  no_lock way.New call made opened held = ⊎_elim made (contains_none call) (contains_cases call (Made path n) [] held)
+  no_lock (way.Found named waited) call made opened held =
+      ⊎_elim (opened (Regular waited)) (contains_none call) (contains_cases call (Opened path n (Regular waited)) [] held)
+
+  pub no_claim : (opening : Opening) → IsClaimed n (opening_of path n opening ∷ []) → ⊥
+  no_claim opening (inl held) = no_lock opening (Locked n) (λ same. cc) (λ kind same. cc) held
+  no_claim opening (inr held) = no_lock opening (Unlockable n) (λ same. cc) (λ kind same. cc) held
+
+  pub no_text : (opening : Opening) → text_of (opening_of path n opening ∷ []) ≡ []
+  no_text way.New = refl
+  no_text (way.Found named waited) = refl
+
+-- ---- What stays so.
+
+pub held_more : (path : List ℕ) (n : ℕ) (opening call : FileCall) (calls : List FileCall) → IsOn path n call
+    → IsHeld path n opening calls → IsHeld path n opening (call ∷ calls)
+held_more path n opening call calls on held = record {
+  opened = contains_later call opening calls held.opened;
+  on = (on, held.on);
+  claimed = claimed_later n call calls held.claimed;
+  locked = (λ may. held.claimed, held.locked);
+}
+
+pub held_same : (path : List ℕ) (n : ℕ) (opening : FileCall) (old new : List FileCall) → new ≡ old → StaysHeld path n opening old new
+held_same path n opening old new same held = subst (IsHeld path n opening) (sym same) held
+
+pub held_one : (path : List ℕ) (n : ℕ) (opening call : FileCall) (old new : List FileCall) → IsOn path n call → new ≡ call ∷ old
+    → StaysHeld path n opening old new
+held_one path n opening call old new on is held =
+    subst (IsHeld path n opening) (sym is) (held_more path n opening call old on held)
+
+pub held_named : (path : List ℕ) (n : ℕ) (opening : FileCall) (old new : List FileCall)
+    → (new ≡ old) ⊎ Waited (SyncedNames path) (UnwaitedNames path) old new → StaysHeld path n opening old new
+held_named path n opening old new either held =
+    if_either (IsHeld path n opening) (SyncedNames path) (UnwaitedNames path) old new held (held_more path n opening (SyncedNames path) old refl held)
+    (held_more path n opening (UnwaitedNames path) old refl held) either
+
+on_of : (path : List ℕ) (n : ℕ) (call : FileCall) → IsOf n call → IsOn path n call
+on_of path n (Made p m) of = absurd of
+on_of path n (Opened p m kind) of = absurd of
+on_of path n (Removed p) of = absurd of
+on_of path n (SyncedNames p) of = absurd of
+on_of path n (UnwaitedNames p) of = absurd of
+on_of path n call of = of
+
+held_all : (path : List ℕ) (n : ℕ) (opening : FileCall) (since old : List FileCall) → AllOf n since → IsHeld path n opening old
+    → IsHeld path n opening (since ++ old)
+held_all path n opening [] old all held = held
+held_all path n opening (call ∷ since) old all held =
+    held_more path n opening call (since ++ old) (on_of path n call all.0) (held_all path n opening since old all.1 held)
+
+pub held_about : (path : List ℕ) (n : ℕ) (opening : FileCall) (old new : List FileCall) → IsAbout n old new → StaysHeld path n opening old new
+held_about path n opening old new about held =
+    subst (IsHeld path n opening) (sym about.are) (held_all path n opening about.since old about.all held)
+
+-- ---- What is known by the call that opened it.
+
+answered_in : (path : List ℕ) (call : FileCall) (calls : List FileCall) (disk : Disk) → Contains calls call
+    → AllAnswered path calls disk → (d : Disk) × IsAnswered path call d
+answered_in path call [] disk held answers = absurd (contains_none call held)
+answered_in path call (first ∷ calls) disk held answers =
+    ⊎_elim (λ same. (
+      after_calls calls disk,
+      subst (λ (c : FileCall). IsAnswered path c (after_calls calls disk)) same answers.0,
+    )) (λ later. answered_in path call calls disk later answers.1) (contains_cases call first calls held)
+
+-- A disk answers only for a file whose name is waited for.
+pub waited_for : (path : List ℕ) (n : ℕ) (opening : Opening) (calls : List FileCall) (disk : Disk)
+    → Contains calls (opening_of path n opening) → AllAnswered path calls disk → is_waited opening ≡ true
+waited_for path n way.New calls disk held answers = refl
+waited_for path n (way.Found named waited) calls disk held answers =
+    is_true (answered_in path (Opened path n (Regular waited)) calls disk held answers).1.0 where
+      is_true : Regular waited ≡ Regular true → waited ≡ true
+      is_true same = cc
+
+pub touches_held : (file : OutFile) (opening : Opening) (calls : List FileCall) → is_making opening ≡ file.is_made
+    → IsHeld file.path file.number (opening_of file.path file.number opening) calls → TouchesFile file calls
+touches_held file opening calls made held =
+    record { opening = opening; is_made = made; opened = held.opened; on = held.on; locked = held.locked }
+
+-- it is removed, or not
+module _ (file : OutFile) where
+  touches_more : (call : FileCall) (calls : List FileCall) → IsOn file.path file.number call → (MayChange file.number call → ⊥)
+      → TouchesFile file calls → TouchesFile file (call ∷ calls)
+  touches_more call calls on quiet touches = record {
+    opening = touches.opening;
+    is_made = touches.is_made;
+    opened = contains_later call (opening_of file.path file.number touches.opening) calls touches.opened;
+    on = (on, touches.on);
+    locked = (λ may. absurd (quiet may), touches.locked);
+  }
+
+  pub touches_removed : (calls later : List FileCall) → RemovesAt file.path calls later → TouchesFile file calls → TouchesFile file later
+  touches_removed calls later removes touches =
+      if_either (TouchesFile file) (SyncedNames file.path) (UnwaitedNames file.path) removes.mid later mid
+      (touches_more (SyncedNames file.path) removes.mid refl (λ may. may) mid)
+      (touches_more (UnwaitedNames file.path) removes.mid refl (λ may. may) mid) removes.named where
+        mid : TouchesFile file removes.mid
+        mid =
+            if_made (TouchesFile file) (Removed file.path) calls removes.mid touches
+            (touches_more (Removed file.path) calls refl (λ may. may) touches) removes.removed
+
+-- ---- Two runs.
+
+-- without a lock nothing of a file is changed
+never_changed : (n : ℕ) (calls : List FileCall) → LocksFirst n calls → (IsClaimed n calls → ⊥)
+    → (call : FileCall) → Contains calls call → MayChange n call → ⊥
+never_changed n [] locks none call held may = contains_none call held
+never_changed n (first ∷ calls) locks none call held may =
+    ⊎_elim (λ same. earlier (locks.0 (subst (λ (c : FileCall). MayChange n c) (sym same) may)))
+    (λ later. never_changed n calls locks.1 earlier call later may) (contains_cases call first calls held) where
+      earlier : IsClaimed n calls → ⊥
+      earlier claimed = none (claimed_later n first calls claimed)
+
+kept_by : (n : ℕ) (call : FileCall) (disk : Disk) → (MayChange n call → ⊥)
+    → ((path : List ℕ) → call ≡ Made path n → ⊥) → (after_call call disk).bytes n ≡ disk.bytes n
+kept_by n (Made p m) disk none made = file_other m n [] disk.bytes (λ same. made p (ap (λ (k : ℕ). Made p k) same))
+kept_by n (Wrote m at part) disk none made = file_other m n _ disk.bytes none
+kept_by n (Cut m len) disk none made = file_other m n _ disk.bytes none
+kept_by n call disk none made = refl
+
+kept_by_all : (n : ℕ) (calls : List FileCall) → ((call : FileCall) → Contains calls call → MayChange n call → ⊥) → (HasMade n calls → ⊥)
+    → (disk : Disk) → (after_calls calls disk).bytes n ≡ disk.bytes n
+kept_by_all n [] none made disk = refl
+kept_by_all n (call ∷ calls) none made disk =
+    kept_by n call (after_calls calls disk) (λ may. none call (contains_first call calls) may)
+    (λ path is. made (
+      path,
+      subst (λ (c : FileCall). Contains (c ∷ calls) (Made path n)) (sym is) (contains_first (Made path n) calls),
+    )) ∙ kept_by_all n calls (λ other held may. none other (contains_later call other calls held) may)
+    (λ has. made (has.0, contains_later call (Made has.0 n) calls has.1)) disk
+
+pub second_unchanged : (n : ℕ) (one other : List FileCall) → HasOneLock n one other → IsUnchanged n other
+second_unchanged n one other lock = record {
+  none = none;
+  same = λ made disk. kept_by_all n other none made disk;
+} where
+  none : (call : FileCall) → Contains other call → MayChange n call → ⊥
+  none = never_changed n other lock.first (⊎_elim (lock.once lock.has) lock.lockable)
+
+pub late : (n : ℕ) (path bytes : List ℕ) → LocksFirst n (Locked n ∷ Wrote n 0 bytes ∷ Opened path n (Regular true) ∷ []) → ⊥
+late n path bytes locks = no_claim path n (way.Found true true) (locks.1.0 refl)
+
+-- another run that has only opened the file
+pub opened_beside : (n : ℕ) (path : List ℕ) (one : List FileCall) → Contains one (Locked n) → HasOneLock n one (Opened path n (Regular true) ∷ [])
+opened_beside n path one has = record {
+  has = has;
+  once = λ held other. no_claim path n (way.Found true true) (inl other);
+  lockable = λ other. no_claim path n (way.Found true true) (inr other);
+  first = (λ may. absurd may, tt);
+}
+
+-- ---- Other files.
+
+module _ (path : List ℕ) (n m : ℕ) (other : m ≡ n → ⊥) where
+  apart_by : (k : ℕ) → k ≡ n → k ≡ m → ⊥
+  apart_by k is same = other (sym same ∙ is)
+
+  other_kept : (call : FileCall) → IsOn path n call → (disk : Disk) → (after_call call disk).bytes m ≡ disk.bytes m
+  other_kept (Made p k) on disk = file_other k m [] disk.bytes (apart_by k on.1)
+  other_kept (Wrote k at part) on disk = file_other k m _ disk.bytes (apart_by k on)
+  other_kept (Cut k len) on disk = file_other k m _ disk.bytes (apart_by k on)
+  other_kept call on disk = refl
+
+  pub others_kept : (calls : List FileCall) → AllOn path n calls → (disk : Disk) → (after_calls calls disk).bytes m ≡ disk.bytes m
+  others_kept [] on disk = refl
+  others_kept (call ∷ calls) on disk = other_kept call on.0 (after_calls calls disk) ∙ others_kept calls on.1 disk
 
 -- ---- What it holds.
 
@@ -47,50 +232,26 @@ begun_wrote : (path : List ℕ) (n : ℕ) (is_stale : Bool) (text part : List �
     → IsBegun path n is_stale (text ++ part) (Wrote n (length text) part ∷ calls)
 begun_wrote path n is_stale text part calls begun disk answers = holds_wrote path n is_stale text (after_calls calls disk) (begun disk answers.1) part
 
--- it stays so while something is waited for
-begun_waited : (path : List ℕ) (n : ℕ) (is_stale : Bool) (text : List ℕ) (waits cant : FileCall) (calls later : List FileCall)
-    → ((disk : Disk) → HasWritten path n is_stale text disk → HasWritten path n is_stale text (after_call waits disk))
-    → ((disk : Disk) → IsAnswered path cant disk → ⊥) → (later ≡ calls) ⊎ Waited waits cant calls later
-    → IsBegun path n is_stale text calls → IsBegun path n is_stale text later
-begun_waited path n is_stale text waits cant calls later keeps never (inl same) begun =
-    subst (λ (l : List FileCall). IsBegun path n is_stale text l) (sym same) begun
-begun_waited path n is_stale text waits cant calls later keeps never (inr (inl is)) begun =
-    subst (λ (l : List FileCall). IsBegun path n is_stale text l) (sym is) (λ disk answers. keeps (after_calls calls disk) (begun disk answers.1))
-begun_waited path n is_stale text waits cant calls later keeps never (inr (inr is)) begun =
-    subst (λ (l : List FileCall). IsBegun path n is_stale text l) (sym is) (λ disk answers. absurd (never (after_calls calls disk) answers.0))
-
+-- it stays so while it is waited for
 pub begun_settled : (path : List ℕ) (n : ℕ) (is_stale : Bool) (text : List ℕ) (calls later : List FileCall)
     → (later ≡ calls) ⊎ Waited (Synced n) (Unwaited n) calls later → IsBegun path n is_stale text calls → IsBegun path n is_stale text later
-begun_settled path n is_stale text calls later =
-    begun_waited path n is_stale text (Synced n) (Unwaited n) calls later
-    (λ disk holds. record { file = holds.file; front = holds.front; whole = holds.whole; is_lost = holds.is_lost }) (λ disk never. never)
-
-pub begun_named : (path : List ℕ) (n : ℕ) (is_stale : Bool) (text : List ℕ) (calls later : List FileCall)
-    → (later ≡ calls) ⊎ Waited (SyncedNames path) (UnwaitedNames path) calls later
-    → IsBegun path n is_stale text calls → IsBegun path n is_stale text later
-begun_named path n is_stale text calls later =
-    begun_waited path n is_stale text (SyncedNames path) (UnwaitedNames path) calls later
-    (λ disk holds. record { file = holds.file; front = holds.front; whole = holds.whole; is_lost = holds.is_lost }) (λ disk never. never)
+begun_settled path n is_stale text calls later either begun =
+    if_either (IsBegun path n is_stale text) (Synced n) (Unwaited n) calls later begun (λ disk answers. let holds = begun disk answers.1 in
+    record { file = holds.file; front = holds.front; whole = holds.whole; is_lost = holds.is_lost }) (λ disk answers. absurd answers.0) either
 
 pub begun_same : (path : List ℕ) (n : ℕ) (is_stale : Bool) (text : List ℕ) (calls later : List FileCall) → later ≡ calls
     → IsBegun path n is_stale text calls → IsBegun path n is_stale text later
-begun_same path n is_stale text calls later same begun = subst (λ (l : List FileCall). IsBegun path n is_stale text l) (sym same) begun
+begun_same path n is_stale text calls later same begun = subst (IsBegun path n is_stale text) (sym same) begun
 
 -- it has reached the disk
 pub place_waited : (path : List ℕ) (n : ℕ) (text : List ℕ) (calls waited later : List FileCall)
     → Waited (Synced n) (Unwaited n) calls waited → later ≡ waited → IsBegun path n false text calls → IsInPlace path n text later
-place_waited path n text calls waited later (inl is) same begun =
-    subst (λ (l : List FileCall). IsInPlace path n text l) (sym (same ∙ is)) (record {
+place_waited path n text calls waited later is same begun =
+    subst (IsInPlace path n text) (sym same) (if_waited (IsInPlace path n text) (Synced n) (Unwaited n) calls waited (record {
       file = λ disk answers. (begun disk answers.1).file;
       has = λ disk answers. let holds = begun disk answers.1 in
-          record {
-            bytes = holds.whole refl;
-            is_kept = file_same n _ (after_calls calls disk).is_kept ∙ ap not holds.is_lost;
-          };
-    })
-place_waited path n text calls waited later (inr is) same begun =
-    subst (λ (l : List FileCall). IsInPlace path n text l) (sym (same ∙ is))
-    (record { file = λ disk answers. absurd answers.0; has = λ disk answers. absurd answers.0 })
+          record { bytes = holds.whole refl; is_kept = file_same n _ (after_calls calls disk).is_kept ∙ ap not holds.is_lost };
+    }) (record { file = λ disk answers. absurd answers.0; has = λ disk answers. absurd answers.0 }) is)
 
 -- ---- What holds between the calls.
 
@@ -100,7 +261,7 @@ module _ (path : List ℕ) (n : ℕ) (opening : Opening) (is_stale is_lost is_cl
   call = opening_of path n opening
 
   not_unclaimed : IsClaimed n calls → is_claimed ≡ false → ⊥
-  not_unclaimed claimed is = no_claim path n opening (subst (λ (l : List FileCall). IsClaimed n l) (out.unclaimed is) claimed)
+  not_unclaimed claimed is = no_claim path n opening (subst (IsClaimed n) (out.unclaimed is) claimed)
 
   pub some_claimed : 0 < written → IsClaimed n calls
   some_claimed some = ⊎_elim out.claimed none (cases_Bool is_claimed) where
@@ -117,7 +278,7 @@ module _ (path : List ℕ) (n : ℕ) (opening : Opening) (is_stale is_lost is_cl
   pub out_wrote : (part : List ℕ) (sum now : ℕ) (later : List FileCall) → IsClaimed n calls → later ≡ Wrote n written part ∷ calls → 0 < length part
       → sum ≡ written + length part → now ≡ failed → IsOut path n call is_stale is_lost is_claimed sum now later
   out_wrote part sum now later claimed is some added same =
-      subst (λ (l : List FileCall). IsOut path n call is_stale is_lost is_claimed sum now l) (sym is) (record {
+      subst (IsOut path n call is_stale is_lost is_claimed sum now) (sym is) (record {
         opened = contains_later (Wrote n written part) call calls out.opened;
         on = (refl, out.on);
         written =
@@ -138,7 +299,7 @@ module _ (path : List ℕ) (n : ℕ) (opening : Opening) (is_stale is_lost is_cl
   pub out_broke : (lost : Bool) (now : ℕ) (later : List FileCall) → IsClaimed n calls
       → later ≡ Broke n ∷ calls → failed < now → IsOut path n call is_stale lost is_claimed written now later
   out_broke lost now later claimed is more =
-      subst (λ (l : List FileCall). IsOut path n call is_stale lost is_claimed written now l) (sym is) (record {
+      subst (IsOut path n call is_stale lost is_claimed written now) (sym is) (record {
         opened = contains_later (Broke n) call calls out.opened;
         on = (refl, out.on);
         written = out.written;
@@ -188,105 +349,62 @@ module _ (path : List ℕ) (n : ℕ) (opening : Opening) (is_stale is_lost is_cl
       out_after is_stale is_lost now later some (held waited) (⊎_elim (λ is. ap text_of is) (λ is. ap text_of is) waited)
       (λ sound. begun_settled _ _ _ _ _ _ (inr waited) (out.begun (sym same ∙ sound))) (λ is. omega (arith, out.lost is, same)) where
         held : Waited (Synced n) (Unwaited n) calls later → StaysHeld path n call calls later
-        held (inl is) = held_one path n call (Synced n) calls later refl is
-        held (inr is) = held_one path n call (Unwaited n) calls later refl is
+        held waited it =
+            if_waited (IsHeld path n call) (Synced n) (Unwaited n) calls later (held_more path n call (Synced n) calls refl it)
+            (held_more path n call (Unwaited n) calls refl it) waited
 
 -- ---- Where nothing was written.
 
-module _ (path : List ℕ) (n : ℕ) (disk : Disk) (elsewhere : MayLead disk path (Some n) → ⊥) (left : Option (List ℕ)) where
-  abbrev made : Disk
-  made = after_call (Made path n) disk
-
-  empty : Has n [] made
-  empty = record { bytes = file_same n [] disk.bytes; is_kept = file_same n true disk.is_kept }
-
-  before : (to : Option ℕ) → MayLead disk path to → MayLeaveFile made to left → MayLeaveFile disk to left
-  before None may file = file
-  before (Some m) may file =
-      let other : n ≡ m → ⊥ =
-      λ same. elsewhere (subst (λ (k : ℕ). MayLead disk path (Some k)) (sym same) may) in (
-        file.0,
-        file.1,
-        λ kept. file.2 (file_other n m true disk.is_kept other ∙ kept) ∙ file_other n m [] disk.bytes other,
-      )
-
-  one : (to : Option ℕ) → MayLeaveFile made to left → IsAmong to (Some n ∷ disk.file path ∷ disk.before path)
-      → MayLeave disk path left ⊎ (left ≡ Some [])
-  one to file (inl is) = inr (leaves_kept n [] made to left empty is file)
-  one to file (inr may) = inl (to, may, before to may file)
-
-  leaves_made : MayLeave made path left → MayLeave disk path left ⊎ (left ≡ Some [])
-  leaves_made leaves = one leaves.0 leaves.2 (led _ _ _ _ leaves.0 (path_same path _ disk.file) (path_same path _ disk.before) leaves.1)
-
 saves_made : (path : List ℕ) (n : ℕ) → SavesWhole path [] [] (Made path n ∷ [])
-saves_made path n = saves_loudly path [] [] (Made path n) [] (saves_none path [] []) (λ disk answers left. leaves_made path n disk answers.0.1 left)
+saves_made path n =
+    saves_loudly path [] [] (Made path n) [] (saves_none path [] []) (λ disk answers. leaves_new n path [] disk (after_call (Made path n) disk)
+    (record { bytes = file_same n [] disk.bytes; is_kept = file_same n true disk.is_kept }) (λ m other. file_other n m [] disk.bytes other)
+    (λ m other. file_other n m true disk.is_kept other) (path_same path _ disk.file) (path_same path _ disk.before))
 
 saves_opened : (path : List ℕ) (n : ℕ) (kind : Kind) → SavesWhole path [] [] (Opened path n kind ∷ [])
 saves_opened path n kind = saves_quietly path [] [] (Opened path n kind) [] (saves_none path [] []) (λ disk answers left leaves. leaves)
 
 -- what was made where nothing was is removed
-module _ (path : List ℕ) (n : ℕ) (disk : Disk) (nothing : disk.file path ≡ None) (left : Option (List ℕ)) where
-  same : (to : Option ℕ) → MayLeaveFile (after_call (Removed path) (after_call (Made path n) disk)) to left
-      → MayLeaveFile (after_call (Made path n) disk) to left
-  same None leaves = leaves
-  same (Some m) leaves = leaves
+leaves_taken : (path : List ℕ) (n : ℕ) (disk : Disk) → disk.file path ≡ None → (left : Option (List ℕ))
+    → MayLeave (after_call (Removed path) (after_call (Made path n) disk)) path left → MayLeave (after_call (Made path n) disk) path left
+leaves_taken path n disk nothing =
+    leaves_fewer path made (after_call (Removed path) made) (λ m. refl) (λ m. refl)
+    (λ to may. among to (led _ _ _ _ to (path_same path None made.file) (path_same path _ made.before) may)) where
+      made : Disk
+      made = after_call (Made path n) disk
 
-  none : IsAmong None ((after_call (Made path n) disk).before path)
-  none = subst (λ (l : List (Option ℕ)). IsAmong None l) (sym (path_same path (disk.file path ∷ disk.before path) disk.before)) (inl (sym nothing))
-
-  among : (to : Option ℕ) → MayLeaveFile (after_call (Made path n) disk) to left → IsAmong to (None ∷ (after_call (Made path n) disk).file path
-      ∷ (after_call (Made path n) disk).before path) → MayLeave (after_call (Made path n) disk) path left
-  among to file (inl is) = (
-    None,
-    inr none,
-    subst (λ (o : Option ℕ). MayLeaveFile (after_call (Made path n) disk) o left) is file,
-  )
-  among to file (inr may) = (to, may, file)
-
-  leaves_taken : MayLeave (after_call (Removed path) (after_call (Made path n) disk)) path left → MayLeave (after_call (Made path n) disk) path left
-  leaves_taken leaves =
-      among leaves.0 (same leaves.0 leaves.2) (led _ _ _ _ leaves.0 (path_same path _ (after_call (Made path n) disk).file)
-      (path_same path _ (after_call (Made path n) disk).before) leaves.1)
+      among : (to : Option ℕ) → IsAmong to (None ∷ made.file path ∷ made.before path) → MayLead made path to
+      among to (inl is) =
+          inr (subst (IsAmong to) (sym (path_same path (disk.file path ∷ disk.before path) disk.before)) (inl (is ∙ sym nothing)))
+      among to (inr may) = may
 
 -- a file that was opened or made, and perhaps claimed
 saves_claimed : (path : List ℕ) (n : ℕ) (calls later : List FileCall) → SavesWhole path [] [] calls
     → (later ≡ calls) ⊎ Waited (Locked n) (Unlockable n) calls later → SavesWhole path [] [] later
-saves_claimed path n calls later saves (inl same) = subst (λ (l : List FileCall). SavesWhole path [] [] l) (sym same) saves
-saves_claimed path n calls later saves (inr (inl is)) =
-    subst (λ (l : List FileCall). SavesWhole path [] [] l) (sym is)
+saves_claimed path n calls later saves =
+    if_either (SavesWhole path [] []) (Locked n) (Unlockable n) calls later saves
     (saves_quietly path [] [] (Locked n) calls saves (λ disk answers left leaves. leaves))
-saves_claimed path n calls later saves (inr (inr is)) =
-    subst (λ (l : List FileCall). SavesWhole path [] [] l) (sym is)
     (saves_quietly path [] [] (Unlockable n) calls saves (λ disk answers left leaves. leaves))
 
 -- and one that was made is removed
 saves_removed : (path : List ℕ) (n : ℕ) (calls : List FileCall)
     → (calls ≡ Made path n ∷ []) ⊎ Waited (Locked n) (Unlockable n) (Made path n ∷ []) calls → SavesWhole path [] [] (Removed path ∷ calls)
-saves_removed path n calls fresh = quiet fresh where
-  saves : SavesWhole path [] [] calls
-  saves = saves_claimed path n (Made path n ∷ []) calls (saves_made path n) fresh
-
-  quiet : (calls ≡ Made path n ∷ []) ⊎ Waited (Locked n) (Unlockable n) (Made path n ∷ []) calls → SavesWhole path [] [] (Removed path ∷ calls)
-  quiet (inl is) =
-      subst (λ (l : List FileCall). SavesWhole path [] [] (Removed path ∷ l)) (sym is) (saves_quietly path [] [] (Removed path) (Made path n ∷ [])
-      (subst (λ (l : List FileCall). SavesWhole path [] [] l) is saves) (λ disk answers left. leaves_taken path n disk answers.1.0.0 left))
-  quiet (inr (inl is)) =
-      subst (λ (l : List FileCall). SavesWhole path [] [] (Removed path ∷ l)) (sym is)
-      (saves_quietly path [] [] (Removed path) (Locked n ∷ Made path n ∷ []) (subst (λ (l : List FileCall). SavesWhole path [] [] l) is saves)
-      (λ disk answers left. leaves_taken path n disk answers.1.1.0.0 left))
-  quiet (inr (inr is)) =
-      subst (λ (l : List FileCall). SavesWhole path [] [] (Removed path ∷ l)) (sym is)
-      (saves_quietly path [] [] (Removed path) (Unlockable n ∷ Made path n ∷ []) (subst (λ (l : List FileCall). SavesWhole path [] [] l) is saves)
-      (λ disk answers left. leaves_taken path n disk answers.1.1.0.0 left))
+saves_removed path n calls =
+    if_either (λ (l : List FileCall). SavesWhole path [] [] (Removed path ∷ l)) (Locked n) (Unlockable n) (Made path n ∷ []) calls
+    (removed (Made path n ∷ []) (inl refl) (λ disk answers left. leaves_taken path n disk answers.1.0.0 left))
+    (removed (Locked n ∷ Made path n ∷ []) (inr (inl refl)) (λ disk answers left. leaves_taken path n disk answers.1.1.0.0 left))
+    (removed (Unlockable n ∷ Made path n ∷ []) (inr (inr refl)) (λ disk answers left. leaves_taken path n disk answers.1.1.0.0 left)) where
+      removed : (calls : List FileCall) → (calls ≡ Made path n ∷ []) ⊎ Waited (Locked n) (Unlockable n) (Made path n ∷ []) calls
+          → ((disk : Disk) → AllAnswered path (Removed path ∷ calls) disk → (left : Option (List ℕ))
+          → MayLeave (after_calls (Removed path ∷ calls) disk) path left → MayLeave (after_calls calls disk) path left)
+          → SavesWhole path [] [] (Removed path ∷ calls)
+      removed calls fresh = saves_quietly path [] [] (Removed path) calls (saves_claimed path n (Made path n ∷ []) calls (saves_made path n) fresh)
 
 saves_named : (path : List ℕ) (calls later : List FileCall) → SavesWhole path [] [] calls
     → (later ≡ calls) ⊎ Waited (SyncedNames path) (UnwaitedNames path) calls later → SavesWhole path [] [] later
-saves_named path calls later saves (inl same) = subst (λ (l : List FileCall). SavesWhole path [] [] l) (sym same) saves
-saves_named path calls later saves (inr (inl is)) =
-    subst (λ (l : List FileCall). SavesWhole path [] [] l) (sym is) (saves_quietly path [] [] (SyncedNames path) calls saves
-    (λ disk answers. leaves_synced path (after_calls calls disk)))
-saves_named path calls later saves (inr (inr is)) =
-    subst (λ (l : List FileCall). SavesWhole path [] [] l) (sym is)
+saves_named path calls later saves =
+    if_either (SavesWhole path [] []) (SyncedNames path) (UnwaitedNames path) calls later saves
+    (saves_quietly path [] [] (SyncedNames path) calls saves (λ disk answers. leaves_synced path (after_calls calls disk)))
     (saves_quietly path [] [] (UnwaitedNames path) calls saves (λ disk answers left leaves. leaves))
 
 -- nothing was written, and it is removed, or not
@@ -294,36 +412,16 @@ pub saves_discarded : (path : List ℕ) (n : ℕ) (opening : Opening) (calls lat
     → IsJustOpened n (opening_of path n opening) calls → RemovesAt path calls later → (is_making opening ≡ false → later ≡ calls)
     → SavesWhole path [] [] later
 saves_discarded path n (way.Found named waited) calls later fresh removes same =
-    subst (λ (l : List FileCall). SavesWhole path [] [] l) (sym (same refl))
+    subst (SavesWhole path [] []) (sym (same refl))
     (saves_claimed path n (Opened path n (Regular waited) ∷ []) calls (saves_opened path n (Regular waited)) fresh)
 saves_discarded path n way.New calls later fresh removes same =
-    saves_named path removes.mid later (first removes.mid removes.removed) removes.named where
-      first : (mid : List FileCall) → MayHave (Removed path) calls mid → SavesWhole path [] [] mid
-      first mid (inl is) =
-          subst (λ (l : List FileCall). SavesWhole path [] [] l) (sym is) (saves_claimed path n (Made path n ∷ []) calls (saves_made path n) fresh)
-      first mid (inr is) = subst (λ (l : List FileCall). SavesWhole path [] [] l) (sym is) (saves_removed path n calls fresh)
+    saves_named path removes.mid later (if_made (SavesWhole path [] []) (Removed path) calls removes.mid
+    (saves_claimed path n (Made path n ∷ []) calls (saves_made path n) fresh) (saves_removed path n calls fresh) removes.removed) removes.named
 
--- ---- What is told by the text of a name.
+-- ---- It was ended.
 
-module _ (path text : List ℕ) (n : ℕ) (same : text ≡ path) where
-  pub ended_held : (opening : FileCall) (calls finished closed : List FileCall) → StaysHeld path n opening calls finished
-      → StaysHeld text n opening finished closed → IsHeld path n opening calls → IsHeld path n opening closed
-  ended_held opening calls finished closed first second held =
-      subst (λ (p : List ℕ). IsHeld p n opening closed) same
-      (second (subst (λ (p : List ℕ). IsHeld p n opening finished) (sym same) (first held)))
-
-  pub ended_safe : (bytes : List ℕ) (finished closed : List FileCall) → IsInPlace path n bytes finished
-      → Waited (SyncedNames text) (UnwaitedNames text) finished closed → IsSafe path bytes closed
-  ended_safe bytes finished closed put waited =
-      safe_named path [] n bytes [] finished closed put (subst (λ (p : List ℕ). Waited (SyncedNames p) (UnwaitedNames p) finished closed) same waited)
-
-  pub ended_there : (bytes : List ℕ) (finished closed : List FileCall)
-      → ((bytes : List ℕ) → IsBegun text n false bytes finished → IsBegun text n false bytes closed)
-      → IsBegun path n false bytes finished → LeadsTo path n bytes closed
-  ended_there bytes finished closed keeps begun disk answers =
-      let kept = keeps bytes (subst (λ (p : List ℕ). IsBegun p n false bytes finished) (sym same) begun) in
-      let holds = subst (λ (p : List ℕ). IsBegun p n false bytes closed) same kept disk answers in
-      (holds.file, holds.whole refl, holds.is_lost)
+pub leads_begun : (path : List ℕ) (n : ℕ) (bytes : List ℕ) (calls : List FileCall) → IsBegun path n false bytes calls → LeadsTo path n bytes calls
+leads_begun path n bytes calls begun disk answers = let holds = begun disk answers in (holds.file, holds.whole refl, holds.is_lost)
 
 -- what holds of it once it was ended
 pub ended_as : (P : OutFile → List ℕ → Type 0) (view now : OutView) (file : OutFile) (text : List ℕ) → view ≡ now → now.file ≡ file

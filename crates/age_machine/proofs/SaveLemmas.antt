@@ -1,23 +1,38 @@
 -- How a replacement goes on, call by call.
-use Rattle.std.proofs.Common.{◌≡◌, ◌⊎◌, inl, inr, ⊎_elim, ℕ, List, [], ◌∷◌, ◌++◌, Option, Some}
-use Rattle.std.proofs.Common.{◌<◌, false, length, refl, sym, ◌∙◌, ap, subst, arith}
-use Rattle.std.proofs.Common.{append_assoc, length-append}
-use Rattle.std.specs.Prelude.{Contains, Result, Err, OnOk}
+use Rattle.std.proofs.Common.{◌≡◌, ◌⊎◌, inl, inr, ⊎_elim, ℕ, ◌+◌, ◌-◌, ◌≤◌, List, [], ◌∷◌, ◌++◌, Option, Some, None, false, length, take, drop, not, refl}
+use Rattle.std.proofs.Common.{sym, ◌∙◌, ap, subst, arith, append_assoc, length-append, length-drop, take-add}
+use Rattle.std.specs.Prelude.{Contains, Result, Err, OnOk, replicate}
+use Rattle.std.proofs.lemmas.List.{append-nil, take_at, drop_at, take_all, drop-drop, length-take-le}
 use Rattle.std.proofs.lemmas.List.Elements.{Contains-append_left, Contains-append_right}
-use Rattle.age_machine.specs.Calls.{FileCall, Made, Wrote, Cut, Broke, Measured, Synced, Unwaited, IsOf}
-use Rattle.age_machine.specs.Calls.{Locked, Unlockable, Linked, Renamed, Removed}
-use Rattle.age_machine.specs.Disk.{Disk, after_call, after_calls, MayLeave}
-use Rattle.age_machine.specs.Saves.{AllAnswered, AtEachMoment, Throughout, SavesWhole, SparesFile, IsLonger}
-use Rattle.age_machine.specs.Saves.{IsWithin, AllWithin, Touches}
-use Rattle.age_machine.specs.Saves.{IsSafe}
-use Rattle.age_machine.specs.Saved.{Replaces}
-use Rattle.age_machine.specs.Beside.{HasBeside, IsBeside, IsKept}
-use Rattle.age_machine.specs.inner.Steps.{AllOf, IsAbout, HasTried}
-use Rattle.age_machine.specs.declared.replacing.Spot.{Spot}
 use Rattle.age_io.specs.declared.durability.Durability.{Durability}
 use Rattle.age_io.specs.declared.durability.Durability.TheVariants as wait
-use Rattle.age_machine.proofs.DiskLemmas.{path_same, file_same, apart_made}
-use Rattle.age_machine.proofs.DiskLemmas.{apart_of, led, leaves_apart}
+use Rattle.age_machine.specs.declared.replacing.Spot.{Spot}
+use Rattle.age_machine.specs.declared.replacing.Spot.TheVariants as spot
+use Rattle.age_machine.specs.Calls.{FileCall, Made, Wrote, Cut, Broke, Measured, Synced, Unwaited, Locked, Unlockable, Missing, Linked, Renamed, Removed}
+use Rattle.age_machine.specs.Calls.{SyncedNames, UnwaitedNames, IsOf, MayHave, Waited}
+use Rattle.age_machine.specs.Disk.{Disk, after_call, after_calls, MayLeave, sized, written}
+use Rattle.age_machine.specs.Saves.{AllAnswered, AtEachMoment, Throughout, SavesWhole, SparesFile, HasMade, IsLonger, IsWithin, AllWithin, Touches, IsSafe}
+use Rattle.age_machine.specs.Saved.{Replaces}
+use Rattle.age_machine.specs.Beside.{HasBeside, IsBeside, IsKept}
+use Rattle.age_machine.specs.inner.Steps.{AllOf, IsAbout, HasTried, Fills, IsFull, IsInPlace, IsReady, WritesOver, CutsOff}
+use Rattle.age_machine.proofs.DiskLemmas.{path_same, path_other, file_same, apart_made, apart_of, led, leaves_apart, leaves_renamed, leaves_linked}
+use Rattle.age_machine.proofs.DiskLemmas.{file_renamed, file_linked, leaves_removed, leaves_synced, leaves_only}
+
+-- ---- What holds after calls that were made or not.
+
+-- if one may have been made
+pub if_made : (P : List FileCall → Type 0) (call : FileCall) (old new : List FileCall) → P old → P (call ∷ old) → MayHave call old new → P new
+if_made P call old new none one = ⊎_elim (λ same. subst P (sym same) none) (λ made. subst P (sym made) one)
+
+-- if one of two was
+pub if_waited : (P : List FileCall → Type 0) (waits cant : FileCall) (old new : List FileCall) → P (waits ∷ old) → P (cant ∷ old)
+    → Waited waits cant old new → P new
+if_waited P waits cant old new one other = ⊎_elim (λ is. subst P (sym is) one) (λ is. subst P (sym is) other)
+
+-- if one of two may have been
+pub if_either : (P : List FileCall → Type 0) (waits cant : FileCall) (old new : List FileCall) → P old → P (waits ∷ old) → P (cant ∷ old)
+    → (new ≡ old) ⊎ Waited waits cant old new → P new
+if_either P waits cant old new none one other = ⊎_elim (λ same. subst P (sym same) none) (if_waited P waits cant old new one other)
 
 -- ---- What holds at each moment.
 
@@ -30,10 +45,7 @@ module _ (path : List ℕ) (P : Disk → List FileCall → Type 0) (old : List F
   throughout_more call calls before here = record {
     since = call ∷ before.since;
     are = ap (λ (l : List FileCall). call ∷ l) before.are;
-    each = λ disk answers. (
-      subst (λ (l : List FileCall). P disk (call ∷ l)) before.are (here disk answers),
-      before.each disk answers.1,
-    );
+    each = λ disk answers. (subst (λ (l : List FileCall). P disk (call ∷ l)) before.are (here disk answers), before.each disk answers.1);
   }
 
   at_last : (Q : List FileCall → Type 0) (since : List FileCall) → AtEachMoment Q since old → Q (since ++ old)
@@ -41,7 +53,7 @@ module _ (path : List ℕ) (P : Disk → List FileCall → Type 0) (old : List F
   at_last Q (call ∷ since) each = each.0
 
   pub throughout_last : (calls : List FileCall) → Throughout path P old calls → (disk : Disk) → AllAnswered path calls disk → P disk calls
-  throughout_last calls all disk answers = subst (λ (l : List FileCall). P disk l) (sym all.are) (at_last (P disk) all.since (all.each disk answers))
+  throughout_last calls all disk answers = subst (P disk) (sym all.are) (at_last (P disk) all.since (all.each disk answers))
 
 answers_then : (path : List ℕ) (since old : List FileCall) (disk : Disk) → AllAnswered path (since ++ old) disk → AllAnswered path old disk
 answers_then path [] old disk answers = answers
@@ -66,7 +78,7 @@ throughout_then path P Q old mid new first second carry = record {
   each = λ disk answers. let were : AllAnswered path mid disk =
       answers_then path second.since mid disk (subst (λ (l : List FileCall). AllAnswered path l disk) second.are answers) in
       each_then (P disk) (Q disk) second.since first.since old (first.each disk were)
-      (subst (λ (l : List FileCall). AtEachMoment (Q disk) second.since l) first.are (second.each disk answers))
+      (subst (AtEachMoment (Q disk) second.since) first.are (second.each disk answers))
       (carry disk (throughout_last path P old mid first disk were));
 }
 
@@ -81,21 +93,20 @@ saves_then path bytes old mid new first second =
     throughout_then path _ _ old mid new first second (λ disk before calls keeps left leaves.
     ⊎_elim (λ was. before left was) (λ is. inr is) (keeps left leaves))
 
--- after a call that lets the path lead nowhere else
-pub saves_quietly : (path bytes : List ℕ) (old : List FileCall) (call : FileCall) (calls : List FileCall) → SavesWhole path bytes old calls
-    → ((disk : Disk) → AllAnswered path (call ∷ calls) disk → (left : Option (List ℕ))
-    → MayLeave (after_calls (call ∷ calls) disk) path left → MayLeave (after_calls calls disk) path left) → SavesWhole path bytes old (call ∷ calls)
-saves_quietly path bytes old call calls saves quiet =
-    throughout_more path _ old call calls saves (λ disk answers left leaves.
-    throughout_last path _ old calls saves disk answers.1 left (quiet disk answers left leaves))
-
--- or to these bytes
+-- after a call that lets the path lead to these bytes
 pub saves_loudly : (path bytes : List ℕ) (old : List FileCall) (call : FileCall) (calls : List FileCall) → SavesWhole path bytes old calls
     → ((disk : Disk) → AllAnswered path (call ∷ calls) disk → (left : Option (List ℕ)) → MayLeave (after_calls (call ∷ calls) disk) path left
     → MayLeave (after_calls calls disk) path left ⊎ (left ≡ Some bytes)) → SavesWhole path bytes old (call ∷ calls)
 saves_loudly path bytes old call calls saves loud =
     throughout_more path _ old call calls saves (λ disk answers left leaves.
     ⊎_elim (λ was. throughout_last path _ old calls saves disk answers.1 left was) (λ is. inr is) (loud disk answers left leaves))
+
+-- where the path leads nowhere else
+pub saves_quietly : (path bytes : List ℕ) (old : List FileCall) (call : FileCall) (calls : List FileCall) → SavesWhole path bytes old calls
+    → ((disk : Disk) → AllAnswered path (call ∷ calls) disk → (left : Option (List ℕ))
+    → MayLeave (after_calls (call ∷ calls) disk) path left → MayLeave (after_calls calls disk) path left) → SavesWhole path bytes old (call ∷ calls)
+saves_quietly path bytes old call calls saves quiet =
+    saves_loudly path bytes old call calls saves (λ disk answers left leaves. inl (quiet disk answers left leaves))
 
 -- ---- What stays at the path.
 
@@ -152,9 +163,6 @@ touches_then path old mid new first second = record {
 
 -- ---- A file beside the path.
 
-pub no_longer : (a b c : List ℕ) → c ≡ a ++ b → 0 < length b → c ≡ a → ⊥
-no_longer a b c joined some same = omega (arith, length-append a b, ap length joined, ap length same)
-
 pub has_more : (path from : List ℕ) (n : ℕ) (old : List FileCall) (call : FileCall) (calls : List FileCall) → HasBeside path from n old calls
     → ((since : List FileCall) → Contains since (Made from n) → IsWithin path since call) → HasBeside path from n old (call ∷ calls)
 has_more path from n old call calls has within = record {
@@ -166,17 +174,20 @@ has_more path from n old call calls has within = record {
   made = contains_later call (Made from n) has.touches.since has.made;
 }
 
+made_for : (from : List ℕ) (n m : ℕ) (since : List FileCall) → m ≡ n → Contains since (Made from n) → HasMade m since
+made_for from n m since of made = (from, subst (λ (k : ℕ). Contains since (Made from k)) (sym of) made)
+
 within_of : (path from : List ℕ) (n : ℕ) (call : FileCall) (since : List FileCall) → IsOf n call
     → Contains since (Made from n) → IsWithin path since call
-within_of path from n (Wrote m at part) since of made = (from, subst (λ (k : ℕ). Contains since (Made from k)) (sym of) made)
-within_of path from n (Cut m len) since of made = (from, subst (λ (k : ℕ). Contains since (Made from k)) (sym of) made)
-within_of path from n (Broke m) since of made = (from, subst (λ (k : ℕ). Contains since (Made from k)) (sym of) made)
-within_of path from n (Measured m len) since of made = (from, subst (λ (k : ℕ). Contains since (Made from k)) (sym of) made)
-within_of path from n (Synced m) since of made = (from, subst (λ (k : ℕ). Contains since (Made from k)) (sym of) made)
-within_of path from n (Unwaited m) since of made = (from, subst (λ (k : ℕ). Contains since (Made from k)) (sym of) made)
-within_of path from n (Locked m) since of made = (from, subst (λ (k : ℕ). Contains since (Made from k)) (sym of) made)
-within_of path from n (Unlockable m) since of made = (from, subst (λ (k : ℕ). Contains since (Made from k)) (sym of) made)
-within_of path from n call since of made = absurd of
+within_of path from n (Wrote m at part) since = made_for from n m since
+within_of path from n (Cut m len) since = made_for from n m since
+within_of path from n (Broke m) since = made_for from n m since
+within_of path from n (Measured m len) since = made_for from n m since
+within_of path from n (Synced m) since = made_for from n m since
+within_of path from n (Unwaited m) since = made_for from n m since
+within_of path from n (Locked m) since = made_for from n m since
+within_of path from n (Unlockable m) since = made_for from n m since
+within_of path from n call since = λ of made. absurd of
 
 module _ (path from : List ℕ) (n : ℕ) (old : List FileCall) where
   beside_of : (call : FileCall) (calls : List FileCall) → IsOf n call → IsBeside path from n old calls → IsBeside path from n old (call ∷ calls)
@@ -200,12 +211,12 @@ module _ (path from : List ℕ) (n : ℕ) (old : List FileCall) where
 
   pub beside_about : (calls new : List FileCall) → IsBeside path from n old calls → IsAbout n calls new → IsBeside path from n old new
   beside_about calls new beside about =
-      subst (λ (l : List FileCall). IsBeside path from n old l) (sym about.are) (beside_all about.since calls about.all beside)
+      subst (IsBeside path from n old) (sym about.are) (beside_all about.since calls about.all beside)
 
   -- right after it was made
   pub kept_made : (new : List FileCall) → IsLonger path from → new ≡ Made from n ∷ old → IsKept path from n old new
   kept_made new longer made =
-      subst (λ (l : List FileCall). IsKept path from n old l) (sym made) there where
+      subst (IsKept path from n old) (sym made) there where
         there : IsKept path from n old (Made from n ∷ old)
         there = record {
           beside = record {
@@ -257,3 +268,277 @@ module _ {E : Type 0} (to : Spot) (path bytes : List ℕ) (wanted : Durability) 
     };
     spares = λ free. spares_then path old mid new (tried.spares free) (again.spares free);
   }
+
+-- ---- Calls about one file.
+
+pub about_none : (n : ℕ) (old : List FileCall) → IsAbout n old old
+about_none n old = record { since = []; are = refl; all = tt }
+
+pub about_more : (n : ℕ) (call : FileCall) (old new later : List FileCall) → IsAbout n old new
+    → later ≡ call ∷ new → IsOf n call → IsAbout n old later
+about_more n call old new later about are of = record {
+  since = call ∷ about.since;
+  are = are ∙ ap (λ (l : List FileCall). call ∷ l) about.are;
+  all = (of, about.all);
+}
+
+all_append : (n : ℕ) (first second : List FileCall) → AllOf n first → AllOf n second → AllOf n (second ++ first)
+all_append n first [] before after_call = before
+all_append n first (call ∷ second) before after_call = (after_call.0, all_append n first second before after_call.1)
+
+pub about_then : (n : ℕ) (old mid new : List FileCall) → IsAbout n old mid → IsAbout n mid new → IsAbout n old new
+about_then n old mid new first second = record {
+  since = second.since ++ first.since;
+  are =
+      second.are ∙ (ap (λ (l : List FileCall). second.since ++ l) first.are ∙ sym (append_assoc second.since first.since old));
+  all = all_append n first.since second.since first.all second.all;
+}
+
+pub about_same : (n : ℕ) (old mid new : List FileCall) → IsAbout n old mid → new ≡ mid → IsAbout n old new
+about_same n old mid new about same = subst (IsAbout n old) (sym same) about
+
+pub about_waited : (n : ℕ) (old new : List FileCall) → Waited (Synced n) (Unwaited n) old new → IsAbout n old new
+about_waited n old new (inl synced) = about_more n (Synced n) old old new (about_none n old) synced refl
+about_waited n old new (inr unwaited) = about_more n (Unwaited n) old old new (about_none n old) unwaited refl
+
+-- ---- What is written.
+
+none_missing : (n : ℕ) → n ≡ 0 → replicate {A = ℕ} n 0 ≡ []
+none_missing n is = ap (λ (k : ℕ). replicate {A = ℕ} k 0) is
+
+pub sized_within : (len : ℕ) (bytes : List ℕ) → len ≤ length bytes → sized len bytes ≡ take len bytes
+sized_within len bytes within =
+    ap (λ (l : List ℕ). take len bytes ++ l) (none_missing (len - length bytes) (omega arith)) ∙ append-nil (take len bytes)
+
+over : (at m : ℕ) (bytes held : List ℕ) → at ≤ length bytes → m ≤ length bytes - at
+    → written at (take m (drop at bytes)) (take at bytes ++ drop at held) ≡ take (at + m) bytes ++ drop (at + m) held
+over at m bytes held begun within =
+    let front = take at bytes in let part = take m (drop at bytes) in
+    let all = front ++ drop at held in
+    let long : length front ≡ at = length-take-le at bytes begun in
+    let wide : at ≤ length all = omega (arith, long, length-append front (drop at held)) in
+    let first : sized at all ≡ front = sized_within at all wide ∙ take_at front (drop at held) at long in
+    let short : length part ≡ m = length-take-le m (drop at bytes) (omega (arith, length-drop at bytes)) in
+    let rest : drop (at + length part) all ≡ drop (at + m) held =
+    ap (λ (k : ℕ). drop (at + k) all) short ∙ (sym (drop-drop m at all)
+    ∙ (ap (λ (l : List ℕ). drop m l) (drop_at front (drop at held) at long) ∙ drop-drop m at held)) in
+    ap (λ (l : List ℕ). (l ++ part) ++ drop (at + length part) all) first ∙ (ap (λ (l : List ℕ). (front ++ part) ++ l) rest
+    ∙ ap (λ (l : List ℕ). l ++ drop (at + m) held) (sym (take-add at m bytes)))
+
+pub writes_more : (n at m : ℕ) (bytes : List ℕ) (old new later : List FileCall) → at ≤ length bytes
+    → m ≤ length bytes - at → WritesOver n at bytes old new
+    → later ≡ Wrote n at (take m (drop at bytes)) ∷ new → WritesOver n (at + m) bytes old later
+writes_more n at m bytes old new later begun within writes is =
+    subst (WritesOver n (at + m) bytes old) (sym is) (record {
+      sound = writes.sound;
+      bytes = λ disk. file_same n _ (after_calls new disk).bytes ∙ (ap (λ (l : List ℕ). written at (take m (drop at bytes)) l) (writes.bytes disk)
+          ∙ over at m bytes ((after_calls old disk).bytes n) begun within);
+    })
+
+-- ---- It reaches the disk.
+
+whole : (bytes held : List ℕ) → take (length bytes) (take (length bytes) bytes ++ drop (length bytes) held) ≡ bytes
+whole bytes held =
+    ap (λ (l : List ℕ). take (length bytes) (l ++ drop (length bytes) held)) (take_all (length bytes) bytes (omega arith))
+    ∙ take_at bytes (drop (length bytes) held) (length bytes) refl
+
+pub fills_waited : (n : ℕ) (bytes : List ℕ) (old wrote cut waited : List FileCall)
+    → WritesOver n (length bytes) bytes old wrote → CutsOff n (length bytes) wrote cut
+    → Waited (Synced n) (Unwaited n) cut waited → Fills n bytes old waited
+fills_waited n bytes old wrote cut waited writes cuts =
+    if_waited (Fills n bytes old) (Synced n) (Unwaited n) cut waited (record {
+      on = λ path disk answers sound. record {
+        bytes =
+            cuts.bytes path disk answers.1 ∙ (ap (λ (l : List ℕ). take (length bytes) l) (writes.bytes disk)
+            ∙ whole bytes ((after_calls old disk).bytes n));
+        is_kept =
+            file_same n _ (after_calls cut disk).is_kept ∙ ap not (cuts.sound disk ∙ (writes.sound disk ∙ sound));
+      };
+    }) (record { on = λ path disk answers. absurd answers.0 })
+
+pub fills_same : (n : ℕ) (bytes : List ℕ) (old mid new : List FileCall) → Fills n bytes old mid → new ≡ mid → Fills n bytes old new
+fills_same n bytes old mid new fills same = subst (Fills n bytes old) (sym same) fills
+
+-- ---- How a file that was filled comes to its path.
+
+pub safe_named : (path : List ℕ) (n : ℕ) (bytes : List ℕ) (calls new : List FileCall) → IsInPlace path n bytes calls
+    → Waited (SyncedNames path) (UnwaitedNames path) calls new → IsSafe path bytes new
+safe_named path n bytes calls new put =
+    if_waited (IsSafe path bytes) (SyncedNames path) (UnwaitedNames path) calls new (λ disk answers.
+    let has = put.has disk answers.1 in
+    leaves_only n path bytes (after_call (SyncedNames path) (after_calls calls disk))
+    (put.file disk answers.1) (path_same path [] (after_calls calls disk).before) (record { bytes = has.bytes; is_kept = has.is_kept }))
+    (λ disk answers. absurd answers.0)
+
+module _ (path from : List ℕ) (n : ℕ) (bytes : List ℕ) (old : List FileCall) where
+  -- names that the file gets
+  full_linked : (calls : List FileCall) → IsFull path from n bytes old calls → IsFull path from n bytes old (Linked from path ∷ calls)
+  full_linked calls full = record {
+    apart = full.apart;
+    saves =
+        saves_loudly path bytes old (Linked from path) calls full.saves (λ disk answers.
+        leaves_linked n from path (after_calls calls disk) full.apart (full.file disk answers.1) bytes (full.has disk answers.1));
+    file = λ disk answers. path_other path from _ (after_calls calls disk).file (λ same. full.apart (sym same)) ∙ full.file disk answers.1;
+    has = λ disk answers. let has = full.has disk answers.1 in record { bytes = has.bytes; is_kept = has.is_kept };
+  }
+
+  full_missing : (calls : List FileCall) → IsFull path from n bytes old calls → IsFull path from n bytes old (Missing path ∷ calls)
+  full_missing calls full = record {
+    apart = full.apart;
+    saves = saves_quietly path bytes old (Missing path) calls full.saves (λ disk answers left leaves. leaves);
+    file = λ disk answers. full.file disk answers.1;
+    has = λ disk answers. full.has disk answers.1;
+  }
+
+  saves_full : (calls : List FileCall) → IsFull path from n bytes old calls → SavesWhole path bytes old (Renamed from path ∷ calls)
+  saves_full calls full =
+      saves_loudly path bytes old (Renamed from path) calls full.saves (λ disk answers.
+      leaves_renamed n from path (after_calls calls disk) full.apart (full.file disk answers.1) bytes (full.has disk answers.1))
+
+  pub put_renamed : (calls new : List FileCall) → IsFull path from n bytes old calls → new ≡ Renamed from path ∷ calls → IsInPlace path n bytes new
+  put_renamed calls new full is =
+      subst (IsInPlace path n bytes) (sym is) (record {
+        file = λ disk answers. file_renamed n from path (after_calls calls disk) full.apart (full.file disk answers.1);
+        has = λ disk answers. let has = full.has disk answers.1 in record { bytes = has.bytes; is_kept = has.is_kept };
+      })
+
+  put_linked : (calls : List FileCall) → IsFull path from n bytes old calls → IsInPlace path n bytes (Linked from path ∷ calls)
+  put_linked calls full = record {
+    file = λ disk answers. file_linked n from path (after_calls calls disk) full.apart (full.file disk answers.1);
+    has = λ disk answers. let has = full.has disk answers.1 in record { bytes = has.bytes; is_kept = has.is_kept };
+  }
+
+  -- it is linked, and its first name is removed, or not
+  pub put_published : (calls linked new : List FileCall) → IsFull path from n bytes old calls
+      → linked ≡ Linked from path ∷ calls → MayHave (Removed from) linked new → IsInPlace path n bytes new
+  put_published calls linked new full is =
+      let put : IsInPlace path n bytes linked = subst (IsInPlace path n bytes) (sym is) (put_linked calls full) in
+      if_made (IsInPlace path n bytes) (Removed from) linked new put (record {
+        file = λ disk answers. path_other from path None (after_calls linked disk).file full.apart ∙ put.file disk answers.1;
+        has = λ disk answers. let has = put.has disk answers.1 in record { bytes = has.bytes; is_kept = has.is_kept };
+      })
+
+  pub full_may : (calls linked : List FileCall) → IsFull path from n bytes old calls
+      → MayHave (Linked from path) calls linked → IsFull path from n bytes old linked
+  full_may calls linked full = if_made (IsFull path from n bytes old) (Linked from path) calls linked full (full_linked calls full)
+
+  -- its name was looked for before it was renamed
+  pub put_looked : (calls looked new : List FileCall) → IsFull path from n bytes old calls
+      → looked ≡ Missing path ∷ calls → new ≡ Renamed from path ∷ looked → IsInPlace path n bytes new
+  put_looked calls looked new full missing is =
+      put_renamed looked new (subst (IsFull path from n bytes old) (sym missing) (full_missing calls full)) is
+
+  -- ---- All that is said of a try.
+
+  module _ (wanted : Durability) where
+    abbrev Ready : List FileCall → Type 0
+    Ready = IsReady wanted path from n bytes old
+
+    abbrev Tried : Spot → List FileCall → Type 0
+    Tried to = HasTried to wanted path from n bytes old
+
+    nothing : (m : ℕ) → None ≡ Some m → ⊥
+    nothing m same = cc
+
+    ready_missing : (calls : List FileCall) → Ready calls → Ready (Missing path ∷ calls)
+    ready_missing calls ready = record {
+      apart = ready.apart;
+      has = has_more path from n old (Missing path) calls ready.has (λ since made. refl);
+      spares = spares_quietly path old (Missing path) calls ready.spares (λ disk answers m is. is);
+      full = λ synced. full_missing calls (ready.full synced);
+    }
+
+    pub ready_may : (calls linked : List FileCall) → Ready calls → MayHave (Linked from path) calls linked → Ready linked
+    ready_may calls linked ready = if_made Ready (Linked from path) calls linked ready (record {
+      apart = ready.apart;
+      has = has_more path from n old (Linked from path) calls ready.has (λ since made. ((n, made), refl));
+      spares = spares_quietly path old (Linked from path) calls ready.spares (λ disk answers m is. absurd (nothing m (sym answers.0 ∙ is)));
+      full = λ synced. full_linked calls (ready.full synced);
+    })
+
+    -- nothing was done with it
+    pub tried_ready : (to : Spot) (calls : List FileCall) → Ready calls → Tried to calls
+    tried_ready to calls ready = record { has = ready.has; spares = λ free. ready.spares; saves = λ synced. (ready.full synced).saves }
+
+    pub tried_beside : (to : Spot) (calls : List FileCall) → IsBeside path from n old calls → Tried to calls
+    tried_beside to calls beside = record { has = beside.has; spares = λ free. beside.spares; saves = λ synced. beside.saves bytes }
+
+    -- after a call that lets the path lead nowhere else
+    tried_quietly : (to : Spot) (call : FileCall) (calls : List FileCall) → ((since : List FileCall) → Contains since (Made from n) → IsWithin path since call)
+        → ((disk : Disk) → (after_calls (call ∷ calls) disk).file path ≡ (after_calls calls disk).file path)
+        → ((disk : Disk) → (left : Option (List ℕ)) → MayLeave (after_calls (call ∷ calls) disk) path left → MayLeave (after_calls calls disk) path left)
+        → Tried to calls → Tried to (call ∷ calls)
+    tried_quietly to call calls within file quiet tried = record {
+      has = has_more path from n old call calls tried.has within;
+      spares = λ free. spares_quietly path old call calls (tried.spares free) (λ disk answers m is. file disk ∙ is);
+      saves = λ synced. saves_quietly path bytes old call calls (tried.saves synced) (λ disk answers. quiet disk);
+    }
+
+    pub tried_removed : (to : Spot) (calls new : List FileCall) → (from ≡ path → ⊥) → Tried to calls → MayHave (Removed from) calls new → Tried to new
+    tried_removed to calls new apart tried =
+        if_made (Tried to) (Removed from) calls new tried (tried_quietly to (Removed from) calls (λ since made. (n, made))
+        (λ disk. path_other from path None (after_calls calls disk).file apart) (λ disk. leaves_removed path from (after_calls calls disk) apart) tried)
+
+    pub tried_named : (to : Spot) (calls new : List FileCall) → Tried to calls
+        → (new ≡ calls) ⊎ Waited (SyncedNames path) (UnwaitedNames path) calls new → Tried to new
+    tried_named to calls new tried =
+        if_either (Tried to) (SyncedNames path) (UnwaitedNames path) calls new tried
+        (tried_quietly to (SyncedNames path) calls (λ since made. refl) (λ disk. refl) (λ disk. leaves_synced path (after_calls calls disk)) tried)
+        (tried_quietly to (UnwaitedNames path) calls (λ since made. refl) (λ disk. refl) (λ disk left leaves. leaves) tried)
+
+    pub tried_as : (to there : Spot) (calls : List FileCall) → to ≡ there → Tried there calls → Tried to calls
+    tried_as to there calls same = subst (λ (t : Spot). Tried t calls) (sym same)
+
+    -- it is renamed over what is there
+    pub tried_taken : (calls new : List FileCall) → Ready calls → MayHave (Renamed from path) calls new → Tried spot.Taken new
+    tried_taken calls new ready = if_made (Tried spot.Taken) (Renamed from path) calls new (tried_ready spot.Taken calls ready) (record {
+      has = has_more path from n old (Renamed from path) calls ready.has (λ since made. ((n, made), refl));
+      spares = λ free. absurd (taken free);
+      saves = λ synced. saves_full calls (ready.full synced);
+    }) where
+      taken : spot.Taken ≡ spot.Free → ⊥
+      taken same = cc
+
+    -- it is linked where nothing is
+    pub tried_linked : (calls linked new : List FileCall) → Ready calls
+        → MayHave (Linked from path) calls linked → MayHave (Removed from) linked new → Tried spot.Free new
+    tried_linked calls linked new ready may =
+        tried_removed spot.Free linked new ready.apart (tried_ready spot.Free linked (ready_may calls linked ready may))
+
+    -- it is renamed where nothing was seen
+    renamed_free : (calls : List FileCall) → Ready calls → Tried spot.Free (Renamed from path ∷ Missing path ∷ calls)
+    renamed_free calls ready =
+        let looked = ready_missing calls ready in
+        record {
+          has = has_more path from n old (Renamed from path) (Missing path ∷ calls) looked.has (λ since made. ((n, made), refl));
+          spares = λ free. spares_quietly path old (Renamed from path) (Missing path ∷ calls) looked.spares
+              (λ disk answers m is. absurd (nothing m (sym answers.1.0 ∙ is)));
+          saves = λ synced. saves_full (Missing path ∷ calls) (looked.full synced);
+        }
+
+    pub tried_looked : (calls looked new : List FileCall) → Ready calls
+        → looked ≡ Missing path ∷ calls → MayHave (Renamed from path) looked new → Tried spot.Free new
+    tried_looked calls looked new ready missing =
+        if_made (Tried spot.Free) (Renamed from path) looked new
+        (subst (Tried spot.Free) (sym missing) (tried_ready spot.Free (Missing path ∷ calls) (ready_missing calls ready)))
+        (subst (λ (l : List FileCall). Tried spot.Free (Renamed from path ∷ l)) (sym missing) (renamed_free calls ready))
+
+    pub tried_same : (to : Spot) (calls new : List FileCall) → Ready calls → new ≡ calls → Tried to new
+    tried_same to calls new ready same = subst (Tried to) (sym same) (tried_ready to calls ready)
+
+    -- it was filled
+    pub ready_filled : (calls new : List FileCall) → IsKept path from n old calls
+        → IsAbout n calls new → (wanted ≡ wait.Synced → Fills n bytes calls new) → IsReady wanted path from n bytes old new
+    ready_filled calls new kept about fills =
+        let beside = beside_about path from n old calls new kept.beside about in
+        record {
+          apart = beside.apart;
+          has = beside.has;
+          spares = beside.spares;
+          full = λ synced. record {
+            apart = beside.apart;
+            saves = beside.saves bytes;
+            file = beside.file;
+            has = λ disk answers. (fills synced).on path disk answers (kept.sound disk);
+          };
+        }

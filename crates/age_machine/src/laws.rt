@@ -23,6 +23,7 @@ pub fn torn_if_renamed_first()
 {}
 
 /// A file whose name wasn't waited for may be lost.
+#[tactic(auto, using(crate::proofs::LawLemmas::names_unwaited))]
 pub fn lost_if_names_unwaited()
     ensures { LostIfNamesUnwaited }
 {}
@@ -34,11 +35,13 @@ pub fn outs_are_answered()
 {}
 
 /// An output that wasn't waited for may be torn.
+#[tactic(auto, using(crate::proofs::LawLemmas::unsynced))]
 pub fn torn_if_unsynced()
     ensures { TornIfUnsynced }
 {}
 
 /// An output that is cut off after it was waited for may be torn.
+#[tactic(auto, using(crate::proofs::LawLemmas::cut_last))]
 pub fn torn_if_cut_last()
     ensures { TornIfCutLast }
 {}
@@ -49,11 +52,13 @@ pub fn second_run_changes_nothing()
 {}
 
 /// A run that locks a file after it wrote to it doesn't lock it first.
+#[tactic(auto, using(crate::proofs::OutLemmas::late))]
 pub fn changed_if_locked_late()
     ensures { ChangedIfLockedLate }
 {}
 
 /// An output changes no other file.
+#[tactic(auto, using(crate::proofs::OutLemmas::others_kept))]
 pub fn others_are_kept()
     ensures { OthersAreKept }
 {}

@@ -1,17 +1,108 @@
--- Rounds on the diagonals of sixteen words.
-use Rattle.std.proofs.Common.{◌≡◌, ◌++◌, ◌∙◌, ℕ, List, [], ◌∷◌, length, map, refl, sym, ap, arith}
+-- Salsa20/8 on vectors of four words, which are the diagonals of sixteen.
+use Rattle.std.proofs.Common.{◌≡◌, ℕ, ◌-◌, ◌*◌, ◌/◌, ◌%◌, ◌^◌, ◌<◌, List, [], ◌∷◌, ◌++◌, length, take, drop, map, bit_or, bit_xor, refl, ap, ◌∙◌, subst, zero}
+use Rattle.std.proofs.Common.{suc, ◌+◌, arith, sym}
+use Rattle.std.specs.Int.{w32, rotate_left}
 use Rattle.std.specs.Simd.Lanes.{zip2}
-use Rattle.std.proofs.lemmas.List.{length-append}
-use Rattle.age_scrypt.specs.Scrypt.{columns}
-use Rattle.age_scrypt.specs.inner.Workspace.{words, at_places, IsRows, IsDiagonals, quarters}
+use Rattle.std.proofs.lemmas.Simd.{length-zip2}
+use Rattle.std.proofs.lemmas.List.{append_assoc, take-append-drop, drop-drop, length-take, length-drop, length-append}
 use Rattle.age_scrypt.specs.declared.part.Part.{Part}
-use Rattle.age_scrypt.proofs.LaneLemmas.{for_sixteen, sixteen_words}
+use Rattle.age_scrypt.specs.Scrypt.{add32, quarter, columns, rows, double_rounds}
+use Rattle.age_scrypt.specs.inner.Workspace.{quarters, transpose, words, at_places, IsRows, IsDiagonals}
+
+-- ---- vectors of four words
+
+-- what holds of every list of four words written out
+pub for_four : (P : List ℕ → Type 0) → ((p q r s : ℕ) → P (p ∷ q ∷ r ∷ s ∷ [])) → (xs : List ℕ) → length xs ≡ 4 → P xs
+for_four P h [] len = absurd (omega arith)
+for_four P h (p ∷ []) len = absurd (omega arith)
+for_four P h (p ∷ q ∷ []) len = absurd (omega arith)
+for_four P h (p ∷ q ∷ r ∷ []) len = absurd (omega arith)
+for_four P h (p ∷ q ∷ r ∷ s ∷ []) len = h p q r s
+for_four P h (p ∷ q ∷ r ∷ s ∷ t ∷ rest) len = absurd (omega arith)
+
+-- two shifts and an or are a rotation
+pub shifts_rotate : (k : ℕ) → 0 < k → k < 32 → (words : List ℕ) → length words ≡ 4
+    → zip2 bit_or (zip2 (λ x by. x * 2 ^ by % 2 ^ 32) words (k ∷ k ∷ k ∷ k ∷ []))
+    (zip2 (λ x by. x / 2 ^ by) words ((32 - k) ∷ (32 - k) ∷ (32 - k) ∷ (32 - k) ∷ [])) ≡ map (λ x. rotate_left w32 x k) words
+shifts_rotate k some below =
+    let left : k % 32 ≡ k = omega arith in
+    let right : (32 - k) % 32 ≡ 32 - k = omega arith in
+    for_four _ (λ p q r s. rw (left, right) refl)
+
+-- what holds of all words of four vectors holds of four vectors
+pub for_sixteen : (P : List ℕ → List ℕ → List ℕ → List ℕ → Type 0) → ((a0 a1 a2 a3 b0 b1 b2 b3 c0 c1 c2 c3 d0 d1 d2 d3 : ℕ)
+    → P (a0 ∷ a1 ∷ a2 ∷ a3 ∷ []) (b0 ∷ b1 ∷ b2 ∷ b3 ∷ []) (c0 ∷ c1 ∷ c2 ∷ c3 ∷ [])
+    (d0 ∷ d1 ∷ d2 ∷ d3 ∷ []))
+    → (a b c d : List ℕ) → length a ≡ 4 → length b ≡ 4 → length c ≡ 4 → length d ≡ 4 → P a b c d
+for_sixteen P h a b c d a_len b_len c_len d_len =
+    for_four (λ a. P a b c d) (λ a0 a1 a2 a3.
+    for_four (λ b. P (a0 ∷ a1 ∷ a2 ∷ a3 ∷ []) b c d) (λ b0 b1 b2 b3.
+    for_four (λ c. P (a0 ∷ a1 ∷ a2 ∷ a3 ∷ []) (b0 ∷ b1 ∷ b2 ∷ b3 ∷ []) c d) (λ c0 c1 c2 c3.
+    for_four (λ d. P (a0 ∷ a1 ∷ a2 ∷ a3 ∷ []) (b0 ∷ b1 ∷ b2 ∷ b3 ∷ []) (c0 ∷ c1 ∷ c2 ∷ c3 ∷ []) d)
+    (λ d0 d1 d2 d3.
+    h a0 a1 a2 a3 b0 b1 b2 b3 c0 c1 c2 c3 d0 d1 d2 d3) d d_len) c c_len) b b_len) a a_len
+
+-- b xor the sum of x and y, rotated, on vectors
+abbrev pub xor_rotated_lanes : List ℕ → List ℕ → List ℕ → ℕ → List ℕ
+xor_rotated_lanes b x y k = zip2 bit_xor b (map (λ sum. rotate_left w32 sum k) (zip2 add32 x y))
+
+-- a quarter round on each lane, as it is computed on vectors
+pub record IsQuarter (a b c d : List ℕ) : Type 0 where
+  pub second : xor_rotated_lanes b a d 7 ≡ map (λ q. q.1) (quarters a b c d)
+  pub third : xor_rotated_lanes c (map (λ q. q.1) (quarters a b c d)) a 9 ≡ map (λ q. q.2) (quarters a b c d)
+  pub fourth : xor_rotated_lanes d (map (λ q. q.2) (quarters a b c d)) (map (λ q. q.1) (quarters a b c d)) 13 ≡ map (λ q. q.3) (quarters a b c d)
+  pub first : xor_rotated_lanes a (map (λ q. q.3) (quarters a b c d)) (map (λ q. q.2) (quarters a b c d)) 18 ≡ map (λ q. q.0) (quarters a b c d)
+
+pub quarter_lanes : (a b c d : List ℕ) → length a ≡ 4 → length b ≡ 4 → length c ≡ 4 → length d ≡ 4 → IsQuarter a b c d
+unfolding quarter
+quarter_lanes = for_sixteen IsQuarter (λ a0 a1 a2 a3 b0 b1 b2 b3 c0 c1 c2 c3 d0 d1 d2 d3.
+    record { second = refl; third = refl; fourth = refl; first = refl })
+
+-- sixteen words, written out
+pub sixteen_words : (P : List ℕ → Type 0) → ((x0 x1 x2 x3 x4 x5 x6 x7 x8 x9 x10 x11 x12 x13 x14 x15 : ℕ)
+    → P (x0 ∷ x1 ∷ x2 ∷ x3 ∷ x4 ∷ x5 ∷ x6 ∷ x7 ∷ x8 ∷ x9 ∷ x10 ∷ x11 ∷ x12 ∷ x13 ∷ x14 ∷ x15 ∷ []))
+    → (x : List ℕ) → length x ≡ 16 → P x
+sixteen_words P h x len =
+    let cut : (i : ℕ) → take 4 (drop i x) ++ drop (i + 4) x ≡ drop i x = λ i. rw (← drop-drop) (take-append-drop 4 (drop i x)) in
+    let parts : take 4 x ++ take 4 (drop 4 x) ++ take 4 (drop 8 x) ++ drop 12 x ≡ x =
+    append_assoc (take 4 x ++ take 4 (drop 4 x)) (take 4 (drop 8 x)) (drop 12 x) ∙ ap (λ rest. take 4 x ++ take 4 (drop 4 x) ++ rest) (cut 8)
+    ∙ append_assoc (take 4 x) (take 4 (drop 4 x)) (drop 8 x) ∙ ap (λ rest. take 4 x ++ rest) (cut 4) ∙ take-append-drop 4 x in
+    subst P parts
+    (for_sixteen (λ a b c d. P (a ++ b ++ c ++ d)) h (take 4 x) (take 4 (drop 4 x))
+    (take 4 (drop 8 x)) (drop 12 x)
+    (omega (arith, length-take 4 x))
+    (omega (arith, length-take 4 (drop 4 x), length-drop 4 x))
+    (omega (arith, length-take 4 (drop 8 x), length-drop 8 x))
+    (omega (arith, length-drop 12 x)))
+
+-- the rows are the columns of the transpose
+pub transpose-columns_of-transpose : (x : List ℕ) → length x ≡ 16 → transpose (columns (transpose x)) ≡ rows x
+unfolding transpose columns rows
+transpose-columns_of-transpose = sixteen_words (λ x. transpose (columns (transpose x)) ≡ rows x)
+    (λ x0 x1 x2 x3 x4 x5 x6 x7 x8 x9 x10 x11 x12 x13 x14 x15. refl)
+
+pub length-columns : (x : List ℕ) → length x ≡ 16 → length (columns x) ≡ 16
+unfolding columns
+length-columns = sixteen_words (λ x. length (columns x) ≡ 16) (λ x0 x1 x2 x3 x4 x5 x6 x7 x8 x9 x10 x11 x12 x13 x14 x15. refl)
+
+pub length-rows : (x : List ℕ) → length x ≡ 16 → length (rows x) ≡ 16
+unfolding rows
+length-rows = sixteen_words (λ x. length (rows x) ≡ 16) (λ x0 x1 x2 x3 x4 x5 x6 x7 x8 x9 x10 x11 x12 x13 x14 x15. refl)
+
+pub length-double_rounds : (n : ℕ) (x : List ℕ) → length x ≡ 16 → length (double_rounds n x) ≡ 16
+unfolding double_rounds
+length-double_rounds zero x len = len
+length-double_rounds (suc n) x len = length-rows _ (length-columns _ (length-double_rounds n x len))
+
+pub length-transpose : (x : List ℕ) → length (transpose x) ≡ 16
+unfolding transpose
+length-transpose x = refl
+
+-- ---- rounds on the diagonals of sixteen words
 
 -- the quarter rounds on the lanes of the diagonals
 abbrev diagonal_quarters : List ℕ → List (ℕ × ℕ × ℕ × ℕ)
-diagonal_quarters x =
-    quarters (at_places x 0 5 10 15) (at_places x 4 9 14 3) (at_places x 8 13 2 7)
-    (at_places x 12 1 6 11)
+diagonal_quarters x = quarters (at_places x 0 5 10 15) (at_places x 4 9 14 3) (at_places x 8 13 2 7) (at_places x 12 1 6 11)
 
 record AreColumns (x : List ℕ) : Type 0 where
   pub first : map (λ q. q.0) (diagonal_quarters x) ≡ at_places (columns x) 0 5 10 15
@@ -21,16 +112,12 @@ record AreColumns (x : List ℕ) : Type 0 where
 
 diagonal_quarters_are_columns : (x : List ℕ) → length x ≡ 16 → AreColumns x
 unfolding columns
-diagonal_quarters_are_columns = sixteen_words AreColumns
-    (λ x0 x1 x2 x3 x4 x5 x6 x7 x8 x9 x10 x11 x12 x13 x14 x15.
+diagonal_quarters_are_columns = sixteen_words AreColumns (λ x0 x1 x2 x3 x4 x5 x6 x7 x8 x9 x10 x11 x12 x13 x14 x15.
     record { first = refl; second = refl; third = refl; fourth = refl })
 
-pub columns_on_diagonals : (x : List ℕ) (p q : Part) → length x ≡ 16 → IsDiagonals x p
-    → q.a ≡ map (λ q. q.0) (quarters p.a p.b p.c p.d)
-    → q.b ≡ map (λ q. q.1) (quarters p.a p.b p.c p.d)
-    → q.c ≡ map (λ q. q.2) (quarters p.a p.b p.c p.d)
-    → q.d ≡ map (λ q. q.3) (quarters p.a p.b p.c p.d)
-    → IsDiagonals (columns x) q
+pub columns_on_diagonals : (x : List ℕ) (p q : Part) → length x ≡ 16 → IsDiagonals x p → q.a ≡ map (λ q. q.0) (quarters p.a p.b p.c p.d)
+    → q.b ≡ map (λ q. q.1) (quarters p.a p.b p.c p.d) → q.c ≡ map (λ q. q.2) (quarters p.a p.b p.c p.d)
+    → q.d ≡ map (λ q. q.3) (quarters p.a p.b p.c p.d) → IsDiagonals (columns x) q
 columns_on_diagonals x p q len h a b c d =
     let are = diagonal_quarters_are_columns x len in
     let placed : quarters p.a p.b p.c p.d ≡ diagonal_quarters x = rw (h.a, h.b, h.c, h.d) refl in
@@ -42,31 +129,26 @@ columns_on_diagonals x p q len h a b c d =
     }
 
 pub length-words : (p : Part) → length (words p) ≡ 16
-length-words p =
-    omega (
-      arith,
-      length-append (p.a ++ p.b ++ p.c) p.d,
-      length-append (p.a ++ p.b) p.c,
-      length-append p.a p.b,
-      p.a_len,
-      p.b_len,
-      p.c_len,
-      p.d_len,
-    )
+length-words p = omega (
+  arith,
+  length-append (p.a ++ p.b ++ p.c) p.d,
+  length-append (p.a ++ p.b) p.c,
+  length-append p.a p.b,
+  p.a_len,
+  p.b_len,
+  p.c_len,
+  p.d_len,
+)
 
 -- an operation on two parts is one on each pair of their vectors
-zip2-append : (f : ℕ → ℕ → ℕ) (xs ys us vs : List ℕ) → length xs ≡ length us
-    → zip2 f (xs ++ ys) (us ++ vs) ≡ zip2 f xs us ++ zip2 f ys vs
+zip2-append : (f : ℕ → ℕ → ℕ) (xs ys us vs : List ℕ) → length xs ≡ length us → zip2 f (xs ++ ys) (us ++ vs) ≡ zip2 f xs us ++ zip2 f ys vs
 zip2-append f [] ys [] vs len = refl
 zip2-append f [] ys (u ∷ us) vs len = absurd (omega arith)
 zip2-append f (x ∷ xs) ys [] vs len = absurd (omega arith)
-zip2-append f (x ∷ xs) ys (u ∷ us) vs len =
-    ap (λ rest. f x u ∷ rest) (zip2-append f xs ys us vs (omega arith))
+zip2-append f (x ∷ xs) ys (u ∷ us) vs len = ap (λ rest. f x u ∷ rest) (zip2-append f xs ys us vs (omega arith))
 
-pub zip2-words : (f : ℕ → ℕ → ℕ) (p q : Part)
-    → zip2 f (words p) (words q) ≡ zip2 f p.a q.a ++ zip2 f p.b q.b ++ zip2 f p.c q.c
-    ++ zip2 f p.d q.d
-zip2-words f p q =
+pub zip2_words : (f : ℕ → ℕ → ℕ) (p q : Part) → zip2 f (words p) (words q) ≡ zip2 f p.a q.a ++ zip2 f p.b q.b ++ zip2 f p.c q.c ++ zip2 f p.d q.d
+zip2_words f p q =
     let ab : length (p.a ++ p.b) ≡ length (q.a ++ q.b) =
     omega
     (arith, length-append p.a p.b, length-append q.a q.b, p.a_len, p.b_len, q.a_len, q.b_len) in
@@ -81,6 +163,9 @@ zip2-words f p q =
     ∙ ap (λ front. front ++ zip2 f p.d q.d) (zip2-append f (p.a ++ p.b) p.c (q.a ++ q.b) q.c ab
     ∙ ap (λ front. front ++ zip2 f p.c q.c) (zip2-append f p.a p.b q.a q.b (p.a_len ∙ sym q.a_len)))
 
+-- an operation on two vectors keeps their length
+pub ruleset vector_lengths = (length-zip2)
+
 record FourRows (a b c d : List ℕ) : Type 0 where
   pub first : a ≡ at_places (a ++ b ++ c ++ d) 0 1 2 3
   pub second : b ≡ at_places (a ++ b ++ c ++ d) 4 5 6 7
@@ -90,10 +175,8 @@ record FourRows (a b c d : List ℕ) : Type 0 where
 -- the vectors of a part are the rows of its words
 pub rows_of_words : (p : Part) → IsRows (words p) p
 rows_of_words p =
-    let are = for_sixteen FourRows
-    (λ a0 a1 a2 a3 b0 b1 b2 b3 c0 c1 c2 c3 d0 d1 d2 d3.
-    record { first = refl; second = refl; third = refl; fourth = refl })
-    p.a p.b p.c p.d p.a_len p.b_len p.c_len p.d_len in
+    let are = for_sixteen FourRows (λ a0 a1 a2 a3 b0 b1 b2 b3 c0 c1 c2 c3 d0 d1 d2 d3.
+    record { first = refl; second = refl; third = refl; fourth = refl }) p.a p.b p.c p.d p.a_len p.b_len p.c_len p.d_len in
     record { a = are.first; b = are.second; c = are.third; d = are.fourth }
 
 pub words_of_rows : (x : List ℕ) (p : Part) → length x ≡ 16 → IsRows x p → words p ≡ x

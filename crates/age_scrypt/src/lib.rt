@@ -37,6 +37,7 @@ pub use steps::Steps;
 pub const WORK_FACTOR_LIMIT: u32 = 22;
 
 /// The key, in memory that the caller took.
+#[tactic(auto, unfolding(crate::specs::Scrypt::scrypt))]
 fn derive_in(
     pass: &[u8],
     salt: &[u8],

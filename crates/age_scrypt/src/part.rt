@@ -73,6 +73,7 @@ impl Part {
 
     /// The exclusive or, word by word.
     #[inline(always)]
+    #[tactic(auto, using(crate::proofs::SalsaLemmas::zip2_words, crate::proofs::SalsaLemmas::vector_lengths))]
     pub fn xor(self, other: Part) -> Part
         ensures { words result ≡ xor_words (words self) (words other) }
     {
@@ -86,6 +87,7 @@ impl Part {
 
     /// The sums, word by word, with their carries dropped.
     #[inline(always)]
+    #[tactic(auto, using(crate::proofs::SalsaLemmas::zip2_words, crate::proofs::SalsaLemmas::vector_lengths))]
     pub fn wrapping_add(self, other: Part) -> Part
         ensures { words result ≡ zip2 add32 (words self) (words other) }
     {

@@ -42,6 +42,7 @@ fn quarter(p: Part) -> Part
 
 /// The diagonals of the transpose.
 #[inline(always)]
+#[tactic(auto, unfolding(crate::specs::inner::Workspace::transpose))]
 fn transposed(p: Part) -> Part
     ensures { (x : List ℕ) → IsDiagonals x p → IsDiagonals (transpose x) result }
 {

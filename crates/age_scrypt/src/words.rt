@@ -12,6 +12,7 @@ pub(crate) fn read_words(bytes: &[u8; 1024], words: &mut [u32])
     LittleEndian::read_u32_into(bytes, words);
 }
 
+#[tactic(auto, unfolding(crate::specs::Scrypt::bytes_of))]
 pub(crate) fn write_bytes(words: &[u32], bytes: &mut [u8])
     requires words { length words.now ≡ 256 }
     requires bytes { length bytes.old ≡ 1024 }

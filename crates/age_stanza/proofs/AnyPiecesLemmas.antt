@@ -3,7 +3,7 @@ use Rattle.std.proofs.Common.{◌≡◌, ℕ, ◌<◌, ◌≤◌, ◌+◌, ◌-�
 use Rattle.std.specs.Prelude.{◌⊎◌}
 use Rattle.std.specs.List.{concat}
 use Rattle.std.proofs.lemmas.Bool.{cases_lt}
-use Rattle.std.proofs.lemmas.List.{append-nil, append_assoc, length-take, take-append-drop, take-append-le, take_all, take_at}
+use Rattle.std.proofs.lemmas.List.{append-nil, append_assoc, length-take, take-append-drop, take-append-le, take_all}
 use Rattle.std.proofs.Math.Seq.{take-append-add}
 use Rattle.age_stanza.specs.declared.header.Header.{Header}
 use Rattle.age_stanza.specs.declared.head_step.HeadStep.{HeadStep}
@@ -12,6 +12,8 @@ use Rattle.age_stanza.specs.declared.fault.HeadFault.{HeadFault}
 use Rattle.age_stanza.specs.Parsing.{memory_fault, FirstFault, HasHeader, IsLineFault, IsFault, Parsing, reading, complete, refused, IsOpen, FeedsParser}
 use Rattle.age_stanza.specs.Grammar.{line, Spells, HeadText}
 use Rattle.age_stanza.specs.Laws.{Fed, none, more, StandsFor}
+use Rattle.age_stanza.proofs.PlaceLemmas.{two_parts}
+use Rattle.age_stanza.proofs.FaultLemmas.{prefix_of}
 
 -- ---- what more bytes leave as it was
 
@@ -44,15 +46,6 @@ more_line_fault bytes piece fault f =
     let longer = take_more_bytes 1048576 bytes piece in
     rw (longer.1) (f.0, f.1, more_first (take 1048576 bytes) longer.0 f.0 f.1 f.2, f.3, f.4)
 
-regroup : (a b c d : List ℕ) → (a ++ (b ++ c)) ++ d ≡ (a ++ b) ++ (c ++ d)
-regroup a b c d = simp append_assoc
-
--- of two fronts of one list the shorter begins the longer
-pub prefix_of : (a x b y : List ℕ) → a ++ x ≡ b ++ y → length a ≤ length b → b ≡ a ++ drop (length a) b
-prefix_of a x b y e le =
-    let front : take (length a) b ≡ a = sym (take-append-le (length a) b y le) ∙ ap (take (length a)) (sym e) ∙ take_at a x (length a) refl in
-    sym (take-append-drop (length a) b) ∙ ap (λ (t : List ℕ). t ++ drop (length a) b) front
-
 -- no header ends inside the bytes, and none after them
 none_longer : (bytes piece : List ℕ) → (HasHeader bytes → ⊥)
     → ((h : Header) (front : List ℕ) → HeadText h front → length bytes < length front → front ≡ bytes ++ drop (length bytes) front → ⊥)
@@ -69,13 +62,12 @@ no_text bytes before l f h front text lt is =
     let all : take 1048576 bytes ≡ bytes = take_all 1048576 bytes (omega arith) in
     let bytes-is : bytes ≡ before ++ (line l ++ f.rest) = sym all ∙ f.parts in
     let grouped : front ≡ (before ++ line l) ++ (f.rest ++ drop (length bytes) front) =
-    is ∙ ap (λ (t : List ℕ). t ++ drop (length bytes) front) bytes-is ∙ regroup before (line l) f.rest (drop (length bytes) front) in
+    is ∙ ap (λ (t : List ℕ). t ++ drop (length bytes) front) bytes-is ∙ two_parts before (line l) f.rest (drop (length bytes) front) in
     f.faulty (h, f.rest ++ drop (length bytes) front, subst (Spells h) grouped text.spells)
 
 pub more_fault : (bytes piece : List ℕ) (fault : HeadFault) → (HasHeader bytes → ⊥) → IsFault bytes fault → (HasHeader (bytes ++ piece) → ⊥)
     × IsFault (bytes ++ piece) fault
-more_fault bytes piece fault inside (inl f) =
-    (none_longer bytes piece inside (no_text bytes f.0 f.1 f.2), inl (more_line_fault bytes piece fault f))
+more_fault bytes piece fault inside (inl f) = (none_longer bytes piece inside (no_text bytes f.0 f.1 f.2), inl (more_line_fault bytes piece fault f))
 more_fault bytes piece fault inside (inr f) =
     let long : 1048576 ≤ length bytes = omega (arith, length-take 1048576 bytes, f.1) in
     let same : take 1048576 (bytes ++ piece) ≡ take 1048576 bytes = take-append-le 1048576 bytes piece long in
@@ -94,15 +86,14 @@ step_stands : (bytes piece : List ℕ) (old new : Parsing) (result : Result Head
     → StandsFor new (bytes ++ piece)
 step_stands bytes piece (reading held) new (Ok More) e is-open f = subst (λ (p : Parsing). StandsFor p (bytes ++ piece)) (sym f.0)
     (ap (λ (t : List ℕ). t ++ piece) e)
-step_stands bytes piece (reading held) new (Ok (Ready taken h)) e is-open f =
-    subst (λ (p : Parsing). StandsFor p (bytes ++ piece)) (sym f.0) (
-      h,
-      held ++ take taken piece,
-      drop taken piece,
-      f.2,
-      ap (λ (t : List ℕ). t ++ piece) (sym e)
-          ∙ ap (λ (t : List ℕ). held ++ t) (sym (take-append-drop taken piece)) ∙ sym (append_assoc held (take taken piece) (drop taken piece)),
-    )
+step_stands bytes piece (reading held) new (Ok (Ready taken h)) e is-open f = subst (λ (p : Parsing). StandsFor p (bytes ++ piece)) (sym f.0) (
+  h,
+  held ++ take taken piece,
+  drop taken piece,
+  f.2,
+  ap (λ (t : List ℕ). t ++ piece) (sym e)
+      ∙ ap (λ (t : List ℕ). held ++ t) (sym (take-append-drop taken piece)) ∙ sym (append_assoc held (take taken piece) (drop taken piece)),
+)
 step_stands bytes piece (reading held) new (Err fault) e is-open f =
     subst (λ (p : Parsing). StandsFor p (bytes ++ piece)) (sym f.0)
     (subst (λ (b : List ℕ). (fault ≡ memory_fault) ⊎ ((HasHeader (b ++ piece) → ⊥) × IsFault (b ++ piece) fault)) e f.1)

@@ -2,7 +2,7 @@
 use Rattle.std.proofs.Common.{◌≡◌, ℕ, ◌+◌, ◌<◌, ◌≤◌, Bool, true, false, cond, List, [], ◌∷◌, ◌++◌, length, get_or, drop, Result, Ok, Err, refl, sym, ap, ◌∙◌}
 use Rattle.std.specs.Prelude.{◌&&◌, IsTrue, MatchBool, OnOk, is_ok, leb}
 use Rattle.std.specs.List.{AllByRecursion, AllWithin, HoldsAt, list_all, flat_map}
-use Rattle.std.proofs.lemmas.List.{append_assoc, append-nil, drop_more, drop_all}
+use Rattle.std.proofs.lemmas.List.{append_assoc, drop_more}
 use Rattle.std.proofs.lemmas.Bool.{false≢true, leb-true, le-leb, and_parts, and_from}
 use Rattle.std.proofs.lemmas.List.Elements.{All-from_recursion, recursion_from_All, All-from_all_within}
 
@@ -41,6 +41,3 @@ written_next {X} f out next all xs i x lt is puts same =
     let after = flat_map f (drop (i + 1) xs) in
     let first : drop i xs ≡ x ∷ drop (i + 1) xs = drop_more xs i x lt ∙ ap (λ (y : X). y ∷ drop (i + 1) xs) (sym is) in
     ap (λ (t : List ℕ). t ++ after) puts ∙ append_assoc out (f x) after ∙ ap (λ (ys : List X). out ++ flat_map f ys) (sym first) ∙ same
-
-pub written_all : {X : Type 0} (f : X → List ℕ) (out all : List ℕ) (xs : List X) (i : ℕ) → length xs ≤ i → out ++ flat_map f (drop i xs) ≡ all → out ≡ all
-written_all {X} f out all xs i le same = sym (append-nil out) ∙ ap (λ (ys : List X). out ++ flat_map f ys) (sym (drop_all i xs le)) ∙ same

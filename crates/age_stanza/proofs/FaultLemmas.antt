@@ -1,33 +1,152 @@
--- A walk that meets a faulty line meets the first one, and a walk that meets none has none.
-use Rattle.std.proofs.Common.{◌≡◌, ℕ, ◌<◌, ◌+◌, Bool, true, false, cond, ltb, eqb, nat_eq, ◌||◌, List, [], ◌∷◌, ◌++◌, length, Option, Some, None, Result, Ok}
-use Rattle.std.proofs.Common.{Err, refl, sym, ap, subst, ◌∙◌, arith, inl, inr}
+-- A walk that meets a faulty line meets the first one, a walk that meets none has none, and no bytes have two first faults.
+use Rattle.std.proofs.Common.{◌≡◌, ℕ, ◌<◌, ◌≤◌, ◌+◌, Bool, true, false, eqb, nat_eq, cond, List, [], ◌∷◌, ◌++◌, length, take, drop, Option, Some, None, Result}
+use Rattle.std.proofs.Common.{Ok, Err, refl, sym, ap, subst, ◌∙◌, arith, inl, inr}
 use Rattle.std.specs.Prelude.{codes, count_by}
 use Rattle.std.specs.List.{flat_map, AllByRecursion, starts_with}
-use Rattle.std.specs.Str.{bytes_eq}
-use Rattle.std.proofs.lemmas.Bool.{eqb-true, eqb-false, ne_eqb}
-use Rattle.std.proofs.lemmas.List.{append-nil, append_assoc, append_cancel_right, same_from_push}
+use Rattle.std.proofs.lemmas.Bool.{eqb-true, eqb-false, ne_eqb, cases_lt}
+use Rattle.std.proofs.lemmas.List.{append-nil, append_assoc, append_cancel_left, length-append, same_from_push, take_at, take-append-drop, take-append-le}
 use Rattle.std.proofs.lemmas.List.Sums.{sum_by-append, sum_by-cons}
 use Rattle.base64.specs.GeneralPurpose.{IsBytes}
 use Rattle.base64.proofs.EngineFacts.{front_bytes}
-use Rattle.std.proofs.lemmas.Option.{none-some}
 use Rattle.age_stanza.specs.declared.header.Stanza.{Stanza}
 use Rattle.age_stanza.specs.declared.header.Header.{Header}
 use Rattle.age_stanza.specs.declared.fault.HeadKind.{HeadKind}
-use Rattle.age_stanza.specs.declared.fault.HeadKind.TheVariants.{NotAge, Armored, BadStanzaLine, BadBody, BadEndLine, NoStanza, Memory}
+use Rattle.age_stanza.specs.declared.fault.HeadKind.TheVariants.{BadStanzaLine, Memory}
 use Rattle.age_stanza.specs.declared.fault.HeadFault.{HeadFault}
 use Rattle.age_stanza.specs.declared.place.Place.{Place}
 use Rattle.age_stanza.specs.declared.place.Place.TheVariants.{Start, Between, InBody}
 use Rattle.age_stanza.specs.declared.place.Next.{Next}
 use Rattle.age_stanza.specs.declared.place.Next.TheVariants.{Go, Done}
-use Rattle.age_stanza.specs.Text.{base64_text}
-use Rattle.age_stanza.specs.inner.LineMachine.{base64_bytes, unfinished, ready, faulty, walk, after, step, end_line_result, argument_line_result}
-use Rattle.age_stanza.specs.inner.LineMachine.{body_line_result, arguments_of, mac_of, fault_at}
-use Rattle.age_stanza.specs.Grammar.{line, version, in_lines, stanza_text, end_line, head_text, IsStanza, IsHeader}
-use Rattle.age_stanza.specs.Parsing.{armor, Begins, IsLine, AreLines, stanzas_text, IsEndLine, RefusesBetween, RefusesLine, line_after, NoFault, IsLineFault}
-use Rattle.age_stanza.proofs.TextLemmas.{bytes_from_pass, IsBytes-append, IsBytes-tail, IsLine-append, decoded-text, text-nil, line_from_test}
-use Rattle.age_stanza.proofs.LineLemmas.{chosen, All-append, All-back, starts_from, read_end_line, end_line_read}
-use Rattle.age_stanza.proofs.PlaceLemmas.{tail_text, IsPlace, Follows, leads}
-use Rattle.age_stanza.proofs.CompleteLemmas.{walk_text, walk_go, text_walk, stanzas_reach, step_version, step_last}
+use Rattle.age_stanza.specs.Grammar.{line, version, stanza_text, end_line, head_text, IsStanza, IsHeader, Spells}
+use Rattle.age_stanza.specs.Parsing.{Begins, IsLine, AreLines, FirstFault, stanzas_text, IsEndLine, RefusesBetween, RefusesLine, line_after, NoFault}
+use Rattle.age_stanza.specs.Parsing.{IsLineFault, IsFault}
+use Rattle.age_stanza.specs.inner.LineMachine.{base64_bytes, Walked, unfinished, ready, faulty, walk, after, step, arguments_of, mac_of, fault_at, bytes_before}
+use Rattle.age_stanza.specs.inner.LineMachine.{IsPlace, LeadTo}
+use Rattle.age_stanza.proofs.TextLemmas.{bytes_from_pass, no_bytes, IsBytes-append, IsBytes-take, IsBytes-tail, IsLine-append, decoded-text, text-none}
+use Rattle.age_stanza.proofs.LineLemmas.{chosen, by_test, All-append, All-front, All-back, end_line_read}
+use Rattle.age_stanza.proofs.PlaceLemmas.{stanzas_pushed, Reports, Leads, leads, no_end, walk_text, walk_go, step_last, stanzas_walk, text_walk}
+
+-- ---- the number of a line
+
+abbrev ends_line : ℕ → ℕ
+ends_line c = cond (eqb c 10) 1 0
+
+count_none : (l : List ℕ) → IsLine l → count_by (λ c. eqb c 10) l ≡ 0
+count_none [] lined = refl
+count_none (c ∷ l) lined =
+    let other : ends_line c ≡ 0 = rw (ne_eqb c 10 lined.0) refl in
+    sum_by-cons ends_line c l ∙ rw other (rw (count_none l lined.1) refl)
+
+pub line_after-begun : (front l : List ℕ) → IsLine l → line_after (front ++ l) ≡ line_after front
+line_after-begun front l lined =
+    let both : count_by (λ c. eqb c 10) (front ++ l) ≡ count_by (λ c. eqb c 10) front + count_by (λ c. eqb c 10) l = sum_by-append ends_line front l in
+    let none = count_none l lined in
+    omega (arith, both, none)
+
+pub line_after-line : (front l : List ℕ) → IsLine l → line_after (front ++ line l) ≡ line_after front + 1
+line_after-line front l lined =
+    let both : count_by (λ c. eqb c 10) ((front ++ l) ++ 10 ∷ []) ≡ count_by (λ c. eqb c 10) (front ++ l) + 1 = sum_by-append ends_line (front ++ l) (10 ∷ []) in
+    let begun = line_after-begun front l lined in
+    ap line_after (sym (append_assoc front l (10 ∷ []))) ∙ omega (arith, both, begun)
+
+-- ---- where finished lines lead
+
+pub at_start : LeadTo Start 1
+at_start = record { known = tt; reaches = λ rest. refl; line_is = refl; are_lines = inl refl; are_bytes = no_bytes }
+
+pub next_lead : (place next : Place) (n : ℕ) (l : List ℕ) → LeadTo place n → IsLine l → IsBytes l → step place l ≡ Ok (Go next) → LeadTo next (n + 1)
+next_lead place next n l led lined fits e =
+    let to = subst (Leads place l) e (leads place l led.known fits) in
+    record {
+      known = to.1;
+      reaches = λ rest. ap (λ (t : List ℕ). walk Start 1 [] (t ++ rest)) to.0 ∙ ap (walk Start 1 []) (append_assoc (bytes_before place) (line l) rest)
+          ∙ led.reaches (line l ++ rest) ∙ walk_go place next n l rest lined e;
+      line_is = ap (λ k. k + 1) led.line_is ∙ sym (line_after-line (bytes_before place) l lined) ∙ ap line_after (sym to.0);
+      are_lines = inr (bytes_before place ++ l, to.0 ∙ sym (append_assoc (bytes_before place) l (10 ∷ [])));
+      are_bytes = subst IsBytes (sym to.0) (IsBytes-append (bytes_before place) (line l) led.are_bytes
+          (IsBytes-append l (10 ∷ []) fits (bytes_from_pass (10 ∷ []) refl)));
+    }
+
+-- ---- what a walk over bytes comes to
+
+-- the first faulty line
+pub record Met (bytes : List ℕ) (fault : HeadFault) : Type 0 where
+  pub place : Place
+  pub n : ℕ
+  pub l : List ℕ
+  pub rest : List ℕ
+  pub kind : HeadKind
+  pub led : LeadTo place n
+  pub one_line : IsLine l
+  pub line_bytes : IsBytes l
+  pub parts : bytes ≡ bytes_before place ++ (line l ++ rest)
+  pub leads_to : step place l ≡ Err kind
+  pub fault_is : fault ≡ record { kind = kind; line = n }
+
+-- finished lines, and a begun one
+pub record Passed (bytes : List ℕ) : Type 0 where
+  pub place : Place
+  pub n : ℕ
+  pub l : List ℕ
+  pub led : LeadTo place n
+  pub one_line : IsLine l
+  pub parts : bytes ≡ bytes_before place ++ l
+
+abbrev pub Reads : List ℕ → Walked → Type 0
+Reads bytes unfinished = Passed bytes
+Reads bytes (ready h rest) = (bytes ≡ head_text h ++ rest) × IsHeader h
+Reads bytes (faulty fault) = Met bytes fault
+
+named : (kind : HeadKind) (n : ℕ) → (kind ≡ Memory → ⊥) → fault_at kind n ≡ record { kind = kind; line = n }
+named Memory n not = absurd (not refl)
+named kind n not = refl
+
+reads_line : (place : Place) (n : ℕ) (l cs : List ℕ) (read : Result Next HeadKind) → LeadTo place n → IsLine l → IsBytes l → step place l ≡ read
+    → ((next : Place) → LeadTo next (n + 1) → Reads (bytes_before next ++ cs) (walk next (n + 1) [] cs))
+    → Reads (bytes_before place ++ (line l ++ cs)) (after n cs (λ next. walk next (n + 1) [] cs) read)
+reads_line place n l cs (Err kind) led lined fits e on =
+    let to = subst (Leads place l) e (leads place l led.known fits) in
+    record {
+      place = place;
+      n = n;
+      l = l;
+      rest = cs;
+      kind = kind;
+      led = led;
+      one_line = lined;
+      line_bytes = fits;
+      parts = refl;
+      leads_to = e;
+      fault_is = named kind n to.1;
+    }
+reads_line place n l cs (Ok (Done h)) led lined fits e on =
+    let to = subst (Leads place l) e (leads place l led.known fits) in
+    (sym (append_assoc (bytes_before place) (line l) cs) ∙ ap (λ (t : List ℕ). t ++ cs) (sym to.0), to.1)
+reads_line place n l cs (Ok (Go next)) led lined fits e on =
+    let to = subst (Leads place l) e (leads place l led.known fits) in
+    subst (λ (b : List ℕ). Reads b (walk next (n + 1) [] cs))
+    (ap (λ (t : List ℕ). t ++ cs) to.0 ∙ append_assoc (bytes_before place) (line l) cs)
+    (on next (next_lead place next n l led lined fits e))
+
+with_lf : (l : List ℕ) (c : ℕ) (cs : List ℕ) → c ≡ 10 → line l ++ cs ≡ l ++ c ∷ cs
+with_lf l c cs lf = rw lf (append_assoc l (10 ∷ []) cs)
+
+reads : (place : Place) (n : ℕ) (l bs : List ℕ) → LeadTo place n → IsLine l → IsBytes (l ++ bs) → Reads (bytes_before place ++ (l ++ bs)) (walk place n l bs)
+unfolding walk
+reads place n l [] led lined fits =
+    record { place = place; n = n; l = l; led = led; one_line = lined; parts = ap (λ (t : List ℕ). bytes_before place ++ t) (append-nil l) }
+reads place n l (c ∷ cs) led lined fits =
+    by_test (Reads (bytes_before place ++ (l ++ c ∷ cs))) (eqb c 10) (after n cs (λ next. walk next (n + 1) [] cs) (step place l)) (walk place n (l ++ c ∷ []) cs)
+    (λ g.
+    let rest_fits : IsBytes cs = IsBytes-tail (c ∷ []) cs (IsBytes-tail l (c ∷ cs) fits) in
+    subst (λ (b : List ℕ). Reads (bytes_before place ++ b) (after n cs (λ next. walk next (n + 1) [] cs) (step place l))) (with_lf l c cs (eqb-true c 10 g))
+    (reads_line place n l cs (step place l) led lined (front_bytes l (c ∷ cs) fits) refl (λ next there. reads next (n + 1) [] cs there tt rest_fits)))
+    (λ g.
+    subst (λ (b : List ℕ). Reads (bytes_before place ++ b) (walk place n (l ++ c ∷ []) cs)) (append_assoc l (c ∷ []) cs)
+    (reads place n (l ++ c ∷ []) cs led (IsLine-append l (c ∷ []) lined (eqb-false c 10 g, tt)) (rw append_assoc fits)))
+
+pub reads_from_start : (bytes : List ℕ) (walked : Walked) → IsBytes bytes → walk Start 1 [] bytes ≡ walked → Reads bytes walked
+reads_from_start bytes walked fits e = subst (Reads bytes) e (reads Start 1 [] bytes at_start tt fits)
 
 -- ---- each place can be completed
 
@@ -36,9 +155,6 @@ zeros = 0 ∷ 0 ∷ 0 ∷ 0 ∷ 0 ∷ 0 ∷ 0 ∷ 0 ∷ 0 ∷ 0 ∷ 0 ∷ 0 ∷ 
 
 zeros_bytes : IsBytes zeros
 zeros_bytes = bytes_from_pass zeros refl
-
-pub no_bytes : IsBytes []
-no_bytes = bytes_from_pass [] refl
 
 abbrev letter : Stanza
 letter = record { args = (120 ∷ []) ∷ []; body = [] }
@@ -54,345 +170,106 @@ pushed_valid : (ss : List Stanza) (s : Stanza) → AllByRecursion IsStanza ss �
 pushed_valid ss s known valid =
     record { some_stanza = some_pushed ss s; stanzas = All-append IsStanza ss (s ∷ []) known (valid, tt); mac_length = refl; mac = zeros_bytes }
 
-abbrev Completes : Place → Type 0
-Completes place = (h : Header) × (t : List ℕ) × IsHeader h × Follows place h t
+begins_between : (ss : List Stanza) → AllByRecursion IsStanza ss → Begins (stanzas_text ss)
+begins_between ss known =
+    let end = line (end_line zeros) in (
+      record { stanzas = ss ++ letter ∷ []; mac = zeros },
+      stanza_text letter ++ end,
+      record {
+        valid = pushed_valid ss letter known letter_valid;
+        bytes_are = sym (append_assoc (stanzas_text ss) (stanza_text letter) end) ∙ ap (λ (t : List ℕ). t ++ end) (sym (stanzas_pushed ss letter))
+            ∙ append_assoc (line version) (flat_map stanza_text (ss ++ letter ∷ [])) end;
+      },
+    )
 
-completes : (place : Place) → IsPlace place → Completes place
-completes Start known =
+-- an empty line ends a body
+empty_ends : (ss : List Stanza) (args : List (List ℕ)) (body : List ℕ)
+    → step (InBody ss args body) [] ≡ Ok (Go (Between (ss ++ (record { args = args; body = body ++ [] }) ∷ [])))
+empty_ends ss args body = step_last ss args body [] [] (omega arith) (subst (λ (t : List ℕ). base64_bytes t ≡ Some []) text-none (decoded-text [] no_bytes))
+
+begins : (place : Place) → IsPlace place → Begins (bytes_before place)
+begins Start known =
     let h : Header = record { stanzas = letter ∷ []; mac = zeros } in
-    (h, head_text h, pushed_valid [] letter tt letter_valid, refl)
-completes (Between ss) known =
-    (record { stanzas = ss ++ letter ∷ []; mac = zeros }, tail_text (letter ∷ []) zeros, pushed_valid ss letter known letter_valid, (letter ∷ [], refl, refl))
-completes (InBody ss args body) known =
-    let s : Stanza = record { args = args; body = body ++ [] } in
-    let valid : IsStanza s = record { some_argument = known.1; arguments = known.2; body = IsBytes-append body [] known.3 no_bytes } in
-    (record { stanzas = ss ++ s ∷ []; mac = zeros }, in_lines (base64_text []) ++ tail_text [] zeros, pushed_valid ss s known.0 valid, ([], [], refl, refl))
-
--- ---- where a walk stands after whole lines
-
-pub record At (before : List ℕ) (place : Place) (n : ℕ) : Type 0 where
-  pub known : IsPlace place
-  pub line_is : n ≡ line_after before
-  pub whole : AreLines before
-  pub stands : (h : Header) (t : List ℕ) → Follows place h t → Follows Start h (before ++ t)
-  pub reaches : (cs : List ℕ) → walk Start 1 [] (before ++ cs) ≡ walk place n [] cs
-
-pub at_start : At [] Start 1
-at_start = record { known = tt; line_is = refl; whole = inl refl; stands = λ h t f. f; reaches = λ cs. refl }
-
-abbrev pub ends_line : ℕ → ℕ
-ends_line c = cond (eqb c 10) 1 0
-
-pub count_line : (l : List ℕ) → IsLine l → count_by (λ c. eqb c 10) (line l) ≡ 1
-count_line [] lined = refl
-count_line (c ∷ l) lined =
-    let one : ends_line c ≡ 0 = rw (ne_eqb c 10 lined.0) refl in
-    sum_by-cons ends_line c (line l) ∙ rw one (rw (count_line l lined.1) refl)
-
-pub at_next : (before l : List ℕ) (place next : Place) (n : ℕ) → At before place n → IsLine l → IsBytes l → step place l ≡ Ok (Go next)
-    → At (before ++ line l) next (n + 1)
-at_next before l place next n at lined fits e =
-    let led = leads place next l at.known fits e in
-    let one = count_line l lined in
-    let both : count_by (λ c. eqb c 10) (before ++ line l) ≡ count_by (λ c. eqb c 10) before + count_by (λ c. eqb c 10) (line l) = sum_by-append ends_line
-    before (line l) in
-    record {
-      known = led.0;
-      line_is = omega (arith, at.line_is, one, both);
-      whole = inr (before ++ l, sym (append_assoc before l (10 ∷ [])));
-      stands = λ h t f. rw (append_assoc before (line l) t) (at.stands h (line l ++ t) (led.1 h t f));
-      reaches = λ cs. ap (walk Start 1 []) (append_assoc before (line l) cs) ∙ at.reaches (line l ++ cs) ∙ walk_go place next n l cs lined e;
-    }
-
-pub begins : (before : List ℕ) (place : Place) (n : ℕ) → At before place n → Begins before
-begins before place n at =
-    let c = completes place at.known in
-    (c.0, c.1, record { valid = c.2; bytes_are = at.stands c.0 c.1 c.3 })
-
--- ---- a walk that meets a fault
-
-pub record Met (bytes : List ℕ) (fault : HeadFault) : Type 0 where
-  pub before : List ℕ
-  pub l : List ℕ
-  pub rest : List ℕ
-  pub place : Place
-  pub n : ℕ
-  pub kind : HeadKind
-  pub at : At before place n
-  pub parts : bytes ≡ before ++ (line l ++ rest)
-  pub one_line : IsLine l
-  pub leads_to : step place l ≡ Err kind
-  pub fault_is : fault ≡ fault_at kind n
-
-same_fault : (f g : HeadFault) → faulty f ≡ faulty g → f ≡ g
-same_fault f g e = cc
-
-line_parts : (before l : List ℕ) (c : ℕ) (cs : List ℕ) → c ≡ 10 → before ++ (l ++ c ∷ cs) ≡ before ++ (line l ++ cs)
-line_parts before l c cs lf = rw lf (ap (λ (t : List ℕ). before ++ t) (sym (append_assoc l (10 ∷ []) cs)))
-
-met_end : (before l : List ℕ) (c : ℕ) (cs : List ℕ) (place : Place) (n : ℕ) (fault : HeadFault) (read : Result Next HeadKind) → At before place n
-    → IsLine l → IsBytes (l ++ c ∷ cs)
-    → ((next : Place) → At (before ++ line l) next (n + 1) → IsBytes cs → walk next (n + 1) [] cs ≡ faulty fault → Met ((before ++ line l) ++ cs) fault)
-    → c ≡ 10 → step place l ≡ read → after n cs (λ q. walk q (n + 1) [] cs) read ≡ faulty fault → Met (before ++ (l ++ c ∷ cs)) fault
-met_end before l c cs place n fault (Err kind) at lined fits on lf is e =
-    record {
-      before = before;
-      l = l;
-      rest = cs;
-      place = place;
-      n = n;
-      kind = kind;
-      at = at;
-      parts = line_parts before l c cs lf;
-      one_line = lined;
-      leads_to = is;
-      fault_is = sym (same_fault (fault_at kind n) fault e);
-    }
-met_end before l c cs place n fault (Ok (Done h)) at lined fits on lf is e = absurd cc
-met_end before l c cs place n fault (Ok (Go next)) at lined fits on lf is e =
-    let there = at_next before l place next n at lined (front_bytes l (c ∷ cs) fits) is in
-    let joined : before ++ (l ++ c ∷ cs) ≡ (before ++ line l) ++ cs = line_parts before l c cs lf ∙ sym (append_assoc before (line l) cs) in
-    rw joined (on next there (IsBytes-tail (c ∷ []) cs (IsBytes-tail l (c ∷ cs) fits)) e)
-
-pub met : (before l bs : List ℕ) (place : Place) (n : ℕ) (fault : HeadFault) → At before place n → IsLine l → IsBytes (l ++ bs) → walk place n l bs
-    ≡ faulty fault → Met (before ++ (l ++ bs)) fault
-unfolding walk
-met before l [] place n fault at lined fits e = absurd cc
-met before l (c ∷ cs) place n fault at lined fits e =
-    elim (chosen (eqb c 10) (after n cs (λ q. walk q (n + 1) [] cs) (step place l)) (walk place n (l ++ c ∷ []) cs) (faulty fault) e) [
-      | inl g ↦ met_end before l c cs place n fault (step place l) at lined fits (λ next there fits' e'. met (before ++ line l) [] cs next (n + 1) fault
-          there tt fits' e') (eqb-true c 10 g.0) refl g.1
-      | inr g ↦
-          let deeper = met before (l ++ c ∷ []) cs place n fault at (IsLine-append l (c ∷ []) lined (eqb-false c 10 g.0, tt)) (rw append_assoc fits) g.1 in
-          rw append_assoc at deeper
-    ]
-
--- ---- a walk that meets none
-
-pub record Passed (bytes : List ℕ) : Type 0 where
-  pub before : List ℕ
-  pub l : List ℕ
-  pub place : Place
-  pub n : ℕ
-  pub at : At before place n
-  pub parts : bytes ≡ before ++ l
-  pub one_line : IsLine l
-
-passed_end : (before l : List ℕ) (c : ℕ) (cs : List ℕ) (place : Place) (n : ℕ) (read : Result Next HeadKind) → At before place n → IsLine l
-    → IsBytes (l ++ c ∷ cs)
-    → ((next : Place) → At (before ++ line l) next (n + 1) → IsBytes cs → walk next (n + 1) [] cs ≡ unfinished → Passed ((before ++ line l) ++ cs))
-    → c ≡ 10 → step place l ≡ read → after n cs (λ q. walk q (n + 1) [] cs) read ≡ unfinished → Passed (before ++ (l ++ c ∷ cs))
-passed_end before l c cs place n (Err kind) at lined fits on lf is e = absurd cc
-passed_end before l c cs place n (Ok (Done h)) at lined fits on lf is e = absurd cc
-passed_end before l c cs place n (Ok (Go next)) at lined fits on lf is e =
-    let there = at_next before l place next n at lined (front_bytes l (c ∷ cs) fits) is in
-    let joined : before ++ (l ++ c ∷ cs) ≡ (before ++ line l) ++ cs = line_parts before l c cs lf ∙ sym (append_assoc before (line l) cs) in
-    rw joined (on next there (IsBytes-tail (c ∷ []) cs (IsBytes-tail l (c ∷ cs) fits)) e)
-
-pub passed : (before l bs : List ℕ) (place : Place) (n : ℕ) → At before place n → IsLine l → IsBytes (l ++ bs) → walk place n l bs ≡ unfinished
-    → Passed (before ++ (l ++ bs))
-unfolding walk
-passed before l [] place n at lined fits e =
-    record { before = before; l = l; place = place; n = n; at = at; parts = ap (λ (t : List ℕ). before ++ t) (append-nil l); one_line = lined }
-passed before l (c ∷ cs) place n at lined fits e =
-    elim (chosen (eqb c 10) (after n cs (λ q. walk q (n + 1) [] cs) (step place l)) (walk place n (l ++ c ∷ []) cs) unfinished e) [
-      | inl g ↦ passed_end before l c cs place n (step place l) at lined fits (λ next there fits' e'. passed (before ++ line l) [] cs next (n + 1) there
-          tt fits' e') (eqb-true c 10 g.0) refl g.1
-      | inr g ↦
-          let deeper = passed before (l ++ c ∷ []) cs place n at (IsLine-append l (c ∷ []) lined (eqb-false c 10 g.0, tt)) (rw append_assoc fits) g.1 in
-          rw append_assoc at deeper
-    ]
+    (h, head_text h, record { valid = pushed_valid [] letter tt letter_valid; bytes_are = refl })
+begins (Between ss) known = begins_between ss known
+begins (InBody ss args body) known =
+    let before = bytes_before (InBody ss args body) in
+    let to = subst (Leads (InBody ss args body) []) (empty_ends ss args body) (leads (InBody ss args body) [] known no_bytes) in
+    let on = begins_between (ss ++ (record { args = args; body = body ++ [] }) ∷ []) to.1 in
+    (on.0, line [] ++ on.1, subst (Spells on.0) (ap (λ (t : List ℕ). t ++ on.1) to.0 ∙ append_assoc before (line []) on.1) on.2)
 
 -- ---- what is reported of a line that is refused
-
-kind_first : (l : List ℕ) (kind : HeadKind) → step Start l ≡ Err kind → kind ≡ cond (bytes_eq l armor || bytes_eq l (armor ++ 13 ∷ [])) Armored NotAge
-unfolding step
-kind_first l kind e = elim (chosen (bytes_eq l version) (Ok (Go (Between []))) _ (Err kind) e) [
-  | inl h ↦ absurd (cc (h.1))
-  | inr h ↦ elim (chosen (bytes_eq l armor || bytes_eq l (armor ++ 13 ∷ [])) (Err Armored) (Err NotAge) (Err kind) h.1) [
-    | inl g ↦ rw (g.0) (cc (g.1))
-    | inr g ↦ rw (g.0) (cc (g.1))
-  ]
-]
-
-kind_ended : (ss : List Stanza) (l : List ℕ) (kind : HeadKind) (o : Option (List ℕ)) → IsBytes l → mac_of l ≡ o → end_line_result ss o ≡ Err kind
-    → (IsEndLine l → kind ≡ NoStanza) × ((IsEndLine l → ⊥) → kind ≡ BadEndLine)
-kind_ended ss l kind None fits is e =
-    let not_end : IsEndLine l → ⊥ = λ has. none-some has.0 (sym is ∙ ap mac_of has.3 ∙ read_end_line has.0 has.1 has.2) in
-    (λ has. absurd (not_end has), λ _. cc)
-kind_ended [] l kind (Some mac) fits is e =
-    let read = end_line_read l mac fits is in
-    (λ _. cc, λ not. absurd (not (mac, read.1, read.2, read.0)))
-kind_ended (s ∷ ss) l kind (Some mac) fits is e = absurd cc
-
-kind_begun : (ss : List Stanza) (kind : HeadKind) (o : Option (List (List ℕ))) → argument_line_result ss o ≡ Err kind → kind ≡ BadStanzaLine
-kind_begun ss kind None e = cc
-kind_begun ss kind (Some args) e = absurd cc
-
-end_starts : (l : List ℕ) → IsEndLine l → starts_with nat_eq l (codes "---") ≡ true
-end_starts l has = starts_from l (codes "---") (32 ∷ base64_text has.0) has.3
-
-true_false : (b : Bool) → b ≡ true → b ≡ false → ⊥
-true_false b t f = cc
-
-kind_between : (ss : List Stanza) (l : List ℕ) (kind : HeadKind) → IsBytes l → step (Between ss) l ≡ Err kind → RefusesBetween l kind
-unfolding step
-kind_between ss l kind fits e = elim (chosen (starts_with nat_eq l (codes "---")) (end_line_result ss (mac_of l)) (argument_line_result ss (arguments_of l))
-    (Err kind) e) [
-      | inl h ↦
-          let kinds = kind_ended ss l kind (mac_of l) fits refl h.1 in
-          record { no_stanza = kinds.0; bad_end = λ _ not. kinds.1 not; bad_stanza = λ f. absurd (true_false _ h.0 f) }
-      | inr h ↦
-          let kinds = kind_begun ss kind (arguments_of l) h.1 in
-          record { no_stanza = λ has. absurd (true_false _ (end_starts l has) h.0); bad_end = λ t _. absurd (true_false _ t h.0); bad_stanza = λ _. kinds }
-    ]
-
-kind_continued : (ss : List Stanza) (args : List (List ℕ)) (body : List ℕ) (kind : HeadKind) (full : Bool) (o : Option (List ℕ))
-    → body_line_result ss args body full o ≡ Err kind → kind ≡ BadBody
-kind_continued ss args body kind true None e = cc
-kind_continued ss args body kind false None e = cc
-kind_continued ss args body kind true (Some more) e = absurd cc
-kind_continued ss args body kind false (Some more) e = absurd cc
-
-kind_body : (ss : List Stanza) (args : List (List ℕ)) (body l : List ℕ) (kind : HeadKind) → step (InBody ss args body) l ≡ Err kind → kind ≡ BadBody
-unfolding step
-kind_body ss args body l kind e = elim (chosen (ltb 64 (length l)) (Err BadBody) (body_line_result ss args body (eqb (length l) 64) (base64_bytes l))
-    (Err kind) e) [
-      | inl h ↦ cc (h.1)
-      | inr h ↦ kind_continued ss args body kind (eqb (length l) 64) (base64_bytes l) h.1
-    ]
-
--- ---- which place it is
-
-pub nothing_before : (before : List ℕ) (n : ℕ) → At before Start n → before ≡ []
-nothing_before before n at =
-    let h : Header = record { stanzas = letter ∷ []; mac = zeros } in
-    append_cancel_right before [] (head_text h) (at.stands h (head_text h) refl)
-
-pub stanzas_before : (before : List ℕ) (ss : List Stanza) (n : ℕ) → At before (Between ss) n → before ≡ stanzas_text ss
-stanzas_before before ss n at =
-    let h : Header = record { stanzas = ss; mac = zeros } in
-    let e = at.stands h (tail_text [] zeros) ([], sym (append-nil ss), refl) in
-    append_cancel_right before (stanzas_text ss) (line (end_line zeros)) (e
-    ∙ sym (append_assoc (line version) (flat_map stanza_text ss) (line (end_line zeros))))
 
 no_text : (ss : List Stanza) → [] ≡ stanzas_text ss → ⊥
 no_text ss e = cc
 
--- an empty line goes on in a body
-empty_goes : (ss : List Stanza) (args : List (List ℕ)) (body : List ℕ) (n : ℕ) → walk (InBody ss args body) n [] (line [] ++ []) ≡ unfinished
-unfolding walk
-empty_goes ss args body n = walk_go (InBody ss args body) _ n [] [] tt
-    (step_last ss args body [] [] (omega arith) (subst (λ (t : List ℕ). base64_bytes t ≡ Some []) text-nil (decoded-text [] no_bytes)))
+not_first : (ss : List Stanza) (args : List (List ℕ)) (body : List ℕ) → bytes_before (InBody ss args body) ≡ [] → ⊥
+not_first ss args body e = cc
 
 empty_refused : (ss : List Stanza) (n : ℕ) → walk (Between ss) n [] (line [] ++ []) ≡ faulty (fault_at BadStanzaLine n)
 unfolding walk step arguments_of
 empty_refused ss n = refl
 
-empty_first : walk Start 1 [] (line [] ++ []) ≡ faulty (fault_at NotAge 1)
-unfolding walk step
-empty_first = refl
+empty_goes : (ss : List Stanza) (args : List (List ℕ)) (body : List ℕ) (n : ℕ) → walk (InBody ss args body) n [] (line [] ++ []) ≡ unfinished
+unfolding walk
+empty_goes ss args body n = walk_go (InBody ss args body) _ n [] [] tt (empty_ends ss args body)
 
 apart : (f : HeadFault) → unfinished ≡ faulty f → ⊥
 apart f e = cc
 
-pub not_first : (before : List ℕ) (ss : List Stanza) (args : List (List ℕ)) (body : List ℕ) (n : ℕ) → At before (InBody ss args body) n → before ≡ [] → ⊥
-not_first before ss args body n at e =
-    let there = at.reaches (line [] ++ []) in
-    apart (fault_at NotAge 1) (sym (empty_goes ss args body n) ∙ sym there ∙ ap (λ (b : List ℕ). walk Start 1 [] (b ++ (line [] ++ []))) e ∙ empty_first)
+-- an empty line is valid in a body, and between stanzas it isn't
+not_between : (ss ts : List Stanza) (args : List (List ℕ)) (body : List ℕ) (n : ℕ) → LeadTo (InBody ss args body) n
+    → AllByRecursion IsStanza ts → bytes_before (InBody ss args body) ≡ stanzas_text ts → ⊥
+not_between ss ts args body n led valid e =
+    let reach = stanzas_walk ts (line [] ++ []) valid in
+    apart (fault_at BadStanzaLine reach.0) (sym (empty_goes ss args body n) ∙ sym (led.reaches (line [] ++ []))
+    ∙ ap (λ (b : List ℕ). walk Start 1 [] (b ++ (line [] ++ []))) e ∙ reach.1 ∙ empty_refused ts reach.0)
 
-pub not_between : (before : List ℕ) (ss ts : List Stanza) (args : List (List ℕ)) (body : List ℕ) (n : ℕ) → At before (InBody ss args body) n
-    → AllByRecursion IsStanza ts → before ≡ stanzas_text ts → ⊥
-not_between before ss ts args body n at valid e =
-    let there = at.reaches (line [] ++ []) in
-    let reach = stanzas_reach ts [] 2 (line [] ++ []) valid in
-    let start = walk_go Start (Between []) 1 version (flat_map stanza_text ts ++ (line [] ++ [])) (line_from_test version refl) step_version in
-    let grouped = append_assoc (line version) (flat_map stanza_text ts) (line [] ++ []) in
-    apart (fault_at BadStanzaLine reach.0) (sym (empty_goes ss args body n) ∙ sym there ∙ ap (λ (b : List ℕ). walk Start 1 [] (b ++ (line [] ++ []))) e
-    ∙ ap (walk Start 1 []) grouped ∙ start ∙ reach.1 ∙ empty_refused ts reach.0)
+refuses : (place : Place) (n : ℕ) (l : List ℕ) (kind : HeadKind) → LeadTo place n → Reports place l kind → RefusesLine (bytes_before place) l kind
+refuses Start n l kind led reported =
+    record { first = λ _. reported; between = λ ss valid is. absurd (no_text ss is); in_body = λ some _. absurd (some refl) }
+refuses (Between ss) n l kind led reported =
+    record { first = λ none. absurd (no_text ss (sym none)); between = λ ts valid is. reported; in_body = λ some other. absurd (other ss led.known refl) }
+refuses (InBody ss args body) n l kind led reported = record {
+  first = λ none. absurd (not_first ss args body none);
+  between = λ ts valid is. absurd (not_between ss ts args body n led valid is);
+  in_body = λ some other. reported;
+}
 
-pub refuses : (before l : List ℕ) (place : Place) (n : ℕ) (kind : HeadKind) → At before place n → IsBytes l → step place l ≡ Err kind → RefusesLine before l kind
-refuses before l Start n kind at fits e =
-    let none = nothing_before before n at in
-    record {
-      first = λ _. kind_first l kind e;
-      between = λ ss valid is. absurd (no_text ss (sym none ∙ is));
-      in_body = λ some _. absurd (some none);
-    }
-refuses before l (Between ss) n kind at fits e =
-    let stanzas = stanzas_before before ss n at in
-    record {
-      first = λ none. absurd (no_text ss (sym none ∙ stanzas));
-      between = λ ts valid is. kind_between ss l kind fits e;
-      in_body = λ some other. absurd (other ss at.known stanzas);
-    }
-refuses before l (InBody ss args body) n kind at fits e =
-    record {
-      first = λ none. absurd (not_first before ss args body n at none);
-      between = λ ts valid is. absurd (not_between before ss ts args body n at valid is);
-      in_body = λ some other. kind_body ss args body l kind e;
-    }
-
--- ---- the two laws
+-- ---- bytes that meet a fault
 
 pub not_ready : (f : HeadFault) (h : Header) (rest : List ℕ) → faulty f ≡ ready h rest → ⊥
 not_ready f h rest e = cc
 
 -- no text goes on after a line that is refused
-pub no_text_goes_on : (before l : List ℕ) (place : Place) (n : ℕ) (kind : HeadKind) → At before place n → IsLine l → step place l ≡ Err kind
-    → Begins (before ++ line l) → ⊥
-no_text_goes_on before l place n kind at lined e has =
+no_text_goes_on : (place : Place) (n : ℕ) (l : List ℕ) (kind : HeadKind) → LeadTo place n → IsLine l → step place l ≡ Err kind
+    → Begins (bytes_before place ++ line l) → ⊥
+no_text_goes_on place n l kind led lined e has =
     let h = has.0 in
     let r = has.1 in
-    let whole : head_text h ++ [] ≡ before ++ (line l ++ r) = append-nil (head_text h) ∙ sym has.2.bytes_are ∙ append_assoc before (line l) r in
-    let refused = at.reaches (line l ++ r) ∙ walk_text place n [] l r lined ∙ ap (after n r (λ q. walk q (n + 1) [] r)) e in
+    let whole : head_text h ++ [] ≡ bytes_before place ++ (line l ++ r) = append-nil (head_text h) ∙ sym has.2.bytes_are
+    ∙ append_assoc (bytes_before place) (line l) r in
+    let refused = led.reaches (line l ++ r) ∙ walk_text place n [] l r lined ∙ ap (after n r (λ q. walk q (n + 1) [] r)) e in
     not_ready (fault_at kind n) h [] (sym refused ∙ sym (ap (walk Start 1 []) whole) ∙ text_walk h [] has.2.valid)
 
-never_ended : (ss : List Stanza) (o : Option (List ℕ)) → end_line_result ss o ≡ Err Memory → ⊥
-never_ended ss None e = cc
-never_ended [] (Some mac) e = cc
-never_ended (s ∷ ss) (Some mac) e = cc
-
-never_chosen : (b : Bool) → Memory ≡ cond b Armored NotAge → ⊥
-never_chosen true e = cc
-never_chosen false e = cc
-
-never_memory : (place : Place) (l : List ℕ) → step place l ≡ Err Memory → ⊥
-unfolding step
-never_memory Start l e = never_chosen _ (kind_first l Memory e)
-never_memory (Between ss) l e = elim (chosen (starts_with nat_eq l (codes "---")) (end_line_result ss (mac_of l)) (argument_line_result ss (arguments_of l))
-    (Err Memory) e) [
-      | inl h ↦ never_ended ss (mac_of l) h.1
-      | inr h ↦ cc (kind_begun ss Memory (arguments_of l) h.1)
-    ]
-never_memory (InBody ss args body) l e = cc (kind_body ss args body l Memory e)
-
-named : (kind : HeadKind) (n : ℕ) → (kind ≡ Memory → ⊥) → ((fault_at kind n).line ≡ n) × ((fault_at kind n).kind ≡ kind)
-named Memory n not = absurd (not refl)
-named kind n not = (refl, refl)
-
-from_met : (bytes : List ℕ) (fault : HeadFault) → IsBytes bytes → Met bytes fault → IsLineFault bytes fault
-from_met bytes fault fits m =
-    let line_fits = front_bytes m.l (10 ∷ [] ++ m.rest) (rw append_assoc at (IsBytes-tail m.before (line m.l ++ m.rest) (subst IsBytes m.parts fits))) in
-    let names = named m.kind m.n (λ e. never_memory m.place m.l (m.leads_to ∙ ap (λ (k : HeadKind). Err k) e)) in
-    let line_is : fault.line ≡ line_after m.before = ap (λ (f : HeadFault). f.line) m.fault_is ∙ names.0 ∙ m.at.line_is in
-    let kind_is : fault.kind ≡ m.kind = ap (λ (f : HeadFault). f.kind) m.fault_is ∙ names.1 in (
-      m.before,
+pub line_fault : (bytes : List ℕ) (fault : HeadFault) → IsBytes bytes → walk Start 1 [] bytes ≡ faulty fault → IsLineFault bytes fault
+line_fault bytes fault fits e =
+    let m = reads_from_start bytes (faulty fault) fits e in
+    let to = subst (Leads m.place m.l) m.leads_to (leads m.place m.l m.led.known m.line_bytes) in
+    let kind_is : fault.kind ≡ m.kind = ap (λ (f : HeadFault). f.kind) m.fault_is in (
+      bytes_before m.place,
       m.l,
       record {
         rest = m.rest;
         parts = m.parts;
-        whole = m.at.whole;
+        whole = m.led.are_lines;
         one_line = m.one_line;
-        valid_before = begins m.before m.place m.n m.at;
-        faulty = no_text_goes_on m.before m.l m.place m.n m.kind m.at m.one_line m.leads_to;
+        valid_before = begins m.place m.led.known;
+        faulty = no_text_goes_on m.place m.n m.l m.kind m.led m.one_line m.leads_to;
       },
-      line_is,
-      subst (λ (k : HeadKind). RefusesLine m.before m.l k) (sym kind_is) (refuses m.before m.l m.place m.n m.kind m.at line_fits m.leads_to),
+      ap (λ (f : HeadFault). f.line) m.fault_is ∙ m.led.line_is,
+      subst (RefusesLine (bytes_before m.place) m.l) (sym kind_is) (refuses m.place m.n m.l m.kind m.led to.0),
     )
-
-pub line_fault : (bytes : List ℕ) (fault : HeadFault) → IsBytes bytes → walk Start 1 [] bytes ≡ faulty fault → IsLineFault bytes fault
-line_fault bytes fault fits e = from_met bytes fault fits (met [] [] bytes Start 1 fault at_start tt fits e)
 
 -- ---- bytes that meet no fault have none
 
@@ -402,7 +279,7 @@ unfinished_at n a b (Err kind) e on = absurd cc
 unfinished_at n a b (Ok (Done h)) e on = absurd cc
 unfinished_at n a b (Ok (Go q)) e on = on q e
 
-pub unfinished_front : (place : Place) (n : ℕ) (l a b : List ℕ) → walk place n l (a ++ b) ≡ unfinished → walk place n l a ≡ unfinished
+unfinished_front : (place : Place) (n : ℕ) (l a b : List ℕ) → walk place n l (a ++ b) ≡ unfinished → walk place n l a ≡ unfinished
 unfolding walk
 unfinished_front place n l [] b e = refl
 unfinished_front place n l (c ∷ a) b e =
@@ -418,7 +295,7 @@ last_of x (y ∷ ys) =
     (x ∷ deeper.0, deeper.1, ap (λ (t : List ℕ). x ∷ t) deeper.2)
 
 -- whole lines have no line begun after them
-pub nothing_begun : (xs ys l : List ℕ) → IsLine l → xs ++ 10 ∷ [] ≡ ys ++ l → l ≡ []
+nothing_begun : (xs ys l : List ℕ) → IsLine l → xs ++ 10 ∷ [] ≡ ys ++ l → l ≡ []
 nothing_begun xs ys [] lined e = refl
 nothing_begun xs ys (x ∷ l) lined e =
     let last = last_of x l in
@@ -427,15 +304,166 @@ nothing_begun xs ys (x ∷ l) lined e =
     let both = same_from_push xs (ys ++ last.0) 10 last.1 (e ∙ ap (λ (t : List ℕ). ys ++ t) last.2 ∙ sym (append_assoc ys last.0 (last.1 ∷ []))) in
     absurd (other.0 (sym both.1))
 
-from_passed : (before l : List ℕ) → Passed (before ++ line l) → Begins (before ++ line l)
-from_passed before l p =
-    let none = nothing_begun (before ++ l) p.before p.l p.one_line (append_assoc before l (10 ∷ []) ∙ p.parts) in
-    let is : before ++ line l ≡ p.before = p.parts ∙ ap (λ (t : List ℕ). p.before ++ t) none ∙ append-nil p.before in
-    subst Begins (sym is) (begins p.before p.place p.n p.at)
+pub no_length : (l : List ℕ) → length l ≡ 0 → l ≡ []
+no_length [] e = refl
+no_length (x ∷ l) e = absurd (omega arith)
+
+whole_lines_end : (bytes : List ℕ) (p : Passed bytes) → AreLines bytes → bytes ≡ bytes_before p.place
+whole_lines_end bytes p (inl none) =
+    let size = ap length (sym none ∙ p.parts) in
+    p.parts ∙ ap (λ (t : List ℕ). bytes_before p.place ++ t) (no_length p.l (omega (arith, size, length-append (bytes_before p.place) p.l)))
+    ∙ append-nil (bytes_before p.place)
+whole_lines_end bytes p (inr (front, is)) =
+    p.parts ∙ ap (λ (t : List ℕ). bytes_before p.place ++ t) (nothing_begun front (bytes_before p.place) p.l p.one_line (sym is ∙ p.parts))
+    ∙ append-nil (bytes_before p.place)
 
 pub no_fault : (bytes : List ℕ) → IsBytes bytes → walk Start 1 [] bytes ≡ unfinished → NoFault bytes
 no_fault bytes fits e before l f =
     let grouped : bytes ≡ (before ++ line l) ++ f.rest = f.parts ∙ sym (append_assoc before (line l) f.rest) in
     let front = unfinished_front Start 1 [] (before ++ line l) f.rest (ap (walk Start 1 []) (sym grouped) ∙ e) in
-    let front_fits = front_bytes (before ++ line l) f.rest (subst IsBytes grouped fits) in
-    f.faulty (from_passed before l (passed [] [] (before ++ line l) Start 1 at_start tt front_fits front))
+    let p = reads_from_start (before ++ line l) unfinished (front_bytes (before ++ line l) f.rest (subst IsBytes grouped fits)) front in
+    let whole = whole_lines_end (before ++ line l) p (inr (before ++ l, sym (append_assoc before l (10 ∷ [])))) in
+    f.faulty (subst Begins (sym whole) (begins p.place p.led.known))
+
+-- of two fronts of one list the shorter begins the longer
+pub prefix_of : (a x b y : List ℕ) → a ++ x ≡ b ++ y → length a ≤ length b → b ≡ a ++ drop (length a) b
+prefix_of a x b y e le =
+    let front : take (length a) b ≡ a = sym (take-append-le (length a) b y le) ∙ ap (take (length a)) (sym e) ∙ take_at a x (length a) refl in
+    sym (take-append-drop (length a) b) ∙ ap (λ (t : List ℕ). t ++ drop (length a) b) front
+
+-- ---- one faulty line
+
+-- more lines after a faulty one begin no text
+never_later : (before l y : List ℕ) → (Begins (before ++ line l) → ⊥) → Begins ((before ++ line l) ++ y) → ⊥
+never_later before l y refused has = refused (has.0, y ++ has.1, subst (Spells has.0) (append_assoc (before ++ line l) y has.1) has.2)
+
+begun_is_none : (before x : List ℕ) → AreLines (before ++ x) → IsLine x → length x ≡ 0
+begun_is_none before x (inl none) lined =
+    let size = ap length none in
+    omega (arith, size, length-append before x)
+begun_is_none before x (inr (front, is)) lined = ap length (nothing_begun front before x lined (sym is))
+
+-- of two faulty lines neither stands before the other
+not_before : (bytes before l before' l' : List ℕ) → FirstFault bytes before l → FirstFault bytes before' l' → length before < length before' → ⊥
+not_before bytes before l before' l' f g lt =
+    let both : before ++ (line l ++ f.rest) ≡ before' ++ (line l' ++ g.rest) = sym f.parts ∙ g.parts in
+    let x = drop (length before) before' in
+    let is : before' ≡ before ++ x = prefix_of before (line l ++ f.rest) before' (line l' ++ g.rest) both (omega arith) in
+    let size : length before' ≡ length before + length x = ap length is ∙ length-append before x in
+    let after : line l ++ f.rest ≡ x ++ (line l' ++ g.rest) =
+    append_cancel_left before (line l ++ f.rest) (x ++ (line l' ++ g.rest)) (both ∙ ap (λ (t : List ℕ). t ++ (line l' ++ g.rest)) is
+    ∙ append_assoc before x (line l' ++ g.rest)) in
+    elim (cases_lt (length x) (length (line l))) [
+      | inl short ↦
+          let front : l ≡ x ++ drop (length x) l = prefix_of x (line l' ++ g.rest) l (10 ∷ f.rest) (sym after ∙ append_assoc l (10 ∷ []) f.rest)
+          (omega (arith, length-append l (10 ∷ []))) in
+          let lined : IsLine x = All-front (λ c. c ≡ 10 → ⊥) x (drop (length x) l) (subst IsLine front f.one_line) in
+          let none = begun_is_none before x (subst AreLines is g.whole) lined in
+          omega arith
+      | inr long ↦
+          let y = drop (length (line l)) x in
+          let on : x ≡ line l ++ y = prefix_of (line l) f.rest x (line l' ++ g.rest) after long in
+          let all : before' ≡ (before ++ line l) ++ y = is ∙ ap (λ (t : List ℕ). before ++ t) on ∙ sym (append_assoc before (line l) y) in
+          never_later before l y f.faulty (subst Begins all g.valid_before)
+    ]
+
+same_front : (a x b y : List ℕ) → a ++ x ≡ b ++ y → length a ≡ length b → a ≡ b
+same_front a x b y e size = sym (take_at a x (length b) size) ∙ ap (take (length b)) e ∙ take_at b y (length b) refl
+
+same_before : (bytes before l before' l' : List ℕ) → FirstFault bytes before l → FirstFault bytes before' l' → before ≡ before'
+same_before bytes before l before' l' f g = elim (cases_lt (length before) (length before')) [
+  | inl lt ↦ absurd (not_before bytes before l before' l' f g lt)
+  | inr ge ↦ elim (cases_lt (length before') (length before)) [
+    | inl lt ↦ absurd (not_before bytes before' l' before l g f lt)
+    | inr ge' ↦ same_front before (line l ++ f.rest) before' (line l' ++ g.rest) (sym f.parts ∙ g.parts) (omega arith)
+  ]
+]
+
+head_of : (x y : ℕ) (xs ys : List ℕ) → x ∷ xs ≡ y ∷ ys → (x ≡ y) × (xs ≡ ys)
+head_of x y xs ys e = (cc, cc)
+
+same_line : (l l' r r' : List ℕ) → IsLine l → IsLine l' → line l ++ r ≡ line l' ++ r' → l ≡ l'
+same_line [] [] r r' p q e = refl
+same_line [] (y ∷ l') r r' p q e = absurd (q.0 (sym (head_of 10 y r (line l' ++ r') e).0))
+same_line (x ∷ l) [] r r' p q e = absurd (p.0 (head_of x 10 (line l ++ r) r' e).0)
+same_line (x ∷ l) (y ∷ l') r r' p q e =
+    let parts = head_of x y (line l ++ r) (line l' ++ r') e in
+    let rest = same_line l l' r r' p.1 q.1 parts.1 in
+    cc
+
+-- ---- one fault
+
+same_between : (l : List ℕ) (k k' : HeadKind) (o : Option (List ℕ)) (b : Bool) → IsBytes l → mac_of l ≡ o → starts_with nat_eq l (codes "---") ≡ b
+    → RefusesBetween l k → RefusesBetween l k' → k ≡ k'
+same_between l k k' o false fits is starts r r' = r.bad_stanza starts ∙ sym (r'.bad_stanza starts)
+same_between l k k' None true fits is starts r r' = r.bad_end starts (no_end l is) ∙ sym (r'.bad_end starts (no_end l is))
+same_between l k k' (Some mac) true fits is starts r r' =
+    let read = end_line_read l mac fits is in
+    let ends : IsEndLine l = (mac, read.1, read.2, read.0) in
+    r.no_stanza ends ∙ sym (r'.no_stanza ends)
+
+same_at : (place : Place) (n : ℕ) (l : List ℕ) (k k' : HeadKind) → IsBytes l → LeadTo place n → RefusesLine (bytes_before place) l k
+    → RefusesLine (bytes_before place) l k' → k ≡ k'
+same_at Start n l k k' fits led r r' = r.first refl ∙ sym (r'.first refl)
+same_at (Between ss) n l k k' fits led r r' =
+    same_between l k k' (mac_of l) (starts_with nat_eq l (codes "---")) fits refl refl (r.between ss led.known refl) (r'.between ss led.known refl)
+same_at (InBody ss args body) n l k k' fits led r r' =
+    let some = not_first ss args body in
+    let other = λ (ts : List Stanza) (valid : AllByRecursion IsStanza ts). not_between ss ts args body n led valid in
+    r.in_body some other ∙ sym (r'.in_body some other)
+
+nothing_walked : walk Start 1 [] [] ≡ unfinished
+unfolding walk
+nothing_walked = refl
+
+stanzas_unfinished : (ss : List Stanza) → AllByRecursion IsStanza ss → walk Start 1 [] (stanzas_text ss) ≡ unfinished
+unfolding walk
+stanzas_unfinished ss valid = ap (walk Start 1 []) (sym (append-nil (stanzas_text ss))) ∙ (stanzas_walk ss [] valid).1
+
+-- if a walk over the lines before is over, they end in no place
+same_elsewhere : (before l : List ℕ) (k k' : HeadKind) → (walk Start 1 [] before ≡ unfinished → ⊥) → RefusesLine before l k → RefusesLine before l k' → k ≡ k'
+same_elsewhere before l k k' over r r' =
+    let some : before ≡ [] → ⊥ = λ none. over (ap (walk Start 1 []) none ∙ nothing_walked) in
+    let other : (ts : List Stanza) → AllByRecursion IsStanza ts → before ≡ stanzas_text ts → ⊥ = λ ts valid is. over (ap (walk Start 1 []) is
+    ∙ stanzas_unfinished ts valid) in
+    r.in_body some other ∙ sym (r'.in_body some other)
+
+over_ready : (h : Header) (rest : List ℕ) → ready h rest ≡ unfinished → ⊥
+over_ready h rest e = cc
+
+same_kind : (before l : List ℕ) (k k' : HeadKind) (o : Walked) → IsBytes before → IsBytes l → AreLines before → walk Start 1 [] before ≡ o → RefusesLine before l k
+    → RefusesLine before l k' → k ≡ k'
+same_kind before l k k' unfinished fits fits' whole is r r' =
+    let p = reads_from_start before unfinished fits is in
+    let place_is = whole_lines_end before p whole in
+    same_at p.place p.n l k k' fits' p.led (subst (λ (b : List ℕ). RefusesLine b l k) place_is r) (subst (λ (b : List ℕ). RefusesLine b l k') place_is r')
+same_kind before l k k' (ready h rest) fits fits' whole is r r' = same_elsewhere before l k k' (λ e. over_ready h rest (sym is ∙ e)) r r'
+same_kind before l k k' (faulty f) fits fits' whole is r r' = same_elsewhere before l k k' (λ e. apart f (sym e ∙ is)) r r'
+
+abbrev made : HeadKind → ℕ → HeadFault
+made k n = record { kind = k; line = n }
+
+same_fault : (f g : HeadFault) → f.kind ≡ g.kind → f.line ≡ g.line → f ≡ g
+same_fault f g k l = ap (λ (x : HeadKind). made x f.line) k ∙ ap (λ (n : ℕ). made g.kind n) l
+
+same_line_fault : (bytes : List ℕ) (f g : HeadFault) → IsBytes bytes → IsLineFault bytes f → IsLineFault bytes g → f ≡ g
+same_line_fault bytes f g fits (before, l, first, line_is, refuses) (before', l', first', line_is', refuses') =
+    let front : before ≡ before' = same_before bytes before l before' l' first first' in
+    let after : line l ++ first.rest ≡ line l' ++ first'.rest =
+    append_cancel_left before (line l ++ first.rest) (line l' ++ first'.rest) (sym first.parts ∙ first'.parts
+    ∙ ap (λ (t : List ℕ). t ++ (line l' ++ first'.rest)) (sym front)) in
+    let here : l ≡ l' = same_line l l' first.rest first'.rest first.one_line first'.one_line after in
+    let parts_fit : IsBytes (before ++ (line l ++ first.rest)) = subst IsBytes first.parts fits in
+    let line_fits : IsBytes l = front_bytes l (10 ∷ first.rest) (subst IsBytes (append_assoc l (10 ∷ []) first.rest)
+    (IsBytes-tail before (line l ++ first.rest) parts_fit)) in
+    let there : RefusesLine before l g.kind = subst (λ (m : List ℕ). RefusesLine before m g.kind) (sym here)
+    (subst (λ (b : List ℕ). RefusesLine b l' g.kind) (sym front) refuses') in
+    same_fault f g
+    (same_kind before l f.kind g.kind (walk Start 1 [] before) (front_bytes before (line l ++ first.rest) parts_fit) line_fits first.whole refl refuses there)
+    (line_is ∙ ap line_after front ∙ sym line_is')
+
+pub one_fault : (bytes : List ℕ) (f g : HeadFault) → IsBytes bytes → IsFault bytes f → IsFault bytes g → f ≡ g
+one_fault bytes f g fits (inl p) (inl q) = same_line_fault (take 1048576 bytes) f g (IsBytes-take 1048576 bytes fits) p q
+one_fault bytes f g fits (inl p) (inr q) = absurd (q.0 p.0 p.1 p.2)
+one_fault bytes f g fits (inr p) (inl q) = absurd (p.0 q.0 q.1 q.2)
+one_fault bytes f g fits (inr p) (inr q) = p.2 ∙ sym q.2

@@ -76,8 +76,7 @@ faulty_at held rest bytes longer i fault first e is (inr fails) =
 -- what is left after the first line
 after_line : (rest bytes : List ℕ) (i : ℕ) → length rest ≤ length bytes → rest ≡ drop (length bytes - length rest) bytes → drop (i + 1) rest
     ≡ drop (length bytes - length rest + i + 1) bytes
-after_line rest bytes i within is =
-    ap (drop (i + 1)) is ∙ drop-drop (i + 1) (length bytes - length rest) bytes ∙ ap (λ n. drop n bytes) (omega arith)
+after_line rest bytes i within is = ap (drop (i + 1)) is ∙ drop-drop (i + 1) (length bytes - length rest) bytes ∙ ap (λ n. drop n bytes) (omega arith)
 
 pub ready_at : (held rest bytes joined longer : List ℕ) (i : ℕ) (h : Header) → FirstLine rest i → length rest ≤ length bytes → rest
     ≡ drop (length bytes - length rest) bytes
@@ -97,8 +96,7 @@ pub record Left (held rest bytes joined : List ℕ) : Type 0 where
   pub same : held ++ rest ≡ joined
 
 pub left_after : (held rest bytes joined longer next : List ℕ) (i : ℕ) → FirstLine rest i → Left held rest bytes joined → longer ≡ held ++ take i rest
-    → next ≡ longer ++ 10 ∷ []
-    → Left next (drop (i + 1) rest) bytes joined
+    → next ≡ longer ++ 10 ∷ [] → Left next (drop (i + 1) rest) bytes joined
 left_after held rest bytes joined longer next i first left is next-is =
     let lt = first.within in
     let within = left.within in

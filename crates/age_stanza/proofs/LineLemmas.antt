@@ -1,6 +1,6 @@
 -- The lines of a header: a body's, an argument line, an end line.
-use Rattle.std.proofs.Common.{◌≡◌, ℕ, zero, suc, ◌<◌, ◌≤◌, ◌+◌, ◌*◌, ◌/◌, Bool, true, false, cond, leb, eqb, nat_eq, ◌&&◌, List, [], ◌∷◌, ◌++◌, length, take}
-use Rattle.std.proofs.Common.{drop, Option, Some, None, refl, sym, ap, subst, ◌∙◌, arith, inl, inr}
+use Rattle.std.proofs.Common.{◌≡◌, ℕ, zero, suc, ◌<◌, ◌≤◌, ◌+◌, ◌*◌, ◌/◌, ◌%◌, Bool, true, false, cond, leb, eqb, nat_eq, ◌&&◌, List, [], ◌∷◌, ◌++◌, length}
+use Rattle.std.proofs.Common.{take, drop, Option, Some, None, refl, sym, ap, subst, ◌∙◌, arith, inl, inr}
 use Rattle.std.specs.Prelude.{codes, ◌⊎◌}
 use Rattle.std.specs.List.{flat_map, AllByRecursion, starts_with}
 use Rattle.std.proofs.lemmas.Bool.{eqb-true, eqb-false, eq-eqb, ne_eqb, leb-true, le-leb, and_parts, and_from}
@@ -14,7 +14,7 @@ use Rattle.base64.specs.GeneralPurpose.{IsBytes}
 use Rattle.age_stanza.specs.inner.LineMachine.{whole_lines, base64_bytes, arguments_from, arguments_of, mac_of, whole_mac}
 use Rattle.age_stanza.specs.Text.{base64_text}
 use Rattle.age_stanza.specs.Grammar.{line, IsArgument, argument_line, in_lines, end_line}
-use Rattle.age_stanza.proofs.TextLemmas.{text_of_decoded, decoded-text, IsBytes-drop}
+use Rattle.age_stanza.proofs.TextLemmas.{text_of_decoded, decoded-text, IsBytes-drop, text-append, length-text}
 
 -- ---- a test that was passed or not
 
@@ -22,13 +22,18 @@ pub chosen : {A : Type 0} (b : Bool) (x y z : A) → cond b x y ≡ z → ((b �
 chosen true x y z e = inl (refl, e)
 chosen false x y z e = inr (refl, e)
 
-pub by_cases : (b : Bool) → cond b true false ≡ b
-by_cases true = refl
-by_cases false = refl
+-- what holds of both answers of a test holds of its answer
+pub by_test : {A : Type 0} (P : A → Type 0) (b : Bool) (x y : A) → (b ≡ true → P x) → (b ≡ false → P y) → P (cond b x y)
+by_test P true x y f g = f refl
+by_test P false x y f g = g refl
+
+tested : (b : Bool) → (b ≡ true) ⊎ (b ≡ false)
+tested true = inl refl
+tested false = inr refl
 
 -- ---- what a line starts with
 
-pub starts_at : (s p : List ℕ) → starts_with nat_eq s p ≡ true → s ≡ p ++ drop (length p) s
+starts_at : (s p : List ℕ) → starts_with nat_eq s p ≡ true → s ≡ p ++ drop (length p) s
 starts_at s p e = (starts_is Decides-eqb s p (starts_with nat_eq s p) refl).0 e
 
 pub starts_from : (s p rest : List ℕ) → s ≡ p ++ rest → starts_with nat_eq s p ≡ true
@@ -63,8 +68,7 @@ in_lines-full l rest len =
     let last : drop (length all / 64 * 64) all ≡ drop (n * 64) rest =
     ap (λ (k : ℕ). drop k all) count ∙ sym (drop-drop (n * 64) 64 all) ∙ ap (drop (n * 64)) (drop_at l rest 64 len) in
     ap (λ (w : List ℕ). w ++ line (drop (length all / 64 * 64) all)) (whole_lines-full l rest len)
-    ∙ ap (λ (d : List ℕ). (line l ++ whole_lines rest) ++ line d) last
-    ∙ append_assoc (line l) (whole_lines rest) (line (drop (n * 64) rest))
+    ∙ ap (λ (d : List ℕ). (line l ++ whole_lines rest) ++ line d) last ∙ append_assoc (line l) (whole_lines rest) (line (drop (n * 64) rest))
 
 -- a text is fewer than 64 characters, or a line of 64 before such a text
 pub by_lines : (P : List ℕ → Type 0) → ((cs : List ℕ) → length cs < 64 → P cs) → ((l rest : List ℕ) → length l ≡ 64 → P rest → P (l ++ rest))
@@ -89,8 +93,34 @@ length-in_lines cs =
       length-append (line l) (in_lines rest),
       length-append l (10 ∷ []),
       length-append l rest,
-    ))
-    (length cs / 64) cs refl
+    )) (length cs / 64) cs refl
+
+-- ---- a body in lines: each but the last spells 48 bytes
+
+pub full_line : (body : List ℕ) → 48 ≤ length body → in_lines (base64_text body)
+    ≡ line (base64_text (take 48 body)) ++ in_lines (base64_text (drop 48 body))
+full_line body le =
+    let len : length (take 48 body) ≡ 48 = omega (arith, length-take 48 body) in
+    let long : length (base64_text (take 48 body)) ≡ 64 = omega (arith, length-text (take 48 body)) in
+    let whole : length (take 48 body) % 3 ≡ 0 = omega arith in
+    ap (λ (b : List ℕ). in_lines (base64_text b)) (sym (take-append-drop 48 body)) ∙ ap in_lines (text-append (take 48 body) (drop 48 body) whole)
+    ∙ in_lines-full (base64_text (take 48 body)) (base64_text (drop 48 body)) (omega arith)
+
+pub last_line : (body : List ℕ) → length body < 48 → in_lines (base64_text body) ≡ line (base64_text body)
+last_line body lt = in_lines-short (base64_text body) (omega (arith, length-text body))
+
+-- a line more is written
+pub line_written : (out next all rest : List ℕ) → 48 ≤ length rest → next ≡ out ++ line (base64_text (take 48 rest))
+    → out ++ in_lines (base64_text rest) ≡ all → next ++ in_lines (base64_text (drop 48 rest)) ≡ all
+line_written out next all rest le puts same =
+    let after = in_lines (base64_text (drop 48 rest)) in
+    ap (λ (t : List ℕ). t ++ after) puts ∙ append_assoc out (line (base64_text (take 48 rest))) after
+    ∙ ap (λ (t : List ℕ). out ++ t) (sym (full_line rest le)) ∙ same
+
+-- the last line is written
+pub last_written : (out next all rest : List ℕ) → length rest < 48 → next ≡ out ++ line (base64_text rest) → out ++ in_lines (base64_text rest) ≡ all
+    → next ≡ all
+last_written out next all rest lt puts same = puts ∙ ap (λ (t : List ℕ). out ++ t) (sym (last_line rest lt)) ∙ same
 
 -- ---- an argument line
 
@@ -120,7 +150,7 @@ some_length word e =
     let ne = eqb-false (length word) 0 e in
     omega arith
 
-pub arguments_sound : (done : List (List ℕ)) (word cs : List ℕ) (args : List (List ℕ)) → AllByRecursion IsArgument done → AllByRecursion IsVisible word
+arguments_sound : (done : List (List ℕ)) (word cs : List ℕ) (args : List (List ℕ)) → AllByRecursion IsArgument done → AllByRecursion IsVisible word
     → arguments_from done word cs ≡ Some args
     → (spaced done ++ (32 ∷ (word ++ cs)) ≡ spaced args) × (0 < length args) × AllByRecursion IsArgument args
 unfolding arguments_from
@@ -156,25 +186,6 @@ arguments_sound done word (c ∷ cs) args dones visible e = elim (chosen (eqb c 
   ]
 ]
 
-pub arguments_complete : (done : List (List ℕ)) (word w : List ℕ) (ws : List (List ℕ)) → 0 < length (word ++ w) → AllByRecursion IsVisible w
-    → AllByRecursion IsArgument ws
-    → arguments_from done word (w ++ spaced ws) ≡ Some (done ++ (word ++ w) ∷ ws)
-unfolding arguments_from
-arguments_complete done word [] [] some visible args =
-    let long : eqb (length word) 0 ≡ false = ne_eqb (length word) 0 (λ e. omega (arith, ap length (append-nil word))) in
-    rw (append-nil word, long) refl
-arguments_complete done word [] (v ∷ vs) some visible args =
-    let long : eqb (length word) 0 ≡ false = ne_eqb (length word) 0 (λ e. omega (arith, ap length (append-nil word))) in
-    rw (append-nil word, long) (arguments_complete (done ++ word ∷ []) [] v vs args.0.0 args.0.1 args.1
-    ∙ ap (λ (xs : List (List ℕ)). Some xs) (append_assoc done (word ∷ []) (v ∷ vs)))
-arguments_complete done word (c ∷ cs) ws some visible args =
-    let seen : IsVisible c = visible.0 in
-    let space : eqb c 32 ≡ false = ne_eqb c 32 (λ e. omega arith) in
-    let pass : (leb 33 c && leb c 126) ≡ true = and_from (leb 33 c) (leb c 126) (le-leb 33 c seen.0) (le-leb c 126 seen.1) in
-    let longer : 0 < length ((word ++ c ∷ []) ++ cs) = rw append_assoc some in
-    rw (space, pass) (arguments_complete done (word ++ c ∷ []) cs ws longer visible.1 args
-    ∙ ap (λ (xs : List ℕ). Some (done ++ xs ∷ ws)) (append_assoc word (c ∷ []) cs))
-
 -- the letters of a word, and what follows it
 word_read : (done : List (List ℕ)) (word w cs : List ℕ) → AllByRecursion IsVisible w → arguments_from done word (w ++ cs) ≡ arguments_from done (word ++ w) cs
 unfolding arguments_from
@@ -199,6 +210,13 @@ last_argument done w valid =
     let long : eqb (length w) 0 ≡ false = ne_eqb (length w) 0 (λ e. omega arith) in
     ap (arguments_from done []) (sym (append-nil w)) ∙ word_read done [] w [] valid.1 ∙ rw long refl
 
+arguments_complete : (done : List (List ℕ)) (w : List ℕ) (ws : List (List ℕ)) → IsArgument w → AllByRecursion IsArgument ws
+    → arguments_from done [] (w ++ spaced ws) ≡ Some (done ++ w ∷ ws)
+arguments_complete done w [] valid args = ap (arguments_from done []) (append-nil w) ∙ last_argument done w valid
+arguments_complete done w (v ∷ vs) valid args =
+    next_argument done w (v ++ spaced vs) valid ∙ arguments_complete (done ++ w ∷ []) v vs args.0 args.1
+    ∙ ap (λ (xs : List (List ℕ)). Some xs) (append_assoc done (w ∷ []) (v ∷ vs))
+
 -- the line ends here, or a space follows
 abbrev pub EndsWord : List ℕ → Type 0
 EndsWord cs = (cs ≡ []) ⊎ ((rest : List ℕ) × (cs ≡ 32 ∷ rest))
@@ -209,25 +227,20 @@ no_word done word cs (inl e) none = rw (e, none) refl
 no_word done word cs (inr (rest, e)) none = rw (e, none) refl
 
 bad_word : (done : List (List ℕ)) (word w cs : List ℕ) → EndsWord cs → AllByRecursion (λ c. c ≡ 32 → ⊥) w → AllByRecursion IsVisible word
-    → (IsArgument (word ++ w) → ⊥)
-    → arguments_from done word (w ++ cs) ≡ None
+    → (IsArgument (word ++ w) → ⊥) → arguments_from done word (w ++ cs) ≡ None
 unfolding arguments_from
-bad_word done word [] cs ends others visible bad = elim (chosen (eqb (length word) 0) true false (eqb (length word) 0) (by_cases (eqb (length word) 0))) [
-  | inl h ↦ no_word done word cs ends h.0
-  | inr h ↦ absurd (bad (rw append-nil (some_length word h.0, visible)))
+bad_word done word [] cs ends others visible bad = elim (tested (eqb (length word) 0)) [
+  | inl h ↦ no_word done word cs ends h
+  | inr h ↦ absurd (bad (rw append-nil (some_length word h, visible)))
 ]
 bad_word done word (c ∷ w) cs ends others visible bad =
     let space : eqb c 32 ≡ false = ne_eqb c 32 others.0 in
-    elim (chosen (leb 33 c && leb c 126) true false (leb 33 c && leb c 126) (by_cases (leb 33 c && leb c 126))) [
+    elim (tested (leb 33 c && leb c 126)) [
       | inl h ↦
-          let parts = and_parts (leb 33 c) (leb c 126) h.0 in
-          rw (
-            space,
-            h.0,
-          ) (bad_word done (word ++ c ∷ []) w cs ends others.1
-          (All-append IsVisible word (c ∷ []) visible ((leb-true 33 c parts.0, leb-true c 126 parts.1), tt))
-          (λ valid. bad (rw (← append_assoc word (c ∷ []) w) valid)))
-      | inr h ↦ rw (space, h.0) refl
+          let parts = and_parts (leb 33 c) (leb c 126) h in
+          let seen = All-append IsVisible word (c ∷ []) visible ((leb-true 33 c parts.0, leb-true c 126 parts.1), tt) in
+          rw (space, h) (bad_word done (word ++ c ∷ []) w cs ends others.1 seen (λ valid. bad (rw (← append_assoc word (c ∷ []) w) valid)))
+      | inr h ↦ rw (space, h) refl
     ]
 
 -- a word that is no argument, before a space and at the end
@@ -252,7 +265,7 @@ argument_line_read l args e = elim (chosen (starts_with nat_eq l (codes "-> ")) 
 pub read_argument_line : (args : List (List ℕ)) → 0 < length args → AllByRecursion IsArgument args → arguments_of (argument_line args) ≡ Some args
 unfolding arguments_of
 read_argument_line [] some valid = absurd (omega arith)
-read_argument_line (a ∷ as') some valid = arguments_complete [] [] a as' valid.0.0 valid.0.1 valid.1
+read_argument_line (a ∷ as') some valid = arguments_complete [] a as' valid.0 valid.1
 
 -- ---- an end line
 
@@ -293,8 +306,6 @@ none_unless None never = refl
 none_unless (Some mac) never = absurd (never mac refl)
 
 pub no_mac : (l : List ℕ) → IsBytes l → ((mac : List ℕ) → IsBytes mac → length mac ≡ 32 → drop 4 l ≡ base64_text mac → ⊥) → None ≡ mac_of l
-no_mac l fits never =
-    none_unless (mac_of l)
-    (λ mac e.
+no_mac l fits never = none_unless (mac_of l) (λ mac e.
     let read = end_line_read l mac fits e in
     never mac read.2 read.1 (ap (drop 4) read.0))

@@ -1,19 +1,25 @@
 -- A header that comes in pieces.
-use Rattle.std.proofs.Common.{◌≡◌, ℕ, zero, suc, ◌<◌, ◌≤◌, ◌+◌, ◌-◌, List, [], ◌++◌, length, take, drop, refl, sym, ap, ◌∙◌, arith, inl, inr}
+use Rattle.std.proofs.Common.{◌≡◌, ℕ, zero, suc, ◌<◌, ◌≤◌, ◌+◌, ◌-◌, List, [], ◌++◌, length, take, drop, Some, None, Result, Ok, Err, refl, sym, ap, ◌∙◌, arith}
+use Rattle.std.proofs.Common.{inl, inr}
 use Rattle.std.specs.Prelude.{◌⊎◌}
 use Rattle.std.proofs.lemmas.List.{append-nil, append_assoc, length-append, length-take, take-append-drop, take-take, append_cancel_right}
 use Rattle.std.proofs.Math.Seq.{take-append-add}
 use Rattle.base64.specs.GeneralPurpose.{IsBytes}
 use Rattle.age_stanza.specs.declared.header.Header.{Header}
 use Rattle.age_stanza.specs.declared.fault.HeadFault.{HeadFault}
+use Rattle.age_stanza.specs.declared.head_step.HeadStep.{HeadStep}
+use Rattle.age_stanza.specs.declared.head_step.HeadStep.TheVariants.{More, Ready}
+use Rattle.age_stanza.specs.declared.parser.State.{State}
+use Rattle.age_stanza.specs.declared.parser.State.TheVariants.{Done, Failed}
 use Rattle.age_stanza.specs.declared.place.Place.TheVariants.{Start}
 use Rattle.age_stanza.specs.Grammar.{head_text, HeadText}
-use Rattle.age_stanza.specs.inner.LineMachine.{unfinished, ready, faulty, walk, IsUnfinished}
-use Rattle.age_stanza.specs.Parsing.{memory_fault, HasHeader, IsFault, line_after}
+use Rattle.age_stanza.specs.inner.LineMachine.{unfinished, ready, faulty, walk, IsUnfinished, TakesPiece}
+use Rattle.age_stanza.specs.inner.Closing.{closed_by}
+use Rattle.age_stanza.specs.Parsing.{memory_fault, HasHeader, IsFault, line_after, FeedsParser, IsParsing, reading}
+use Rattle.age_stanza.specs.Laws.{parsing_of}
 use Rattle.age_stanza.specs.declared.fault.HeadKind.TheVariants.{HeadTooLong}
-use Rattle.age_stanza.proofs.FaultLemmas.{line_fault, no_fault, not_ready}
-use Rattle.age_stanza.proofs.PlaceLemmas.{found}
-use Rattle.age_stanza.proofs.CompleteLemmas.{text_walk}
+use Rattle.age_stanza.proofs.PlaceLemmas.{text_walk}
+use Rattle.age_stanza.proofs.FaultLemmas.{reads_from_start, line_fault, no_fault, not_ready}
 
 -- ---- the front of what was joined
 
@@ -64,16 +70,17 @@ pub found_in : (held piece : List ℕ) (room taken : ℕ) (h : Header) → room 
 found_in held piece room taken h room-is lt known fits le reads =
     let joined = held ++ take room piece in
     let rest = drop taken (take room piece) in
-    let all = found Start 1 [] joined h rest tt fits reads in
+    let all = reads_from_start joined (ready h rest) fits reads in
     let parts : joined ≡ (held ++ take taken (take room piece)) ++ rest =
     ap (λ (t : List ℕ). held ++ t) (sym (take-append-drop taken (take room piece))) ∙ sym (append_assoc held (take taken (take room piece)) rest) in
-    let front : all.t ≡ held ++ take taken (take room piece) = append_cancel_right all.t (held ++ take taken (take room piece)) rest (sym all.split ∙ parts) in
+    let front : held ++ take taken (take room piece) ≡ head_text h =
+    append_cancel_right (held ++ take taken (take room piece)) (head_text h) rest (sym parts ∙ all.0) in
     let size : length (take room piece) ≤ length piece = omega (arith, length-take room piece) in
     let room' : length (take room piece) ≤ room = omega (arith, length-take room piece) in
     let cut : take taken (take room piece) ≡ take taken piece = take-take taken room piece (omega arith) in
-    let is : held ++ take taken piece ≡ head_text h = ap (λ (t : List ℕ). held ++ t) (sym cut) ∙ sym front ∙ all.follows in
+    let is : held ++ take taken piece ≡ head_text h = ap (λ (t : List ℕ). held ++ t) (sym cut) ∙ front in
     let within : length (held ++ take taken piece) ≤ 1048576 = omega (arith, length-append held (take taken piece), length-take taken piece) in
-    (omega arith, record { spells = record { valid = all.valid; bytes_are = is }; within = within })
+    (omega arith, record { spells = record { valid = all.1; bytes_are = is }; within = within })
 
 -- a fault in the piece
 pub none_in : (held piece : List ℕ) (room : ℕ) (fault : HeadFault) → room ≡ 1048576 - length held → length held < 1048576 → IsBytes (held ++ take room piece)
@@ -100,3 +107,25 @@ none_yet held piece room fault room-is lt known long fault-is =
       none_unfinished held piece room whole known.goes_on,
       inr (rw (← is) (no_fault (held ++ take room piece) known.are_bytes known.goes_on), rw (← is) long, rw (← front) fault-is),
     )
+
+-- ---- what a step leaves of a parser: it closes it, or leaves it open
+
+pub fed_closed : (held piece : List ℕ) (step : Result HeadStep HeadFault) (new : List ℕ) (closed : State) → closed_by step ≡ Some closed
+    → TakesPiece held piece step new → FeedsParser (reading held) piece step (parsing_of closed)
+fed_closed held piece (Ok More) new closed e takes = cc
+fed_closed held piece (Ok (Ready taken h)) new closed e takes = let same : closed ≡ Done = cc in rw same (refl, takes.0, takes.1)
+fed_closed held piece (Err fault) new closed e takes = let same : closed ≡ Failed fault = cc in rw same (refl, takes.0, takes.1)
+
+pub fed_open : (held piece : List ℕ) (step : Result HeadStep HeadFault) (new : List ℕ) → closed_by step ≡ None → TakesPiece held piece step new
+    → FeedsParser (reading held) piece step (reading new)
+fed_open held piece (Ok More) new e takes =
+    (rw (takes.0) refl, takes.1, none_held _ takes.1 takes.2.goes_on, no_fault _ takes.2.are_bytes takes.2.goes_on)
+fed_open held piece (Ok (Ready taken h)) new e takes = cc
+fed_open held piece (Err fault) new e takes = cc
+
+pub still_open : (held piece : List ℕ) (step : Result HeadStep HeadFault) (new : List ℕ) → closed_by step ≡ None → TakesPiece held piece step new
+    → IsParsing (reading new)
+still_open held piece (Ok More) new e takes =
+    rw (takes.0) (takes.1, takes.2.are_bytes, none_held _ takes.1 takes.2.goes_on, no_fault _ takes.2.are_bytes takes.2.goes_on)
+still_open held piece (Ok (Ready taken h)) new e takes = cc
+still_open held piece (Err fault) new e takes = cc

@@ -1,270 +1,319 @@
--- What a place in a header says of the header: sound and complete.
-use Rattle.std.proofs.Common.{◌≡◌, ℕ, ◌<◌, ◌≤◌, ◌+◌, ◌*◌, ◌/◌, ◌%◌, Bool, true, false, ltb, eqb, nat_eq, ◌||◌, List, [], ◌∷◌, ◌++◌, length, Option, Some, None}
-use Rattle.std.proofs.Common.{Result, Ok, Err, refl, sym, ap, subst, ◌∙◌, arith, inl, inr}
+-- Where the lines of a header lead: each to a place that says of the bytes before it what they are, and those of a header's text to the header.
+use Rattle.std.proofs.Common.{◌≡◌, ℕ, zero, suc, ◌<◌, ◌≤◌, ◌+◌, ◌*◌, ◌/◌, ◌%◌, Bool, true, false, cond, ltb, eqb, nat_eq, ◌||◌, List, [], ◌∷◌, ◌++◌, length}
+use Rattle.std.proofs.Common.{take, drop, Option, Some, None, Result, Ok, Err, refl, sym, ap, ◌∙◌, arith, inl, inr}
 use Rattle.std.specs.Prelude.{codes}
 use Rattle.std.specs.List.{flat_map, AllByRecursion, starts_with}
 use Rattle.std.specs.Str.{bytes_eq}
-use Rattle.std.proofs.lemmas.Bool.{eqb-true, eqb-false, ltb-false}
-use Rattle.std.proofs.lemmas.List.{append-nil, append_assoc, length-append}
+use Rattle.std.proofs.lemmas.Bool.{eqb-true, eqb-false, ltb-false, eq-eqb, ne_eqb, le-ltb, cases_lt}
+use Rattle.std.proofs.lemmas.List.{append-nil, append_assoc, length-append, length-take, length-drop, take-append-drop}
+use Rattle.std.proofs.lemmas.List.Concat.{flat_map-append}
+use Rattle.std.proofs.lemmas.Option.{none-some}
 use Rattle.std.proofs.lemmas.Slice.Eq.{bytes_eq-Decides}
 use Rattle.base64.specs.GeneralPurpose.{IsBytes}
-use Rattle.base64.proofs.EngineFacts.{front_bytes}
 use Rattle.age_stanza.specs.declared.header.Stanza.{Stanza}
 use Rattle.age_stanza.specs.declared.header.Header.{Header}
 use Rattle.age_stanza.specs.declared.fault.HeadKind.{HeadKind}
-use Rattle.age_stanza.specs.declared.fault.HeadKind.TheVariants.{NotAge, Armored, BadBody}
+use Rattle.age_stanza.specs.declared.fault.HeadKind.TheVariants.{NotAge, Armored, BadBody, Memory}
 use Rattle.age_stanza.specs.declared.place.Place.{Place}
 use Rattle.age_stanza.specs.declared.place.Place.TheVariants.{Start, Between, InBody}
 use Rattle.age_stanza.specs.declared.place.Next.{Next}
 use Rattle.age_stanza.specs.declared.place.Next.TheVariants.{Go, Done}
 use Rattle.age_stanza.specs.Text.{base64_text}
+use Rattle.age_stanza.specs.Grammar.{line, version, IsArgument, argument_line, in_lines, stanza_text, end_line, head_text, IsStanza, IsHeader, Spells, HeadText}
+use Rattle.age_stanza.specs.Grammar.{mac_text}
+use Rattle.age_stanza.specs.Parsing.{IsLine, stanzas_text, armor, IsEndLine, RefusesBetween}
 use Rattle.age_stanza.specs.inner.LineMachine.{base64_bytes, ready, walk, after, step, end_line_result, argument_line_result, body_line_result, arguments_of}
-use Rattle.age_stanza.specs.inner.LineMachine.{mac_of}
-use Rattle.age_stanza.specs.Grammar.{line, version, IsArgument, argument_line, in_lines, stanza_text, end_line, head_text, IsStanza, IsHeader}
-use Rattle.age_stanza.specs.Parsing.{armor}
-use Rattle.age_stanza.proofs.TextLemmas.{text-append, length-text, text_of_decoded, IsBytes-append, IsBytes-tail}
-use Rattle.age_stanza.proofs.LineLemmas.{chosen, All-append, in_lines-full, in_lines-short, argument_line_read, end_line_read}
+use Rattle.age_stanza.specs.inner.LineMachine.{mac_of, whole_lines, bytes_before, IsPlace}
+use Rattle.age_stanza.proofs.TextLemmas.{text-append, text-none, length-text, text_of_decoded, decoded-text, no_bytes, IsBytes-append, IsBytes-take}
+use Rattle.age_stanza.proofs.TextLemmas.{IsBytes-drop, IsLine-append, text_line, line_from_test}
+use Rattle.age_stanza.proofs.LineLemmas.{IsVisible, by_test, starts_from, All-append, by_lines, whole_lines-full, in_lines-full, in_lines-short, full_line}
+use Rattle.age_stanza.proofs.LineLemmas.{last_line, argument_line_read, read_argument_line, end_line_read, read_end_line}
 
--- the stanzas that are still to come, and the end line
-abbrev pub tail_text : List Stanza → List ℕ → List ℕ
-tail_text more mac = flat_map stanza_text more ++ line (end_line mac)
+regrouped : (a b c d : List ℕ) → a ++ (b ++ (c ++ d)) ≡ (a ++ (b ++ c)) ++ d
+regrouped a b c d = simp append_assoc
 
--- what is known of the part before a place
-abbrev pub IsPlace : Place → Type 0
-IsPlace Start = Unit {0}
-IsPlace (Between ss) = AllByRecursion IsStanza ss
-IsPlace (InBody ss args body) = AllByRecursion IsStanza ss × (0 < length args) × AllByRecursion IsArgument args × IsBytes body × (length body % 3 ≡ 0)
+pub two_parts : (a b c d : List ℕ) → (a ++ (b ++ c)) ++ d ≡ (a ++ b) ++ (c ++ d)
+two_parts a b c d = simp append_assoc
 
--- t is what the text of h has from this place on
-abbrev pub Follows : Place → Header → List ℕ → Type 0
-Follows Start h t = t ≡ head_text h
-Follows (Between ss) h t = (more : List Stanza) × (h.stanzas ≡ ss ++ more) × (t ≡ tail_text more h.mac)
-Follows (InBody ss args body) h t = (rest : List ℕ) × (more : List Stanza) × (h.stanzas ≡ ss ++ (record { args = args; body = body ++ rest }) ∷ more)
-    × (t ≡ in_lines (base64_text rest) ++ tail_text more h.mac)
+-- ---- lines of 64 characters
 
--- ---- a line that leads on
+whole_line : (l : List ℕ) → length l ≡ 64 → whole_lines l ≡ line l
+unfolding whole_lines
+whole_line l len = ap whole_lines (sym (append-nil l)) ∙ whole_lines-full l [] len ∙ append-nil (line l)
 
-abbrev pub Leads : Place → List ℕ → Place → Type 0
-Leads place l next = IsPlace next × ((h : Header) (t : List ℕ) → Follows next h t → Follows place h (line l ++ t))
+-- whole lines before a text that a function puts into lines
+abbrev IsBeforeWhole : (List ℕ → List ℕ) → List ℕ → Type 0
+IsBeforeWhole f t = (l : List ℕ) → length t % 64 ≡ 0 → f (t ++ l) ≡ whole_lines t ++ f l
 
-abbrev pub go : Place → Result Next HeadKind
-go place = Ok (Go place)
+before_short : (f : List ℕ → List ℕ) (t : List ℕ) → length t < 64 → IsBeforeWhole f t
+unfolding whole_lines
+before_short f [] lt l whole = refl
+before_short f (c ∷ t) lt l whole = absurd (omega arith)
 
-pub same_go : (a b : Place) → go a ≡ go b → a ≡ b
-same_go a b e = cc
+before_full : (f : List ℕ → List ℕ) → ((l rest : List ℕ) → length l ≡ 64 → f (l ++ rest) ≡ line l ++ f rest) → (first rest : List ℕ) → length first ≡ 64
+    → IsBeforeWhole f rest → IsBeforeWhole f (first ++ rest)
+before_full f full first rest len more l whole =
+    let fewer : length rest % 64 ≡ 0 = omega (arith, len, whole, length-append first rest) in
+    ap f (append_assoc first rest l) ∙ full first (rest ++ l) len ∙ ap (λ (t : List ℕ). line first ++ t) (more l fewer)
+    ∙ sym (append_assoc (line first) (whole_lines rest) (f l)) ∙ ap (λ (t : List ℕ). t ++ f l) (sym (whole_lines-full first rest len))
 
-leads_start : (l : List ℕ) (next : Place) → step Start l ≡ Ok (Go next) → Leads Start l next
-unfolding step
-leads_start l next e = elim (chosen (bytes_eq l version) (Ok (Go (Between []))) _ (Ok (Go next)) e) [
-  | inl h ↦
-      let is : l ≡ version = (bytes_eq-Decides l version).0 h.0 in
-      subst (λ (q : Place). Leads Start l q) (same_go (Between []) next h.1)
-      (tt, λ h t f. rw (is, f.2, f.1) refl)
-  | inr h ↦ elim (chosen (bytes_eq l armor || bytes_eq l (armor ++ 13 ∷ [])) (Err Armored) (Err NotAge) (Ok (Go next)) h.1) [
-    | inl g ↦ absurd (cc (g.1))
-    | inr g ↦ absurd (cc (g.1))
-  ]
-]
+whole_before : (f : List ℕ → List ℕ) → ((l rest : List ℕ) → length l ≡ 64 → f (l ++ rest) ≡ line l ++ f rest) → (t : List ℕ) → IsBeforeWhole f t
+whole_before f full t = by_lines (IsBeforeWhole f) (before_short f) (before_full f full) (length t / 64) t refl
 
-pub not_ended : (ss : List Stanza) (o : Option (List ℕ)) (next : Place) → end_line_result ss o ≡ Ok (Go next) → ⊥
-not_ended ss None next e = cc
-not_ended [] (Some mac) next e = cc
-not_ended (s ∷ ss) (Some mac) next e = cc
+-- whole lines before the last line of a body, or before more whole lines
+body_lines : (f : List ℕ → List ℕ) → ((l rest : List ℕ) → length l ≡ 64 → f (l ++ rest) ≡ line l ++ f rest) → (body more l : List ℕ) → length body % 48 ≡ 0
+    → l ≡ base64_text more → f l ≡ line l → f (base64_text (body ++ more)) ≡ whole_lines (base64_text body) ++ line l
+body_lines f full body more l whole is one =
+    let third : length body % 3 ≡ 0 = omega arith in
+    let lines : length (base64_text body) % 64 ≡ 0 = omega (arith, length-text body) in
+    ap f (text-append body more third ∙ ap (λ (t : List ℕ). base64_text body ++ t) (sym is)) ∙ whole_before f full (base64_text body) l lines
+    ∙ ap (λ (t : List ℕ). whole_lines (base64_text body) ++ t) one
 
-stanza_front : (args : List (List ℕ)) (body : List ℕ) (more : List Stanza) (mac : List ℕ)
-    → line (argument_line args) ++ (in_lines (base64_text body) ++ tail_text more mac) ≡ tail_text (record { args = args; body = body } ∷ more) mac
-stanza_front args body more mac =
-    let s : Stanza = record { args = args; body = body } in
-    sym (append_assoc (line (argument_line args)) (in_lines (base64_text body)) (tail_text more mac))
-    ∙ sym (append_assoc (stanza_text s) (flat_map stanza_text more) (line (end_line mac)))
+pub stanzas_pushed : (ss : List Stanza) (s : Stanza) → stanzas_text (ss ++ s ∷ []) ≡ stanzas_text ss ++ stanza_text s
+stanzas_pushed ss s =
+    ap (λ (t : List ℕ). line version ++ t)
+    (flat_map-append stanza_text ss (s ∷ []) ∙ ap (λ (t : List ℕ). flat_map stanza_text ss ++ t) (append-nil (stanza_text s)))
+    ∙ sym (append_assoc (line version) (flat_map stanza_text ss) (stanza_text s))
 
-leads_begun : (ss : List Stanza) (l : List ℕ) (next : Place) (o : Option (List (List ℕ))) → AllByRecursion IsStanza ss → arguments_of l ≡ o
-    → argument_line_result ss o ≡ Ok (Go next) → Leads (Between ss) l next
-leads_begun ss l next None known is e = absurd cc
-leads_begun ss l next (Some args) known is e =
-    let read = argument_line_read l args is in
-    subst (λ (q : Place). Leads (Between ss) l q) (same_go (InBody ss args []) next e) (
-      (known, read.1, read.2, (λ i. omega arith), refl),
-      λ h t f.
-          (record { args = args; body = f.0 } ∷ f.1, f.2, rw (read.0, f.3) (stanza_front args f.0 f.1 h.mac)),
+-- ---- what a line leads to
+
+-- what is reported of a line that is refused at a place
+abbrev pub Reports : Place → List ℕ → HeadKind → Type 0
+Reports Start l kind = kind ≡ cond (bytes_eq l armor || bytes_eq l (armor ++ 13 ∷ [])) Armored NotAge
+Reports (Between ss) l kind = RefusesBetween l kind
+Reports (InBody ss args body) l kind = kind ≡ BadBody
+
+-- a line is refused, or its bytes were added to those before the place, or to those of a header
+abbrev pub Leads : Place → List ℕ → Result Next HeadKind → Type 0
+Leads place l (Err kind) = Reports place l kind × (kind ≡ Memory → ⊥)
+Leads place l (Ok (Go next)) = (bytes_before next ≡ bytes_before place ++ line l) × IsPlace next
+Leads place l (Ok (Done h)) = (head_text h ≡ bytes_before place ++ line l) × IsHeader h
+
+true_false : (b : Bool) → b ≡ true → b ≡ false → ⊥
+true_false b t f = cc
+
+end_starts : (l : List ℕ) → IsEndLine l → starts_with nat_eq l (codes "---") ≡ true
+end_starts l has = starts_from l (codes "---") (32 ∷ base64_text has.0) has.3
+
+pub no_end : (l : List ℕ) → mac_of l ≡ None → IsEndLine l → ⊥
+no_end l is has = none-some has.0 (sym is ∙ ap mac_of has.3 ∙ read_end_line has.0 has.1 has.2)
+
+leads_ended : (ss : List Stanza) (l : List ℕ) (o : Option (List ℕ)) → AllByRecursion IsStanza ss → IsBytes l → starts_with nat_eq l (codes "---") ≡ true
+    → mac_of l ≡ o → Leads (Between ss) l (end_line_result ss o)
+leads_ended ss l None known fits starts is = (
+  record { no_stanza = λ has. absurd (no_end l is has); bad_end = λ _ _. refl; bad_stanza = λ f. absurd (true_false _ starts f) },
+  λ e. cc,
+)
+leads_ended [] l (Some mac) known fits starts is =
+    let read = end_line_read l mac fits is in (
+      record { no_stanza = λ _. refl; bad_end = λ _ not. absurd (not (mac, read.1, read.2, read.0)); bad_stanza = λ f. absurd (true_false _ starts f) },
+      λ e. cc,
+    )
+leads_ended (s ∷ ss) l (Some mac) known fits starts is =
+    let read = end_line_read l mac fits is in (
+      rw read.0 (sym (append_assoc (line version) (flat_map stanza_text (s ∷ ss)) (line (end_line mac)))),
+      record { some_stanza = omega arith; stanzas = known; mac_length = read.1; mac = read.2 },
     )
 
-leads_between : (ss : List Stanza) (l : List ℕ) (next : Place) → AllByRecursion IsStanza ss → step (Between ss) l ≡ Ok (Go next) → Leads (Between ss) l next
-unfolding step
-leads_between ss l next known e = elim (chosen (starts_with nat_eq l (codes "---")) (end_line_result ss (mac_of l)) (argument_line_result ss (arguments_of l))
-    (Ok (Go next)) e) [
-      | inl h ↦ absurd (not_ended ss (mac_of l) next h.1)
-      | inr h ↦ leads_begun ss l next (arguments_of l) known refl h.1
-    ]
+leads_begun : (ss : List Stanza) (l : List ℕ) (o : Option (List (List ℕ))) → AllByRecursion IsStanza ss → starts_with nat_eq l (codes "---") ≡ false
+    → arguments_of l ≡ o → Leads (Between ss) l (argument_line_result ss o)
+unfolding whole_lines
+leads_begun ss l None known other is = (
+  record { no_stanza = λ has. absurd (true_false _ (end_starts l has) other); bad_end = λ t _. absurd (true_false _ t other); bad_stanza = λ _. refl },
+  λ e. cc,
+)
+leads_begun ss l (Some args) known other is =
+    let read = argument_line_read l args is in (
+      rw (text-none, read.0) (ap (λ (t : List ℕ). stanzas_text ss ++ t) (append-nil (line (argument_line args)))),
+      (known, read.1, read.2, no_bytes, refl),
+    )
 
--- a body's text, cut after a whole line
-body_split : (l more rest : List ℕ) → l ≡ base64_text more → length l ≡ 64 → in_lines (base64_text (more ++ rest)) ≡ line l ++ in_lines (base64_text rest)
-body_split l more rest is long =
-    let size : (4 * length more + 2) / 3 ≡ 64 = sym (length-text more) ∙ ap length (sym is) ∙ long in
-    let whole : length more % 3 ≡ 0 = omega arith in
-    rw (text-append more rest whole, ← is) (in_lines-full l (base64_text rest) (omega arith))
-
-leads_continued : (ss : List Stanza) (args : List (List ℕ)) (body l : List ℕ) (next : Place) (full : Bool) (o : Option (List ℕ))
-    → IsPlace (InBody ss args body) → IsBytes l → length l ≤ 64 → eqb (length l) 64 ≡ full → base64_bytes l ≡ o
-    → body_line_result ss args body full o ≡ Ok (Go next) → Leads (InBody ss args body) l next
-leads_continued ss args body l next true None known fits le long is e = absurd cc
-leads_continued ss args body l next false None known fits le long is e = absurd cc
-leads_continued ss args body l next true (Some more) known fits le long is e =
+leads_body : (ss : List Stanza) (args : List (List ℕ)) (body l : List ℕ) (full : Bool) (o : Option (List ℕ)) → IsPlace (InBody ss args body) → IsBytes l
+    → length l ≤ 64 → eqb (length l) 64 ≡ full → base64_bytes l ≡ o → Leads (InBody ss args body) l (body_line_result ss args body full o)
+leads_body ss args body l true None known fits le long is = (refl, λ e. cc)
+leads_body ss args body l false None known fits le long is = (refl, λ e. cc)
+leads_body ss args body l true (Some more) known fits le long is =
     let read = text_of_decoded l more fits is in
     let len : length l ≡ 64 = eqb-true (length l) 64 long in
     let size : (4 * length more + 2) / 3 ≡ 64 = sym (length-text more) ∙ ap length (sym read.0) ∙ len in
-    let body_size : length body % 3 ≡ 0 = known.4 in
-    let whole : length (body ++ more) % 3 ≡ 0 = rw length-append (omega arith) in
-    subst (λ (q : Place). Leads (InBody ss args body) l q) (same_go (InBody ss args (body ++ more)) next e) (
-      (known.0, known.1, known.2, IsBytes-append body more known.3 read.1, whole),
-      λ h t f. (
-        more ++ f.0,
-        f.1,
-        rw (← append_assoc body more f.0) f.2,
-        rw (f.3, body_split l more f.0 read.0 len) (sym (append_assoc (line l) (in_lines (base64_text f.0)) (tail_text f.1 h.mac))),
-      ),
+    let whole : length body % 48 ≡ 0 = known.4 in
+    let joined = body_lines whole_lines whole_lines-full body more l whole read.0 (whole_line l len) in (
+      ap (λ (t : List ℕ). stanzas_text ss ++ (line (argument_line args) ++ t)) joined
+          ∙ regrouped (stanzas_text ss) (line (argument_line args)) (whole_lines (base64_text body)) (line l),
+      (known.0, known.1, known.2, IsBytes-append body more known.3 read.1, rw length-append (omega arith)),
     )
-leads_continued ss args body l next false (Some more) known fits le long is e =
+leads_body ss args body l false (Some more) known fits le long is =
     let read = text_of_decoded l more fits is in
     let ne = eqb-false (length l) 64 long in
-    let short : length (base64_text more) < 64 = rw (← read.0) (omega arith) in
     let s : Stanza = record { args = args; body = body ++ more } in
     let valid : IsStanza s = record { some_argument = known.1; arguments = known.2; body = IsBytes-append body more known.3 read.1 } in
-    subst (λ (q : Place). Leads (InBody ss args body) l q) (same_go (Between (ss ++ s ∷ [])) next e) (
+    let joined = body_lines in_lines in_lines-full body more l known.4 read.0 (in_lines-short l (omega arith)) in (
+      stanzas_pushed ss s ∙ ap (λ (t : List ℕ). stanzas_text ss ++ (line (argument_line args) ++ t)) joined
+          ∙ regrouped (stanzas_text ss) (line (argument_line args)) (whole_lines (base64_text body)) (line l),
       All-append IsStanza ss (s ∷ []) known.0 (valid, tt),
-      λ h t f.
-          (more, f.0, f.1 ∙ append_assoc ss (s ∷ []) f.0, rw (f.2, in_lines-short (base64_text more) short, read.0) refl),
     )
 
-leads_body : (ss : List Stanza) (args : List (List ℕ)) (body l : List ℕ) (next : Place) → IsPlace (InBody ss args body) → IsBytes l
-    → step (InBody ss args body) l ≡ Ok (Go next) → Leads (InBody ss args body) l next
+pub leads : (place : Place) (l : List ℕ) → IsPlace place → IsBytes l → Leads place l (step place l)
 unfolding step
-leads_body ss args body l next known fits e = elim
-    (chosen (ltb 64 (length l)) (Err BadBody) (body_line_result ss args body (eqb (length l) 64) (base64_bytes l)) (Ok (Go next)) e) [
-      | inl h ↦ absurd (cc (h.1))
-      | inr h ↦ leads_continued ss args body l next (eqb (length l) 64) (base64_bytes l) known fits (ltb-false 64 (length l) h.0) refl refl h.1
-    ]
+leads Start l known fits =
+    by_test (Leads Start l) (bytes_eq l version) _ _ (λ h. (rw ((bytes_eq-Decides l version).0 h) (append-nil (line version)), tt))
+    (λ h. by_test (λ (r : Result Next HeadKind). Leads Start l r) (bytes_eq l armor || bytes_eq l (armor ++ 13 ∷ [])) (Err Armored) (Err NotAge)
+    (λ g. (rw g refl, λ e. cc)) (λ g. (rw g refl, λ e. cc)))
+leads (Between ss) l known fits =
+    by_test (Leads (Between ss) l) (starts_with nat_eq l (codes "---")) (end_line_result ss (mac_of l)) (argument_line_result ss (arguments_of l))
+    (λ h. leads_ended ss l (mac_of l) known fits h refl) (λ h. leads_begun ss l (arguments_of l) known h refl)
+leads (InBody ss args body) l known fits =
+    by_test (Leads (InBody ss args body) l) (ltb 64 (length l)) (Err BadBody) (body_line_result ss args body (eqb (length l) 64) (base64_bytes l))
+    (λ h. (refl, λ e. cc))
+    (λ h. leads_body ss args body l (eqb (length l) 64) (base64_bytes l) known fits (ltb-false 64 (length l) h) refl refl)
 
-pub leads : (place next : Place) (l : List ℕ) → IsPlace place → IsBytes l → step place l ≡ Ok (Go next) → Leads place l next
-leads Start next l known fits e = leads_start l next e
-leads (Between ss) next l known fits e = leads_between ss l next known e
-leads (InBody ss args body) next l known fits e = leads_body ss args body l next known fits e
+-- ---- lines hold no end of line
 
--- ---- a line that ends the header
+visible_line : (w : List ℕ) → AllByRecursion IsVisible w → IsLine w
+visible_line [] seen = tt
+visible_line (c ∷ w) seen = (λ e. let low : 33 ≤ c = seen.0.0 in omega arith, visible_line w seen.1)
 
-abbrev Ends : Place → List ℕ → Header → Type 0
-Ends place l h = IsHeader h × Follows place h (line l)
+spaced_line : (args : List (List ℕ)) → AllByRecursion IsArgument args → IsLine (flat_map (λ a. 32 ∷ a) args)
+spaced_line [] valid = tt
+spaced_line (a ∷ args) valid = IsLine-append (32 ∷ a) (flat_map (λ b. 32 ∷ b) args) ((λ e. omega arith), visible_line a valid.0.1) (spaced_line args valid.1)
 
-abbrev done : Header → Result Next HeadKind
-done h = Ok (Done h)
+argument_line_line : (args : List (List ℕ)) → AllByRecursion IsArgument args → IsLine (argument_line args)
+argument_line_line args valid = IsLine-append (codes "->") (flat_map (λ b. 32 ∷ b) args) (line_from_test (codes "->") refl) (spaced_line args valid)
 
-same_done : (a b : Header) → done a ≡ done b → a ≡ b
-same_done a b e = cc
+end_line_line : (mac : List ℕ) → IsLine (end_line mac)
+end_line_line mac = IsLine-append (codes "--- ") (base64_text mac) (line_from_test (codes "--- ") refl) (text_line mac)
 
-ends_start : (l : List ℕ) (h : Header) → step Start l ≡ Ok (Done h) → ⊥
+-- ---- a walk over one line
+
+pub walk_text : (place : Place) (n : ℕ) (l w cs : List ℕ) → IsLine w
+    → walk place n l (line w ++ cs) ≡ after n cs (λ next. walk next (n + 1) [] cs) (step place (l ++ w))
+unfolding walk
+walk_text place n l [] cs lined = rw append-nil refl
+walk_text place n l (c ∷ w) cs lined =
+    rw (ne_eqb c 10 lined.0)
+    (walk_text place n (l ++ c ∷ []) w cs lined.1
+    ∙ ap (λ (x : List ℕ). after n cs (λ next. walk next (n + 1) [] cs) (step place x)) (append_assoc l (c ∷ []) w))
+
+pub walk_go : (place next : Place) (n : ℕ) (w cs : List ℕ) → IsLine w → step place w ≡ Ok (Go next) → walk place n [] (line w ++ cs) ≡ walk next (n + 1) [] cs
+walk_go place next n w cs lined leads = walk_text place n [] w cs lined ∙ ap (after n cs (λ q. walk q (n + 1) [] cs)) leads
+
+pub walk_done : (place : Place) (h : Header) (n : ℕ) (w cs : List ℕ) → IsLine w → step place w ≡ Ok (Done h) → walk place n [] (line w ++ cs) ≡ ready h cs
+walk_done place h n w cs lined leads = walk_text place n [] w cs lined ∙ ap (after n cs (λ q. walk q (n + 1) [] cs)) leads
+
+-- ---- where valid lines lead
+
+step_version : step Start version ≡ Ok (Go (Between []))
 unfolding step
-ends_start l h e = elim (chosen (bytes_eq l version) (Ok (Go (Between []))) _ (Ok (Done h)) e) [
-  | inl g ↦ cc (g.1)
-  | inr g ↦ elim (chosen (bytes_eq l armor || bytes_eq l (armor ++ 13 ∷ [])) (Err Armored) (Err NotAge) (Ok (Done h)) g.1) [
-    | inl k ↦ cc (k.1)
-    | inr k ↦ cc (k.1)
-  ]
+step_version = refl
+
+step_end : (ss : List Stanza) (mac : List ℕ) → 0 < length ss → length mac ≡ 32 → IsBytes mac → step (Between ss) (end_line mac)
+    ≡ Ok (Done (record { stanzas = ss; mac = mac }))
+unfolding step
+step_end [] mac some long fits = absurd (omega arith)
+step_end (s ∷ ss) mac some long fits = rw (read_end_line mac long fits) refl
+
+step_arguments : (ss : List Stanza) (args : List (List ℕ)) → 0 < length args → AllByRecursion IsArgument args → step (Between ss) (argument_line args)
+    ≡ Ok (Go (InBody ss args []))
+unfolding step
+step_arguments ss [] some valid = absurd (omega arith)
+step_arguments ss (a ∷ args) some valid = rw (read_argument_line (a ∷ args) some valid) refl
+
+step_full : (ss : List Stanza) (args : List (List ℕ)) (body l more : List ℕ) → length l ≡ 64 → base64_bytes l ≡ Some more
+    → step (InBody ss args body) l ≡ Ok (Go (InBody ss args (body ++ more)))
+unfolding step
+step_full ss args body l more long is = rw (le-ltb 64 (length l) (omega arith), eq-eqb (length l) 64 long, is) refl
+
+pub step_last : (ss : List Stanza) (args : List (List ℕ)) (body l more : List ℕ) → length l < 64 → base64_bytes l ≡ Some more
+    → step (InBody ss args body) l ≡ Ok (Go (Between (ss ++ (record { args = args; body = body ++ more }) ∷ [])))
+unfolding step
+step_last ss args body l more short is = rw (le-ltb 64 (length l) (omega arith), ne_eqb (length l) 64 (λ e. omega arith), is) refl
+
+-- ---- a walk over a header's text
+
+abbrev PassesBody : List Stanza → List (List ℕ) → List ℕ → List ℕ → ℕ → List ℕ → Type 0
+PassesBody ss args body rest n cs = (m : ℕ) × (walk (InBody ss args body) n [] (in_lines (base64_text rest) ++ cs)
+    ≡ walk (Between (ss ++ (record { args = args; body = body ++ rest }) ∷ [])) m [] cs)
+
+last_body : (ss : List Stanza) (args : List (List ℕ)) (body rest : List ℕ) (n : ℕ) (cs : List ℕ) → length rest < 48 → IsBytes rest
+    → PassesBody ss args body rest n cs
+last_body ss args body rest n cs lt fits =
+    let short : length (base64_text rest) < 64 = omega (arith, length-text rest) in
+    let leads_to = step_last ss args body (base64_text rest) rest short (decoded-text rest fits) in
+    (n + 1, rw (last_line rest lt) (walk_go (InBody ss args body) _ n (base64_text rest) cs (text_line rest) leads_to))
+
+body_walk : (fuel : ℕ) (ss : List Stanza) (args : List (List ℕ)) (body rest : List ℕ) (n : ℕ) (cs : List ℕ) → length rest ≤ fuel → IsBytes rest
+    → PassesBody ss args body rest n cs
+body_walk zero ss args body rest n cs le fits = last_body ss args body rest n cs (omega arith) fits
+body_walk (suc fuel) ss args body rest n cs le fits = elim (cases_lt (length rest) 48) [
+  | inl lt ↦ last_body ss args body rest n cs lt fits
+  | inr ge ↦
+      let a : List ℕ = take 48 rest in
+      let b : List ℕ = drop 48 rest in
+      let long : length (base64_text (take 48 rest)) ≡ 64 = omega (arith, length-text (take 48 rest), length-take 48 rest) in
+      let leads_to = step_full ss args body (base64_text a) a long (decoded-text a (IsBytes-take 48 rest fits)) in
+      let one = walk_go (InBody ss args body) (InBody ss args (body ++ a)) n (base64_text a) (in_lines (base64_text b) ++ cs) (text_line a) leads_to in
+      let on = body_walk fuel ss args (body ++ a) b (n + 1) cs (omega (arith, length-drop 48 rest)) (IsBytes-drop 48 rest fits) in
+      let joined : (body ++ a) ++ b ≡ body ++ rest = append_assoc body a b ∙ ap (λ (t : List ℕ). body ++ t) (take-append-drop 48 rest) in (
+        on.0,
+        rw (full_line rest ge, append_assoc (line (base64_text (take 48 rest))))
+            (one ∙ on.1 ∙ ap (λ (t : List ℕ). walk (Between (ss ++ (record { args = args; body = t }) ∷ [])) on.0 [] cs) joined),
+      )
 ]
 
-not_begun : (ss : List Stanza) (o : Option (List (List ℕ))) (h : Header) → argument_line_result ss o ≡ Ok (Done h) → ⊥
-not_begun ss None h e = cc
-not_begun ss (Some args) h e = cc
+three_parts : (a b c r : List ℕ) → ((a ++ b) ++ c) ++ r ≡ a ++ (b ++ (c ++ r))
+three_parts a b c r = simp append_assoc
 
-ends_ended : (ss : List Stanza) (l : List ℕ) (h : Header) (o : Option (List ℕ)) → AllByRecursion IsStanza ss → IsBytes l → mac_of l ≡ o
-    → end_line_result ss o ≡ Ok (Done h) → Ends (Between ss) l h
-ends_ended ss l h None known fits is e = absurd cc
-ends_ended [] l h (Some mac) known fits is e = absurd cc
-ends_ended (s ∷ ss) l h (Some mac) known fits is e =
-    let read = end_line_read l mac fits is in
-    let made : Header = record { stanzas = s ∷ ss; mac = mac } in
-    subst (λ (x : Header). Ends (Between (s ∷ ss)) l x) (same_done made h e) (
-      record { some_stanza = omega arith; stanzas = known; mac_length = read.1; mac = read.2 },
-      ([], sym (append-nil (s ∷ ss)), ap line read.0),
+abbrev PassesStanzas : List Stanza → List Stanza → ℕ → List ℕ → Type 0
+PassesStanzas more ss n rest = (m : ℕ) × (walk (Between ss) n [] (flat_map stanza_text more ++ rest) ≡ walk (Between (ss ++ more)) m [] rest)
+
+stanzas_reach : (more ss : List Stanza) (n : ℕ) (rest : List ℕ) → AllByRecursion IsStanza more → PassesStanzas more ss n rest
+stanzas_reach [] ss n rest valid = (n, rw append-nil refl)
+stanzas_reach (s ∷ more) ss n rest valid =
+    let apart = three_parts (line (argument_line s.args)) (in_lines (base64_text s.body)) (flat_map stanza_text more) rest in
+    let one = walk_go (Between ss) (InBody ss s.args []) n (argument_line s.args) (in_lines (base64_text s.body) ++ (flat_map stanza_text more ++ rest))
+    (argument_line_line s.args valid.0.arguments) (step_arguments ss s.args valid.0.some_argument valid.0.arguments) in
+    let two = body_walk (length s.body) ss s.args [] s.body (n + 1) (flat_map stanza_text more ++ rest) (omega arith) valid.0.body in
+    let three = stanzas_reach more (ss ++ s ∷ []) two.0 rest valid.1 in (
+      three.0,
+      ap (walk (Between ss) n []) apart ∙ one ∙ two.1 ∙ three.1 ∙ ap (λ (x : List Stanza). walk (Between x) three.0 [] rest)
+          (append_assoc ss (s ∷ []) more),
     )
 
-ends_between : (ss : List Stanza) (l : List ℕ) (h : Header) → AllByRecursion IsStanza ss → IsBytes l → step (Between ss) l ≡ Ok (Done h) → Ends (Between ss) l h
-unfolding step
-ends_between ss l h known fits e = elim (chosen (starts_with nat_eq l (codes "---")) (end_line_result ss (mac_of l)) (argument_line_result ss (arguments_of l))
-    (Ok (Done h)) e) [
-      | inl g ↦ ends_ended ss l h (mac_of l) known fits refl g.1
-      | inr g ↦ absurd (not_begun ss (arguments_of l) h g.1)
-    ]
+-- the version line and whole stanzas lead between stanzas
+pub stanzas_walk : (ss : List Stanza) (rest : List ℕ) → AllByRecursion IsStanza ss
+    → (m : ℕ) × (walk Start 1 [] (stanzas_text ss ++ rest) ≡ walk (Between ss) m [] rest)
+stanzas_walk ss rest valid =
+    let reach = stanzas_reach ss [] 2 rest valid in (
+      reach.0,
+      ap (walk Start 1 []) (append_assoc (line version) (flat_map stanza_text ss) rest)
+          ∙ walk_go Start (Between []) 1 version (flat_map stanza_text ss ++ rest) (line_from_test version refl) step_version ∙ reach.1,
+    )
 
-not_continued : (ss : List Stanza) (args : List (List ℕ)) (body : List ℕ) (h : Header) (full : Bool) (o : Option (List ℕ))
-    → body_line_result ss args body full o ≡ Ok (Done h) → ⊥
-not_continued ss args body h true None e = cc
-not_continued ss args body h false None e = cc
-not_continued ss args body h true (Some more) e = cc
-not_continued ss args body h false (Some more) e = cc
+-- a walk over a header's text finds the header, whatever follows
+pub text_walk : (h : Header) (rest : List ℕ) → IsHeader h → walk Start 1 [] (head_text h ++ rest) ≡ ready h rest
+text_walk h rest valid =
+    let reach = stanzas_walk h.stanzas (line (end_line h.mac) ++ rest) valid.stanzas in
+    ap (walk Start 1 []) (two_parts (line version) (flat_map stanza_text h.stanzas) (line (end_line h.mac)) rest) ∙ reach.1
+    ∙ walk_done (Between h.stanzas) h reach.0 (end_line h.mac) rest (end_line_line h.mac)
+    (step_end h.stanzas h.mac valid.some_stanza valid.mac_length valid.mac)
 
-ends_body : (ss : List Stanza) (args : List (List ℕ)) (body l : List ℕ) (h : Header) → step (InBody ss args body) l ≡ Ok (Done h) → ⊥
-unfolding step
-ends_body ss args body l h e = elim (chosen (ltb 64 (length l)) (Err BadBody) (body_line_result ss args body (eqb (length l) 64) (base64_bytes l))
-    (Ok (Done h)) e) [
-      | inl g ↦ cc (g.1)
-      | inr g ↦ not_continued ss args body h (eqb (length l) 64) (base64_bytes l) g.1
-    ]
+-- ---- laws of headers' texts
 
-ends : (place : Place) (l : List ℕ) (h : Header) → IsPlace place → IsBytes l → step place l ≡ Ok (Done h) → Ends place l h
-ends Start l h known fits e = absurd (ends_start l h e)
-ends (Between ss) l h known fits e = ends_between ss l h known fits e
-ends (InBody ss args body) l h known fits e = absurd (ends_body ss args body l h e)
+same_header : (h k : Header) (x y : List ℕ) → ready h x ≡ ready k y → h ≡ k
+same_header h k x y e = cc
 
--- ---- what a walk finds
+pub one_header : (h k : Header) (a b x y : List ℕ) → Spells h a → Spells k b → a ++ x ≡ b ++ y → (h ≡ k) × (a ≡ b)
+one_header h k a b x y p q e =
+    let left : walk Start 1 [] (a ++ x) ≡ ready h x = rw p.bytes_are (text_walk h x p.valid) in
+    let right : walk Start 1 [] (b ++ y) ≡ ready k y = rw q.bytes_are (text_walk k y q.valid) in
+    let same = same_header h k x y (sym left ∙ ap (walk Start 1 []) e ∙ right) in
+    (same, p.bytes_are ∙ ap head_text same ∙ sym q.bytes_are)
 
-pub record Found (place : Place) (l bs : List ℕ) (h : Header) (rest : List ℕ) : Type 0 where
-  pub valid : IsHeader h
-  pub t : List ℕ
-  pub split : l ++ bs ≡ t ++ rest
-  pub follows : Follows place h t
-
-pub parts_of_ready : (h k : Header) (x y : List ℕ) → ready h x ≡ ready k y → (h ≡ k) × (x ≡ y)
-parts_of_ready h k x y e = (cc, cc)
-
-ended_line : (l : List ℕ) (c : ℕ) (cs rest : List ℕ) → c ≡ 10 → cs ≡ rest → l ++ c ∷ cs ≡ line l ++ rest
-ended_line l c cs rest lf e = rw (lf, e) (sym (append_assoc l (10 ∷ []) rest))
-
-pub joined_line : (l : List ℕ) (c : ℕ) (cs t rest : List ℕ) → c ≡ 10 → cs ≡ t ++ rest → l ++ c ∷ cs ≡ (line l ++ t) ++ rest
-joined_line l c cs t rest lf e = ended_line l c cs (t ++ rest) lf e ∙ sym (append_assoc (line l) t rest)
-
-found_end : (place : Place) (n : ℕ) (l : List ℕ) (c : ℕ) (cs : List ℕ) (h : Header) (rest : List ℕ) (read : Result Next HeadKind) → IsPlace place
-    → IsBytes (l ++ c ∷ cs)
-    → ((next : Place) → IsPlace next → IsBytes cs → walk next (n + 1) [] cs ≡ ready h rest → Found next [] cs h rest)
-    → c ≡ 10 → step place l ≡ read → after n cs (λ next. walk next (n + 1) [] cs) read ≡ ready h rest → Found place l (c ∷ cs) h rest
-found_end place n l c cs h rest (Err kind) known fits on lf is e = absurd cc
-found_end place n l c cs h rest (Ok (Done k)) known fits on lf is e =
-    let parts = parts_of_ready k h cs rest e in
-    let made = ends place l k known (front_bytes l (c ∷ cs) fits) is in
-    record {
-      valid = rw (← parts.0) made.0;
-      t = line l;
-      split = ended_line l c cs rest lf parts.1;
-      follows = rw (← parts.0) made.1;
-    }
-found_end place n l c cs h rest (Ok (Go next)) known fits on lf is e =
-    let led = leads place next l known (front_bytes l (c ∷ cs) fits) is in
-    let deeper = on next led.0 (IsBytes-tail (c ∷ []) cs (IsBytes-tail l (c ∷ cs) fits)) e in
-    record {
-      valid = deeper.valid;
-      t = line l ++ deeper.t;
-      split = joined_line l c cs deeper.t rest lf deeper.split;
-      follows = led.1 h deeper.t deeper.follows;
-    }
-
-pub found : (place : Place) (n : ℕ) (l bs : List ℕ) (h : Header) (rest : List ℕ) → IsPlace place → IsBytes (l ++ bs)
-    → walk place n l bs ≡ ready h rest → Found place l bs h rest
-unfolding walk
-found place n l [] h rest known fits e = absurd cc
-found place n l (c ∷ cs) h rest known fits e =
-    elim (chosen (eqb c 10) (after n cs (λ next. walk next (n + 1) [] cs) (step place l)) (walk place n (l ++ c ∷ []) cs) (ready h rest) e) [
-      | inl g ↦ found_end place n l c cs h rest (step place l) known fits (λ next known' fits' e'. found next (n + 1) [] cs h rest known' fits' e')
-          (eqb-true c 10 g.0) refl g.1
-      | inr g ↦
-          let deeper = found place n (l ++ c ∷ []) cs h rest known (rw append_assoc fits) g.1 in
-          record { valid = deeper.valid; t = deeper.t; split = sym (append_assoc l (c ∷ []) cs) ∙ deeper.split; follows = deeper.follows }
-    ]
+pub mac_text_is_front : (h : Header) (bytes : List ℕ) → HeadText h bytes → (last : List ℕ) × (length last ≡ 45) × (bytes ≡ mac_text h ++ last)
+mac_text_is_front h bytes is =
+    let last : List ℕ = 32 ∷ (base64_text h.mac ++ 10 ∷ []) in
+    let long = is.spells.valid.mac_length in (
+      last,
+      omega (arith, length-append (base64_text h.mac) (10 ∷ []), length-text h.mac),
+      is.spells.bytes_are ∙ regrouped (line version) (flat_map stanza_text h.stanzas) (codes "---") last,
+    )

@@ -15,7 +15,7 @@ use Rattle.base64.proofs.EngineFacts.{decode_of-encode_of, decode_of_strict, enc
 use Rattle.base64.proofs.RoundTrip.{length-encode_symbols}
 use Rattle.age_stanza.specs.Text.{base64_text}
 use Rattle.age_stanza.specs.Parsing.{IsLine}
-use Rattle.age_stanza.specs.Laws.{character}
+use Rattle.age_stanza.specs.Laws.{character, IsBase64}
 use Rattle.age_stanza.specs.inner.LineMachine.{base64_bytes, only_bytes}
 
 pub bytes_pass : (b : List ℕ) → IsBytes b → list_all (λ x. ltb x 256) b ≡ true
@@ -50,6 +50,9 @@ line_refused s (Err e) h = not_decoded s e h
 
 -- ---- lists of bytes
 
+pub no_bytes : IsBytes []
+no_bytes = bytes_from_pass [] refl
+
 pub IsBytes-tail : (a b : List ℕ) → IsBytes (a ++ b) → IsBytes b
 IsBytes-tail [] b h = h
 IsBytes-tail (x ∷ a) b h = IsBytes-tail a b (λ i. h (suc i))
@@ -78,7 +81,7 @@ pub text-none : base64_text [] ≡ []
 unfolding encode_symbols
 text-none = text-symbols []
 
-pub text-one : (a : ℕ) → base64_text (a ∷ []) ≡ character (a / 4) ∷ character (a % 4 * 16) ∷ []
+text-one : (a : ℕ) → base64_text (a ∷ []) ≡ character (a / 4) ∷ character (a % 4 * 16) ∷ []
 unfolding encode_symbols
 text-one a = text-symbols (a ∷ [])
 
@@ -94,6 +97,9 @@ text-three a b c rest =
     text-symbols (a ∷ b ∷ c ∷ rest)
     ∙ ap (λ (more : List ℕ). character (a / 4) ∷ character (a % 4 * 16 + b / 16) ∷ character (b % 16 * 4 + c / 64) ∷ character (c % 64) ∷ more)
     (sym (text-symbols rest))
+
+pub text_is_base64 : IsBase64
+text_is_base64 = record { none = text-none; one = text-one; two = text-two; three = text-three }
 
 pub length-text : (m : List ℕ) → length (base64_text m) ≡ (4 * length m + 2) / 3
 length-text m = ap length (text-symbols m) ∙ length-encode_symbols the_symbols m
@@ -150,10 +156,3 @@ symbols_line t (a ∷ b ∷ c ∷ rest) h = (h _, (h _, (h _, (h _, symbols_line
 
 pub text_line : (m : List ℕ) → IsLine (base64_text m)
 text_line m = rw text-symbols (symbols_line the_symbols m (λ i. at_line the_symbols i (line_from_test the_symbols refl)))
-
-no_symbols : encode_symbols the_symbols [] ≡ []
-unfolding encode_symbols
-no_symbols = refl
-
-pub text-nil : base64_text [] ≡ []
-text-nil = text-symbols [] ∙ no_symbols

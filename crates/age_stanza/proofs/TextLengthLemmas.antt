@@ -5,7 +5,7 @@ use Rattle.std.specs.List.{flat_map, AllByRecursion}
 use Rattle.std.specs.Option.{SomeIff}
 use Rattle.std.specs.Int.{div_ceil}
 use Rattle.std.proofs.lemmas.Bool.{cases_lt}
-use Rattle.std.proofs.lemmas.List.{length-append, drop_more, drop_all}
+use Rattle.std.proofs.lemmas.List.{length-append, drop_more}
 use Rattle.base64.specs.GeneralPurpose.{IsBytes}
 use Rattle.age_stanza.specs.declared.header.Stanza.{Stanza}
 use Rattle.age_stanza.specs.declared.header.Header.{Header}
@@ -22,14 +22,13 @@ length-body body =
     omega arith
 
 pub length-head : (h : Header) → length h.mac ≡ 32 → length (head_text h) ≡ length (flat_map stanza_text h.stanzas) + 70
-length-head h long =
-    omega (
-      arith,
-      length-append (line version) (flat_map stanza_text h.stanzas ++ line (end_line h.mac)),
-      length-append (flat_map stanza_text h.stanzas) (line (end_line h.mac)),
-      length-append (end_line h.mac) (10 ∷ []),
-      length-text h.mac,
-    )
+length-head h long = omega (
+  arith,
+  length-append (line version) (flat_map stanza_text h.stanzas ++ line (end_line h.mac)),
+  length-append (flat_map stanza_text h.stanzas) (line (end_line h.mac)),
+  length-append (end_line h.mac) (10 ∷ []),
+  length-text h.mac,
+)
 
 -- what a difference leaves
 pub leaves : (r : Option ℕ) (size n room : ℕ) → SomeIff r (size ≤ room) (room - size) → n ≡ size → Leaves room n r
@@ -52,10 +51,6 @@ stanza_within ss i s lt is =
     let first : drop i ss ≡ s ∷ drop (i + 1) ss = drop_more ss i s lt ∙ ap (λ (x : Stanza). x ∷ drop (i + 1) ss) (sym is) in
     let size = ap (λ (xs : List Stanza). length (flat_map stanza_text xs)) first in
     omega (arith, size, length-append (stanza_text s) (flat_map stanza_text (drop (i + 1) ss)))
-
--- no stanza is left
-pub none_left : (ss : List Stanza) (i : ℕ) → length ss ≤ i → length (flat_map stanza_text (drop i ss)) ≡ 0
-none_left ss i le = ap (λ (xs : List Stanza). length (flat_map stanza_text xs)) (drop_all i ss le)
 
 valid_stanzas : (ss : List Stanza) → AllByRecursion HasArguments ss → AllByRecursion (λ s. IsBytes s.body) ss → AllByRecursion IsStanza ss
 valid_stanzas [] args bodies = tt

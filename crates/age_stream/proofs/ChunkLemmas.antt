@@ -1,12 +1,12 @@
 -- Facts about the chunks of a text.
 use Rattle.std.proofs.Common.{inl, inr, ◌≡◌, ℕ, suc, ◌<◌, ◌≤◌, ◌+◌, ◌*◌, ◌-◌, ◌/◌, ap, ◌∙◌, List, [], ◌∷◌, ◌++◌, length, get_or, true, false, arith}
 use Rattle.std.specs.Simd.{first_chunks}
-use Rattle.std.proofs.lemmas.List.{get_or-map, length-map, get_or_append_left, length_push, get_or_push}
+use Rattle.std.proofs.lemmas.List.{get_or-map, length-map, get_or_append_left, length_push, get_or_push, length-drop}
 use Rattle.std.proofs.lemmas.List.FromFn.{length-enumerate_from, get_or-enumerate_from}
-use Rattle.std.proofs.lemmas.List.{length-drop}
 use Rattle.std.specs.List.{enumerate_from}
 use Rattle.std.proofs.lemmas.Bool.{cases_lt}
 use Rattle.std.proofs.Math.Nat.{le-div_iff_mul-le}
+use Rattle.age_chunk.specs.ChunkBoxes.{Seals}
 use Rattle.age_chunk.specs.Payload.{last_index, last_chunk, chunk_count, pair, sealed_before_last, sealed}
 use Rattle.age_chunk.proofs.FirstChunkLemmas.{length-first_chunks}
 
@@ -29,7 +29,7 @@ enumerate_from_more {X} k (y ∷ ys) x =
     ap (λ (rest : List (ℕ × X)). (k, y) ∷ rest) (enumerate_from_more (k + 1) ys x ∙ ap (λ (i : ℕ). enumerate_from (k + 1) ys ++ (i, x) ∷ []) e)
 
 -- the pairs of a payload, by their numbers
-module _ (sealing : List ℕ → List ℕ → List ℕ) (n : ℕ) (text : List ℕ) where
+module _ (sealing : Seals) (n : ℕ) (text : List ℕ) where
   abbrev q : ℕ
   q = last_index n text
 

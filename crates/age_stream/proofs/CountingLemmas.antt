@@ -1,5 +1,5 @@
 -- How many chunks were released, by the length of the text.
-use Rattle.std.proofs.Common.{◌≡◌, ℕ, suc, ◌<◌, ◌≤◌, ◌+◌, ◌*◌, ◌-◌, ◌/◌, refl, ap, sym, ◌∙◌, List, [], ◌∷◌, ◌++◌, length, take, drop, Bool, true, false, arith}
+use Rattle.std.proofs.Common.{◌≡◌, ℕ, suc, ◌<◌, ◌≤◌, ◌+◌, ◌*◌, ◌-◌, ◌/◌, refl, ap, sym, ◌∙◌, List, [], ◌∷◌, ◌++◌, length, take, drop, false, arith}
 use Rattle.std.specs.Prelude.{Option, Some, None}
 use Rattle.std.specs.Simd.{first_chunks}
 use Rattle.std.specs.List.{flat_map, AllByRecursion}
@@ -7,7 +7,7 @@ use Rattle.std.proofs.lemmas.List.{length-append, append_assoc, take_at, drop_at
 use Rattle.std.proofs.lemmas.Grind.{flat_map-append}
 use Rattle.std.proofs.Math.Nat.{le-div_iff_mul-le}
 use Rattle.age_chunk.specs.Payload.{nonce_bytes}
-use Rattle.age_chunk.specs.ChunkBoxes.{IsChunkBox, tag_length}
+use Rattle.age_chunk.specs.ChunkBoxes.{IsChunkBox, tag_length, Seals, OpensBlock}
 use Rattle.age_stream.specs.Segment.{Segment, Outcome, outcome, front_texts, text_then, text_before_last, whole_blocks, released}
 use Rattle.age_stream.specs.Laws.{IsCounted, counted_chunks}
 use Rattle.age_chunk.proofs.NonceLemmas.{nonce_bytes-length}
@@ -39,15 +39,14 @@ flat_full n (t ∷ ts) h =
     omega (arith, length-append t (flat_map (λ (t : List ℕ). t) ts), h.0, flat_full n ts h.1, e)
 
 -- the chunks that a segment counts are the texts of the blocks in front
-pub counted_are : (opening : List ℕ → List ℕ → Option (List ℕ)) (n : ℕ) (s : Segment)
-    → counted_chunks opening n s ≡ front_texts opening s.start (whole_blocks n s.bytes)
+pub counted_are : (opening : OpensBlock) (n : ℕ) (s : Segment) → counted_chunks opening n s ≡ front_texts opening s.start (whole_blocks n s.bytes)
 counted_are opening n s =
     let b = stands_at opening n s in
     let texts = front_texts opening s.start (whole_blocks n s.bytes) in
     let count = (outcome opening n s).index - s.start in
     ap (take count) b.texts_are ∙ take_at texts b.more count (omega (arith, b.index))
 
-module _ (sealing : List ℕ → List ℕ → List ℕ) (opening : List ℕ → List ℕ → Option (List ℕ)) (valid : IsChunkBox sealing opening) (n : ℕ) where
+module _ (sealing : Seals) (opening : OpensBlock) (valid : IsChunkBox sealing opening) (n : ℕ) where
   full_then : (o : Option (List ℕ)) (rest : List (List ℕ)) → ((t : List ℕ) → o ≡ Some t → length t ≡ n)
       → AllByRecursion (λ (t : List ℕ). length t ≡ n) rest → AllByRecursion (λ (t : List ℕ). length t ≡ n) (text_then opening o rest)
   full_then None rest f h = tt

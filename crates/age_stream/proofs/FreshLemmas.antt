@@ -1,25 +1,25 @@
 -- A segment of no bytes.
-use Rattle.std.proofs.Common.{◌≡◌, ℕ, ◌<◌, ◌+◌, ◌*◌, ◌/◌, ap, ◌∙◌, List, [], length, drop, false, arith}
+use Rattle.std.proofs.Common.{◌≡◌, ℕ, ◌<◌, ◌+◌, ◌*◌, ◌/◌, refl, ap, sym, ◌∙◌, List, [], length, arith}
 use Rattle.std.specs.Simd.{first_chunks}
-use Rattle.std.specs.Prelude.{Option}
 use Rattle.std.proofs.lemmas.Nat.{div-mul-add}
 use Rattle.std.proofs.Math.Seq.{drop-nil}
-use Rattle.age_stream.specs.Segment.{outcome, rest_bytes, fresh}
+use Rattle.age_chunk.specs.ChunkBoxes.{OpensBlock, tag_length}
+use Rattle.age_stream.specs.Segment.{outcome, front_texts, whole_blocks, rest_bytes, fresh}
 use Rattle.age_stream.specs.declared.step.Status.TheVariants.{Open}
-use Rattle.age_stream.proofs.TableLemmas.{outcome_of, by_blocks}
-use Rattle.age_chunk.specs.ChunkBoxes.{tag_length}
+use Rattle.age_stream.proofs.GoingLemmas.{going_outcome}
 
-no_count : (n : ℕ) → 0 / (n + tag_length) ≡ 0
-no_count n =
+no_blocks : (n : ℕ) → whole_blocks n [] ≡ []
+no_blocks n =
     let e : 0 ≡ 0 * (n + tag_length) + 0 = omega arith in
     let pos : 0 < n + tag_length = omega arith in
-    ap (λ (k : ℕ). k / (n + tag_length)) e ∙ div-mul-add 0 (n + tag_length) 0 pos
+    ap (λ (c : ℕ). first_chunks (n + tag_length) c []) (ap (λ (k : ℕ). k / (n + tag_length)) e ∙ div-mul-add 0 (n + tag_length) 0 pos)
 
-pub fresh_outcome : (opening : List ℕ → List ℕ → Option (List ℕ)) (n k : ℕ) → outcome opening n (fresh k) ≡ record { texts = []; index = k; status = Open }
+pub fresh_outcome : (opening : OpensBlock) (n k : ℕ) → outcome opening n (fresh k) ≡ record { texts = []; index = k; status = Open }
 fresh_outcome opening n k =
+    let none = no_blocks n in
     let z : k + 0 ≡ k = omega arith in
-    by_blocks opening n (fresh k)
-    ∙ (ap (λ (c : ℕ). outcome_of opening n k (first_chunks (n + tag_length) c []) 0 (drop (c * (n + tag_length)) []) false false) (no_count n)
+    going_outcome opening n (fresh k) (record { unended = refl; all = ap (λ (bs : List (List ℕ)). length (front_texts opening k bs)) none ∙ sym (ap length none) })
+    ∙ (ap (λ (bs : List (List ℕ)). record { texts = front_texts opening k bs; index = k + length (front_texts opening k bs); status = Open }) none
     ∙ ap (λ (i : ℕ). record { texts = []; index = i; status = Open }) z)
 
 pub fresh_rest : (n k : ℕ) → rest_bytes n (fresh k).bytes ≡ []

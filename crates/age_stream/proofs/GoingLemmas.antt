@@ -1,25 +1,22 @@
 -- How an outcome goes on when more bytes come.
-use Rattle.std.proofs.Common.{inl, inr, ◌≡◌, ℕ, zero, suc, ◌<◌, ◌≤◌, ◌+◌, ◌*◌, ◌-◌, ◌/◌, refl, ap, sym, subst, ◌∙◌, List, [], ◌∷◌, ◌++◌, length, take, drop}
-use Rattle.std.proofs.Common.{get_or, Bool, true, false, arith}
-use Rattle.std.specs.Prelude.{Option, Some, None, cond, nat_lt, ◌||◌, ◌&&◌, ◌==◌, slice_get, ◌⊎◌}
+use Rattle.std.proofs.Common.{inl, inr, ◌≡◌, ℕ, zero, suc, ◌<◌, ◌≤◌, ◌+◌, ◌*◌, ◌-◌, ◌/◌, refl, ap, sym, ◌∙◌, List, [], ◌∷◌, ◌++◌, length, take, drop, Bool}
+use Rattle.std.proofs.Common.{true, false, arith}
+use Rattle.std.specs.Prelude.{Option, Some, None, cond, nat_lt, not, ◌||◌, ◌&&◌, ◌==◌}
 use Rattle.std.specs.Simd.{first_chunks}
-use Rattle.std.proofs.lemmas.List.{length-append, length-drop, drop-append-le, drop-drop, drop_all, take_all, append-nil}
-use Rattle.std.proofs.lemmas.Bool.{cases_lt, lt-ltb, le-ltb}
+use Rattle.std.proofs.lemmas.List.{length-append, length-drop, drop-append-le, take-append-le, drop-drop, drop_all, take_all, append-nil, append_assoc}
+use Rattle.std.proofs.lemmas.Bool.{cases_lt, lt-ltb, le-ltb, eq-eqb, and_parts, not-true, both_ways, false_from_ne_true}
 use Rattle.std.proofs.lemmas.Nat.{div-mul-add}
+use Rattle.std.proofs.Math.Bool.{or-true, or-false, or_assoc}
 use Rattle.std.proofs.Math.Nat.{div-mul-le_self, le-div_iff_mul-le}
-use Rattle.age_chunk.specs.Payload.{nonce_bytes}
-use Rattle.age_stream.specs.Segment.{Segment, Outcome, outcome, front_texts, text_then, text_before_last, whole_blocks, rest_bytes, failed, with_piece}
-use Rattle.age_stream.specs.Segment.{with_end}
-use Rattle.age_stream.specs.inner.OpenerSteps.{after_front, one_block, status_after, status_ended, at_block, final_block, after_last}
-use Rattle.std.proofs.Math.Bool.{or-true, or-false}
-use Rattle.age_stream.specs.declared.step.Status.{Status}
+use Rattle.age_chunk.specs.ChunkBoxes.{OpensBlock, tag_length}
+use Rattle.age_chunk.proofs.FirstChunkLemmas.{first_chunks_more, first_chunks-append}
+use Rattle.age_stream.specs.Segment.{Segment, Outcome, Frontier, outcome, stop, verdict, is_waiting, block_at, front_texts, text_then, text_before_last}
+use Rattle.age_stream.specs.Segment.{whole_blocks, rest_bytes, with_piece, with_end}
+use Rattle.age_stream.specs.inner.OpenerSteps.{after_front, one_block, final_block}
 use Rattle.age_stream.specs.declared.step.Status.TheVariants.{Open}
-use Rattle.age_chunk.specs.declared.fault.StreamKind.TheVariants.{ChunkDamaged, ChunkCut, EmptyLast, Truncated, TooManyChunks}
-use Rattle.age_chunk.proofs.FirstChunkLemmas.{length-first_chunks, first_chunks_more, first_chunks-append}
-use Rattle.std.proofs.lemmas.Option.{slice_get-get_or, slice_get_past}
-use Rattle.age_stream.proofs.SegmentLemmas.{by_test}
-use Rattle.age_stream.proofs.TableLemmas.{outcome_of, verdict_at, by_blocks, length-front_texts}
-use Rattle.age_chunk.specs.ChunkBoxes.{tag_length}
+use Rattle.age_stream.proofs.TableLemmas.{IsAfterBytes, IsAfterEnd, beside, block_full, by_lines, frontier, last_shut, length-whole_blocks, line_waiting}
+use Rattle.age_stream.proofs.TableLemmas.{not_whole, outcome_is, prepend, rest_is, rest_short, texts_fit, verdict-bytes, verdict-end, verdict-prepend}
+use Rattle.age_stream.proofs.TableLemmas.{whole_within}
 
 pub first_chunks-add : (z q d : ℕ) (xs : List ℕ) → first_chunks z (q + d) xs ≡ first_chunks z q xs ++ first_chunks z d (drop (q * z) xs)
 first_chunks-add z zero d xs =
@@ -112,18 +109,7 @@ module _ (n : ℕ) (bytes more : List ℕ) where
       ap (λ (k : ℕ). drop (k * z) (bytes ++ more)) (whole_count h)
       ∙ drop_all (suc q * z) (bytes ++ more) (omega (arith, whole_len h, ap (λ (k : ℕ). k * z) s))
 
-slice_get-append_left : {X : Type 0} (xs ys : List X) (k : ℕ) → k < length xs → slice_get (xs ++ ys) k ≡ slice_get xs k
-slice_get-append_left [] ys k h = absurd (omega arith)
-slice_get-append_left (x ∷ xs) ys zero h = refl
-slice_get-append_left (x ∷ xs) ys (suc k) h = slice_get-append_left xs ys k (omega arith)
-
-pub slice_get_end : {X : Type 0} (xs : List X) (y : X) (k : ℕ) → k ≡ length xs → slice_get (xs ++ y ∷ []) k ≡ Some y
-slice_get_end [] y zero h = refl
-slice_get_end [] y (suc k) h = absurd (omega arith)
-slice_get_end (x ∷ xs) y zero h = absurd (omega arith)
-slice_get_end (x ∷ xs) y (suc k) h = slice_get_end xs y k (omega arith)
-
-module _ (opening : List ℕ → List ℕ → Option (List ℕ)) where
+module _ (opening : OpensBlock) where
   -- if all these blocks open as before the last, the next ones go on from there
   on_step : (o : Option (List ℕ)) (xs ys : List (List ℕ)) (i : ℕ) → (length (front_texts opening (i + 1) xs) ≡ length xs
       → front_texts opening (i + 1) (xs ++ ys) ≡ front_texts opening (i + 1) xs ++ front_texts opening (i + 1 + length xs) ys)
@@ -153,10 +139,6 @@ module _ (opening : List ℕ → List ℕ → Option (List ℕ)) where
   front_stays [] ys i h = absurd (omega arith)
   front_stays (x ∷ xs) ys i h = stays_step (text_before_last opening i x) xs ys i (λ g. front_stays xs ys (i + 1) g) h
 
-  -- the texts before, and then an outcome's
-  abbrev pub prepend : List (List ℕ) → Outcome → Outcome
-  prepend texts o = record { texts = texts ++ o.texts; index = o.index; status = o.status }
-
 pub unended_piece : (s : Segment) (p : List ℕ) → s.ended ≡ false → with_piece s p ≡ record {
   start = s.start;
   bytes = s.bytes ++ p;
@@ -167,7 +149,7 @@ unended_piece s p is =
     ap (λ (t : Bool). cond t (record { start = s.start; bytes = s.bytes; ended = true; late = s.late || nat_lt 0 (length p) })
     (record { start = s.start; bytes = s.bytes ++ p; ended = false; late = s.late })) is
 
-ended_piece : (s : Segment) (p : List ℕ) → s.ended ≡ true → with_piece s p ≡ record {
+pub ended_piece : (s : Segment) (p : List ℕ) → s.ended ≡ true → with_piece s p ≡ record {
   start = s.start;
   bytes = s.bytes;
   ended = true;
@@ -177,257 +159,118 @@ ended_piece s p is =
     ap (λ (t : Bool). cond t (record { start = s.start; bytes = s.bytes; ended = true; late = s.late || nat_lt 0 (length p) })
     (record { start = s.start; bytes = s.bytes ++ p; ended = false; late = s.late })) is
 
-by_test2 : {A : Type 0} (R : A → A → Type 0) (b : Bool) (x y x' y' : A) → R x x' → R y y' → R (cond b x y) (cond b x' y')
-by_test2 R true x y x' y' p q = p
-by_test2 R false x y x' y' p q = q
+-- one piece after another
+some_append : (p r : List ℕ) → (nat_lt 0 (length p) || nat_lt 0 (length r)) ≡ nat_lt 0 (length (p ++ r))
+some_append [] r = refl
+some_append (x ∷ xs) r =
+    let a : nat_lt 0 (length (x ∷ xs)) ≡ true = lt-ltb 0 (length (x ∷ xs)) (omega arith) in
+    let b : nat_lt 0 (length (x ∷ xs ++ r)) ≡ true = lt-ltb 0 (length (x ∷ xs ++ r)) (omega arith) in
+    ap (λ (f : Bool). f || nat_lt 0 (length r)) a ∙ sym b
 
-pub record IsAfterBytes (some : Bool) (old new : Outcome) : Type 0 where
-  pub texts : new.texts ≡ old.texts
-  pub index : new.index ≡ old.index
-  pub status : new.status ≡ status_after some old.index old.status
+joined : (start : ℕ) (bytes : List ℕ) (ended late : Bool) (p r : List ℕ)
+    → with_piece (with_piece (record { start = start; bytes = bytes; ended = ended; late = late }) p) r
+    ≡ with_piece (record { start = start; bytes = bytes; ended = ended; late = late }) (p ++ r)
+joined start bytes true late p r =
+    ap (λ (l : Bool). record { start = start; bytes = bytes; ended = true; late = l }) (or_assoc late (nat_lt 0 (length p)) (nat_lt 0 (length r))
+    ∙ ap (λ (f : Bool). late || f) (some_append p r))
+joined start bytes false late p r = ap (λ (b : List ℕ). record { start = start; bytes = b; ended = false; late = late }) (append_assoc bytes p r)
 
-pub record IsAfterEnd (old new : Outcome) : Type 0 where
-  pub texts : new.texts ≡ old.texts
-  pub index : new.index ≡ old.index
-  pub status : new.status ≡ status_ended old.status
+pub pieces_join : (s : Segment) (p r : List ℕ) → with_piece (with_piece s p) r ≡ with_piece s (p ++ r)
+pieces_join s p r = joined s.start s.bytes s.ended s.late p r
 
-module _ (opening : List ℕ → List ℕ → Option (List ℕ)) (n : ℕ) where
-  last_bytes : (texts : List (List ℕ)) (i : ℕ) (o : Option (List ℕ)) (x y some ended : Bool) → y ≡ (x || some)
-      → IsAfterBytes some (after_last opening texts i o x ended) (after_last opening texts i o y ended)
-  last_bytes texts i None x y some ended e = record { texts = refl; index = refl; status = refl }
-  last_bytes texts i (Some t) true true some ended e = record { texts = refl; index = refl; status = refl }
-  last_bytes texts i (Some t) true false some ended e = cc
-  last_bytes texts i (Some t) false true true true e = record { texts = refl; index = refl; status = refl }
-  last_bytes texts i (Some t) false true true false e = record { texts = refl; index = refl; status = refl }
-  last_bytes texts i (Some t) false true false ended e = cc
-  last_bytes texts i (Some t) false false true ended e = cc
-  last_bytes texts i (Some t) false false false true e = record { texts = refl; index = refl; status = refl }
-  last_bytes texts i (Some t) false false false false e = record { texts = refl; index = refl; status = refl }
+pub nothing : (start : ℕ) (bytes : List ℕ) (ended late : Bool) → with_piece (record { start = start; bytes = bytes; ended = ended; late = late }) []
+    ≡ record { start = start; bytes = bytes; ended = ended; late = late }
+nothing start bytes true late = ap (λ (l : Bool). record { start = start; bytes = bytes; ended = true; late = l }) (or-false late)
+nothing start bytes false late = ap (λ (b : List ℕ). record { start = start; bytes = b; ended = false; late = late }) (append-nil bytes)
 
-  block_bytes : (texts : List (List ℕ)) (i : ℕ) (b : List ℕ) (o : Option (List ℕ)) (x y some ended : Bool) → y ≡ (x || some)
-      → IsAfterBytes some (at_block opening texts i b x ended o) (at_block opening texts i b y ended o)
-  block_bytes texts i b (Some t) x y some ended e = record { texts = refl; index = refl; status = refl }
-  block_bytes texts i b None x y some ended e = last_bytes texts i (opening (nonce_bytes i true) b) x y some ended e
+waits_if : (whole ended : Bool) → whole ≡ false → ended ≡ false → (not whole && not ended) ≡ true
+waits_if true ended w e = cc
+waits_if false true w e = cc
+waits_if false false w e = refl
 
-  same_failed : (texts : List (List ℕ)) (i : ℕ) (some : Bool) (s : Status) → s ≡ status_after some i s
-      → IsAfterBytes some (record { texts = texts; index = i; status = s }) (record { texts = texts; index = i; status = s })
-  same_failed texts i some s e = record { texts = refl; index = refl; status = e }
+whole_if : (whole ended : Bool) → (not whole && not ended) ≡ false → ended ≡ false → whole ≡ true
+whole_if true ended h e = refl
+whole_if false true h e = cc
+whole_if false false h e = cc
 
-  rest_bytes_after : (texts : List (List ℕ)) (i : ℕ) (rest : List ℕ) (late some : Bool) → IsAfterBytes some (final_block opening texts i rest late true)
-      (final_block opening texts i rest (late || some) true)
-  rest_bytes_after texts i rest late some =
-      let R : Outcome → Outcome → Type 0 = IsAfterBytes some in
-      let last = last_bytes texts i (opening (nonce_bytes i true) rest) late (late || some) some true refl in
-      by_test2 R (nat_lt 0 (length rest) && nat_lt (length rest) tag_length) _ _ _ _ (same_failed texts i some (failed ChunkCut i) refl)
-      (by_test2 R (length rest == tag_length && nat_lt 0 i) _ _ _ _ (same_failed texts i some (failed EmptyLast i) refl)
-      (by_test2 R (length rest == 0) _ _ _ _ (same_failed texts i some (failed Truncated i) refl) last))
+after_on : (a len m : ℕ) (late : Bool) → a ≤ len → late ≡ false → (nat_lt a (len + m) || late) ≡ ((nat_lt a len || late) || nat_lt 0 m)
+after_on a len zero late h e =
+    let z : len + 0 ≡ len = omega arith in
+    ap (λ (k : ℕ). nat_lt a k || late) z ∙ sym (or-false (nat_lt a len || late))
+after_on a len (suc m) late h e =
+    let some : nat_lt 0 (suc m) ≡ true = lt-ltb 0 (suc m) (omega arith) in
+    ap (λ (b : Bool). b || late) (lt-ltb a (len + suc m) (omega arith))
+    ∙ (sym (or-true (nat_lt a len || late)) ∙ ap (λ (b : Bool). (nat_lt a len || late) || b) (sym some))
 
-  last_end : (texts : List (List ℕ)) (i : ℕ) (o : Option (List ℕ)) (x ended : Bool)
-      → IsAfterEnd (after_last opening texts i o x ended) (after_last opening texts i o x true)
-  last_end texts i None x ended = record { texts = refl; index = refl; status = refl }
-  last_end texts i (Some t) true ended = record { texts = refl; index = refl; status = refl }
-  last_end texts i (Some t) false true = record { texts = refl; index = refl; status = refl }
-  last_end texts i (Some t) false false = record { texts = refl; index = refl; status = refl }
-
-  block_end : (texts : List (List ℕ)) (i : ℕ) (b : List ℕ) (o : Option (List ℕ)) (x ended : Bool)
-      → IsAfterEnd (at_block opening texts i b x ended o) (at_block opening texts i b x true o)
-  block_end texts i b (Some t) x ended = record { texts = refl; index = refl; status = refl }
-  block_end texts i b None x ended = last_end texts i (opening (nonce_bytes i true) b) x ended
-
-  last_closed : (texts : List (List ℕ)) (i : ℕ) (o : Option (List ℕ)) (x ended : Bool) → (after_last opening texts i o x ended).status ≡ Open → ⊥
-  last_closed texts i None x ended e = cc
-  last_closed texts i (Some t) true ended e = cc
-  last_closed texts i (Some t) false true e = cc
-  last_closed texts i (Some t) false false e = cc
-
-  block_closed : (texts : List (List ℕ)) (i : ℕ) (b : List ℕ) (o : Option (List ℕ)) (x ended : Bool) → (at_block opening texts i b x ended o).status ≡ Open → ⊥
-  block_closed texts i b (Some t) x ended e = cc
-  block_closed texts i b None x ended e = last_closed texts i (opening (nonce_bytes i true) b) x ended e
-
-  rest_closed : (texts : List (List ℕ)) (i : ℕ) (rest : List ℕ) (late : Bool) → (final_block opening texts i rest late true).status ≡ Open → ⊥
-  rest_closed texts i rest late =
-      let P : Outcome → Type 0 = λ o. o.status ≡ Open → ⊥ in
-      let last : P (after_last opening texts i (opening (nonce_bytes i true) rest) late true) = λ e. last_closed texts i (opening (nonce_bytes i true) rest)
-      late true e in
-      by_test P (nat_lt 0 (length rest) && nat_lt (length rest) tag_length) _ _ (λ _ e. cc)
-      (λ _. by_test P (length rest == tag_length && nat_lt 0 i) _ _ (λ _ e. cc) (λ _. by_test P (length rest == 0) _ _ (λ _ e. cc) (λ _. last)))
-
+module _ (opening : OpensBlock) (n : ℕ) where
   -- the segment is open: it had no end, and each whole block opened as one before the last
   pub record IsGoing (s : Segment) : Type 0 where
     pub unended : s.ended ≡ false
     pub all : length (front_texts opening s.start (whole_blocks n s.bytes)) ≡ length (whole_blocks n s.bytes)
 
-  -- where a segment stands: at a whole block, or after all of them
-  pub place : (s : Segment) → ((length (front_texts opening s.start (whole_blocks n s.bytes)) < length (whole_blocks n s.bytes))
-      ⊎ (length (front_texts opening s.start (whole_blocks n s.bytes)) ≡ length (whole_blocks n s.bytes)))
-  place s =
-      elim (cases_lt (length (front_texts opening s.start (whole_blocks n s.bytes))) (length (whole_blocks n s.bytes)))
-      [ inl lt ↦ inl lt | inr le ↦ inr (omega (arith, le, length-front_texts opening (whole_blocks n s.bytes) s.start)) ]
-
-  -- the outcome at a whole block
-  pub at_place : (s : Segment) → length (front_texts opening s.start (whole_blocks n s.bytes)) < length (whole_blocks n s.bytes)
-      → let texts = front_texts opening s.start (whole_blocks n s.bytes) in
-      let i = s.start + length texts in
-      let b = get_or (whole_blocks n s.bytes) (length texts) [] in
-      outcome opening n s ≡ at_block opening texts i b (nat_lt ((length texts + 1) * (n + tag_length)) (length s.bytes) || s.late) s.ended
-      (opening (nonce_bytes i false) b)
-  at_place s lt =
-      let blocks = whole_blocks n s.bytes in
-      let texts = front_texts opening s.start blocks in
-      by_blocks opening n s
-      ∙ ap (λ (o : Option (List ℕ)). verdict_at opening texts (s.start + length texts) o (nat_lt ((length texts + 1) * (n + tag_length)) (length s.bytes))
-      (rest_bytes n s.bytes) s.late s.ended)
-      (slice_get-get_or blocks (length texts) [] lt)
-
-  -- and after them
-  pub past_place : (s : Segment) → length (front_texts opening s.start (whole_blocks n s.bytes)) ≡ length (whole_blocks n s.bytes)
-      → let texts = front_texts opening s.start (whole_blocks n s.bytes) in
-      outcome opening n s ≡ final_block opening texts (s.start + length texts) (rest_bytes n s.bytes) s.late s.ended
-  past_place s e =
-      let blocks = whole_blocks n s.bytes in
-      let texts = front_texts opening s.start blocks in
-      by_blocks opening n s
-      ∙ ap (λ (o : Option (List ℕ)). verdict_at opening texts (s.start + length texts) o (nat_lt ((length texts + 1) * (n + tag_length)) (length s.bytes))
-      (rest_bytes n s.bytes) s.late s.ended)
-      (slice_get_past blocks (length texts) (omega (arith, e)))
-
-  ended_closed : (s : Segment) (ended : Bool) → s.ended ≡ ended → length (front_texts opening s.start (whole_blocks n s.bytes))
-      ≡ length (whole_blocks n s.bytes) → (outcome opening n s).status ≡ Open → IsGoing s
-  ended_closed s false is e h = record { unended = is; all = e }
-  ended_closed s true is e h =
-      let texts = front_texts opening s.start (whole_blocks n s.bytes) in
-      let p = past_place s e ∙ ap (λ (b : Bool). final_block opening texts (s.start + length texts) (rest_bytes n s.bytes) s.late b) is in
-      absurd (rest_closed texts (s.start + length texts) (rest_bytes n s.bytes) s.late (sym (ap (λ (o : Outcome). o.status) p) ∙ h))
-
   pub going : (s : Segment) → (outcome opening n s).status ≡ Open → IsGoing s
   going s h =
-      elim (place s) [
-        | inl lt ↦
-            (let texts = front_texts opening s.start (whole_blocks n s.bytes) in
-            let i = s.start + length texts in
-            let b = get_or (whole_blocks n s.bytes) (length texts) [] in
-            absurd (block_closed texts i b (opening (nonce_bytes i false) b) (nat_lt ((length texts + 1) * (n + tag_length)) (length s.bytes) || s.late) s.ended
-            (sym (ap (λ (o : Outcome). o.status) (at_place s lt)) ∙ h)))
-        | inr e ↦ ended_closed s s.ended refl e h
-      ]
+      let b = stop opening n s in
+      let waits : is_waiting b ≡ true =
+      by_lines opening (λ (o : Outcome). o.status ≡ Open → is_waiting b ≡ true) b (λ w _. w) (λ kind _ _ e. cc) (λ text _ _ e. cc) (λ _ _ _ e. cc)
+      (λ text _ _ e. absurd (last_shut b.followed b.ended b.index e)) (sym (ap (λ (o : Outcome). o.status) (outcome_is opening n s)) ∙ h) in
+      let both = and_parts (not b.whole) (not b.ended) waits in
+      record {
+        unended = not-true s.ended both.1;
+        all = elim (cases_lt (length b.texts) (length s.bytes / (n + tag_length))) [
+          | inl lt ↦ absurd (both_ways b.whole (not-true b.whole both.0) (eq-eqb (length b.block) (n + tag_length) (block_full n s (length b.texts) lt)))
+          | inr ge ↦ omega (arith, ge, texts_fit opening n s, length-whole_blocks n s)
+        ];
+      }
 
-  after_on : (a len m : ℕ) (late : Bool) → a ≤ len → late ≡ false → (nat_lt a (len + m) || late) ≡ ((nat_lt a len || late) || nat_lt 0 m)
-  after_on a len zero late h e =
-      let z : len + 0 ≡ len = omega arith in
-      ap (λ (k : ℕ). nat_lt a k || late) z ∙ sym (or-false (nat_lt a len || late))
-  after_on a len (suc m) late h e =
-      let some : nat_lt 0 (suc m) ≡ true = lt-ltb 0 (suc m) (omega arith) in
-      ap (λ (b : Bool). b || late) (lt-ltb a (len + suc m) (omega arith))
-      ∙ (sym (or-true (nat_lt a len || late)) ∙ ap (λ (b : Bool). (nat_lt a len || late) || b) (sym some))
+  shut_waits : (s : Segment) → ((outcome opening n s).status ≡ Open → ⊥) → is_waiting (stop opening n s) ≡ false
+  shut_waits s shut = false_from_ne_true (is_waiting (stop opening n s))
+      (λ w. shut (ap (λ (o : Outcome). o.status) (outcome_is opening n s ∙ line_waiting opening (stop opening n s) w)))
 
-  or_assoc : (a b c : Bool) → (a || (b || c)) ≡ ((a || b) || c)
-  or_assoc true b c = refl
-  or_assoc false b c = refl
-
-  piece_at_place : (s : Segment) (ended : Bool) (p : List ℕ) → s.ended ≡ ended → (s.ended ≡ false → s.late ≡ false)
-      → length (front_texts opening s.start (whole_blocks n s.bytes)) < length (whole_blocks n s.bytes)
-      → IsAfterBytes (nat_lt 0 (length p)) (outcome opening n s) (outcome opening n (with_piece s p))
-  piece_at_place s false p is timely lt =
-      let blocks = whole_blocks n s.bytes in
-      let texts = front_texts opening s.start blocks in
-      let i = s.start + length texts in
-      let b = get_or blocks (length texts) [] in
+  -- where a segment that isn't open stands after a piece
+  piece_stop : (s : Segment) (ended : Bool) (p : List ℕ) → s.ended ≡ ended → (s.ended ≡ false → s.late ≡ false) → is_waiting (stop opening n s) ≡ false
+      → let b = stop opening n s in
+      stop opening n (with_piece s p) ≡ beside opening opening b b.texts (b.followed || nat_lt 0 (length p)) b.ended
+  piece_stop s true p is timely unwaiting =
+      let b = stop opening n s in
       let some = nat_lt 0 (length p) in
-      let a = (length texts + 1) * (n + tag_length) in
-      let bytes = s.bytes ++ p in
+      ap (stop opening n) (ended_piece s p is)
+      ∙ (ap (λ (f : Bool). beside opening opening b b.texts f true) (sym (or_assoc (nat_lt ((length b.texts + 1) * (n + tag_length)) (length s.bytes)) s.late some))
+      ∙ ap (beside opening opening b b.texts (b.followed || some)) (sym is))
+  piece_stop s false p is timely unwaiting =
+      let z = n + tag_length in
+      let b = stop opening n s in
+      let m = length b.texts in
+      let some = nat_lt 0 (length p) in
+      let lt : m < length s.bytes / z = whole_within n s m (texts_fit opening n s) (whole_if b.whole b.ended unwaiting is) in
+      let pos : 0 < z = omega arith in
+      let low : (m + 1) * z ≤ length s.bytes = (le-div_iff_mul-le pos).0 (omega (arith, lt)) in
+      let step : (m + 1) * z ≡ m * z + z = omega arith in
       let more = more_blocks n s.bytes p in
-      let rest = rest_bytes n bytes in
-      let late = s.late in
-      let o = opening (nonce_bytes i false) b in
-      let F : List (List ℕ) → Outcome = λ ts. verdict_at opening ts (s.start + length ts) (slice_get (blocks ++ more.0) (length ts))
-      (nat_lt ((length ts + 1) * (n + tag_length)) (length bytes)) rest late false in
-      let e0 = ap (outcome opening n) (unended_piece s p is) in
-      let e1 : outcome opening n (record { start = s.start; bytes = bytes; ended = false; late = late }) ≡ F (front_texts opening s.start (blocks ++ more.0)) =
-      by_blocks opening n (record { start = s.start; bytes = bytes; ended = false; late = late })
-      ∙ ap (λ (bs : List (List ℕ)). outcome_of opening n s.start bs (length bytes) rest late false) more.1 in
-      let e2 : F (front_texts opening s.start (blocks ++ more.0)) ≡ F texts = ap F (front_stays opening blocks more.0 s.start lt) in
-      let g : slice_get (blocks ++ more.0) (length texts) ≡ Some b = slice_get-append_left blocks more.0 (length texts) lt
-      ∙ slice_get-get_or blocks (length texts) [] lt in
-      let e3 : F texts ≡ at_block opening texts i b (nat_lt a (length bytes) || late) false o =
-      ap (λ (x : Option (List ℕ)). verdict_at opening texts i x (nat_lt a (length bytes)) rest late false) g in
-      let count = length-first_chunks (n + tag_length) (length s.bytes / (n + tag_length)) s.bytes in
-      let pos : 0 < n + tag_length = omega arith in
-      let low : a ≤ length s.bytes = (le-div_iff_mul-le pos).0 (omega (arith, lt, count)) in
-      let len : length bytes ≡ length s.bytes + length p = length-append s.bytes p in
-      let flag : (nat_lt a (length bytes) || late) ≡ ((nat_lt a (length s.bytes) || late) || some) = ap (λ (k : ℕ). nat_lt a k || late) len
-      ∙ after_on a (length s.bytes) (length p) late low (timely is) in
-      let here = at_place s lt ∙ ap (λ (t : Bool). at_block opening texts i b (nat_lt a (length s.bytes) || late) t o) is in
-      rw (here, e0 ∙ (e1 ∙ (e2 ∙ e3))) (block_bytes texts i b o (nat_lt a (length s.bytes) || late) (nat_lt a (length bytes) || late) some false flag)
-  piece_at_place s true p is timely lt =
-      let blocks = whole_blocks n s.bytes in
-      let texts = front_texts opening s.start blocks in
-      let i = s.start + length texts in
-      let b = get_or blocks (length texts) [] in
-      let some = nat_lt 0 (length p) in
-      let a = (length texts + 1) * (n + tag_length) in
-      let o = opening (nonce_bytes i false) b in
-      let next : Segment = record { start = s.start; bytes = s.bytes; ended = true; late = s.late || some } in
-      let e0 = ap (outcome opening n) (ended_piece s p is) in
-      let here = at_place s lt ∙ ap (λ (t : Bool). at_block opening texts i b (nat_lt a (length s.bytes) || s.late) t o) is in
-      rw (here, e0 ∙ at_place next lt)
-      (block_bytes texts i b o (nat_lt a (length s.bytes) || s.late) (nat_lt a (length s.bytes) || (s.late || some)) some true
-      (or_assoc (nat_lt a (length s.bytes)) s.late some))
-
-  piece_past_place : (s : Segment) (ended : Bool) (p : List ℕ) → s.ended ≡ ended → ((outcome opening n s).status ≡ Open → ⊥)
-      → length (front_texts opening s.start (whole_blocks n s.bytes)) ≡ length (whole_blocks n s.bytes)
-      → IsAfterBytes (nat_lt 0 (length p)) (outcome opening n s) (outcome opening n (with_piece s p))
-  piece_past_place s false p is shut e =
-      let texts = front_texts opening s.start (whole_blocks n s.bytes) in
-      let h = past_place s e ∙ ap (λ (t : Bool). final_block opening texts (s.start + length texts) (rest_bytes n s.bytes) s.late t) is in
-      absurd (shut (ap (λ (o : Outcome). o.status) h))
-  piece_past_place s true p is shut e =
-      let texts = front_texts opening s.start (whole_blocks n s.bytes) in
-      let i = s.start + length texts in
-      let some = nat_lt 0 (length p) in
-      let next : Segment = record { start = s.start; bytes = s.bytes; ended = true; late = s.late || some } in
-      let e0 = ap (outcome opening n) (ended_piece s p is) in
-      let here = past_place s e ∙ ap (λ (t : Bool). final_block opening texts i (rest_bytes n s.bytes) s.late t) is in
-      rw (here, e0 ∙ past_place next e) (rest_bytes_after texts i (rest_bytes n s.bytes) s.late some)
+      let next : Segment = record { start = s.start; bytes = s.bytes ++ p; ended = false; late = s.late } in
+      let texts : front_texts opening s.start (whole_blocks n next.bytes) ≡ b.texts = ap (front_texts opening s.start) more.1
+      ∙ front_stays opening (whole_blocks n s.bytes) more.0 s.start (omega (arith, lt, length-whole_blocks n s)) in
+      let block : block_at n next.bytes m ≡ b.block = ap (take z) (drop-append-le (m * z) s.bytes p (omega (arith, low, step)))
+      ∙ take-append-le z (drop (m * z) s.bytes) p (omega (arith, length-drop (m * z) s.bytes, low, step)) in
+      let flag : (nat_lt ((m + 1) * z) (length next.bytes) || s.late) ≡ (b.followed || some) = ap (λ (k : ℕ). nat_lt ((m + 1) * z) k || s.late) (length-append s.bytes p)
+      ∙ after_on ((m + 1) * z) (length s.bytes) (length p) s.late low (timely is) in
+      let F : List ℕ → Bool → Bool → Frontier = λ c f e. record { texts = b.texts; index = b.index; block = c; whole = length c == z; followed = f; ended = e } in
+      ap (stop opening n) (unended_piece s p is)
+      ∙ (ap (frontier n next) texts
+      ∙ (ap (λ (c : List ℕ). F c (nat_lt ((m + 1) * z) (length next.bytes) || s.late) false) block
+      ∙ (ap (λ (f : Bool). F b.block f false) flag ∙ ap (F b.block (b.followed || some)) (sym is))))
 
   -- a piece, if the segment is open no more
   pub after_piece : (s : Segment) (p : List ℕ) → (s.ended ≡ false → s.late ≡ false) → ((outcome opening n s).status ≡ Open → ⊥)
       → IsAfterBytes (nat_lt 0 (length p)) (outcome opening n s) (outcome opening n (with_piece s p))
   after_piece s p timely shut =
-      elim (place s) [ inl lt ↦ piece_at_place s s.ended p refl timely lt | inr e ↦ piece_past_place s s.ended p refl shut e ]
-
-  end_past_place : (s : Segment) (ended : Bool) → s.ended ≡ ended → ((outcome opening n s).status ≡ Open → ⊥)
-      → length (front_texts opening s.start (whole_blocks n s.bytes)) ≡ length (whole_blocks n s.bytes)
-      → IsAfterEnd (outcome opening n s) (outcome opening n (with_end s))
-  end_past_place s false is shut e =
-      let texts = front_texts opening s.start (whole_blocks n s.bytes) in
-      let h = past_place s e ∙ ap (λ (t : Bool). final_block opening texts (s.start + length texts) (rest_bytes n s.bytes) s.late t) is in
-      absurd (shut (ap (λ (o : Outcome). o.status) h))
-  end_past_place s true is shut e =
-      let texts = front_texts opening s.start (whole_blocks n s.bytes) in
-      let i = s.start + length texts in
-      let here = past_place s e ∙ ap (λ (t : Bool). final_block opening texts i (rest_bytes n s.bytes) s.late t) is in
-      let P : Outcome → Type 0 = λ o. IsAfterEnd o o in
-      let same : (x : Outcome) → x.status ≡ status_ended x.status → P x = λ x h. record { texts = refl; index = refl; status = h } in
-      let last = last_end texts i (opening (nonce_bytes i true) (rest_bytes n s.bytes)) s.late true in
-      let rest = rest_bytes n s.bytes in
-      let core : P (final_block opening texts i rest s.late true) =
-      by_test P (nat_lt 0 (length rest) && nat_lt (length rest) tag_length) _ _ (λ _. same (record { texts = texts; index = i; status = failed ChunkCut i }) refl)
-      (λ _. by_test P (length rest == tag_length && nat_lt 0 i) _ _ (λ _. same (record { texts = texts; index = i; status = failed EmptyLast i }) refl)
-      (λ _. by_test P (length rest == 0) _ _ (λ _. same (record { texts = texts; index = i; status = failed Truncated i }) refl) (λ _. last))) in
-      rw (here, past_place (with_end s) e) core
+      let unwaiting = shut_waits s shut in
+      rw (outcome_is opening n s, outcome_is opening n (with_piece s p) ∙ ap (verdict opening) (piece_stop s s.ended p refl timely unwaiting))
+      (verdict-bytes opening (stop opening n s) (nat_lt 0 (length p)) unwaiting)
 
   -- an end, likewise
   pub after_end : (s : Segment) → ((outcome opening n s).status ≡ Open → ⊥) → IsAfterEnd (outcome opening n s) (outcome opening n (with_end s))
-  after_end s shut =
-      elim (place s) [
-        | inl lt ↦
-            (let texts = front_texts opening s.start (whole_blocks n s.bytes) in
-            let i = s.start + length texts in
-            let b = get_or (whole_blocks n s.bytes) (length texts) [] in
-            rw (at_place s lt, at_place (with_end s) lt) (block_end texts i b (opening (nonce_bytes i false) b)
-            (nat_lt ((length texts + 1) * (n + tag_length)) (length s.bytes) || s.late) s.ended))
-        | inr e ↦ end_past_place s s.ended refl shut e
-      ]
+  after_end s shut = rw (outcome_is opening n s, outcome_is opening n (with_end s)) (verdict-end opening (stop opening n s) (shut_waits s shut))
 
   -- an open segment's outcome
   pub going_outcome : (s : Segment) → IsGoing s
@@ -437,8 +280,31 @@ module _ (opening : List ℕ → List ℕ → Option (List ℕ)) (n : ℕ) where
         status = Open;
       }
   going_outcome s g =
-      let texts = front_texts opening s.start (whole_blocks n s.bytes) in
-      past_place s g.all ∙ ap (λ (t : Bool). final_block opening texts (s.start + length texts) (rest_bytes n s.bytes) s.late t) g.unended
+      let b = stop opening n s in
+      outcome_is opening n s
+      ∙ line_waiting opening b (waits_if b.whole b.ended (not_whole n s (length b.texts) (g.all ∙ length-whole_blocks n s)) g.unended)
+
+  -- an end of it
+  pub going_end : (s : Segment) → IsGoing s → s.late ≡ false
+      → let texts = front_texts opening s.start (whole_blocks n s.bytes) in
+      outcome opening n (with_end s) ≡ prepend texts (final_block opening [] (s.start + length texts) (rest_bytes n s.bytes) false true)
+  going_end s g timely =
+      let z = n + tag_length in
+      let b = stop opening n s in
+      let m = length b.texts in
+      let q = length s.bytes / z in
+      let at : m ≡ q = g.all ∙ length-whole_blocks n s in
+      let alone : nat_lt ((m + 1) * z) (length s.bytes) ≡ false = le-ltb ((m + 1) * z) (length s.bytes)
+      (omega (arith, rest_short n s.bytes, length-drop (q * z) s.bytes, ap (λ (k : ℕ). (k + 1) * z) at)) in
+      let rest = rest_bytes n s.bytes in
+      let F : List ℕ → Bool → Bool → Outcome = λ c w f.
+      verdict opening (record { texts = b.texts; index = b.index; block = c; whole = w; followed = f; ended = true }) in
+      outcome_is opening n (with_end s)
+      ∙ (ap (λ (w : Bool). F b.block w b.followed) (not_whole n s m at)
+      ∙ (ap (λ (c : List ℕ). F c false b.followed) (rest_is n s m at)
+      ∙ (ap (λ (f : Bool). F rest false (f || s.late)) alone
+      ∙ (ap (λ (f : Bool). F rest false f) timely
+      ∙ verdict-prepend opening (record { texts = []; index = b.index; block = rest; whole = false; followed = false; ended = true }) b.texts refl))))
 
   -- bytes that make no whole block
   pub record IsPart (s : Segment) (p : List ℕ) : Type 0 where
@@ -473,68 +339,15 @@ module _ (opening : List ℕ → List ℕ → Option (List ℕ)) (n : ℕ) where
     pub status : (outcome opening n (with_piece s p)).status ≡ (one_block opening (outcome opening n s).index (rest_bytes n s.bytes ++ p)).status
     pub rest : rest_bytes n (with_piece s p).bytes ≡ []
 
-  prepend_last : (texts : List (List ℕ)) (i : ℕ) (o : Option (List ℕ)) → after_last opening texts i o false false
-      ≡ prepend opening texts (after_last opening [] i o false false)
-  prepend_last texts i None = ap (λ (ts : List (List ℕ)). record { texts = ts; index = i; status = failed ChunkDamaged i }) (sym (append-nil texts))
-  prepend_last texts i (Some t) = refl
-
-  prepend_block : (texts : List (List ℕ)) (i : ℕ) (b : List ℕ) (o : Option (List ℕ)) → at_block opening texts i b false false o
-      ≡ prepend opening texts (at_block opening [] i b false false o)
-  prepend_block texts i b (Some t) = ap (λ (ts : List (List ℕ)). record { texts = ts; index = i; status = failed TooManyChunks i }) (sym (append-nil texts))
-  prepend_block texts i b None = prepend_last texts i (opening (nonce_bytes i true) b)
-
-  -- one more block after blocks that all opened
-  one_more : (o : Option (List ℕ)) (blocks : List (List ℕ)) (b : List ℕ) (start len : ℕ) (rest : List ℕ) → length (front_texts opening start blocks)
-      ≡ length blocks → len ≡ (length blocks + 1) * (n + tag_length)
-      → let texts = front_texts opening start blocks in let ts = texts ++ text_then opening o [] in
-      verdict_at opening ts (start + length ts) (slice_get (blocks ++ b ∷ []) (length ts)) (nat_lt ((length ts + 1) * (n + tag_length)) len) rest false false
-      ≡ prepend opening texts (after_front opening o (start + length texts) b)
-  one_more (Some t) blocks b start len rest all is =
-      let texts = front_texts opening start blocks in
-      let count : length (texts ++ t ∷ []) ≡ length texts + 1 = length-append texts (t ∷ []) in
-      let past : length (blocks ++ b ∷ []) ≤ length (texts ++ t ∷ []) = omega (arith, count, all, length-append blocks (b ∷ [])) in
-      let i : start + length (texts ++ t ∷ []) ≡ start + length texts + 1 = omega (arith, count) in
-      ap (λ (o : Option (List ℕ)). verdict_at opening (texts ++ t ∷ []) (start + length (texts ++ t ∷ [])) o
-      (nat_lt ((length (texts ++ t ∷ []) + 1) * (n + tag_length)) len) rest false false)
-      (slice_get_past (blocks ++ b ∷ []) (length (texts ++ t ∷ [])) past)
-      ∙ ap (λ (k : ℕ). record { texts = texts ++ t ∷ []; index = k; status = Open }) i
-  one_more None blocks b start len rest all is =
-      let texts = front_texts opening start blocks in
-      let i = start + length texts in
-      let F : List (List ℕ) → Outcome = λ ts. verdict_at opening ts (start + length ts) (slice_get (blocks ++ b ∷ []) (length ts))
-      (nat_lt ((length ts + 1) * (n + tag_length)) len) rest false false in
-      let no : nat_lt ((length texts + 1) * (n + tag_length)) len
-      ≡ false = le-ltb ((length texts + 1) * (n + tag_length)) len (omega (arith, is, ap (λ (k : ℕ). (k + 1) * (n + tag_length)) all)) in
-      ap F (append-nil texts)
-      ∙ (ap (λ (o : Option (List ℕ)). verdict_at opening texts i o (nat_lt ((length texts + 1) * (n + tag_length)) len) rest false false)
-      (slice_get_end blocks b (length texts) all)
-      ∙ (ap (λ (x : Bool). at_block opening texts i b (x || false) false (opening (nonce_bytes i false) b)) no
-      ∙ prepend_block texts i b (opening (nonce_bytes i false) b)))
-
   pub going_whole : (s : Segment) (p : List ℕ) → IsGoing s → s.late ≡ false → length (rest_bytes n s.bytes) + length p ≡ n + tag_length → IsWhole s p
   going_whole s p g timely h =
-      let start = s.start in
-      let blocks = whole_blocks n s.bytes in
-      let texts = front_texts opening start blocks in
+      let texts = front_texts opening s.start (whole_blocks n s.bytes) in
+      let i = s.start + length texts in
       let b = rest_bytes n s.bytes ++ p in
-      let bytes = s.bytes ++ p in
       let e = unended_piece s p g.unended in
-      let i = start + length texts in
-      let F : List (List ℕ) → Bool → Outcome = λ bs late. outcome_of opening n start bs (length bytes) (rest_bytes n bytes) late false in
-      let count : length bytes ≡ (length blocks + 1) * (n + tag_length) = whole_len n s.bytes p h
-      ∙ ap (λ (k : ℕ). (k + 1) * (n + tag_length)) (sym (length-first_chunks (n + tag_length) (length s.bytes / (n + tag_length)) s.bytes)) in
-      let G : List (List ℕ) → Outcome = λ ts. verdict_at opening ts (start + length ts) (slice_get (blocks ++ b ∷ []) (length ts))
-      (nat_lt ((length ts + 1) * (n + tag_length)) (length bytes)) (rest_bytes n bytes) false false in
-      let front : front_texts opening start (blocks ++ b ∷ []) ≡ texts ++ text_then opening (text_before_last opening i b) [] =
-      front_on opening blocks (b ∷ []) start g.all ∙ ap (λ (k : ℕ). texts ++ front_texts opening (start + k) (b ∷ [])) (sym g.all) in
-      let all : outcome opening n (with_piece s p) ≡ prepend opening texts (one_block opening i b) =
-      ap (outcome opening n) e
-      ∙ (by_blocks opening n (record { start = start; bytes = bytes; ended = false; late = s.late })
-      ∙ (ap (λ (bs : List (List ℕ)). F bs s.late) (whole_more n s.bytes p h)
-      ∙ (ap (λ (l : Bool). F (blocks ++ b ∷ []) l) timely
-      ∙ (ap G front ∙ one_more (text_before_last opening i b) blocks b start (length bytes) (rest_bytes n bytes) g.all count)))) in
       let here = going_outcome s g in
       let at : (outcome opening n s).index ≡ i = ap (λ (o : Outcome). o.index) here in
+      let all : outcome opening n (with_piece s p) ≡ prepend texts (one_block opening i b) = ap (outcome opening n) e ∙ by_text (text_before_last opening i b) front in
       record {
         texts = ap (λ (o : Outcome). o.texts) all ∙ (ap (λ (ts : List (List ℕ)). ts ++ (one_block opening i b).texts) (sym (ap (λ (o : Outcome). o.texts) here))
             ∙ ap (λ (k : ℕ). (outcome opening n s).texts ++ (one_block opening k b).texts) (sym at));
@@ -542,20 +355,49 @@ module _ (opening : List ℕ → List ℕ → Option (List ℕ)) (n : ℕ) where
         status = ap (λ (o : Outcome). o.status) all ∙ ap (λ (k : ℕ). (one_block opening k b).status) (sym at);
         rest = ap (λ (t : Segment). rest_bytes n t.bytes) e ∙ whole_rest n s.bytes p h;
       }
+    where
+      front : front_texts opening s.start (whole_blocks n (s.bytes ++ p))
+          ≡ front_texts opening s.start (whole_blocks n s.bytes)
+          ++ text_then opening (text_before_last opening (s.start + length (front_texts opening s.start (whole_blocks n s.bytes))) (rest_bytes n s.bytes ++ p)) []
+      front =
+          ap (front_texts opening s.start) (whole_more n s.bytes p h)
+          ∙ (front_on opening (whole_blocks n s.bytes) ((rest_bytes n s.bytes ++ p) ∷ []) s.start g.all
+          ∙ ap (λ (k : ℕ). front_texts opening s.start (whole_blocks n s.bytes) ++ front_texts opening (s.start + k) ((rest_bytes n s.bytes ++ p) ∷ [])) (sym g.all))
 
-  end_last : (texts : List (List ℕ)) (i : ℕ) (o : Option (List ℕ)) → after_last opening texts i o false true
-      ≡ prepend opening texts (after_last opening [] i o false true)
-  end_last texts i None = ap (λ (ts : List (List ℕ)). record { texts = ts; index = i; status = failed ChunkDamaged i }) (sym (append-nil texts))
-  end_last texts i (Some t) = refl
-
-  -- the rest at an end, after texts
-  pub prepend_rest : (texts : List (List ℕ)) (i : ℕ) (rest : List ℕ) → final_block opening texts i rest false true
-      ≡ prepend opening texts (final_block opening [] i rest false true)
-  prepend_rest texts i rest =
-      let R : Outcome → Outcome → Type 0 = λ x y. x ≡ prepend opening texts y in
-      let fault : (s : Status) → R (record { texts = texts; index = i; status = s }) (record { texts = []; index = i; status = s }) =
-      λ s. ap (λ (ts : List (List ℕ)). record { texts = ts; index = i; status = s }) (sym (append-nil texts)) in
-      let last = end_last texts i (opening (nonce_bytes i true) rest) in
-      by_test2 R (nat_lt 0 (length rest) && nat_lt (length rest) tag_length) _ _ _ _ (fault (failed ChunkCut i))
-      (by_test2 R (length rest == tag_length && nat_lt 0 i) _ _ _ _ (fault (failed EmptyLast i)) (by_test2 R (length rest == 0) _ _ _ _ (fault (failed Truncated i))
-      last))
+      -- by the text of the block, if it opened as one before the last
+      by_text : (o : Option (List ℕ))
+          → front_texts opening s.start (whole_blocks n (s.bytes ++ p)) ≡ front_texts opening s.start (whole_blocks n s.bytes) ++ text_then opening o []
+          → outcome opening n (record { start = s.start; bytes = s.bytes ++ p; ended = false; late = s.late })
+          ≡ prepend (front_texts opening s.start (whole_blocks n s.bytes))
+          (after_front opening o (s.start + length (front_texts opening s.start (whole_blocks n s.bytes))) (rest_bytes n s.bytes ++ p))
+      by_text (Some t) front =
+          let texts = front_texts opening s.start (whole_blocks n s.bytes) in
+          let next : Segment = record { start = s.start; bytes = s.bytes ++ p; ended = false; late = s.late } in
+          let count : length (texts ++ t ∷ []) ≡ length texts + 1 = length-append texts (t ∷ []) in
+          let blocks = ap length (whole_more n s.bytes p h) ∙ length-append (whole_blocks n s.bytes) ((rest_bytes n s.bytes ++ p) ∷ []) in
+          let i : s.start + length (texts ++ t ∷ []) ≡ s.start + length texts + 1 = omega (arith, count) in
+          going_outcome next (record { unended = refl; all = omega (arith, ap length front, count, blocks, g.all) })
+          ∙ (ap (λ (ts : List (List ℕ)). record { texts = ts; index = s.start + length ts; status = Open }) front
+          ∙ ap (λ (k : ℕ). record { texts = texts ++ t ∷ []; index = k; status = Open }) i)
+      by_text None front =
+          let z = n + tag_length in
+          let texts = front_texts opening s.start (whole_blocks n s.bytes) in
+          let m = length texts in
+          let q = length s.bytes / z in
+          let b = rest_bytes n s.bytes ++ p in
+          let next : Segment = record { start = s.start; bytes = s.bytes ++ p; ended = false; late = s.late } in
+          let at : m ≡ q = g.all ∙ length-whole_blocks n s in
+          let len : length b ≡ z = length-append (rest_bytes n s.bytes) p ∙ h in
+          let block : block_at n next.bytes m ≡ b = ap (block_at n next.bytes) at
+          ∙ (ap (take z) (drop-append-le (q * z) s.bytes p (div-mul-le_self (length s.bytes) z)) ∙ take_all z b (omega (arith, len))) in
+          let alone : nat_lt ((m + 1) * z) (length next.bytes) ≡ false = le-ltb ((m + 1) * z) (length next.bytes)
+          (omega (arith, whole_len n s.bytes p h, ap (λ (k : ℕ). (k + 1) * z) at)) in
+          let F : List ℕ → Bool → Bool → Outcome = λ c w f.
+          verdict opening (record { texts = texts; index = s.start + m; block = c; whole = w; followed = f; ended = false }) in
+          outcome_is opening n next
+          ∙ (ap (λ (ts : List (List ℕ)). verdict opening (frontier n next ts)) (front ∙ append-nil texts)
+          ∙ (ap (λ (c : List ℕ). F c (length c == z) (nat_lt ((m + 1) * z) (length next.bytes) || s.late)) block
+          ∙ (ap (λ (w : Bool). F b w (nat_lt ((m + 1) * z) (length next.bytes) || s.late)) (eq-eqb (length b) z len)
+          ∙ (ap (λ (f : Bool). F b true (f || s.late)) alone
+          ∙ (ap (λ (f : Bool). F b true f) timely
+          ∙ verdict-prepend opening (record { texts = []; index = s.start + m; block = b; whole = true; followed = false; ended = false }) texts refl)))))

@@ -1,60 +1,33 @@
 -- More bytes never take back what was released.
-use Rattle.std.proofs.Common.{◌≡◌, ℕ, ◌≤◌, ◌+◌, ◌*◌, refl, ap, sym, subst, ◌∙◌, List, [], ◌∷◌, ◌++◌, length, Bool, true, false, arith}
-use Rattle.std.specs.Prelude.{Option, Some, None, nat_lt, ◌==◌, ◌||◌, ◌&&◌, slice_get}
+use Rattle.std.proofs.Common.{◌≡◌, ℕ, ◌≤◌, ◌+◌, refl, ap, sym, subst, ◌∙◌, List, [], ◌∷◌, ◌++◌, length, false, arith}
 use Rattle.std.specs.List.{flat_map}
 use Rattle.std.proofs.lemmas.Grind.{flat_map-append}
 use Rattle.std.proofs.lemmas.List.{append-nil, append_assoc, length-append}
-use Rattle.age_chunk.specs.Payload.{nonce_bytes}
-use Rattle.age_stream.specs.Segment.{Segment, Outcome, outcome, front_texts, whole_blocks, rest_bytes, released, with_piece}
-use Rattle.age_stream.specs.inner.OpenerSteps.{after_last, at_block, final_block}
+use Rattle.age_chunk.specs.ChunkBoxes.{OpensBlock}
+use Rattle.age_chunk.specs.declared.fault.StreamKind.TheVariants.{ChunkDamaged, TooManyChunks}
+use Rattle.age_stream.specs.Segment.{Segment, Outcome, outcome, stop, stays, failed, front_texts, whole_blocks, released, with_piece}
 use Rattle.age_stream.specs.Headline.{IsPrefixOf}
 use Rattle.age_stream.specs.declared.step.Status.{Status}
 use Rattle.age_stream.specs.declared.step.Status.TheVariants.{Open}
-use Rattle.age_stream.proofs.SegmentLemmas.{by_test}
 use Rattle.age_stream.proofs.GoingLemmas.{going, going_outcome, IsGoing, unended_piece, more_blocks, front_on, after_piece}
-use Rattle.age_stream.proofs.TableLemmas.{verdict_at, by_blocks}
-use Rattle.age_chunk.specs.ChunkBoxes.{tag_length}
+use Rattle.age_stream.proofs.TableLemmas.{by_lines, outcome_is}
 
-module _ (opening : List ℕ → List ℕ → Option (List ℕ)) (n : ℕ) where
+module _ (opening : OpensBlock) (n : ℕ) where
   -- the texts of an outcome begin with these, and its index is the one at which it stopped, whatever stopped it
   pub record StopsAt (texts : List (List ℕ)) (i : ℕ) (o : Outcome) : Type 0 where
     pub more : List (List ℕ)
     pub texts_are : o.texts ≡ texts ++ more
     pub index : o.index ≡ i
 
-  stops_still : (texts : List (List ℕ)) (i : ℕ) (status : Status) → StopsAt texts i (record { texts = texts; index = i; status = status })
-  stops_still texts i status = record { more = []; texts_are = sym (append-nil texts); index = refl }
-
-  stops_last : (texts : List (List ℕ)) (i : ℕ) (o : Option (List ℕ)) (x ended : Bool) → StopsAt texts i (after_last opening texts i o x ended)
-  stops_last texts i None x ended = stops_still texts i _
-  stops_last texts i (Some t) x ended = record { more = t ∷ []; texts_are = refl; index = refl }
-
-  stops_rest : (texts : List (List ℕ)) (i : ℕ) (rest : List ℕ) (late ended : Bool) → StopsAt texts i (final_block opening texts i rest late ended)
-  stops_rest texts i rest late false = stops_still texts i _
-  stops_rest texts i rest late true =
-      let P : Outcome → Type 0 = StopsAt texts i in
-      by_test P (nat_lt 0 (length rest) && nat_lt (length rest) tag_length) _ _ (λ _. stops_still texts i _)
-      (λ _. by_test P (length rest == tag_length && nat_lt 0 i) _ _ (λ _. stops_still texts i _)
-      (λ _. by_test P (length rest == 0) _ _ (λ _. stops_still texts i _) (λ _. stops_last texts i (opening (nonce_bytes i true) rest) late true)))
-
-  stops_block : (texts : List (List ℕ)) (i : ℕ) (b : List ℕ) (o : Option (List ℕ)) (x ended : Bool)
-      → StopsAt texts i (at_block opening texts i b x ended o)
-  stops_block texts i b (Some t) x ended = stops_still texts i _
-  stops_block texts i b None x ended = stops_last texts i (opening (nonce_bytes i true) b) x ended
-
-  stops_verdict : (texts : List (List ℕ)) (i : ℕ) (b : Option (List ℕ)) (behind : Bool) (rest : List ℕ) (late ended : Bool)
-      → StopsAt texts i (verdict_at opening texts i b behind rest late ended)
-  stops_verdict texts i None behind rest late ended = stops_rest texts i rest late ended
-  stops_verdict texts i (Some b) behind rest late ended = stops_block texts i b (opening (nonce_bytes i false) b) (behind || late) ended
-
   -- a segment stands at the block after those in front, with their texts
   pub stands_at : (s : Segment) → let texts = front_texts opening s.start (whole_blocks n s.bytes) in
       StopsAt texts (s.start + length texts) (outcome opening n s)
   stands_at s =
-      let texts = front_texts opening s.start (whole_blocks n s.bytes) in
-      subst (StopsAt texts (s.start + length texts)) (sym (by_blocks opening n s)) (stops_verdict texts (s.start + length texts)
-      (slice_get (whole_blocks n s.bytes) (length texts)) (nat_lt ((length texts + 1) * (n + tag_length)) (length s.bytes))
-      (rest_bytes n s.bytes) s.late s.ended)
+      let b = stop opening n s in
+      let P : Outcome → Type 0 = StopsAt b.texts b.index in
+      let still : (status : Status) → P (stays b status) = λ status. record { more = []; texts_are = sym (append-nil b.texts); index = refl } in
+      subst P (sym (outcome_is opening n s)) (by_lines opening P b (λ _. still Open) (λ kind _ _. still (failed kind b.index)) (λ _ _ _. still (failed TooManyChunks b.index))
+      (λ _ _ _. still (failed ChunkDamaged b.index)) (λ text _ _. record { more = text ∷ []; texts_are = refl; index = refl }))
 
   -- the texts go on, and the index doesn't fall
   record Grows (old new : Outcome) : Type 0 where

@@ -1,9 +1,9 @@
 -- Public laws, each with its proof: what the proofs of other crates cite of this one. Each is a clause in `src/laws.rt`.
-use Rattle.std.proofs.Common.{◌≡◌, ℕ, suc, ◌+◌, ◌*◌, refl, ap, sym, ◌∙◌, List, [], ◌∷◌, ◌++◌, length, Bool, true, false, arith}
-use Rattle.std.specs.Prelude.{Option, nat_lt}
+use Rattle.std.proofs.Common.{◌≡◌, ℕ, ◌+◌, ◌*◌, refl, ap, sym, ◌∙◌, List, length, Bool, true, false, arith}
+use Rattle.std.specs.Prelude.{nat_lt}
 use Rattle.std.specs.Simd.{first_chunks}
 use Rattle.std.proofs.lemmas.List.{length-append, length-drop}
-use Rattle.age_chunk.specs.ChunkBoxes.{IsChunkBox, tag_length}
+use Rattle.age_chunk.specs.ChunkBoxes.{IsChunkBox, tag_length, Seals, OpensBlock}
 use Rattle.age_chunk.specs.Payload.{nonce_bytes, chunk_length, last_index, last_chunk, sealed_before_last, block_bytes}
 use Rattle.age_stream.specs.Segment.{Outcome, outcome, with_piece, with_end}
 use Rattle.age_stream.specs.inner.OpenerSteps.{status_after, status_ended}
@@ -13,20 +13,21 @@ use Rattle.age_stream.specs.Laws.{RestIsAuthentic, PiecesJoin, ReleasedGrows, Ch
 use Rattle.age_stream.specs.Laws.{ReleasedIsWritten, PayloadIsLonger, LengthsAreOne}
 use Rattle.age_chunk.proofs.NonceLemmas.{nonce_bytes-length}
 use Rattle.age_chunk.proofs.FirstChunkLemmas.{length-first_chunks}
-use Rattle.age_stream.proofs.GoingLemmas.{going, after_piece, after_end, IsAfterBytes}
+use Rattle.age_stream.proofs.GoingLemmas.{going, after_piece, after_end}
+use Rattle.age_stream.proofs.TableLemmas.{IsAfterBytes}
 use Rattle.age_stream.proofs.GrowingLemmas.{stands_at}
 use Rattle.age_stream.proofs.FreshLemmas.{fresh_outcome}
 use Rattle.age_stream.proofs.SealingLemmas.{last_index_le}
 use Rattle.age_stream.proofs.UndamagedLemmas.{all_full, length-bytes_of, payload_is}
 use Rattle.age_stream.proofs.SegmentRightLemmas.{segment_right}
-use Rattle.age_stream.proofs.ReplayLemmas as replay
+use Rattle.age_stream.proofs.GoingLemmas as goes
 use Rattle.age_stream.proofs.GrowingLemmas as growing
 use Rattle.age_stream.proofs.CountingLemmas as counting
 use Rattle.age_stream.proofs.SealingLemmas as sealings
-use Rattle.age_stream.proofs.AuthenticLemmas as authentic
+use Rattle.age_stream.proofs.HeldLemmas as held
 
 pub pieces_join : PiecesJoin
-pieces_join = replay.pieces_join
+pieces_join = goes.pieces_join
 
 pub released_grows : ReleasedGrows
 released_grows = growing.released_grows
@@ -38,7 +39,7 @@ pub sealed_grows : SealedGrows
 sealed_grows sealing n text more positive = sealings.payload_begins n positive sealing text more
 
 pub rest_is_authentic : RestIsAuthentic
-rest_is_authentic sealing opening n text so = authentic.rest_right sealing opening so.valid n so.some text so.few so.closed
+rest_is_authentic = held.rest_is_right
 
 pub fresh_is_open : FreshIsOpen
 fresh_is_open = fresh_outcome
@@ -74,7 +75,7 @@ end_closes opening n s = (
 
 -- ---- lengths
 
-module _ (sealing : List ℕ → List ℕ → List ℕ) (opening : List ℕ → List ℕ → Option (List ℕ)) (valid : IsChunkBox sealing opening) (n : ℕ) where
+module _ (sealing : Seals) (opening : OpensBlock) (valid : IsChunkBox sealing opening) (n : ℕ) where
   front_length : (text : List ℕ) → length (block_bytes (sealed_before_last sealing n text)) ≡ last_index n text * (n + tag_length)
   front_length text =
       let q = last_index n text in

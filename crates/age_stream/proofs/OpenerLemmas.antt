@@ -1,36 +1,81 @@
--- A step of an opener, for each segment that it was given.
+-- A step of an opener, and its end, for each segment that it was given.
 use Rattle.std.proofs.Common.{inl, inr, ◌≡◌, ℕ, ◌<◌, ◌≤◌, ◌+◌, ◌-◌, refl, ap, sym, subst, ◌∙◌, List, [], ◌∷◌, ◌++◌, length, take, drop, Bool, true, false}
 use Rattle.std.proofs.Common.{arith}
-use Rattle.std.specs.Prelude.{Option, Result, Ok, Err, IfOk, MatchResult, nat_lt, cond, ◌||◌, if◌then◌else◌}
-use Rattle.std.proofs.lemmas.List.{append-nil, append_assoc, length-append, length-take, nil_from_length, take-append-drop, take_all}
-use Rattle.std.proofs.lemmas.Bool.{cases_lt}
-use Rattle.age_stream.specs.Segment.{Segment, Outcome, outcome, rest_bytes, with_piece}
-use Rattle.age_stream.specs.inner.OpenerSteps.{one_block, status_after, IsTried, TakesPart, TakesWhole, TakesNone}
-use Rattle.age_stream.specs.declared.opener.OpenerState.{OpenerState}
+use Rattle.std.specs.Prelude.{Result, Ok, Err, IfOk, MatchResult, nat_lt, if◌then◌else◌, Option, Some, None}
+use Rattle.std.specs.List.{flat_map}
+use Rattle.std.proofs.lemmas.Grind.{flat_map-append}
+use Rattle.std.proofs.lemmas.List.{append-nil, length-append, length-take, nil_from_length, take-append-drop, take_all}
+use Rattle.std.proofs.lemmas.Bool.{cases_lt, true≢false}
+use Rattle.age_chunk.specs.ChunkBoxes.{OpensBlock, tag_length, text_length}
 use Rattle.age_chunk.specs.declared.fault.StreamFault.{StreamFault}
+use Rattle.age_stream.specs.Segment.{Segment, Outcome, outcome, released, front_texts, whole_blocks, rest_bytes, with_piece, with_end, Frontier}
+use Rattle.age_stream.specs.Segment.{unless_greatest, failed}
+use Rattle.age_stream.specs.Opener.{Stands, handed, held_bytes, opener_view}
+use Rattle.age_stream.specs.inner.OpenerSteps.{one_block, final_block, status_after, status_ended, advanced, text_lent, front_bytes, IsTried, TakesPart}
+use Rattle.age_stream.specs.inner.OpenerSteps.{TakesWhole, TakesNone, OpenerEndsAs, after_front}
+use Rattle.age_stream.specs.declared.opener.OpenerState.{OpenerState}
 use Rattle.age_stream.specs.declared.step.Status.{Status}
 use Rattle.age_stream.specs.declared.step.Status.TheVariants.{Open, LastSeen, Done, Failed}
-use Rattle.age_stream.specs.Opener.{Stands, given, handed, held_bytes, opener_view}
-use Rattle.age_stream.proofs.GoingLemmas.{going, going_part, going_whole, after_piece, unended_piece, IsGoing, IsWhole}
-use Rattle.age_chunk.specs.ChunkBoxes.{tag_length, text_length}
+use Rattle.age_stream.proofs.GoingLemmas.{going, going_outcome, going_part, going_whole, going_end, after_piece, after_end, ended_piece, unended_piece}
+use Rattle.age_stream.proofs.GoingLemmas.{pieces_join, IsGoing, IsWhole}
+use Rattle.age_stream.proofs.TableLemmas.{prepend, last_of, line_last}
+use Rattle.age_chunk.specs.Payload.{nonce_bytes}
+use Rattle.age_chunk.specs.declared.fault.StreamKind.{StreamKind}
+use Rattle.age_chunk.specs.declared.fault.StreamKind.TheVariants.{ChunkDamaged}
 
-never : true ≡ false → ⊥
-never e = cc
+-- ---- A whole block.
+
+abbrev pub refused : StreamKind → ℕ → Outcome
+refused kind i = record { texts = []; index = i; status = failed kind i }
+
+-- what one block gives that is in a buffer of n bytes: once it was opened, its text is the buffer's
+-- front
+module _ (opening : OpensBlock) (i n : ℕ) (block new : List ℕ) (len : length block ≡ n) (long : tag_length ≤ length block) where
+  abbrev alone : Frontier
+  alone = record { texts = []; index = i; block = block; whole = true; followed = false; ended = false }
+
+  -- it was tried as the last, since it doesn't open as one before
+  shut_in : (tried : List ℕ) (o : Option (List ℕ)) → opening (nonce_bytes i false) block ≡ None → tried ≡ block → opening (nonce_bytes i true) tried ≡ o
+      → one_block opening i block ≡ last_of alone o
+  shut_in tried o closed same is =
+      ap (λ (o : Option (List ℕ)). after_front opening (unless_greatest i o) i block) closed
+      ∙ line_last opening alone o refl long refl (λ _. closed) (ap (opening (nonce_bytes i true)) (sym same) ∙ is)
+
+  pub last_in : (tried : List ℕ) → opening (nonce_bytes i false) block ≡ None → tried ≡ block
+      → opening (nonce_bytes i true) tried ≡ Some (take (text_length (length tried)) new)
+      → one_block opening i block ≡ record { texts = take (text_length n) new ∷ []; index = i; status = LastSeen }
+  last_in tried closed same opens =
+      shut_in tried (Some (take (text_length n) new)) closed same (opens ∙ ap (λ (k : ℕ). Some (take (text_length k) new)) (ap length same ∙ len))
+
+  pub neither_in : (tried : List ℕ) → opening (nonce_bytes i false) block ≡ None → tried ≡ block → opening (nonce_bytes i true) tried ≡ None
+      → one_block opening i block ≡ refused ChunkDamaged i
+  neither_in tried closed same none = shut_in tried None closed same none
+
+module _ {B : Type 0} {n : ℕ} {g : _} (old new : OpenerState B n g) (outcome : Outcome) (key : new.key ≡ old.key) where
+  pub tried_text : (i : ℕ) (status : Status) → outcome ≡ record { texts = take (text_length n) new.buffer.items ∷ []; index = i; status = status }
+      → new.index ≡ i → new.status ≡ status → new.lent ≡ true → length new.buffer.items ≡ n → IsTried outcome old (Ok tt) new
+  tried_text i status is at stands lent len = record {
+    key = key;
+    index = at ∙ ap (λ (o : Outcome). o.index) (sym is);
+    status = stands ∙ ap (λ (o : Outcome). o.status) (sym is);
+    answered = (lent, len, ap (λ (o : Outcome). o.texts) is);
+  }
+
+  pub tried_fault : (i : ℕ) (kind : StreamKind) (fault : StreamFault) → outcome ≡ refused kind i
+      → new.index ≡ i → new.status ≡ failed kind i → Failed fault ≡ failed kind i → IsTried outcome old (Err fault) new
+  tried_fault i kind fault is at stands same = record {
+    key = key;
+    index = at ∙ ap (λ (o : Outcome). o.index) (sym is);
+    status = stands ∙ ap (λ (o : Outcome). o.status) (sym is);
+    answered = (stands ∙ sym same, ap (λ (o : Outcome). o.texts) is);
+  }
+
+-- ---- A piece.
 
 piece_timely : (s : Segment) (ended : Bool) (p : List ℕ) → s.ended ≡ ended → (s.ended ≡ false → s.late ≡ false) → (with_piece s p).ended ≡ false
     → (with_piece s p).late ≡ false
 piece_timely s false p is t h = ap (λ (x : Segment). x.late) (unended_piece s p is) ∙ t is
-piece_timely s true p is t h =
-    let e : (with_piece s p).ended ≡ true =
-    ap (λ (b : Bool). (cond {A = Segment} b (record { start = s.start; bytes = s.bytes; ended = true; late = s.late || nat_lt 0 (length p) })
-    (record { start = s.start; bytes = s.bytes ++ p; ended = false; late = s.late })).ended) is in
-    cc
-
-two_pieces : (s : Segment) (p r : List ℕ) → s.ended ≡ false → with_piece (with_piece s p) r ≡ with_piece s (p ++ r)
-two_pieces s p r is =
-    ap (λ (x : Segment). with_piece x r) (unended_piece s p is)
-    ∙ (ap (λ (bs : List ℕ). record { start = s.start; bytes = bs; ended = false; late = s.late }) (append_assoc s.bytes p r)
-    ∙ sym (unended_piece s (p ++ r) is))
+piece_timely s true p is t h = let e = ap (λ (x : Segment). x.ended) (ended_piece s p is) in cc
 
 never_open : (some : Bool) (i : ℕ) (s : Status) → (s ≡ Open → ⊥) → status_after some i s ≡ Open → ⊥
 never_open some i (Failed f) h e = cc
@@ -41,18 +86,23 @@ never_open false i LastSeen h e = cc
 never_open false i Done h e = cc
 never_open false i Open h e = h e
 
-module _ {B : Type 0} {n : ℕ} {g : _} (opening : B → List ℕ → List ℕ → Option (List ℕ)) (old new : OpenerState B n g) (big : tag_length ≤ n) where
+module _ {B : Type 0} {n : ℕ} {g : _} (opening : B → OpensBlock) (old new : OpenerState B n g) (big : tag_length ≤ n) where
+  abbrev out : Segment → Outcome
+  out = outcome (opening old.key.now) (text_length n)
+
+  abbrev Was : Segment → Type 0
+  Was = Stands opening (text_length n) (opener_view old)
+
   -- what a step leaves, for a segment that the opener was given
   pub record Follows (s next : Segment) (texts : List (List ℕ)) : Type 0 where
     pub stands : Stands opening (text_length n) (opener_view new) next
-    pub texts_are : (outcome (opening old.key.now) (text_length n) next).texts ≡ (outcome (opening old.key.now) (text_length n) s).texts ++ texts
+    pub texts_are : (out next).texts ≡ (out s).texts ++ texts
 
   back : text_length n + tag_length ≡ n
   back = omega (arith, big)
 
-  to_new : (next : Segment) → new.key ≡ old.key → new.index ≡ (outcome (opening old.key.now) (text_length n) next).index → new.status
-      ≡ (outcome (opening old.key.now) (text_length n) next).status
-      → (new.status ≡ Open → held_bytes new ≡ rest_bytes (text_length n) next.bytes) → (next.ended ≡ false → next.late ≡ false)
+  to_new : (next : Segment) → new.key ≡ old.key → new.index ≡ (out next).index → new.status
+      ≡ (out next).status → (new.status ≡ Open → held_bytes new ≡ rest_bytes (text_length n) next.bytes) → (next.ended ≡ false → next.late ≡ false)
       → Stands opening (text_length n) (opener_view new) next
   to_new next key index status held timely =
       record {
@@ -62,9 +112,8 @@ module _ {B : Type 0} {n : ℕ} {g : _} (opening : B → List ℕ → List ℕ �
         timely = timely;
       }
 
-  pub part : (s : Segment) (piece : List ℕ) (answer : Result (ℕ × Bool) StreamFault) → Stands opening (text_length n) (opener_view old) s → old.status ≡ Open
-      → length (held_bytes old) + length piece < n → TakesPart old piece answer new
-      → Follows s (with_piece s piece) []
+  pub part : (s : Segment) (piece : List ℕ) (answer : Result (ℕ × Bool) StreamFault) → Was s → old.status ≡ Open
+      → length (held_bytes old) + length piece < n → TakesPart old piece answer new → Follows s (with_piece s piece) []
   part s piece answer h open_ short t =
       let op = opening old.key.now in
       let m = text_length n in
@@ -80,7 +129,7 @@ module _ {B : Type 0} {n : ℕ} {g : _} (opening : B → List ℕ → List ℕ �
       }
 
   -- the front of the piece made a whole block
-  module _ (s : Segment) (piece : List ℕ) (h : Stands opening (text_length n) (opener_view old) s) (open_ : old.status ≡ Open) (long : n
+  module _ (s : Segment) (piece : List ℕ) (h : Was s) (open_ : old.status ≡ Open) (long : n
       ≤ length (held_bytes old) + length piece) (short : length (held_bytes old) < n) where
     abbrev front : List ℕ
     front = take (n - length (held_bytes old)) piece
@@ -98,14 +147,13 @@ module _ {B : Type 0} {n : ℕ} {g : _} (opening : B → List ℕ → List ℕ �
     abbrev trial : Outcome
     trial = one_block (opening old.key.now) old.index (held_bytes old ++ front)
 
-    tried : one_block (opening old.key.now) (outcome (opening old.key.now) (text_length n) s).index (rest_bytes (text_length n) s.bytes ++ front) ≡ trial
+    tried : one_block (opening old.key.now) (out s).index (rest_bytes (text_length n) s.bytes ++ front) ≡ trial
     tried =
         ap (λ (i : ℕ). one_block (opening old.key.now) i (rest_bytes (text_length n) s.bytes ++ front)) (sym h.index)
         ∙ ap (λ (bs : List ℕ). one_block (opening old.key.now) old.index (bs ++ front)) (sym (h.held open_))
 
     pub whole : (answer : Result (ℕ × Bool) StreamFault) → TakesWhole trial old answer new
-        → Follows s (with_piece s (given (λ (a : ℕ × Bool). a.0) answer piece))
-        (handed (λ (a : ℕ × Bool). if a.1 then take (text_length n) new.buffer.items ∷ [] else []) answer)
+        → Follows s (advanced s piece answer) (handed (text_lent n new.buffer.items) answer)
     whole (Ok a) t =
         let w = whole_front in
         let op = opening old.key.now in
@@ -132,7 +180,7 @@ module _ {B : Type 0} {n : ℕ} {g : _} (opening : B → List ℕ → List ℕ �
         let some = nat_lt 0 (length behind) in
         let stays : status_after some (outcome op m mid).index (outcome op m mid).status ≡ Failed f = ap (status_after some (outcome op m mid).index)
         failed_mid in
-        let join : with_piece mid behind ≡ with_piece s piece = two_pieces s front behind goes.unended
+        let join : with_piece mid behind ≡ with_piece s piece = pieces_join s front behind
         ∙ ap (with_piece s) (take-append-drop (n - length (held_bytes old)) piece) in
         let P : Segment → Type 0 = λ x. Follows s x [] in
         let status : new.status ≡ (outcome op m (with_piece mid behind)).status = t.answered.0 ∙ sym (more.status ∙ stays) in
@@ -143,10 +191,8 @@ module _ {B : Type 0} {n : ℕ} {g : _} (opening : B → List ℕ → List ℕ �
         })
 
   by_answer : (s : Segment) (piece : List ℕ) (answer : Result (ℕ × Bool) StreamFault) → ((p : List ℕ) → nat_lt 0 (length p) ≡ nat_lt 0 (length piece)
-      → Follows s (with_piece s p) [])
-      → MatchResult answer (λ a. (a.0 ≡ 0) × (a.1 ≡ false) × (length piece ≡ 0)) (λ fault. new.status ≡ Failed fault)
-      → Follows s (with_piece s (given (λ (a : ℕ × Bool). a.0) answer piece))
-      (handed (λ (a : ℕ × Bool). if a.1 then take (text_length n) new.buffer.items ∷ [] else []) answer)
+      → Follows s (with_piece s p) []) → MatchResult answer (λ a. (a.0 ≡ 0) × (a.1 ≡ false) × (length piece ≡ 0)) (λ fault. new.status ≡ Failed fault)
+      → Follows s (advanced s piece answer) (handed (text_lent n new.buffer.items) answer)
   by_answer s piece (Ok a) core t =
       let e : length (take a.0 piece) ≡ length piece = omega (arith, length-take a.0 piece, t.0, t.2) in
       let Q : Bool → Type 0 = λ f. Follows s (with_piece s (take a.0 piece)) (if f then take (text_length n) new.buffer.items ∷ [] else []) in
@@ -154,10 +200,8 @@ module _ {B : Type 0} {n : ℕ} {g : _} (opening : B → List ℕ → List ℕ �
   by_answer s piece (Err f) core t = core piece refl
 
   -- the opener was open no more
-  pub none : (s : Segment) (piece : List ℕ) → Stands opening (text_length n) (opener_view old) s → (old.status ≡ Open → ⊥) → (answer : Result (ℕ × Bool) StreamFault)
-      → TakesNone old piece answer new
-      → Follows s (with_piece s (given (λ (a : ℕ × Bool). a.0) answer piece))
-      (handed (λ (a : ℕ × Bool). if a.1 then take (text_length n) new.buffer.items ∷ [] else []) answer)
+  pub none : (s : Segment) (piece : List ℕ) → Was s → (old.status ≡ Open → ⊥) → (answer : Result (ℕ × Bool) StreamFault)
+      → TakesNone old piece answer new → Follows s (advanced s piece answer) (handed (text_lent n new.buffer.items) answer)
   none s piece h shut answer t =
       let op = opening old.key.now in
       let m = text_length n in
@@ -179,8 +223,7 @@ module _ {B : Type 0} {n : ℕ} {g : _} (opening : B → List ℕ → List ℕ �
 
   part_answer : (s : Segment) (piece : List ℕ) (answer : Result (ℕ × Bool) StreamFault) → Follows s (with_piece s piece) []
       → MatchResult answer (λ a. (a.0 ≡ length piece) × (a.1 ≡ false)) (λ fault. ⊥)
-      → Follows s (with_piece s (given (λ (a : ℕ × Bool). a.0) answer piece))
-      (handed (λ (a : ℕ × Bool). if a.1 then take (text_length n) new.buffer.items ∷ [] else []) answer)
+      → Follows s (advanced s piece answer) (handed (text_lent n new.buffer.items) answer)
   part_answer s piece (Ok a) h t =
       let e : take a.0 piece ≡ piece = take_all a.0 piece (omega (arith, t.0)) in
       let Q : Bool → Type 0 = λ f. Follows s (with_piece s (take a.0 piece)) (if f then take (text_length n) new.buffer.items ∷ [] else []) in
@@ -189,13 +232,11 @@ module _ {B : Type 0} {n : ℕ} {g : _} (opening : B → List ℕ → List ℕ �
   part_answer s piece (Err f) h t = absurd t
 
   -- the opener was open
-  pub open_step : (s : Segment) (piece : List ℕ) (answer : Result (ℕ × Bool) StreamFault) → Stands opening (text_length n) (opener_view old) s → old.status
-      ≡ Open → length (held_bytes old) < n
-      → (length (held_bytes old) + length piece < n → TakesPart old piece answer new)
+  pub open_step : (s : Segment) (piece : List ℕ) (answer : Result (ℕ × Bool) StreamFault) → Was s → old.status
+      ≡ Open → length (held_bytes old) < n → (length (held_bytes old) + length piece < n → TakesPart old piece answer new)
       → (n ≤ length (held_bytes old) + length piece
       → TakesWhole (one_block (opening old.key.now) old.index (held_bytes old ++ take (n - length (held_bytes old)) piece)) old answer new)
-      → Follows s (with_piece s (given (λ (a : ℕ × Bool). a.0) answer piece))
-      (handed (λ (a : ℕ × Bool). if a.1 then take (text_length n) new.buffer.items ∷ [] else []) answer)
+      → Follows s (advanced s piece answer) (handed (text_lent n new.buffer.items) answer)
   open_step s piece answer h open_ short f w =
       elim (cases_lt (length (held_bytes old) + length piece) n) [
         | inl lt ↦ (let t = f lt in part_answer s piece answer (part s piece answer h open_ lt t) t.answered)
@@ -223,7 +264,7 @@ module _ {B : Type 0} {n : ℕ} {g : _} (old new : OpenerState B n g) (piece : L
   open_unlent outcome (Ok a) part whole = λ unlent.
       elim (cases_lt (length (held_bytes old) + length piece) n) [
         | inl lt ↦ (let t = part lt in omega (arith, ap length t.held, length-append (held_bytes old) piece, t.answered.0))
-        | inr le ↦ (let t = whole le in absurd (never (sym t.answered.1 ∙ unlent)))
+        | inr le ↦ (let t = whole le in absurd (true≢false (sym t.answered.1 ∙ unlent)))
       ]
 
   pub open_room : (outcome : Outcome) (answer : Result (ℕ × Bool) StreamFault) → Part answer → Whole outcome answer
@@ -245,7 +286,7 @@ module _ {B : Type 0} {n : ℕ} {g : _} (old new : OpenerState B n g) (piece : L
       ]
 
 -- a block that is full was tried: what was taken of the piece, for what was held
-module _ {B : Type 0} {n : ℕ} {g : _} (opening : B → List ℕ → List ℕ → Option (List ℕ)) (old mid new : OpenerState B n g) (piece : List ℕ)
+module _ {B : Type 0} {n : ℕ} {g : _} (opening : B → OpensBlock) (old mid new : OpenerState B n g) (piece : List ℕ)
     (key : mid.key ≡ old.key) (index : mid.index ≡ old.index)
     (items : mid.buffer.items ≡ held_bytes old ++ take (n - length (held_bytes old)) piece) where
   block : one_block (opening mid.key.now) mid.index mid.buffer.items
@@ -277,3 +318,62 @@ module _ {B : Type 0} {n : ℕ} {g : _} (opening : B → List ℕ → List ℕ �
     status = t.status ∙ ap (λ (o : Outcome). o.status) block;
     answered = (t.answered.0, ap (λ (o : Outcome). o.texts) (sym block) ∙ t.answered.1);
   }
+
+-- ---- An end.
+
+module _ {B : Type 0} {n : ℕ} {g : _} (opening : B → OpensBlock) (old new : OpenerState B n g) where
+  pub record Finishes (s : Segment) (bytes : List ℕ) : Type 0 where
+    pub stands : Stands opening (text_length n) (opener_view new) (with_end s)
+    pub text : released (opening old.key.now) (text_length n) (with_end s) ≡ released (opening old.key.now) (text_length n) s ++ bytes
+
+  ended_bytes : (o : Outcome) (answer : Result ℕ StreamFault)
+      → MatchResult answer (λ len. (len ≤ length new.buffer.items) × (len ≤ length (held_bytes old))
+      × (flat_map (λ (text : List ℕ). text) o.texts ≡ take len new.buffer.items)) (λ fault. (new.status ≡ Failed fault) × (o.texts ≡ []))
+      → flat_map (λ (t : List ℕ). t) o.texts ≡ front_bytes answer new.buffer.items
+  ended_bytes o (Ok len) t = t.2
+  ended_bytes o (Err f) t = ap (flat_map (λ (t : List ℕ). t)) t.1
+
+  -- the outcome of the whole segment is the end's, after the texts so far
+  finishes : (s : Segment) (o : Outcome) (answer : Result ℕ StreamFault) → OpenerEndsAs o old answer new
+      → (outcome (opening old.key.now) (text_length n) (with_end s)).texts ≡ (outcome (opening old.key.now) (text_length n) s).texts ++ o.texts
+      → (outcome (opening old.key.now) (text_length n) (with_end s)).index ≡ o.index → (outcome (opening old.key.now) (text_length n) (with_end s)).status ≡ o.status
+      → Finishes s (front_bytes answer new.buffer.items)
+  finishes s o answer e texts index status =
+      let op = opening old.key.now in
+      let m = text_length n in
+      let gained : flat_map (λ (t : List ℕ). t) o.texts ≡ front_bytes answer new.buffer.items = ended_bytes o answer e.answered in
+      record {
+        stands = record {
+          index = e.index ∙ (sym index ∙ ap (λ k. (outcome (opening k.now) m (with_end s)).index) (sym e.key));
+          status = e.status ∙ (sym status ∙ ap (λ k. (outcome (opening k.now) m (with_end s)).status) (sym e.key));
+          held = λ x. absurd (e.closed x);
+          timely = λ x. cc;
+        };
+        text = ap (flat_map (λ (t : List ℕ). t)) texts
+            ∙ (flat_map-append (λ (t : List ℕ). t) (outcome op m s).texts o.texts ∙ ap (λ (bs : List ℕ). released op m s ++ bs) gained);
+      }
+
+  pub end_open : (s : Segment) (answer : Result ℕ StreamFault) → Stands opening (text_length n) (opener_view old) s → old.status ≡ Open
+      → OpenerEndsAs (final_block (opening old.key.now) [] old.index (held_bytes old) false true) old answer new → Finishes s (front_bytes answer new.buffer.items)
+  end_open s answer h open_ e =
+      let op = opening old.key.now in
+      let m = text_length n in
+      let g = going op m s (sym h.status ∙ open_) in
+      let texts = front_texts op s.start (whole_blocks m s.bytes) in
+      let here = going_outcome op m s g in
+      let F : ℕ → List ℕ → Outcome = λ k bs. final_block op [] k bs false true in
+      let o = F old.index (held_bytes old) in
+      let is : outcome op m (with_end s) ≡ prepend (outcome op m s).texts o =
+      going_end op m s g (h.timely g.unended)
+      ∙ (ap (λ (k : ℕ). prepend texts (F k (rest_bytes m s.bytes))) (sym (h.index ∙ ap (λ (o : Outcome). o.index) here))
+      ∙ (ap (λ (bs : List ℕ). prepend texts (F old.index bs)) (sym (h.held open_)) ∙ ap (λ (ts : List (List ℕ)). prepend ts o) (sym (ap (λ (o : Outcome). o.texts) here)))) in
+      finishes s o answer e (ap (λ (o : Outcome). o.texts) is) (ap (λ (o : Outcome). o.index) is) (ap (λ (o : Outcome). o.status) is)
+
+  pub end_closed : (s : Segment) (answer : Result ℕ StreamFault) → Stands opening (text_length n) (opener_view old) s → (old.status ≡ Open → ⊥)
+      → OpenerEndsAs (record { texts = []; index = old.index; status = status_ended old.status }) old answer new → Finishes s (front_bytes answer new.buffer.items)
+  end_closed s answer h shut e =
+      let op = opening old.key.now in
+      let m = text_length n in
+      let more = after_end op m s (λ o. shut (h.status ∙ o)) in
+      finishes s (record { texts = []; index = old.index; status = status_ended old.status }) answer e
+      (more.texts ∙ sym (append-nil (outcome op m s).texts)) (more.index ∙ sym h.index) (more.status ∙ ap status_ended (sym h.status))

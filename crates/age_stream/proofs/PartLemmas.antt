@@ -5,11 +5,12 @@ use Rattle.std.specs.Prelude.{◌==◌}
 use Rattle.std.specs.List.{flat_map, AllByRecursion}
 use Rattle.std.specs.Simd.{first_chunks}
 use Rattle.std.proofs.lemmas.Grind.{flat_map-append}
-use Rattle.std.proofs.lemmas.List.{length-append, length-drop, append-nil, take-append-drop, drop_at, get_or_append_left, length_push}
-use Rattle.std.proofs.lemmas.List.{get_or_push, nil_from_length}
+use Rattle.std.proofs.lemmas.List.{length-append, length-drop, append-nil, take-append-drop, drop_at, get_or_append_left, length_push, get_or_push}
+use Rattle.std.proofs.lemmas.List.{nil_from_length}
 use Rattle.std.proofs.lemmas.Bool.{cases_lt, eq-eqb, ne_eqb}
 use Rattle.std.proofs.lemmas.Nat.{mul-le}
 use Rattle.std.proofs.Math.Seq.{drop-nil}
+use Rattle.age_chunk.specs.ChunkBoxes.{Seals}
 use Rattle.age_chunk.specs.Payload.{nonce_bytes, last_index, last_chunk, chunks, pair, sealed}
 use Rattle.age_stream.specs.Laws.{AreChunks}
 use Rattle.age_chunk.proofs.FirstChunkLemmas.{length-first_chunks}
@@ -90,7 +91,7 @@ module _ (n : ℕ) (text : List ℕ) (positive : 0 < n) where
         | inr none ↦ none.1 ∙ sym (empty_chunks (ap length none.0))
       ]
 
-module _ (sealing : List ℕ → List ℕ → List ℕ) (n : ℕ) (text : List ℕ) where
+module _ (sealing : Seals) (n : ℕ) (text : List ℕ) where
   abbrev at : ℕ
   at = last_index n text
 

@@ -1,19 +1,23 @@
--- A step of a sealer, for each text that it was given.
-use Rattle.std.proofs.Common.{◌≡◌, ℕ, ◌<◌, ◌≤◌, ◌+◌, ap, sym, subst, ◌∙◌, List, [], ◌∷◌, ◌++◌, length, take, true, false, arith}
+-- A step of a sealer, for each text that it was given; and how much of a whole text's payload its blocks before the last are.
+use Rattle.std.proofs.Common.{◌≡◌, ℕ, ◌<◌, ◌≤◌, ◌+◌, ◌*◌, ◌-◌, ap, sym, subst, ◌∙◌, List, [], ◌∷◌, ◌++◌, length, take, drop, true, false, take-add}
+use Rattle.std.proofs.Common.{take-append-drop, arith}
 use Rattle.std.specs.Prelude.{Option, Some, None}
 use Rattle.std.proofs.lemmas.Bool.Decides.{nat_tests}
-use Rattle.std.proofs.lemmas.List.{append-nil, length-take}
+use Rattle.std.proofs.lemmas.List.{append-nil, length-append, length-take, take_rest, take-append-le, take_all}
 use Rattle.std.proofs.lemmas.Grind.{flat_map-append}
-use Rattle.age_chunk.specs.Payload.{nonce_bytes, last_index, last_chunk, sealed_before_last, block_bytes, pair, payload}
+use Rattle.age_chunk.specs.ChunkBoxes.{IsChunkBox, OpensBlock, Seals, tag_length, text_length}
+use Rattle.age_chunk.specs.Payload.{nonce_bytes, chunk_count, last_index, last_chunk, sealed_before_last, block_bytes, pair, payload}
 use Rattle.age_stream.specs.Sealer.{SealerView, Holds, step_len}
 use Rattle.age_stream.specs.inner.SealerSteps.{block_or_none, IsStep, Grows, SealerCloses}
-use Rattle.age_stream.proofs.SealingLemmas.{grown_index, grown_chunk, grown_blocks, closed_index, closed_chunk, closed_blocks}
+use Rattle.age_stream.proofs.LawLemmas.{sealed_grows, payload_is_longer}
+use Rattle.age_stream.proofs.SealingLemmas.{grown_index, grown_chunk, grown_blocks, closed_index, closed_chunk, closed_blocks, last_index_le}
+use Rattle.std.specs.List.{refill}
 
 -- no more is taken than came
 pub step_len_le : (m : ℕ) (held piece : List ℕ) → step_len m held piece ≤ length piece
 step_len_le m held piece = grind (arith, nat_tests)
 
-module _ {B : Type 0} (sealing : B → List ℕ → List ℕ → List ℕ) (n : ℕ) (old new : SealerView B) (positive : 0 < n) (piece : List ℕ) (taken : ℕ) where
+module _ {B : Type 0} (sealing : B → Seals) (n : ℕ) (old new : SealerView B) (positive : 0 < n) (piece : List ℕ) (taken : ℕ) where
   -- what a step leaves, for a text that the sealer was given
   pub record Follows (text : List ℕ) (block : Option (List ℕ)) : Type 0 where
     pub holds : Holds n new (text ++ take taken piece)
@@ -65,7 +69,7 @@ module _ {B : Type 0} (sealing : B → List ℕ → List ℕ → List ℕ) (n : 
   follows text None h s = grows text h s.cases
   follows text (Some block) h s = let f = front_byte piece taken s.cases.one s.cases.more in closes text block f.0 f.1 h s.cases
 
-module _ {B : Type 0} (sealing : B → List ℕ → List ℕ → List ℕ) (n : ℕ) (old : SealerView B) where
+module _ {B : Type 0} (sealing : B → Seals) (n : ℕ) (old : SealerView B) where
   pub payload_is : (text block : List ℕ) → Holds n old text → block ≡ sealing old.key (nonce_bytes old.index true) old.held
       → payload (sealing old.key) n text ≡ block_bytes (sealed_before_last (sealing old.key) n text) ++ block
   payload_is text block h e =
@@ -75,3 +79,60 @@ module _ {B : Type 0} (sealing : B → List ℕ → List ℕ → List ℕ) (n : 
       e ∙ (ap (λ (i : ℕ). key (nonce_bytes i true) old.held) h.index ∙ ap (key (nonce_bytes (last_index m text) true)) h.held) in
       flat_map-append (λ (p : List ℕ × List ℕ). p.1) (sealed_before_last key m text) (pair key true (last_index m text, last_chunk m text) ∷ [])
       ∙ ap (λ (t : List ℕ). block_bytes (sealed_before_last key m text) ++ t) (append-nil (pair key true (last_index m text, last_chunk m text)).1 ∙ sym is)
+
+-- ---- A block that is sealed in place.
+
+first_bytes : (n : ℕ) (xs ys : List ℕ) → length xs ≡ n → take n (xs ++ ys) ≡ xs
+first_bytes n xs ys len =
+    let le : n ≤ length xs = omega (arith, len) in
+    take-append-le n xs ys le ∙ take_all n xs (omega (arith, len))
+
+-- a buffer that was filled again with as many bytes has those
+refilled : (n : ℕ) (old new : List ℕ) → length new ≡ n → refill n old new ≡ new
+refilled n old new len = first_bytes n new (drop (length new) old) len
+
+pub sealed_in : (sealing : Seals) (given nonce lent block text tag new : List ℕ) → given ≡ nonce → lent ≡ block → block ≡ text ++ tag
+    → length tag ≡ tag_length → length new ≡ length block → new ≡ sealing given (take (text_length (length lent)) lent) → refill (length block) block new ≡ sealing nonce text
+sealed_in sealing given nonce lent block text tag new same is parts tag_len len h =
+    let all : lent ≡ text ++ tag = is ∙ parts in
+    let size : length text ≡ text_length (length lent) = omega (arith, ap length all, length-append text tag, tag_len) in
+    let is_text : take (text_length (length lent)) lent ≡ text = ap (take (text_length (length lent))) all ∙ first_bytes (text_length (length lent)) text tag size in
+    cc (h, same, is_text, refilled (length block) block new len)
+
+-- ---- A whole text.
+
+pub take_on : (k t : ℕ) (xs : List ℕ) → take k xs ++ take t (take (length xs - k) (drop k xs)) ≡ take (k + t) xs
+take_on k t xs = ap (λ (ys : List ℕ). take k xs ++ take t ys) (take_rest xs k) ∙ sym (take-add k t xs)
+
+abbrev pub front_of : Seals → ℕ → List ℕ → List ℕ
+front_of sealing n text = block_bytes (sealed_before_last sealing n text)
+
+module _ (sealing : Seals) (n : ℕ) (text : List ℕ) where
+  abbrev front : List ℕ → List ℕ
+  front = front_of sealing n
+
+  -- what was taken at a place of the text adds a block there
+  pub fed_on : (at taken : ℕ) (block : List ℕ)
+      → front (take at text ++ take taken (take (length text - at) (drop at text))) ≡ front (take at text) ++ block
+      → front (take (at + taken) text) ≡ front (take at text) ++ block
+  fed_on at taken block is = sym (ap front (take_on at taken text)) ∙ is
+
+  module _ (opening : OpensBlock) (valid : IsChunkBox sealing opening) (positive : 0 < n) where
+    -- the blocks of a part of the text have room if the whole payload has
+    pub front_fits : (k : ℕ) → length (front (take k text)) ≤ length text + chunk_count n text * tag_length
+    front_fits k =
+        let q = last_index n text in
+        let p = sealed_grows sealing n (take k text) (drop k text) positive in
+        let whole : front (take k text) ++ p.0 ≡ front text = p.1 ∙ ap front (take-append-drop k text) in
+        let size = (payload_is_longer sealing opening valid n text).1 in
+        let e : q * (n + tag_length) ≡ q * n + q * tag_length = omega arith in
+        let f : (q + 1) * tag_length ≡ q * tag_length + tag_length = omega arith in
+        omega (arith, ap length whole, length-append (front (take k text)) p.0, size, last_index_le n text, e, f)
+
+    pub fed_fits : (at taken : ℕ) (block : List ℕ) → front (take (at + taken) text) ≡ front (take at text) ++ block
+        → length (front (take at text)) + length block ≤ length text + chunk_count n text * tag_length
+    fed_fits at taken block is = omega (arith, ap length is, length-append (front (take at text)) block, front_fits (at + taken))
+
+    pub last_fits : (here block : List ℕ) → payload sealing n text ≡ front here ++ block
+        → length (front here) + length block ≡ length text + chunk_count n text * tag_length
+    last_fits here block is = omega (arith, ap length is, length-append (front here) block, (payload_is_longer sealing opening valid n text).0)

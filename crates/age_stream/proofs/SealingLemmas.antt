@@ -8,6 +8,7 @@ use Rattle.std.proofs.lemmas.Grind.{flat_map-append}
 use Rattle.std.proofs.lemmas.Bool.{cases_lt}
 use Rattle.std.proofs.lemmas.Nat.{div-mul-add}
 use Rattle.std.proofs.Math.Nat.{div-mul-le_self}
+use Rattle.age_chunk.specs.ChunkBoxes.{Seals}
 use Rattle.age_chunk.specs.Payload.{last_index, last_chunk, sealed_before_last, block_bytes, pair}
 use Rattle.age_chunk.proofs.FirstChunkLemmas.{first_chunks_more, first_chunks-append, length-first_chunks}
 use Rattle.age_stream.proofs.ChunkLemmas.{last_chunk_le, enumerate_from_more}
@@ -40,7 +41,7 @@ module _ (m : ℕ) (positive : 0 < m) (text more : List ℕ) (room : length (las
       let fits : last_index m text * m ≤ length text = omega (arith, low) in
       ap (λ (k : ℕ). drop (k * m) (text ++ more)) grown_index ∙ drop-append-le (last_index m text * m) text more fits
 
-  pub grown_blocks : (sealing : List ℕ → List ℕ → List ℕ) → sealed_before_last sealing m (text ++ more) ≡ sealed_before_last sealing m text
+  pub grown_blocks : (sealing : Seals) → sealed_before_last sealing m (text ++ more) ≡ sealed_before_last sealing m text
   grown_blocks sealing =
       let low = last_index_le m text in
       let fits : last_index m text * m ≤ length text = omega (arith, low) in
@@ -65,7 +66,7 @@ module _ (m : ℕ) (positive : 0 < m) (text : List ℕ) (x : ℕ) (full : length
   pub closed_chunk : last_chunk m (text ++ x ∷ []) ≡ x ∷ []
   closed_chunk = ap (λ (k : ℕ). drop (k * m) (text ++ x ∷ [])) closed_index ∙ drop_at text (x ∷ []) ((last_index m text + 1) * m) whole
 
-  pub closed_blocks : (sealing : List ℕ → List ℕ → List ℕ)
+  pub closed_blocks : (sealing : Seals)
       → sealed_before_last sealing m (text ++ x ∷ []) ≡ sealed_before_last sealing m text ++ pair sealing false (last_index m text, last_chunk m text) ∷ []
   closed_blocks sealing =
       let i = last_index m text in
@@ -87,7 +88,7 @@ module _ (m : ℕ) (positive : 0 < m) (text : List ℕ) (x : ℕ) (full : length
       ∙ map-append (pair sealing false) (enumerate_from 0 (first_chunks m i text)) ((i, last_chunk m text) ∷ []))
 
 -- one byte more leaves the blocks before the last as they are, or adds one
-module _ (m : ℕ) (positive : 0 < m) (sealing : List ℕ → List ℕ → List ℕ) where
+module _ (m : ℕ) (positive : 0 < m) (sealing : Seals) where
   abbrev Begins : List ℕ → List ℕ → Type 0
   Begins text more = (rest : List (List ℕ × List ℕ)) × (sealed_before_last sealing m (text ++ more) ≡ sealed_before_last sealing m text ++ rest)
 

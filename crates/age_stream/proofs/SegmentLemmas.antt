@@ -1,38 +1,34 @@
 -- What a segment releases, if what opens is the writer's.
 use Rattle.std.proofs.Common.{take-add, inl, inr, ◌≡◌, ℕ, suc, ◌<◌, ◌≤◌, ◌+◌, ◌*◌, ◌-◌, ◌/◌, ◌^◌, refl, ap, sym, subst, ◌∙◌, List, [], ◌∷◌, ◌++◌, length, take}
 use Rattle.std.proofs.Common.{drop, get_or, Bool, true, false, arith, rules}
-use Rattle.std.specs.Prelude.{Option, Some, None, IsSome, Contains, ◌==◌, nat_lt, cond, ◌||◌, ◌&&◌, slice_get}
+use Rattle.std.specs.Prelude.{Option, Some, None, IsSome, Contains, ◌==◌, nat_lt, cond}
 use Rattle.std.specs.List.{flat_map}
 use Rattle.std.specs.Simd.{first_chunks}
-use Rattle.std.proofs.lemmas.List.{append_assoc, append-nil, take_all, take-append-drop}
-use Rattle.std.proofs.lemmas.List.{flat_map_more}
+use Rattle.std.proofs.lemmas.List.{append_assoc, append-nil, take_all, take-append-drop, flat_map_more}
 use Rattle.std.proofs.lemmas.Bool.{ltb-true, cases_lt, eq-eqb, ne_eqb}
 use Rattle.std.proofs.lemmas.Bool.Decides.{nat_tests}
 use Rattle.std.proofs.Math.Nat.{le-div_iff_mul-le}
-use Rattle.std.proofs.lemmas.Option.{cond_some, slice_get-get_or, slice_get_past}
-use Rattle.age_chunk.specs.ChunkBoxes.{IsChunkBox, tag_length}
+use Rattle.std.proofs.lemmas.Option.{cond_some}
+use Rattle.age_chunk.specs.ChunkBoxes.{IsChunkBox, tag_length, Seals, OpensBlock}
 use Rattle.age_chunk.specs.Payload.{nonce_bytes, chunk_limit, chunk_count, last_index, last_chunk, pair, sealed}
-use Rattle.age_stream.specs.Segment.{Segment, Outcome, outcome, text_before_last, unless_greatest, text_then, front_texts, whole_blocks, rest_bytes, failed}
-use Rattle.age_stream.specs.Segment.{with_piece}
-use Rattle.age_stream.specs.inner.OpenerSteps.{after_last, at_block, final_block}
+use Rattle.age_stream.specs.Segment.{Segment, Outcome, outcome, unless_greatest, front_texts, whole_blocks, failed, with_piece, stop}
 use Rattle.age_stream.specs.declared.step.Status.{Status}
 use Rattle.age_stream.specs.declared.step.Status.TheVariants.{Open, Done}
-use Rattle.age_chunk.specs.declared.fault.StreamKind.TheVariants.{ChunkDamaged, ChunkCut, EmptyLast, Truncated, TooManyChunks}
+use Rattle.age_chunk.specs.declared.fault.StreamKind.TheVariants.{ChunkDamaged, TooManyChunks}
 use Rattle.age_stream.specs.Headline.{IsWriters, IsAuthentic, IsPrefixOf}
 use Rattle.age_chunk.proofs.NonceLemmas.{nonce_bytes-length, nonce_bytes-number, nonce_bytes-flag}
-use Rattle.age_chunk.proofs.FirstChunkLemmas.{length-first_chunks, get_or-first_chunks}
+use Rattle.age_chunk.proofs.FirstChunkLemmas.{get_or-first_chunks}
 use Rattle.age_stream.proofs.ChunkLemmas.{last_chunk_le, length-sealed, pair_before, pair_last}
-use Rattle.age_stream.proofs.TableLemmas.{verdict_at, by_blocks, length-front_texts}
-use Rattle.age_stream.proofs.TriedLemmas.{tried}
+use Rattle.age_stream.proofs.TableLemmas.{block_full, block_is, by_lines, front_is, outcome_is, texts_fit}
 
 -- a pair of the writer's, by its number
-pub record IsPair (sealing : List ℕ → List ℕ → List ℕ) (n : ℕ) (text : List ℕ) (nonce block : List ℕ) : Type 0 where
+pub record IsPair (sealing : Seals) (n : ℕ) (text : List ℕ) (nonce block : List ℕ) : Type 0 where
   pub at : ℕ
   pub below : at < chunk_count n text
   pub nonce_is : nonce ≡ nonce_bytes at (at + 1 == chunk_count n text)
   pub block_is : block ≡ sealing nonce (take n (drop (at * n) text))
 
-pair_at : (sealing : List ℕ → List ℕ → List ℕ) (n : ℕ) (text nonce block : List ℕ) (last : Bool) (i : ℕ) (x : List ℕ) → (nonce, block)
+pair_at : (sealing : Seals) (n : ℕ) (text nonce block : List ℕ) (last : Bool) (i : ℕ) (x : List ℕ) → (nonce, block)
     ≡ pair sealing last (i, x)
     → i < chunk_count n text → last ≡ (i + 1 == chunk_count n text) → x ≡ take n (drop (i * n) text) → IsPair sealing n text nonce block
 pair_at sealing n text nonce block last i x e below flag is =
@@ -44,7 +40,7 @@ pair_at sealing n text nonce block last i x e below flag is =
       block_is = ap (λ (p : List ℕ × List ℕ). p.1) e ∙ (ap (λ (m : List ℕ). sealing m x) (sym en) ∙ ap (sealing nonce) is);
     }
 
-pub IsPair-from_Contains : (sealing : List ℕ → List ℕ → List ℕ) (n : ℕ) (text nonce block : List ℕ) → 0 < n → Contains (sealed sealing n text) (nonce, block)
+pub IsPair-from_Contains : (sealing : Seals) (n : ℕ) (text nonce block : List ℕ) → 0 < n → Contains (sealed sealing n text) (nonce, block)
     → IsPair sealing n text nonce block
 IsPair-from_Contains sealing n text nonce block positive h =
     let q = last_index n text in
@@ -62,13 +58,6 @@ pub by_test : {A : Type 0} (P : A → Type 0) (b : Bool) (x y : A) → (b ≡ tr
 by_test P true x y f g = f refl
 by_test P false x y f g = g refl
 
--- what is left at the end has a tag, and is only a tag at number 0
-pub tag_left : (len : ℕ) → (nat_lt 0 len && nat_lt len tag_length) ≡ false → (len == 0) ≡ false → tag_length ≤ len
-tag_left len uncut some = grind (arith, nat_tests)
-
-pub empty_first : (len i : ℕ) → (len == tag_length && nat_lt 0 i) ≡ false → len ≡ tag_length → i ≡ 0
-empty_first len i first is = grind (arith, nat_tests)
-
 -- x is the chunk at i, and last says whether no other follows
 pub record IsChunk (n : ℕ) (text : List ℕ) (i : ℕ) (last : Bool) (x : List ℕ) : Type 0 where
   pub below : i < chunk_count n text
@@ -84,7 +73,7 @@ pub opens_before : (i : ℕ) (o : Option (List ℕ)) (x : List ℕ) → unless_g
 opens_before i None x e = cc
 opens_before i (Some y) x e = let t = cond_some (nat_lt (i + 1) chunk_limit) y x e in (t.0, ap Some t.1)
 
-module _ (sealing : List ℕ → List ℕ → List ℕ) (opening : List ℕ → List ℕ → Option (List ℕ)) (valid : IsChunkBox sealing opening)
+module _ (sealing : Seals) (opening : OpensBlock) (valid : IsChunkBox sealing opening)
     (n : ℕ) (text : List ℕ) (few : chunk_count n text ≤ chunk_limit) (positive : 0 < n) where
   pub writer_text : (i : ℕ) (last : Bool) (block x : List ℕ) → i < chunk_limit → opening (nonce_bytes i last) block ≡ Some x
       → IsWriters sealing opening n text (nonce_bytes i last) block → IsChunk n text i last x
@@ -125,8 +114,8 @@ module _ (sealing : List ℕ → List ℕ → List ℕ) (opening : List ℕ → 
       let a = take (i * n) text in
       rw e (sym (take-add (i * n) n text))
 
-  step : (i : ℕ) (block x : List ℕ) (rest : List (List ℕ)) → IsChunk n text i false x → i + 1 < chunk_limit → Carries (i + 1) rest → Carries i (x ∷ rest)
-  step i block x rest c lt more =
+  step : (i : ℕ) (x : List ℕ) (rest : List (List ℕ)) → IsChunk n text i false x → i + 1 < chunk_limit → Carries (i + 1) rest → Carries i (x ∷ rest)
+  step i x rest c lt more =
       let e : i + suc (length rest) ≡ i + 1 + length rest = omega arith in
       record {
         within = rw e more.within;
@@ -146,32 +135,26 @@ module _ (sealing : List ℕ → List ℕ → List ℕ) (opening : List ℕ → 
         small = λ g. rw e g;
       }
 
-  front_step : (block : List ℕ) (blocks : List (List ℕ)) (i : ℕ) (o : Option (List ℕ)) → text_before_last opening i block ≡ o → i * n ≤ length text
-      → ((j : ℕ) → j < length (text_then opening o (front_texts opening (i + 1) blocks)) → IsWriters sealing opening n text (nonce_bytes (i + j) false)
-      (get_or (block ∷ blocks) j []))
-      → (((j : ℕ) → j < length (front_texts opening (i + 1) blocks) → IsWriters sealing opening n text (nonce_bytes (i + 1 + j) false) (get_or blocks j []))
-      → (i + 1) * n ≤ length text → Carries (i + 1) (front_texts opening (i + 1) blocks))
-      → Carries i (text_then opening o (front_texts opening (i + 1) blocks))
-  front_step block blocks i None e h w more = none i h
-  front_step block blocks i (Some x) e h w more =
-      let p = opens_before i (opening (nonce_bytes i false) block) x e in
-      let lt : i + 1 < chunk_limit = ltb-true (i + 1) chunk_limit p.0 in
-      let w0 : IsWriters sealing opening n text (nonce_bytes (i + 0) false) block = w 0 (omega arith) in
+  carries : (texts : List (List ℕ)) (i : ℕ) → i * n ≤ length text
+      → ((j : ℕ) → j < length texts → IsChunk n text (i + j) false (get_or texts j []) × (i + j + 1 < chunk_limit)) → Carries i texts
+  carries [] i h f = none i h
+  carries (x ∷ rest) i h f =
       let z : i + 0 ≡ i = omega arith in
-      let w1 : IsWriters sealing opening n text (nonce_bytes i false) block = subst (λ (k : ℕ). IsWriters sealing opening n text (nonce_bytes k false) block)
-      z w0 in
-      let c = writer_text i false block x (omega arith) p.1 w1 in
-      step i block x (front_texts opening (i + 1) blocks) c lt
-      (more
-      (λ j l. let s : i + suc j ≡ i + 1 + j = omega arith in subst (λ (k : ℕ). IsWriters sealing opening n text (nonce_bytes k false) (get_or blocks j []))
-      s (w (suc j) (omega arith)))
-      (next_within i c.below c.flag))
+      let first = f 0 (omega arith) in
+      let c = subst (λ (k : ℕ). IsChunk n text k false x) z first.0 in
+      step i x rest c (omega (arith, first.1)) (carries rest (i + 1) (next_within i c.below c.flag)
+      (λ j lt. let s : i + suc j ≡ i + 1 + j = omega arith in
+      subst (λ (k : ℕ). IsChunk n text k false (get_or rest j []) × (k + 1 < chunk_limit)) s (f (suc j) (omega (arith, lt)))))
 
   pub front_carries : (blocks : List (List ℕ)) (i : ℕ) → i * n ≤ length text
       → ((j : ℕ) → j < length (front_texts opening i blocks) → IsWriters sealing opening n text (nonce_bytes (i + j) false) (get_or blocks j []))
       → Carries i (front_texts opening i blocks)
-  front_carries [] i h w = none i h
-  front_carries (block ∷ blocks) i h w = front_step block blocks i (text_before_last opening i block) refl h w (λ w' h'. front_carries blocks (i + 1) h' w')
+  front_carries blocks i h w =
+      let texts = front_texts opening i blocks in
+      carries texts i h (λ j lt.
+      let p = opens_before (i + j) _ _ ((front_is opening blocks i).opens j lt) in
+      let low : i + j + 1 < chunk_limit = ltb-true (i + j + 1) chunk_limit p.0 in
+      (writer_text (i + j) false (get_or blocks j []) (get_or texts j []) (omega (arith, low)) p.1 (w j lt), low))
 
   last_within : (i : ℕ) → true ≡ (i + 1 == chunk_count n text) → length text ≤ (i + 1) * n
   last_within i flag =
@@ -193,69 +176,30 @@ module _ (sealing : List ℕ → List ℕ → List ℕ) (opening : List ℕ → 
       record { prefix = (drop (i * n) text, ap (λ (t : List ℕ). t ++ drop (i * n) text) e ∙ take-append-drop (i * n) text); done = λ d. absurd (ne d) }
 
   whole : (i : ℕ) (start : List ℕ) (texts : List (List ℕ)) (x : List ℕ) → start ++ flat_map (λ (t : List ℕ). t) texts ≡ take (i * n) text
-      → IsChunk n text i true x
-      → start ++ flat_map (λ (t : List ℕ). t) (texts ++ x ∷ []) ≡ text
+      → IsChunk n text i true x → start ++ flat_map (λ (t : List ℕ). t) (texts ++ x ∷ []) ≡ text
   whole i start texts x e c =
       sym (flat_map_more (λ (t : List ℕ). t) start texts x)
       ∙ (ap (λ (t : List ℕ). t ++ x) e ∙ (ap (λ (t : List ℕ). take (i * n) text ++ t) c.is
       ∙ (take_chunk i ∙ take_all ((i + 1) * n) text (last_within i c.flag))))
 
-  released_last : (i : ℕ) (start : List ℕ) (texts : List (List ℕ)) (block : List ℕ) (behind ended : Bool) (o : Option (List ℕ)) → i < chunk_limit
-      → opening (nonce_bytes i true) block ≡ o → IsWriters sealing opening n text (nonce_bytes i true) block
-      → start ++ flat_map (λ (t : List ℕ). t) texts ≡ take (i * n) text → IsReleased i start (after_last opening texts i o behind ended)
-  released_last i start texts block behind ended None small is w e = at_carried i start texts (failed ChunkDamaged i) e (λ d. cc)
-  released_last i start texts block behind ended (Some x) small is w e =
-      let all = whole i start texts x e (writer_text i true block x small is w) in
-      record { prefix = ([], append-nil (start ++ flat_map (λ (t : List ℕ). t) (texts ++ x ∷ [])) ∙ all); done = λ d. all }
-
-  released_block : (i : ℕ) (start : List ℕ) (texts : List (List ℕ)) (block : List ℕ) (behind ended : Bool) (o : Option (List ℕ)) → i < chunk_limit
-      → IsWriters sealing opening n text (nonce_bytes i true) block
-      → start ++ flat_map (λ (t : List ℕ). t) texts ≡ take (i * n) text → IsReleased i start (at_block opening texts i block behind ended o)
-  released_block i start texts block behind ended (Some x) small w e = at_carried i start texts (failed TooManyChunks i) e (λ d. cc)
-  released_block i start texts block behind ended None small w e = released_last i start texts block behind ended (opening (nonce_bytes i true) block)
-      small refl w e
-
-  released_rest : (i : ℕ) (start : List ℕ) (texts : List (List ℕ)) (rest : List ℕ) (late ended : Bool) → i < chunk_limit
-      → (ended ≡ true → tag_length ≤ length rest → (length rest ≡ tag_length → i ≡ 0) → IsWriters sealing opening n text (nonce_bytes i true) rest)
-      → start ++ flat_map (λ (t : List ℕ). t) texts ≡ take (i * n) text → IsReleased i start (final_block opening texts i rest late ended)
-  released_rest i start texts rest late false small w e = at_carried i start texts Open e (λ d. cc)
-  released_rest i start texts rest late true small w e =
-      let P : Outcome → Type 0 = IsReleased i start in
-      let last = λ (h : tag_length ≤ length rest) (z : length rest ≡ tag_length → i ≡ 0). released_last i start texts rest late true (opening (nonce_bytes i true) rest)
-      small refl (w refl h z) e in
-      by_test P (nat_lt 0 (length rest) && nat_lt (length rest) tag_length) _ _ (λ t. at_carried i start texts (failed ChunkCut i) e (λ d. cc))
-      (λ uncut. by_test P (length rest == tag_length && nat_lt 0 i) _ _ (λ t. at_carried i start texts (failed EmptyLast i) e (λ d. cc))
-      (λ first. by_test P (length rest == 0) _ _ (λ t. at_carried i start texts (failed Truncated i) e (λ d. cc))
-      (λ some. last (tag_left (length rest) uncut some) (empty_first (length rest) i first))))
+  -- each block in front is the writer's
+  pub front_written : (s : Segment) → IsAuthentic sealing opening n text s → (j : ℕ) → j < length (front_texts opening s.start (whole_blocks n s.bytes))
+      → IsWriters sealing opening n text (nonce_bytes (s.start + j) false) (get_or (whole_blocks n s.bytes) j [])
+  front_written s given j lt =
+      let in_it : j < length s.bytes / (n + tag_length) = omega (arith, lt, texts_fit opening n s) in
+      subst (IsWriters sealing opening n text (nonce_bytes (s.start + j) false)) (block_is n s j in_it) (given.not_last j (omega (arith, lt)) (block_full n s j in_it))
 
   pub released_segment : (s : Segment) (base : List ℕ) → s.start < chunk_limit → s.start * n ≤ length text → base ≡ take (s.start * n) text
       → IsAuthentic sealing opening n text s → IsReleased (s.start + length (front_texts opening s.start (whole_blocks n s.bytes))) base (outcome opening n s)
   released_segment s base small fits e given =
-      let auth = tried sealing opening n text s given in
-      let size = n + tag_length in
-      let blocks = whole_blocks n s.bytes in
-      let texts = front_texts opening s.start blocks in
-      let m = length texts in
-      let i = s.start + m in
-      let count : length blocks ≡ length s.bytes / size = length-first_chunks size (length s.bytes / size) s.bytes in
-      let c : Carries s.start texts = front_carries blocks s.start fits auth.front in
-      let here : base ++ flat_map (λ (t : List ℕ). t) texts ≡ take (i * n) text = ap (λ (t : List ℕ). t ++ flat_map (λ (t : List ℕ). t) texts) e ∙ c.joins in
-      let low : i < chunk_limit = c.small small in
-      let behind = nat_lt ((m + 1) * size) (length s.bytes) in
-      let rest = rest_bytes n s.bytes in
-      subst (IsReleased i base) (sym (by_blocks opening n s))
-      (elim (cases_lt m (length blocks)) [
-        | inl lt ↦
-            (let is : slice_get blocks m ≡ Some (get_or blocks m []) = slice_get-get_or blocks m [] lt in
-            let lt' : m < length s.bytes / size = omega (arith, lt, count) in
-            subst (λ (b : Option (List ℕ)). IsReleased i base (verdict_at opening texts i b behind rest s.late s.ended)) (sym is)
-            (released_block i base texts (get_or blocks m []) (behind || s.late) s.ended
-            (opening (nonce_bytes i false) (get_or blocks m [])) low (auth.next lt' true) here))
-        | inr le ↦
-            (let is : slice_get blocks m ≡ None = slice_get_past blocks m le in
-            let eq : m ≡ length s.bytes / size = omega (arith, le, count, length-front_texts opening blocks s.start) in
-            subst (λ (b : Option (List ℕ)). IsReleased i base (verdict_at opening texts i b behind rest s.late s.ended)) (sym is)
-            (released_rest i base texts rest s.late s.ended low
-            (λ t h z. subst (λ (k : ℕ). IsWriters sealing opening n text (nonce_bytes (s.start + k) true) rest) (sym eq)
-            (auth.rest eq t h (λ g. omega (arith, eq, z g)))) here))
-      ])
+      let b = stop opening n s in
+      let i = b.index in
+      let c : Carries s.start b.texts = front_carries (whole_blocks n s.bytes) s.start fits (front_written s given) in
+      let here : base ++ flat_map (λ (t : List ℕ). t) b.texts ≡ take (i * n) text = ap (λ (t : List ℕ). t ++ flat_map (λ (t : List ℕ). t) b.texts) e ∙ c.joins in
+      let P : Outcome → Type 0 = IsReleased i base in
+      subst P (sym (outcome_is opening n s))
+      (by_lines opening P b (λ _. at_carried i base b.texts Open here (λ d. cc)) (λ kind _ _. at_carried i base b.texts (failed kind i) here (λ d. cc))
+      (λ _ _ _. at_carried i base b.texts (failed TooManyChunks i) here (λ d. cc)) (λ _ _ _. at_carried i base b.texts (failed ChunkDamaged i) here (λ d. cc))
+      (λ x tried is.
+      let all = whole i base b.texts x here (writer_text i true b.block x (c.small small) is (given.last tried)) in
+      record { prefix = ([], append-nil (base ++ flat_map (λ (t : List ℕ). t) (b.texts ++ x ∷ [])) ∙ all); done = λ d. all }))

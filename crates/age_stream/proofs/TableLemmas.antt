@@ -1,37 +1,220 @@
--- The table of an outcome, read by the block at which the segment stands.
-use Rattle.std.proofs.Common.{inl, inr, ◌≡◌, ℕ, zero, suc, ◌<◌, ◌≤◌, ◌+◌, ◌*◌, ◌/◌, refl, ap, sym, ◌∙◌, List, [], ◌∷◌, ◌++◌, length, drop, get_or, Bool, true}
-use Rattle.std.proofs.Common.{false, arith}
-use Rattle.std.specs.Prelude.{Option, Some, None, is_some, is_none, cond, nat_lt, ◌||◌, ◌&&◌, ◌==◌, slice_get}
-use Rattle.std.proofs.lemmas.List.{length-drop, length-take, take_all}
-use Rattle.std.proofs.lemmas.Bool.{cases_lt, le-ltb, lt-ltb, eq-eqb}
-use Rattle.std.proofs.lemmas.Bool.Decides.{nat_tests}
+-- The table of an outcome, and where a segment stands: at a whole block, or at what is left after all of them.
+use Rattle.std.proofs.Common.{inl, inr, ◌≡◌, ◌≢◌, ℕ, zero, suc, ◌<◌, ◌≤◌, ◌+◌, ◌*◌, ◌/◌, refl, ap, sym, subst, ◌∙◌, List, [], ◌∷◌, ◌++◌, length, drop, get_or}
+use Rattle.std.proofs.Common.{Bool, true, false, arith}
+use Rattle.std.specs.Prelude.{Option, Some, None, is_some, is_none, cond, nat_lt, not, ◌||◌, ◌&&◌, ◌==◌, slice_get}
+use Rattle.std.proofs.lemmas.List.{append-nil, length-drop, length-take, take_all}
+use Rattle.std.proofs.lemmas.Bool.{cases_lt, cond_both, cond-true, cond-false, both_ways, le-ltb, eq-eqb, ne_eqb, and_left, and_from, not_from_true}
+use Rattle.std.proofs.lemmas.Option.{slice_get-get_or, slice_get_past}
 use Rattle.std.proofs.Math.Nat.{le-div_iff_mul-le}
+use Rattle.age_chunk.specs.ChunkBoxes.{OpensBlock, tag_length}
 use Rattle.age_chunk.specs.Payload.{nonce_bytes}
-use Rattle.age_stream.specs.Segment.{Segment, Outcome, outcome, verdict, block_at, failed, front_texts, text_then, text_before_last, whole_blocks, rest_bytes}
-use Rattle.age_stream.specs.inner.OpenerSteps.{after_last, at_block, final_block}
-use Rattle.age_stream.specs.declared.step.Status.TheVariants.{LastSeen, Done}
+use Rattle.age_chunk.specs.declared.fault.StreamFault.{StreamFault}
+use Rattle.age_chunk.specs.declared.fault.StreamKind.{StreamKind}
 use Rattle.age_chunk.specs.declared.fault.StreamKind.TheVariants.{ChunkDamaged, ChunkCut, EmptyLast, Truncated, Trailing, TooManyChunks}
 use Rattle.age_chunk.proofs.FirstChunkLemmas.{length-first_chunks, get_or-first_chunks}
-use Rattle.std.proofs.lemmas.Option.{slice_get-get_or, slice_get_past}
-use Rattle.age_chunk.specs.ChunkBoxes.{tag_length}
+use Rattle.age_stream.specs.Segment.{Segment, Outcome, Frontier, outcome, stop, verdict, stays, first_line, block_at, failed, front_texts, text_then}
+use Rattle.age_stream.specs.Segment.{text_before_last, whole_blocks, rest_bytes, is_waiting, is_missing, is_cut, is_empty_last, is_tried, is_too_many}
+use Rattle.age_stream.specs.inner.OpenerSteps.{status_after, status_ended, final_block, at_block, after_last}
+use Rattle.age_stream.specs.declared.step.Status.{Status}
+use Rattle.age_stream.specs.declared.step.Status.TheVariants.{Open, LastSeen, Done, Failed}
 
--- a line that doesn't hold
-skip : {A : Type 0} (b : Bool) (x y : A) → b ≡ false → cond b x y ≡ y
-skip true x y e = cc
-skip false x y e = refl
+-- ---- The lines of the table.
 
--- the lines on how many bytes are left, in another order
-sizes : {A : Type 0} (len : ℕ) (empty : Bool) (none cut tag more : A)
-    → cond (len == 0) none (cond (nat_lt len tag_length) cut (cond (len == tag_length && empty) tag more))
-    ≡ cond (nat_lt 0 len && nat_lt len tag_length) cut (cond (len == tag_length && empty) tag (cond (len == 0) none more))
-sizes {A} zero empty none cut tag more = refl
-sizes {A} (suc len) empty none cut tag more =
-    let some : (suc len == 0) ≡ false = grind (arith, nat_tests) in
-    let pos : nat_lt 0 (suc len) ≡ true = lt-ltb 0 (suc len) (omega arith) in
-    let rest = cond (suc len == tag_length && empty) tag more in
-    skip (suc len == 0) none (cond (nat_lt (suc len) tag_length) cut rest) some
-    ∙ sym (ap (λ (b : Bool). cond (b && nat_lt (suc len) tag_length) cut (cond (suc len == tag_length && empty) tag (cond (suc len == 0) none more))) pos
-    ∙ ap (λ (x : A). cond (nat_lt (suc len) tag_length) cut (cond (suc len == tag_length && empty) tag x)) (skip (suc len == 0) none more some))
+-- the status of the last block once it opened
+abbrev pub last_status : Bool → Bool → ℕ → Status
+last_status followed ended i = first_line ((followed, failed Trailing i) ∷ (ended, Done) ∷ []) LastSeen
+
+-- a block was tried as the last, and opened to this text, if any
+abbrev pub last_of : Frontier → Option (List ℕ) → Outcome
+last_of b None = stays b (failed ChunkDamaged b.index)
+last_of b (Some text) = record { texts = b.texts ++ text ∷ []; index = b.index; status = last_status b.followed b.ended b.index }
+
+out_of : {A B : Type 0} (f : A → B) (p q : Bool) (x y z : A) → cond p (f x) (cond q (f y) (f z)) ≡ f (cond p x (cond q y z))
+out_of f true q x y z = refl
+out_of f false true x y z = refl
+out_of f false false x y z = refl
+
+tried_if : (waiting cut empty : Bool) → waiting ≡ false → cut ≡ false → empty ≡ false → not (waiting || (cut || empty)) ≡ true
+tried_if true cut empty w c e = cc
+tried_if false true empty w c e = cc
+tried_if false false true w c e = cc
+tried_if false false false w c e = refl
+
+too_many_text : (whole : Bool) (o : Option (List ℕ)) → (whole && is_some o) ≡ true → (whole ≡ true) × ((text : List ℕ) × (o ≡ Some text))
+too_many_text true (Some text) e = (refl, (text, refl))
+too_many_text true None e = cc
+too_many_text false o e = cc
+
+not_too_many : (whole : Bool) (o : Option (List ℕ)) → (whole && is_some o) ≡ false → whole ≡ true → o ≡ None
+not_too_many true (Some text) e w = cc
+not_too_many true None e w = refl
+not_too_many false o e w = cc
+
+module _ (opening : OpensBlock) where
+  -- the lines on a block that is tried as the last
+  abbrev lines_of : Frontier → Option (List ℕ) → Outcome
+  lines_of b o = cond (is_none o) (stays b (failed ChunkDamaged b.index))
+      (cond b.followed (record { texts = b.texts ++ text_then opening o []; index = b.index; status = failed Trailing b.index })
+      (cond b.ended (record { texts = b.texts ++ text_then opening o []; index = b.index; status = Done })
+      (record { texts = b.texts ++ text_then opening o []; index = b.index; status = LastSeen })))
+
+  lines_are : (b : Frontier) (o : Option (List ℕ)) → lines_of b o ≡ last_of b o
+  lines_are b None = refl
+  lines_are b (Some text) = out_of (λ (s : Status). record { texts = b.texts ++ text ∷ []; index = b.index; status = s }) b.followed b.ended _ _ _
+
+  -- what holds at each line holds of the outcome
+  pub by_lines : (P : Outcome → Type 0) (b : Frontier) → (is_waiting b ≡ true → P (stays b Open))
+      → ((kind : StreamKind) → kind ≢ ChunkDamaged → kind ≢ TooManyChunks → P (stays b (failed kind b.index)))
+      → ((text : List ℕ) → b.whole ≡ true → opening (nonce_bytes b.index false) b.block ≡ Some text → P (stays b (failed TooManyChunks b.index)))
+      → (is_tried b ≡ true → (b.whole ≡ true → opening (nonce_bytes b.index false) b.block ≡ None) → opening (nonce_bytes b.index true) b.block ≡ None
+      → P (last_of b None))
+      → ((text : List ℕ) → is_tried b ≡ true → opening (nonce_bytes b.index true) b.block ≡ Some text → P (last_of b (Some text)))
+      → P (verdict opening b)
+  by_lines P b waiting fault many shut opened =
+      cond_both (is_waiting b) _ _ P waiting (λ unwaiting.
+      cond_both (is_missing b) _ _ P (λ _. fault Truncated (λ e. cc) (λ e. cc)) (λ _.
+      cond_both (is_cut b) _ _ P (λ _. fault ChunkCut (λ e. cc) (λ e. cc)) (λ uncut.
+      cond_both (is_empty_last b) _ _ P (λ _. fault EmptyLast (λ e. cc) (λ e. cc)) (λ later.
+      cond_both (is_too_many opening b) _ _ P
+      (λ t. let some = too_many_text b.whole (opening (nonce_bytes b.index false) b.block) t in many some.1.0 some.0 some.1.1) (λ few.
+      subst P (sym (lines_are b (opening (nonce_bytes b.index true) b.block)))
+      (at_last (opening (nonce_bytes b.index true) b.block) (tried_if (is_waiting b) (is_cut b) (is_empty_last b) unwaiting uncut later)
+      (not_too_many b.whole (opening (nonce_bytes b.index false) b.block) few) refl))))))
+    where
+      at_last : (o : Option (List ℕ)) → is_tried b ≡ true → (b.whole ≡ true → opening (nonce_bytes b.index false) b.block ≡ None)
+          → opening (nonce_bytes b.index true) b.block ≡ o → P (last_of b o)
+      at_last None tried before e = shut tried before e
+      at_last (Some text) tried before e = opened text tried e
+
+  pub line_waiting : (b : Frontier) → is_waiting b ≡ true → verdict opening b ≡ stays b Open
+  line_waiting b e = cond-true (is_waiting b) _ _ e
+
+  -- the lines on a block that is tried as the last, and before them the one on too many chunks
+  line_tried : (b : Frontier) → is_waiting b ≡ false → tag_length ≤ length b.block → is_empty_last b ≡ false
+      → verdict opening b ≡ cond (is_too_many opening b) (stays b (failed TooManyChunks b.index)) (lines_of b (opening (nonce_bytes b.index true) b.block))
+  line_tried b unwaiting long later =
+      cond-false (is_waiting b) _ _ unwaiting
+      ∙ (cond-false (is_missing b) _ _ (ne_eqb (length b.block) 0 (λ e. omega (arith, e, long)))
+      ∙ (cond-false (is_cut b) _ _ (le-ltb (length b.block) tag_length long) ∙ cond-false (is_empty_last b) _ _ later))
+
+  pub line_many : (b : Frontier) → is_waiting b ≡ false → tag_length ≤ length b.block → is_empty_last b ≡ false → is_too_many opening b ≡ true
+      → verdict opening b ≡ stays b (failed TooManyChunks b.index)
+  line_many b unwaiting long later many = line_tried b unwaiting long later ∙ cond-true (is_too_many opening b) _ _ many
+
+  pub line_last : (b : Frontier) (o : Option (List ℕ)) → is_waiting b ≡ false → tag_length ≤ length b.block → is_empty_last b ≡ false
+      → (b.whole ≡ true → opening (nonce_bytes b.index false) b.block ≡ None) → opening (nonce_bytes b.index true) b.block ≡ o
+      → verdict opening b ≡ last_of b o
+  line_last b o unwaiting long later before is =
+      line_tried b unwaiting long later
+      ∙ (cond-false (is_too_many opening b) _ _ (few b.whole before) ∙ (lines_are b (opening (nonce_bytes b.index true) b.block) ∙ ap (last_of b) is))
+    where
+      few : (whole : Bool) → (whole ≡ true → opening (nonce_bytes b.index false) b.block ≡ None)
+          → (whole && is_some (opening (nonce_bytes b.index false) b.block)) ≡ false
+      few true h = ap is_some (h refl)
+      few false h = refl
+
+-- ---- Two frontiers at the same block.
+
+by_step : {A : Type 0} (R : A → A → Type 0) (b c : Bool) (x y x' y' : A) → b ≡ c → (b ≡ true → R x x') → (b ≡ false → R y y') → R (cond b x y) (cond c x' y')
+by_step R true true x y x' y' e f g = f refl
+by_step R true false x y x' y' e f g = cc
+by_step R false true x y x' y' e f g = cc
+by_step R false false x y x' y' e f g = g refl
+
+module _ (opening other : OpensBlock) (b : Frontier) (texts : List (List ℕ)) (followed ended : Bool) where
+  abbrev there : Option (List ℕ)
+  there = opening (nonce_bytes b.index true) b.block
+
+  -- the same block, after other texts, or once more came
+  abbrev pub beside : Frontier
+  beside = record { texts = texts; index = b.index; block = b.block; whole = b.whole; followed = followed; ended = ended }
+
+  -- a relation that holds between their lines holds between their outcomes
+  pub by_both : (R : Outcome → Outcome → Type 0) → is_waiting b ≡ is_waiting beside → (is_waiting b ≡ true → R (stays b Open) (stays beside Open))
+      → ((fault : StreamFault) → R (stays b (Failed fault)) (stays beside (Failed fault)))
+      → (b.whole ≡ true → opening (nonce_bytes b.index false) b.block ≡ other (nonce_bytes b.index false) b.block)
+      → (is_tried b ≡ true → opening (nonce_bytes b.index true) b.block ≡ other (nonce_bytes b.index true) b.block)
+      → ((text : List ℕ) → R (last_of b (Some text)) (last_of beside (Some text))) → R (verdict opening b) (verdict other beside)
+  by_both R waits waiting fault before last opened =
+      by_step R (is_waiting b) (is_waiting beside) _ _ _ _ waits waiting (λ unwaiting.
+      by_step R (is_missing b) (is_missing b) _ _ _ _ refl (λ _. fault _) (λ _.
+      by_step R (is_cut b) (is_cut b) _ _ _ _ refl (λ _. fault _) (λ uncut.
+      by_step R (is_empty_last b) (is_empty_last b) _ _ _ _ refl (λ _. fault _) (λ later.
+      by_step R (is_too_many opening b) (is_too_many other beside) _ _ _ _ (many b.whole before) (λ _. fault _) (λ _.
+      subst (λ (o : Outcome). R o (lines_of other beside (other (nonce_bytes b.index true) b.block))) (sym (lines_are opening b there))
+      (subst (R (last_of b there)) (sym (lines_are other beside (other (nonce_bytes b.index true) b.block)))
+      (subst (λ (o : Option (List ℕ)). R (last_of b there) (last_of beside o))
+      (last (tried_if (is_waiting b) (is_cut b) (is_empty_last b) unwaiting uncut later)) (at_last there))))))))
+    where
+      many : (whole : Bool) → (whole ≡ true → opening (nonce_bytes b.index false) b.block ≡ other (nonce_bytes b.index false) b.block)
+          → (whole && is_some (opening (nonce_bytes b.index false) b.block)) ≡ (whole && is_some (other (nonce_bytes b.index false) b.block))
+      many true h = ap is_some (h refl)
+      many false h = refl
+
+      at_last : (o : Option (List ℕ)) → R (last_of b o) (last_of beside o)
+      at_last None = fault _
+      at_last (Some text) = opened text
+
+-- the texts before, and then an outcome's
+abbrev pub prepend : List (List ℕ) → Outcome → Outcome
+prepend texts o = record { texts = texts ++ o.texts; index = o.index; status = o.status }
+
+pub record IsAfterBytes (some : Bool) (old new : Outcome) : Type 0 where
+  pub texts : new.texts ≡ old.texts
+  pub index : new.index ≡ old.index
+  pub status : new.status ≡ status_after some old.index old.status
+
+pub record IsAfterEnd (old new : Outcome) : Type 0 where
+  pub texts : new.texts ≡ old.texts
+  pub index : new.index ≡ old.index
+  pub status : new.status ≡ status_ended old.status
+
+bytes_status : (followed some ended : Bool) (i : ℕ) → last_status (followed || some) ended i ≡ status_after some i (last_status followed ended i)
+bytes_status true some ended i = refl
+bytes_status false true true i = refl
+bytes_status false true false i = refl
+bytes_status false false true i = refl
+bytes_status false false false i = refl
+
+end_status : (followed ended : Bool) (i : ℕ) → last_status followed true i ≡ status_ended (last_status followed ended i)
+end_status true ended i = refl
+end_status false true i = refl
+end_status false false i = refl
+
+pub last_shut : (followed ended : Bool) (i : ℕ) → last_status followed ended i ≡ Open → ⊥
+last_shut true ended i e = cc
+last_shut false true i e = cc
+last_shut false false i e = cc
+
+pub ended_waits : (whole : Bool) → (not whole && not true) ≡ false
+ended_waits true = refl
+ended_waits false = refl
+
+module _ (opening : OpensBlock) (b : Frontier) where
+  -- after texts
+  pub verdict-prepend : (texts : List (List ℕ)) → b.texts ≡ [] → verdict opening (beside opening opening b texts b.followed b.ended) ≡ prepend texts (verdict opening b)
+  verdict-prepend texts none =
+      let still : (status : Status) → stays (beside opening opening b texts b.followed b.ended) status ≡ prepend texts (stays b status) =
+      λ status. ap (λ (ts : List (List ℕ)). record { texts = ts; index = b.index; status = status }) (sym (append-nil texts) ∙ ap (λ (ts : List (List ℕ)). texts ++ ts) (sym none)) in
+      by_both opening opening b texts b.followed b.ended (λ x y. y ≡ prepend texts x) refl (λ _. still Open) (λ fault. still (Failed fault)) (λ _. refl) (λ _. refl)
+      (λ text. ap (λ (ts : List (List ℕ)). record { texts = texts ++ (ts ++ text ∷ []); index = b.index; status = last_status b.followed b.ended b.index }) (sym none))
+
+  -- once more bytes came, or none
+  pub verdict-bytes : (some : Bool) → is_waiting b ≡ false
+      → IsAfterBytes some (verdict opening b) (verdict opening (beside opening opening b b.texts (b.followed || some) b.ended))
+  verdict-bytes some unwaiting =
+      by_both opening opening b b.texts (b.followed || some) b.ended (IsAfterBytes some) refl (λ waiting. absurd (both_ways (is_waiting b) unwaiting waiting))
+      (λ fault. record { texts = refl; index = refl; status = refl }) (λ _. refl) (λ _. refl)
+      (λ text. record { texts = refl; index = refl; status = bytes_status b.followed some b.ended b.index })
+
+  -- once an end came
+  pub verdict-end : is_waiting b ≡ false → IsAfterEnd (verdict opening b) (verdict opening (beside opening opening b b.texts b.followed true))
+  verdict-end unwaiting =
+      by_both opening opening b b.texts b.followed true IsAfterEnd (unwaiting ∙ sym (ended_waits b.whole))
+      (λ waiting. absurd (both_ways (is_waiting b) unwaiting waiting)) (λ fault. record { texts = refl; index = refl; status = refl }) (λ _. refl) (λ _. refl)
+      (λ text. record { texts = refl; index = refl; status = end_status b.followed b.ended b.index })
+
+-- ---- Where a segment stands.
 
 pub rest_short : (n : ℕ) (bytes : List ℕ) → length (rest_bytes n bytes) < n + tag_length
 rest_short n bytes =
@@ -43,7 +226,7 @@ rest_short n bytes =
     ]
 
 -- no more texts than blocks
-pub length-front_texts : (opening : List ℕ → List ℕ → Option (List ℕ)) (blocks : List (List ℕ)) (i : ℕ) → length (front_texts opening i blocks) ≤ length blocks
+pub length-front_texts : (opening : OpensBlock) (blocks : List (List ℕ)) (i : ℕ) → length (front_texts opening i blocks) ≤ length blocks
 length-front_texts opening [] i = omega arith
 length-front_texts opening (block ∷ blocks) i =
     let h = length-front_texts opening blocks (i + 1) in
@@ -51,7 +234,95 @@ length-front_texts opening (block ∷ blocks) i =
     elim (text_before_last opening i block) as (λ o. P (text_then opening o (front_texts opening (i + 1) blocks)))
     [ None ↦ omega arith | Some x ↦ omega (arith, h) ]
 
-module _ (opening : List ℕ → List ℕ → Option (List ℕ)) where
+module _ (opening : OpensBlock) where
+  -- the blocks in front open as not last, each to its text, and the next one doesn't
+  pub record IsFront (i : ℕ) (blocks texts : List (List ℕ)) : Type 0 where
+    pub opens : (j : ℕ) → j < length texts → text_before_last opening (i + j) (get_or blocks j []) ≡ Some (get_or texts j [])
+    pub stops : length texts < length blocks → text_before_last opening (i + length texts) (get_or blocks (length texts) []) ≡ None
+
+  front_step : (i : ℕ) (block : List ℕ) (blocks : List (List ℕ)) (o : Option (List ℕ)) → text_before_last opening i block ≡ o
+      → IsFront (i + 1) blocks (front_texts opening (i + 1) blocks) → IsFront i (block ∷ blocks) (text_then opening o (front_texts opening (i + 1) blocks))
+  front_step i block blocks None e more = record {
+    opens = λ j lt. absurd (omega arith);
+    stops = λ lt. let z : i ≡ i + 0 = omega arith in subst (λ (k : ℕ). text_before_last opening k block ≡ None) z e;
+  }
+  front_step i block blocks (Some x) e more =
+      let texts = front_texts opening (i + 1) blocks in
+      let next : i + 1 + length texts ≡ i + suc (length texts) = omega arith in
+      record {
+        opens = λ j lt. by_number j lt;
+        stops = λ lt. subst (λ (k : ℕ). text_before_last opening k (get_or blocks (length texts) []) ≡ None) next (more.stops (omega (arith, lt)));
+      }
+    where
+      by_number : (j : ℕ) → j < suc (length (front_texts opening (i + 1) blocks))
+          → text_before_last opening (i + j) (get_or (block ∷ blocks) j []) ≡ Some (get_or (x ∷ front_texts opening (i + 1) blocks) j [])
+      by_number zero lt = let z : i ≡ i + 0 = omega arith in subst (λ (k : ℕ). text_before_last opening k block ≡ Some x) z e
+      by_number (suc j) lt =
+          let z : i + 1 + j ≡ i + suc j = omega arith in
+          subst (λ (k : ℕ). text_before_last opening k (get_or blocks j []) ≡ Some (get_or (front_texts opening (i + 1) blocks) j [])) z (more.opens j (omega (arith, lt)))
+
+  pub front_is : (blocks : List (List ℕ)) (i : ℕ) → IsFront i blocks (front_texts opening i blocks)
+  front_is [] i = record { opens = λ j lt. absurd (omega arith); stops = λ lt. absurd (omega arith) }
+  front_is (block ∷ blocks) i = front_step i block blocks (text_before_last opening i block) refl (front_is blocks (i + 1))
+
+-- where a segment stands after these texts
+abbrev pub frontier : ℕ → Segment → List (List ℕ) → Frontier
+frontier n s texts = record {
+  texts = texts;
+  index = s.start + length texts;
+  block = block_at n s.bytes (length texts);
+  whole = length (block_at n s.bytes (length texts)) == n + tag_length;
+  followed = nat_lt ((length texts + 1) * (n + tag_length)) (length s.bytes) || s.late;
+  ended = s.ended;
+}
+
+module _ (n : ℕ) (s : Segment) where
+  abbrev q : ℕ
+  q = length s.bytes / (n + tag_length)
+
+  pub length-whole_blocks : length (whole_blocks n s.bytes) ≡ q
+  length-whole_blocks = length-first_chunks (n + tag_length) q s.bytes
+
+  pub block_is : (j : ℕ) → j < q → block_at n s.bytes j ≡ get_or (whole_blocks n s.bytes) j []
+  block_is j lt = sym (get_or-first_chunks (n + tag_length) q s.bytes j [] lt)
+
+  pub block_full : (j : ℕ) → j < q → length (block_at n s.bytes j) ≡ n + tag_length
+  block_full j lt =
+      let z = n + tag_length in
+      let pos : 0 < z = omega arith in
+      let within : (j + 1) * z ≤ length s.bytes = (le-div_iff_mul-le pos).0 (omega (arith, lt)) in
+      omega (arith, within, length-take z (drop (j * z) s.bytes), length-drop (j * z) s.bytes)
+
+  pub rest_is : (j : ℕ) → j ≡ q → block_at n s.bytes j ≡ rest_bytes n s.bytes
+  rest_is j eq =
+      let short = rest_short n s.bytes in
+      ap (block_at n s.bytes) eq ∙ take_all (n + tag_length) (rest_bytes n s.bytes) (omega (arith, short))
+
+  pub not_whole : (j : ℕ) → j ≡ q → (length (block_at n s.bytes j) == n + tag_length) ≡ false
+  not_whole j eq = ne_eqb (length (block_at n s.bytes j)) (n + tag_length) (λ e. omega (arith, e, ap length (rest_is j eq), rest_short n s.bytes))
+
+  -- a whole block is one of the whole blocks
+  pub whole_within : (j : ℕ) → j ≤ q → (length (block_at n s.bytes j) == n + tag_length) ≡ true → j < q
+  whole_within j le whole =
+      elim (cases_lt j q) [
+        | inl lt ↦ lt
+        | inr ge ↦ absurd (both_ways (length (block_at n s.bytes j) == n + tag_length) (not_whole j (omega (arith, le, ge))) whole)
+      ]
+
+module _ (opening : OpensBlock) (n : ℕ) (s : Segment) where
+  abbrev pub texts_of : List (List ℕ)
+  texts_of = front_texts opening s.start (whole_blocks n s.bytes)
+
+  pub texts_fit : length texts_of ≤ length s.bytes / (n + tag_length)
+  texts_fit = omega (arith, length-whole_blocks n s, length-front_texts opening (whole_blocks n s.bytes) s.start)
+
+  pub outcome_is : outcome opening n s ≡ verdict opening (stop opening n s)
+  unfolding outcome
+  outcome_is = refl
+
+-- ---- The outcome by the segment's whole blocks.
+
+module _ (opening : OpensBlock) where
   -- at the whole block that stopped the texts in front, or, if all opened, at what is left after them
   abbrev pub verdict_at : List (List ℕ) → ℕ → Option (List ℕ) → Bool → List ℕ → Bool → Bool → Outcome
   verdict_at texts i None followed rest late ended = final_block opening texts i rest late ended
@@ -65,115 +336,49 @@ module _ (opening : List ℕ → List ℕ → Option (List ℕ)) where
       let m = length texts in
       verdict_at texts (start + m) (slice_get blocks m) (nat_lt ((m + 1) * (n + tag_length)) len) rest late ended
 
-  -- the lines on the last block
-  last_lines : (texts : List (List ℕ)) (i : ℕ) (o : Option (List ℕ)) (followed ended : Bool)
-      → cond (is_none o) (record { texts = texts; index = i; status = failed ChunkDamaged i })
-      (cond followed (record { texts = texts ++ text_then opening o []; index = i; status = failed Trailing i })
-      (cond ended (record { texts = texts ++ text_then opening o []; index = i; status = Done })
-      (record { texts = texts ++ text_then opening o []; index = i; status = LastSeen })))
-      ≡ after_last opening texts i o followed ended
-  last_lines texts i None followed ended = refl
-  last_lines texts i (Some t) true ended = refl
-  last_lines texts i (Some t) false true = refl
-  last_lines texts i (Some t) false false = refl
+  after_last_is : (b : Frontier) (o : Option (List ℕ)) → last_of b o ≡ after_last opening b.texts b.index o b.followed b.ended
+  after_last_is b None = refl
+  after_last_is b (Some text) = refl
 
-  -- the lines on a whole block
-  whole_lines : (texts : List (List ℕ)) (i : ℕ) (block : List ℕ) (o : Option (List ℕ)) (followed ended : Bool) (more : Outcome)
-      → more ≡ after_last opening texts i (opening (nonce_bytes i true) block) followed ended
-      → cond (is_some o) (record { texts = texts; index = i; status = failed TooManyChunks i }) more ≡ at_block opening texts i block followed ended o
-  whole_lines texts i block None followed ended more e = e
-  whole_lines texts i block (Some t) followed ended more e = refl
+  whole_verdict : (b : Frontier) (o : Option (List ℕ)) → b.whole ≡ true → tag_length ≤ length b.block → opening (nonce_bytes b.index false) b.block ≡ o
+      → verdict opening b ≡ at_block opening b.texts b.index b.block b.followed b.ended o
+  whole_verdict b o whole long is =
+      by_text o is
+    where
+      by_text : (o : Option (List ℕ)) → opening (nonce_bytes b.index false) b.block ≡ o
+          → verdict opening b ≡ at_block opening b.texts b.index b.block b.followed b.ended o
+      by_text None is =
+          line_last opening b (opening (nonce_bytes b.index true) b.block) (and_left (not b.whole) (not b.ended) (not_from_true b.whole whole)) long
+          (and_left (not b.whole) _ (not_from_true b.whole whole)) (λ _. is) refl
+          ∙ after_last_is b (opening (nonce_bytes b.index true) b.block)
+      by_text (Some text) is =
+          line_many opening b (and_left (not b.whole) (not b.ended) (not_from_true b.whole whole)) long (and_left (not b.whole) _ (not_from_true b.whole whole))
+          (and_from b.whole _ whole (ap is_some is))
 
-  whole_verdict : (texts : List (List ℕ)) (i : ℕ) (block : List ℕ) (followed ended : Bool) → tag_length ≤ length block
-      → verdict opening (record { texts = texts; index = i; block = block; whole = true; followed = followed; ended = ended })
-      ≡ at_block opening texts i block followed ended (opening (nonce_bytes i false) block)
-  whole_verdict texts i block followed ended long =
-      let some : (length block == 0) ≡ false = grind (arith, nat_tests) in
-      let uncut : nat_lt (length block) tag_length ≡ false = le-ltb (length block) tag_length long in
-      skip (length block == 0) _ _ some
-      ∙ (skip (nat_lt (length block) tag_length) _ _ uncut
-      ∙ whole_lines texts i block (opening (nonce_bytes i false) block) followed ended _ (last_lines texts i (opening (nonce_bytes i true) block) followed
-      ended))
-
-  short_verdict : (texts : List (List ℕ)) (i : ℕ) (rest : List ℕ) (late ended : Bool)
-      → verdict opening (record { texts = texts; index = i; block = rest; whole = false; followed = late; ended = ended })
-      ≡ final_block opening texts i rest late ended
-  short_verdict texts i rest late false = refl
-  short_verdict texts i rest late true =
-      sizes (length rest) (nat_lt 0 i) _ _ _ _
-      ∙ ap (λ (o : Outcome). cond (nat_lt 0 (length rest) && nat_lt (length rest) tag_length) (record { texts = texts; index = i; status = failed ChunkCut i })
-      (cond (length rest == tag_length && nat_lt 0 i) (record { texts = texts; index = i; status = failed EmptyLast i })
-      (cond (length rest == 0) (record { texts = texts; index = i; status = failed Truncated i }) o)))
-      (last_lines texts i (opening (nonce_bytes i true) rest) late true)
-
-  -- the table, at a block of the segment
-  module _ (n : ℕ) (s : Segment) where
-    abbrev blocks : List (List ℕ)
-    blocks = whole_blocks n s.bytes
-
-    abbrev texts : List (List ℕ)
-    texts = front_texts opening s.start blocks
-
-    abbrev followed : Bool
-    followed = nat_lt ((length texts + 1) * (n + tag_length)) (length s.bytes)
-
-    abbrev read : List ℕ → Bool → Bool → Outcome
-    read block whole followed = verdict opening (record {
-      texts = texts;
-      index = s.start + length texts;
-      block = block;
-      whole = whole;
-      followed = followed;
-      ended = s.ended;
-    })
-
-    count : length blocks ≡ length s.bytes / (n + tag_length)
-    count = length-first_chunks (n + tag_length) (length s.bytes / (n + tag_length)) s.bytes
-
-    at_whole : length texts < length blocks → outcome opening n s ≡ outcome_of n s.start blocks (length s.bytes) (rest_bytes n s.bytes) s.late s.ended
-    unfolding outcome
-    at_whole lt =
-        let j = length texts in
-        let i = s.start + j in
-        let b = get_or blocks j [] in
-        let block : block_at n s.bytes j ≡ b = sym (get_or-first_chunks (n + tag_length) (length s.bytes / (n + tag_length)) s.bytes j [] (omega (arith, lt, count))) in
-        let pos : 0 < n + tag_length = omega arith in
-        let fits : (j + 1) * (n + tag_length) ≤ length s.bytes = (le-div_iff_mul-le pos).0 (omega (arith, lt, count)) in
-        let e : (j + 1) * (n + tag_length) ≡ j * (n + tag_length) + (n + tag_length) = omega arith in
-        let len : length (block_at n s.bytes j) ≡ n + tag_length = omega (
-          arith,
-          length-take (n + tag_length) (drop (j * (n + tag_length)) s.bytes),
-          length-drop (j * (n + tag_length)) s.bytes,
-          fits,
-          e,
-        ) in
-        let long : tag_length ≤ length b = omega (arith, len, ap length block) in
-        ap (λ (w : Bool). read (block_at n s.bytes j) w (followed || s.late)) (eq-eqb (length (block_at n s.bytes j)) (n + tag_length) len)
-        ∙ (ap (λ (c : List ℕ). read c true (followed || s.late)) block
-        ∙ (whole_verdict texts i b (followed || s.late) s.ended long
-        ∙ sym (ap (λ (o : Option (List ℕ)). verdict_at texts i o followed (rest_bytes n s.bytes) s.late s.ended) (slice_get-get_or blocks j [] lt))))
-
-    at_rest : length blocks ≤ length texts → length texts ≤ length blocks → outcome opening n s
-        ≡ outcome_of n s.start blocks (length s.bytes) (rest_bytes n s.bytes) s.late s.ended
-    unfolding outcome
-    at_rest ge le =
-        let j = length texts in
-        let i = s.start + j in
-        let rest = rest_bytes n s.bytes in
-        let eq : j ≡ length s.bytes / (n + tag_length) = omega (arith, ge, le, count) in
-        let short : length rest < n + tag_length = rest_short n s.bytes in
-        let block : block_at n s.bytes j ≡ rest = ap (block_at n s.bytes) eq ∙ take_all (n + tag_length) rest (omega (arith, short)) in
-        let part : (length rest == n + tag_length) ≡ false = grind (arith, nat_tests) in
-        let q = length s.bytes / (n + tag_length) in
-        let over : length s.bytes ≤ (q + 1) * (n + tag_length) = omega (arith, short, length-drop (q * (n + tag_length)) s.bytes) in
-        let none : followed ≡ false = le-ltb ((j + 1) * (n + tag_length)) (length s.bytes) (omega (arith, over, ap (λ (k : ℕ). (k + 1) * (n + tag_length)) eq)) in
-        ap (λ (c : List ℕ). read c (length c == n + tag_length) (followed || s.late)) block
-        ∙ (ap (λ (w : Bool). read rest w (followed || s.late)) part
-        ∙ (ap (λ (f : Bool). read rest false (f || s.late)) none
-        ∙ (short_verdict texts i rest s.late s.ended
-        ∙ sym (ap (λ (o : Option (List ℕ)). verdict_at texts i o followed rest s.late s.ended) (slice_get_past blocks j ge)))))
-
-    -- the outcome, by its whole blocks and what is left
-    pub by_blocks : outcome opening n s ≡ outcome_of n s.start blocks (length s.bytes) (rest_bytes n s.bytes) s.late s.ended
-    by_blocks =
-        elim (cases_lt (length texts) (length blocks)) [ inl lt ↦ at_whole lt | inr ge ↦ at_rest ge (length-front_texts opening blocks s.start) ]
+  pub by_blocks : (n : ℕ) (s : Segment) → outcome opening n s ≡ outcome_of n s.start (whole_blocks n s.bytes) (length s.bytes) (rest_bytes n s.bytes) s.late s.ended
+  by_blocks n s =
+      let b = stop opening n s in
+      let m = length b.texts in
+      let z = n + tag_length in
+      let q = length s.bytes / z in
+      let blocks = whole_blocks n s.bytes in
+      let followed = nat_lt ((m + 1) * z) (length s.bytes) in
+      let count = length-whole_blocks n s in
+      outcome_is opening n s ∙ elim (cases_lt m (length blocks)) [
+        | inl lt ↦
+            (let lt' : m < q = omega (arith, lt, count) in
+            let full = block_full n s m lt' in
+            whole_verdict b (opening (nonce_bytes b.index false) b.block) (eq-eqb (length b.block) z full) (omega (arith, full)) refl
+            ∙ (ap (λ (c : List ℕ). at_block opening b.texts b.index c b.followed s.ended (opening (nonce_bytes b.index false) c)) (block_is n s m lt')
+            ∙ sym (ap (λ (o : Option (List ℕ)). verdict_at b.texts b.index o followed (rest_bytes n s.bytes) s.late s.ended) (slice_get-get_or blocks m [] lt))))
+        | inr ge ↦
+            (let eq : m ≡ q = omega (arith, ge, count, texts_fit opening n s) in
+            let alone : followed ≡ false = le-ltb ((m + 1) * z) (length s.bytes)
+            (omega (arith, rest_short n s.bytes, length-drop (q * z) s.bytes, ap (λ (k : ℕ). (k + 1) * z) eq)) in
+            let F : List ℕ → Bool → Bool → Outcome = λ c w f.
+            verdict opening (record { texts = b.texts; index = b.index; block = c; whole = w; followed = f || s.late; ended = s.ended }) in
+            ap (λ (w : Bool). F b.block w followed) (not_whole n s m eq)
+            ∙ (ap (λ (c : List ℕ). F c false followed) (rest_is n s m eq)
+            ∙ (ap (F (rest_bytes n s.bytes) false) alone
+            ∙ sym (ap (λ (o : Option (List ℕ)). verdict_at b.texts b.index o followed (rest_bytes n s.bytes) s.late s.ended) (slice_get_past blocks m ge)))))
+      ]

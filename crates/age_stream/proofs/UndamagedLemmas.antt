@@ -1,30 +1,28 @@
 -- The writer's own payload, from any chunk on, opens to the end.
 use Rattle.std.proofs.Common.{inl, inr, ◌≡◌, ℕ, zero, suc, ◌<◌, ◌≤◌, ◌+◌, ◌*◌, ◌/◌, refl, ap, sym, subst, ◌∙◌, List, [], ◌∷◌, ◌++◌, length, take, drop, get_or}
 use Rattle.std.proofs.Common.{Bool, true, false, arith}
-use Rattle.std.specs.Prelude.{Option, Some, None, cond, nat_lt, ◌||◌, ◌&&◌, ◌==◌, slice_get, map, Contains, IsSome}
+use Rattle.std.specs.Prelude.{Option, Some, None, cond, nat_lt, not, ◌||◌, ◌&&◌, ◌==◌, map, Contains, IsSome}
 use Rattle.std.specs.List.{enumerate_from, AllByRecursion}
 use Rattle.std.specs.Simd.{first_chunks}
 use Rattle.std.proofs.lemmas.Grind.{flat_map-append}
-use Rattle.std.proofs.lemmas.List.{length-append, length-drop, length-take, append-nil, append_assoc, get_or_at, take_at, drop_at, drop-drop, take_all}
-use Rattle.std.proofs.lemmas.List.{get_or_append_left, get_or-drop}
-use Rattle.std.proofs.lemmas.Bool.{cases_lt, lt-ltb, le-ltb, eq-eqb, eqb-true, ltb-true, and_parts}
+use Rattle.std.proofs.lemmas.List.{length-append, length-drop, length-take, append-nil, append_assoc, take_at, drop_at, drop-drop, take_all, get_or_append_left}
+use Rattle.std.proofs.lemmas.List.{get_or-drop}
+use Rattle.std.proofs.lemmas.Bool.{cases_lt, lt-ltb, le-ltb, eq-eqb, eqb-true, and_right}
+use Rattle.std.proofs.lemmas.Bool.Decides.{nat_tests}
 use Rattle.std.proofs.lemmas.Nat.{div-mul-add, mul-le}
 use Rattle.std.proofs.Math.Nat.{add-mul-div_left}
-use Rattle.age_chunk.specs.ChunkBoxes.{IsChunkBox, tag_length}
+use Rattle.age_chunk.specs.ChunkBoxes.{IsChunkBox, tag_length, Seals, OpensBlock}
 use Rattle.age_chunk.specs.Payload.{nonce_bytes, chunk_limit, last_index, last_chunk, chunk_count, pair, sealed_before_last, sealed, block_bytes, payload}
-use Rattle.age_stream.specs.Segment.{Segment, Outcome, outcome, front_texts, text_then, unless_greatest, whole_blocks, rest_bytes}
-use Rattle.age_stream.specs.inner.OpenerSteps.{at_block, final_block, after_last}
-use Rattle.age_stream.specs.Headline.{IsAuthentic, IsWriters}
-use Rattle.age_stream.specs.declared.step.Status.TheVariants.{Done}
 use Rattle.age_chunk.proofs.NonceLemmas.{nonce_bytes-length}
 use Rattle.age_chunk.proofs.FirstChunkLemmas.{length-first_chunks}
-use Rattle.std.proofs.lemmas.Option.{slice_get_past}
+use Rattle.age_stream.specs.Segment.{Segment, Outcome, Frontier, outcome, stop, verdict, block_at, front_texts, text_then, unless_greatest, whole_blocks}
+use Rattle.age_stream.specs.Headline.{IsAuthentic, IsWriters}
+use Rattle.age_stream.specs.declared.step.Status.TheVariants.{Done}
 use Rattle.age_stream.proofs.ChunkLemmas.{last_chunk_le, length-sealed, pair_before, pair_last}
 use Rattle.age_stream.proofs.SealingLemmas.{last_index_le}
-use Rattle.age_stream.proofs.SegmentLemmas.{by_test, writer_text}
-use Rattle.age_stream.proofs.GoingLemmas.{front_on, slice_get_end}
-use Rattle.age_stream.proofs.TableLemmas.{outcome_of, verdict_at, by_blocks}
-use Rattle.age_stream.proofs.TriedLemmas.{tried, authentic}
+use Rattle.age_stream.proofs.SegmentLemmas.{writer_text}
+use Rattle.age_stream.proofs.GoingLemmas.{front_on}
+use Rattle.age_stream.proofs.TableLemmas.{block_is, ended_waits, frontier, length-whole_blocks, line_last, outcome_is}
 
 pub all_full : (n c : ℕ) (xs : List ℕ) → c * n ≤ length xs → AllByRecursion (λ (x : List ℕ). length x ≡ n) (first_chunks n c xs)
 all_full n zero xs h = tt
@@ -41,7 +39,7 @@ none_is : (o : Option (List ℕ)) → o ≡ None → IsSome o → ⊥
 none_is None e h = cc
 none_is (Some t) e h = cc
 
-module _ (sealing : List ℕ → List ℕ → List ℕ) (opening : List ℕ → List ℕ → Option (List ℕ)) (valid : IsChunkBox sealing opening) (n : ℕ) where
+module _ (sealing : Seals) (opening : OpensBlock) (valid : IsChunkBox sealing opening) (n : ℕ) where
   -- the blocks of these chunks, none of them the last
   abbrev blocks_of : ℕ → List (List ℕ) → List (List ℕ)
   blocks_of i [] = []
@@ -92,19 +90,7 @@ module _ (sealing : List ℕ → List ℕ → List ℕ) (opening : List ℕ → 
       ∙ (ap (λ (x : List ℕ). b ∷ first_chunks z (length ds + c) x) (drop_at b rest z len)
       ∙ ap (λ (cs : List (List ℕ)). b ∷ cs) (chunks_of (i + 1) c ds l h.1))))
 
-  rest_of : (i c : ℕ) (ds : List (List ℕ)) (l : List ℕ) → Full ds → drop ((length ds + c) * (n + tag_length)) (bytes_of i ds ++ l) ≡ drop (c * (n + tag_length)) l
-  rest_of i c [] l h = let z : 0 + c ≡ c = omega arith in ap (λ (k : ℕ). drop (k * (n + tag_length)) l) z
-  rest_of i c (d ∷ ds) l h =
-      let z = n + tag_length in
-      let b = sealing (nonce_bytes i false) d in
-      let s : (suc (length ds) + c) * z ≡ z + (length ds + c) * z = omega arith in
-      let rest = bytes_of (i + 1) ds ++ l in
-      ap (λ (k : ℕ). drop k ((b ++ bytes_of (i + 1) ds) ++ l)) s
-      ∙ (ap (λ (xs : List ℕ). drop (z + (length ds + c) * z) xs) (append_assoc b (bytes_of (i + 1) ds) l)
-      ∙ (sym (drop-drop ((length ds + c) * z) z (b ++ rest))
-      ∙ (ap (drop ((length ds + c) * z)) (drop_at b rest z (full_len i d h.0)) ∙ rest_of (i + 1) c ds l h.1)))
-
-  -- the whole blocks and the rest of these chunks' blocks with more after them
+  -- the whole blocks of these chunks' blocks with more after them
   count_of : (i : ℕ) (ds : List (List ℕ)) (l : List ℕ) → Full ds → length (bytes_of i ds ++ l) / (n + tag_length) ≡ length ds + length l / (n + tag_length)
   count_of i ds l h =
       let z = n + tag_length in
@@ -115,9 +101,6 @@ module _ (sealing : List ℕ → List ℕ → List ℕ) (opening : List ℕ → 
 
   whole_of : (i : ℕ) (ds : List (List ℕ)) (l : List ℕ) → Full ds → whole_blocks n (bytes_of i ds ++ l) ≡ blocks_of i ds ++ whole_blocks n l
   whole_of i ds l h = ap (λ (k : ℕ). first_chunks (n + tag_length) k (bytes_of i ds ++ l)) (count_of i ds l h) ∙ chunks_of i (length l / (n + tag_length)) ds l h
-
-  left_of : (i : ℕ) (ds : List (List ℕ)) (l : List ℕ) → Full ds → rest_bytes n (bytes_of i ds ++ l) ≡ rest_bytes n l
-  left_of i ds l h = ap (λ (k : ℕ). drop (k * (n + tag_length)) (bytes_of i ds ++ l)) (count_of i ds l h) ∙ rest_of i (length l / (n + tag_length)) ds l h
 
   front_opens : (i : ℕ) (ds : List (List ℕ)) → i + length ds < chunk_limit → front_texts opening i (blocks_of i ds) ≡ ds
   front_opens i [] h = refl
@@ -199,12 +182,6 @@ module _ (sealing : List ℕ → List ℕ → List ℕ) (opening : List ℕ → 
         let le : k ≤ length cs = omega (arith, length-first_chunks n q text, below) in
         ap (drop (k * (n + tag_length))) (payload_is text) ∙ (drop_of 0 k cs tail cs_full le ∙ ap (λ (j : ℕ). bytes_of j ds ++ tail) z)
 
-    outcome_is : outcome opening n rest_segment ≡ outcome_of opening n k (blocks_of k ds ++ whole_blocks n tail) (length bytes) (rest_bytes n tail) false true
-    outcome_is =
-        by_blocks opening n rest_segment
-        ∙ (ap (λ (bs : List (List ℕ)). outcome_of opening n k bs (length bytes) (rest_bytes n bytes) false true) (whole_of k ds tail ds_full)
-        ∙ ap (λ (r : List ℕ). outcome_of opening n k (blocks_of k ds ++ whole_blocks n tail) (length bytes) r false true) (left_of k ds tail ds_full))
-
     open_front : front_texts opening k (blocks_of k ds) ≡ ds
     open_front = front_opens k ds (omega (arith, ds_len, few))
 
@@ -216,134 +193,89 @@ module _ (sealing : List ℕ → List ℕ → List ℕ) (opening : List ℕ → 
         ∙ (ap (λ (ts : List (List ℕ)). ts ++ front_texts opening (k + length (blocks_of k ds)) ys) open_front
         ∙ ap (λ (j : ℕ). ds ++ front_texts opening j ys) e)
 
-    -- the last chunk is short: its block is what is left after the whole ones
-    module _ (short : length tail < n + tag_length) where
-      none_count : length tail / (n + tag_length) ≡ 0
-      none_count = let e : length tail ≡ 0 * (n + tag_length) + length tail = omega arith in
-          ap (λ (x : ℕ). x / (n + tag_length)) e ∙ div-mul-add 0 (n + tag_length) (length tail) short
+    tail_most : length tail ≤ n + tag_length
+    tail_most = omega (arith, tail_len, last_chunk_le n text positive)
 
-      none_whole : whole_blocks n tail ≡ []
-      none_whole = ap (λ (c : ℕ). first_chunks (n + tag_length) c tail) none_count
+    front_size : length (bytes_of k ds) ≡ length ds * (n + tag_length)
+    front_size = omega (arith, length-bytes_of k ds ds_full)
 
-      all_left : rest_bytes n tail ≡ tail
-      all_left =
-          let z : 0 * (n + tag_length) ≡ 0 = omega arith in
-          ap (λ (c : ℕ). drop (c * (n + tag_length)) tail) none_count ∙ ap (λ (c : ℕ). drop c tail) z
+    -- the last block stands after the others
+    last_block : block_at n bytes (length ds) ≡ tail
+    last_block =
+        ap (take (n + tag_length)) (drop_at (bytes_of k ds) tail (length ds * (n + tag_length)) front_size)
+        ∙ take_all (n + tag_length) tail (omega (arith, tail_most))
 
-      rest_done : (final_block opening ds (k + length ds) tail false true).status ≡ Done
-      rest_done =
-          let i = k + length ds in
-          let P : Outcome → Type 0 = λ o. o.status ≡ Done in
-          let last : P (after_last opening ds i (opening (nonce_bytes i true) tail) false true) =
-          ap (λ (o : Option (List ℕ)). (after_last opening ds i o false true).status) (ap (λ (j : ℕ). opening (nonce_bytes j true) tail) ds_len ∙ tail_opens) in
-          let empty : length tail ≡ tag_length → i ≡ 0 =
-          λ h.
-          let zero_len : length text ≡ 0 = omega (arith, tail_len, h, length-drop (q * n) text, last_index_le n text) in
-          elim (cases_lt 0 q) [
-            | inl lt ↦ (let m : 1 * n ≤ q * n = mul-le 1 n q n (omega (arith, lt)) (omega arith) in absurd
-                (omega (arith, m, last_index_le n text, zero_len, positive)))
-            | inr le ↦ omega (arith, le, ds_len)
-          ] in
-          by_test P (nat_lt 0 (length tail) && nat_lt (length tail) tag_length) _ _
-          (λ t. let h : length tail < tag_length = ltb-true (length tail) tag_length (and_parts (nat_lt 0 (length tail)) (nat_lt (length tail) tag_length) t).1 in absurd
-          (omega (arith, h, tail_len)))
-          (λ _. by_test P (length tail == tag_length && nat_lt 0 i) _ _
-          (λ t.
-          let both = and_parts (length tail == tag_length) (nat_lt 0 i) t in
-          let h : 0 < i = ltb-true 0 i both.1 in
-          let g : i ≡ 0 = empty (eqb-true (length tail) tag_length both.0) in
-          absurd (omega (arith, h, g)))
-          (λ _. by_test P (length tail == 0) _ _ (λ t. let h : length tail ≡ 0 = eqb-true (length tail) 0 t in absurd (omega (arith, h, tail_len)))
-          (λ _. last)))
+    -- its whole blocks: none, or itself
+    none_whole : length tail < n + tag_length → whole_blocks n tail ≡ []
+    none_whole short =
+        let e : length tail ≡ 0 * (n + tag_length) + length tail = omega arith in
+        ap (λ (c : ℕ). first_chunks (n + tag_length) c tail) (ap (λ (x : ℕ). x / (n + tag_length)) e ∙ div-mul-add 0 (n + tag_length) (length tail) short)
 
-      short_done : (outcome opening n rest_segment).status ≡ Done
-      short_done =
-          let blocks = blocks_of k ds in
-          let G : List (List ℕ) → Outcome = λ ts. verdict_at opening ts (k + length ts) (slice_get (blocks ++ []) (length ts))
-          (nat_lt ((length ts + 1) * (n + tag_length)) (length bytes)) tail false true in
-          let e1 = outcome_is
-          ∙ (ap (λ (ys : List (List ℕ)). outcome_of opening n k (blocks ++ ys) (length bytes) (rest_bytes n tail) false true) none_whole
-          ∙ (ap (λ (r : List ℕ). outcome_of opening n k (blocks ++ []) (length bytes) r false true) all_left
-          ∙ ap G (front_after [] ∙ append-nil ds))) in
-          let past : slice_get (blocks ++ []) (length ds)
-          ≡ None = slice_get_past (blocks ++ []) (length ds) (omega (arith, ap length (append-nil blocks), length-blocks_of k ds)) in
-          let e2 = e1 ∙ ap (λ (o : Option (List ℕ)). verdict_at opening ds (k + length ds) o (nat_lt ((length ds + 1) * (n + tag_length)) (length bytes)) tail
-          false true) past in
-          ap (λ (o : Outcome). o.status) e2 ∙ rest_done
+    one_whole : length tail ≡ n + tag_length → whole_blocks n tail ≡ tail ∷ []
+    one_whole full =
+        let e : length tail ≡ 1 * (n + tag_length) + 0 = omega (arith, full) in
+        let pos : 0 < n + tag_length = omega arith in
+        ap (λ (c : ℕ). first_chunks (n + tag_length) c tail) (ap (λ (x : ℕ). x / (n + tag_length)) e ∙ div-mul-add 1 (n + tag_length) 0 pos)
+        ∙ ap (λ (x : List ℕ). x ∷ []) (take_all (n + tag_length) tail (omega (arith, full)))
 
-    -- the last chunk is full: its block is the last whole one
-    module _ (full : length tail ≡ n + tag_length) where
-      one_count : length tail / (n + tag_length) ≡ 1
-      one_count =
-          let e : length tail ≡ 1 * (n + tag_length) + 0 = omega (arith, full) in
-          let pos : 0 < n + tag_length = omega arith in
-          ap (λ (x : ℕ). x / (n + tag_length)) e ∙ div-mul-add 1 (n + tag_length) 0 pos
+    front_begins : front_texts opening k (whole_blocks n bytes) ≡ ds ++ front_texts opening q (whole_blocks n tail)
+    front_begins = ap (front_texts opening k) (whole_of k ds tail ds_full) ∙ front_after (whole_blocks n tail)
 
-      one_whole : whole_blocks n tail ≡ tail ∷ []
-      one_whole = ap (λ (c : ℕ). first_chunks (n + tag_length) c tail) one_count ∙ ap (λ (x : List ℕ). x ∷ []) (take_all (n + tag_length) tail (omega (arith, full)))
+    -- where the segment stands, unless the last block opens as one before the last
+    abbrev end : Frontier
+    end = record { texts = ds; index = q; block = tail; whole = length tail == n + tag_length; followed = false; ended = true }
 
-      blocks_are : whole_blocks n bytes ≡ blocks_of k ds ++ tail ∷ []
-      blocks_are = whole_of k ds tail ds_full ∙ ap (λ (ys : List (List ℕ)). blocks_of k ds ++ ys) one_whole
+    abbrev IsShut : Type 0
+    IsShut = length tail ≡ n + tag_length → opening (nonce_bytes q false) tail ≡ None
 
-      -- it doesn't open as one before the last, since the writer sealed none so
-      not_before_last : IsAuthentic sealing opening n text rest_segment → (o : Option (List ℕ)) → opening (nonce_bytes q false) tail ≡ o
-          → opening (nonce_bytes q false) tail ≡ None
-      not_before_last auth None e = e
-      not_before_last given (Some t) e =
-          let auth = tried sealing opening n text rest_segment given in
-          let blocks = whole_blocks n bytes in
-          let front = front_texts opening k blocks in
-          let there : get_or blocks (length ds) [] ≡ tail =
-          ap (λ (bs : List (List ℕ)). get_or bs (length ds) []) blocks_are ∙ get_or_at (blocks_of k ds) tail [] [] (length ds) (length-blocks_of k ds) in
-          let W : ℕ → List ℕ → Type 0 = λ i b. IsWriters sealing opening n text (nonce_bytes i false) b in
-          let here : length front ≡ length ds + length (text_then opening (unless_greatest q (opening (nonce_bytes q false) tail)) []) =
-          ap (λ (bs : List (List ℕ)). length (front_texts opening k bs)) blocks_are
-          ∙ (ap length (front_after (tail ∷ [])) ∙ length-append ds (front_texts opening q (tail ∷ []))) in
-          let count : length bytes / (n + tag_length) ≡ length ds + 1 = count_of k ds tail ds_full ∙ ap (λ (c : ℕ). length ds + c) one_count in
-          let w : W q tail =
-          elim (cases_lt (length ds) (length front)) [
-            | inl lt ↦ subst (λ (i : ℕ). W i tail) ds_len (subst (W (k + length ds)) there (auth.front (length ds) lt))
-            | inr le ↦
-                (let m : length front ≡ length ds = omega (arith, le, here) in
-                let lt : length front < length bytes / (n + tag_length) = omega (arith, m, count) in
-                let at : k + length front ≡ q = omega (arith, m, ds_len) in
-                let b : get_or blocks (length front) [] ≡ tail = ap (λ (j : ℕ). get_or blocks j []) m ∙ there in
-                subst (λ (i : ℕ). W i tail) at (subst (W (k + length front)) b (auth.next lt false)))
-          ] in
-          let c = writer_text sealing opening valid n text few positive q false tail t (omega (arith, few)) e w in
-          let yes : (q + 1 == q + 1) ≡ true = eq-eqb (q + 1) (q + 1) refl in
-          let no : false ≡ true = c.flag ∙ yes in
-          cc
+    stops : IsShut → stop opening n rest_segment ≡ end
+    stops shut =
+        let z = n + tag_length in
+        let none : front_texts opening q (whole_blocks n tail) ≡ [] =
+        elim (cases_lt (length tail) z) [
+          | inl lt ↦ ap (front_texts opening q) (none_whole lt)
+          | inr ge ↦
+              (let full : length tail ≡ z = omega (arith, ge, tail_most) in
+              ap (front_texts opening q) (one_whole full) ∙ ap (λ (o : Option (List ℕ)). text_then opening (unless_greatest q o) []) (shut full))
+        ] in
+        let front : front_texts opening k (whole_blocks n bytes) ≡ ds = front_begins ∙ (ap (λ (ts : List (List ℕ)). ds ++ ts) none ∙ append-nil ds) in
+        let alone : nat_lt ((length ds + 1) * z) (length bytes) ≡ false = le-ltb ((length ds + 1) * z) (length bytes)
+        (omega (arith, length-append (bytes_of k ds) tail, front_size, tail_most)) in
+        let F : ℕ → List ℕ → Bool → Frontier = λ i b f. record { texts = ds; index = i; block = b; whole = length b == z; followed = f || false; ended = true } in
+        ap (frontier n rest_segment) front
+        ∙ (ap (λ (b : List ℕ). F (k + length ds) b (nat_lt ((length ds + 1) * z) (length bytes))) last_block
+        ∙ (ap (λ (f : Bool). F (k + length ds) tail f) alone ∙ ap (λ (i : ℕ). F i tail false) ds_len))
 
-      full_done : IsAuthentic sealing opening n text rest_segment → (outcome opening n rest_segment).status ≡ Done
-      full_done auth =
-          let shut = not_before_last auth (opening (nonce_bytes q false) tail) refl in
-          let blocks = blocks_of k ds in
-          let G : List (List ℕ) → Outcome = λ ts. verdict_at opening ts (k + length ts) (slice_get (blocks ++ tail ∷ []) (length ts))
-          (nat_lt ((length ts + 1) * (n + tag_length)) (length bytes)) (rest_bytes n tail) false true in
-          let front : front_texts opening k (blocks ++ tail ∷ []) ≡ ds =
-          front_after (tail ∷ []) ∙ (ap (λ (o : Option (List ℕ)). ds ++ text_then opening (unless_greatest q o) []) shut ∙ append-nil ds) in
-          let at : slice_get (blocks ++ tail ∷ []) (length ds) ≡ Some tail = slice_get_end blocks tail (length ds) (sym (length-blocks_of k ds)) in
-          let low : length bytes ≡ (length ds + 1) * (n + tag_length) =
-          omega (arith, length-append (bytes_of k ds) tail, length-bytes_of k ds ds_full, full) in
-          let behind = nat_lt ((length ds + 1) * (n + tag_length)) (length bytes) in
-          let no : behind ≡ false = le-ltb ((length ds + 1) * (n + tag_length)) (length bytes) (omega (arith, low)) in
-          let i = k + length ds in
-          let e = outcome_is
-          ∙ (ap (λ (ys : List (List ℕ)). outcome_of opening n k (blocks ++ ys) (length bytes) (rest_bytes n tail) false true) one_whole
-          ∙ (ap G front
-          ∙ (ap (λ (o : Option (List ℕ)). verdict_at opening ds i o behind (rest_bytes n tail) false true) at
-          ∙ (ap (λ (x : Bool). at_block opening ds i tail (x || false) true (opening (nonce_bytes i false) tail)) no
-          ∙ (ap (λ (o : Option (List ℕ)). at_block opening ds i tail false true o) (ap (λ (j : ℕ). opening (nonce_bytes j false) tail) ds_len ∙ shut)
-          ∙ ap (λ (o : Option (List ℕ)). after_last opening ds i o false true) (ap (λ (j : ℕ). opening (nonce_bytes j true) tail) ds_len ∙ tail_opens)))))) in
-          ap (λ (o : Outcome). o.status) e
+    shut_is_done : IsShut → (outcome opening n rest_segment).status ≡ Done
+    shut_is_done shut =
+        let empty : length tail ≡ tag_length → q ≡ 0 =
+        λ h.
+        let zero_len : length text ≡ 0 = omega (arith, tail_len, h, length-drop (q * n) text, last_index_le n text) in
+        elim (cases_lt 0 q) [
+          | inl lt ↦ (let m : 1 * n ≤ q * n = mul-le 1 n q n (omega (arith, lt)) (omega arith) in absurd
+              (omega (arith, m, last_index_le n text, zero_len, positive)))
+          | inr le ↦ omega (arith, le)
+        ] in
+        let some : (length tail == tag_length && nat_lt 0 q) ≡ false = grind (arith, nat_tests) in
+        ap (λ (o : Outcome). o.status) (outcome_is opening n rest_segment ∙ (ap (verdict opening) (stops shut)
+        ∙ line_last opening end (Some (last_chunk n text)) (ended_waits end.whole) (omega (arith, tail_len)) (and_right (not end.whole) _ some)
+        (λ w. shut (eqb-true (length tail) (n + tag_length) w)) tail_opens))
+
+    -- it doesn't open as one before the last, since the writer sealed none so
+    shut_if : IsAuthentic sealing opening n text rest_segment → (o : Option (List ℕ)) → opening (nonce_bytes q false) tail ≡ o → IsShut
+    shut_if given None e full = e
+    shut_if given (Some t) e full =
+        let W : ℕ → List ℕ → Type 0 = λ i b. IsWriters sealing opening n text (nonce_bytes i false) b in
+        let begun = ap length front_begins ∙ length-append ds (front_texts opening q (whole_blocks n tail)) in
+        let w : W q tail =
+        subst (λ (i : ℕ). W i tail) ds_len (subst (W (k + length ds)) last_block (given.not_last (length ds) (omega (arith, begun)) (ap length last_block ∙ full))) in
+        let c = writer_text sealing opening valid n text few positive q false tail t (omega (arith, few)) e w in
+        let yes : (q + 1 == q + 1) ≡ true = eq-eqb (q + 1) (q + 1) refl in
+        let no : false ≡ true = c.flag ∙ yes in
+        cc
 
     pub rest_is_done : IsAuthentic sealing opening n text rest_segment → (outcome opening n rest_segment).status ≡ Done
-    rest_is_done auth =
-        elim (cases_lt (length tail) (n + tag_length)) [
-          | inl lt ↦ short_done lt
-          | inr le ↦ full_done (omega (arith, le, tail_len, last_chunk_le n text positive)) auth
-        ]
+    rest_is_done given = shut_is_done (shut_if given (opening (nonce_bytes q false) tail) refl)
 
     -- the writer's pairs
     writers_front : (i : ℕ) → i < q → Contains (sealed sealing n text) (nonce_bytes i false, sealing (nonce_bytes i false) (get_or cs i []))
@@ -355,64 +287,33 @@ module _ (sealing : List ℕ → List ℕ → List ℕ) (opening : List ℕ → 
     writers_last = (q, omega (arith, length-sealed sealing n text), pair_last sealing n text q (nonce_bytes q true, tail) refl)
 
     -- the blocks before the last are the writer's
-    front_writers : (ys : List (List ℕ)) (j : ℕ) → j < length ds → IsWriters sealing opening n text (nonce_bytes (k + j) false)
-        (get_or (blocks_of k ds ++ ys) j [])
-    front_writers ys j lt some =
-        let is : get_or (blocks_of k ds ++ ys) j [] ≡ sealing (nonce_bytes (k + j) false) (get_or cs (k + j) []) =
-        get_or_append_left (blocks_of k ds) ys [] j (omega (arith, lt, length-blocks_of k ds))
-        ∙ (get_or-blocks_of k ds j lt ∙ ap (sealing (nonce_bytes (k + j) false)) (get_or-drop k cs j [])) in
+    front_writers : (j : ℕ) → j < length ds → IsWriters sealing opening n text (nonce_bytes (k + j) false) (block_at n bytes j)
+    front_writers j lt some =
+        let count = length-whole_blocks n rest_segment in
+        let more = ap length (whole_of k ds tail ds_full) ∙ length-append (blocks_of k ds) (whole_blocks n tail) in
+        let is : block_at n bytes j ≡ sealing (nonce_bytes (k + j) false) (get_or cs (k + j) []) =
+        block_is n rest_segment j (omega (arith, lt, count, more, length-blocks_of k ds))
+        ∙ (ap (λ (bs : List (List ℕ)). get_or bs j []) (whole_of k ds tail ds_full)
+        ∙ (get_or_append_left (blocks_of k ds) (whole_blocks n tail) [] j (omega (arith, lt, length-blocks_of k ds))
+        ∙ (get_or-blocks_of k ds j lt ∙ ap (sealing (nonce_bytes (k + j) false)) (get_or-drop k cs j [])))) in
         subst (λ (b : List ℕ). Contains (sealed sealing n text) (nonce_bytes (k + j) false, b)) (sym is) (writers_front (k + j) (omega (arith, lt, ds_len)))
-
-    short_authentic : length tail < n + tag_length → IsAuthentic sealing opening n text rest_segment
-    short_authentic short =
-        let whole : whole_blocks n bytes ≡ blocks_of k ds ++ [] = whole_of k ds tail ds_full
-        ∙ ap (λ (ys : List (List ℕ)). blocks_of k ds ++ ys) (none_whole short) in
-        let front : front_texts opening k (whole_blocks n bytes) ≡ ds = ap (front_texts opening k) whole ∙ (front_after [] ∙ append-nil ds) in
-        let count : length bytes / (n + tag_length) ≡ length ds = omega (arith, count_of k ds tail ds_full, none_count short) in
-        let len : length (front_texts opening k (whole_blocks n bytes)) ≡ length ds = ap length front in
-        authentic sealing opening n text rest_segment (record {
-          front = λ j lt. subst (λ (bs : List (List ℕ)). IsWriters sealing opening n text (nonce_bytes (k + j) false) (get_or bs j [])) (sym whole)
-              (front_writers [] j (omega (arith, lt, len)));
-          next = λ lt last. absurd (omega (arith, lt, len, count));
-          rest = λ eq ended long empty some.
-              let left : rest_bytes n bytes ≡ tail = left_of k ds tail ds_full ∙ all_left short in
-              let at : k + length bytes / (n + tag_length) ≡ q = omega (arith, count, ds_len) in
-              subst (λ (b : List ℕ). Contains (sealed sealing n text) (nonce_bytes (k + length bytes / (n + tag_length)) true, b)) (sym left)
-              (subst (λ (i : ℕ). Contains (sealed sealing n text) (nonce_bytes i true, tail)) (sym at) writers_last);
-        })
-
-    last_writers : opening (nonce_bytes q false) tail ≡ None → (last : Bool) → IsWriters sealing opening n text (nonce_bytes q last) tail
-    last_writers shut true some = writers_last
-    last_writers shut false some = absurd (none_is (opening (nonce_bytes q false) tail) shut some)
-
-    full_authentic : length tail ≡ n + tag_length → opening (nonce_bytes q false) tail ≡ None → IsAuthentic sealing opening n text rest_segment
-    full_authentic full shut =
-        let whole : whole_blocks n bytes ≡ blocks_of k ds ++ tail ∷ [] = blocks_are full in
-        let front : front_texts opening k (whole_blocks n bytes) ≡ ds =
-        ap (front_texts opening k) whole ∙ (front_after (tail ∷ []) ∙ (ap (λ (o : Option (List ℕ)). ds ++ text_then opening (unless_greatest q o) []) shut
-        ∙ append-nil ds)) in
-        let count : length bytes / (n + tag_length) ≡ length ds + 1 = omega (arith, count_of k ds tail ds_full, one_count full) in
-        let len : length (front_texts opening k (whole_blocks n bytes)) ≡ length ds = ap length front in
-        let there : get_or (whole_blocks n bytes) (length ds) [] ≡ tail =
-        ap (λ (bs : List (List ℕ)). get_or bs (length ds) []) whole ∙ get_or_at (blocks_of k ds) tail [] [] (length ds) (length-blocks_of k ds) in
-        let at : (last : Bool) → IsWriters sealing opening n text (nonce_bytes q last) tail = last_writers shut in
-        authentic sealing opening n text rest_segment (record {
-          front = λ j lt. subst (λ (bs : List (List ℕ)). IsWriters sealing opening n text (nonce_bytes (k + j) false) (get_or bs j [])) (sym whole)
-              (front_writers (tail ∷ []) j (omega (arith, lt, len)));
-          next = λ lt last.
-              let i : k + length (front_texts opening k (whole_blocks n bytes)) ≡ q = omega (arith, len, ds_len) in
-              let b : get_or (whole_blocks n bytes) (length (front_texts opening k (whole_blocks n bytes))) []
-              ≡ tail = ap (λ (j : ℕ). get_or (whole_blocks n bytes) j []) len ∙ there in
-              subst (λ (c : List ℕ). IsWriters sealing opening n text (nonce_bytes (k + length (front_texts opening k (whole_blocks n bytes))) last) c) (sym b)
-              (subst (λ (j : ℕ). IsWriters sealing opening n text (nonce_bytes j last) tail) (sym i) (at last));
-          rest = λ eq ended long empty. absurd (omega (arith, eq, len, count));
-        })
 
     -- all that is tried is the writer's, unless the last block is full and opens as one before the last
     pub rest_authentic : (length (last_chunk n text) ≡ n → opening (nonce_bytes q false) tail ≡ None) → IsAuthentic sealing opening n text rest_segment
-    rest_authentic shut =
-        elim (cases_lt (length tail) (n + tag_length)) [
-          | inl lt ↦ short_authentic lt
-          | inr le ↦ full_authentic (omega (arith, le, tail_len, last_chunk_le n text positive))
-              (shut (omega (arith, le, tail_len, last_chunk_le n text positive)))
-        ]
+    rest_authentic closed =
+        let shut : IsShut = λ full. closed (omega (arith, full, tail_len)) in
+        let at = stops shut in
+        record {
+          not_last = λ j le full. elim (cases_lt j (length ds)) [
+            | inl lt ↦ front_writers j lt
+            | inr ge ↦
+                (let is : j ≡ length ds = omega (arith, ge, le, ap (λ (b : Frontier). length b.texts) at) in
+                let block : block_at n bytes j ≡ tail = ap (block_at n bytes) is ∙ last_block in
+                let i : k + j ≡ q = omega (arith, is, ds_len) in
+                let none : opening (nonce_bytes (k + j) false) (block_at n bytes j) ≡ None =
+                ap (λ (b : List ℕ). opening (nonce_bytes (k + j) false) b) block
+                ∙ (ap (λ (x : ℕ). opening (nonce_bytes x false) tail) i ∙ shut (sym (ap length block) ∙ full)) in
+                λ some. absurd (none_is (opening (nonce_bytes (k + j) false) (block_at n bytes j)) none some))
+          ];
+          last = λ _. subst (λ (b : Frontier). IsWriters sealing opening n text (nonce_bytes b.index true) b.block) (sym at) (λ _. writers_last);
+        }

@@ -16,17 +16,20 @@ pub record Reads (parser : Parsing) (rest bytes : List ℕ) : Type 0 where
   pub is : parser ≡ reading fed
   pub parts : fed ++ rest ≡ bytes
 
+joined : {parser : Parsing} {rest bytes : List ℕ} (piece after : List ℕ) (reads : Reads parser rest bytes) → piece ++ after ≡ rest
+    → (reads.fed ++ piece) ++ after ≡ bytes
+joined {parser} {rest} {bytes} piece after reads parts =
+    append_assoc reads.fed piece after ∙ ap (λ (t : List ℕ). reads.fed ++ t) parts ∙ reads.parts
+
 -- what a front of the bytes was reported, of them all
 pub fault_fed : (old new : Parsing) (rest piece after bytes : List ℕ) (fault : HeadFault) → Reads old rest bytes → piece ++ after ≡ rest
     → FeedsParser old piece (Err fault) new → IsReported bytes fault
 fault_fed old new rest piece after bytes fault reads parts feeds = reported (subst (λ (p : Parsing). FeedsParser p piece (Err fault) new) reads.is feeds) where
-  joined : (reads.fed ++ piece) ++ after ≡ bytes
-  joined = append_assoc reads.fed piece after ∙ ap (λ (t : List ℕ). reads.fed ++ t) parts ∙ reads.parts
-
   whole : ((HasHeader (reads.fed ++ piece) → ⊥) × IsFault (reads.fed ++ piece) fault) → IsReported bytes fault
   whole f =
       let all = more_fault (reads.fed ++ piece) after fault f.0 f.1 in
-      inr (subst (λ (b : List ℕ). HasHeader b → ⊥) joined all.0, inl (subst (λ (b : List ℕ). IsFault b fault) joined all.1))
+      let same = joined piece after reads parts in
+      inr (subst (λ (b : List ℕ). HasHeader b → ⊥) same all.0, inl (subst (λ (b : List ℕ). IsFault b fault) same all.1))
 
   reported : FeedsParser (reading reads.fed) piece (Err fault) new → IsReported bytes fault
   reported f = elim f.1 [ inl memory ↦ inl memory | inr e ↦ whole e ]
@@ -37,16 +40,13 @@ pub header_fed : (old new : Parsing) (rest piece after bytes : List ℕ) (taken 
     → HeadText h (take (length bytes - length rest + taken) bytes)
 header_fed old new rest piece after bytes taken h reads parts feeds = found (subst (λ (p : Parsing). FeedsParser p piece (Ok (Ready taken h)) new) reads.is feeds)
   where
-    joined : (reads.fed ++ piece) ++ after ≡ bytes
-    joined = append_assoc reads.fed piece after ∙ ap (λ (t : List ℕ). reads.fed ++ t) parts ∙ reads.parts
-
     found : FeedsParser (reading reads.fed) piece (Ok (Ready taken h)) new → HeadText h (take (length bytes - length rest + taken) bytes)
     found f =
         let within = f.1 in
         let size : length bytes ≡ length reads.fed + length rest = sym (ap length reads.parts) ∙ length-append reads.fed rest in
         let at : length bytes - length rest + taken ≡ length reads.fed + taken = omega arith in
         let front : take (length bytes - length rest + taken) bytes ≡ reads.fed ++ take taken piece =
-        ap (λ n. take n bytes) at ∙ ap (take (length reads.fed + taken)) (sym joined ∙ append_assoc reads.fed piece after)
+        ap (λ n. take n bytes) at ∙ ap (take (length reads.fed + taken)) (sym (joined piece after reads parts) ∙ append_assoc reads.fed piece after)
         ∙ take-append-add reads.fed (piece ++ after) taken
         ∙ ap (λ (t : List ℕ). reads.fed ++ t) (take-append-le taken piece after within) in
         subst (HeadText h) (sym front) f.2
@@ -67,7 +67,7 @@ pub more_fed : (old new : Parsing) (rest piece after bytes : List ℕ) → Reads
 more_fed old new rest piece after bytes reads parts feeds = record {
   fed = reads.fed ++ piece;
   is = goes (subst (λ (p : Parsing). FeedsParser p piece (Ok More) new) reads.is feeds);
-  parts = append_assoc reads.fed piece after ∙ ap (λ (t : List ℕ). reads.fed ++ t) parts ∙ reads.parts;
+  parts = joined piece after reads parts;
 } where
   goes : FeedsParser (reading reads.fed) piece (Ok More) new → new ≡ reading (reads.fed ++ piece)
   goes f = f.0

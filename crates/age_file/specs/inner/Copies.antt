@@ -1,8 +1,7 @@
 -- What reading the nonce, skipping blocks and copying the old text do. Private: no public contract
 -- cites this module.
-use Rattle.std.specs.Prelude.{◌≡◌, ℕ, ◌^◌, ◌<◌, ◌≤◌, List, [], ◌++◌, length, Result, Bool}
-use Rattle.std.specs.Prelude.{Ok, Err, true, false, ◌+◌, ◌*◌, ◌/◌, ◌≢◌, Some, IsSome, MatchResult}
-use Rattle.age_io.specs.Taken.{Appends}
+use Rattle.std.specs.Prelude.{◌≡◌, ℕ, ◌^◌, ◌<◌, ◌≤◌, List, [], ◌++◌, length, Result, Bool, Ok, Err, true}
+use Rattle.std.specs.Prelude.{false, ◌+◌, ◌*◌, ◌/◌, ◌≢◌, Some, IsSome, MatchResult}
 use Rattle.age_io.specs.Supply.{IsAtEnd}
 use Rattle.std.specs.Simd.{first_chunks}
 use Rattle.sha2.specs.Hashers.{Holds256}
@@ -19,11 +18,10 @@ use Rattle.age_fault.specs.declared.fault.FileFault.{FileFault}
 use Rattle.age_fault.specs.declared.fault.FileFault.TheVariants.{NonceCut, Read, ReadNeverEnds, Stream}
 use Rattle.age_fault.specs.declared.fault.FileFault.TheVariants.{ShortText, Write, OldTextDiffers}
 use Rattle.age_file.specs.Bindings.{file_id, chain}
-use Rattle.age_file.specs.inner.Readers.{Start, start_at, ReaderView, Pulled, PullFails, reader_view}
-use Rattle.age_file.specs.inner.Readers.{WriterView}
+use Rattle.age_file.specs.inner.Readers.{Start, start_at, ReaderView, Pulled, PullFails, reader_view, WriterView}
+use Rattle.age_file.specs.inner.Readers.{Wrote}
 use Rattle.age_file.specs.Runs.{pull_room}
-use Rattle.age_file.specs.inner.Bindings.{link_if, chain_if}
-use Rattle.age_file.specs.inner.Unread.{Unread}
+use Rattle.age_file.specs.inner.Parts.{link_if, chain_if, Unread}
 use Rattle.age_file.specs.declared.position.Position.{Position}
 use Rattle.age_file.specs.declared.position.PositionPolicy.{PositionPolicy}
 use Rattle.age_file.specs.declared.position.PositionPolicy.TheVariants.{Kept}
@@ -159,9 +157,7 @@ ChunksGo n chunks old new was now out = (length out ≡ chunks * n) × Passes ol
 pub record Copies (Goes : List ℕ → Type 0) (Fails : List ℕ → FileFault → Type 0) (was now : WriterView)
     (result : Result (Unit {0}) FileFault) : Type 0 where
   pub out : List ℕ
-  pub wrote : Appends was.sink.taken now.sink.taken out
-  pub named : now.sink.label ≡ was.sink.label
-  pub count : now.tally.written ≡ was.tally.written + length out
+  pub wrote : Wrote was now out
   pub answered : MatchResult result (λ _. Goes out) (Fails out)
 
 -- fewer bytes than these were written

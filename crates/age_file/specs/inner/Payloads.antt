@@ -1,8 +1,7 @@
 -- What decrypting a payload does, call by call. Private: no public contract cites this module.
-use Rattle.std.specs.Prelude.{◌≡◌, ℕ, ◌-◌, ◌/◌, ◌<◌, ◌≤◌, min, List, ◌++◌, length, Option, ◌+◌, ◌*◌}
-use Rattle.std.specs.Prelude.{◌^◌, Result, MatchResult, OnOk, Bool, true, false, ◌⊎◌, []}
+use Rattle.std.specs.Prelude.{◌≡◌, ℕ, ◌-◌, ◌/◌, ◌<◌, ◌≤◌, min, List, ◌++◌, length, Option, ◌+◌, ◌*◌, ◌^◌}
+use Rattle.std.specs.Prelude.{Result, MatchResult, OnOk, Bool, true, false, ◌⊎◌, []}
 use Rattle.std.specs.Simd.{first_chunks}
-use Rattle.age_io.specs.Taken.{Appends}
 use Rattle.age_io.specs.Supply.{IsAtEnd}
 use Rattle.age_stream.specs.Segment.{Segment, outcome, released, with_piece, with_end}
 use Rattle.age_stream.specs.Headline.{IsPrefixOf}
@@ -11,9 +10,9 @@ use Rattle.age_stream.specs.declared.step.Status.TheVariants.{Failed, Done}
 use Rattle.age_fault.specs.Faults.{HasFailed}
 use Rattle.age_fault.specs.declared.fault.FileFault.{FileFault}
 use Rattle.age_fault.specs.declared.fault.FileFault.TheVariants.{Stream, Read, Write, ReadNeverEnds}
-use Rattle.age_file.specs.inner.Bindings.{chain_if}
+use Rattle.age_file.specs.inner.Parts.{chain_if}
 use Rattle.age_file.specs.Runs.{NoneFailed, ReadFailed, WriteFailed, pull_room}
-use Rattle.age_file.specs.inner.Readers.{Start, Stage, ports_at, Pulled, WriterView}
+use Rattle.age_file.specs.inner.Readers.{Start, Stage, ports_at, Pulled, WriterView, Wrote}
 use Rattle.age_file.specs.declared.position.PositionPolicy.{PositionPolicy}
 use Rattle.age_file.specs.declared.tally.Tally.{Tally}
 
@@ -86,9 +85,7 @@ module _ (opening : List ℕ → List ℕ → Option (List ℕ)) (n : ℕ) where
         → Pulled from old.reader.source.supply old.reader.unread.pulls all
         → Pulled from new.reader.source.supply new.reader.unread.pulls (all ++ fresh)
     pub at_end : ended ≡ true → IsAtEnd new.reader.source.supply
-    pub wrote : Appends old.writer.sink.taken new.writer.sink.taken out
-    pub named : new.writer.sink.label ≡ old.writer.sink.label
-    pub count : new.writer.tally.written ≡ old.writer.tally.written + length out
+    pub wrote : Wrote old.writer new.writer out
     pub prefix : IsPrefixOf out (released opening n (segment start bytes ended))
     pub counts : (keep : PositionPolicy) (base : List ℕ) → length base ≡ start * n
         → old.writer.tally.index ≡ start
@@ -109,9 +106,7 @@ module _ {B : Type 0} (opening : B → List ℕ → List ℕ → Option (List �
       (unwritten : List ℕ) : Type 0 where
     pub out : List ℕ
     pub key : new.key ≡ old.key
-    pub wrote : Appends was.sink.taken now.sink.taken out
-    pub named : now.sink.label ≡ was.sink.label
-    pub count : now.tally.written ≡ was.tally.written + length out
+    pub wrote : Wrote was now out
     pub stands : (s : Segment) → Stands opening n old s → Stands opening n new (next s)
     pub text : (s : Segment) → Stands opening n old s → released (opening old.key) n (next s)
         ≡ released (opening old.key) n s ++ (out ++ unwritten)

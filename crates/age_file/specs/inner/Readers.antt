@@ -1,8 +1,9 @@
 -- Where a run stands, what pulls into the intake did, and a header that is being read. Private: no
 -- public contract cites this module.
-use Rattle.std.specs.Prelude.{◌≡◌, ℕ, ◌+◌, ◌*◌, ◌^◌, ◌<◌, ◌≤◌, List, [], ◌++◌, length, Option}
-use Rattle.std.specs.Prelude.{Result, Ok, Err, Bool, true, false, ◌⊎◌, take, drop, Some, None}
+use Rattle.std.specs.Prelude.{◌≡◌, ℕ, ◌+◌, ◌*◌, ◌^◌, ◌<◌, ◌≤◌, List, [], ◌++◌, length, Option, Result, Ok}
+use Rattle.std.specs.Prelude.{Err, Bool, true, false, ◌⊎◌, take, drop, Some, None}
 use Rattle.age_io.specs.Supply.{Supply, Consumes, IsAtEnd}
+use Rattle.age_io.specs.Taken.{Appends}
 use Rattle.sha2.specs.Hashers.{Holds256}
 use Rattle.age_stanza.specs.Grammar.{HeadText}
 use Rattle.age_stanza.specs.Parsing.{HasHeader, IsFault, memory_fault, reading}
@@ -13,7 +14,7 @@ use Rattle.age_fault.specs.Faults.{HasFailed}
 use Rattle.age_fault.specs.declared.fault.FileFault.{FileFault}
 use Rattle.age_fault.specs.declared.fault.FileFault.TheVariants.{Read, ReadNeverEnds}
 use Rattle.age_file.specs.Runs.{Ports, ports, pull_room, StopsAtHeader, EndsInHeader}
-use Rattle.age_file.specs.inner.Unread.{Unread}
+use Rattle.age_file.specs.inner.Parts.{Unread}
 use Rattle.age_file.specs.declared.tally.Tally.{Tally}
 use Rattle.age_file.specs.declared.reader.Reader.{Reader}
 use Rattle.age_file.specs.declared.reader.Writer.{Writer}
@@ -37,6 +38,15 @@ pub record WriterView : Type 0 where
 
 abbrev pub writer_view : SinkView → Tally → WriterView
 writer_view sink tally = record { sink = sink; tally = tally }
+
+-- these bytes were written
+pub record Wrote (was now : WriterView) (out : List ℕ) : Type 0 where
+  -- the sink took them
+  pub bytes : Appends was.sink.taken now.sink.taken out
+  -- they were counted
+  pub count : now.tally.written ≡ was.tally.written + length out
+  -- the sink keeps its label
+  pub named : now.sink.label ≡ was.sink.label
 
 -- where a run stands
 pub record Stage : Type 0 where

@@ -12,7 +12,7 @@ use Rattle.age_fault.specs.Faults.{HasFailed}
 use Rattle.age_fault.specs.declared.fault.FileFault.{FileFault}
 use Rattle.age_fault.specs.declared.fault.FileFault.TheVariants.{Write, Memory, Stream, Read, ReadNeverEnds}
 use Rattle.age_file.specs.Encrypts.{SecretView}
-use Rattle.age_file.specs.inner.Readers.{WriterView}
+use Rattle.age_file.specs.inner.Readers.{WriterView, Wrote}
 use Rattle.age_file.specs.Runs.{IsByAllPulls, Ports, NoneFailed, ReadFailed, WriteFailed}
 use Rattle.age_file.specs.declared.encryption.Written.{Written}
 
@@ -53,15 +53,6 @@ abbrev pub WritesFront : SecretView → WriterView → WriterView → Result (Un
 WritesFront s was now result = MatchResult result (λ _. WroteFront s was now) (FrontFails s was now)
 
 -- ---- What a sealer was fed, and what of its blocks was written.
-
--- these bytes were written
-pub record Wrote (was now : WriterView) (out : List ℕ) : Type 0 where
-  -- the sink took them
-  pub bytes : Appends was.sink.taken now.sink.taken out
-  -- they were counted
-  pub count : now.tally.written ≡ was.tally.written + length out
-  -- the sink keeps its label
-  pub named : now.sink.label ≡ was.sink.label
 
 -- the blocks before the last, joined
 abbrev pub front_of : (List ℕ → List ℕ → List ℕ) → ℕ → List ℕ → List ℕ

@@ -19,12 +19,7 @@ returns c =
     let salt : List ℕ = c.args.salt.now in
     let chosen : c.if-is_empty.salt.now ≡ salt_or_zeros salt =
     elim c.if-is_empty.branch [
-      | then-is_empty w ↦ ap (λ s. s.now) w.salt-is
-          ∙ salt_of_none salt
-          (eqb-true (length salt) 0 (sym c.is_empty.ensures ∙ w.if-is_empty.true))
-      | else-is_empty w ↦ ap (λ s. s.now) w.salt-is
-          ∙ salt_of_some salt
-          (eqb-false (length salt) 0 (sym c.is_empty.ensures ∙ w.if-is_empty.false))
+      | then-is_empty w ↦ ap (λ s. s.now) w.salt-is ∙ salt_of_none salt (eqb-true (length salt) 0 (sym c.is_empty.ensures ∙ w.if-is_empty.true))
+      | else-is_empty w ↦ ap (λ s. s.now) w.salt-is ∙ salt_of_some salt (eqb-false (length salt) 0 (sym c.is_empty.ensures ∙ w.if-is_empty.false))
     ] in
-    c.hmac.ensures
-    ∙ ap₂ hmac (c.hmac-prk.ensures ∙ ap₂ hmac chosen (append-nil c.args.ikm.now)) refl
+    c.hmac.ensures ∙ ap₂ hmac (c.hmac-prk.ensures ∙ ap₂ hmac chosen (append-nil c.args.ikm.now)) refl

@@ -3,13 +3,13 @@
 use Rattle.std.specs.Prelude.{◌≡◌, ◌⊎◌, ℕ, ◌+◌, ◌==◌, nat_eq, nat_lt, nat_le, Bool, true, false}
 use Rattle.std.specs.Prelude.{◌&&◌, ◌||◌, if◌then◌else◌, List, [], ◌∷◌, ◌++◌, length, drop, codes}
 use Rattle.std.specs.Prelude.{Option, Some, None, Result, Ok, Err, ◌/◌, ◌%◌, ◌≤◌, ◌<◌, take}
-use Rattle.std.specs.List.{list_all, starts_with, flat_map}
+use Rattle.std.specs.List.{list_all, starts_with, flat_map, AllByRecursion}
 use Rattle.std.specs.Result.{result_ok}
 use Rattle.std.specs.Str.{bytes_eq}
 use Rattle.std.specs.Simd.{first_chunks}
 use Rattle.base64.specs.GeneralPurpose.{decode_of, IsBytes}
 use Rattle.base64.specs.Engines.{standard_no_pad}
-use Rattle.age_stanza.specs.Grammar.{version, line, argument_line, header_limit, HeadText}
+use Rattle.age_stanza.specs.Grammar.{version, line, IsArgument, argument_line, IsStanza, header_limit, HeadText}
 use Rattle.age_stanza.specs.Parsing.{armor, memory_fault, IsLine, AreLines, stanzas_text}
 use Rattle.age_stanza.specs.Parsing.{line_after, HasHeader, IsFault}
 use Rattle.age_stanza.specs.Text.{base64_text}
@@ -137,24 +137,24 @@ bytes_before (Between ss) = stanzas_text ss
 bytes_before (InBody ss args body) =
     stanzas_text ss ++ (line (argument_line args) ++ whole_lines (base64_text body))
 
--- a body so far is whole lines
-abbrev pub HasWholeLines : Place → Type 0
-HasWholeLines Start = Unit {0}
-HasWholeLines (Between ss) = Unit {0}
-HasWholeLines (InBody ss args body) = length body % 48 ≡ 0
+-- what stands before a place is valid, and a body so far is whole lines
+abbrev pub IsPlace : Place → Type 0
+IsPlace Start = Unit {0}
+IsPlace (Between ss) = AllByRecursion IsStanza ss
+IsPlace (InBody ss args body) = AllByRecursion IsStanza ss × (0 < length args) × AllByRecursion IsArgument args
+    × IsBytes body × (length body % 48 ≡ 0)
 
--- this many finished lines led to this place
-pub record LeadTo (place : Place) (lines : ℕ) : Type 0 where
-  pub reaches : (rest : List ℕ)
-      → walk Start 1 [] (bytes_before place ++ rest) ≡ walk place (lines + 1) [] rest
-  pub line_count : lines + 1 ≡ line_after (bytes_before place)
+-- finished lines led to this place, in line n
+pub record LeadTo (place : Place) (n : ℕ) : Type 0 where
+  pub known : IsPlace place
+  pub reaches : (rest : List ℕ) → walk Start 1 [] (bytes_before place ++ rest) ≡ walk place n [] rest
+  pub line_is : n ≡ line_after (bytes_before place)
   pub are_lines : AreLines (bytes_before place)
-  pub whole_body : HasWholeLines place
   pub are_bytes : IsBytes (bytes_before place)
 
 -- what is kept of the fields of a partial header
 pub record IsPartial (place : Place) (l : List ℕ) (bytes lines : ℕ) : Type 0 where
-  pub lead_to : LeadTo place lines
+  pub lead_to : LeadTo place (lines + 1)
   pub one_line : IsLine l
   pub line_bytes : IsBytes l
   pub size : bytes ≡ length (bytes_before place ++ l)

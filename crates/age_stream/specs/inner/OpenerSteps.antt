@@ -1,15 +1,13 @@
 -- What each step of an opener does. Private: no public contract cites this module.
-use Rattle.std.specs.Prelude.{ℕ, ◌+◌, Bool, true, false, ◌&&◌, ◌==◌, nat_lt, List, [], ◌∷◌, ◌++◌}
+use Rattle.std.specs.Prelude.{ℕ, ◌+◌, Bool, true, false, nat_lt, List, [], ◌∷◌, ◌++◌}
 use Rattle.std.specs.Prelude.{length, Option, Some, None, ◌≢◌, ◌≡◌, ◌-◌, ◌≤◌, ◌<◌, min, take, ⊤}
 use Rattle.std.specs.Prelude.{Result, Ok, Err, MatchResult, IfOk, IfErr, OnOk, if◌then◌else◌}
 use Rattle.std.specs.List.{flat_map}
-use Rattle.age_chunk.specs.Payload.{nonce_bytes}
-use Rattle.age_chunk.specs.ChunkBoxes.{tag_length, Seals, OpensBlock, text_length}
+use Rattle.age_chunk.specs.ChunkBoxes.{Seals, OpensBlock, text_length}
 use Rattle.age_chunk.specs.declared.fault.StreamFault.{StreamFault}
-use Rattle.age_chunk.specs.declared.fault.StreamKind.{StreamKind}
-use Rattle.age_chunk.specs.declared.fault.StreamKind.TheVariants.{ChunkDamaged, ChunkCut, EmptyLast}
-use Rattle.age_chunk.specs.declared.fault.StreamKind.TheVariants.{Truncated, Trailing, TooManyChunks}
-use Rattle.age_stream.specs.Segment.{Outcome, failed, first_line, text_before_last, Segment}
+use Rattle.age_chunk.specs.declared.fault.StreamKind.TheVariants.{ChunkDamaged, Trailing, TooManyChunks}
+use Rattle.age_chunk.specs.Payload.{nonce_bytes}
+use Rattle.age_stream.specs.Segment.{Outcome, failed, first_line, text_before_last, Segment, verdict}
 use Rattle.age_stream.specs.Segment.{outcome, released, with_piece, with_end}
 use Rattle.age_stream.specs.Headline.{ReleasesWritten}
 use Rattle.age_stream.specs.Opener.{Stands, given, handed, has_failed, text_at_end, held_bytes, opener_view}
@@ -36,7 +34,18 @@ status_ended LastSeen = Done
 status_ended Done = Done
 status_ended Open = Open
 
-module _ (opening : List ℕ → List ℕ → Option (List ℕ)) where
+module _ (opening : OpensBlock) where
+  -- what the last bytes of a segment give after these texts, if they make no whole block
+  abbrev pub final_block : List (List ℕ) → ℕ → List ℕ → Bool → Bool → Outcome
+  final_block texts i rest late ended = verdict opening (record {
+    texts = texts;
+    index = i;
+    block = rest;
+    whole = false;
+    followed = late;
+    ended = ended;
+  })
+
   -- tried as the last block, with its text if it opened, whether bytes followed it, and whether the
   -- input ended
   abbrev pub after_last : List (List ℕ) → ℕ → Option (List ℕ) → Bool → Bool → Outcome
@@ -58,24 +67,17 @@ module _ (opening : List ℕ → List ℕ → Option (List ℕ)) where
   at_block texts i block followed ended None =
       after_last texts i (opening (nonce_bytes i true) block) followed ended
 
-  -- less than a whole block: once the input ended it is the last
-  abbrev pub final_block : List (List ℕ) → ℕ → List ℕ → Bool → Bool → Outcome
-  final_block texts i rest late false = record { texts = texts; index = i; status = Open }
-  final_block texts i rest late true =
-      let refused : StreamKind → Outcome = λ kind.
-      record { texts = texts; index = i; status = failed kind i } in
-      let len = length rest in
-      first_line (
-      (nat_lt 0 len && nat_lt len tag_length, refused ChunkCut)
-      ∷ (len == tag_length && nat_lt 0 i, refused EmptyLast)
-      ∷ (len == 0, refused Truncated) ∷ [])
-      (after_last texts i (opening (nonce_bytes i true) rest) late true)
-
   -- what one whole block alone gives, at number i
   abbrev pub after_front : Option (List ℕ) → ℕ → List ℕ → Outcome
   after_front (Some text) i block = record { texts = text ∷ []; index = i + 1; status = Open }
-  after_front None i block =
-      at_block [] i block false false (opening (nonce_bytes i false) block)
+  after_front None i block = verdict opening (record {
+    texts = [];
+    index = i;
+    block = block;
+    whole = true;
+    followed = false;
+    ended = false;
+  })
 
   abbrev pub one_block : ℕ → List ℕ → Outcome
   one_block i block = after_front (text_before_last opening i block) i block

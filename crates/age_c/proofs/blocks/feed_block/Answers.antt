@@ -1,8 +1,8 @@
-use Rattle.std.proofs.Common.{sym, ap, subst, refl, ◌∙◌, arith, List, ℕ, None, take, length, ◌≡◌}
+use Rattle.std.proofs.Common.{sym, ap, subst, ◌∙◌, arith, List, ℕ, take, length, ◌≡◌}
 use Rattle.std.proofs.lemmas.List.{take_all}
 use Rattle.age_stream.specs.Segment.{with_piece, outcome}
 use Rattle.age_stream.specs.Opener.{Stands}
-use Rattle.age_c.specs.inner.Keys.{opens}
+use Rattle.age_c.specs.inner.Readers.{opens}
 use Rattle.age_c.proofs.ReaderLemmas.{block_text}
 use Rattle.age_c.proofs.blocks.feed_block.Goals as goal
 use Rattle.age_chunk.specs.Payload.{chunk_length}
@@ -24,17 +24,4 @@ returns-in-Ok-clause-passes c =
           (ap (λ t. (outcome op chunk_length (with_piece s t)).texts) (sym all) ∙ ok.texts s h) c.put_chunk.ensures.text;
       nothing = λ failed. cc (after.unfailed, failed);
       was_open = λ _. ok.was_open (omega (arith, c.requires.block));
-    }
-
-pub returns-in-Err-clause-passes : goal.returns-in-Err-clause-passes
-returns-in-Err-clause-passes c =
-    let after = rw c.in-Err.is at c.feed.follows.holds-at-none in
-    let block = c.args.block.now in
-    let op = opens c.args.opener.now.key in
-    record {
-      key = after.key;
-      stands = after.stands;
-      text_is = λ s h. block_text op s (with_piece s block) None (take 0 c.args.out.now) (c.in-Err.ensures.feeds.texts s h) refl;
-      nothing = λ _. refl;
-      was_open = λ is_open. cc (after.fault, is_open);
     }

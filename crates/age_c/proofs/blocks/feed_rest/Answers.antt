@@ -1,9 +1,9 @@
-use Rattle.std.proofs.Common.{sym, ap, subst, refl, ◌∙◌, arith, append-nil, List, ℕ, [], None, take, length, ◌≡◌}
+use Rattle.std.proofs.Common.{sym, ap, subst, refl, ◌∙◌, arith, append-nil, List, ℕ, take, length, ◌≡◌}
 use Rattle.std.proofs.lemmas.List.{take_all}
 use Rattle.age_stream.specs.Segment.{with_piece, outcome, released}
 use Rattle.age_stream.specs.Opener.{Stands}
-use Rattle.age_c.specs.inner.Keys.{opens}
-use Rattle.age_c.proofs.ReaderLemmas.{block_text, rest_open, rest_text}
+use Rattle.age_c.specs.inner.Readers.{opens}
+use Rattle.age_c.proofs.ReaderLemmas.{rest_open, rest_text}
 use Rattle.age_c.proofs.blocks.feed_rest.Goals as goal
 use Rattle.age_chunk.specs.Payload.{chunk_length}
 
@@ -26,17 +26,4 @@ returns-in-Ok-clause-passes c =
           after.lent c.requires.held (omega (arith, ok.taken, c.requires.rest)) ∙ sym (append-nil (released op chunk_length s));
       nothing = λ _. refl;
       was_open = rest_open rest old.status new.status ok.was_open (λ none. ap (λ o. o.status) (after.unchanged none));
-    }
-
-pub returns-in-Err-clause-passes : goal.returns-in-Err-clause-passes
-returns-in-Err-clause-passes c =
-    let after = rw c.in-Err.is at c.feed.follows.holds-at-none in
-    let rest = c.args.rest.now in
-    let op = opens c.args.opener.now.key in
-    record {
-      key = after.key;
-      stands = after.stands;
-      text_is = λ s h. block_text op s (with_piece s rest) None [] (c.in-Err.ensures.feeds.texts s h) refl;
-      nothing = λ _. refl;
-      was_open = λ is_open. cc (after.fault, is_open);
     }

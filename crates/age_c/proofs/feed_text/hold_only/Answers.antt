@@ -1,4 +1,4 @@
-use Rattle.age_c.proofs.WriteStreamLemmas.{feeds_held}
+use Rattle.age_c.proofs.WriterLemmas.{feeds_held}
 use Rattle.age_c.proofs.feed_text.hold_only.Goals as goal
 
 pub returns : goal.returns

@@ -1,5 +1,5 @@
 use Rattle.std.proofs.Common.{take}
-use Rattle.age_c.proofs.WriteStreamLemmas.{finishes_text}
+use Rattle.age_c.proofs.WriterLemmas.{finishes_text}
 use Rattle.age_c.proofs.feed_text.seal_rest.Goals as goal
 
 pub returns-clause-finishes : goal.returns-clause-finishes

@@ -1,4 +1,4 @@
-use Rattle.age_c.proofs.StreamCallLemmas.{answers_are_feed_calls}
+use Rattle.age_c.proofs.StreamLemmas.{answers_are_feed_calls}
 use Rattle.age_c.proofs.laws.answers_are_feed_calls.Goals as goal
 
 pub returns : goal.returns

@@ -1,4 +1,4 @@
-use Rattle.age_c.proofs.StreamCallLemmas.{pieces_read_back}
+use Rattle.age_c.proofs.StreamLemmas.{pieces_read_back}
 use Rattle.age_c.proofs.laws.pieces_read_back.Goals as goal
 
 pub returns : goal.returns

@@ -1,4 +1,4 @@
-use Rattle.age_c.proofs.WriteStreamLemmas.{texts_are_files}
+use Rattle.age_c.proofs.WriterLemmas.{texts_are_files}
 use Rattle.age_c.proofs.laws.texts_are_files.Goals as goal
 
 pub returns : goal.returns

@@ -1,9 +1,7 @@
-use Rattle.std.proofs.Common.{ℕ, ◌+◌, ◌++◌, length, set, take, drop, ap, ap₂, ◌∙◌, arith}
+use Rattle.std.proofs.Common.{length, set, ap, ◌∙◌, arith}
 use Rattle.std.proofs.lemmas.List.{drop-set-lt}
 use Rattle.age_stanza.proofs.TextLengthLemmas.{stanza_within}
-use Rattle.age_c.specs.inner.StanzaPlaces.{places_from}
-use Rattle.age_c.proofs.HeaderLemmas.{body_within, length-stanza}
-use Rattle.age_c.proofs.StanzaPlaceLemmas.{place_next, stanzas_next}
+use Rattle.age_c.proofs.HeaderLemmas.{body_within, length-stanza, place_next, stanzas_next}
 use Rattle.age_c.proofs.stanzas.put_places.Goals as goal
 
 pub overflow_add-body_at : goal.overflow_add-body_at
@@ -25,9 +23,7 @@ loop-index-preserved c =
     record {
       text = omega (arith, was.text, parts);
       bodies = omega (arith, was.bodies);
-      told = ap₂ (λ (n m : ℕ). take (i + 1) (set c.loop-index.places i c.place_of.result)
-          ++ places_from (c.loop-index.at + n) (c.loop-index.body_at + m) (drop (i + 1) c.args.stanzas.now)) c.stanza_len-at.ensures c.len-body_at.ensures
-          ∙ place_next c.loop-index.places _ c.args.stanzas.now i c.loop-index.at c.loop-index.body_at s _ (omega arith) c.index-stanzas-index.is
-          (omega arith) (ap (set c.loop-index.places i) c.place_of.ensures) was.told;
+      told = rw (c.stanza_len-at.ensures, c.len-body_at.ensures) (place_next c.loop-index.places _ c.args.stanzas.now i c.loop-index.at
+          c.loop-index.body_at s _ (omega arith) c.index-stanzas-index.is (omega arith) (ap (set c.loop-index.places i) c.place_of.ensures) was.told);
       after = drop-set-lt (length c.args.stanzas.now) c.loop-index.places i c.place_of.result (omega arith) ∙ was.after;
     }

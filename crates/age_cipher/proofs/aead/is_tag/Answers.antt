@@ -1,11 +1,8 @@
-use Rattle.std.proofs.Common.{ℕ, List, get_or, refl, ap, arith, below_more}
+use Rattle.std.proofs.Common.{ℕ, List, get_or, ap, arith, below_more}
 use Rattle.std.proofs.lemmas.List.{ext_get_or}
 use Rattle.std.proofs.lemmas.Bool.{eqb-true, eq-eqb}
-use Rattle.age_cipher.proofs.AeadLemmas.{still_same, still_none}
+use Rattle.age_cipher.proofs.SealingLemmas.{still_same, still_none}
 use Rattle.age_cipher.proofs.aead.is_tag.Goals as goal
-
-pub loop-i-init : goal.loop-i-init
-loop-i-init c = record { same = λ e k below. absurd (omega arith); none = λ e. refl }
 
 pub loop-i-preserved : goal.loop-i-preserved
 loop-i-preserved c =

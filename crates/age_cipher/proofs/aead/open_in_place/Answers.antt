@@ -3,25 +3,14 @@ use Rattle.std.proofs.lemmas.Bool.{OnTrue_from}
 use Rattle.std.proofs.lemmas.List.{take_at}
 use Rattle.age_cipher.specs.Keystream.{ciphertext}
 use Rattle.age_cipher.specs.Aead.{sealing, tag}
-use Rattle.age_cipher.proofs.AeadLemmas.{opens_if, opens_of}
+use Rattle.age_cipher.proofs.SealingLemmas.{opens_if, opens_exactly}
 use Rattle.age_cipher.proofs.aead.open_in_place.Goals as goal
 
 pub returns-then-same-clause-exact : goal.returns-then-same-clause-exact
 returns-then-same-clause-exact c =
-    let key : List ℕ = c.args.key.now in
-    let nonce : List ℕ = c.args.nonce.now in
-    let aad : List ℕ = c.args.aad.now in
-    let block : List ℕ = c.args.block.now in
-    let n : ℕ = length block - 16 in
     let split = c.split_at_mut-cipher.ensures in
-    let tags = c.tag.ensures ∙ ap (tag key nonce aad) split.front in (
-      λ h. (
-        ciphertext key nonce 1 (take n block),
-        opens_if key nonce aad block n c.tag.result c.split_at_mut-cipher.result.1.now (c.is_tag-same.ensures.0 h)
-            tags split.back,
-      ),
-      λ w. c.if-same.true,
-    )
+    opens_exactly c.is_tag-same.result c.args.key.now c.args.nonce.now c.args.aad.now c.args.block.now _ c.tag.result _ c.is_tag-same.ensures c.tag.ensures
+    split.front split.back
 
 pub returns-then-same-clause-text : goal.returns-then-same-clause-text
 returns-then-same-clause-text c =
@@ -40,17 +29,6 @@ returns-then-same-clause-text c =
 
 pub returns-else-same-clause-exact : goal.returns-else-same-clause-exact
 returns-else-same-clause-exact c =
-    let key : List ℕ = c.args.key.now in
-    let nonce : List ℕ = c.args.nonce.now in
-    let aad : List ℕ = c.args.aad.now in
-    let block : List ℕ = c.args.block.now in
-    let n : ℕ = length block - 16 in
     let split = c.split_at_mut-cipher.ensures in
-    let tags = c.tag.ensures ∙ ap (tag key nonce aad) split.front in (
-      λ h. (
-        ciphertext key nonce 1 (take n block),
-        opens_if key nonce aad block n c.tag.result c.split_at_mut-cipher.result.1.now (c.is_tag-same.ensures.0 h)
-            tags split.back,
-      ),
-      λ w. c.is_tag-same.ensures.1 (opens_of key nonce aad block c.tag.result c.split_at_mut-cipher.result.1.now tags split.back w),
-    )
+    opens_exactly c.is_tag-same.result c.args.key.now c.args.nonce.now c.args.aad.now c.args.block.now _ c.tag.result _ c.is_tag-same.ensures c.tag.ensures
+    split.front split.back

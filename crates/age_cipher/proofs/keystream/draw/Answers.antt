@@ -11,9 +11,7 @@ loop-k-preserved c =
     let next = word_drawn c.args.generator.now c.loop-k.generator c.next_word.new.self c.next_word.result k c.loop-k.invariant.generator c.next_word.ensures in
     let here : k < length c.loop-k.words = omega arith in
     record {
-      drawn = below_more _ _
-          (λ j h. let ne : j ≢ k = omega arith in rw get_or-set_other (c.loop-k.invariant.drawn j h))
-          (rw get_or-set_same next.0);
+      drawn = below_more _ _ (λ j h. let ne : j ≢ k = omega arith in rw get_or-set_other (c.loop-k.invariant.drawn j h)) (rw get_or-set_same next.0);
       generator = next.1;
     }
 

@@ -1,16 +1,7 @@
-use Rattle.std.proofs.Common.{◌≡◌, ◌+◌, ◌-◌, ◌*◌, ◌/◌, ℕ, List, length, take, drop, arith}
+use Rattle.std.proofs.Common.{◌≡◌, ◌-◌, ◌*◌, ◌/◌, ℕ, List, length, take, drop, arith}
 use Rattle.age_cipher.specs.inner.Places.{word_byte}
-use Rattle.age_cipher.proofs.PlaceLemmas.{part_xored, word_byte-part, all_xored}
+use Rattle.age_cipher.proofs.KeystreamLemmas.{part_xored, word_byte-part, all_xored}
 use Rattle.age_cipher.proofs.lanes.xor_words.Goals as goal
-
-pub loop-i-preserved : goal.loop-i-preserved
-loop-i-preserved c =
-    let i : ℕ = c.loop-i.i in
-    let words : List ℕ = c.args.words.now in
-    part_xored (word_byte words) (word_byte (take (8 * i + 8 - 8 * i) (drop (8 * i) words)))
-    (32 * i) (32 * (i + 1)) (32 * i + 32 - 32 * i) c.args.text.now c.loop-i.text c.xor_lanes.new.text
-    (omega arith) (omega arith) (omega arith) (omega arith)
-    (λ m h. word_byte-part words i (8 * i + 8 - 8 * i) m (omega arith)) c.xor_lanes.ensures c.loop-i.invariant
 
 pub returns : goal.returns
 returns c =

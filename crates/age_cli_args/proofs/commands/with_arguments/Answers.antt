@@ -1,7 +1,8 @@
-use Rattle.std.proofs.Common.{◌∙◌, sym, ap}
+use Rattle.std.proofs.Common.{◌∙◌, sym, ap, refl}
+use Rattle.std.proofs.lemmas.List.{drop_all}
 use Rattle.clap.specs.Words.{App}
 use Rattle.age_cli_args.specs.inner.Commands.{with_all}
-use Rattle.age_cli_args.proofs.ArgumentLemmas.{add_one, add_none, neither}
+use Rattle.age_cli_args.proofs.SimpleLemmas.{add_one}
 use Rattle.age_cli_args.proofs.commands.with_arguments.Goals as goal
 
 pub loop-argument-init : goal.loop-argument-init
@@ -12,9 +13,9 @@ loop-argument-preserved c a h =
     let rest = c.loop-argument.invariant a h in
     let added = c.in_ok-whole.ensures in
     let local = c.arg_of.ensures.local in
-    (add_one _ _ _ _ _ _ c.loop-argument-test.true (added.shape local) c.arg_of.ensures.rule ∙ rest.0, neither _ _ _ added.globals rest.1 local)
+    (add_one _ _ _ _ _ _ c.loop-argument-test.true (added.shape local) c.arg_of.ensures.rule ∙ rest.0, rw (added.globals, rest.1, local) refl)
 
 pub returns : goal.returns
 returns c a h =
     let rest = c.loop-argument.invariant a h in
-    (sym (add_none _ _ _ c.loop-argument-test.false) ∙ rest.0, rest.1)
+    (sym (ap (with_all _) (drop_all _ _ c.loop-argument-test.false)) ∙ rest.0, rest.1)

@@ -1,7 +1,8 @@
 use Rattle.std.proofs.Common.{◌∙◌, sym, ap, refl}
+use Rattle.std.proofs.lemmas.List.{drop_all}
 use Rattle.clap.specs.Words.{App}
 use Rattle.age_cli_args.specs.inner.Commands.{with_subcommands}
-use Rattle.age_cli_args.proofs.ArgumentLemmas.{add_command, no_command_left}
+use Rattle.age_cli_args.proofs.SimpleLemmas.{add_command}
 use Rattle.age_cli_args.proofs.commands.with_commands.Goals as goal
 
 pub loop-sub-init : goal.loop-sub-init
@@ -16,4 +17,4 @@ loop-sub-preserved c a h =
 pub returns : goal.returns
 returns c a h =
     let rest = c.loop-sub.invariant a h in
-    (sym (no_command_left _ _ _ c.loop-sub-test.false) ∙ rest.0, rest.1)
+    (sym (ap (with_subcommands _) (drop_all _ _ c.loop-sub-test.false)) ∙ rest.0, rest.1)

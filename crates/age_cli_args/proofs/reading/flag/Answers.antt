@@ -1,11 +1,10 @@
 use Rattle.std.proofs.Common.{◌∙◌, ap, false}
-use Rattle.std.specs.Prelude.{bytes_eq, codes}
+use Rattle.std.specs.Prelude.{bytes_eq, codes, Option}
 use Rattle.std.specs.Option.{option_map_or}
 use Rattle.std.specs.Str.Parse.{ParsesBool}
 use Rattle.clap.specs.Words.{Text, found_of, one_text}
 use Rattle.clap.proofs.WalkLemmas.{one_text-rows}
-use Rattle.std.specs.Prelude.{Option}
-use Rattle.age_cli_args.proofs.FlagLemmas.{flag_read}
+use Rattle.age_cli_args.proofs.NumberLemmas.{flag_read}
 use Rattle.age_cli_args.proofs.reading.flag.Goals as goal
 
 pub returns : goal.returns

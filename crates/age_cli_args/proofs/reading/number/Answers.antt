@@ -1,9 +1,10 @@
-use Rattle.std.proofs.Common.{◌≡◌, ◌∙◌, ◌≤◌, ℕ, ap, sym, subst, not, arith, refl, Option}
+use Rattle.std.proofs.Common.{◌∙◌, ℕ, ap, sym, subst, not, refl, Option}
 use Rattle.std.specs.Str.Parse.{ParsesUnsigned, ExplainsUnsignedError, HasUnsignedDigitsIfOk}
+use Rattle.std.proofs.lemmas.Option.{IfSome_then}
 use Rattle.clap.specs.Words.{Text, found_of, one_text}
 use Rattle.clap.proofs.WalkLemmas.{one_text-rows}
 use Rattle.age_cli_args.specs.Requests.{IsNumber}
-use Rattle.age_cli_args.proofs.NumberLemmas.{number_read, not_number, no_number, no_text, some_text, some_weaker, none_weaker}
+use Rattle.age_cli_args.proofs.NumberLemmas.{number_read, not_number, no_number, no_text, some_text, none_weaker}
 use Rattle.age_cli_args.proofs.reading.number.Goals as goal
 
 pub returns-in-Some-clause-value : goal.returns-in-Some-clause-value
@@ -11,10 +12,10 @@ returns-in-Some-clause-value c =
     let f = found_of c.args.matches.now in
     let id = c.args.id.now in
     let n = c.in-Some.n in
-    some_weaker c.within.result _ _ (λ m w. subst (λ (o : Option Text). IsNumber c.args.default o m) (one_text-rows f id)
+    IfSome_then c.within.result c.within.ensures.some (λ m w. subst (λ (o : Option Text). IsNumber c.args.default o m) (one_text-rows f id)
     (subst (λ (k : ℕ). IsNumber c.args.default (one_text f id) k) (sym w.0)
     (number_read (λ bs r. ParsesUnsigned 32 10 bs r × ExplainsUnsignedError 10 bs r × HasUnsignedDigitsIfOk bs r)
-    (one_text f id) n c.args.default c.in-Some.ensures.none c.in-Some.ensures.value (λ t x g. g.0) w.1 w.2))) c.within.ensures.some
+    (one_text f id) n c.args.default c.in-Some.ensures.none c.in-Some.ensures.value (λ t x g. g.0) w.1 w.2)))
 
 pub returns-in-Some-clause-none : goal.returns-in-Some-clause-none
 returns-in-Some-clause-none c =

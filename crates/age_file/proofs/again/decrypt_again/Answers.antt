@@ -1,26 +1,15 @@
 use Rattle.std.proofs.Common.{◌∙◌, rules}
 use Rattle.std.specs.Prelude.{IfErr, IfSome}
 use Rattle.age_file.specs.Again.{IsFoundAgain}
-use Rattle.age_file.specs.inner.Readers.{view_of_reader, stage_of}
-use Rattle.age_file.proofs.ReaderLemmas.{read_last}
-use Rattle.age_file.proofs.AgainLemmas.{place_after, found_again}
+use Rattle.age_file.specs.inner.Readers.{stage_of}
+use Rattle.age_file.proofs.ReadLemmas.{read_last}
+use Rattle.age_file.proofs.AgainLawLemmas.{place_after, found_again}
 use Rattle.age_file.proofs.again.decrypt_again.Goals as goal
-
-pub returns-in_default-clause-found : goal.returns-in_default-clause-found
-returns-in_default-clause-found g c = λ copied before. rw c.early.ensures tt
-
-pub returns-in-Err-clause-found : goal.returns-in-Err-clause-found
-returns-in-Err-clause-found g c = λ copied before. rw c.early-in-Err.ensures tt
-
-pub returns-in-Err-skip_blocks-clause-found : goal.returns-in-Err-skip_blocks-clause-found
-returns-in-Err-skip_blocks-clause-found g c = λ copied before. rw c.early-in-Err-skip_blocks.ensures tt
 
 pub open_payload-requires-clause-room : goal.open_payload-requires-clause-room
 open_payload-requires-clause-room g c =
     let skipped = c.in-Ok-skip_blocks.ensures.skipped in
-    place_after (g.U.Unlock.allows c.args.unlock.now) c.args.from.now (g.S.Source.view c.args.reader.now) c.in-Ok-start.unlocked
-    (view_of_reader g.S.Source.view c.start.new.reader) (view_of_reader g.S.Source.view c.skip_blocks.new.reader) c.in-Ok-start.ensures.found
-    skipped.0 (skipped.1 ∙ search rules) skipped.2 (g.O.Sink.view c.args.writer.now)
+    place_after c.args.from.now c.in-Ok-start.ensures.found skipped.2 (skipped.1 ∙ search rules) (g.O.Sink.view c.args.writer.now)
     c.before-tally.result c.before-tally.ensures.written c.before-tally.ensures.index
 
 pub returns-clause-found : goal.returns-clause-found
@@ -29,9 +18,6 @@ returns-clause-found g c = λ copied before.
     let s2 = stage_of g.S.Source.view g.O.Sink.view c.open_payload.new.reader c.open_payload.new.writer in
     read_last g.S.Source.view (λ x. IfErr c.open_payload.result (λ stopped. IfSome stopped.position
     (IsFoundAgain (g.U.Unlock.allows c.args.unlock.now) c.args.from.now copied (g.S.Source.view c.args.reader.now) x stopped.written)))
-    _ c.open_payload.new.reader.source.now (search rules) (found_again (g.U.Unlock.allows c.args.unlock.now) c.args.from.now
-    (g.S.Source.view c.args.reader.now) c.in-Ok-start.unlocked (view_of_reader g.S.Source.view c.start.new.reader)
-    (view_of_reader g.S.Source.view c.skip_blocks.new.reader) c.in-Ok-start.ensures.found
-    skipped.0 (skipped.1 ∙ search rules) skipped.2 (g.O.Sink.view c.args.writer.now)
-    c.before-tally.result c.before-tally.ensures.written c.before-tally.ensures.index copied before
+    _ c.open_payload.new.reader.source.now (search rules) (found_again c.args.from.now c.in-Ok-start.ensures.found
+    skipped.2 (skipped.1 ∙ search rules) (g.O.Sink.view c.args.writer.now) c.before-tally.result c.before-tally.ensures.written c.before-tally.ensures.index copied before
     (c.before-tally.ensures.chain copied before) s2 c.open_payload.result c.open_payload.ensures.opened)

@@ -1,17 +1,13 @@
-use Rattle.std.proofs.Common.{◌≡◌, ◌++◌, ◌+◌, ◌<◌, ◌∙◌, ℕ, List, Option, Some, [], refl, sym, ap, subst, take, length, arith, append-nil, append_assoc}
+use Rattle.std.proofs.Common.{◌≡◌, ◌++◌, ◌∙◌, ℕ, List, Some, [], refl, sym, ap, subst, take, length, arith, append-nil, append_assoc}
 use Rattle.std.proofs.lemmas.Result.{err_from_is_err_and}
 use Rattle.std.proofs.lemmas.List.{length-append, length-take}
-use Rattle.age_io.proofs.TakenLemmas.{Appends-nil}
-use Rattle.age_io.specs.Taken.{Appends}
 use Rattle.sha2.specs.Hashers.{Holds256}
 use Rattle.age_stream.specs.Headline.{IsPrefixOf}
 use Rattle.age_fault.specs.Faults.{HasFailed}
 use Rattle.age_file.specs.inner.Readers.{view_of_reader, view_of_writer}
-use Rattle.age_file.specs.inner.Bindings.{link_if}
-use Rattle.age_io.proofs.TakenLemmas.{Appends-trans}
-use Rattle.age_file.proofs.StartLemmas.{uses_front}
-use Rattle.age_file.proofs.SkipLemmas.{passes_then, passes_same, dries_same}
-use Rattle.age_file.proofs.CopyLemmas.{copy_dry, front_written}
+use Rattle.age_io.specs.Taken.{Appends}
+use Rattle.age_file.proofs.ReadLemmas.{uses_front, passes_then, passes_same, dries_same, wrote_none, wrote_then}
+use Rattle.age_file.proofs.ResumeLemmas.{copy_dry, front_written}
 use Rattle.age_file.proofs.copy.copy_chunk.Goals as goal
 
 pub parts-init : goal.parts-init
@@ -23,10 +19,8 @@ parts-init g c =
       copied = [];
       size = omega arith;
       passes = record { uses = λ start used h. h; unfailed = refl };
-      wrote = Appends-nil (g.O.Sink.view c.args.writer.now.sink.now).taken;
+      wrote = wrote_none _;
       failures = refl;
-      named = refl;
-      count = omega arith;
       index = refl;
       chain = refl;
       hashed = λ links kept_is.
@@ -43,8 +37,6 @@ returns-then-not-branch-clause-copied g c =
     record {
       out = kept.copied;
       wrote = kept.wrote;
-      named = kept.named;
-      count = kept.count;
       answered = (
         omega (arith, kept.size, c.parts-test.true),
         (passes_same kept.passes (record { uses = c.has_bytes.ensures.uses; unfailed = r.2 }), r.0, r.1, kept.failures),
@@ -66,8 +58,6 @@ returns-in_err-has_bytes-clause-copied g c =
     record {
       out = kept.copied;
       wrote = kept.wrote;
-      named = kept.named;
-      count = kept.count;
       answered = rw (p.1, p.2) (
         omega (arith, kept.size, c.parts-test.true),
         copy_dry _ _ was now kept.copied c.in_err-has_bytes.field-0.0 dries kept.failures,
@@ -84,21 +74,9 @@ returns-in_err-write_all-clause-copied g c =
     let bytes = c.bytes-in-parts.result.now in
     record {
       out = kept.copied ++ put.out;
-      wrote = Appends-trans (g.O.Sink.view c.args.writer.now.sink.now).taken (g.O.Sink.view c.parts.writer.sink.now).taken
-          (g.O.Sink.view c.write_all.new.sink).taken kept.copied put.out kept.wrote put.wrote;
-      named = c.in_err-write_all.ensures.named ∙ kept.named;
-      count = omega (arith, kept.count, put.count, length-append kept.copied put.out);
+      wrote = wrote_then kept.wrote (record { bytes = put.wrote; count = put.count; named = c.in_err-write_all.ensures.named });
       answered = rw (p.1, p.2, c.in_err-write_all.ensures.fault) (
-        omega (
-          arith,
-          kept.size,
-          put.stopped,
-          ap length put.parts,
-          length-append put.out put.unwritten,
-          length-take n bytes,
-          c.min-n.ensures,
-          length-append kept.copied put.out,
-        ),
+        omega (arith, kept.size, put.stopped, ap length put.parts, length-append {A = ℕ}, length-take n bytes, c.min-n.ensures),
         (
           kept.copied,
           passes_same kept.passes (record { uses = c.has_bytes.ensures.uses; unfailed = r.1 }),
@@ -119,8 +97,6 @@ parts-preserved g c =
     let bytes = c.bytes-in-parts.result.now in
     let put = c.in_ok-write_all.ensures.writes in
     let whole : put.out ≡ take n bytes = sym (put.parts ∙ ap (λ (t : List ℕ). put.out ++ t) put.answered.0 ∙ append-nil put.out) in
-    let wrote = subst (λ (t : List ℕ). Appends (g.O.Sink.view c.parts.writer.sink.now).taken
-    (g.O.Sink.view c.write_all.new.sink).taken t) whole put.wrote in
     let front = uses_front (g.S.Source.view c.has_bytes.new.reader.source.now) c.has_bytes.new.reader.intake.now c.use_front.new.self bytes n
     c.use_front.ensures.pulls c.bytes-in-parts.ensures.bytes c.use_front.ensures.bytes in
     record {
@@ -139,33 +115,14 @@ parts-preserved g c =
       );
       passes = passes_then kept.copied (take n bytes) (passes_same {z = view_of_reader g.S.Source.view c.has_bytes.new.reader} kept.passes
           (record { uses = c.has_bytes.ensures.uses; unfailed = r.1 })) (record { uses = front; unfailed = refl });
-      wrote = Appends-trans (g.O.Sink.view c.args.writer.now.sink.now).taken (g.O.Sink.view c.parts.writer.sink.now).taken
-          (g.O.Sink.view c.write_all.new.sink).taken kept.copied (take n bytes) kept.wrote wrote;
+      wrote = wrote_then {q = take n bytes} kept.wrote (record {
+        bytes = subst (λ (t : List ℕ). Appends (g.O.Sink.view c.parts.writer.sink.now).taken (g.O.Sink.view c.write_all.new.sink).taken t) whole put.wrote;
+        count = omega (arith, put.count, ap length whole);
+        named = c.in_ok-write_all.ensures.named;
+      });
       failures = put.answered.1 ∙ kept.failures;
-      named = c.in_ok-write_all.ensures.named ∙ kept.named;
-      count = omega (arith, kept.count, put.count, ap length whole, length-append kept.copied (take n bytes));
       index = kept.index;
       chain = kept.chain;
       hashed = λ links kept_is. subst (λ (t : List ℕ). Holds256 c.update-in-parts.new.self t) (append_assoc links kept.copied (take n bytes))
           (c.update-in-parts.ensures (links ++ kept.copied) (kept.hashed links kept_is));
-    }
-
-pub returns-clause-copied : goal.returns-clause-copied
-returns-clause-copied g c =
-    let kept = c.parts.invariant in
-    let risen : c.parts.writer.tally.index < c.parts.writer.tally.index + 1 = omega arith in
-    let further = c.advance.ensures.counted.further risen in
-    record {
-      out = kept.copied;
-      wrote = kept.wrote;
-      named = kept.named;
-      count = c.advance.ensures.same ∙ kept.count;
-      answered = (
-        omega (arith, kept.size, c.parts-test.false),
-        kept.passes,
-        kept.failures,
-        omega (arith, further.0, kept.index),
-        further.1 ∙ (ap Some (c.finalize.ensures (c.in-Some.chain ++ kept.copied) (kept.hashed c.in-Some.chain c.in-Some.is))
-            ∙ ap (λ (l : Option (List ℕ)). link_if l kept.copied) (sym c.in-Some.is)),
-      );
     }

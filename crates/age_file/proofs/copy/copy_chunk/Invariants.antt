@@ -1,8 +1,7 @@
 use Rattle.std.proofs.Common.{◌≡◌, ◌+◌, ◌++◌, ℕ, List, Some, length}
-use Rattle.age_io.specs.Taken.{Appends}
 use Rattle.sha2.specs.Hashers.{Holds256}
 use Rattle.age_file.specs.inner.Copies.{Passes}
-use Rattle.age_file.specs.inner.Readers.{view_of_reader, SameReader, KeepsOrigin, SameWriter}
+use Rattle.age_file.specs.inner.Readers.{view_of_reader, view_of_writer, Wrote, SameReader, KeepsOrigin, SameWriter}
 use Rattle.age_chunk.specs.Payload.{chunk_length}
 use Rattle.age_file.proofs.copy.copy_chunk.Given as goal
 
@@ -15,10 +14,8 @@ invariant-parts g l = record {
   copied : List ℕ;
   size : length copied + l.left ≡ chunk_length;
   passes : Passes (view_of_reader g.S.Source.view l.fn.reader) (view_of_reader g.S.Source.view l.reader) copied;
-  wrote : Appends (g.O.Sink.view l.fn.writer.sink.now).taken (g.O.Sink.view l.writer.sink.now).taken copied;
+  wrote : Wrote (view_of_writer g.O.Sink.view l.fn.writer) (view_of_writer g.O.Sink.view l.writer) copied;
   failures : (g.O.Sink.view l.writer.sink.now).failed ≡ (g.O.Sink.view l.fn.writer.sink.now).failed;
-  named : (g.O.Sink.view l.writer.sink.now).label ≡ (g.O.Sink.view l.fn.writer.sink.now).label;
-  count : l.writer.tally.written ≡ l.fn.writer.tally.written + length copied;
   index : l.writer.tally.index ≡ l.fn.writer.tally.index;
   chain : l.writer.tally.chain ≡ l.fn.writer.tally.chain;
   hashed : (links : List ℕ) → l.fn.writer.tally.chain ≡ Some links → Holds256 l.digest (links ++ copied);

@@ -1,25 +1,14 @@
-use Rattle.std.proofs.Common.{◌≡◌, ◌++◌, ◌∙◌, ◌+◌, ℕ, List, Option, Some, [], refl, sym, ap, suc, arith}
+use Rattle.std.proofs.Common.{◌≡◌, ◌++◌, ◌∙◌, ◌+◌, ℕ, List, Option, Some, sym, ap, suc, arith}
 use Rattle.std.proofs.lemmas.Result.{err_from_is_err_and}
 use Rattle.std.proofs.lemmas.List.{length-append}
 use Rattle.std.specs.Simd.{first_chunks}
-use Rattle.age_file.specs.inner.Bindings.{chain_if, link_if}
+use Rattle.age_file.specs.inner.Parts.{chain_if, link_if}
 use Rattle.age_file.specs.declared.position.PositionPolicy.TheVariants.{Kept}
-use Rattle.age_io.proofs.TakenLemmas.{Appends-trans}
-use Rattle.age_file.proofs.SkipLemmas.{passes_then}
-use Rattle.age_file.proofs.CopyLemmas.{chain_more, chunk_failed}
-use Rattle.age_io.proofs.TakenLemmas.{Appends-nil}
+use Rattle.age_file.proofs.ReadLemmas.{passes_then, wrote_then}
+use Rattle.age_file.proofs.ResumeLemmas.{chain_more, chunk_failed}
 use Rattle.age_file.specs.inner.Readers.{view_of_reader, view_of_writer}
 use Rattle.age_chunk.specs.Payload.{chunk_length}
 use Rattle.age_file.proofs.copy.copy_chunks.Goals as goal
-
-pub copy_chunk-requires : goal.copy_chunk-requires
-copy_chunk-requires g c =
-    let kept = c.loop-copied.invariant in
-    record {
-      room = omega (arith, kept.count, kept.size, c.requires.limit);
-      limit = omega (arith, kept.index, c.requires.limit, c.loop-copied-test.true);
-      kept = rw kept.chain_is refl;
-    }
 
 pub returns-in_err-copy_chunk-clause-copied : goal.returns-in_err-copy_chunk-clause-copied
 returns-in_err-copy_chunk-clause-copied g c =
@@ -32,24 +21,7 @@ returns-in_err-copy_chunk-clause-copied g c =
     let between = view_of_writer g.O.Sink.view c.loop-copied.writer in
     let now = view_of_writer g.O.Sink.view c.copy_chunk.new.writer in
     rw (p.1, p.2) (chunk_failed chunk_length c.args.chunks c.loop-copied._copied old mid new was
-    between now kept.out c.in_err-copy_chunk.field-0.0 kept.size (omega arith) kept.passes kept.wrote kept.named kept.failures
-    (omega (arith, kept.count, c.requires.fresh.0)) c.in_err-copy_chunk.ensures.copied)
-
-pub loop-copied-init : goal.loop-copied-init
-loop-copied-init g c = record {
-  same_reader = (refl, refl);
-  began = λ from so. so;
-  same_writer = refl;
-  out = [];
-  size = omega arith;
-  passes = record { uses = λ start used h. h; unfailed = refl };
-  wrote = Appends-nil (g.O.Sink.view c.args.writer.now.sink.now).taken;
-  failures = refl;
-  named = refl;
-  count = c.requires.fresh.0;
-  index = c.requires.fresh.1;
-  chain_is = c.requires.fresh.2;
-}
+    between now kept.out c.in_err-copy_chunk.field-0.0 kept.size (omega arith) kept.passes kept.wrote kept.failures c.in_err-copy_chunk.ensures.copied)
 
 pub loop-copied-preserved : goal.loop-copied-preserved
 loop-copied-preserved g c =
@@ -69,11 +41,8 @@ loop-copied-preserved g c =
       out = kept.out ++ step.out;
       size = omega (arith, kept.size, goes.0, length-append kept.out step.out);
       passes = passes_then kept.out step.out kept.passes goes.1;
-      wrote = Appends-trans (g.O.Sink.view c.args.writer.now.sink.now).taken (g.O.Sink.view c.loop-copied.writer.sink.now).taken
-          (g.O.Sink.view c.copy_chunk.new.writer.sink.now).taken kept.out step.out kept.wrote step.wrote;
+      wrote = wrote_then kept.wrote step.wrote;
       failures = goes.2 ∙ kept.failures;
-      named = step.named ∙ kept.named;
-      count = omega (arith, kept.count, step.count, length-append kept.out step.out);
       index = omega (arith, kept.index, goes.3);
       chain_is = links;
     }

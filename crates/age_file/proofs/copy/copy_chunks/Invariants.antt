@@ -1,10 +1,9 @@
 use Rattle.std.proofs.Common.{◌≡◌, ◌*◌, ℕ, List, length}
-use Rattle.age_io.specs.Taken.{Appends}
 use Rattle.std.specs.Simd.{first_chunks}
-use Rattle.age_file.specs.inner.Bindings.{chain_if}
+use Rattle.age_file.specs.inner.Parts.{chain_if}
 use Rattle.age_file.specs.declared.position.PositionPolicy.TheVariants.{Kept}
 use Rattle.age_file.specs.inner.Copies.{Passes}
-use Rattle.age_file.specs.inner.Readers.{view_of_reader, SameReader, KeepsOrigin, SameWriter}
+use Rattle.age_file.specs.inner.Readers.{view_of_reader, view_of_writer, Wrote, SameReader, KeepsOrigin, SameWriter}
 use Rattle.age_chunk.specs.Payload.{chunk_length}
 use Rattle.age_file.proofs.copy.copy_chunks.Given as goal
 
@@ -17,10 +16,8 @@ invariant-loop-copied g l = record {
   out : List ℕ;
   size : length out ≡ l._copied * chunk_length;
   passes : Passes (view_of_reader g.S.Source.view l.fn.reader) (view_of_reader g.S.Source.view l.reader) out;
-  wrote : Appends (g.O.Sink.view l.fn.writer.sink.now).taken (g.O.Sink.view l.writer.sink.now).taken out;
+  wrote : Wrote (view_of_writer g.O.Sink.view l.fn.writer) (view_of_writer g.O.Sink.view l.writer) out;
   failures : (g.O.Sink.view l.writer.sink.now).failed ≡ (g.O.Sink.view l.fn.writer.sink.now).failed;
-  named : (g.O.Sink.view l.writer.sink.now).label ≡ (g.O.Sink.view l.fn.writer.sink.now).label;
-  count : l.writer.tally.written ≡ length out;
   index : l.writer.tally.index ≡ l._copied;
   chain_is : l.writer.tally.chain ≡ chain_if Kept (first_chunks chunk_length l._copied out);
 }

@@ -1,11 +1,9 @@
-use Rattle.std.proofs.Common.{◌++◌, arith, refl, rules, Err, None, Some, subst, List, ℕ, ◌≡◌}
-use Rattle.std.proofs.lemmas.List.{length-append}
-use Rattle.age_file.proofs.ByteLemmas.{stops_unread}
+use Rattle.std.proofs.Common.{refl, rules, Err, None, Some, subst, List, ℕ, ◌≡◌}
+use Rattle.age_file.proofs.ReadLemmas.{stops_unread, read_last, ports_last}
 use Rattle.age_file.specs.Runs.{ports}
-use Rattle.age_file.specs.inner.Readers.{writer_view, stage, view_of_reader, stage_of}
+use Rattle.age_file.specs.inner.Readers.{stage_of}
 use Rattle.age_file.specs.Decrypts.{DecryptsKeyed}
-use Rattle.age_file.proofs.ReaderLemmas.{read_last, ports_last}
-use Rattle.age_file.proofs.DecryptLemmas.{run_ended, stopped_early}
+use Rattle.age_file.proofs.ResumeLemmas.{run_ended, stopped_at_start}
 use Rattle.age_fault.specs.declared.fault.FileFault.TheVariants.{Memory}
 use Rattle.age_file.proofs.decryption.decrypt_keyed.Goals as goal
 
@@ -14,7 +12,7 @@ returns-in_default-clause-decrypts g c =
     let old = ports (g.S.Source.view c.args.reader.now) (g.O.Sink.view c.args.writer.now) in
     let Allows = g.U.Unlock.allows c.args.unlock in
     let Refused = g.U.Unlock.refuses c.args.unlock in
-    rw c.early.ensures (stopped_early c.args.positions Allows Refused old old Memory refl (stops_unread _))
+    rw c.early.ensures (stopped_at_start c.args.positions Allows Refused old old Memory refl (stops_unread _))
 
 pub returns-in-Err-clause-decrypts : goal.returns-in-Err-clause-decrypts
 returns-in-Err-clause-decrypts g c =
@@ -22,17 +20,15 @@ returns-in-Err-clause-decrypts g c =
     let new = ports (g.S.Source.view c.start_once.new.reader.source.now) (g.O.Sink.view c.args.writer.now) in
     let Allows = g.U.Unlock.allows c.args.unlock in
     let Refused = g.U.Unlock.refuses c.args.unlock in
-    let early = stopped_early c.args.positions Allows Refused old new c.in-Err.fault refl c.in-Err.ensures.fails in
+    let early = stopped_at_start c.args.positions Allows Refused old new c.in-Err.fault refl c.in-Err.ensures.fails in
     rw c.early-in-Err.ensures (read_last g.S.Source.view (λ v. DecryptsKeyed c.args.positions Allows Refused old
     (ports v (g.O.Sink.view c.args.writer.now)) (Err (record { fault = c.in-Err.fault; written = 0; position = None })) None)
     _ c.start_once.new.reader.source.now (search rules) early)
 
 pub returns-clause-decrypts : goal.returns-clause-decrypts
 returns-clause-decrypts g c =
-    let old = stage (view_of_reader g.S.Source.view c.start_once.new.reader) (writer_view (g.O.Sink.view c.args.writer.now) c.new-tally.result) in
     let new = stage_of g.S.Source.view g.O.Sink.view c.open_payload-result.new.reader c.open_payload-result.new.writer in
-    let first = g.S.Source.view c.args.reader.now in
-    let before = ports first (g.O.Sink.view c.args.writer.now) in
+    let before = ports (g.S.Source.view c.args.reader.now) (g.O.Sink.view c.args.writer.now) in
     let Allows = g.U.Unlock.allows c.args.unlock in
     let Refused = g.U.Unlock.refuses c.args.unlock in
     let given : c.in-Ok-start_once.unlocked.key ≡ c.new-2.result = search rules in
@@ -40,15 +36,5 @@ returns-clause-decrypts g c =
     (Some c.new-2.result)) _ c.open_payload-result.new.reader.source.now _ c.open_payload-result.new.writer.sink.now (search rules) (search rules)
     (subst (λ (k : List ℕ). DecryptsKeyed c.args.positions Allows Refused before
     (ports new.reader.source new.writer.sink) c.open_payload-result.result (Some k)) given
-    (run_ended c.args.positions Allows Refused first c.in-Ok-start_once.unlocked old new c.open_payload-result.result
-    c.new-tally.ensures.written c.new-tally.ensures.index c.new-tally.ensures.chain c.in-Ok-start_once.ensures.found
-    c.open_payload-result.ensures.opened))
-
-pub open_payload-result-requires-clause-room : goal.open_payload-result-requires-clause-room
-open_payload-result-requires-clause-room g c =
-    let found = c.in-Ok-start_once.ensures.found in
-    let unread = c.start_once.new.reader.intake.now.bytes in
-    let p = found.pulled in (
-      omega (arith, c.new-tally.ensures.written, p.small, length-append (found.front ++ c.in-Ok-start_once.unlocked.nonce) unread),
-      p.most,
-    )
+    (run_ended c.args.positions Allows Refused c.new-tally.ensures.written c.new-tally.ensures.index c.new-tally.ensures.chain
+    c.in-Ok-start_once.ensures.found c.open_payload-result.ensures.opened))

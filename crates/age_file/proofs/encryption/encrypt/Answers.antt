@@ -5,9 +5,9 @@ use Rattle.age_keys.specs.Keys.{payload_key}
 use Rattle.age_file.specs.Runs.{ports}
 use Rattle.age_file.specs.inner.Seals.{SealsAll, SealsFront}
 use Rattle.age_file.specs.inner.Readers.{view_of_writer, writer_view}
-use Rattle.age_file.proofs.EncryptLemmas.{front_fails, file_done, file_stopped}
+use Rattle.age_file.proofs.SealLemmas.{front_fails, file_done, file_stopped}
 use Rattle.age_file.specs.Encrypts.{Encrypts, EncryptFails}
-use Rattle.age_file.proofs.ReaderLemmas.{ports_last}
+use Rattle.age_file.proofs.ReadLemmas.{ports_last}
 use Rattle.age_chunk.specs.Payload.{chunk_length}
 use Rattle.age_file.proofs.encryption.encrypt.Goals as goal
 
@@ -31,13 +31,13 @@ returns-clause-done g c =
     c.new-3.ensures ∙ ap (λ v. payload_key v.key v.nonce) c.secret.view_is) in
     let written = c.write_front.new.writer.tally.written in
     let file = c.seal_all.new.writer.tally.written in
-    let old = ports (g.S.Source.view c.args.reader.now) (g.O.Sink.view c.args.writer.now) in
-    let mid = ports (g.S.Source.view c.args.reader.now) (g.O.Sink.view c.write_front.new.writer.sink.now) in
+    let source = g.S.Source.view c.args.reader.now in
+    let old = ports source (g.O.Sink.view c.args.writer.now) in
+    let mid = ports source (g.O.Sink.view c.write_front.new.writer.sink.now) in
     let new = ports (g.S.Source.view c.seal_all.new.reader.source.now) (g.O.Sink.view c.seal_all.new.writer.sink.now) in
     ports_last g.S.Source.view g.O.Sink.view (λ q. IfOk c.seal_all.result (Encrypts s old q))
     _ c.seal_all.new.reader.source.now _ c.seal_all.new.writer.sink.now (search rules) (search rules)
-    (file_done s front.front front.begins old mid new written file refl refl front.failed front.wrote front.count c.seal_all.result
-    c.seal_all.ensures.sealed.counted (subst (λ (k : List ℕ). IfOk c.seal_all.result
+    (file_done front source new file c.seal_all.result c.seal_all.ensures.sealed.counted (subst (λ (k : List ℕ). IfOk c.seal_all.result
     (λ w. SealsAll (λ nonce text. sealing k nonce [] text) chunk_length mid new written file w.plain)) is c.seal_all.ensures.sealed.done))
 
 pub returns-clause-fails : goal.returns-clause-fails
@@ -48,11 +48,11 @@ returns-clause-fails g c =
     c.new-3.ensures ∙ ap (λ v. payload_key v.key v.nonce) c.secret.view_is) in
     let written = c.write_front.new.writer.tally.written in
     let file = c.seal_all.new.writer.tally.written in
-    let old = ports (g.S.Source.view c.args.reader.now) (g.O.Sink.view c.args.writer.now) in
-    let mid = ports (g.S.Source.view c.args.reader.now) (g.O.Sink.view c.write_front.new.writer.sink.now) in
+    let source = g.S.Source.view c.args.reader.now in
+    let old = ports source (g.O.Sink.view c.args.writer.now) in
+    let mid = ports source (g.O.Sink.view c.write_front.new.writer.sink.now) in
     let new = ports (g.S.Source.view c.seal_all.new.reader.source.now) (g.O.Sink.view c.seal_all.new.writer.sink.now) in
     ports_last g.S.Source.view g.O.Sink.view (λ q. IfErr c.seal_all.result (EncryptFails s old q))
     _ c.seal_all.new.reader.source.now _ c.seal_all.new.writer.sink.now (search rules) (search rules)
-    (file_stopped s front.front front.begins old mid new written file refl refl front.failed front.wrote front.count c.seal_all.result
-    (subst (λ (k : List ℕ). IfErr c.seal_all.result (SealsFront (λ nonce text. sealing k nonce [] text) chunk_length mid new written file)) is
+    (file_stopped front source new file c.seal_all.result (subst (λ (k : List ℕ). IfErr c.seal_all.result (SealsFront (λ nonce text. sealing k nonce [] text) chunk_length mid new written file)) is
     c.seal_all.ensures.sealed.fails))

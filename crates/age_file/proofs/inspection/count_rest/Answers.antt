@@ -1,26 +1,7 @@
 use Rattle.std.proofs.Common.{◌++◌, ◌∙◌, arith}
 use Rattle.std.proofs.lemmas.List.{length-append}
-use Rattle.std.proofs.lemmas.Result.{err_from_is_err_and}
-use Rattle.age_file.specs.inner.Readers.{RestFails, reader_view, view_of_reader}
-use Rattle.age_file.proofs.ByteLemmas.{rest_pulled, cut_pulled, pull_fails_since}
+use Rattle.age_file.proofs.ReadLemmas.{rest_pulled}
 use Rattle.age_file.proofs.inspection.count_rest.Goals as goal
-
-pub returns-clause-counts : goal.returns-clause-counts
-returns-clause-counts g c =
-    let kept = c.pulls.invariant in
-    let r = rw c.if-branch.false at c.in_ok-refill.ensures.refills.answered in
-    let now = (g.S.Source.view c.refill.new.source).supply in
-    record {
-      counts = λ start used h. (
-        kept.passed,
-        kept.count_is,
-        (cut_pulled start now c.refill.new.self.pulls (used ++ kept.passed) c.refill.new.self.bytes r.0
-            (c.refill.ensures.refills.pulled start (used ++ kept.passed) (kept.pulled start used h))).consumed,
-      );
-      at_end = r.2;
-      small = omega (arith, kept.small, kept.most);
-      unfailed = r.3 ∙ kept.unfailed;
-    }
 
 pub pulls-preserved : goal.pulls-preserved
 pulls-preserved g c =
@@ -40,22 +21,3 @@ pulls-preserved g c =
       unread = c.use_all-in-pulls.ensures.bytes;
       unfailed = r.answered.4 ∙ kept.unfailed;
     }
-
-pub returns-in_err-refill-clause-fails : goal.returns-in_err-refill-clause-fails
-returns-in_err-refill-clause-fails g c =
-    let p = err_from_is_err_and c.from_residual.result c.from_residual.ensures.1 in
-    let kept = c.pulls.invariant in
-    let a = c.in_err-refill.ensures.refills.answered in
-    let old = view_of_reader g.S.Source.view c.args.reader.now in
-    let mid = view_of_reader g.S.Source.view c.pulls.reader in
-    let source = g.S.Source.view c.refill.new.source in
-    let new = reader_view source c.refill.new.self in
-    let fails : RestFails old new c.in_err-refill.field-0.0 = record {
-      more = λ start used h. (
-        kept.passed,
-        cut_pulled start source.supply c.refill.new.self.pulls (used ++ kept.passed) c.refill.new.self.bytes a.0
-            (c.refill.ensures.refills.pulled start (used ++ kept.passed) (kept.pulled start used h)),
-      );
-      why = pull_fails_since old mid new c.in_err-refill.field-0.0 kept.unfailed a.2;
-    } in
-    rw (p.1, p.2) fails

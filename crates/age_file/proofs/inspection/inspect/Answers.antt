@@ -1,24 +1,22 @@
-use Rattle.std.proofs.Common.{◌≡◌, ◌++◌, ◌∙◌, ℕ, List, refl, inl, inr, rules}
+use Rattle.std.proofs.Common.{◌++◌, refl, inl, inr, rules}
 use Rattle.std.proofs.lemmas.Result.{err_from_is_err_and}
 use Rattle.age_io.specs.Supply.{Consumes, IsAtEnd}
-use Rattle.age_stanza.specs.declared.header.Header.{Header}
-use Rattle.age_stanza.specs.Grammar.{HeadText}
-use Rattle.age_file.specs.Runs.{InHeader, NoHeadFault, StopsAtHeader, HeadFails}
-use Rattle.age_file.specs.inner.Readers.{start_at, Pulled, RestFails, ReaderView, view_of_reader}
+use Rattle.age_file.specs.Runs.{InHeader, NoHeadFault, HeadFails}
+use Rattle.age_file.specs.inner.Readers.{start_at, ReadsHead, RestFails, ReaderView}
+use Rattle.age_file.specs.declared.head.Head.{Head}
 use Rattle.age_io.specs.Io.{SourceView}
 use Rattle.age_fault.specs.declared.fault.FileFault.{FileFault}
-use Rattle.age_file.proofs.ByteLemmas.{stops_unread, sound_too, pull_fails}
-use Rattle.age_file.proofs.ReaderLemmas.{read_last}
+use Rattle.age_file.proofs.ReadLemmas.{stops_unread, sound_too, pull_fails, read_last}
 use Rattle.age_file.proofs.inspection.inspect.Goals as goal
 
 -- a rest that could not be read, after a header that was
-rest_to_head : (first : SourceView) (mid now : ReaderView) (header : Header) (front : List ℕ) (fault : FileFault) → HeadText header front
-    → mid.source.failed ≡ first.failed → Pulled (start_at first.supply) mid.source.supply mid.unread.pulls (front ++ mid.unread.bytes)
-    → RestFails mid now fault → HeadFails NoHeadFault first now.source fault
-rest_to_head first mid now header front fault text same h f =
-    let more = f.more (start_at first.supply) front h in
-    let sound : NoHeadFault first.supply now.source.supply = (front ++ more.0, more.1.consumed, inr (header, front, more.0, text, refl)) in
-    pull_fails NoHeadFault first mid now (front ++ more.0) fault same sound more.1 f.why
+rest_to_head : {first : SourceView} {mid now : ReaderView} {h : Head} (fault : FileFault) → ReadsHead first mid h → RestFails mid now fault
+    → HeadFails NoHeadFault first now.source fault
+rest_to_head {first} {mid} {now} {h} fault head f =
+    let more = f.more (start_at first.supply) head.front head.pulled in
+    let sound : NoHeadFault first.supply now.source.supply =
+    (head.front ++ more.0, more.1.consumed, inr (h.header, head.front, more.0, head.text, refl)) in
+    pull_fails NoHeadFault first mid now (head.front ++ more.0) fault head.unfailed sound more.1 f.why
 
 pub returns-in_err-intake-clause-fails : goal.returns-in_err-intake-clause-fails
 returns-in_err-intake-clause-fails g c =
@@ -34,27 +32,11 @@ returns-in_err-head-clause-fails g c =
     rw (p.1, p.2) (read_last g.S.Source.view (λ v. HeadFails NoHeadFault first v c.in_err-head.field-0.0) _ c.read_head.new.reader.source.now
     (search rules) fails)
 
-pub returns-in_err-stanzas-clause-fails : goal.returns-in_err-stanzas-clause-fails
-returns-in_err-stanzas-clause-fails g c =
-    let p = err_from_is_err_and c.from_residual-in_err-stanzas.result c.from_residual-in_err-stanzas.ensures.1 in
-    let first = g.S.Source.view c.args.source.now in
-    rw (p.1, p.2) (read_last g.S.Source.view (λ v. StopsAtHeader first.supply v.supply) _ c.read_head.new.reader.source.now (search rules)
-    c.in_ok-head.ensures.found.last)
-
-pub returns-clause-unfailed : goal.returns-clause-unfailed
-returns-clause-unfailed g c =
-    read_last g.S.Source.view (λ v. v.failed ≡ (g.S.Source.view c.args.source.now).failed) _ c.count_rest.new.reader.source.now (search rules)
-    (c.in_ok-rest.ensures.counts.unfailed ∙ c.in_ok-head.ensures.found.unfailed)
-
 pub returns-in_err-rest-clause-fails : goal.returns-in_err-rest-clause-fails
 returns-in_err-rest-clause-fails g c =
     let p = err_from_is_err_and c.from_residual-in_err-rest.result c.from_residual-in_err-rest.ensures.1 in
-    let head = c.in_ok-head.ensures.found in
     let first = g.S.Source.view c.args.source.now in
-    let mid = view_of_reader g.S.Source.view c.read_head.new.reader in
-    let last = view_of_reader g.S.Source.view c.count_rest.new.reader in
-    let fails = rest_to_head first mid last c.in_ok-head.head.header head.front c.in_err-rest.field-0.0 head.text head.unfailed head.pulled
-    c.in_err-rest.ensures.fails in
+    let fails = rest_to_head c.in_err-rest.field-0.0 c.in_ok-head.ensures.found c.in_err-rest.ensures.fails in
     rw (p.1, p.2) (read_last g.S.Source.view (λ v. HeadFails NoHeadFault first v c.in_err-rest.field-0.0) _ c.count_rest.new.reader.source.now
     (search rules) fails)
 

@@ -1,10 +1,8 @@
-use Rattle.std.proofs.Common.{◌≡◌, ◌++◌, rules}
+use Rattle.std.proofs.Common.{◌++◌, rules}
 use Rattle.std.proofs.lemmas.Result.{err_from_is_err_and}
 use Rattle.age_io.specs.Supply.{Consumes}
-use Rattle.age_file.specs.Runs.{InHeader, StopsAtHeader, HeadFails}
-use Rattle.age_file.proofs.ByteLemmas.{stops_unread}
-use Rattle.age_file.proofs.ReaderLemmas.{read_last}
-use Rattle.age_file.proofs.InspectLemmas.{whole_of}
+use Rattle.age_file.specs.Runs.{InHeader, HeadFails}
+use Rattle.age_file.proofs.ReadLemmas.{stops_unread, read_last, whole_of}
 use Rattle.age_file.proofs.inspection.inspect_sized.Goals as goal
 
 pub returns-in_err-intake-clause-fails : goal.returns-in_err-intake-clause-fails
@@ -18,18 +16,6 @@ returns-in_err-head-clause-fails g c =
     let first = g.S.Source.view c.args.source.now in
     rw (p.1, p.2) (read_last g.S.Source.view (λ v. HeadFails InHeader first v c.in_err-head.field-0.0) _ c.read_head.new.reader.source.now
     (search rules) c.in_err-head.ensures.fails)
-
-pub returns-in_err-stanzas-clause-fails : goal.returns-in_err-stanzas-clause-fails
-returns-in_err-stanzas-clause-fails g c =
-    let p = err_from_is_err_and c.from_residual-in_err-stanzas.result c.from_residual-in_err-stanzas.ensures.1 in
-    let first = g.S.Source.view c.args.source.now in
-    rw (p.1, p.2) (read_last g.S.Source.view (λ v. StopsAtHeader first.supply v.supply) _ c.read_head.new.reader.source.now (search rules)
-    c.in_ok-head.ensures.found.last)
-
-pub returns-clause-unfailed : goal.returns-clause-unfailed
-returns-clause-unfailed g c =
-    read_last g.S.Source.view (λ v. v.failed ≡ (g.S.Source.view c.args.source.now).failed) _ c.read_head.new.reader.source.now (search rules)
-    c.in_ok-head.ensures.found.unfailed
 
 pub returns-clause-ok : goal.returns-clause-ok
 returns-clause-ok g c =

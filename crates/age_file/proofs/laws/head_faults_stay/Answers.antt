@@ -1,4 +1,4 @@
-use Rattle.age_file.proofs.ByteLemmas.{fault_of_all}
+use Rattle.age_file.proofs.ReadLemmas.{fault_of_all}
 use Rattle.age_file.proofs.laws.head_faults_stay.Goals as goal
 
 pub returns : goal.returns

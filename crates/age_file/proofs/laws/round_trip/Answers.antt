@@ -1,4 +1,4 @@
-use Rattle.age_file.proofs.RoundTripLemmas.{there_and_back}
+use Rattle.age_file.proofs.UndamagedLemmas.{there_and_back}
 use Rattle.age_file.proofs.laws.round_trip.Goals as goal
 
 pub returns : goal.returns

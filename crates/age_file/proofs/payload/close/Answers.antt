@@ -1,11 +1,11 @@
-use Rattle.std.proofs.Common.{ap, ◌∙◌, arith, List, ℕ, [], ◌++◌, refl, inr}
+use Rattle.std.proofs.Common.{ap, ◌∙◌, List, ℕ, [], ◌++◌, refl, inr}
 use Rattle.std.proofs.lemmas.Result.{err_from_is_err_and}
-use Rattle.age_io.proofs.TakenLemmas.{Appends-nil}
 use Rattle.age_stream.specs.Segment.{released}
 use Rattle.age_file.specs.inner.Decrypts.{opens, seals}
 use Rattle.age_keys.specs.inner.PayloadBox.{box_valid}
 use Rattle.age_fault.proofs.ByteLemmas.{answer_as}
 use Rattle.age_file.proofs.CountLemmas.{mark_end}
+use Rattle.age_file.proofs.ReadLemmas.{wrote_none}
 use Rattle.age_chunk.specs.Payload.{chunk_length}
 use Rattle.age_file.proofs.payload.close.Goals as goal
 
@@ -18,9 +18,7 @@ returns-in_err-text-clause-closed g c =
       releases = record {
         out = [];
         key = after.key;
-        wrote = Appends-nil _;
-        named = refl;
-        count = omega arith;
+        wrote = wrote_none _;
         stands = after.stands;
         text = c.in_err-text.ensures.ends.text;
         counts = λ keep positive s base len h m. mark_end (seals c.args.opener.now.key)
@@ -39,9 +37,7 @@ returns-clause-closed g c =
       releases = record {
         out = put.out;
         key = after.key;
-        wrote = put.wrote;
-        named = c.write_all.ensures.named;
-        count = put.count;
+        wrote = record { bytes = put.wrote; count = put.count; named = c.write_all.ensures.named };
         stands = after.stands;
         text = λ s h. c.in_ok-text.ensures.ends.text s h ∙ ap (λ (t : List ℕ). released (opens c.args.opener.now.key) chunk_length s ++ t) put.parts;
         counts = λ keep positive s base len h m.

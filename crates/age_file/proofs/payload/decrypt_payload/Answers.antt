@@ -4,8 +4,7 @@ use Rattle.age_stream.specs.Opener.{has_failed}
 use Rattle.age_file.specs.inner.Decrypts.{opens, seals}
 use Rattle.age_keys.specs.inner.PayloadBox.{box_valid}
 use Rattle.age_file.specs.inner.Readers.{stage_of}
-use Rattle.age_file.proofs.FlowLemmas.{begins, fed_all, feed_stops, pulled_more, pulled_none, pull_stops}
-use Rattle.age_file.proofs.PayloadLemmas.{pour_stopped, pour_ended}
+use Rattle.age_file.proofs.PayloadLemmas.{begins, fed_all, feed_stops, pulled_more, pulled_none, pull_stops, pour_stopped, pour_ended}
 use Rattle.age_chunk.specs.Payload.{chunk_length}
 use Rattle.age_file.proofs.payload.decrypt_payload.Goals as goal
 

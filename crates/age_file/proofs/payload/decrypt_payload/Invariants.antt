@@ -1,7 +1,7 @@
 use Rattle.std.proofs.Common.{◌-◌, ◌^◌}
 use Rattle.age_file.specs.inner.Decrypts.{opens}
 use Rattle.age_file.specs.inner.Readers.{stage_of, SameReader, KeepsOrigin, SameWriter}
-use Rattle.age_file.proofs.FlowLemmas.{GoesOn}
+use Rattle.age_file.proofs.PayloadLemmas.{GoesOn}
 use Rattle.age_chunk.specs.Payload.{chunk_length}
 use Rattle.age_file.proofs.payload.decrypt_payload.Given as goal
 

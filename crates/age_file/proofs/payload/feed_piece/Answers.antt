@@ -1,20 +1,14 @@
-use Rattle.std.proofs.Common.{◌≡◌, ◌+◌, ◌-◌, length, take, drop, sym, ap, ◌∙◌, arith, List, ℕ, [], ◌++◌, append-nil, refl, take-add}
+use Rattle.std.proofs.Common.{◌≡◌, ◌+◌, ◌-◌, length, take, drop, sym, ap, ◌∙◌, arith, List, ℕ, [], ◌++◌, append-nil, refl}
 use Rattle.std.proofs.lemmas.Result.{err_from_is_err_and}
-use Rattle.std.proofs.lemmas.List.{take_rest, take-append-drop, length-append, length-drop, append_assoc, take_at, take_all}
+use Rattle.std.proofs.lemmas.List.{take_rest, take-append-drop, length-append, length-drop, append_assoc, take_all}
 use Rattle.age_file.specs.inner.Decrypts.{opens}
-use Rattle.age_file.proofs.ReleaseLemmas.{both_then, releases_none, releases_then, fails_then}
+use Rattle.age_file.proofs.CountLemmas.{both_then, releases_none, releases_then, fails_then}
+use Rattle.age_file.proofs.SealLemmas.{fed_is}
 use Rattle.age_file.specs.inner.Readers.{view_of_writer}
 use Rattle.age_chunk.specs.Payload.{chunk_length}
 use Rattle.age_file.proofs.payload.feed_piece.Goals as goal
 
--- the front of what is left of a piece
-on : (piece fed left : List ℕ) (at n : ℕ) → take (length piece - at) (drop at piece) ≡ fed ++ left
-    → n ≡ length fed → take at piece ++ fed ≡ take (at + n) piece
-on piece fed left at n parts count =
-    let rest : drop at piece ≡ fed ++ left = sym (take_rest piece at) ∙ parts in
-    let front : take n (drop at piece) ≡ fed = ap (take n) rest ∙ take_at fed left n (sym count) in
-    ap (λ (t : List ℕ). take at piece ++ t) (sym front) ∙ sym (take-add at n piece)
-
+-- what was fed of the rest of a piece, and what is left
 all_of : (piece fed left : List ℕ) (at : ℕ) → take (length piece - at) (drop at piece) ≡ fed ++ left → piece ≡ (take at piece ++ fed) ++ left
 all_of piece fed left at parts =
     sym (take-append-drop at piece) ∙ (ap (λ (t : List ℕ). take at piece ++ t) (sym (take_rest piece at) ∙ parts)
@@ -36,21 +30,11 @@ loop-at-preserved g c =
     let fed = c.in_ok-at.ensures.fed in
     let piece = c.args.piece.now in
     let at = c.loop-at.at in
-    let both = both_then opens chunk_length (take at piece) fed.fed (take (at + c.in_ok-at.field-0) piece) c.args.opener.now c.loop-at.opener
-    c.feed_once.new.opener (view_of_writer g.O.Sink.view c.args.writer.now) (view_of_writer g.O.Sink.view c.loop-at.writer)
-    (view_of_writer g.O.Sink.view c.feed_once.new.writer) fed.unwritten
-    (on piece fed.fed fed.left at c.in_ok-at.field-0 fed.parts fed.answered.0) kept.releases kept.goes fed.releases fed.answered.1 in
+    let both = both_then opens chunk_length (take at piece) fed.fed (take (at + c.in_ok-at.field-0) piece)
+    (fed_is piece at c.in_ok-at.field-0 fed.fed fed.left fed.parts fed.answered.0) kept.releases kept.goes fed.releases fed.answered.1 in
     record {
       same = c.in_ok-at.ensures.same ∙ kept.same;
-      within = omega (
-        arith,
-        ap length fed.parts,
-        length-append fed.fed fed.left,
-        fed.answered.0,
-        length-drop at piece,
-        ap length (take_rest piece at),
-        kept.within,
-      );
+      within = omega (arith, ap length fed.parts, length-append {A = ℕ}, fed.answered.0, length-drop at piece, ap length (take_rest piece at), kept.within);
       releases = both.releases;
       goes = both.goes;
     }
@@ -71,8 +55,7 @@ returns-in_err-at g c =
         left = fed.left;
         unwritten = fed.unwritten;
         parts = all_of piece fed.fed fed.left at fed.parts;
-        releases = releases_then opens chunk_length (take at piece) fed.fed c.args.opener.now
-            c.loop-at.opener c.feed_once.new.opener was mid now fed.unwritten kept.releases fed.releases;
+        releases = releases_then opens chunk_length (take at piece) fed.fed kept.releases fed.releases;
         answered = rw (p.1, p.2) (fails_then opens chunk_length (take at piece) c.args.opener.now
             c.loop-at.opener c.feed_once.new.opener was mid now fed.left fed.unwritten c.in_err-at.field-0.0 kept.goes fed.answered);
       };

@@ -1,11 +1,10 @@
-use Rattle.std.proofs.Common.{None, refl, rules, Ok, Err}
+use Rattle.std.proofs.Common.{None, refl, rules, Err}
 use Rattle.age_fault.specs.declared.fault.FileFault.TheVariants.{Memory}
-use Rattle.age_file.specs.inner.Readers.{reader_view, writer_view, stage, view_of_writer, stage_of}
+use Rattle.age_file.specs.inner.Readers.{reader_view, stage, view_of_writer, stage_of}
 use Rattle.age_file.specs.Runs.{ports}
 use Rattle.age_file.specs.Resumes.{resume_ports, ResumesKeyed}
 use Rattle.age_file.specs.declared.standing.Standing.TheVariants.{Before}
-use Rattle.age_file.proofs.ReaderLemmas.{read_last, ports_last}
-use Rattle.age_file.proofs.ByteLemmas.{stops_unread}
+use Rattle.age_file.proofs.ReadLemmas.{read_last, ports_last, stops_unread}
 use Rattle.age_file.proofs.ResumeLemmas.{place_after, stopped_early, refused, copy_stopped, rest_resumed}
 use Rattle.age_file.proofs.resumption.resume_keyed.Goals as goal
 
@@ -33,17 +32,14 @@ returns-in-Err-clause-resumes g c =
 
 pub returns-in-Err-copy_before-clause-resumes : goal.returns-in-Err-copy_before-clause-resumes
 returns-in-Err-copy_before-clause-resumes g c =
-    let first = writer_view (g.O.Sink.view c.args.writer.now) c.new-tally.result in
     let b = c.in-Err-copy_before.ensures.copied in
     let s1 = stage (reader_view (g.S.Source.view c.start_for.new.reader.source.now) c.copy_before.new.intake)
     (view_of_writer g.O.Sink.view c.copy_before.new.writer) in
     let old = resume_ports (ports (g.S.Source.view c.args.reader.now) (g.O.Sink.view c.args.writer.now)) (g.L.Source.view c.args.old_reader.now) in
     let Allows = g.U.Unlock.allows c.args.unlock in
     let Refused = g.U.Unlock.refuses c.args.unlock in
-    let stops = copy_stopped c.args.positions Allows Refused c.args.position.now (g.S.Source.view c.args.reader.now)
-    c.in-Ok.unlocked s1 c.start_for.new.reader.intake.now c.in-Ok.ensures.found first c.new-tally.ensures.written
-    (g.L.Source.view c.args.old_reader.now) (g.L.Source.view c.copy_before.new.source)
-    (Err c.in-Err-copy_before.fault) b c.in-Err-copy_before.fault b.copied.answered in
+    let stops = copy_stopped c.args.positions Allows Refused c.args.position.now s1 c.in-Ok.ensures.found c.new-tally.ensures.written b
+    c.in-Err-copy_before.fault b.copied.answered in
     rw (c.nowhere-in-Err-copy_before.ensures, c.after.ensures) (ports_last g.S.Source.view g.O.Sink.view
     (λ p. ResumesKeyed c.args.positions Allows Refused c.args.position.now old (resume_ports p (g.L.Source.view c.copy_before.new.source))
     (Err (record {
@@ -54,18 +50,14 @@ returns-in-Err-copy_before-clause-resumes g c =
 
 pub resume_rest-requires : goal.resume_rest-requires
 resume_rest-requires g c =
-    let first = writer_view (g.O.Sink.view c.args.writer.now) c.new-tally.result in
     let b = c.in-Ok-copy_before.ensures.copied in
     let s1 = stage (reader_view (g.S.Source.view c.start_for.new.reader.source.now) c.copy_before.new.intake)
     (view_of_writer g.O.Sink.view c.copy_before.new.writer) in
-    place_after c.args.positions (g.U.Unlock.allows c.args.unlock) (g.U.Unlock.refuses c.args.unlock)
-    c.args.position.now (g.S.Source.view c.args.reader.now) c.in-Ok.unlocked s1 c.start_for.new.reader.intake.now
-    c.in-Ok.ensures.found first c.new-tally.ensures.written (g.L.Source.view c.args.old_reader.now)
-    (g.L.Source.view c.copy_before.new.source) (Ok tt) b b.copied.answered
+    place_after c.args.positions (g.U.Unlock.allows c.args.unlock) (g.U.Unlock.refuses c.args.unlock) c.args.position.now
+    s1 c.in-Ok.ensures.found c.new-tally.ensures.written b b.copied.answered
 
 pub returns-clause-resumes : goal.returns-clause-resumes
 returns-clause-resumes g c =
-    let first = writer_view (g.O.Sink.view c.args.writer.now) c.new-tally.result in
     let b = c.in-Ok-copy_before.ensures.copied in
     let s1 = stage (reader_view (g.S.Source.view c.start_for.new.reader.source.now) c.copy_before.new.intake)
     (view_of_writer g.O.Sink.view c.copy_before.new.writer) in
@@ -76,7 +68,5 @@ returns-clause-resumes g c =
     ports_last g.S.Source.view g.O.Sink.view (λ p. ResumesKeyed c.args.positions Allows Refused c.args.position.now old
     (resume_ports p (g.L.Source.view c.copy_before.new.source)) c.resume_rest.result.0 c.resume_rest.result.1)
     _ c.resume_rest.new.reader.source.now _ c.resume_rest.new.writer.sink.now (search rules) (search rules)
-    (rest_resumed c.args.positions Allows Refused c.args.position.now (g.S.Source.view c.args.reader.now)
-    c.in-Ok.unlocked s1 c.start_for.new.reader.intake.now c.in-Ok.ensures.found first c.new-tally.ensures.written
-    (g.L.Source.view c.args.old_reader.now) (g.L.Source.view c.copy_before.new.source) (Ok tt) b b.copied.answered
+    (rest_resumed c.args.positions Allows Refused c.args.position.now s1 c.in-Ok.ensures.found c.new-tally.ensures.written b b.copied.answered
     s2 c.resume_rest.result.0 c.resume_rest.result.1 c.resume_rest.ensures.resumes)

@@ -1,20 +1,18 @@
-use Rattle.std.proofs.Common.{◌≡◌, ◌<◌, ◌*◌, ◌^◌, ◌≤◌, length, ap, sym, subst, ◌∙◌, arith, List, ℕ, [], ◌++◌, refl, append-nil}
+use Rattle.std.proofs.Common.{◌≡◌, ◌*◌, ◌^◌, ◌≤◌, length, ap, sym, subst, ◌∙◌, arith, List, ℕ, [], ◌++◌, refl, append-nil}
 use Rattle.std.proofs.lemmas.Result.{err_from_is_err_and}
 use Rattle.std.proofs.lemmas.Nat.{mul-le}
-use Rattle.age_io.proofs.TakenLemmas.{Appends-nil}
 use Rattle.age_io.proofs.SupplyLemmas.{Consumes-nil}
 use Rattle.std.proofs.lemmas.List.{length-append}
 use Rattle.age_file.specs.inner.Decrypts.{opens, seals}
 use Rattle.age_keys.specs.inner.PayloadBox.{box_valid}
-use Rattle.age_file.specs.inner.Readers.{start_at, reader_view, view_of_writer, Pulled}
+use Rattle.age_file.specs.inner.Readers.{start_at, reader_view, view_of_writer, Pulled, Wrote}
 use Rattle.age_fault.specs.Faults.{HasFailed}
-use Rattle.age_file.specs.inner.Seals.{Wrote, front_of, SealingFails, SealsAll}
+use Rattle.age_file.specs.inner.Seals.{front_of, SealingFails, SealsAll}
 use Rattle.age_file.specs.Runs.{ports}
 use Rattle.age_fault.specs.declared.fault.FileFault.{FileFault}
-use Rattle.age_file.proofs.ByteLemmas.{cut_pulled}
-use Rattle.age_file.proofs.SealLemmas.{front_small}
-use Rattle.age_file.proofs.SourceLemmas.{sealing_failed, front_begins, no_front, piece_done, piece_cut, pull_fails, seal_fails, last_written}
-use Rattle.age_file.proofs.SourceLemmas.{last_begins, last_whole}
+use Rattle.age_file.proofs.ReadLemmas.{nothing_pulled, wrote_none}
+use Rattle.age_file.proofs.SealLemmas.{front_small, sealing_failed, front_begins, no_front, piece_done, piece_cut, pull_fails, seal_fails, last_written}
+use Rattle.age_file.proofs.SealLemmas.{last_begins, last_whole}
 use Rattle.age_chunk.specs.Payload.{block_length, chunk_length}
 use Rattle.age_file.proofs.sealing.seal_all.Goals as goal
 
@@ -43,7 +41,7 @@ pulls-init g c =
         feeding = rw c.new-sealer.ensures (record { unfinished = refl; sound = refl });
         holds = λ text h. rw (append-nil text) h;
       };
-      wrote = subst (λ (t : List ℕ). Wrote now now t) (sym none) (record { bytes = Appends-nil now.sink.taken; count = omega arith; named = refl });
+      wrote = subst (λ (t : List ℕ). Wrote now now t) (sym none) (wrote_none now);
       read_failed = refl;
       write_failed = refl;
     }
@@ -53,7 +51,7 @@ returns-in_err-refill-clause-sealed g c =
     let p = err_from_is_err_and c.from_residual.result c.from_residual.ensures.1 in
     let kept = c.pulls.invariant in
     let r = c.in_err-refill.ensures.refills in
-    let all = cut_pulled _ _ _ kept.text _ r.answered.0 (r.pulled _ kept.text kept.pulled) in
+    let all = nothing_pulled r r.answered.0 kept.pulled in
     let n : ℕ = chunk_length in
     let old = ports (g.S.Source.view c.args.reader.now.source.now) (g.O.Sink.view c.args.writer.now.sink.now) in
     let new = ports (g.S.Source.view c.refill.new.source) (g.O.Sink.view c.pulls.writer.sink.now) in
@@ -99,29 +97,24 @@ returns-in_err-seal_piece-clause-sealed g c =
     let r = rw c.if-branch.true at c.in_ok-refill.ensures.refills in
     let s = c.in_err-seal_piece.ensures.sealed in
     let n : ℕ = chunk_length in
-    let positive : 0 < n = omega arith in
     let piece = c.bytes.result.now in
-    let was = view_of_writer g.O.Sink.view c.args.writer.now in
-    let mid = view_of_writer g.O.Sink.view c.pulls.writer in
-    let now = view_of_writer g.O.Sink.view c.seal_piece.new.writer in
     let old = ports (g.S.Source.view c.args.reader.now.source.now) (g.O.Sink.view c.args.writer.now.sink.now) in
     let new = ports (g.S.Source.view c.refill.new.source) (g.O.Sink.view c.seal_piece.new.writer.sink.now) in
     let all = rw (← c.bytes.ensures.bytes) at (r.pulled (start_at old.source.supply) kept.text kept.pulled) in
-    let unwritten = piece_cut seals n c.new-sealer.result c.pulls.sealer c.seal_piece.new.sealer was mid now kept.text piece s.fed s.left s.unwritten
-    kept.goes kept.fresh kept.wrote s.some positive in
+    let cut = piece_cut kept.goes kept.fresh kept.wrote s.some (omega arith) in
     rw (p.1, p.2) (sealing_failed seals n c.new-sealer.result.key c.args.key.now old new c.args.writer.now.tally.written
     c.seal_piece.new.writer.tally.written c.in_err-seal_piece.field-0.0 (ap (λ v. v.key) c.new-sealer.ensures) (record {
       text = kept.text ++ piece;
-      out = unwritten.0;
+      out = cut.0;
       moved = record {
         read = all.consumed;
-        wrote = unwritten.1.bytes;
-        count = unwritten.1.count;
+        wrote = cut.1.bytes;
+        count = cut.1.count;
         small = omega (arith, all.small, all.most);
       };
-      prefix = unwritten.2;
-      fails = seal_fails seals n c.new-sealer.result c.pulls.sealer old new mid now kept.text piece unwritten.0 c.in_err-seal_piece.field-0.0
-          kept.write_failed refl (r.answered.4 ∙ kept.read_failed) kept.goes kept.fresh s.answered;
+      prefix = cut.2;
+      fails = seal_fails seals n c.new-sealer.result c.pulls.sealer old new (view_of_writer g.O.Sink.view c.pulls.writer)
+          (view_of_writer g.O.Sink.view c.seal_piece.new.writer) kept.text piece cut.0 c.in_err-seal_piece.field-0.0 kept.write_failed refl (r.answered.4 ∙ kept.read_failed) kept.goes kept.fresh s.answered;
     }) (s.some.wrote.named ∙ kept.wrote.named))
 
 pub pulls-preserved : goal.pulls-preserved
@@ -129,12 +122,9 @@ pulls-preserved g c =
     let kept = c.pulls.invariant in
     let r = rw c.if-branch.true at c.in_ok-refill.ensures.refills in
     let s = c.in_ok-seal_piece.ensures.sealed in
-    let n : ℕ = chunk_length in
-    let positive : 0 < n = omega arith in
     let piece = c.bytes.result.now in
     let all = rw (← c.bytes.ensures.bytes) at (r.pulled (start_at (g.S.Source.view c.args.reader.now.source.now).supply) kept.text kept.pulled) in
-    let done = piece_done seals n c.new-sealer.result c.pulls.sealer c.seal_piece.new.sealer _ _
-    _ kept.text piece s.fed s.left s.unwritten kept.goes kept.fresh kept.wrote s.some positive s.answered.0 s.answered.1 s.answered.3 in
+    let done = piece_done kept.goes kept.fresh kept.wrote s.some (omega arith) s.answered.0 s.answered.1 s.answered.3 in
     record {
       feeding = kept.feeding;
       fresh = kept.fresh;
@@ -145,12 +135,7 @@ pulls-preserved g c =
       pulled = subst (λ (k : ℕ). Pulled (start_at (g.S.Source.view c.args.reader.now.source.now).supply)
           (g.S.Source.view c.refill.new.source).supply k (kept.text ++ piece)) (sym c.use_all.ensures.pulls) all;
       unread = c.use_all.ensures.bytes;
-      plain_is = omega (
-        arith,
-        kept.plain_is,
-        length-append kept.text c.bytes.result.now,
-        ap length (c.bytes.ensures.bytes ∙ sym c.bytes-in-pulls.ensures.bytes),
-      );
+      plain_is = omega (arith, kept.plain_is, length-append {A = ℕ}, ap length (c.bytes.ensures.bytes ∙ sym c.bytes-in-pulls.ensures.bytes));
       goes = done.0;
       wrote = done.1;
       read_failed = r.answered.4 ∙ kept.read_failed;
@@ -161,7 +146,7 @@ pub finish-requires : goal.finish-requires
 finish-requires g c =
     let kept = c.pulls.invariant in
     let r = rw c.if-branch.false at c.in_ok-refill.ensures.refills in
-    let all = cut_pulled _ _ _ kept.text _ r.answered.0 (r.pulled _ kept.text kept.pulled) in
+    let all = nothing_pulled r r.answered.0 kept.pulled in
     let small : length kept.text ≤ 2 ^ 80 = omega (arith, all.small, all.most) in
     let n : ℕ = chunk_length in
     let key = c.new-sealer.result.key in
@@ -175,22 +160,20 @@ returns-in_err-finish-clause-sealed g c =
     let p = err_from_is_err_and c.from_residual-in_err-finish.result c.from_residual-in_err-finish.ensures.1 in
     let kept = c.pulls.invariant in
     let r = rw c.if-branch.false at c.in_ok-refill.ensures.refills in
-    let all = cut_pulled _ _ _ kept.text _ r.answered.0 (r.pulled _ kept.text kept.pulled) in
+    let all = nothing_pulled r r.answered.0 kept.pulled in
     let small : length kept.text ≤ 2 ^ 80 = omega (arith, all.small, all.most) in
     let l = c.in_err-finish.ensures.sealed in
     let n : ℕ = chunk_length in
     let a = c.new-sealer.result in
     let old = ports (g.S.Source.view c.args.reader.now.source.now) (g.O.Sink.view c.args.writer.now.sink.now) in
     let new = ports (g.S.Source.view c.refill.new.source) (g.O.Sink.view c.finish.new.writer.sink.now) in
-    let out = last_written seals n a _ _ _ _ kept.text kept.goes.key
-    (kept.goes.holds [] kept.fresh) kept.wrote l.out l.unwritten l.wrote l.blocks in
+    let out = last_written kept.goes kept.fresh kept.wrote l in
     rw (p.1, p.2) (sealing_failed seals n c.new-sealer.result.key c.args.key.now old new c.args.writer.now.tally.written
     c.finish.new.writer.tally.written c.in_err-finish.field-0.0 (ap (λ v. v.key) c.new-sealer.ensures) (record {
       text = kept.text;
       out = front_of (seals a.key) n kept.text ++ l.out;
       moved = record { read = all.consumed; wrote = out.bytes; count = out.count; small = small };
-      prefix = last_begins seals n a _ _ _ _ kept.text kept.goes.key
-          (kept.goes.holds [] kept.fresh) kept.wrote l.out l.unwritten l.wrote l.blocks;
+      prefix = last_begins kept.goes kept.fresh kept.wrote l;
       fails = subst (λ (f : FileFault). SealingFails (seals a.key) n old new kept.text (front_of (seals a.key) n kept.text ++ l.out) f)
           (sym l.answered.0) (
             subst (λ (k : ℕ). HasFailed k new.sink.failed new.sink.failing) kept.write_failed l.answered.1,
@@ -202,19 +185,13 @@ pub returns-clause-sealed : goal.returns-clause-sealed
 returns-clause-sealed g c =
     let kept = c.pulls.invariant in
     let r = rw c.if-branch.false at c.in_ok-refill.ensures.refills in
-    let all = cut_pulled _ _ _ kept.text _ r.answered.0 (r.pulled _ kept.text kept.pulled) in
+    let all = nothing_pulled r r.answered.0 kept.pulled in
     let small : length kept.text ≤ 2 ^ 80 = omega (arith, all.small, all.most) in
     let l = c.in_ok-finish.ensures.sealed in
     let n : ℕ = chunk_length in
-    let a = c.new-sealer.result in
-    let b = c.pulls.sealer in
-    let was = view_of_writer g.O.Sink.view c.args.writer.now in
-    let mid = view_of_writer g.O.Sink.view c.pulls.writer in
-    let now = view_of_writer g.O.Sink.view c.finish.new.writer in
     let old = ports (g.S.Source.view c.args.reader.now.source.now) (g.O.Sink.view c.args.writer.now.sink.now) in
     let new = ports (g.S.Source.view c.refill.new.source) (g.O.Sink.view c.finish.new.writer.sink.now) in
-    let out = last_whole seals n a b was mid now kept.text kept.goes.key (kept.goes.holds [] kept.fresh) kept.wrote l.out l.unwritten l.wrote l.blocks
-    l.answered.0 in
+    let out = last_whole kept.goes kept.fresh kept.wrote l l.answered.0 in
     let all_sealed = subst (λ k. SealsAll (seals k) n old new c.args.writer.now.tally.written c.finish.new.writer.tally.written c.pulls.plain)
     (ap (λ v. v.key) c.new-sealer.ensures) (record {
       text = kept.text;
@@ -224,10 +201,4 @@ returns-clause-sealed g c =
       plain_is = kept.plain_is;
       none_failed = (r.answered.3 ∙ kept.read_failed, l.answered.1 ∙ kept.write_failed);
     }) in
-    record {
-      done = all_sealed;
-      counted = refl;
-      fails = tt;
-      settled = c.in_ok-finish.ensures.settled;
-      named = out.named;
-    }
+    record { done = all_sealed; counted = refl; fails = tt; settled = c.in_ok-finish.ensures.settled; named = out.named }

@@ -1,8 +1,8 @@
 use Rattle.std.proofs.Common.{◌-◌, ◌^◌, ◌≡◌, ℕ, [], List, length}
 use Rattle.age_stream.specs.Sealer.{Holds}
 use Rattle.age_file.specs.inner.Decrypts.{seals}
-use Rattle.age_file.specs.inner.Readers.{start_at, Pulled, view_of_writer, SameReader, KeepsOrigin, SameWriter}
-use Rattle.age_file.specs.inner.Seals.{IsFeeding, Wrote, GoesOn, front_of}
+use Rattle.age_file.specs.inner.Readers.{start_at, Pulled, view_of_writer, Wrote, SameReader, KeepsOrigin, SameWriter}
+use Rattle.age_file.specs.inner.Seals.{IsFeeding, GoesOn, front_of}
 use Rattle.age_chunk.specs.Payload.{chunk_length}
 use Rattle.age_file.proofs.sealing.seal_all.Given as goal
 

@@ -3,7 +3,7 @@ use Rattle.std.specs.Borrow.{Bor}
 use Rattle.std.specs.Option.{unwrap_or}
 use Rattle.std.proofs.lemmas.Result.{err_from_is_err_and}
 use Rattle.std.proofs.lemmas.List.{length-take}
-use Rattle.age_io.proofs.TakenLemmas.{Appends-nil}
+use Rattle.age_file.proofs.ReadLemmas.{wrote_none}
 use Rattle.age_stream.specs.Sealer.{too_many}
 use Rattle.age_stream.specs.Opener.{chunk_bytes}
 use Rattle.age_file.specs.inner.Decrypts.{seals}
@@ -31,7 +31,7 @@ returns-in_err-step-clause-sealed g c =
       some = record {
         out = [];
         parts = refl;
-        wrote = record { bytes = Appends-nil _; count = omega arith; named = refl };
+        wrote = wrote_none _;
         blocks = λ text h. ap (front_of (seals key) n) (append-nil text) ∙ sym (append-nil (front_of (seals key) n text));
       };
       answered = rw (p.1, p.2) (too_long n c.args.sealer.now c.args.piece.now (omega arith) limit, refused.1 ∙ ap too_many limit.index, refl);

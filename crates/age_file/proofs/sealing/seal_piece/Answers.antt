@@ -1,7 +1,7 @@
 use Rattle.std.proofs.Common.{◌≡◌, ◌+◌, ◌-◌, length, take, drop, ap, sym, subst, ◌∙◌, arith, List, ℕ, [], ◌++◌, refl, append-nil}
 use Rattle.std.proofs.lemmas.Result.{err_from_is_err_and}
-use Rattle.age_io.proofs.TakenLemmas.{Appends-nil}
-use Rattle.std.proofs.lemmas.List.{take-append-drop, take_all, take_rest, length-append, length-drop}
+use Rattle.age_file.proofs.ReadLemmas.{wrote_none}
+use Rattle.std.proofs.lemmas.List.{take-append-drop, take_rest, length-append, length-drop}
 use Rattle.age_file.specs.inner.Decrypts.{opens, seals}
 use Rattle.age_keys.specs.inner.PayloadBox.{box_valid}
 use Rattle.age_file.specs.inner.Seals.{SealsSome, GoesOn, SealFails, front_of}
@@ -20,7 +20,7 @@ loop-at-init g c =
       some = record {
         out = [];
         parts = refl;
-        wrote = record { bytes = Appends-nil _; count = omega arith; named = refl };
+        wrote = wrote_none _;
         blocks = λ text h. ap (front_of (seals key) n) (append-nil text) ∙ sym (append-nil (front_of (seals key) n text));
       };
       goes = record { key = refl; feeding = c.requires.feeding; holds = λ text h. rw (append-nil text) h };
@@ -33,8 +33,7 @@ seal_once-requires g c =
     let key = c.args.sealer.now.key in
     record {
       feeding = kept.goes.feeding;
-      room = room_left seals (opens key) chunk_length c.args.sealer.now c.loop-at.sealer _ _
-          c.args.piece.now c.loop-at.at (box_valid key) (omega arith) c.requires.room kept.some;
+      room = room_left (opens key) c.args.piece.now c.loop-at.at (box_valid key) (omega arith) c.requires.room kept.some;
     }
 
 pub loop-at-preserved : goal.loop-at-preserved
@@ -47,13 +46,11 @@ loop-at-preserved g c =
     let was = view_of_writer g.O.Sink.view c.args.writer.now in
     let now = view_of_writer g.O.Sink.view c.seal_once.new.writer in
     let a = c.args.sealer.now in
-    let b = c.loop-at.sealer in
     let d = c.seal_once.new.sealer in
-    let same : take at piece ++ s.fed ≡ take (at + c.in_ok-at.field-0) piece = fed_is seals n piece at c.in_ok-at.field-0 s.fed s.left s.some.parts
-    s.answered.0 in
+    let same : take at piece ++ s.fed ≡ take (at + c.in_ok-at.field-0) piece = fed_is piece at c.in_ok-at.field-0 s.fed s.left s.some.parts s.answered.0 in
     let whole : SealsSome seals n a d was now piece (take at piece ++ s.fed) s.left [] =
     subst (λ (t : List ℕ). SealsSome seals n a d was now piece (take at piece ++ s.fed) s.left t) s.answered.2
-    (next_some seals n a b d was _ now piece at s.fed s.left s.unwritten kept.some kept.goes s.some) in
+    (next_some piece at kept.some kept.goes s.some) in
     record {
       same_writer = c.in_ok-at.ensures.same_writer ∙ kept.same_writer;
       within = omega (
@@ -65,9 +62,8 @@ loop-at-preserved g c =
         ap length (take_rest c.args.piece.now c.loop-at.at),
         kept.within,
       );
-      some = subst (λ (t : List ℕ). SealsSome seals n a d was now t t [] []) same (fed_alone seals n a d was now piece (take at piece ++ s.fed) s.left
-          [] whole);
-      goes = subst (λ (t : List ℕ). GoesOn seals n a d t) same (goes_then seals n a b d (take at piece) s.fed kept.goes s.answered.4);
+      some = subst (λ (t : List ℕ). SealsSome seals n a d was now t t [] []) same (fed_alone whole);
+      goes = subst (λ (t : List ℕ). GoesOn seals n a d t) same (goes_then kept.goes s.answered.4);
       failures = s.answered.3 ∙ kept.failures;
     }
 
@@ -82,33 +78,13 @@ returns-in_err-at-clause-sealed g c =
     let was = view_of_writer g.O.Sink.view c.args.writer.now in
     let mid = view_of_writer g.O.Sink.view c.loop-at.writer in
     let now = view_of_writer g.O.Sink.view c.seal_once.new.writer in
-    let a = c.args.sealer.now in
-    let b = c.loop-at.sealer in
     let whole : take at piece ++ take (length piece - at) (drop at piece) ≡ piece = ap (λ (t : List ℕ). take at piece ++ t) (take_rest piece at)
     ∙ take-append-drop at piece in
     record {
       fed = take at piece ++ s.fed;
       left = s.left;
       unwritten = s.unwritten;
-      some = next_some seals n a b _ was mid now piece at s.fed s.left s.unwritten kept.some kept.goes s.some;
-      answered = rw (p.1, p.2) (subst (λ (t : List ℕ). SealFails seals n a was now t c.in_err-at.field-0.0) whole
-          (fails_then seals n a b was mid now (take at piece) (take (length piece - at) (drop at piece)) c.in_err-at.field-0.0 kept.failures kept.goes
-          s.answered));
-    }
-
-pub returns-clause-sealed : goal.returns-clause-sealed
-returns-clause-sealed g c =
-    let kept = c.loop-at.invariant in
-    let n : ℕ = chunk_length in
-    let piece = c.args.piece.now in
-    let at = c.loop-at.at in
-    let was = view_of_writer g.O.Sink.view c.args.writer.now in
-    let now = view_of_writer g.O.Sink.view c.loop-at.writer in
-    let all : take at piece ≡ piece = take_all at piece (omega arith) in
-    record {
-      fed = take at piece;
-      left = [];
-      unwritten = [];
-      some = subst (λ (t : List ℕ). SealsSome seals n c.args.sealer.now c.loop-at.sealer was now t (take at piece) [] []) all kept.some;
-      answered = (refl, refl, kept.failures, kept.goes);
+      some = next_some piece at kept.some kept.goes s.some;
+      answered = rw (p.1, p.2) (subst (λ (t : List ℕ). SealFails seals n c.args.sealer.now was now t c.in_err-at.field-0.0) whole
+          (fails_then was mid now (take at piece) (take (length piece - at) (drop at piece)) c.in_err-at.field-0.0 kept.failures kept.goes s.answered));
     }

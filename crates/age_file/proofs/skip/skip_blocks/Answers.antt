@@ -3,8 +3,7 @@ use Rattle.std.proofs.lemmas.Result.{err_from_is_err_and}
 use Rattle.std.proofs.lemmas.List.{length-append, length-take}
 use Rattle.age_file.specs.inner.Readers.{view_of_reader}
 use Rattle.age_chunk.specs.Payload.{block_length}
-use Rattle.age_file.proofs.StartLemmas.{uses_front}
-use Rattle.age_file.proofs.SkipLemmas.{passes_then, passes_same, dries_same, skip_dry}
+use Rattle.age_file.proofs.ReadLemmas.{uses_front, passes_then, passes_same, dries_same, skip_dry}
 use Rattle.age_file.proofs.skip.skip_blocks.Goals as goal
 
 pub returns-then-not-branch-clause-skipped : goal.returns-then-not-branch-clause-skipped
@@ -25,8 +24,7 @@ returns-in_err-has_bytes-clause-skipped g c =
     let p = err_from_is_err_and c.from_residual.result c.from_residual.ensures.1 in
     let kept = c.pieces.invariant in
     let a = c.in_err-has_bytes.ensures.answers in
-    rw (p.1, p.2) (skip_dry block_length c.args.blocks _ _ kept.passed c.in_err-has_bytes.field-0.0
-    (omega (arith, kept.size, c.pieces-test.true))
+    rw (p.1, p.2) (skip_dry block_length c.args.blocks _ _ kept.passed c.in_err-has_bytes.field-0.0 (omega (arith, kept.size, c.pieces-test.true))
     (dries_same {z = view_of_reader g.S.Source.view c.has_bytes.new.reader} c.in_err-has_bytes.field-0.0 kept.passes
     (record { uses = c.has_bytes.ensures.uses; used = a.0; why = a.1 })))
 

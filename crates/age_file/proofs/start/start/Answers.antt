@@ -1,35 +1,23 @@
 use Rattle.age_file.specs.inner.Readers.{view_of_reader}
-use Rattle.age_file.proofs.StartLemmas.{head_to_start, key_to_start, nonce_found, nonce_missed}
+use Rattle.age_file.proofs.ReadLemmas.{key_to_start, nonce_found, nonce_missed}
 use Rattle.std.proofs.lemmas.Result.{err_from_is_err_and}
 use Rattle.age_file.proofs.start.start.Goals as goal
-
-pub returns-in_err-head-clause-fails : goal.returns-in_err-head-clause-fails
-returns-in_err-head-clause-fails g c =
-    let p = err_from_is_err_and c.from_residual.result c.from_residual.ensures.1 in
-    rw (p.1, p.2) (head_to_start (g.U.Unlock.allows c.args.unlock.now) (g.U.Unlock.refuses c.args.unlock.now)
-    (g.S.Source.view c.args.reader.now.source.now) (g.S.Source.view c.read_head.new.reader.source.now) c.in_err-head.field-0.0
-    c.in_err-head.ensures.fails)
 
 pub returns-in_err-key-clause-fails : goal.returns-in_err-key-clause-fails
 returns-in_err-key-clause-fails g c =
     let p = err_from_is_err_and c.from_residual-in_err-key.result c.from_residual-in_err-key.ensures.1 in
     let head = c.in_ok-head.ensures.found in
-    rw (p.1, p.2) (key_to_start (g.U.Unlock.allows c.args.unlock.now) (g.U.Unlock.refuses c.args.unlock.now)
-    (g.S.Source.view c.args.reader.now.source.now) (g.S.Source.view c.read_head.new.reader.source.now) c.in_ok-head.head.header head.front
-    c.read_head.new.reader.intake.now.bytes c.in_err-key.field-0.0 head.last head.text head.pulled.consumed head.few c.in_err-key.ensures.refused)
+    rw (p.1, p.2) (key_to_start (g.U.Unlock.allows c.args.unlock.now) (g.U.Unlock.refuses c.args.unlock.now) head c.in_err-key.field-0.0
+    c.in_err-key.ensures.refused)
 
 pub returns-clause-found : goal.returns-clause-found
 returns-clause-found g c =
     let head = c.in_ok-head.ensures.found in
-    nonce_found (g.U.Unlock.allows c.args.unlock.now) (g.U.Unlock.refuses c.args.unlock.now) (g.S.Source.view c.args.reader.now.source.now)
-    (view_of_reader g.S.Source.view c.read_head.new.reader)
-    (view_of_reader g.S.Source.view c.read_nonce.new.reader) c.in_ok-head.head.header head.front c.in_ok-key.key c.in_ok-head.head.digest
-    head.unfailed head.text c.in_ok-key.ensures.key head.hashed head.pulled c.read_nonce.result c.read_nonce.ensures.found
+    nonce_found (g.U.Unlock.allows c.args.unlock.now) (g.U.Unlock.refuses c.args.unlock.now) (view_of_reader g.S.Source.view c.read_nonce.new.reader)
+    head c.in_ok-key.ensures.key c.read_nonce.result c.read_nonce.ensures.found
 
 pub returns-clause-fails : goal.returns-clause-fails
 returns-clause-fails g c =
     let head = c.in_ok-head.ensures.found in
-    nonce_missed (g.U.Unlock.allows c.args.unlock.now) (g.U.Unlock.refuses c.args.unlock.now) (g.S.Source.view c.args.reader.now.source.now)
-    (view_of_reader g.S.Source.view c.read_head.new.reader)
-    (view_of_reader g.S.Source.view c.read_nonce.new.reader) c.in_ok-head.head.header head.front c.in_ok-key.key c.in_ok-head.head.digest
-    head.unfailed head.text c.in_ok-key.ensures.key head.hashed head.pulled c.read_nonce.result c.read_nonce.ensures.fails
+    nonce_missed (g.U.Unlock.allows c.args.unlock.now) (g.U.Unlock.refuses c.args.unlock.now) (view_of_reader g.S.Source.view c.read_nonce.new.reader)
+    head c.in_ok-key.ensures.key c.read_nonce.result c.read_nonce.ensures.fails

@@ -1,9 +1,8 @@
-use Rattle.std.proofs.Common.{◌≡◌, ◌+◌, take, [], List, ℕ, sym, subst, arith, append-nil, ◌∙◌, ap, length}
+use Rattle.std.proofs.Common.{◌+◌, take, [], sym, arith, append-nil, ◌∙◌, ap, length}
 use Rattle.std.proofs.lemmas.Result.{err_from_is_err_and}
-use Rattle.std.proofs.lemmas.List.{length-take, length-drop, take_all}
+use Rattle.std.proofs.lemmas.List.{length-take, length-drop}
 use Rattle.age_file.specs.inner.Readers.{reader_view, view_of_reader}
-use Rattle.age_file.specs.inner.Copies.{Uses}
-use Rattle.age_file.proofs.StartLemmas.{uses_then, uses_front, nonce_fails}
+use Rattle.age_file.proofs.ReadLemmas.{uses_then, uses_front, nonce_fails}
 use Rattle.age_file.proofs.start.take_nonce.Goals as goal
 
 pub returns-then-not-branch-clause-fails : goal.returns-then-not-branch-clause-fails
@@ -59,11 +58,3 @@ parts-preserved g c =
           (uses_then old mid there short [] short (append-nil short) kept.uses c.has_bytes.ensures.uses) front;
       unfailed = r.1 ∙ kept.unfailed;
     }
-
-pub returns-clause-found : goal.returns-clause-found
-returns-clause-found g c =
-    let kept = c.parts.invariant in
-    let old = view_of_reader g.S.Source.view c.args.reader.now in
-    let new = view_of_reader g.S.Source.view c.parts.reader in
-    let whole : take c.parts.have c.parts.nonce ≡ c.parts.nonce = take_all c.parts.have c.parts.nonce (omega (arith, kept.room)) in
-    record { uses = subst (λ (t : List ℕ). Uses old new t) whole kept.uses; few = kept.few; unfailed = kept.unfailed }

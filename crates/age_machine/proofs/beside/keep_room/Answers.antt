@@ -1,5 +1,4 @@
-use Rattle.std.proofs.Common.{◌∙◌}
-use Rattle.age_machine.proofs.FillLemmas.{about_then, sound_settled}
+use Rattle.age_machine.proofs.SaveLemmas.{about_then}
 use Rattle.age_machine.proofs.beside.keep_room.Goals as goal
 
 pub returns-in_err-settle-clause-about : goal.returns-in_err-settle-clause-about
@@ -7,6 +6,3 @@ returns-in_err-settle-clause-about g c = about_then _ _ _ _ c.write_all.ensures.
 
 pub returns-clause-about : goal.returns-clause-about
 returns-clause-about g c = about_then _ _ _ _ c.write_all.ensures.about c.settle.ensures.about
-
-pub returns-clause-sound : goal.returns-clause-sound
-returns-clause-sound g c = λ disk. sound_settled _ _ _ c.in_ok-settle.ensures.either disk ∙ c.in_ok-write_all.ensures.written.sound disk

@@ -1,6 +1,5 @@
 use Rattle.std.proofs.Common.{refl}
-use Rattle.age_machine.proofs.LockLemmas.{held_one, held_same, held_named}
-use Rattle.age_machine.proofs.OutLemmas.{begun_named, begun_same}
+use Rattle.age_machine.proofs.OutLemmas.{held_one, held_same, held_named}
 use Rattle.age_machine.proofs.in_place.close_named.Goals as goal
 
 pub returns-in_err-close-clause-held : goal.returns-in_err-close-clause-held
@@ -13,7 +12,3 @@ returns-in_err-settle_name-clause-held g c =
 pub returns-clause-held : goal.returns-clause-held
 returns-clause-held g c =
     λ opening held. held_named _ _ opening _ _ c.settle_name.ensures.either (held_same _ _ opening _ _ c.in_ok-close.ensures.ok held)
-
-pub returns-clause-begun : goal.returns-clause-begun
-returns-clause-begun g c =
-    λ text begun. begun_named _ _ _ text _ _ c.settle_name.ensures.either (begun_same _ _ _ text _ _ c.in_ok-close.ensures.ok begun)

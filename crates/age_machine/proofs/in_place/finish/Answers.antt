@@ -1,5 +1,4 @@
-use Rattle.age_machine.proofs.LockLemmas.{held_about, held_same}
-use Rattle.age_machine.proofs.OutLemmas.{begun_same, begun_settled, place_waited}
+use Rattle.age_machine.proofs.OutLemmas.{held_about, held_same, begun_same, begun_settled, place_waited}
 use Rattle.age_machine.proofs.in_place.finish.Goals as goal
 
 pub returns-in_err-settle-clause-held : goal.returns-in_err-settle-clause-held

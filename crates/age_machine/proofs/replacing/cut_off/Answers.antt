@@ -1,5 +1,5 @@
-use Rattle.std.proofs.Common.{refl, arith}
-use Rattle.age_machine.proofs.FillLemmas.{about_none, about_more, cuts_short, cuts_off}
+use Rattle.std.proofs.Common.{refl}
+use Rattle.age_machine.proofs.SaveLemmas.{about_none, about_more}
 use Rattle.age_machine.proofs.replacing.cut_off.Goals as goal
 
 pub returns-then-shown-len-clause-about : goal.returns-then-shown-len-clause-about
@@ -11,9 +11,3 @@ returns-in_err-cut-clause-about g c =
 
 pub returns-clause-about : goal.returns-clause-about
 returns-clause-about g c = about_more _ _ _ _ _ (about_more _ _ _ _ _ (about_none _ _) c.in_ok-shown.ensures.ok refl) c.in_ok-cut.ensures.ok refl
-
-pub returns-then-shown-len-clause-cut : goal.returns-then-shown-len-clause-cut
-returns-then-shown-len-clause-cut g c = cuts_short _ _ c.in_ok-shown.shown _ _ (omega arith) c.in_ok-shown.ensures.ok
-
-pub returns-clause-cut : goal.returns-clause-cut
-returns-clause-cut g c = cuts_off _ _ c.in_ok-shown.shown _ _ _ (omega arith) c.in_ok-shown.ensures.ok c.in_ok-cut.ensures.ok

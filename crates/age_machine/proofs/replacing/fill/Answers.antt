@@ -1,6 +1,5 @@
 use Rattle.std.proofs.Common.{refl}
-use Rattle.age_machine.proofs.FillLemmas.{about_more, about_then, about_same, fills_waited}
-use Rattle.age_machine.proofs.FillLemmas.{fills_same}
+use Rattle.age_machine.proofs.SaveLemmas.{about_more, about_then, about_same, fills_waited, fills_same}
 use Rattle.age_machine.proofs.replacing.fill.Goals as goal
 
 pub returns-in_err-cut_off-clause-about : goal.returns-in_err-cut_off-clause-about

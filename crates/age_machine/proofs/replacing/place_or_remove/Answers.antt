@@ -1,7 +1,6 @@
 use Rattle.std.proofs.Common.{string_bytes}
 use Rattle.age_machine.specs.inner.Steps.{HasTried}
-use Rattle.age_machine.proofs.SaveLemmas.{beside_about, replaces_tried}
-use Rattle.age_machine.proofs.PutLemmas.{tried_beside, tried_taken_back, ready_filled}
+use Rattle.age_machine.proofs.SaveLemmas.{beside_about, replaces_tried, tried_beside, tried_removed, ready_filled}
 use Rattle.age_machine.proofs.replacing.place_or_remove.Goals as goal
 use Rattle.age_machine.proofs.replacing.place_or_remove.Goals.{in-Ok+in-Err-place, in-Err}
 
@@ -18,5 +17,5 @@ returns-clause-replaces g c =
           w.in-Ok.ensures.filled))
       | in-Err w ↦ rw w.machine-is (tried_beside _ _ _ _ old _ _ _ (beside_about _ _ _ old _ _ kept.beside c.fill.ensures.about))
     ] in
-    replaces_tried _ _ _ _ old _ _ _ _ (tried_taken_back _ _ _ _ _ _ _ old _ _ c.as_str.ensures.value kept.beside.apart tried
-    c.remove.ensures.calls) (λ synced. tt)
+    let removed = rw c.as_str.ensures.value at c.remove.ensures.calls in
+    replaces_tried _ _ _ _ old _ _ _ _ (tried_removed _ _ _ _ old _ _ _ _ kept.beside.apart tried removed) (λ synced. tt)

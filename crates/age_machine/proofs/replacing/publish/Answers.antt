@@ -1,6 +1,5 @@
 use Rattle.std.proofs.Common.{inr}
-use Rattle.age_machine.proofs.PutLemmas.{ready_may, tried_ready, tried_linked, full_may}
-use Rattle.age_machine.proofs.PutLemmas.{put_published}
+use Rattle.age_machine.proofs.SaveLemmas.{ready_may, tried_ready, tried_linked, full_may, put_published}
 use Rattle.age_machine.proofs.replacing.publish.Goals as goal
 
 pub returns-in-Ok-clause-tried : goal.returns-in-Ok-clause-tried

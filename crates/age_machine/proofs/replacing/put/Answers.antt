@@ -1,4 +1,4 @@
-use Rattle.age_machine.proofs.PutLemmas.{tried_as, tried_taken, put_renamed}
+use Rattle.age_machine.proofs.SaveLemmas.{tried_as, tried_taken, put_renamed}
 use Rattle.age_machine.proofs.replacing.put.Goals as goal
 
 pub returns-in-Free-clause-tried : goal.returns-in-Free-clause-tried

@@ -1,5 +1,4 @@
-use Rattle.age_machine.proofs.SaveLemmas.{beside_about, replaces_tried, replaces_again}
-use Rattle.age_machine.proofs.PutLemmas.{tried_beside, tried_taken_back, ready_filled}
+use Rattle.age_machine.proofs.SaveLemmas.{beside_about, replaces_tried, replaces_again, tried_beside, tried_removed, ready_filled}
 use Rattle.age_machine.proofs.replacing.replace_by_kept.Goals as goal
 
 pub returns-in-Ok-clause-replaces : goal.returns-in-Ok-clause-replaces
@@ -13,6 +12,6 @@ returns-then-not-is_at-clause-replaces g c =
 
 pub returns-in-Err-clause-replaces : goal.returns-in-Err-clause-replaces
 returns-in-Err-clause-replaces g c =
-    λ old kept. replaces_again _ _ _ _ old _ _ _ _ _ (tried_taken_back c.args.to c.args.durability _ _ _ _ c.args.bytes.now old _ _
-    c.as_str-beside.ensures.value kept.beside.apart (tried_beside _ _ _ _ old _ _ _
-    (beside_about _ _ _ old _ _ kept.beside c.fill.ensures.about)) c.remove.ensures.calls) c.replace_by_new-in-Err.ensures.replaces
+    let removed = rw c.as_str-beside.ensures.value at c.remove.ensures.calls in
+    λ old kept. replaces_again _ _ _ _ old _ _ _ _ _ (tried_removed _ _ _ c.args.bytes.now old c.args.durability c.args.to _ _ kept.beside.apart
+    (tried_beside _ _ _ _ old _ _ _ (beside_about _ _ _ old _ _ kept.beside c.fill.ensures.about)) removed) c.replace_by_new-in-Err.ensures.replaces

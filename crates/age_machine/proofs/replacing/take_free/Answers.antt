@@ -1,4 +1,4 @@
-use Rattle.age_machine.proofs.PutLemmas.{tried_looked, put_looked}
+use Rattle.age_machine.proofs.SaveLemmas.{tried_looked, put_looked}
 use Rattle.age_machine.proofs.replacing.take_free.Goals as goal
 
 pub returns-in_err-take_place-in-Ok-true-clause-tried : goal.returns-in_err-take_place-in-Ok-true-clause-tried

@@ -17,9 +17,6 @@ loop-i-init c = record {
   counted = omega arith;
 }
 
-pub unwrap-requires : goal.unwrap-requires
-unwrap-requires c = c.extend_from_slice.ensures.succeeds (omega arith)
-
 pub loop-i-preserved : goal.loop-i-preserved
 unfolding part
 loop-i-preserved c =
@@ -29,21 +26,13 @@ loop-i-preserved c =
     let table : List ℕ = c.loop-i.table.items in
     let x_len : length x ≡ 256 = omega arith in
     let len : length table ≡ 256 * i = omega (arith, c.loop-i.table.ok.0, inv.len) in
-    let items : c.extend_from_slice.new.self.items ≡ table ++ x =
-    pushed x refl c.unwrap.ensures c.extend_from_slice.ensures.items in
+    let items : c.extend_from_slice.new.self.items ≡ table ++ x = pushed x refl c.unwrap.ensures c.extend_from_slice.ensures.items in
     let width : 256 * i + 256 - 256 * i ≡ 256 = omega arith in
     let from : take (256 * i + 256 - 256 * i) (drop (256 * i) c.deref.result.now) ≡ x =
     rw (width, c.deref.ensures.value, items) (part-append_right 256 table x i len x_len) in
     record {
       room = omega (arith, c.extend_from_slice.ensures.capacity);
-      len =
-          omega (
-            arith,
-            c.deref.ensures.len,
-            ap length c.deref.ensures.value,
-            ap length items,
-            length-append table x,
-          );
+      len = omega (arith, c.deref.ensures.len, ap length c.deref.ensures.value, ap length items, length-append table x);
       table = λ b t. rw items (table_more b i table x len x_len (inv.table b t) (inv.x b t));
       x = λ b t. mixed_times_more b c.block_mix.new.to i
           (c.block_mix.ensures.mixed (v_block b i)

@@ -2,7 +2,7 @@ use Rattle.std.proofs.Common.{◌≡◌, ◌+◌, ◌-◌, ◌*◌, ◌%◌, ◌
 use Rattle.std.proofs.lemmas.List.{length-take, length-drop}
 use Rattle.age_scrypt.specs.Scrypt.{part, xor_words, v_block, x_block, integerify}
 use Rattle.age_scrypt.specs.inner.Workspace.{IsTable, IsTurned}
-use Rattle.age_scrypt.proofs.TurnLemmas.{xor_turned}
+use Rattle.age_scrypt.proofs.PartLemmas.{xor_turned}
 use Rattle.age_scrypt.proofs.RomixLemmas.{table_at, looked_up_more}
 use Rattle.age_scrypt.proofs.romix.look_up.Goals as goal
 
@@ -20,9 +20,7 @@ loop-round-preserved c =
     let table : List ℕ = c.args.table.now in
     let place : ℕ = c.place_of-at.result in
     let width : 256 * place + 256 - 256 * place ≡ 256 = omega arith in
-    let part_len : length (part 256 table place) ≡ 256 =
-    omega
-    (arith, length-take 256 (drop (256 * place) table), length-drop (256 * place) table) in
+    let part_len : length (part 256 table place) ≡ 256 = omega (arith, length-take 256 (drop (256 * place) table), length-drop (256 * place) table) in
     let mixed : c.xor_blocks.new.to ≡ xor_words x (part 256 table place) =
     c.xor_blocks.ensures ∙ ap (λ w. xor_words x (take w (drop (256 * place) table))) width in
     record {
@@ -32,9 +30,7 @@ loop-round-preserved c =
           let there : IsTurned (v_block b (integerify now % n)) (part 256 table place) =
           table_at n b table now place t c.requires.count.some
           (c.place_of-at.ensures.place now is) in
-          let xored =
-          xor_turned now (v_block b (integerify now % n)) x (part 256 table place) is there
-          (omega arith) part_len in
+          let xored = xor_turned now (v_block b (integerify now % n)) x (part 256 table place) is there (omega arith) part_len in
           looked_up_more n b c.block_mix.new.to round
           (c.block_mix.ensures.mixed (xor_words now (v_block b (integerify now % n)))
           (subst (IsTurned (xor_words now (v_block b (integerify now % n)))) (sym mixed) xored));

@@ -2,8 +2,8 @@ use Rattle.std.proofs.Common.{◌≡◌, ◌∙◌, ℕ, List, ap, ap₂, add-on
 use Rattle.std.specs.Simd.Lanes.{zip2}
 use Rattle.age_scrypt.specs.Scrypt.{add32, double_rounds, salsa20_8}
 use Rattle.age_scrypt.specs.inner.Workspace.{words, turned}
-use Rattle.age_scrypt.proofs.LaneLemmas.{length-double_rounds}
-use Rattle.age_scrypt.proofs.TurnLemmas.{diagonals_of_words, words_of_diagonals, zip2-turned}
+use Rattle.age_scrypt.proofs.SalsaLemmas.{length-double_rounds}
+use Rattle.age_scrypt.proofs.PartLemmas.{diagonals_of_words, words_of_diagonals, zip2-turned}
 use Rattle.age_scrypt.proofs.salsa.salsa20_8.Goals as goal
 
 pub loop-round-init : goal.loop-round-init
@@ -14,9 +14,7 @@ pub loop-round-preserved : goal.loop-round-preserved
 unfolding double_rounds
 loop-round-preserved c x len e =
     let y : List ℕ = double_rounds c.loop-round._round x in
-    rw add-one
-    (c.double_round-mixed.ensures y (length-double_rounds c.loop-round._round x len)
-    (c.loop-round.invariant x len e))
+    rw add-one (c.double_round-mixed.ensures y (length-double_rounds c.loop-round._round x len) (c.loop-round.invariant x len e))
 
 pub returns : goal.returns
 unfolding salsa20_8
@@ -24,7 +22,5 @@ returns c x len e =
     let n : ℕ = c.loop-round._round in
     let all : n ≡ 4 = omega arith in
     let mixed : words c.loop-round.mixed ≡ turned (double_rounds 4 x) =
-    words_of_diagonals (double_rounds n x) c.loop-round.mixed (c.loop-round.invariant x len e)
-    ∙ ap (λ n. turned (double_rounds n x)) all in
-    c.wrapping_add.ensures ∙ ap₂ (zip2 add32) mixed e
-    ∙ zip2-turned add32 (double_rounds 4 x) x (length-double_rounds 4 x len) len
+    words_of_diagonals (double_rounds n x) c.loop-round.mixed (c.loop-round.invariant x len e) ∙ ap (λ n. turned (double_rounds n x)) all in
+    c.wrapping_add.ensures ∙ ap₂ (zip2 add32) mixed e ∙ zip2-turned add32 (double_rounds 4 x) x (length-double_rounds 4 x len) len

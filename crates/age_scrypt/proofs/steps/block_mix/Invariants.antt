@@ -6,6 +6,5 @@ use Rattle.age_scrypt.proofs.steps.block_mix.Given as goal
 abbrev pub invariant-loop-i : goal.invariant-loop-i
 invariant-loop-i l = record {
   x : (b : List ℕ) → IsTurned b l.from → words l.x ≡ turned (x_part b l.i);
-  to : (b : List ℕ) → IsTurned b l.from → (j : ℕ) → j < l.i
-      → part 16 l.to (j / 2 + j % 2 * 8) ≡ turned (x_part b (j + 1));
+  to : (b : List ℕ) → IsTurned b l.from → (j : ℕ) → j < l.i → part 16 l.to (j / 2 + j % 2 * 8) ≡ turned (x_part b (j + 1));
 }

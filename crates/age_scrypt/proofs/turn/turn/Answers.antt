@@ -1,7 +1,7 @@
 use Rattle.std.proofs.Common.{◌∙◌, ap, arith, below_more}
 use Rattle.age_scrypt.specs.inner.Workspace.{words, turned}
 use Rattle.age_scrypt.proofs.SalsaLemmas.{rows_of_words}
-use Rattle.age_scrypt.proofs.TurnLemmas.{words_of_diagonals}
+use Rattle.age_scrypt.proofs.PartLemmas.{words_of_diagonals}
 use Rattle.age_scrypt.proofs.turn.turn.Goals as goal
 
 pub loop-i-preserved : goal.loop-i-preserved
@@ -11,8 +11,4 @@ loop-i-preserved c =
     (λ j below. c.write.ensures.others j (omega arith) (omega arith) ∙ c.loop-i.invariant j below)
     (c.write.ensures.here
     ∙ words_of_diagonals (words p) c.diagonals.result
-    (c.diagonals.ensures (words p) (rows_of_words p))
-    ∙ ap turned c.read.ensures)
-
-pub returns : goal.returns
-returns c = record { len = c.requires.from; at = λ i below. c.loop-i.invariant i (omega arith) }
+    (c.diagonals.ensures (words p) (rows_of_words p)) ∙ ap turned c.read.ensures)

@@ -12,13 +12,6 @@ returns-then-not-branch-clause-refused c = λ _.
     sym c.loop-end.invariant.0 ∙ (ap (arguments_from c.loop-end.args []) first.parts
     ∙ bad_argument c.loop-end.args _ _ first.one_line (c.in_ok-push_valid.ensures.refused c.if-not-branch.true))
 
-pub overflow_add-rest : goal.overflow_add-rest
-overflow_add-rest c =
-    let first = first_part 32 c.loop-end.rest.now c.in-Some.end (sym c.in-Some.ensures) in
-    let lt = first.within in
-    let within = c.loop-end.invariant.1 in
-    omega arith
-
 pub loop-end-preserved : goal.loop-end-preserved
 loop-end-preserved c =
     let first = first_part 32 c.loop-end.rest.now c.in-Some.end (sym c.in-Some.ensures) in
@@ -30,9 +23,7 @@ loop-end-preserved c =
     )
 
 pub returns-clause-all : goal.returns-clause-all
-returns-clause-all c =
-    IfOk-weaker c.push_valid-2.result _ _
-    (λ r h yes.
+returns-clause-all c = IfOk-weaker c.push_valid-2.result _ _ (λ r h yes.
     let pushed = h yes in
     sym c.loop-end.invariant.0 ∙ (last_argument c.loop-end.args _ pushed.0 ∙ ap Some (sym pushed.1))) c.push_valid-2.ensures.pushed
 

@@ -4,8 +4,7 @@ use Rattle.age_stanza.proofs.argument_line.push_all.Given as goal
 
 -- what is left gives the answer
 abbrev pub invariant-loop-end : goal.invariant-loop-end
-invariant-loop-end l = (arguments_from l.args [] l.rest ≡ arguments_from l.fn.args [] l.letters)
-    × (length l.rest ≤ length l.letters)
+invariant-loop-end l = (arguments_from l.args [] l.rest ≡ arguments_from l.fn.args [] l.letters) × (length l.rest ≤ length l.letters)
 
 abbrev pub decreases-loop-end : goal.decreases-loop-end
 decreases-loop-end l = length l.rest

@@ -1,4 +1,4 @@
-use Rattle.age_stanza.proofs.OneFaultLemmas.{one_fault}
+use Rattle.age_stanza.proofs.FaultLemmas.{one_fault}
 use Rattle.age_stanza.proofs.laws.one_fault.Goals as goal
 
 pub returns : goal.returns

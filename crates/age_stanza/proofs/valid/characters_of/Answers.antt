@@ -5,6 +5,3 @@ use Rattle.age_stanza.proofs.valid.characters_of.Goals as goal
 
 pub returns-clause-len : goal.returns-clause-len
 returns-clause-len c = c.div_ceil.ensures ∙ div_ceil-characters _ ∙ sym (length-text c.args.bytes.now)
-
-pub returns-clause-value : goal.returns-clause-value
-returns-clause-value c = c.div_ceil.ensures ∙ div_ceil-characters _

@@ -4,8 +4,7 @@ use Rattle.age_stream.specs.declared.delivery.Delivery.{Delivery}
 use Rattle.age_stream.specs.Replay.{Replays}
 use Rattle.age_stream.specs.declared.step.Status.{Status}
 use Rattle.age_stream.specs.Headline.{HoldsWritten}
-use Rattle.age_stream.proofs.CrampedLemmas.{cramped_at}
-use Rattle.age_stream.proofs.ReplayLemmas.{on_err, written}
+use Rattle.age_stream.proofs.ReplayLemmas.{cramped_at, on_err, written}
 use Rattle.age_stream.proofs.SizeLemmas.{replay_fits}
 use Rattle.age_stream.proofs.drilling.drill.Goals as goal
 use Rattle.age_chunk.specs.ChunkBoxes.{text_length}

@@ -1,5 +1,5 @@
 use Rattle.age_chunk.specs.inner.ClearLaw.{clear_valid}
-use Rattle.age_stream.proofs.AuthenticLemmas.{clear_closed}
+use Rattle.age_stream.proofs.HeldLemmas.{clear_closed}
 use Rattle.age_stream.proofs.laws.clear_is_sealable.Goals as goal
 
 pub returns : goal.returns

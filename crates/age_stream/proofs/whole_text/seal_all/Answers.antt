@@ -1,7 +1,7 @@
 use Rattle.std.proofs.Common.{◌<◌, ◌++◌, List, ℕ, ap, sym, subst, ◌∙◌, arith}
 use Rattle.age_stream.specs.Laws.{GivesBack}
 use Rattle.age_chunk.specs.Payload.{payload}
-use Rattle.age_stream.proofs.AuthenticLemmas.{comes_back}
+use Rattle.age_stream.proofs.HeldLemmas.{comes_back}
 use Rattle.age_stream.proofs.whole_text.seal_all.Goals as goal
 use Rattle.age_chunk.specs.ChunkBoxes.{text_length}
 
@@ -18,6 +18,7 @@ returns g c =
       few = after.few;
       gives_back = λ closed.
           subst (λ (bytes : List ℕ). GivesBack (g.B.ChunkBox.opening key) m bytes c.args.text.now) (sym sealed)
-          (comes_back (g.B.ChunkBox.sealing key) (g.B.ChunkBox.opening key) (g.met.B.ChunkBox.valid key) m positive c.args.text.now after.few closed);
+          (comes_back (g.B.ChunkBox.sealing key) (g.B.ChunkBox.opening key) m c.args.text.now
+          (record { valid = g.met.B.ChunkBox.valid key; some = positive; few = after.few; closed = closed }));
       refused = tt;
     }

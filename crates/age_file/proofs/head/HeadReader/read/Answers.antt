@@ -3,7 +3,7 @@ use Rattle.std.proofs.lemmas.List.{length-drop}
 use Rattle.std.proofs.lemmas.Result.{err_from_is_err_and}
 use Rattle.age_file.specs.Runs.{EndsInHeader, InHeader}
 use Rattle.age_file.specs.inner.Readers.{start_at, reader_view, view_of_reader}
-use Rattle.age_file.proofs.ByteLemmas.{pull_fails, piece_fails, end_fails, stops_at, cut_pulled, head_pulled}
+use Rattle.age_file.proofs.ReadLemmas.{pull_fails, piece_fails, end_fails, stops_at, nothing_pulled, head_pulled}
 use Rattle.age_file.proofs.head.HeadReader.read.Goals as goal
 
 pub returns-clause-fails : goal.returns-clause-fails
@@ -13,8 +13,7 @@ returns-clause-fails g c =
     let new = g.S.Source.view c.refill.new.source in
     let r = rw c.if-branch.false at c.in_ok-refill.ensures.refills.answered in
     let cuts = rw kept.front.parser_is at c.end.ensures in
-    let all = cut_pulled (start_at old.supply) new.supply c.refill.new.self.pulls kept.held c.refill.new.self.bytes r.0
-    (c.refill.ensures.refills.pulled (start_at old.supply) kept.held kept.pulled) in
+    let all = nothing_pulled c.refill.ensures.refills r.0 kept.pulled in
     let inside : EndsInHeader kept.held = record { no_header = cuts.2; no_fault = cuts.3; short = kept.front.inside.short } in
     rw c.from.ensures (end_fails old new kept.held c.end.result all.consumed r.2 (inside, cuts.0))
 
@@ -25,13 +24,9 @@ returns-in_err-refill-clause-fails g c =
     let old = g.S.Source.view c.args.reader.now.source.now in
     let new = g.S.Source.view c.refill.new.source in
     let a = c.in_err-refill.ensures.refills.answered in
-    let all = cut_pulled (start_at old.supply) new.supply c.refill.new.self.pulls kept.held c.refill.new.self.bytes a.0
-    (c.refill.ensures.refills.pulled (start_at old.supply) kept.held kept.pulled) in
+    let all = nothing_pulled c.refill.ensures.refills a.0 kept.pulled in
     rw (p.1, p.2) (pull_fails InHeader old (view_of_reader g.S.Source.view c.pieces.reader)
     (reader_view new c.refill.new.self) kept.held c.in_err-refill.field-0.0 kept.unfailed (kept.held, all.consumed, kept.front.inside) all a.2)
-
-pub take-requires : goal.take-requires
-take-requires g c = (c.pieces.invariant.held, c.pieces.invariant.front)
 
 pub returns-in_err-header-clause-fails : goal.returns-in_err-header-clause-fails
 returns-in_err-header-clause-fails g c =

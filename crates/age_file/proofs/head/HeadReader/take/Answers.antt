@@ -4,8 +4,7 @@ use Rattle.std.proofs.lemmas.Result.{err_from_is_err_and}
 use Rattle.age_file.proofs.head.HeadReader.take.Goals as goal
 
 pub returns-in-More : goal.returns-in-More
-returns-in-More c =
-    λ held f.
+returns-in-More c = λ held f.
     let bytes = c.args.intake.now.bytes in
     let is = c.bytes-piece.ensures.bytes in
     let feeds = rw (f.parser_is, c.in-More.is, is) at c.in_ok-feed.ensures in (
@@ -20,8 +19,7 @@ returns-in-More c =
     )
 
 pub returns-in-Ready : goal.returns-in-Ready
-returns-in-Ready c =
-    λ held f.
+returns-in-Ready c = λ held f.
     let bytes = c.args.intake.now.bytes in
     let is = c.bytes-piece.ensures.bytes in
     let n = c.in-Ready.taken in
@@ -36,8 +34,7 @@ returns-in-Ready c =
     }
 
 pub returns-in_err-feed : goal.returns-in_err-feed
-returns-in_err-feed c =
-    λ held f.
+returns-in_err-feed c = λ held f.
     let p = err_from_is_err_and c.from_residual.result c.from_residual.ensures.1 in
     let feeds = rw (f.parser_is, c.bytes-piece.ensures.bytes) at c.in_err-feed.ensures in
     rw (p.1, p.2) feeds.1

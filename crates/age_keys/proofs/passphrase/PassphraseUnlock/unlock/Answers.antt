@@ -2,19 +2,16 @@ use Rattle.std.proofs.Common.{◌≡◌, ◌≤◌, ◌^◌, ◌∙◌, sym, ap,
 use Rattle.std.proofs.lemmas.Result.{err_from_is_err_and}
 use Rattle.std.proofs.Math.Pow.{pow_mono}
 use Rattle.age_keys.specs.Scrypt.{wrap_key}
-use Rattle.age_keys.proofs.CountLemmas.{was_tried}
-use Rattle.age_keys.proofs.PassphraseLemmas.{only_scrypt, found_or_wrong}
-use Rattle.age_keys.proofs.StanzaLemmas.{only_one, not_beside}
+use Rattle.age_keys.proofs.PassphraseLemmas.{was_tried, only_scrypt, found_or_wrong}
+use Rattle.age_keys.proofs.StanzaLemmas.{only_one_of, not_beside}
 use Rattle.age_keys.proofs.WorkFactorLemmas.{work_factor_some}
 use Rattle.age_keys.proofs.passphrase.PassphraseUnlock.unlock.Goals as goal
 
 pub returns-in_default-read-clause-answer : goal.returns-in_default-read-clause-answer
 returns-in_default-read-clause-answer c =
-    let slice = c.as_slice-stanzas.ensures in
-    let one = only_one c.args.header.now.stanzas c.stanza-item.result (rw slice at c.in-len1.len_at_least) (rw slice at c.in-len1.len_below)
-    (rw slice at c.stanza-item.is) in (
+    let one = only_one_of _ _ c.stanza-item.result c.as_slice-stanzas.ensures c.in-len1.len_at_least c.in-len1.len_below c.stanza-item.is in (
       not_beside c.args.header.now c.stanza-item.result one,
-      rw slice at (sym c.has_scrypt.ensures ∙ c.if-not-has_scrypt.false),
+      rw c.as_slice-stanzas.ensures at (sym c.has_scrypt.ensures ∙ c.if-not-has_scrypt.false),
       λ only.
           let same : only.stanza ≡ c.stanza-item.result = cc (only.alone, one) in
           c.in_default-read.ensures.none only.salt only.log only.body (rw same at only.valid),
@@ -30,9 +27,7 @@ wrap_key-requires-clause-least c =
 
 pub returns-then-read-self-clause-answer : goal.returns-then-read-self-clause-answer
 returns-then-read-self-clause-answer c =
-    let slice = c.as_slice-stanzas.ensures in
-    let one = only_one c.args.header.now.stanzas c.stanza-item.result (rw slice at c.in-len1.len_at_least) (rw slice at c.in-len1.len_below)
-    (rw slice at c.stanza-item.is) in
+    let one = only_one_of _ _ c.stanza-item.result c.as_slice-stanzas.ensures c.in-len1.len_at_least c.in-len1.len_below c.stanza-item.is in
     let read = c.in-Some.ensures.read in
     let least = read.1 in
     let above = c.if-read-self.true in
@@ -40,9 +35,7 @@ returns-then-read-self-clause-answer c =
 
 pub returns-in_err-wrap_key-clause-answer : goal.returns-in_err-wrap_key-clause-answer
 returns-in_err-wrap_key-clause-answer c =
-    let slice = c.as_slice-stanzas.ensures in
-    let one = only_one c.args.header.now.stanzas c.stanza-item.result (rw slice at c.in-len1.len_at_least) (rw slice at c.in-len1.len_below)
-    (rw slice at c.stanza-item.is) in
+    let one = only_one_of _ _ c.stanza-item.result c.as_slice-stanzas.ensures c.in-len1.len_at_least c.in-len1.len_below c.stanza-item.is in
     let read = c.in-Some.ensures.read in
     let least = read.1 in
     let within = c.if-read-self.false in
@@ -53,9 +46,7 @@ returns-in_err-wrap_key-clause-answer c =
 
 pub returns-clause-answer : goal.returns-clause-answer
 returns-clause-answer c =
-    let slice = c.as_slice-stanzas.ensures in
-    let one = only_one c.args.header.now.stanzas c.stanza-item.result (rw slice at c.in-len1.len_at_least) (rw slice at c.in-len1.len_below)
-    (rw slice at c.stanza-item.is) in
+    let one = only_one_of _ _ c.stanza-item.result c.as_slice-stanzas.ensures c.in-len1.len_at_least c.in-len1.len_below c.stanza-item.is in
     let read = c.in-Some.ensures.read in
     let least = read.1 in
     let within = c.if-read-self.false in

@@ -2,8 +2,7 @@ use Rattle.std.proofs.Common.{◌≡◌, List, ℕ, [], refl, subst}
 use Rattle.age_machine.specs.Saves.{SavesWhole}
 use Rattle.age_machine.specs.Outs.{OutView, TouchesFile, is_making, text_of}
 use Rattle.age_machine.specs.inner.Steps.{RemovesAt}
-use Rattle.age_machine.proofs.LockLemmas.{touches_removed}
-use Rattle.age_machine.proofs.OutLemmas.{saves_discarded, touches_now}
+use Rattle.age_machine.proofs.OutLemmas.{touches_removed, saves_discarded, touches_now}
 use Rattle.age_machine.proofs.in_place.Out.discard.Goals as goal
 
 pub returns-clause-kept : goal.returns-clause-kept

@@ -5,8 +5,7 @@ use base.Fml.{ftrue, flft}
 use base.Logic.{id⊢}
 use mir.Syntax.{named}
 use mir.Val.{vunit}
-use types.Kit.{‵, ◌⊛◌, ◌$◌, ◌∵◌, !, qed, done, move, keep, use1, split, join, fsplit3, feq_i, frame}
-use types.Kit.{group, suffices}
+use types.Kit.{‵, ◌⊛◌, ◌$◌, ◌∵◌, !, qed, done, move, keep, use1, split, join, fsplit3, feq_i, frame, group, suffices}
 use types.Run.{enter, of_opd, unit_lit, returns}
 use types.ByLocal.{alloc_all, pass_all, free_all, look_at, sets}
 use denote.Exit.{yes}

@@ -12,12 +12,9 @@ returns-clause-here c =
     let old : List ℕ = c.args.block.now in
     let at : ℕ = 16 * c.args.i in
     let written : c.write_row-4.new.words ≡ put_mid at 16 old (words p) =
-    rows_written old c.write_row.new.words c.write_row-2.new.words c.write_row-3.new.words
-    c.write_row-4.new.words p.a p.b p.c p.d at (omega arith)
-    p.a_len p.b_len p.c_len c.write_row.ensures c.write_row-2.ensures c.write_row-3.ensures
-    c.write_row-4.ensures in
-    ap (λ b. part 16 b c.args.i) written
-    ∙ part-put_here 16 16 old (words p) c.args.i refl (omega arith) (length-words p)
+    rows_written old c.write_row.new.words c.write_row-2.new.words c.write_row-3.new.words c.write_row-4.new.words p.a p.b p.c p.d at (omega arith)
+    p.a_len p.b_len p.c_len c.write_row.ensures c.write_row-2.ensures c.write_row-3.ensures c.write_row-4.ensures in
+    ap (λ b. part 16 b c.args.i) written ∙ part-put_here 16 16 old (words p) c.args.i refl (omega arith) (length-words p)
 
 pub returns-clause-others : goal.returns-clause-others
 returns-clause-others c j below other =
@@ -25,9 +22,6 @@ returns-clause-others c j below other =
     let old : List ℕ = c.args.block.now in
     let at : ℕ = 16 * c.args.i in
     let written : c.write_row-4.new.words ≡ put_mid at 16 old (words p) =
-    rows_written old c.write_row.new.words c.write_row-2.new.words c.write_row-3.new.words
-    c.write_row-4.new.words p.a p.b p.c p.d at (omega arith)
-    p.a_len p.b_len p.c_len c.write_row.ensures c.write_row-2.ensures c.write_row-3.ensures
-    c.write_row-4.ensures in
-    ap (λ b. part 16 b j) written
-    ∙ part-put_other 16 16 old (words p) c.args.i j refl (omega arith) (length-words p) other
+    rows_written old c.write_row.new.words c.write_row-2.new.words c.write_row-3.new.words c.write_row-4.new.words p.a p.b p.c p.d at (omega arith)
+    p.a_len p.b_len p.c_len c.write_row.ensures c.write_row-2.ensures c.write_row-3.ensures c.write_row-4.ensures in
+    ap (λ b. part 16 b j) written ∙ part-put_other 16 16 old (words p) c.args.i j refl (omega arith) (length-words p) other

@@ -4,10 +4,9 @@ use Rattle.age_stanza.proofs.partial.PartialHeader.end_line.Goals as goal
 
 pub invariant_of-more : goal.invariant_of-more
 invariant_of-more c =
-    let fits = c.type_inv.characters in
     let within = c.requires.within in
     let held = c.place.view_is ∙ c.replace.ensures.value in
-    let whole = whole_partial _ _ _ _ _ _ c.place.invariant held c.requires.one_line (λ i. omega (arith, fits i)) (omega arith) in
+    let whole = whole_partial _ _ _ _ _ _ c.place.invariant held c.requires.one_line (λ i. omega (arith, c.type_inv.characters i)) (omega arith) in
     let known = c.place.invariant in
     let size = known.size in
     let long = ap length held in
@@ -16,31 +15,24 @@ invariant_of-more c =
 
 pub returns-in-Ok-Go : goal.returns-in-Ok-Go
 returns-in-Ok-Go c =
-    let fits = c.type_inv.characters in
     let within = c.requires.within in
     let held = c.place.view_is ∙ c.replace.ensures.value in
-    let whole = whole_partial _ _ _ _ _ _ c.place.invariant held c.requires.one_line (λ i. omega (arith, fits i)) (omega arith) in
-    rw (
-      ← whole_held c.place.inside.place c.place.inside.line.items c.args.characters.now c.args.self.now held,
-      c.replace-in-Ok-Go.ensures.after,
-      c.clear.ensures.items,
-    )
+    let whole = whole_partial _ _ _ _ _ _ c.place.invariant held c.requires.one_line (λ i. omega (arith, c.type_inv.characters i)) (omega arith) in
+    rw (← whole_held c.place.inside.place c.place.inside.line.items c.args.characters.now c.args.self.now held, c.replace-in-Ok-Go.ensures.after, c.clear.ensures.items)
     (next_bytes _ _ _ _ whole.lead_to whole.line_bytes (rw c.in-Ok-Go.field-0-is at c.in-Ok-Go.ensures))
 
 pub returns-in-Ok-Done : goal.returns-in-Ok-Done
 returns-in-Ok-Done c =
-    let fits = c.type_inv.characters in
     let within = c.requires.within in
     let held = c.place.view_is ∙ c.replace.ensures.value in
-    let whole = whole_partial _ _ _ _ _ _ c.place.invariant held c.requires.one_line (λ i. omega (arith, fits i)) (omega arith) in
+    let whole = whole_partial _ _ _ _ _ _ c.place.invariant held c.requires.one_line (λ i. omega (arith, c.type_inv.characters i)) (omega arith) in
     rw (← whole_held c.place.inside.place c.place.inside.line.items c.args.characters.now c.args.self.now held)
     (whole_walk _ _ _ _ whole.lead_to whole.one_line (rw c.in-Ok-Done.field-0-is at c.in-Ok-Done.ensures))
 
 pub returns-in-Err : goal.returns-in-Err
 returns-in-Err c =
-    let fits = c.type_inv.characters in
     let within = c.requires.within in
     let held = c.place.view_is ∙ c.replace.ensures.value in
-    let whole = whole_partial _ _ _ _ _ _ c.place.invariant held c.requires.one_line (λ i. omega (arith, fits i)) (omega arith) in
+    let whole = whole_partial _ _ _ _ _ _ c.place.invariant held c.requires.one_line (λ i. omega (arith, c.type_inv.characters i)) (omega arith) in
     rw (← whole_held c.place.inside.place c.place.inside.line.items c.args.characters.now c.args.self.now held, c.fault_at.ensures)
     (faulty_walk _ _ _ c.in-Err.kind whole.lead_to whole.one_line c.in-Err.ensures)

@@ -1,18 +1,18 @@
-use Rattle.std.proofs.Common.{◌≡◌, ◌++◌, ◌∙◌, List, ℕ, [], length, take, ap, sym, arith}
+use Rattle.std.proofs.Common.{◌≡◌, ◌+◌, ◌++◌, ◌∙◌, List, ℕ, [], length, take, ap, sym, arith}
 use Rattle.std.proofs.lemmas.Bool.{eqb-true, eq-eqb, false≢true}
 use Rattle.age_stanza.specs.Parsing.{line_after}
 use Rattle.age_stanza.specs.inner.LineMachine.{bytes_before, LeadTo}
 use Rattle.age_stanza.specs.declared.fault.HeadFault.{HeadFault}
 use Rattle.age_stanza.specs.declared.fault.HeadKind.TheVariants.{HeadTooLong}
 use Rattle.age_stanza.specs.declared.place.Place.{Place}
-use Rattle.age_stanza.proofs.OneFaultLemmas.{no_length}
+use Rattle.age_stanza.proofs.FaultLemmas.{no_length}
 use Rattle.age_stanza.proofs.FinishedLineLemmas.{finished_number, begun_number_of_last}
 use Rattle.age_stanza.proofs.partial.PartialHeader.too_long_fault.Goals as goal
 
 too_long_at : ℕ → HeadFault
 too_long_at n = record { kind = HeadTooLong; line = n }
 
-are_lines : (place : Place) (lines : ℕ) (l held : List ℕ) → LeadTo place lines → length l ≡ 0 → bytes_before place ++ l ≡ held → length held ≡ 1048576
+are_lines : (place : Place) (lines : ℕ) (l held : List ℕ) → LeadTo place (lines + 1) → length l ≡ 0 → bytes_before place ++ l ≡ held → length held ≡ 1048576
     → lines ≡ line_after (take 1048575 held)
 are_lines place lines l held led empty view size =
     let is : bytes_before place ++ [] ≡ held = ap (λ (t : List ℕ). bytes_before place ++ t) (sym (no_length l empty)) ∙ view in

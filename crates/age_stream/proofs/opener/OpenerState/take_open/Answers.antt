@@ -1,8 +1,7 @@
-use Rattle.std.proofs.Common.{◌≡◌, ◌-◌, refl, ap, ◌∙◌, List, ◌++◌, [], length, take, Bool, ℕ, if◌then◌else◌, arith}
+use Rattle.std.proofs.Common.{◌≡◌, ◌-◌, refl, ap, ◌∙◌, List, ◌++◌, length, take, ℕ, arith}
 use Rattle.std.proofs.lemmas.List.{length-append, length-take}
 use Rattle.std.proofs.lemmas.Result.{err_from_is_err_and}
 use Rattle.age_stream.specs.Opener.{held_bytes}
-use Rattle.age_stream.specs.declared.step.Status.TheVariants.{Open}
 use Rattle.age_stream.proofs.OpenerLemmas.{tried_ok, tried_err}
 use Rattle.age_stream.proofs.SizeLemmas.{list_fits, opener_state_fits}
 use Rattle.age_stream.proofs.opener.OpenerState.take_open.Goals as goal
@@ -16,39 +15,11 @@ len-room-requires g c = list_fits c.args.self.now.sizes.1
 pub push_bytes-requires : goal.push_bytes-requires
 push_bytes-requires g c = (list_fits c.args.self.now.sizes.1, (omega arith, c.args.self.now.sizes.1))
 
-pub invariant_of-self : goal.invariant_of-self
-invariant_of-self g c =
-    let open_ : c.reclaim.new.self.status ≡ Open = c.reclaim.ensures.same.2 ∙ c.requires in
-    record {
-      sizes = c.args.self.now.sizes;
-      limit = c.reclaim.new.self.limit;
-      room = λ _ _. omega (arith, ap length c.push_bytes.ensures, length-append c.reclaim.new.self.buffer.items c.args.piece.now);
-      closed = λ shut. absurd (shut open_);
-    }
-
-pub returns-then-piece-room-clause-part : goal.returns-then-piece-room-clause-part
-returns-then-piece-room-clause-part g c = λ _. record {
-  key = c.reclaim.ensures.same.1;
-  index = c.reclaim.ensures.same.0;
-  status = c.reclaim.ensures.same.2;
-  held = ap (λ (lent : Bool). if lent then [] else c.push_bytes.new.buffer.items) c.reclaim.ensures.lent
-      ∙ (c.push_bytes.ensures ∙ ap (λ (held : List ℕ). held ++ c.args.piece.now) c.reclaim.ensures.buffer);
-  answered = (refl, refl);
-}
-
 pub push_bytes-requires-2 : goal.push_bytes-requires-2
 push_bytes-requires-2 g c = (
   list_fits c.args.self.now.sizes.1,
   (omega (arith, length-take (g.row.SEALED - c.len-room.result) c.args.piece.now, c.len-room.ensures.fits), c.args.self.now.sizes.1),
 )
-
-pub invariant_of-self-2 : goal.invariant_of-self-2
-invariant_of-self-2 g c = record {
-  sizes = c.args.self.now.sizes;
-  limit = c.reclaim.new.self.limit;
-  room = λ open_ shut. cc;
-  closed = λ _. refl;
-}
 
 pub try_block-requires : goal.try_block-requires
 try_block-requires g c =

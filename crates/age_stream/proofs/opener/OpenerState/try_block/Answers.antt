@@ -1,7 +1,7 @@
-use Rattle.std.proofs.Common.{[], refl, ap, ◌∙◌, Bool, if◌then◌else◌, arith}
-use Rattle.age_chunk.specs.declared.fault.StreamKind.TheVariants.{ChunkDamaged, TooManyChunks}
-use Rattle.age_stream.specs.declared.step.Status.TheVariants.{Open, LastSeen}
-use Rattle.age_stream.proofs.BlockLemmas.{before_in, last_in, neither_in, one_block-greatest, tried_text, tried_fault}
+use Rattle.std.proofs.Common.{refl, ◌∙◌, arith}
+use Rattle.age_chunk.specs.declared.fault.StreamKind.TheVariants.{ChunkDamaged}
+use Rattle.age_stream.specs.declared.step.Status.TheVariants.{LastSeen}
+use Rattle.age_stream.proofs.OpenerLemmas.{last_in, neither_in, tried_text, tried_fault}
 use Rattle.age_stream.proofs.SizeLemmas.{list_fits, opener_state_fits}
 use Rattle.age_stream.proofs.opener.OpenerState.try_block.Goals as goal
 
@@ -20,44 +20,13 @@ open_in-requires-2 g c = (
   (omega (arith, c.open_in.ensures.len, c.requires.full, c.args.self.now.sizes), c.args.self.now.sizes.1),
 )
 
-pub invariant_of-self : goal.invariant_of-self
-invariant_of-self g c = record {
-  sizes = c.args.self.now.sizes;
-  limit = c.args.self.now.limit;
-  room = λ _ unlent. cc (unlent, c.requires.lent);
-  closed = λ shut. absurd (shut c.requires.open);
-}
-
-pub invariant_of-self-then-open_in-2 : goal.invariant_of-self-then-open_in-2
-invariant_of-self-then-open_in-2 g c = record {
-  sizes = c.args.self.now.sizes;
-  limit = c.args.self.now.limit;
-  room = λ _ unlent. cc (unlent, c.requires.lent);
-  closed = λ _. ap (λ (lent : Bool). if lent then [] else c.open_in-2.new.buffer.items) c.requires.lent;
-}
-
-pub returns-then-index : goal.returns-then-index
-returns-then-index g c =
-    let old = c.args.self.now in
-    tried_fault old c.fail.new.self _ c.fail.ensures.same.1 old.index TooManyChunks c.fail.result
-    (one_block-greatest (g.B.ChunkBox.opening old.key.now) old.index old.buffer.items _ c.if-open_in.ensures.opened (omega arith)) c.fail.ensures.same.0
-    c.fail.ensures.status c.fail.ensures.fault
-
-pub returns-then-open_in : goal.returns-then-open_in
-returns-then-open_in g c =
-    let old = c.args.self.now in
-    tried_text old _ _ refl _ Open
-    (before_in (g.B.ChunkBox.opening old.key.now) old.index g.row.SEALED old.buffer.items c.open_in.new.buffer.items c.requires.full
-    c.if-open_in.ensures.opened (omega (arith, old.limit)))
-    refl c.requires.open c.requires.lent (c.open_in.ensures.len ∙ c.requires.full)
-
 pub returns-then-open_in-2 : goal.returns-then-open_in-2
 returns-then-open_in-2 g c =
     let old = c.args.self.now in
     let first = c.if-open_in.ensures.closed in
     tried_text old _ _ refl _ LastSeen
     (last_in (g.B.ChunkBox.opening old.key.now) old.index g.row.SEALED old.buffer.items c.open_in-2.new.buffer.items c.requires.full
-    c.open_in.new.buffer.items first.0 first.1 c.if-open_in-2.ensures.opened)
+    (omega (arith, c.requires.full, old.sizes)) c.open_in.new.buffer.items first.0 first.1 c.if-open_in-2.ensures.opened)
     refl refl c.requires.lent (c.open_in-2.ensures.len ∙ (c.open_in.ensures.len ∙ c.requires.full))
 
 pub returns : goal.returns
@@ -66,5 +35,5 @@ returns g c =
     let first = c.if-open_in.ensures.closed in
     tried_fault old c.fail-2.new.self _ c.fail-2.ensures.same.1 old.index ChunkDamaged c.fail-2.result
     (neither_in (g.B.ChunkBox.opening old.key.now) old.index g.row.SEALED old.buffer.items c.open_in-2.new.buffer.items c.requires.full
-    c.open_in.new.buffer.items first.0 first.1 c.if-open_in-2.ensures.closed.0)
+    (omega (arith, c.requires.full, old.sizes)) c.open_in.new.buffer.items first.0 first.1 c.if-open_in-2.ensures.closed.0)
     c.fail-2.ensures.same.0 c.fail-2.ensures.status c.fail-2.ensures.fault

@@ -1,4 +1,3 @@
-use Rattle.std.proofs.Common.{ap}
 use Rattle.age_stream.proofs.SizeLemmas.{replay_fits}
 use Rattle.age_stream.proofs.replay.Replay.into_drill.Goals as goal
 

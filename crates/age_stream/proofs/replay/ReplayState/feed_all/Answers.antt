@@ -1,6 +1,6 @@
 use Rattle.std.proofs.Common.{rules, ◌<◌, ◌≤◌, vec_len, vec_capacity, ◌≡◌, ◌-◌, ◌+◌, refl, ap, sym, subst, ◌∙◌, arith, length, take, drop, List, ℕ, ◌++◌}
 use Rattle.std.proofs.Common.{take-add, take-append-drop}
-use Rattle.std.proofs.lemmas.List.{take_rest, take_all, length-take, length-drop}
+use Rattle.std.proofs.lemmas.List.{take_rest, length-take, length-drop}
 use Rattle.age_stream.specs.Opener.{whole_text}
 use Rattle.age_stream.specs.declared.step.Status.TheVariants.{Open}
 use Rattle.age_stream.specs.Replay.{replay_view, IsReplayAt}
@@ -68,15 +68,3 @@ feed_once-requires g c =
     (length c.loop-at.self.opener.held + length (take (length piece - at) (drop at piece))) ≤ vec_capacity c.loop-at.self.text =
     omega (arith, c.loop-at.invariant.room o, ap (λ (k : ℕ). whole_text (text_length g.row.SEALED) (length c.loop-at.self.opener.held + k)) e) in more in
     (search rules, (some, room))
-
-pub loop-at-smaller : goal.loop-at-smaller
-loop-at-smaller g c =
-    let piece = c.args.piece.now in
-    let at = c.loop-at.at in
-    omega (arith, c.in-Some.ensures.taken.0, c.in-Some.ensures.taken.1, length-take (length piece - at) (drop at piece), length-drop at piece)
-
-pub returns-clause-fed : goal.returns-clause-fed
-returns-clause-fed g c = λ s h.
-    let piece = c.args.piece.now in
-    subst (λ (ps : List ℕ). IsReplayAt g.B.ChunkBox.opening (text_length g.row.SEALED) (replay_view c.loop-at.self) (with_bytes s ps))
-    (take_all c.loop-at.at piece (omega (arith, c.loop-at-test.false))) (c.loop-at.invariant.fed s h)

@@ -2,8 +2,7 @@ use Rattle.std.proofs.Common.{refl, ap, sym, ◌∙◌, ◌≤◌, arith, length
 use Rattle.std.proofs.lemmas.List.{length-append}
 use Rattle.age_stream.specs.Replay.{replay_view}
 use Rattle.age_stream.specs.Opener.{chunk_texts, chunk_bytes}
-use Rattle.age_stream.proofs.RoomLemmas.{room_left}
-use Rattle.age_stream.proofs.ReplayLemmas.{replay_step, lent_flat}
+use Rattle.age_stream.proofs.ReplayLemmas.{room_left, replay_step, lent_flat}
 use Rattle.age_stream.proofs.SizeLemmas.{opener_fits}
 use Rattle.age_stream.proofs.replay.ReplayState.feed_once.Goals as goal
 use Rattle.age_chunk.specs.ChunkBoxes.{text_length}

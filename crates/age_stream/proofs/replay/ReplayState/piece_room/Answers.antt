@@ -1,5 +1,5 @@
 use Rattle.std.proofs.Common.{◌≡◌, ◌≤◌, ◌+◌, ◌*◌, ◌/◌, ℕ, ap, sym, ◌∙◌, length, arith, rules, Fits, w64}
-use Rattle.age_stream.proofs.RoomLemmas.{open_number, text_below}
+use Rattle.age_stream.proofs.ReplayLemmas.{open_number, text_below}
 use Rattle.age_stream.proofs.SizeLemmas.{opener_fits}
 use Rattle.age_stream.proofs.replay.ReplayState.piece_room.Goals as goal
 use Rattle.age_chunk.specs.ChunkBoxes.{tag_length, text_length}

@@ -1,5 +1,5 @@
-use Rattle.std.proofs.Common.{ℕ, ◌+◌, ◌≤◌, ◌∙◌, vec_len, vec_capacity, refl, subst, arith}
-use Rattle.age_stream.proofs.RoomLemmas.{open_number}
+use Rattle.std.proofs.Common.{ℕ, ◌+◌, ◌≤◌, ◌∙◌, vec_len, vec_capacity, subst}
+use Rattle.age_stream.proofs.ReplayLemmas.{open_number}
 use Rattle.age_stream.proofs.SizeLemmas.{replay_state_fits}
 use Rattle.age_stream.proofs.replay.ReplayState.take_piece.Goals as goal
 
@@ -13,11 +13,3 @@ feed_all-requires g c =
       λ open_. subst (λ (k : ℕ). vec_len text + k ≤ vec_capacity text)
           (c.piece_room-room.ensures ∙ open_number _ _ open_) c.in_ok-reserve.ensures.ok,
     )
-
-pub returns-clause-fed : goal.returns-clause-fed
-returns-clause-fed g c = λ s h. c.feed_all.ensures.fed s (record {
-  key = h.key;
-  segment = h.segment;
-  text = c.reserve.ensures.items ∙ h.text;
-  refused = h.refused;
-})

@@ -1,12 +1,18 @@
--- What the parts of a call do to a writer. Private: no public contract cites this module.
-use Rattle.std.specs.Prelude.{◌≡◌, ℕ, ◌+◌, ◌≤◌, List, ◌++◌, length, replicate}
+-- By which key a payload is sealed, and what the parts of a call do to a writer and to a stream.
+-- Private: no public contract cites this module.
+use Rattle.std.specs.Prelude.{◌≡◌, ℕ, ◌+◌, ◌≤◌, List, ◌++◌, length, replicate, ◌-◌, min, take}
 use Rattle.age_chunk.specs.Payload.{chunk_limit, chunk_length, block_length, chunk_count, payload}
 use Rattle.age_chunk.specs.ChunkBoxes.{tag_length}
-use Rattle.age_keys.specs.Keys.{box, IsMacOf, IsScryptNotAlone}
-use Rattle.age_c.specs.Writers.{CanSeal, HasLines, HasSealed, IsFileFront, SameKeys, blocks_of}
+use Rattle.age_keys.specs.Keys.{box, IsMacOf, IsScryptNotAlone, payload_key}
+use Rattle.age_c.specs.Writers.{CanSeal, HasLines, HasSealed, IsFileFront, SameKeys, blocks_of, held_chunk}
 use Rattle.age_stanza.specs.Grammar.{end_line, line, version}
 use Rattle.age_stanza.specs.declared.header.Header.{Header}
 use Rattle.age_c.specs.declared.writer.Writer.{Writer}
+use Rattle.age_c.specs.declared.write_stream.WriteStream.{WriteStream}
+
+-- the payload's key
+abbrev pub key_of_writer : Writer → List ℕ
+key_of_writer w = payload_key w.file_key w.nonce
 
 -- the chunk was sealed as one before the last, and one more may follow
 pub record SealsChunk (chunk : List ℕ) (old : Writer) (bytes : List ℕ) (new : Writer)
@@ -55,3 +61,10 @@ pub record HasKeyFront (lines key nonce bytes : List ℕ) : Type 0 where
   pub alone : ¬ IsScryptNotAlone header
   pub mac : IsMacOf header key
   pub front : IsFileFront header nonce bytes
+
+-- this many bytes of a text came after those that are held, and are held too
+pub record HoldsText (piece : List ℕ) (count : ℕ) (old new : WriteStream) : Type 0 where
+  pub count_is : count ≡ min (length piece) (chunk_length - old.held)
+  pub bytes : held_chunk new ≡ held_chunk old ++ take count piece
+  pub writer : new.writer ≡ old.writer
+  pub held : new.held ≡ old.held + count

@@ -1,15 +1,14 @@
--- Bytes that are shown, one call after another.
-use Rattle.std.proofs.Common.{◌≡◌, ℕ, ◌≤◌, List, [], ◌++◌, length, take, drop, Option, Some, None, refl, sym, ap, subst, ◌∙◌, append_assoc}
-use Rattle.std.proofs.Common.{append-nil, inl, inr}
-use Rattle.std.proofs.Common.{arith}
-use Rattle.std.specs.Prelude.{◌⊎◌, IfSome}
+-- What was read: bytes, a header, a nonce, and what was passed over; and what was written.
+use Rattle.std.proofs.Common.{◌≡◌, ℕ, ◌≤◌, List, [], ◌++◌, length, take, drop, Option, Some, None, refl, sym, ap, subst, ◌∙◌, append_assoc, append-nil, inl}
+use Rattle.std.proofs.Common.{inr, arith, ◌<◌, suc, ◌*◌}
+use Rattle.std.specs.Prelude.{Bool, ◌⊎◌, IfSome, Result, Ok, Err, IfOk, IfErr}
 use Rattle.std.specs.Io.KnownBytes as known
 use Rattle.age_io.specs.Supply.{Supply, Consumes, IsAtEnd}
-use Rattle.std.proofs.lemmas.List.{take-append-drop, take_at, drop_at, length-take-le}
-use Rattle.age_io.specs.Io.{SourceView}
+use Rattle.std.proofs.lemmas.List.{take-append-drop, take_at, drop_at, length-take-le, length-append}
+use Rattle.age_io.specs.Io.{SourceView, SinkView}
 use Rattle.age_stanza.specs.declared.fault.HeadFault.{HeadFault}
 use Rattle.age_stanza.specs.declared.fault.HeadKind.{HeadKind}
-use Rattle.age_stanza.specs.declared.fault.HeadKind.TheVariants.{Memory}
+use Rattle.age_stanza.specs.declared.fault.HeadKind.TheVariants.{Memory as HeadMemory}
 use Rattle.age_stanza.specs.Parsing.{HasHeader, IsFault, memory_fault}
 use Rattle.age_io.proofs.SupplyLemmas.{Consumes-nil}
 use Rattle.age_stanza.proofs.AnyPiecesLemmas.{more_fault}
@@ -17,13 +16,27 @@ use Rattle.age_stanza.proofs.FinishedLineLemmas.{nothing_under_way}
 use Rattle.age_stanza.proofs.PieceLemmas.{none_held}
 use Rattle.age_stanza.proofs.FaultLemmas.{no_fault}
 use Rattle.age_stream.specs.Headline.{IsPrefixOf}
-use Rattle.age_file.specs.Runs.{pull_room, EndsInHeader, InHeader, IsCut, IsHeadFault, ReportsFault, StopsAtHeader, HeadFails}
-use Rattle.age_fault.specs.inner.Faults.{fault_of, fault_by_kind}
+use Rattle.age_file.specs.Runs.{pull_room, EndsInHeader, InHeader, IsCut, IsHeadFault, ReportsFault, StopsAtHeader, HeadFails, Ports, ports}
+use Rattle.age_fault.specs.inner.Faults.{fault_of, fault_by_kind, fault_of_key}
 use Rattle.age_fault.specs.declared.fault.FileFault.{FileFault}
-use Rattle.age_fault.specs.declared.fault.FileFault.TheVariants.{Head, Read, ReadNeverEnds, Memory as FileMemory}
-use Rattle.age_file.specs.inner.Readers.{Start, start_at, start_after, Pulled, PullFails, ReaderView}
+use Rattle.age_fault.specs.declared.fault.FileFault.TheVariants.{Head, Read, ReadNeverEnds, Memory, NonceCut}
+use Rattle.age_file.specs.inner.Readers.{Start, start_at, start_after, Pulled, PullFails, ReaderView, reader_view, WriterView, Wrote, ReadsHead, Refills}
+use Rattle.age_io.proofs.TakenLemmas.{Appends-nil, Appends-trans}
 use Rattle.age_fault.specs.Faults.{HasFailed}
-use Rattle.age_file.specs.inner.Unread.{Unread}
+use Rattle.age_file.specs.inner.Parts.{Unread}
+use Rattle.age_file.specs.Reports.{InspectsFront, IsPlainOf, IsReport}
+use Rattle.age_file.specs.declared.report.Report.{Report}
+use Rattle.age_stanza.specs.declared.header.Header.{Header}
+use Rattle.age_keys.specs.declared.fault.KeyFault.{KeyFault}
+use Rattle.age_keys.specs.declared.fault.KeyFault.TheVariants.{Memory as KeyMemory}
+use Rattle.age_keys.specs.Keys.{Opens, Refuses}
+use Rattle.age_file.specs.Decrypts.{StartFails, InNonce}
+use Rattle.age_file.specs.inner.Copies.{Uses, UsesShort, NonceFails, ReadsNonce, StartsAt, Passes, Dries, SkipFails}
+use Rattle.age_file.specs.declared.start.Unlocked.{Unlocked}
+use Rattle.age_file.specs.declared.head.Head.{Head as TheHead}
+use Rattle.std.proofs.Math.Nat.{mul-le-mul_right}
+
+-- ---- Bytes that are shown, one call after another.
 
 -- a beginning of a beginning
 pub prefix_trans : (x y z : List ℕ) → IsPrefixOf x y → IsPrefixOf y z → IsPrefixOf x z
@@ -94,7 +107,7 @@ stops_unread a =
 -- a fault that the bytes have is the fault that is reported
 fails_by_kind : (old new : SourceView) (kind : HeadKind) (fault : HeadFault) → StopsAtHeader old.supply new.supply
     → ReportsFault old.supply new.supply fault → HeadFails InHeader old new (fault_by_kind kind fault)
-fails_by_kind old new Memory fault stops reported = stops
+fails_by_kind old new HeadMemory fault stops reported = stops
 fails_by_kind old new other fault stops reported = reported
 
 -- what is reported of the bytes that were read is reported of all that the source had
@@ -154,15 +167,19 @@ pub sound_too : (P Q : Supply → Supply → Type 0) (old new : SourceView) (fau
     → (P old.supply new.supply → Q old.supply new.supply) → HeadFails P old new fault → HeadFails Q old new fault
 sound_too P Q old new (Head x) sound f = f
 sound_too P Q old new Read sound f = (sound f.0, f.1)
-sound_too P Q old new FileMemory sound f = f
+sound_too P Q old new Memory sound f = f
 sound_too P Q old new ReadNeverEnds sound f = (sound f.0, f.1)
 sound_too P Q old new other sound f = absurd f
 
 -- a refill that gave nothing
-pub cut_pulled : (start : Start) (now : Supply) (pulls : ℕ) (held bytes : List ℕ) → bytes ≡ [] → Pulled start now pulls (held ++ bytes)
+pub cut_pulled : {start : Start} {now : Supply} {pulls : ℕ} (held : List ℕ) {bytes : List ℕ} → bytes ≡ [] → Pulled start now pulls (held ++ bytes)
     → Pulled start now pulls held
-cut_pulled start now pulls held bytes none h =
+cut_pulled {start} {now} {pulls} held {bytes} none h =
     subst (λ (t : List ℕ). Pulled start now pulls t) (ap (λ (t : List ℕ). held ++ t) none ∙ append-nil held) h
+
+pub nothing_pulled : {x z : ReaderView} {result : Result Bool FileFault} {start : Start} {held : List ℕ} → Refills x z result → z.unread.bytes ≡ []
+    → Pulled start x.source.supply x.unread.pulls held → Pulled start z.source.supply z.unread.pulls held
+nothing_pulled {x} {z} {result} {start} {held} r none h = cut_pulled held none (r.pulled start held h)
 
 -- no more came, and what came is sound
 pub pull_fails : (Sound : Supply → Supply → Type 0) (old : SourceView) (mid now : ReaderView) (held : List ℕ)
@@ -221,3 +238,149 @@ pub rest_pulled : (start : Start) (now : Supply) (pulls new_pulls : ℕ) (used p
 rest_pulled start now pulls new_pulls used passed fresh same h =
     subst (λ (k : ℕ). Pulled start now k (used ++ (passed ++ fresh))) (sym same)
     (subst (λ (t : List ℕ). Pulled start now pulls t) (append_assoc used passed fresh) h)
+
+-- ---- What a reader and a writer lend has its last value once they are gone.
+
+pub read_last : {S : Type 0} (source : S → SourceView) (P : SourceView → Type 0) (s s' : S) → s ≡ s' → P (source s') → P (source s)
+read_last {S} source P s s' e x = subst (λ (t : S). P (source t)) (sym e) x
+
+pub ports_last : {S O : Type 0} (source : S → SourceView) (sink : O → SinkView) (P : Ports → Type 0) (s s' : S) (o o' : O) → s ≡ s' → o ≡ o'
+    → P (ports (source s') (sink o')) → P (ports (source s) (sink o))
+ports_last {S} {O} source sink P s s' o o' e f x =
+    subst (λ (t : S). P (ports (source t) (sink o))) (sym e) (subst (λ (t : O). P (ports (source s') (sink t))) (sym f) x)
+
+-- ---- What was written, one step after another.
+
+pub wrote_none : (a : WriterView) → Wrote a a []
+wrote_none a = record { bytes = Appends-nil a.sink.taken; count = omega arith; named = refl }
+
+pub wrote_then : {a b c : WriterView} {p q : List ℕ} → Wrote a b p → Wrote b c q → Wrote a c (p ++ q)
+wrote_then {a} {b} {c} {p} {q} f g = record {
+  bytes = Appends-trans a.sink.taken b.sink.taken c.sink.taken p q f.bytes g.bytes;
+  count = omega (arith, f.count, g.count, length-append p q);
+  named = g.named ∙ f.named;
+}
+
+-- ---- What a report of a header and a length says of all bytes.
+
+pub whole_of : (size : ℕ) (old : Supply) (bytes : List ℕ) (new : Supply) (r : Report) → old.left ≡ Some bytes → size ≡ length bytes
+    → InspectsFront size old new r → IsReport bytes r
+whole_of size old bytes new r is all f =
+    let rest = left_of old new bytes (f.front ++ f.more) is f.read in
+    let parts = rest.1 ∙ append_assoc f.front f.more rest.0 in
+    let left : r.rest ≡ length (f.more ++ rest.0) = omega (arith, f.rest_is, all, ap length parts, length-append f.front (f.more ++ rest.0)) in
+    record {
+      h = f.h;
+      front = f.front;
+      rest = f.more ++ rest.0;
+      text = f.text;
+      parts = parts;
+      header_is = f.header_is;
+      stanzas_are = f.stanzas_are;
+      rest_is = left;
+      plain_is = subst (λ (n : ℕ). IsPlainOf n r.plain) left f.plain_is;
+    }
+
+-- ---- What was read up to a payload, one step after another.
+
+pub uses_then : (x y z : ReaderView) (p q r : List ℕ) → p ++ q ≡ r → Uses x y p → Uses y z q → Uses x z r
+uses_then x y z p q r e f g = λ start used h.
+    let first = subst (λ (t : List ℕ). Pulled start y.source.supply y.unread.pulls t) (sym (append_assoc used p y.unread.bytes)) (f start used h) in
+    let e' : (used ++ p) ++ (q ++ z.unread.bytes) ≡ used ++ (r ++ z.unread.bytes) = append_assoc used p (q ++ z.unread.bytes)
+    ∙ ap (λ (t : List ℕ). used ++ t) (sym (append_assoc p q z.unread.bytes) ∙ ap (λ (t : List ℕ). t ++ z.unread.bytes) e) in
+    subst (λ (t : List ℕ). Pulled start z.source.supply z.unread.pulls t) e' (g start (used ++ p) first)
+
+pub uses_front : (v : SourceView) (x y : Unread) (piece : List ℕ) (n : ℕ) → y.pulls ≡ x.pulls → piece ≡ x.bytes → y.bytes ≡ drop n x.bytes
+    → Uses (reader_view v x) (reader_view v y) (take n piece)
+uses_front v x y piece n pulls is rest = λ start used h. subst (λ (t : List ℕ). Pulled start v.supply y.pulls t)
+    (append_assoc used (take n piece) y.bytes) (head_pulled start v.supply x y used piece n pulls is rest h)
+
+-- no byte came for the rest of a nonce
+pub nonce_fails : (x y z : ReaderView) (p : List ℕ) (fault : FileFault) → length p < 16 → y.source.failed ≡ x.source.failed → Uses x y p → Uses y z []
+    → z.unread.bytes ≡ [] → PullFails y z fault → NonceFails x z fault
+nonce_fails x y z p Read lt e f g none h = (
+  (p, lt, uses_then x y z p [] p (append-nil p) f g, none),
+  subst (λ (m : ℕ). HasFailed m z.source.failed z.source.failing) e h,
+)
+nonce_fails x y z p ReadNeverEnds lt e f g none h = ((p, lt, uses_then x y z p [] p (append-nil p) f g, none), h.0)
+nonce_fails x y z p other lt e f g none h = absurd h
+
+module _ (Allows : Header → List ℕ → Type 0) (Refused : Header → KeyFault → Type 0) where
+  pub key_to_start : {a : SourceView} {y : ReaderView} {h : TheHead} → ReadsHead a y h → (fault : KeyFault) → Refuses Allows Refused h.header fault
+      → StartFails Allows Refused a y.source (fault_of_key fault)
+  key_to_start {a} {y} {h} head KeyMemory refuses = head.last
+  key_to_start {a} {y} {h} head other refuses = (h.header, head.front, y.unread.bytes, head.text, head.pulled.consumed, λ e. cc, refuses, head.few)
+
+  -- a header was read and opened
+  module _ {a : SourceView} {y : ReaderView} (z : ReaderView) {h : TheHead} {key : List ℕ} (head : ReadsHead a y h) (opens : Opens Allows h.header key) where
+    -- what was pulled if a nonce fell short
+    short_pulled : (u : UsesShort y z) → Pulled (start_at a.supply) z.source.supply z.unread.pulls (head.front ++ u.0)
+    short_pulled u = cut_pulled (head.front ++ u.0) u.3 (subst (λ (t : List ℕ). Pulled (start_at a.supply) z.source.supply z.unread.pulls t) (sym (append_assoc head.front u.0 z.unread.bytes))
+        (u.2 (start_at a.supply) head.front head.pulled))
+
+    in_nonce : UsesShort y z → InNonce Allows a.supply z.source.supply
+    in_nonce u = (h.header, head.front, key, u.0, head.text, opens, u.1, (short_pulled u).consumed)
+
+    nonce_to_start : (fault : FileFault) → NonceFails y z fault → StartFails Allows Refused a z.source fault
+    nonce_to_start NonceCut f = (in_nonce f.0, f.1)
+    nonce_to_start Read f = (inr (in_nonce f.0), subst (λ (m : ℕ). HasFailed m z.source.failed z.source.failing) head.unfailed f.1)
+    nonce_to_start ReadNeverEnds f =
+        let all = short_pulled f.0 in
+        (inr (in_nonce f.0), (head.front ++ f.0.0, all.consumed, (omega (arith, all.each_gave, f.1), omega (arith, all.small, f.1))))
+    nonce_to_start other f = absurd f
+
+    -- the nonce after it was read, or not
+    pub nonce_found : (result : Result Unlocked FileFault) → IfOk result (ReadsNonce key h.digest y z) → IfOk result (StartsAt Allows a z)
+    nonce_found (Ok u) r = record {
+      header = h.header;
+      front = head.front;
+      text = head.text;
+      opens = subst (λ (k : List ℕ). Opens Allows h.header k) (sym r.key_is) opens;
+      size = r.size;
+      id = r.id head.front head.hashed;
+      few = r.takes.few;
+      pulled = subst (λ (t : List ℕ). Pulled (start_at a.supply) z.source.supply z.unread.pulls t)
+          (sym (append_assoc head.front u.nonce z.unread.bytes)) (r.takes.uses (start_at a.supply) head.front head.pulled);
+      unfailed = r.takes.unfailed ∙ head.unfailed;
+    }
+    nonce_found (Err fault) r = tt
+
+    pub nonce_missed : (result : Result Unlocked FileFault) → IfErr result (NonceFails y z) → IfErr result (StartFails Allows Refused a z.source)
+    nonce_missed (Ok u) f = tt
+    nonce_missed (Err fault) f = nonce_to_start fault f
+
+-- ---- What was passed over, one step after another.
+
+pub passes_then : {x y z : ReaderView} (p q : List ℕ) → Passes x y p → Passes y z q → Passes x z (p ++ q)
+passes_then {x} {y} {z} p q f g = record {
+  uses = uses_then x y z p q (p ++ q) refl f.uses g.uses;
+  unfailed = g.unfailed ∙ f.unfailed;
+}
+
+-- no more bytes
+pub passes_same : {x y z : ReaderView} {p : List ℕ} → Passes x y p → Passes y z [] → Passes x z p
+passes_same {x} {y} {z} {p} f g = subst (Passes x z) (append-nil p) (passes_then p [] f g)
+
+pub dries_then : {x y z : ReaderView} (p q : List ℕ) (fault : FileFault) → Passes x y p → Dries y z q fault → Dries x z (p ++ q) fault
+dries_then {x} {y} {z} p q fault f g = record {
+  uses = uses_then x y z p q (p ++ q) refl f.uses g.uses;
+  used = g.used;
+  why = pull_fails_since x y z fault f.unfailed g.why;
+}
+
+-- if no byte came
+pub dries_same : {x y z : ReaderView} {p : List ℕ} (fault : FileFault) → Passes x y p → Dries y z [] fault → Dries x z p fault
+dries_same {x} {y} {z} {p} fault f g = subst (λ (t : List ℕ). Dries x z t fault) (append-nil p) (dries_then p [] fault f g)
+
+-- whole parts before the last, and less than one more
+pub within : (n blocks j : ℕ) (p q : List ℕ) → length p ≡ j * n → j < blocks → length q < n → length (p ++ q) < blocks * n
+within n blocks j p q size lt short =
+    let more : suc j * n ≤ blocks * n = mul-le-mul_right n lt in
+    omega (arith, more, size, short, length-append p q)
+
+-- a pull gave no more, before all blocks were passed over
+pub skip_dry : (n blocks : ℕ) (x z : ReaderView) (p : List ℕ) (fault : FileFault) → length p < blocks * n → Dries x z p fault
+    → SkipFails n blocks x z fault
+skip_dry n blocks x z p Read lt g = (p, lt, g)
+skip_dry n blocks x z p ReadNeverEnds lt g = (p, lt, g)
+skip_dry n blocks x z p other lt g = absurd g.why

@@ -1,5 +1,0 @@
-use Rattle.age_c.proofs.SeekLemmas.{openings_are_parts}
-use Rattle.age_c.proofs.laws.openings_are_parts.Goals as goal
-
-pub returns : goal.returns
-returns c = openings_are_parts

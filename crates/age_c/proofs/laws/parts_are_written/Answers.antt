@@ -1,5 +1,0 @@
-use Rattle.age_c.proofs.AuthenticCallLemmas.{parts_are_written}
-use Rattle.age_c.proofs.laws.parts_are_written.Goals as goal
-
-pub returns : goal.returns
-returns c = parts_are_written
