@@ -10,13 +10,17 @@ import sys
 import tempfile
 import time
 
+from tools import older_kit
 from tools.workspace import CRATES, TOP, loaded, with_used
 
 
 @functools.cache
 def kit():
     """`rt` as a module: its crates, its calls of the prover, and what earlier checks have proved."""
-    return loaded(pathlib.Path(os.path.realpath(shutil.which("rt"))))
+    rt = loaded(pathlib.Path(os.path.realpath(shutil.which("rt"))))
+    if not hasattr(rt, "Kept"):
+        older_kit.complete(rt)
+    return rt
 
 
 class Libraries:
