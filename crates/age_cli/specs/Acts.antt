@@ -6,7 +6,7 @@ use Rattle.clap.specs.Words.{Text}
 use Rattle.age_io.specs.Io.{SourceView, SinkView, Shown as ShownOne, ShowsReading}
 use Rattle.age_io.specs.Supply.{Supply, IsAtEnd}
 use Rattle.age_fault.specs.declared.fault.FileFault.{FileFault}
-use Rattle.age_fault.specs.declared.fault.FileFault.TheVariants.{Read, Write, BadPosition}
+use Rattle.age_fault.specs.declared.fault.FileFault.TheVariants.{Read, Write, Memory, BadPosition}
 use Rattle.age_chunk.specs.Payload.{chunk_length}
 use Rattle.age_file.specs.Again.{IsTextBefore, IsFoundAgain}
 use Rattle.age_file.specs.Runs.{Ports, ports, Run}
@@ -284,11 +284,17 @@ abbrev pub LacksOne : Option Text → Option Position → Type 0
 LacksOne (Some name) (Some p) = ⊥
 LacksOne save position = Unit {0}
 
--- a position isn't saved: it or a name isn't there, or the ending says why
-abbrev pub IsNotDue : Ending → Option Text → Option Position → Type 0
-IsNotDue (Fault fault) save position = LacksOne save position
-IsNotDue (Unsaved fault second) (Some name) (Some p) = IsMemoryOr Write second ⊎ (second ≡ Read)
-IsNotDue other save position = ⊥
+-- why a position isn't even put to its file: memory was refused, IN couldn't be read once more, or it
+-- stands beyond what OUT holds for certain
+abbrev pub IsUnsavable : (settled : ℕ) → Position → (second : FileFault) → Type 0
+IsUnsavable settled p second = (second ≡ Memory) ⊎ ((second ≡ Read)
+    ⊎ ((second ≡ Write) × (settled < p.index * chunk_length)))
+
+-- a position isn't put to its file: it or a name isn't there, or the ending says why
+abbrev pub IsNotDue : (settled : ℕ) → Ending → Option Text → Option Position → Type 0
+IsNotDue settled (Fault fault) save position = LacksOne save position
+IsNotDue settled (Unsaved fault second) (Some name) (Some p) = IsUnsavable settled p second
+IsNotDue settled other save position = ⊥
 
 -- or it is: it was put to its file, so much of OUT is certain, and this stands under the name then
 pub record IsStored (durability : Durability) (save : Option Text) (settled : ℕ) (position : Option Position)
@@ -389,7 +395,7 @@ module _ (IsPorts : Ports → Type 0) (Came : Outcome → Type 0) where
     pub rest : List Entry
     pub puts : PutsOnly (outs ++ rest) before after
     pub out : (outs ≡ []) ⊎ ((outs ≡ entry p.to run.out.took ∷ []) × (run.out.took ≢ []))
-    pub saved : ((rest ≡ []) × IsNotDue ending p.save position × Follows done before.events after.events)
+    pub saved : ((rest ≡ []) × IsNotDue settled ending p.save position × Follows done before.events after.events)
         ⊎ IsStored durability p.save settled position ending rest after.saved
 
 -- It ended as if no engine ran: 26 and 27 have a reason, no output is touched, nothing was put, and no
