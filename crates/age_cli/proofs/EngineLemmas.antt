@@ -1,5 +1,5 @@
 -- What becomes of OUT, from what an engine promises and how OUT was ended.
-use Rattle.std.proofs.Common.{◌≡◌, ◌∙◌, ◌⊎◌, ◌++◌, ◌∷◌, ℕ, ap, sym, subst, refl, inl, inr, true, true≢false, List, [], Option, Some, None, Result, Ok, Err, OnOk, OnErr}
+use Rattle.std.proofs.Common.{◌≡◌, ◌∙◌, ◌⊎◌, ◌++◌, ◌∷◌, ℕ, ap, sym, subst, refl, inl, inr, true, true≢false, List, [], Option, Some, None, Result, Ok, Err, OnOk}
 use Rattle.std.proofs.Common.{IfOk, IfErr}
 use Rattle.std.specs.Prelude.{IsOk, IsErr, IsSomeAnd, is_some, ◌≢◌}
 use Rattle.clap.specs.Words.{Text}

@@ -485,7 +485,7 @@ module _ (words : List Text) (IsPorts : Ports → Type 0) (before after : World)
   by_engine (Decrypt e) P r of other q so = so _ _ of.2 refl refl
   by_engine (Resume e) P r of other q so = so _ _ of.4 refl refl
   by_engine (Inspect None) P r of other q so = same_if other.1 q
-  by_engine (Inspect (Some name)) P r of other q so = same [] (grows_by _ before.files after.files other.3) q tt
+  by_engine (Inspect (Some name)) P r of other q so = same [] (grows_by _ before.files after.files other.2) q tt
   by_engine (Drill e) P r of other q so = same [] (grows_by _ before.files after.files other.4.did) q tt
 
   spared : (asked : Request) (r : Result (Unit {0}) Ending) → DoneFor asked r

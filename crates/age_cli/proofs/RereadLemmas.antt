@@ -1,5 +1,5 @@
 -- What a decryption did whose position was found by reading the input once more.
-use Rattle.std.proofs.Common.{◌≡◌, ◌∙◌, ◌⊎◌, ◌∷◌, ◌++◌, [], ℕ, List, Option, Some, None, true, false, Result, Ok, Err, OnErr, IsErr, IfOk, IfErr, ap}
+use Rattle.std.proofs.Common.{◌≡◌, ◌∙◌, ◌∷◌, ◌++◌, [], ℕ, List, Option, Some, None, true, false, Result, Ok, Err, OnErr, IsErr, IfOk, ap}
 use Rattle.std.proofs.Common.{sym, subst, refl, inl, inr, true≢false, append-nil}
 use Rattle.std.specs.Prelude.{is_some, IsSomeAnd, min}
 use Rattle.clap.specs.Words.{Text}

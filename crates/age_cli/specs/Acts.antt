@@ -23,7 +23,7 @@ use Rattle.age_io.specs.declared.durability.Durability.TheVariants.{Buffered, Sy
 use Rattle.age_machine.specs.Ends.{EndedFile, TouchesItself, IsThere, IsOnDisk, IsUntouched}
 use Rattle.age_machine.specs.Saved.{SavedFile, Saves}
 use Rattle.age_file.specs.declared.decryption.Stopped.{Stopped}
-use Rattle.age_fileset.specs.FileSet.{Event, IsMemoryOr, FilesView, Outcome, Found, Absent, Unwritten, Settled}
+use Rattle.age_fileset.specs.FileSet.{Event, FilesView, Outcome, Found, Absent, Unwritten, Settled}
 use Rattle.age_fileset.specs.FileSet.{Unfit, Entry, entry, PutsOnly, CameSince, HasGivenAll, puts_in}
 use Rattle.age_cli_args.specs.Requests.{option_text}
 use Rattle.age_cli_args.specs.declared.request.ClobberOption.{ClobberOption}
