@@ -326,7 +326,7 @@ module _ (words : List Text) (IsPorts : Ports → Type 0) (before after : World)
   -- nothing of its position was put, or this
   rest_others : (durability : Durability) (save : Option Text) (settled : ℕ) (position : Option Position) (ending : Ending) (rest : List Entry) (done : List Event)
       → ((rest ≡ []) × IsNotDue settled ending save position × Follows done before.files.events after.files.events)
-      ⊎ IsStored durability save settled position ending rest after.files.saved
+      ⊎ IsStored since durability save settled position ending rest after.files.saved
       → (q : Text) → (save ≡ Some q → ⊥) → AreOthers q rest
   rest_others durability save settled position ending rest done (inl none) q other = subst (λ (x : List Entry). AreOthers q x) (sym none.0) tt
   rest_others durability save settled None ending rest done (inr stored) q other = absurd stored.is

@@ -296,11 +296,20 @@ IsNotDue settled (Fault fault) save position = LacksOne save position
 IsNotDue settled (Unsaved fault second) (Some name) (Some p) = IsUnsavable settled p second
 IsNotDue settled other save position = ⊥
 
--- or it is: it was put to its file, so much of OUT is certain, and this stands under the name then
-pub record IsStored (durability : Durability) (save : Option Text) (settled : ℕ) (position : Option Position)
-    (ending : Ending) (rest : List Entry) (saved : SavedFile) : Type 0 where
+-- why it doesn't stand there once it was put: memory was refused, or the set of files said that the file
+-- couldn't be written
+abbrev pub IsLost : (Came : Outcome → Type 0) → Ending → Option Text → Type 0
+IsLost Came (Unsaved fault second) (Some name) =
+    (second ≡ Memory) ⊎ ((second ≡ Write) × Came (Unwritten name))
+IsLost Came other save = Unit {0}
+
+-- or it is: so much of OUT is certain, and this stands under the name then, unless that failed
+pub record IsStored (Came : Outcome → Type 0) (durability : Durability) (save : Option Text) (settled : ℕ)
+    (position : Option Position) (ending : Ending) (rest : List Entry) (saved : SavedFile)
+    : Type 0 where
   pub put : HasPut durability position ending saved
   pub is : IsSomeAnd position (λ p. IsSavedAs ending save p rest × (p.index * chunk_length ≤ settled))
+  pub lost : IsLost Came ending save
 
 -- no output was ended, or one that took nothing and is untouched
 abbrev pub SparesOut : (before after : Option EndedFile) → Type 0
@@ -396,7 +405,7 @@ module _ (IsPorts : Ports → Type 0) (Came : Outcome → Type 0) where
     pub puts : PutsOnly (outs ++ rest) before after
     pub out : (outs ≡ []) ⊎ ((outs ≡ entry p.to run.out.took ∷ []) × (run.out.took ≢ []))
     pub saved : ((rest ≡ []) × IsNotDue settled ending p.save position × Follows done before.events after.events)
-        ⊎ IsStored durability p.save settled position ending rest after.saved
+        ⊎ IsStored Came durability p.save settled position ending rest after.saved
 
 -- It ended as if no engine ran: 26 and 27 have a reason, no output is touched, nothing was put, and no
 -- file was to be replaced.

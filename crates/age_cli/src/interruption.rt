@@ -4,7 +4,7 @@ ghost use Rattle.std.specs.Prelude.{◌≡◌, ◌⊎◌, ◌++◌, [], ◌≤�
 ghost use Rattle.std.specs.Prelude.{IsSomeAnd, is_some};
 ghost use Rattle.age_chunk.specs.Payload.{chunk_length};
 ghost use Rattle.age_fault.specs.declared.fault.FileFault.TheVariants.{Write};
-ghost use Rattle.age_fileset.specs.FileSet.{Entry, PutsOnly, IsMemoryOr, written_as};
+ghost use Rattle.age_fileset.specs.FileSet.{Entry, PutsOnly, CameSince, IsMemoryOr, written_as};
 ghost use Rattle.age_cli_args.specs.Requests.{option_text};
 ghost use Rattle.age_command.specs.Endings.{is_usage, Announces};
 ghost use Rattle.age_cli.specs.Acts.{IsEndingOf, IsNotDue, IsStored, IsUnsavable, LacksOne};
@@ -120,7 +120,8 @@ pub(crate) fn end_of<F: FileSet, E: Sink>(
     ensures put { (rest : List Entry) × PutsOnly rest (F.view files.old) (F.view files.new)
         × (((rest ≡ []) × ((F.view files.new).events ≡ (F.view files.old).events)
         × IsNotDue settled result (option_text name.entry) stop.position)
-        ⊎ IsStored durability (option_text name.entry) settled stop.position result rest
+        ⊎ IsStored (CameSince (F.view files.old) (F.view files.new)) durability
+        (option_text name.entry) settled stop.position result rest
         (F.view files.new).saved) }
 {
     *announced = announce(faults, stop.fault);

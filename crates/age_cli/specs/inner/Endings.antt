@@ -120,4 +120,4 @@ pub record Concludes (save : Option Text) (durability : Durability) (sink : Sink
       × PutsOnly (puts ++ rest) old new × IsPut sink puts
       × (((new.events ≡ old.events ++ Closed durability ∷ []) × (rest ≡ [])
       × IsNotDue settled ending save (position_of engine))
-      ⊎ IsStored durability save settled (position_of engine) ending rest new.saved))
+      ⊎ IsStored (CameSince old new) durability save settled (position_of engine) ending rest new.saved))
