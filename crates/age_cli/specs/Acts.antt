@@ -70,8 +70,8 @@ status_by (Err e) = ending_status e
 
 -- ---- What the engine of a command promises of its source and its sink, before and after.
 
--- what it promises if it ends; and if it stops with this fault, and at this position, if it has one,
--- once the set of files had said how many bytes of OUT are certain
+-- what it promises if it ends; and if it stops with this fault, and at this position, if it has one. If a
+-- position is to be saved, the set of files said that so many bytes of OUT are certain (`settled`).
 pub record Engine : Type 1 where
   pub ends : Ports → Ports → Type 0
   pub stops : (settled : ℕ) → FileFault → Option Position → Ports → Ports → Type 0
@@ -390,7 +390,7 @@ module _ (IsPorts : Ports → Type 0) (Came : Outcome → Type 0) where
 
   -- It stopped with the fault that is reported, or its output couldn't be ended. What its sink took was
   -- put, or nothing was; and then its position, if it has one and there is a file for it, or the ending
-  -- says why not. If it isn't saved no file was to be replaced: what was done is of the order `done`.
+  -- says why not. If that wasn't tried, no file was to be replaced: what was done is of the order `done`.
   pub record HasEngineStopped (engine : Engine) (p : Paths) (durability : Durability) (done : List Event)
       (ending : Ending) (before after : FilesView) : Type 0 where
     pub run : Returned p after.ended
