@@ -1,5 +1,5 @@
 -- What becomes of OUT, from what an engine promises and how OUT was ended.
-use Rattle.std.proofs.Common.{◌≡◌, ◌∙◌, ◌⊎◌, ◌++◌, ◌∷◌, ℕ, ap, sym, subst, refl, inl, inr, true, true≢false, List, [], Option, Some, None, Result, Ok, Err, OnOk, OnErr}
+use Rattle.std.proofs.Common.{◌≡◌, ◌∙◌, ◌⊎◌, ◌++◌, ◌∷◌, ℕ, ap, sym, subst, refl, inl, inr, true, true≢false, List, [], Option, Some, None, Result, Ok, Err, OnOk}
 use Rattle.std.proofs.Common.{IfOk, IfErr}
 use Rattle.std.specs.Prelude.{IsOk, IsErr, IsSomeAnd, is_some, ◌≢◌}
 use Rattle.clap.specs.Words.{Text}
@@ -19,6 +19,7 @@ use Rattle.age_command.specs.declared.ending.Ending.{Ending}
 use Rattle.age_command.specs.Orders.{Follows}
 use Rattle.age_machine.specs.Ends.{EndedFile, TouchesItself}
 use Rattle.age_cli.specs.Commands.{WasRead}
+use Rattle.age_cli.proofs.PutLemmas.{stored_as}
 use Rattle.age_cli.specs.Acts.{AreNew, Engine, encrypt_engine, Paths, Returned, HasEngineEnded, HasEngineStopped, IsEndingOf, IsNotDue, IsStored}
 use Rattle.age_cli.specs.declared.interruption.Interruption.{Interruption}
 use Rattle.age_cli.specs.inner.Endings.{sealing_end, opening_end, Concludes, EndsFile, IsFaultOf, IsPut, position_of}
@@ -116,17 +117,17 @@ module _ (IsPorts : Ports → Type 0) (Came : Outcome → Type 0) (engine : Engi
 
     module _ (done : List Event) (closed : now.events ≡ mid.events ++ Closed durability ∷ [] → Follows done old.events now.events) (e : Ending) where
       saved_so : (position : Option Position) (rest : List Entry)
-          → ((now.events ≡ mid.events ++ Closed durability ∷ []) × (rest ≡ []) × IsNotDue e p.save position) ⊎ IsStored durability p.save settled position e rest now.saved
-          → ((rest ≡ []) × IsNotDue e p.save position × Follows done old.events now.events) ⊎ IsStored durability p.save settled position e rest now.saved
+          → ((now.events ≡ mid.events ++ Closed durability ∷ []) × (rest ≡ []) × IsNotDue settled e p.save position) ⊎ IsStored (CameSince mid now) durability p.save settled position e rest now.saved
+          → ((rest ≡ []) × IsNotDue settled e p.save position × Follows done old.events now.events) ⊎ IsStored Came durability p.save settled position e rest now.saved
       saved_so position rest (inl (events, none, due)) = inl (none, due, closed events)
-      saved_so position rest (inr stored) = inr stored
+      saved_so position rest (inr stored) = inr (stored_as (CameSince mid now) Came late durability p.save settled position e rest now.saved stored)
 
       stopped_file : (x : Result (Unit {0}) Interruption) → OnOk x (engine.ends before after × (after.sink.failed ≡ before.sink.failed))
           → IfErr x (λ s. engine.stops settled s.fault s.position before after) → (IsErr x → is_some p.save ≡ true → Came (Settled durability after.sink.taken.bytes settled))
           → (o : Option EndedFile) → now.ended ≡ o → IsSomeAnd o (EndsFile durability after.sink x (Err e)) → (fault : FileFault) → IsFaultOf x fault → IsEndingOf fault e
           → OnOk x (CameSince mid now (Unwritten after.sink.label)) → (puts rest : List Entry) → PutsOnly (puts ++ rest) mid now → IsPut after.sink puts
-          → ((now.events ≡ mid.events ++ Closed durability ∷ []) × (rest ≡ []) × IsNotDue e p.save (position_of x))
-          ⊎ IsStored durability p.save settled (position_of x) e rest now.saved
+          → ((now.events ≡ mid.events ++ Closed durability ∷ []) × (rest ≡ []) × IsNotDue settled e p.save (position_of x))
+          ⊎ IsStored (CameSince mid now) durability p.save settled (position_of x) e rest now.saved
           → HasEngineStopped IsPorts Came engine p durability done e old now
       stopped_file x did stops certain None is file fault of reported refused puts rest grows put saved = absurd file
       stopped_file (Ok done) did stops certain (Some out) is file fault of reported refused puts rest grows put saved = record {

@@ -1,5 +1,5 @@
 -- What a command did whose engine ran.
-use Rattle.std.proofs.Common.{◌≡◌, ◌∙◌, ◌⊎◌, ◌++◌, ◌∷◌, [], ap, sym, subst, refl, inl, inr, true, true≢false, List, ℕ, Option, Some, None, Result, Ok, Err, OnOk, IfOk, IfErr}
+use Rattle.std.proofs.Common.{◌≡◌, ◌∙◌, ◌⊎◌, ◌++◌, ◌∷◌, [], ap, sym, subst, refl, inl, inr, true≢false, List, ℕ, Option, Some, None, Result, Ok, Err, OnOk, IfOk, IfErr}
 use Rattle.std.specs.Prelude.{IsOk}
 use Rattle.std.proofs.lemmas.Result.{on_ok_weaker, IfErr-weaker}
 use Rattle.age_io.specs.Io.{Shown as ShownOne}

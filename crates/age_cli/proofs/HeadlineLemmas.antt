@@ -325,8 +325,8 @@ module _ (words : List Text) (IsPorts : Ports → Type 0) (before after : World)
 
   -- nothing of its position was put, or this
   rest_others : (durability : Durability) (save : Option Text) (settled : ℕ) (position : Option Position) (ending : Ending) (rest : List Entry) (done : List Event)
-      → ((rest ≡ []) × IsNotDue ending save position × Follows done before.files.events after.files.events)
-      ⊎ IsStored durability save settled position ending rest after.files.saved
+      → ((rest ≡ []) × IsNotDue settled ending save position × Follows done before.files.events after.files.events)
+      ⊎ IsStored since durability save settled position ending rest after.files.saved
       → (q : Text) → (save ≡ Some q → ⊥) → AreOthers q rest
   rest_others durability save settled position ending rest done (inl none) q other = subst (λ (x : List Entry). AreOthers q x) (sym none.0) tt
   rest_others durability save settled None ending rest done (inr stored) q other = absurd stored.is
@@ -485,7 +485,7 @@ module _ (words : List Text) (IsPorts : Ports → Type 0) (before after : World)
   by_engine (Decrypt e) P r of other q so = so _ _ of.2 refl refl
   by_engine (Resume e) P r of other q so = so _ _ of.4 refl refl
   by_engine (Inspect None) P r of other q so = same_if other.1 q
-  by_engine (Inspect (Some name)) P r of other q so = same [] (grows_by _ before.files after.files other.3) q tt
+  by_engine (Inspect (Some name)) P r of other q so = same [] (grows_by _ before.files after.files other.2) q tt
   by_engine (Drill e) P r of other q so = same [] (grows_by _ before.files after.files other.4.did) q tt
 
   spared : (asked : Request) (r : Result (Unit {0}) Ending) → DoneFor asked r

@@ -14,7 +14,6 @@ use Rattle.age_io.specs.Io.{SinkView}
 use Rattle.age_io.proofs.TakenLemmas.{Appends-trans}
 use Rattle.age_fault.specs.Faults.{HasRisen}
 use Rattle.age_fault.specs.declared.fault.FileFault.{FileFault}
-use Rattle.age_stanza.specs.declared.fault.HeadFault.{HeadFault}
 use Rattle.age_cli_args.specs.Requests.{IsForHelp, refusals, Requests}
 use Rattle.age_cli_args.specs.declared.request.Drilling.{Drilling}
 use Rattle.age_cli_args.specs.declared.request.ProgressOption.TheVariants.{Shown, Silent}
@@ -72,11 +71,11 @@ asked_fails words e (inr among) asked (name, rows, asks, is) = absurd (subst (λ
 -- ---- What a report and a drill do with files.
 
 -- a report that failed doesn't blame the command line
-report_fault : (IsOfHeader : HeadFault → Type 0) (e : Ending) → FailsReport IsOfHeader e → is_usage e ≡ false
-report_fault IsOfHeader (Fault fault) fails = refl
-report_fault IsOfHeader (Words text) fails = absurd fails
-report_fault IsOfHeader (Usage usage) fails = absurd fails
-report_fault IsOfHeader (Unsaved fault second) fails = absurd fails
+report_fault : (Fails : FileFault → Type 0) (was is : SinkView) (e : Ending) → FailsReport Fails was is e → is_usage e ≡ false
+report_fault Fails was is (Fault fault) fails = refl
+report_fault Fails was is (Words text) fails = absurd fails
+report_fault Fails was is (Usage usage) fails = absurd fails
+report_fault Fails was is (Unsaved fault second) fails = absurd fails
 
 pub both_done : (P Q : Type 0) (r : Result (Unit {0}) Ending) → OnOk r P → OnOk r Q → OnOk r (P × Q)
 both_done P Q (Ok x) p q = (p, q)
@@ -113,15 +112,15 @@ module _ (IsPorts : Ports → Type 0) (before after : FilesView) (Unshown : Type
       }
 
   -- a file is opened, or none, and no fault is one of the words
-  pub inspect_acts : (file : Option (Bor Text)) (IsOfHeader : HeadFault → Type 0) → Does (order_asked (Inspect file)).done before after → IfErr r (FailsReport IsOfHeader)
+  pub inspect_acts : (file : Option (Bor Text)) (Fails : FileFault → Type 0) (was is : SinkView) → Does (order_asked (Inspect file)).done before after → IfErr r (FailsReport Fails was is)
       → Acts IsPorts (Inspect file) before after Unshown Progress r
-  inspect_acts file IsOfHeader did fails =
+  inspect_acts file Fails was is did fails =
       let impossible : (P : Type 0) → IfErr r (λ e. IsUsage e → P) =
-      λ P. IfErr-weaker r _ _ (λ e f usage. absurd (true≢false (sym usage ∙ report_fault IsOfHeader e f))) fails in
+      λ P. IfErr-weaker r _ _ (λ e f usage. absurd (true≢false (sym usage ∙ report_fault Fails was is e f))) fails in
       record {
         done = always r _ tt;
         stopped = every_fault r _ (λ e. inr tt);
-        blamed = IfErr-weaker r _ _ (λ e f usage. absurd (true≢false (sym usage ∙ report_fault IsOfHeader e f))) fails;
+        blamed = IfErr-weaker r _ _ (λ e f usage. absurd (true≢false (sym usage ∙ report_fault Fails was is e f))) fails;
         order = follows_by (order_asked (Inspect file)).whole before after (begun (order_asked (Inspect file)).whole before after did);
         order_done = always r _ (did_events (order_asked (Inspect file)).done before after did);
         order_judged = impossible _;

@@ -7,10 +7,10 @@ use Rattle.age_chunk.specs.Payload.{chunk_length}
 use Rattle.age_io.specs.Io.{SinkView}
 use Rattle.age_io.specs.declared.durability.Durability.{Durability}
 use Rattle.age_fault.specs.declared.fault.FileFault.{FileFault}
-use Rattle.age_fault.specs.declared.fault.FileFault.TheVariants.{Write}
+use Rattle.age_fault.specs.declared.fault.FileFault.TheVariants.{Memory, Write}
 use Rattle.age_file.specs.Resumes.{position_text}
 use Rattle.age_file.specs.declared.position.Position.{Position}
-use Rattle.age_machine.specs.Saved.{Saves}
+use Rattle.age_machine.specs.Saved.{SavedFile, Saves}
 use Rattle.std.proofs.lemmas.Result.{on_ok_weaker, IfErr-weaker}
 use Rattle.age_fileset.specs.FileSet.{Unwritten, Entry, entry, FilesView, Closed, Does, PutsOnly, CameSince, IsMemoryOr, Outcome, Put, refused_as, written_as, puts_in}
 use Rattle.age_fileset.specs.declared.files.OpenFault.TheVariants as refusal
@@ -19,7 +19,7 @@ use Rattle.age_cli.proofs.OpeningLemmas.{same_events}
 use Rattle.age_command.proofs.EventLemmas.{then_follows}
 use Rattle.age_command.specs.declared.ending.Ending.{Ending}
 use Rattle.age_command.specs.declared.ending.Ending.TheVariants.{Fault, Unsaved}
-use Rattle.age_cli.specs.Acts.{IsNotDue, IsStored, LacksOne}
+use Rattle.age_cli.specs.Acts.{IsLost, IsNotDue, IsStored, IsUnsavable, LacksOne}
 use Rattle.age_cli.specs.inner.Endings.{Concludes, IsPut, position_of}
 use Rattle.age_cli.specs.declared.interruption.Interruption.{Interruption}
 
@@ -56,39 +56,55 @@ left_puts sink (Err fault) old new is fails some = ([], grows_lost sink.label fa
 
 -- what a save put: nothing was done, or this was put
 abbrev Saved : Durability → Option Text → ℕ → Option Position → (old new : FilesView) → Result (Unit {0}) FileFault → Type 0
-Saved durability save settled position old new r = ((new ≡ old) × OnOk r (LacksOne save position)) ⊎ IsSomeAnd position (λ p.
+Saved durability save settled position old new r = ((new ≡ old) × OnOk r (LacksOne save position)
+    × IfErr r (λ second. IsSomeAnd position (λ p. IsUnsavable settled p second))) ⊎ IsSomeAnd position (λ p.
     Saves (position_text p) durability r new.saved × (p.index * chunk_length ≤ settled)
     × IsSomeAnd save (λ to. new.outcomes ≡ old.outcomes ++ written_as to (position_text p) r))
 
 abbrev pub PutsRest : Durability → Option Text → ℕ → Option Position → (old new : FilesView) → Ending → Type 0
 PutsRest durability save settled position old new e = (rest : List Entry) × PutsOnly rest old new
-    × (((rest ≡ []) × (new.events ≡ old.events) × IsNotDue e save position)
-    ⊎ IsStored durability save settled position e rest new.saved)
+    × (((rest ≡ []) × (new.events ≡ old.events) × IsNotDue settled e save position)
+    ⊎ IsStored (CameSince old new) durability save settled position e rest new.saved)
 
 pub saved_well : (durability : Durability) (save : Option Text) (settled : ℕ) (position : Option Position) (old new : FilesView) (fault : FileFault)
     → Saved durability save settled position old new (Ok tt) → PutsRest durability save settled position old new (Fault fault)
-saved_well durability save settled position old new fault (inl (same, lacks)) =
+saved_well durability save settled position old new fault (inl (same, lacks, none)) =
     ([], grows_kept old new (ap (λ v. v.outcomes) same), inl (refl, ap (λ v. v.events) same, lacks))
 saved_well durability save settled None old new fault (inr saved) = absurd saved
 saved_well durability None settled (Some p) old new fault (inr saved) = absurd saved.2
 saved_well durability (Some to) settled (Some p) old new fault (inr saved) =
-    (entry to (position_text p) ∷ [], grows_put to (position_text p) old new saved.2, inr (record { put = saved.0; is = (refl, saved.1) }))
+    (entry to (position_text p) ∷ [], grows_put to (position_text p) old new saved.2, inr (record { put = saved.0; is = (refl, saved.1); lost = tt }))
 
-due_so : (save : Option Text) (position : Option Position) (fault second : FileFault) → IsMemoryOr Write second → is_some save ≡ true → is_some position ≡ true
-    → IsNotDue (Unsaved fault second) save position
-due_so (Some name) (Some p) fault second why named placed = inl why
-due_so None position fault second why named placed = absurd (true≢false (sym named))
-due_so (Some name) None fault second why named placed = absurd (true≢false (sym placed))
+lost_so : (name : Text) (second : FileFault) (old new : FilesView) → new.outcomes ≡ old.outcomes ++ refused_as name (refusal.Fault second) → IsMemoryOr Write second
+    → (second ≡ Memory) ⊎ ((second ≡ Write) × CameSince old new (Unwritten name))
+lost_so name second old new is (inl write) = inr (write, lost_came name second old new is write)
+lost_so name second old new is (inr memory) = inl memory
+
+lost_as : (Came Later : Outcome → Type 0) → ((o : Outcome) → Came o → Later o) → (e : Ending) (save : Option Text) → IsLost Came e save → IsLost Later e save
+lost_as Came Later so (Unsaved fault second) (Some name) (inl memory) = inl memory
+lost_as Came Later so (Unsaved fault second) (Some name) (inr (write, came)) = inr (write, so (Unwritten name) came)
+lost_as Came Later so e save lost = tt
+
+-- what was said by then
+pub stored_as : (Came Later : Outcome → Type 0) → ((o : Outcome) → Came o → Later o) → (durability : Durability) (save : Option Text) (settled : ℕ) (position : Option Position)
+    (e : Ending) (rest : List Entry) (saved : SavedFile) → IsStored Came durability save settled position e rest saved → IsStored Later durability save settled position e rest saved
+stored_as Came Later so durability save settled position e rest saved stored = record { put = stored.put; is = stored.is; lost = lost_as Came Later so e save stored.lost }
+
+due_so : (save : Option Text) (settled : ℕ) (position : Option Position) (fault second : FileFault) → IsSomeAnd position (λ p. IsUnsavable settled p second)
+    → is_some save ≡ true → IsNotDue settled (Unsaved fault second) save position
+due_so (Some name) settled (Some p) fault second why named = why
+due_so (Some name) settled None fault second why named = absurd why
+due_so None settled position fault second why named = absurd (true≢false (sym named))
 
 pub saved_badly : (durability : Durability) (save : Option Text) (settled : ℕ) (position : Option Position) (old new : FilesView) (fault second : FileFault)
     → Saved durability save settled position old new (Err second) → IsMemoryOr Write second × (is_some save ≡ true) × (is_some position ≡ true)
     → PutsRest durability save settled position old new (Unsaved fault second)
-saved_badly durability save settled position old new fault second (inl (same, lacks)) why =
-    ([], grows_kept old new (ap (λ v. v.outcomes) same), inl (refl, ap (λ v. v.events) same, due_so save position fault second why.0 why.1 why.2))
+saved_badly durability save settled position old new fault second (inl (same, lacks, unsavable)) why =
+    ([], grows_kept old new (ap (λ v. v.outcomes) same), inl (refl, ap (λ v. v.events) same, due_so save settled position fault second unsavable why.1))
 saved_badly durability save settled None old new fault second (inr saved) why = absurd saved
 saved_badly durability None settled (Some p) old new fault second (inr saved) why = absurd saved.2
 saved_badly durability (Some to) settled (Some p) old new fault second (inr saved) why =
-    ([], grows_lost to second old new saved.2 why.0, inr (record { put = saved.0; is = (refl, saved.1) }))
+    ([], grows_lost to second old new saved.2 why.0, inr (record { put = saved.0; is = (refl, saved.1); lost = lost_so to second old new saved.2 why.0 }))
 
 -- ---- How an output was ended.
 
@@ -101,16 +117,17 @@ same_stop engine stop is = subst (λ (x : Result (Unit {0}) Interruption). IfErr
 -- and then the position of the stop was saved, or not
 abbrev Rest : Durability → Option Text → SinkView → ℕ → Option Position → (old new : FilesView) → Ending → Type 0
 Rest durability save sink settled position old new e = (puts : List Entry) × (rest : List Entry) × PutsOnly (puts ++ rest) old new × IsPut sink puts
-    × (((new.events ≡ old.events ++ Closed durability ∷ []) × (rest ≡ []) × IsNotDue e save position)
-    ⊎ IsStored durability save settled position e rest new.saved)
+    × (((new.events ≡ old.events ++ Closed durability ∷ []) × (rest ≡ []) × IsNotDue settled e save position)
+    ⊎ IsStored (CameSince old new) durability save settled position e rest new.saved)
 
 pub rest_of : (durability : Durability) (save : Option Text) (sink : SinkView) (settled : ℕ) (position at : Option Position) (old mid new : FilesView) (e : Ending) (puts : List Entry)
     → position ≡ at → PutsOnly puts old mid → IsPut sink puts → mid.events ≡ old.events ++ Closed durability ∷ [] → PutsRest durability save settled position mid new e
     → Rest durability save sink settled at old new e
 rest_of durability save sink settled position at old mid new e puts same grows put closed (rest, more, inl (none, events, due)) =
-    (puts, rest, grows_then puts rest old mid new grows more, put, inl (events ∙ closed, none, subst (λ (o : Option Position). IsNotDue e save o) same due))
+    (puts, rest, grows_then puts rest old mid new grows more, put, inl (events ∙ closed, none, subst (λ (o : Option Position). IsNotDue settled e save o) same due))
 rest_of durability save sink settled position at old mid new e puts same grows put closed (rest, more, inr done) =
-    (puts, rest, grows_then puts rest old mid new grows more, put, inr (subst (λ (o : Option Position). IsStored durability save settled o e rest new.saved) same done))
+    (puts, rest, grows_then puts rest old mid new grows more, put, inr (subst (λ (o : Option Position). IsStored (CameSince old new) durability save settled o e rest new.saved) same
+    (stored_as (CameSince mid new) (CameSince old new) (then_came puts old mid new grows) durability save settled position e rest new.saved done)))
 
 -- the same from before the output was asked how much of it is certain
 module _ (save : Option Text) (durability : Durability) (sink : SinkView) (settled : ℕ) (engine : Result (Unit {0}) Interruption) (old mid new : FilesView) (did : Does [] old mid) where
@@ -122,7 +139,13 @@ module _ (save : Option Text) (durability : Durability) (sink : SinkView) (settl
     put,
     inl (events ∙ ap (λ es. es ++ Closed durability ∷ []) (same_events old mid did), none, due),
   )
-  rest_from e (puts, rest, grows, put, inr done) = (puts, rest, grows_then [] (puts ++ rest) old mid new (grows_by [] old mid did) grows, put, inr done)
+  rest_from e (puts, rest, grows, put, inr done) = (
+    puts,
+    rest,
+    grows_then [] (puts ++ rest) old mid new (grows_by [] old mid did) grows,
+    put,
+    inr (stored_as (CameSince mid new) (CameSince old new) (then_came [] old mid new (grows_by [] old mid did)) durability save settled (position_of engine) e rest new.saved done),
+  )
 
   an_err_as : (r : Result (Unit {0}) Ending) → OnErr r (CameSince mid new (Unwritten sink.label)) → OnErr r (CameSince old new (Unwritten sink.label))
   an_err_as (Ok done) lost = tt

@@ -1,6 +1,7 @@
 -- What the status says of an ending.
-use Rattle.age_stanza.specs.declared.fault.HeadFault.{HeadFault}
-use Rattle.age_fault.specs.declared.fault.FileFault.TheVariants.{Head}
+use Rattle.age_fault.specs.declared.fault.FileFault.{FileFault}
+use Rattle.age_fault.specs.declared.fault.FileFault.TheVariants.{Write, Memory}
+use Rattle.age_io.specs.Io.{SinkView}
 use Rattle.age_command.specs.declared.ending.Ending.{Ending}
 use Rattle.age_command.specs.declared.ending.Ending.TheVariants.{Fault}
 use Rattle.age_cli.specs.Commands.{FailsReport}
@@ -19,8 +20,9 @@ whole_report size coming new r sized is = all coming.left refl sized where
   all None there known = tt
   all (Some bytes) there known = is.whole bytes there known
 
--- a fault of the header that came is one of what this file gave
-pub fails_as : (P Q : HeadFault → Type 0) → ((f : HeadFault) → P f → Q f) → (e : Ending) → FailsReport P e → FailsReport Q e
-fails_as P Q so (Fault (Head f)) fails = so f fails
-fails_as P Q so (Fault other) fails = fails
-fails_as P Q so e fails = absurd fails
+-- a fault of what was read is one of what this file gave
+pub fails_as : (P Q : FileFault → Type 0) (was is : SinkView) → ((f : FileFault) → P f → Q f) → (e : Ending) → FailsReport P was is e → FailsReport Q was is e
+fails_as P Q was is so (Fault Write) fails = fails
+fails_as P Q was is so (Fault Memory) fails = tt
+fails_as P Q was is so (Fault other) fails = so other fails
+fails_as P Q was is so e fails = absurd fails

@@ -1,10 +1,10 @@
 -- What a decryption did whose position was found by reading the input once more.
-use Rattle.std.proofs.Common.{◌≡◌, ◌∙◌, ◌⊎◌, ◌∷◌, ◌++◌, [], ℕ, List, Option, Some, None, true, false, Result, Ok, Err, OnErr, IsErr, IfOk, IfErr, ap}
+use Rattle.std.proofs.Common.{◌≡◌, ◌∙◌, ◌∷◌, ◌++◌, [], ℕ, List, Option, Some, None, true, false, Result, Ok, Err, OnErr, IsErr, IfOk, ap}
 use Rattle.std.proofs.Common.{sym, subst, refl, inl, inr, true≢false, append-nil}
 use Rattle.std.specs.Prelude.{is_some, IsSomeAnd, min}
 use Rattle.clap.specs.Words.{Text}
 use Rattle.age_fault.specs.declared.fault.FileFault.{FileFault}
-use Rattle.age_fault.specs.declared.fault.FileFault.TheVariants.{Read, Write}
+use Rattle.age_fault.specs.declared.fault.FileFault.TheVariants.{Read}
 use Rattle.age_file.specs.Again.{IsTextBefore, IsFoundAgain}
 use Rattle.age_file.specs.declared.decryption.Done.{Done}
 use Rattle.age_file.specs.declared.decryption.Stopped.{Stopped}
@@ -22,7 +22,7 @@ use Rattle.age_command.specs.declared.ending.Ending.TheVariants.{Unsaved}
 use Rattle.age_command.specs.Endings.{is_usage}
 use Rattle.age_command.specs.Orders.{Follows, replacing}
 use Rattle.age_command.proofs.EventLemmas.{then_follows}
-use Rattle.age_cli.specs.Acts.{IsEndingOf, start_of, Finds}
+use Rattle.age_cli.specs.Acts.{IsEndingOf, IsUnsavable, start_of, Finds}
 use Rattle.age_cli.specs.Commands.{WasRead}
 use Rattle.age_cli.specs.declared.interruption.Interruption.{Interruption}
 use Rattle.age_cli.specs.inner.Endings.{Concludes, IsPut, opening_end, LeavesFile, EndsFile}
@@ -151,15 +151,15 @@ left_then sink durability old first mid left did = record {
 }
 
 -- why a position isn't saved that wasn't found
-unfound : (f : FileFault) → IsMemoryOr Read f → IsMemoryOr Write f ⊎ (f ≡ Read)
-unfound f (inl read) = inr read
-unfound f (inr memory) = inl (inr memory)
+unfound : (settled : ℕ) (p : Position) (f : FileFault) → IsMemoryOr Read f → IsUnsavable settled p f
+unfound settled p f (inl read) = inr (inl read)
+unfound settled p f (inr memory) = inl memory
 
 pub unfound_rest : (save : Option Text) (durability : Durability) (settled : ℕ) (f second : FileFault) (p : Position) (mid : FilesView)
     → is_some save ≡ true
     → IsMemoryOr Read second → PutsRest durability save settled (Some p) mid mid (Unsaved f second)
 unfound_rest None durability settled f second p mid there fault = absurd (true≢false (sym there))
-unfound_rest (Some to) durability settled f second p mid there fault = ([], grows_none mid, inl (refl, refl, unfound second fault))
+unfound_rest (Some to) durability settled f second p mid there fault = ([], grows_none mid, inl (refl, refl, unfound settled p second fault))
 
 -- OUT was left as the stop leaves it, and then what is due was done for the position
 concludes_left : (save : Option Text) (durability : Durability) (sink : SinkView) (settled : ℕ) (cause : Interruption) (old mid new : FilesView)

@@ -1,5 +1,5 @@
 -- What a decryption, or a resumed one, did whose position was found by reading the input once more.
-use Rattle.std.proofs.Common.{◌≡◌, ◌⊎◌, ℕ, List, Option, Some, None, Bool, true, false, true≢false, sym, Result, Ok, Err, OnOk, IfOk, IfErr, IsErr}
+use Rattle.std.proofs.Common.{◌≡◌, ℕ, List, Option, Some, None, Bool, true, false, true≢false, sym, Result, Ok, Err, OnOk, IfOk, IfErr, IsErr}
 use Rattle.std.proofs.Common.{subst, refl, inl, inr, ⊎_elim}
 use Rattle.std.specs.Prelude.{is_some, IfSome, IsSomeAnd, min}
 use Rattle.std.proofs.lemmas.Option.{none-some}

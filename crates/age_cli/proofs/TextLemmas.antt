@@ -26,7 +26,7 @@ use Rattle.age_command.specs.declared.ending.Ending.TheVariants.{Fault, Unsaved}
 use Rattle.age_command.specs.declared.identity.Identity.{Identity}
 use Rattle.age_cli.specs.Acts.{CameFirst, Engine, decrypt_engine, resume_engine, durability_of, HasEngineEnded, HasEngineStopped, HasNotBegun, OfEngine}
 use Rattle.age_cli.specs.Acts.{IsEndingOf, Paths, Returned, SparesOut, StopsText, IsUsage}
-use Rattle.age_cli.specs.Commands.{FailsReport}
+use Rattle.age_cli.specs.Commands.{FailsFile, FailsInput, FailsReport}
 use Rattle.age_cli.specs.Runs.{World, Obeys, DoesOther, FailsWriting, IsRefusal}
 use Rattle.age_command.specs.Endings.{is_usage}
 use Rattle.age_cli.specs.Headline.{GivesFile, GivesRest, IsBeforeText, IsForText, LeavesText}
@@ -151,18 +151,18 @@ module _ (IsPorts : Ports → Type 0) (before after : FilesView) (ending : Endin
 
 -- ---- What is refused writes nothing.
 
-fault_no_usage : (IsOfHeader : HeadFault → Type 0) (e : Ending) → FailsReport IsOfHeader e → IsUsage e → ⊥
-fault_no_usage IsOfHeader (Fault fault) fails usage = true≢false (sym usage)
-fault_no_usage IsOfHeader e fails usage = fails
+fault_no_usage : (Fails : FileFault → Type 0) (was is : SinkView) (e : Ending) → FailsReport Fails was is e → IsUsage e → ⊥
+fault_no_usage Fails was is (Fault fault) fails usage = true≢false (sym usage)
+fault_no_usage Fails was is e fails usage = fails
 
 if_err : (r : Result (Unit {0}) Ending) (P Q : Ending → Type 0) → ((e : Ending) → P e → Q e) → IfErr r P → IfErr r Q
 if_err (Ok x) P Q so is = tt
 if_err (Err e) P Q so is = so e is
 
 -- a report that failed doesn't blame the command line
-pub reported_accepts : (r : Result (Unit {0}) Ending) (IsOfHeader : HeadFault → Type 0) → IfErr r (FailsReport IsOfHeader)
+pub reported_accepts : (r : Result (Unit {0}) Ending) (Fails : FileFault → Type 0) (was is : SinkView) → IfErr r (FailsReport Fails was is)
     → IfErr r (λ e. IsUsage e → ⊥)
-reported_accepts r IsOfHeader fails = if_err r (FailsReport IsOfHeader) (λ e. IsUsage e → ⊥) (fault_no_usage IsOfHeader) fails
+reported_accepts r Fails was is fails = if_err r (FailsReport Fails was is) (λ e. IsUsage e → ⊥) (fault_no_usage Fails was is) fails
 
 -- without a call for help all is refused
 pub no_help : (r : Result (Unit {0}) Ending) (Help Printed Unprinted : Type 0) (old new : SinkView) → OnOk r (Help × Printed)
@@ -176,9 +176,9 @@ module _ (words : List Text) (IsPorts : Ports → Type 0) (before after : World)
   abbrev IsSilent : Result (Unit {0}) Ending → Type 0
   IsSilent r = IfErr r (λ e. IsUsage e → Unprinted)
 
-  unblamed : (r : Result (Unit {0}) Ending) (IsOfHeader : HeadFault → Type 0) → IfErr r (FailsReport IsOfHeader) → IsSilent r
-  unblamed r H fails =
-      if_err r (FailsReport H) (λ e. IsUsage e → Unprinted) (λ e it usage. absurd (fault_no_usage H e it usage)) fails
+  unblamed : (r : Result (Unit {0}) Ending) (Fails : FileFault → Type 0) (was is : SinkView) → IfErr r (FailsReport Fails was is) → IsSilent r
+  unblamed r Fails was is fails =
+      if_err r (FailsReport Fails was is) (λ e. IsUsage e → Unprinted) (λ e it usage. absurd (fault_no_usage Fails was is e it usage)) fails
 
   unprinted : (r : Result (Unit {0}) Ending) → Unprinted → IsSilent r
   unprinted (Ok x) none = tt
@@ -186,14 +186,14 @@ module _ (words : List Text) (IsPorts : Ports → Type 0) (before after : World)
 
   answered : (r : Result (Unit {0}) Ending) (asked : Request) → DoesOther words IsPorts before after Unread Unprinted Unshown Progress r asked
       → IsSilent r
-  answered r (Inspect None) a = unblamed r _ a.0.0.stops
-  answered r (Inspect (Some name)) a = unblamed r _ a.1.stops
+  answered r (Inspect None) a = unblamed r (FailsInput before.input after.input) before.output after.output a.0.stops
+  answered r (Inspect (Some name)) a = unblamed r (FailsFile before.files after.files name.now) before.output after.output a.1.stops
   answered r (Drill d) a = a.2
   answered r asked a = unprinted r a.1
 
   -- a run that refuses its words writes nothing
   pub refused_silently : (r : Result (Unit {0}) Ending) → Obeys words IsPorts before after Unread Unprinted Unshown Progress r → IsSilent r
-  refused_silently r (inl report) = unblamed r _ report.report.0.stops
+  refused_silently r (inl report) = unblamed r (FailsInput before.input after.input) before.output after.output report.report.stops
   refused_silently r (inr (inl did)) = answered r did.asked did.answers
   refused_silently r (inr (inr declined)) = if_err r _ (λ e. IsUsage e → Unprinted) (λ e. ⊎_elim (λ refused usage. refused.1)
       (λ help usage. absurd (true≢false (sym usage ∙ ap is_usage help.1.0)))) declined.stops

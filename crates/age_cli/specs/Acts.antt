@@ -6,7 +6,7 @@ use Rattle.clap.specs.Words.{Text}
 use Rattle.age_io.specs.Io.{SourceView, SinkView, Shown as ShownOne, ShowsReading}
 use Rattle.age_io.specs.Supply.{Supply, IsAtEnd}
 use Rattle.age_fault.specs.declared.fault.FileFault.{FileFault}
-use Rattle.age_fault.specs.declared.fault.FileFault.TheVariants.{Read, Write, BadPosition}
+use Rattle.age_fault.specs.declared.fault.FileFault.TheVariants.{Read, Write, Memory, BadPosition}
 use Rattle.age_chunk.specs.Payload.{chunk_length}
 use Rattle.age_file.specs.Again.{IsTextBefore, IsFoundAgain}
 use Rattle.age_file.specs.Runs.{Ports, ports, Run}
@@ -23,7 +23,7 @@ use Rattle.age_io.specs.declared.durability.Durability.TheVariants.{Buffered, Sy
 use Rattle.age_machine.specs.Ends.{EndedFile, TouchesItself, IsThere, IsOnDisk, IsUntouched}
 use Rattle.age_machine.specs.Saved.{SavedFile, Saves}
 use Rattle.age_file.specs.declared.decryption.Stopped.{Stopped}
-use Rattle.age_fileset.specs.FileSet.{Event, IsMemoryOr, FilesView, Outcome, Found, Absent, Unwritten, Settled}
+use Rattle.age_fileset.specs.FileSet.{Event, FilesView, Outcome, Found, Absent, Unwritten, Settled}
 use Rattle.age_fileset.specs.FileSet.{Unfit, Entry, entry, PutsOnly, CameSince, HasGivenAll, puts_in}
 use Rattle.age_cli_args.specs.Requests.{option_text}
 use Rattle.age_cli_args.specs.declared.request.ClobberOption.{ClobberOption}
@@ -70,8 +70,8 @@ status_by (Err e) = ending_status e
 
 -- ---- What the engine of a command promises of its source and its sink, before and after.
 
--- what it promises if it ends; and if it stops with this fault, and at this position, if it has one,
--- once the set of files had said how many bytes of OUT are certain
+-- what it promises if it ends; and if it stops with this fault, and at this position, if it has one. If a
+-- position is to be saved, the set of files said that so many bytes of OUT are certain (`settled`).
 pub record Engine : Type 1 where
   pub ends : Ports → Ports → Type 0
   pub stops : (settled : ℕ) → FileFault → Option Position → Ports → Ports → Type 0
@@ -284,17 +284,32 @@ abbrev pub LacksOne : Option Text → Option Position → Type 0
 LacksOne (Some name) (Some p) = ⊥
 LacksOne save position = Unit {0}
 
--- a position isn't saved: it or a name isn't there, or the ending says why
-abbrev pub IsNotDue : Ending → Option Text → Option Position → Type 0
-IsNotDue (Fault fault) save position = LacksOne save position
-IsNotDue (Unsaved fault second) (Some name) (Some p) = IsMemoryOr Write second ⊎ (second ≡ Read)
-IsNotDue other save position = ⊥
+-- why a position isn't even put to its file: memory was refused, IN couldn't be read once more, or it
+-- stands beyond what OUT holds for certain
+abbrev pub IsUnsavable : (settled : ℕ) → Position → (second : FileFault) → Type 0
+IsUnsavable settled p second = (second ≡ Memory) ⊎ ((second ≡ Read)
+    ⊎ ((second ≡ Write) × (settled < p.index * chunk_length)))
 
--- or it is: it was put to its file, so much of OUT is certain, and this stands under the name then
-pub record IsStored (durability : Durability) (save : Option Text) (settled : ℕ) (position : Option Position)
-    (ending : Ending) (rest : List Entry) (saved : SavedFile) : Type 0 where
+-- a position isn't put to its file: it or a name isn't there, or the ending says why
+abbrev pub IsNotDue : (settled : ℕ) → Ending → Option Text → Option Position → Type 0
+IsNotDue settled (Fault fault) save position = LacksOne save position
+IsNotDue settled (Unsaved fault second) (Some name) (Some p) = IsUnsavable settled p second
+IsNotDue settled other save position = ⊥
+
+-- why it doesn't stand there once it was put: memory was refused, or the set of files said that the file
+-- couldn't be written
+abbrev pub IsLost : (Came : Outcome → Type 0) → Ending → Option Text → Type 0
+IsLost Came (Unsaved fault second) (Some name) =
+    (second ≡ Memory) ⊎ ((second ≡ Write) × Came (Unwritten name))
+IsLost Came other save = Unit {0}
+
+-- or it is: so much of OUT is certain, and this stands under the name then, unless that failed
+pub record IsStored (Came : Outcome → Type 0) (durability : Durability) (save : Option Text) (settled : ℕ)
+    (position : Option Position) (ending : Ending) (rest : List Entry) (saved : SavedFile)
+    : Type 0 where
   pub put : HasPut durability position ending saved
   pub is : IsSomeAnd position (λ p. IsSavedAs ending save p rest × (p.index * chunk_length ≤ settled))
+  pub lost : IsLost Came ending save
 
 -- no output was ended, or one that took nothing and is untouched
 abbrev pub SparesOut : (before after : Option EndedFile) → Type 0
@@ -375,7 +390,7 @@ module _ (IsPorts : Ports → Type 0) (Came : Outcome → Type 0) where
 
   -- It stopped with the fault that is reported, or its output couldn't be ended. What its sink took was
   -- put, or nothing was; and then its position, if it has one and there is a file for it, or the ending
-  -- says why not. If it isn't saved no file was to be replaced: what was done is of the order `done`.
+  -- says why not. If that wasn't tried, no file was to be replaced: what was done is of the order `done`.
   pub record HasEngineStopped (engine : Engine) (p : Paths) (durability : Durability) (done : List Event)
       (ending : Ending) (before after : FilesView) : Type 0 where
     pub run : Returned p after.ended
@@ -389,8 +404,8 @@ module _ (IsPorts : Ports → Type 0) (Came : Outcome → Type 0) where
     pub rest : List Entry
     pub puts : PutsOnly (outs ++ rest) before after
     pub out : (outs ≡ []) ⊎ ((outs ≡ entry p.to run.out.took ∷ []) × (run.out.took ≢ []))
-    pub saved : ((rest ≡ []) × IsNotDue ending p.save position × Follows done before.events after.events)
-        ⊎ IsStored durability p.save settled position ending rest after.saved
+    pub saved : ((rest ≡ []) × IsNotDue settled ending p.save position × Follows done before.events after.events)
+        ⊎ IsStored Came durability p.save settled position ending rest after.saved
 
 -- It ended as if no engine ran: 26 and 27 have a reason, no output is touched, nothing was put, and no
 -- file was to be replaced.

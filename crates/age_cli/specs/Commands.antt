@@ -1,24 +1,24 @@
 -- What commands find in the options and the files, and what `inspect` reports.
-use Rattle.std.specs.Prelude.{◌≡◌, ℕ, List, [], ◌++◌, length, Option, Some, ◌⊎◌, ◌<◌, ◌==◌, IfSome}
+use Rattle.std.specs.Prelude.{◌≡◌, ℕ, List, [], ◌∷◌, ◌++◌, length, Option, Some, ◌⊎◌, ◌<◌, ◌==◌, IfSome}
 use Rattle.std.specs.Prelude.{if◌then◌else◌, codes, None}
 use Rattle.std.specs.List.{flat_map}
 use Rattle.std.specs.Fmt.{decimal}
-use Rattle.age_io.specs.Io.{SourceView}
+use Rattle.age_io.specs.Io.{SourceView, SinkView}
 use Rattle.age_io.specs.Supply.{Supply}
 use Rattle.age_io.specs.Taken.{Taken, Appends}
 use Rattle.age_keys.specs.Scrypt.{IsAllowed}
-use Rattle.age_fault.specs.declared.fault.FileFault.TheVariants.{Head}
+use Rattle.age_fault.specs.Faults.{HasRisen}
+use Rattle.age_fault.specs.declared.fault.FileFault.{FileFault}
+use Rattle.age_fault.specs.declared.fault.FileFault.TheVariants.{Read, Write, Memory}
 use Rattle.age_file.specs.Encrypts.{SecretView}
 use Rattle.age_file.specs.Resumes.{NoPosition}
-use Rattle.age_file.specs.Decrypts.{StopsOutside}
-use Rattle.age_file.specs.Runs.{ReportsFault}
-use Rattle.age_stanza.specs.declared.fault.HeadFault.{HeadFault}
+use Rattle.age_file.specs.Runs.{HeadFails, NoHeadFault}
 use Rattle.age_file.specs.Reports.{IsReport}
 use Rattle.age_file.specs.Reports as file
 use Rattle.age_file.specs.declared.position.Position.{Position}
 use Rattle.age_file.specs.declared.report.Report.{Report}
 use Rattle.age_file.specs.declared.report.StanzaReport.{StanzaReport}
-use Rattle.age_fileset.specs.FileSet.{Outcome, Found, FoundOrEmpty, Gave, reading_of, HasGiven, HasGivenAll}
+use Rattle.age_fileset.specs.FileSet.{FilesView, CameSince, Outcome, Found, FoundOrEmpty, Unread, Unfit, Gave, reading_of, HasGiven, HasGivenAll}
 use Rattle.age_cli_args.specs.Requests.{option_text}
 use Rattle.age_cli_args.specs.declared.request.Encrypting.{Encrypting}
 use Rattle.age_command.specs.declared.ending.Ending.{Ending}
@@ -133,13 +133,21 @@ pub record ReportsFile (Came : Outcome → Type 0) (name : Text) (output_old out
   pub reports : ReportsAs (believed reading.size) first.supply last.supply r
   pub wrote : Appends output_old output_new (report_text r)
 
--- the file of this name gave bytes that have this fault
-abbrev pub GaveFault : (Came : Outcome → Type 0) → Text → HeadFault → Type 0
-GaveFault Came name fault = (first : SourceView) × (last : SourceView)
-    × WasRead Came (Found name) name first last × ReportsFault first.supply last.supply fault
+-- reading an input fails with this fault: that of the header that came; or 26 or 29, and what came has
+-- no fault of its own
+abbrev pub FailsInput : (old new : SourceView) → FileFault → Type 0
+FailsInput = HeadFails NoHeadFault
 
--- how a report fails: with a fault of the header that came, or since reading, writing or memory failed
-abbrev pub FailsReport : (HeadFault → Type 0) → Ending → Type 0
-FailsReport IsOfHeader (Fault (Head fault)) = IsOfHeader fault
-FailsReport IsOfHeader (Fault fault) = StopsOutside fault
-FailsReport IsOfHeader other = ⊥
+-- the same of the file of this name; or 26, since it couldn't be opened or is an output of the set
+abbrev pub FailsFile : (old new : FilesView) → Text → FileFault → Type 0
+FailsFile old new name fault = ((fault ≡ Read)
+    × (CameSince old new (Unread name) ⊎ (new.outcomes ≡ old.outcomes ++ Unfit ∷ [])))
+    ⊎ ((first : SourceView) × (last : SourceView)
+    × WasRead (CameSince old new) (Found name) name first last × FailsInput first last fault)
+
+-- how a report fails: its output couldn't be written; memory was refused; or as reading its input does
+abbrev pub FailsReport : (Fails : FileFault → Type 0) → (old new : SinkView) → Ending → Type 0
+FailsReport Fails old new (Fault Write) = HasRisen old.failed new.failed
+FailsReport Fails old new (Fault Memory) = Unit {0}
+FailsReport Fails old new (Fault fault) = Fails fault
+FailsReport Fails old new other = ⊥

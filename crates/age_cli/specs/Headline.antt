@@ -173,8 +173,8 @@ RefusesInSilence IsPorts Input Output Progress = (words : List Text) (before aft
 
 -- A report that fails doesn't blame the command line.
 abbrev pub ReportsAccept : Type 0
-ReportsAccept = (ended : Result (Unit {0}) Ending)
-    → IfErr ended (FailsReport (λ fault. Unit {0})) → IfErr ended (λ e. IsUsage e → ⊥)
+ReportsAccept = (ended : Result (Unit {0}) Ending) (old new : SinkView)
+    → IfErr ended (FailsReport (λ fault. Unit {0}) old new) → IfErr ended (λ e. IsUsage e → ⊥)
 
 -- ---- A decryption over any set of files, the machine's among them.
 

@@ -4,11 +4,11 @@ use Rattle.std.specs.Prelude.{Result, OnOk, IfErr, IsErrAnd}
 use Rattle.age_io.specs.Taken.{Appends}
 use Rattle.clap.specs.Words.{Text}
 use Rattle.age_io.specs.Io.{SourceView, SinkView}
-use Rattle.age_stanza.specs.declared.fault.HeadFault.{HeadFault}
+use Rattle.age_fault.specs.declared.fault.FileFault.{FileFault}
 use Rattle.age_fault.specs.Faults.{HasRisen}
-use Rattle.age_fault.specs.declared.fault.FileFault.TheVariants.{Read, Write, Memory}
-use Rattle.age_file.specs.Runs.{Ports, ReportsFault}
-use Rattle.age_fileset.specs.FileSet.{FilesView, CameSince, Does, Opened, Unfit}
+use Rattle.age_fault.specs.declared.fault.FileFault.TheVariants.{Write, Memory}
+use Rattle.age_file.specs.Runs.{Ports}
+use Rattle.age_fileset.specs.FileSet.{FilesView, CameSince, Does, Opened}
 use Rattle.age_cli_args.specs.Requests.{IsForHelp, Requests, option_text}
 use Rattle.age_cli_args.specs.declared.request.Request.{Request}
 use Rattle.age_cli_args.specs.declared.request.Request.TheVariants.{Inspect, Drill}
@@ -16,10 +16,9 @@ use Rattle.age_command.specs.Endings.{ReportsEnding}
 use Rattle.age_command.specs.declared.ending.Ending.{Ending}
 use Rattle.age_command.specs.declared.ending.Ending.TheVariants.{Words, Usage, Fault, Unsaved}
 use Rattle.age_command.specs.declared.ending.Usage.TheVariants as why
-use Rattle.age_command.specs.Files.{IsUnread}
 use Rattle.age_command.specs.Orders.{Begins, order_asked}
 use Rattle.age_cli.specs.Acts.{Acts, IsUsage, status_by}
-use Rattle.age_cli.specs.Commands.{Reports, ReportsFile, FailsReport, GaveFault}
+use Rattle.age_cli.specs.Commands.{Reports, ReportsFile, FailsReport, FailsInput, FailsFile}
 
 -- ---- What a run does of what its words ask for.
 
@@ -47,12 +46,11 @@ FailsWriting old new ending = (ending ≡ Fault Write) × HasRisen old.failed ne
 abbrev pub Prints : (old new : SinkView) → Type 0
 Prints old new = (text : List ℕ) × Appends old.taken new.taken text × (new.settled ≡ true)
 
--- a report was written, and sent on; or it failed with a fault of the header that came, and nothing was
--- written, unless writing failed
+-- a report was written, and sent on; or it failed so, and nothing was written, unless writing failed
 pub record Reported (ended : Result (Unit {0}) Ending) (Report Unprinted : Type 0)
-    (IsOfHeader : HeadFault → Type 0) (output_old output_new : SinkView) : Type 0 where
+    (Fails : FileFault → Type 0) (output_old output_new : SinkView) : Type 0 where
   pub done : OnOk ended (Report × (output_new.settled ≡ true))
-  pub stops : IfErr ended (FailsReport IsOfHeader)
+  pub stops : IfErr ended (FailsReport Fails output_old output_new)
   pub unprinted : IfErr ended (λ e. FailsWriting output_old output_new e ⊎ Unprinted)
 
 -- `IsPorts` says which are the ports of the files. `Unread`, `Unprinted` and `Unshown` say that the input,
@@ -61,12 +59,11 @@ pub record Reported (ended : Result (Unit {0}) Ending) (Report Unprinted : Type 
 module _ (words : List Text) (IsPorts : Ports → Type 0) (before after : World)
     (Unread Unprinted Unshown : Type 0)
     (Progress : Option Text → Result (Unit {0}) Ending → Type 0) (ended : Result (Unit {0}) Ending) where
-  -- the input was read to its end, and its report was written; 26 comes only if its last pull failed
+  -- the input was read to its end, and its report was written
   abbrev pub ReportedInput : Type 0
   ReportedInput = Reported ended (Reports before.input.supply after.input.supply
-      before.output.taken after.output.taken) Unprinted
-      (ReportsFault before.input.supply after.input.supply) before.output after.output
-      × IfErr ended (λ e. e ≡ Fault Read → after.input.failing ≡ true)
+      before.output.taken after.output.taken) Unprinted (FailsInput before.input after.input)
+      before.output after.output
 
   -- Without words the input is reported.
   pub record ReportsInput : Type 0 where
@@ -77,7 +74,7 @@ module _ (words : List Text) (IsPorts : Ports → Type 0) (before after : World)
     -- No progress was shown.
     pub silent : Unshown
 
-  -- `inspect` reported the input, or its file, and 26 has a reason. A drill sent on what it wrote, and
+  -- `inspect` reported the input, or its file. A drill sent on what it wrote, and
   -- wrote nothing if it is refused; with both or neither of `--clear` and `--pass` it is refused before a
   -- file is opened. Neither puts anything under a name. Other commands write nothing to the output, and
   -- none of them reads the input.
@@ -86,8 +83,7 @@ module _ (words : List Text) (IsPorts : Ports → Type 0) (before after : World)
   DoesOther (Inspect (Some name)) =
       let Came = CameSince before.files after.files in
       Unread × Reported ended (ReportsFile Came name.now before.output.taken after.output.taken)
-      Unprinted (GaveFault Came name.now) before.output after.output
-      × IfErr ended (λ e. e ≡ Fault Read → IsUnread Came ⊎ Came Unfit)
+      Unprinted (FailsFile before.files after.files name.now) before.output after.output
       × Does (Opened name.now ∷ []) before.files after.files
   DoesOther (Drill d) = Unread × OnOk ended (after.output.settled ≡ true)
       × IfErr ended (λ e. IsUsage e → Unprinted) × (d.clear ≡ is_some (option_text d.pass)

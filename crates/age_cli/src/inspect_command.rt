@@ -2,17 +2,14 @@
 
 ghost use Rattle.std.specs.Prelude.{◌≡◌, ◌⊎◌, [], ◌∷◌, IfOk, OnOk, IfErr, IfSome, length, true};
 ghost use Rattle.age_io.specs.Taken.{Appends};
-ghost use Rattle.age_file.specs.Runs.{HeadFails, NoHeadFault, ReportsFault};
 ghost use Rattle.age_file.specs.declared.report.Report.{Report};
 ghost use Rattle.age_command.specs.declared.ending.Ending.TheVariants.{Fault};
 ghost use Rattle.age_io.specs.Io.{Origin};
-ghost use Rattle.age_fileset.specs.FileSet.{Opened, Unfit, Does, CameSince};
-ghost use Rattle.age_cli.specs.Commands.{Reports, ReportsFile, FailsReport, GaveFault, report_text};
+ghost use Rattle.age_fileset.specs.FileSet.{Opened, Does, CameSince};
+ghost use Rattle.age_cli.specs.Commands.{Reports, ReportsFile, FailsReport, FailsInput, FailsFile, report_text};
 ghost use Rattle.age_cli.specs.Commands.{believed};
 ghost use Rattle.age_cli.specs.inner.Reported.{IsInspected};
 ghost use Rattle.age_cli.specs.Runs.{FailsWriting};
-ghost use Rattle.age_command.specs.Files.{IsUnread};
-ghost use Rattle.age_fault.specs.declared.fault.FileFault.TheVariants.{Read};
 
 use crate::print::text_of;
 use age_command::{Ending, put_bytes};
@@ -28,7 +25,7 @@ fn inspect_as<I: Source>(
 ) -> Result<Report, FileFault>
     ensures ok { IfOk result (IsInspected length (I.view input.old).supply
         (I.view input.new).supply) }
-    ensures fails { IfErr result (HeadFails NoHeadFault (I.view input.old) (I.view input.new)) }
+    ensures fails { IfErr result (FailsInput (I.view input.old) (I.view input.new)) }
     ensures began { (from : Origin) → I.began input.old from → I.began input.new from }
 {
     match length {
@@ -47,14 +44,13 @@ fn write_report<I: Source, O: Sink>(
     ensures done { OnOk result ((r : Report)
         × IsInspected length (I.view input.old).supply (I.view input.new).supply r
         × Appends (O.view output.old).taken (O.view output.new).taken (report_text r)) }
-    ensures fails { IfErr result (λ f. FailsReport (ReportsFault (I.view input.old).supply
-        (I.view input.new).supply) (Fault f)) }
+    ensures fails { IfErr result (λ f. FailsReport (FailsInput (I.view input.old) (I.view input.new))
+        (O.view output.old) (O.view output.new) (Fault f)) }
     ensures sent { OnOk result ((O.view output.new).settled ≡ true) }
     ensures began { (from : Origin) → I.began input.old from → I.began input.new from }
     ensures unprinted { IfErr result (λ f.
         FailsWriting (O.view output.old) (O.view output.new) (Fault f)
         ⊎ (output.new ≡ output.old)) }
-    ensures read { IfErr result (λ f. f ≡ Read → (I.view input.new).failing ≡ true) }
 {
     let found = inspect_as(alloc, length, input)?;
     let text = text_of(alloc, &found)?;
@@ -72,13 +68,12 @@ fn report_as<I: Source, O: Sink>(
     ensures done { OnOk result ((r : Report)
         × IsInspected length (I.view input.old).supply (I.view input.new).supply r
         × Appends (O.view output.old).taken (O.view output.new).taken (report_text r)) }
-    ensures fails { IfErr result (FailsReport (ReportsFault (I.view input.old).supply
-        (I.view input.new).supply)) }
+    ensures fails { IfErr result (FailsReport (FailsInput (I.view input.old) (I.view input.new))
+        (O.view output.old) (O.view output.new)) }
     ensures began { (from : Origin) → I.began input.old from → I.began input.new from }
     ensures sent { OnOk result ((O.view output.new).settled ≡ true) }
     ensures unprinted { IfErr result (λ e. FailsWriting (O.view output.old) (O.view output.new) e
         ⊎ (output.new ≡ output.old)) }
-    ensures read { IfErr result (λ e. e ≡ Fault Read → (I.view input.new).failing ≡ true) }
 {
     Ok(write_report(alloc, length, input, output)?)
 }
@@ -92,13 +87,12 @@ pub(crate) fn report<I: Source, O: Sink>(
     ensures done { OnOk result
         (Reports (I.view input.old).supply (I.view input.new).supply (O.view output.old).taken
         (O.view output.new).taken) }
-    ensures fails { IfErr result (FailsReport (ReportsFault (I.view input.old).supply
-        (I.view input.new).supply)) }
+    ensures fails { IfErr result (FailsReport (FailsInput (I.view input.old) (I.view input.new))
+        (O.view output.old) (O.view output.new)) }
     ensures began { (from : Origin) → I.began input.old from → I.began input.new from }
     ensures sent { OnOk result ((O.view output.new).settled ≡ true) }
     ensures unprinted { IfErr result (λ e. FailsWriting (O.view output.old) (O.view output.new) e
         ⊎ (output.new ≡ output.old)) }
-    ensures read { IfErr result (λ e. e ≡ Fault Read → (I.view input.new).failing ≡ true) }
 {
     report_as(alloc, None, input, output)
 }
@@ -127,13 +121,11 @@ pub(crate) fn report_file<F: FileSet, O: Sink>(
     ensures done { OnOk result (ReportsFile (CameSince (F.view files.old) (F.view files.new)) name.now
         (O.view output.old).taken (O.view output.new).taken) }
     ensures fails { IfErr result
-        (FailsReport (GaveFault (CameSince (F.view files.old) (F.view files.new)) name.now)) }
+        (FailsReport (FailsFile (F.view files.old) (F.view files.new) name.now)
+        (O.view output.old) (O.view output.new)) }
     ensures sent { OnOk result ((O.view output.new).settled ≡ true) }
     ensures unprinted { IfErr result (λ e. FailsWriting (O.view output.old) (O.view output.new) e
         ⊎ (output.new ≡ output.old)) }
-    ensures unread { IfErr result (λ e. e ≡ Fault Read
-        → IsUnread (CameSince (F.view files.old) (F.view files.new))
-        ⊎ CameSince (F.view files.old) (F.view files.new) Unfit) }
 {
     let mut source = match files.open(alloc, name) {
         Ok(source) => source,

@@ -4,10 +4,10 @@ ghost use Rattle.std.specs.Prelude.{◌≡◌, ◌⊎◌, ◌++◌, [], ◌≤�
 ghost use Rattle.std.specs.Prelude.{IsSomeAnd, is_some};
 ghost use Rattle.age_chunk.specs.Payload.{chunk_length};
 ghost use Rattle.age_fault.specs.declared.fault.FileFault.TheVariants.{Write};
-ghost use Rattle.age_fileset.specs.FileSet.{Entry, PutsOnly, IsMemoryOr, written_as};
+ghost use Rattle.age_fileset.specs.FileSet.{Entry, PutsOnly, CameSince, IsMemoryOr, written_as};
 ghost use Rattle.age_cli_args.specs.Requests.{option_text};
 ghost use Rattle.age_command.specs.Endings.{is_usage, Announces};
-ghost use Rattle.age_cli.specs.Acts.{IsEndingOf, IsNotDue, IsStored, LacksOne};
+ghost use Rattle.age_cli.specs.Acts.{IsEndingOf, IsNotDue, IsStored, IsUnsavable, LacksOne};
 ghost use Rattle.age_command.specs.Orders.{Follows, replacing};
 ghost use Rattle.age_cli.specs.inner.Endings.{sealing_end, opening_end};
 ghost use Rattle.age_machine.specs.Saved.{Saves};
@@ -79,7 +79,9 @@ pub(crate) fn save<F: FileSet>(
         (F.view files.old).events (F.view files.new).events }
     ensures unended { (F.view files.new).ended ≡ (F.view files.old).ended }
     ensures put { ((F.view files.new ≡ F.view files.old)
-        × OnOk result (LacksOne (option_text name.entry) position)) ⊎ IsSomeAnd position
+        × OnOk result (LacksOne (option_text name.entry) position)
+        × IfErr result (λ second. IsSomeAnd position (λ p. IsUnsavable settled p second)))
+        ⊎ IsSomeAnd position
         (λ p. Saves (position_text p) durability result (F.view files.new).saved
         × (p.index * chunk_length ≤ settled)
         × IsSomeAnd (option_text name.entry) (λ to. (F.view files.new).outcomes
@@ -117,8 +119,9 @@ pub(crate) fn end_of<F: FileSet, E: Sink>(
     ensures unended { (F.view files.new).ended ≡ (F.view files.old).ended }
     ensures put { (rest : List Entry) × PutsOnly rest (F.view files.old) (F.view files.new)
         × (((rest ≡ []) × ((F.view files.new).events ≡ (F.view files.old).events)
-        × IsNotDue result (option_text name.entry) stop.position)
-        ⊎ IsStored durability (option_text name.entry) settled stop.position result rest
+        × IsNotDue settled result (option_text name.entry) stop.position)
+        ⊎ IsStored (CameSince (F.view files.old) (F.view files.new)) durability
+        (option_text name.entry) settled stop.position result rest
         (F.view files.new).saved) }
 {
     *announced = announce(faults, stop.fault);

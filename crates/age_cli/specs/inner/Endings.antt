@@ -119,5 +119,5 @@ pub record Concludes (save : Option Text) (durability : Durability) (sink : Sink
   pub saved : IfErr result (λ ending. (puts : List Entry) × (rest : List Entry)
       × PutsOnly (puts ++ rest) old new × IsPut sink puts
       × (((new.events ≡ old.events ++ Closed durability ∷ []) × (rest ≡ [])
-      × IsNotDue ending save (position_of engine))
-      ⊎ IsStored durability save settled (position_of engine) ending rest new.saved))
+      × IsNotDue settled ending save (position_of engine))
+      ⊎ IsStored (CameSince old new) durability save settled (position_of engine) ending rest new.saved))

@@ -1,9 +1,10 @@
-use Rattle.std.proofs.Common.{inl, ◌∙◌, Ok, Err}
+use Rattle.std.proofs.Common.{inr, Ok}
 use Rattle.std.proofs.lemmas.Result.{on_ok_weaker, IfErr-weaker}
 use Rattle.age_io.specs.Io.{Named}
 use Rattle.age_fileset.specs.FileSet.{Opened, Found}
-use Rattle.age_fileset.proofs.OutcomeLemmas.{opened_does, opened_came, opened_unread, found_plain}
-use Rattle.age_cli.proofs.ReadLemmas.{over_does, was_read, same_fault}
+use Rattle.age_fileset.proofs.OutcomeLemmas.{opened_does, opened_came, found_plain}
+use Rattle.age_cli.proofs.ReadLemmas.{over_does, was_read}
+use Rattle.age_cli.specs.Commands.{FailsFile, FailsInput}
 use Rattle.age_cli.proofs.ReportLemmas.{fails_as, whole_report}
 use Rattle.age_cli.proofs.inspect_command.report_file.Goals as goal
 
@@ -14,12 +15,6 @@ returns-in-Err-Fault-clause-does g c =
 pub returns-in-Err-SameFile-clause-does : goal.returns-in-Err-SameFile-clause-does
 returns-in-Err-SameFile-clause-does g c =
     opened_does g.F.In.Source.view g.F.FileSet.size c.args.name.now (Found c.args.name.now) (found_plain c.args.name.now) _ _ c.open.result c.open.ensures.noted c.open.ensures.faults
-
-pub returns-in-Err-Fault-clause-unread : goal.returns-in-Err-Fault-clause-unread
-returns-in-Err-Fault-clause-unread g c read =
-    let name = c.args.name.now in
-    let same = c.in-Err-Fault.field-0-is ∙ same_fault _ _ _ c.in-Err-Fault.fault-is read in
-    inl (inl (name, opened_unread g.F.In.Source.view g.F.FileSet.size name (Found name) (found_plain name) _ _ (Err c.in-Err-Fault.field-0) c.in-Err-Fault.ensures.noted same))
 
 pub returns-clause-does : goal.returns-clause-does
 returns-clause-does g c =
@@ -57,4 +52,5 @@ returns-clause-fails g c =
     (opened_does In g.F.FileSet.size name (Found name) (found_plain name) _ _ c.open.result c.open.ensures.noted c.open.ensures.faults) last
     (c.finish.ensures.over name (c.report_as-reported.ensures.began (Named name) c.in-Ok.ensures.named)) first (g.F.FileSet.size c.in-Ok.source) c.in-Ok.ensures.begun
     (opened_came In g.F.FileSet.size name (Found name) (found_plain name) _ _ (Ok c.in-Ok.source) c.in-Ok.ensures.noted) in
-    IfErr-weaker c.report_as-reported.result _ _ (λ e fails. fails_as _ _ (λ f reports. (first, last, reading, reports)) e fails) c.report_as-reported.ensures.fails
+    IfErr-weaker c.report_as-reported.result _ _ (λ e fails. fails_as (FailsInput first last) (FailsFile (g.F.FileSet.view c.args.files.now) (g.F.FileSet.view c.finish.new.self) name)
+        (g.O.Sink.view c.args.output.now) (g.O.Sink.view c.report_as-reported.new.output) (λ f so. inr (first, last, reading, so)) e fails) c.report_as-reported.ensures.fails

@@ -9,4 +9,4 @@ returns-clause-silent g c =
     )
 
 pub returns-clause-reported : goal.returns-clause-reported
-returns-clause-reported g c = λ ended fails. reported_accepts ended _ fails
+returns-clause-reported g c = λ ended old new fails. reported_accepts ended (λ fault. Unit {0}) old new fails

@@ -3,6 +3,7 @@ use Rattle.clap.specs.Walk.{texts}
 use Rattle.age_cli_args.specs.Requests.{Requests}
 use Rattle.age_cli_args.specs.declared.request.Request.TheVariants.{Inspect, Encrypt, Decrypt, Resume, Drill}
 use Rattle.age_fileset.proofs.OutcomeLemmas.{does_none}
+use Rattle.age_cli.specs.Commands.{FailsFile, FailsInput}
 use Rattle.age_cli.proofs.ObeyLemmas.{some_words, obeyed, asked_fails, for_help, help_done, help_fails, both_done, drill_acts, inspect_acts}
 use Rattle.age_cli.proofs.program.obey.Goals as goal
 
@@ -36,14 +37,16 @@ returns-in-Err-clause-obeys g c =
 pub returns-in-Inspect-Some-clause-obeys : goal.returns-in-Inspect-Some-clause-obeys
 returns-in-Inspect-Some-clause-obeys g c =
     obeyed _ _ _ _ _ _ _ _ _ (Inspect (Some c.in-Inspect-Some.name)) (subst (Requests (texts c.args.words.now)) (c.in-Inspect-Some.is ∙ ap Inspect (rw c.in-Inspect-Some.is at c.in-Inspect-Some.field-0-is)) (rw c.in-Ok-Some.field-0-is at c.in-Ok-Some.ensures.asked))
-    (inspect_acts _ _ _ _ _ c.report_file.result refl (Some c.in-Inspect-Some.name) _ c.report_file.ensures.does c.report_file.ensures.fails)
-    (refl, record { done = both_done _ _ c.report_file.result c.report_file.ensures.done c.report_file.ensures.sent; stops = c.report_file.ensures.fails; unprinted = c.report_file.ensures.unprinted }, c.report_file.ensures.unread, c.report_file.ensures.does)
+    (inspect_acts _ _ _ _ _ c.report_file.result refl (Some c.in-Inspect-Some.name) (FailsFile (g.F.FileSet.view c.args.files.now) (g.F.FileSet.view c.report_file.new.files) c.in-Inspect-Some.name.now)
+    (g.O.Sink.view c.args.output.now) (g.O.Sink.view c.report_file.new.output) c.report_file.ensures.does c.report_file.ensures.fails)
+    (refl, record { done = both_done _ _ c.report_file.result c.report_file.ensures.done c.report_file.ensures.sent; stops = c.report_file.ensures.fails; unprinted = c.report_file.ensures.unprinted }, c.report_file.ensures.does)
 
 pub returns-in-Inspect-None-clause-obeys : goal.returns-in-Inspect-None-clause-obeys
 returns-in-Inspect-None-clause-obeys g c =
     obeyed _ _ _ _ _ _ _ _ _ (Inspect None) (subst (Requests (texts c.args.words.now)) (c.in-Inspect-None.is ∙ ap Inspect (rw c.in-Inspect-None.is at c.in-Inspect-None.field-0-is)) (rw c.in-Ok-Some.field-0-is at c.in-Ok-Some.ensures.asked))
-    (inspect_acts _ _ _ _ _ c.report-in-Inspect-None.result refl None _ (does_none (g.F.FileSet.view c.args.files.now)) c.report-in-Inspect-None.ensures.fails)
-    ((record { done = both_done _ _ c.report-in-Inspect-None.result c.report-in-Inspect-None.ensures.done c.report-in-Inspect-None.ensures.sent; stops = c.report-in-Inspect-None.ensures.fails; unprinted = c.report-in-Inspect-None.ensures.unprinted }, c.report-in-Inspect-None.ensures.read), refl)
+    (inspect_acts _ _ _ _ _ c.report-in-Inspect-None.result refl None (FailsInput (g.I.Source.view c.args.input.now) (g.I.Source.view c.report-in-Inspect-None.new.input))
+    (g.O.Sink.view c.args.output.now) (g.O.Sink.view c.report-in-Inspect-None.new.output) (does_none (g.F.FileSet.view c.args.files.now)) c.report-in-Inspect-None.ensures.fails)
+    (record { done = both_done _ _ c.report-in-Inspect-None.result c.report-in-Inspect-None.ensures.done c.report-in-Inspect-None.ensures.sent; stops = c.report-in-Inspect-None.ensures.fails; unprinted = c.report-in-Inspect-None.ensures.unprinted }, refl)
 
 pub returns-in-Encrypt-clause-obeys : goal.returns-in-Encrypt-clause-obeys
 returns-in-Encrypt-clause-obeys g c =
