@@ -125,9 +125,14 @@ pub rest_of : (durability : Durability) (save : Option Text) (sink : SinkView) (
     → Rest durability save sink settled at old new e
 rest_of durability save sink settled position at old mid new e puts same grows put closed (rest, more, inl (none, events, due)) =
     (puts, rest, grows_then puts rest old mid new grows more, put, inl (events ∙ closed, none, subst (λ (o : Option Position). IsNotDue settled e save o) same due))
-rest_of durability save sink settled position at old mid new e puts same grows put closed (rest, more, inr done) =
-    (puts, rest, grows_then puts rest old mid new grows more, put, inr (subst (λ (o : Option Position). IsStored (CameSince old new) durability save settled o e rest new.saved) same
-    (stored_as (CameSince mid new) (CameSince old new) (then_came puts old mid new grows) durability save settled position e rest new.saved done)))
+rest_of durability save sink settled position at old mid new e puts same grows put closed (rest, more, inr done) = (
+  puts,
+  rest,
+  grows_then puts rest old mid new grows more,
+  put,
+  inr (subst (λ (o : Option Position). IsStored (CameSince old new) durability save settled o e rest new.saved) same
+      (stored_as (CameSince mid new) (CameSince old new) (then_came puts old mid new grows) durability save settled position e rest new.saved done)),
+)
 
 -- the same from before the output was asked how much of it is certain
 module _ (save : Option Text) (durability : Durability) (sink : SinkView) (settled : ℕ) (engine : Result (Unit {0}) Interruption) (old mid new : FilesView) (did : Does [] old mid) where

@@ -4,13 +4,10 @@ use Rattle.std.specs.Prelude.{◌==◌}
 use Rattle.std.proofs.lemmas.Bool.{eqb-true, false_from_ne_true}
 use Rattle.clap.specs.Words.{Text}
 use Rattle.age_io.specs.Io.{SourceView}
-use Rattle.age_fault.specs.declared.fault.FileFault.{FileFault}
 use Rattle.age_fileset.specs.FileSet.{Event, FilesView, Outcome, Found, FoundOrEmpty, Gave, CameSince, Does, reading_of, with_outcomes}
 use Rattle.age_fileset.specs.declared.files.OpenFault.{OpenFault}
-use Rattle.age_fileset.specs.declared.files.OpenFault.TheVariants as fault
 use Rattle.age_fileset.proofs.OutcomeLemmas.{does_only, does_then, came_one, came_then, then_came, grows_by, gave_puts}
 use Rattle.age_command.specs.Files.{HoldsOnly}
-use Rattle.age_command.specs.declared.ending.Ending.TheVariants.{Fault}
 use Rattle.age_file.specs.declared.position.Position.{Position}
 use Rattle.std.proofs.lemmas.List.{length-append}
 use Rattle.std.specs.Borrow.{Bor}
@@ -46,10 +43,6 @@ module _ (How : Option (List ℕ) → Option ℕ → Outcome) (name : Text) (e :
     found = came_then [] old mid new (grows_by [] mid new over_only) (How first.supply.left size) found;
     over = then_came [] old mid new (grows_by (e ∷ []) old mid did) (Gave (reading_of name last)) (came_one mid new (Gave (reading_of name last)) (ap (λ v. v.outcomes) over));
   }
-
--- a fault is that of the ending
-pub same_fault : (x f g : FileFault) → x ≡ f → Fault x ≡ Fault g → fault.Fault f ≡ fault.Fault g
-same_fault x f g is same = cc
 
 -- ---- The old text is found.
 

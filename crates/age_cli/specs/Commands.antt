@@ -18,7 +18,8 @@ use Rattle.age_file.specs.Reports as file
 use Rattle.age_file.specs.declared.position.Position.{Position}
 use Rattle.age_file.specs.declared.report.Report.{Report}
 use Rattle.age_file.specs.declared.report.StanzaReport.{StanzaReport}
-use Rattle.age_fileset.specs.FileSet.{FilesView, CameSince, Outcome, Found, FoundOrEmpty, Unread, Unfit, Gave, reading_of, HasGiven, HasGivenAll}
+use Rattle.age_fileset.specs.FileSet.{FilesView, CameSince, Outcome, Found, FoundOrEmpty, Unread, Unfit}
+use Rattle.age_fileset.specs.FileSet.{Gave, reading_of, HasGiven, HasGivenAll}
 use Rattle.age_cli_args.specs.Requests.{option_text}
 use Rattle.age_cli_args.specs.declared.request.Encrypting.{Encrypting}
 use Rattle.age_command.specs.declared.ending.Ending.{Ending}

@@ -53,4 +53,4 @@ returns-clause-fails g c =
     (c.finish.ensures.over name (c.report_as-reported.ensures.began (Named name) c.in-Ok.ensures.named)) first (g.F.FileSet.size c.in-Ok.source) c.in-Ok.ensures.begun
     (opened_came In g.F.FileSet.size name (Found name) (found_plain name) _ _ (Ok c.in-Ok.source) c.in-Ok.ensures.noted) in
     IfErr-weaker c.report_as-reported.result _ _ (λ e fails. fails_as (FailsInput first last) (FailsFile (g.F.FileSet.view c.args.files.now) (g.F.FileSet.view c.finish.new.self) name)
-        (g.O.Sink.view c.args.output.now) (g.O.Sink.view c.report_as-reported.new.output) (λ f so. inr (first, last, reading, so)) e fails) c.report_as-reported.ensures.fails
+    (g.O.Sink.view c.args.output.now) (g.O.Sink.view c.report_as-reported.new.output) (λ f so. inr (first, last, reading, so)) e fails) c.report_as-reported.ensures.fails
