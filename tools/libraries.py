@@ -59,6 +59,11 @@ class Libraries:
         return True
 
 
+def is_of(made, stamp, key):
+    """Whether a library was made of what this key is a checksum of."""
+    return made.is_file() and stamp.is_file() and stamp.read_text() == key
+
+
 def make_static(name):
     """Proves what a static library uses, or takes what `rt ci` kept of it, and then proves and compiles it: whether that went well."""
     start = time.monotonic()
@@ -71,12 +76,15 @@ def make_static(name):
         os.makedirs(f"{crate.folder}/out", exist_ok=True)
         to.mkdir(exist_ok=True)
         of = len(with_used(name))
+        made, stamp = to / f"lib{name}.a", to / f"lib{name}.key"
+        if isinstance(libraries.kept, older_kit.Kept) and is_of(made, stamp, libraries.kept.key(crate)):
+            return True
         for count, it in enumerate(crate.below(), 1):
             if not libraries.is_proved(it):
                 return False
             print(f"[{count}/{of}] {it.name} proved, {int((time.monotonic() - start) / 60)} min", file=sys.stderr, flush=True)
-        made, stamp, key = to / f"lib{name}.a", to / f"lib{name}.key", libraries.kept.key(crate)
-        if not (made.is_file() and stamp.is_file() and stamp.read_text() == key):
+        key = libraries.kept.key(crate)
+        if not is_of(made, stamp, key):
             jobs = os.environ.get("JOBS") or str(len(os.sched_getaffinity(0)))
             words = ["build", *crate.words(["--jobs", jobs], keeps=False), "--toolchain", f"{kit().KIT}/toolchain", "--backend", "llvm"]
             with tempfile.TemporaryFile("w+", errors="replace") as crate.out:
