@@ -4,7 +4,7 @@ use Rattle.std.specs.Prelude.{IsErr, IsErrAnd}
 use Rattle.clap.specs.Words.{Text}
 use Rattle.age_io.specs.declared.durability.Durability.{Durability}
 use Rattle.age_file.specs.Runs.{Ports}
-use Rattle.age_fileset.specs.FileSet.{Event, Closed, FilesView, CameSince, Does, Unfit}
+use Rattle.age_fileset.specs.FileSet.{Event, Closed, FilesView, CameSince, Does}
 use Rattle.age_fileset.proofs.OutcomeLemmas.{did_ended, did_events, grows_by, grows_then, then_came}
 use Rattle.age_cli_args.specs.Requests.{option_text}
 use Rattle.age_cli_args.specs.declared.request.ClobberOption.{ClobberOption}
@@ -18,10 +18,10 @@ use Rattle.age_command.specs.declared.ending.Ending.TheVariants.{Usage}
 use Rattle.age_command.specs.declared.ending.Usage.{Usage as Why}
 use Rattle.age_command.proofs.EventLemmas.{follows_by, longer, then_did, then_follows}
 use Rattle.age_command.proofs.ResultLemmas.{not_well, this_error, just_error}
-use Rattle.age_cli.specs.Acts.{Acts, EndsBefore, GivesNone, HasNotBegun, IsBlamed, IsUnfit, IsUsage}
+use Rattle.age_cli.specs.Acts.{Acts, EndsBefore, GivesNone, HasNotBegun, IsBlamed, IsUnusable, IsUsage, age_file_of}
 use Rattle.age_cli.specs.inner.Openings.{Judges, OpensFiles}
 use Rattle.age_cli.proofs.FileLemmas.{spared_then}
-use Rattle.age_cli.proofs.OpeningLemmas.{reason_as, unfit_as}
+use Rattle.age_cli.proofs.OpeningLemmas.{reason_as, taken_any, taken_as}
 
 -- ---- The events of a command, in order.
 
@@ -62,7 +62,7 @@ module _ (IsPorts : Ports → Type 0) (asked : Request) (before after : FilesVie
 
   -- with this ending
   pub acts_before : (e : Ending) → IsErr r × IsErrAnd r (λ x. x ≡ e) → HasNotBegun asked e before after
-      → (IsUsage e → Follows (order_asked asked).judged before.events after.events ⊎ CameSince before after Unfit)
+      → (IsUsage e → Follows (order_asked asked).judged before.events after.events ⊎ IsUnusable (CameSince before after) (age_file_of asked) e)
       → (NamesTwice (order_asked asked).apart → (after.events ≡ before.events) × IsUsage e)
       → (IsUsage e → IsBlamed (CameSince before after) asked e) → Unshown → Acted
   acts_before e is none judged apart blamed silent = record {
@@ -97,7 +97,7 @@ module _ (IsPorts : Ports → Type 0) (asked : Request) (before after : FilesVie
             order = done_so (follows_by (order_asked asked).judged before after j.followed);
           })
           (λ usage. inl (follows_by (order_asked asked).judged before after j.followed)) j.apart
-          (λ usage. ⊎_elim (λ blamed. blamed) (λ unfit. inr (inr unfit)) (j.blamed usage)) silent
+          (λ usage. ⊎_elim (λ blamed. blamed) (λ taken. inr (inr (taken_any (CameSince before after) (age_file_of asked) e taken))) (j.blamed usage)) silent
 
       -- or for what these hold
       pub acts_refused : {A : Type 0} (x : A) (why : Why) → IsErr r × IsErrAnd r (λ y. y ≡ Usage why)
@@ -129,11 +129,11 @@ module _ (IsPorts : Ports → Type 0) (asked : Request) (before after : FilesVie
 
     -- its input or what it writes can't be opened
     pub acts_unopened : {A : Type 0} (done order whole : List Event) (mid : FilesView) (IsNew : A → Type 0) (e : Ending) → IsErr r × IsErrAnd r (λ x. x ≡ e)
-        → (order_asked asked).done ≡ done ++ whole → Does done before mid → OpensFiles order whole mid after IsNew (Err e)
+        → (order_asked asked).done ≡ done ++ whole → Does done before mid → OpensFiles order whole (age_file_of asked) mid after IsNew (Err e)
         → (NamesTwice (order_asked asked).apart → ⊥) → Unshown → Acted
     acts_unopened done order whole mid IsNew e is done_is did opens apart silent =
-        let unfit : IsUsage e → IsUnfit (CameSince before after) e =
-        λ usage. unfit_as (CameSince mid after) (CameSince before after) (then_came [] before mid after (grows_by done before mid did)) e
+        let taken : IsUsage e → IsUnusable (CameSince before after) (age_file_of asked) e =
+        λ usage. taken_as (CameSince mid after) (CameSince before after) (then_came [] before mid after (grows_by done before mid did)) (age_file_of asked) e
         (opens.fault usage) in
         acts_before e is (record {
           early = early e opens.early;
@@ -143,17 +143,18 @@ module _ (IsPorts : Ports → Type 0) (asked : Request) (before after : FilesVie
           order = subst (λ (o : List Event). Follows o before.events after.events) (sym done_is)
               (then_follows before.events mid.events after.events done whole (did_events done before mid did) opens.followed);
         })
-        (λ usage. inr (unfit usage).1) (λ twice. absurd (apart twice)) (λ usage. inr (inr (unfit usage))) silent
+        (λ usage. inr (taken usage)) (λ twice. absurd (apart twice)) (λ usage. inr (inr (taken usage))) silent
 
   -- another file that it reads can't be opened, or doesn't hold what it has to
   pub acts_unread : (done order more : List Event) (mid : FilesView) (e : Ending) → IsErr r × IsErrAnd r (λ x. x ≡ e)
       → (order_asked asked).done ≡ done ++ (order ++ more) → Does done before mid → Begins order mid after → EndsBefore (CameSince before after) asked e
-      → HasReason (CameSince mid after) e → (IsUsage e → IsUnfit (CameSince mid after) e)
+      → HasReason (CameSince mid after) e → (IsUsage e → IsUnusable (CameSince mid after) None e)
       → (NamesTwice (order_asked asked).apart → ⊥) → Unshown → Acted
-  acts_unread done order more mid e is done_is did begins early reason unfit apart silent =
+  acts_unread done order more mid e is done_is did begins early reason taken apart silent =
       let opened = grows_by done before mid did in
-      let later : IsUsage e → IsUnfit (CameSince before after) e =
-      λ usage. unfit_as (CameSince mid after) (CameSince before after) (then_came [] before mid after opened) e (unfit usage) in
+      let later : IsUsage e → IsUnusable (CameSince before after) (age_file_of asked) e =
+      λ usage. taken_any (CameSince before after) (age_file_of asked) e
+      (taken_as (CameSince mid after) (CameSince before after) (then_came [] before mid after opened) None e (taken usage)) in
       acts_before e is (record {
         early = early;
         reason = reason_as (CameSince mid after) (CameSince before after) (then_came [] before mid after opened) e reason;
@@ -163,4 +164,4 @@ module _ (IsPorts : Ports → Type 0) (asked : Request) (before after : FilesVie
             (then_follows before.events mid.events after.events done (order ++ more) (did_events done before mid did)
             (longer order more mid.events after.events (follows_by order mid after begins)));
       })
-      (λ usage. inr (later usage).1) (λ twice. absurd (apart twice)) (λ usage. inr (inr (later usage))) silent
+      (λ usage. inr (later usage)) (λ twice. absurd (apart twice)) (λ usage. inr (inr (later usage))) silent

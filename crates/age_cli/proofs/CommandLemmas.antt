@@ -6,7 +6,7 @@ use Rattle.clap.specs.Words.{Text}
 use Rattle.age_fault.specs.declared.fault.FileFault.TheVariants.{BadPosition, Read}
 use Rattle.age_fileset.specs.declared.files.OpenFault.{OpenFault}
 use Rattle.age_fileset.specs.declared.files.OpenFault.TheVariants as create
-use Rattle.age_fileset.specs.FileSet.{OpenFails, Event, Outcome, Unfit, FilesView, Does, CameSince}
+use Rattle.age_fileset.specs.FileSet.{OpenFails, Event, Outcome, OneStream, FilesView, Does, CameSince}
 use Rattle.age_fileset.proofs.OutcomeLemmas.{does_then, did_events, grows_by, came_then, then_came, all_as}
 use Rattle.age_cli_args.specs.declared.request.Decrypting.{Decrypting}
 use Rattle.age_cli_args.specs.declared.request.IdentityOptions.{IdentityOptions}
@@ -21,11 +21,12 @@ use Rattle.age_command.specs.Endings.{EndsEarly}
 use Rattle.age_command.specs.inner.Endings.{ending_of}
 use Rattle.age_command.specs.Files.{HasReason, HoldsOnly, IsUnread}
 use Rattle.age_command.specs.Identities.{Chooses, IsEnough, IsSecretGiven, Makes, MakesBy, MakesNone, file_of, identity_file}
-use Rattle.age_command.specs.Orders.{NamesTwice, order_asked}
+use Rattle.age_command.specs.Orders.{AreApart, NamesTwice, order_asked}
 use Rattle.age_command.proofs.EventLemmas.{begins_then}
 use Rattle.age_cli.specs.Acts.{IsBlamed, OpensOf}
 use Rattle.age_cli.specs.inner.Openings.{BlamesNames, Compares, Judges}
-use Rattle.age_cli.proofs.OpeningLemmas.{holds_as, read_early, read_reason, reason_as, unfit_as}
+use Rattle.age_cli.proofs.NameLemmas.{same_as}
+use Rattle.age_cli.proofs.OpeningLemmas.{holds_as, read_early, read_reason, reason_as, taken_as}
 
 -- ---- What came in a part came in the whole.
 
@@ -69,25 +70,25 @@ module _ (Came Later : Outcome → Type 0) (so : (o : Outcome) → Came o → La
 -- ---- How a command is judged, whose names were compared first.
 
 module _ {A : Type 0} (asked : Request) (a order : List Event) (old mid new : FilesView) (twice : Bool) (r : Result A Ending) where
-  named_so : Compares old mid twice (NamesTwice (order_asked asked).apart) → Does [] mid new ⊎ ((o : Outcome) → CameSince old mid o → CameSince old new o)
-      → (e : Ending) → BlamesNames twice e → IsBlamed (CameSince old new) asked e
-  named_so c (inl does) e named = ⊎_elim (λ same. inl (named.0, same))
-      (λ unfit. inr (inr (inl named.0, came_then [] old mid new (grows_by [] mid new does) Unfit unfit))) (c.found named.1)
-  named_so c (inr so) e named = ⊎_elim (λ same. inl (named.0, same)) (λ unfit. inr (inr (inl named.0, so Unfit unfit))) (c.found named.1)
+  named_so : Compares old mid twice (AreApart (order_asked asked).apart) → (more : List Event) → Does more mid new → (e : Ending)
+      → BlamesNames (CameSince mid new) twice (order_asked asked).read e → IsBlamed (CameSince old new) asked e
+  named_so c more does e (is, inl holds) =
+      inl (is, inl (same_as (CameSince old mid) (CameSince old new) (came_then [] old mid new (grows_by more mid new does)) _ _ (λ one other a. inl a) (c.found holds)))
+  named_so c more does e (is, inr came) = inl (is, inr (then_came [] old mid new (grows_by [] old mid c.does) (OneStream (order_asked asked).read) came))
 
-  pub judges_from : a ≡ order → Compares old mid twice (NamesTwice (order_asked asked).apart) → Judges a mid new (twice ≡ true) (BlamesNames twice) r
+  pub judges_from : a ≡ order → Compares old mid twice (AreApart (order_asked asked).apart)
+      → Judges a mid new (twice ≡ true) (BlamesNames (CameSince mid new) twice (order_asked asked).read) r
       → Judges order old new (NamesTwice (order_asked asked).apart) (IsBlamed (CameSince old new) asked) r
   judges_from is c j =
-      let before : (o : Outcome) → CameSince old mid o → CameSince old new o = came_then [] old mid new (grows_by _ mid new j.followed.did) in
       let later : (o : Outcome) → CameSince mid new o → CameSince old new o = then_came [] old mid new (grows_by [] old mid c.does) in
       subst (λ (o : List Event). Judges o old new (NamesTwice (order_asked asked).apart) (IsBlamed (CameSince old new) asked) r) is (record {
         noted = on_ok_weaker r (λ d. does_then [] a old mid new c.does d) j.noted;
         followed = begins_then [] a old mid new c.does j.followed;
-        apart = λ same. let at = j.apart (c.twice same) in
+        apart = λ (name, pair). let at = j.apart (c.twice name pair) in
             (at.0 ∙ (did_events [] old mid c.does ∙ append-nil old.events), at.1);
         blamed = IfErr-weaker r _ _
-            (λ e blame usage. ⊎_elim (λ named. inl (named_so c (inr before) e named))
-            (λ unfit. inr (unfit_as (CameSince mid new) (CameSince old new) later e unfit)) (blame usage)) j.blamed;
+            (λ e blame usage. ⊎_elim (λ named. inl (named_so c j.followed.done j.followed.did e named))
+            (λ taken. inr (taken_as (CameSince mid new) (CameSince old new) later None e taken)) (blame usage)) j.blamed;
         early = j.early;
         reason = IfErr-weaker r _ _ (reason_as (CameSince mid new) (CameSince old new) later) j.reason;
       })

@@ -154,9 +154,9 @@ module _ (IsPorts : Ports → Type 0) (Came : Outcome → Type 0) (p : Paths) (e
 -- ---- What was put, and the names that have to differ.
 
 one_identity : (first second old : Option Text) (from q : Text) → either_name first second ≡ Some q
-    → IsOneOf (Some q) (Some from ∷ first ∷ second ∷ old ∷ [])
-one_identity (Some n) second old from q is = inr (inl (q, refl, is))
-one_identity None second old from q is = inr (inr (inl (q, refl, is)))
+    → IsOneOf q (Some from ∷ first ∷ second ∷ old ∷ [])
+one_identity (Some n) second old from q is = inr (inl is)
+one_identity None second old from q is = inr (inr (inl is))
 
 saved_others : (ending : Ending) (save : Option Text) (p : Position) (rest : List Entry) → IsSavedAs ending save p rest
     → (q : Text) → (save ≡ Some q → ⊥) → AreOthers q rest
@@ -293,7 +293,7 @@ module _ (words : List Text) (IsPorts : Ports → Type 0) (before after : World)
 
     -- IN, and what opens it
     module _ (d : Decrypting) (old_name : Option Text) (others : (q : Text)
-        → IsOneOf (Some q) (Some d.from.now ∷ option_text d.identity.pass ∷ option_text d.identity.shared ∷ old_name ∷ []) → AreOthers q puts) where
+        → IsOneOf q (Some d.from.now ∷ option_text d.identity.pass ∷ option_text d.identity.shared ∷ old_name ∷ []) → AreOthers q puts) where
       opened : (identity : Identity) → OpensOf since d identity → OpensBy olds d.identity identity
       opened identity by =
           by_secret (held_for olds (identity_file d.identity)) by.given (option_text d.identity.pass) (option_text d.identity.file_key)
@@ -304,7 +304,7 @@ module _ (words : List Text) (IsPorts : Ports → Type 0) (before after : World)
           → (is_some (olds d.from.now) ≡ true) × (olds d.from.now ≡ run.before.source.supply.left)
       input_was run =
           let found = found_was before.files after.files was is kept_was kept_is d.from.now run.before.source.supply.left run.input.size run.input.found
-          (earlier d.from.now _ (others d.from.now (inl (d.from.now, refl, refl))) run.input.found) in
+          (earlier d.from.now _ (others d.from.now (inl refl)) run.input.found) in
           (ap is_some (sym found.1) ∙ found.0, sym found.1)
 
     front_was : (p : Position) (name : Text) (text : List ℕ) → AreOthers name puts → IsWritersOld (olds name) p text
@@ -360,13 +360,12 @@ module _ (words : List Text) (IsPorts : Ports → Type 0) (before after : World)
 
     -- an engine leaves the text, if nothing was put under the names that are read
     abbrev Writes : Engine → Type 0
-    Writes engine = (puts : List Entry) → PutsOnly puts before.files after.files → ((q : Text) → IsOneOf (Some q) reads → AreOthers q puts)
+    Writes engine = (puts : List Entry) → PutsOnly puts before.files after.files → ((q : Text) → IsOneOf q reads → AreOthers q puts)
         → (run : Returned IsPorts since p after.files.ended) → Leaves IsPorts since p after.files.ended run text engine
 
     unread : (IsTwice → ⊥) → (puts : List Entry) → ((q : Text) → (Some p.to ≡ Some q → ⊥) → (p.save ≡ Some q → ⊥) → AreOthers q puts)
-        → (q : Text) → IsOneOf (Some q) reads → AreOthers q puts
-    unread apart puts only q one = only q (λ here. apart (inl (inr (subst (λ (o : Option Text). IsOneOf o reads) (sym here) one))))
-        (λ here. apart (inr (inl (inr (subst (λ (o : Option Text). IsOneOf o reads) (sym here) one)))))
+        → (q : Text) → IsOneOf q reads → AreOthers q puts
+    unread apart puts only q one = only q (λ here. apart (q, inl (here, inr one))) (λ here. apart (q, inr (inl (here, inr one))))
 
     stopped_out : (engine : Engine) (durability : Durability) (done : List Event) (ending : Ending) → (IsTwice → ⊥) → Writes engine
         → HasEngineStopped IsPorts since engine p durability done ending before.files after.files → HoldsNoMore (olds p.to) (news p.to) text
@@ -375,7 +374,7 @@ module _ (words : List Text) (IsPorts : Ports → Type 0) (before after : World)
         let leaves = writes puts s.puts (unread apart puts (left_others engine p durability done ending s)) s.run in
         let begins : IsPrefixOf s.run.out.took text = ⊎_elim (λ stop. leaves.1 s.settled s.fault s.position stop.promise)
         (λ unended. subst (λ (t : List ℕ). IsPrefixOf t text) (sym (leaves.0 unended.promise)) ([], append-nil text)) s.cause in
-        let rest : AreOthers p.to s.rest = saved_rest engine p durability done ending s p.to (λ here. apart (inr (inl (inl (p.to, here, refl))))) in
+        let rest : AreOthers p.to s.rest = saved_rest engine p durability done ending s p.to (λ here. apart (p.to, inr (inl (here, inl refl)))) in
         let stands : s.outs ≡ entry p.to s.run.out.took ∷ [] → news p.to ≡ Some s.run.out.took = λ took.
         put_since before.files after.files was is kept_was kept_is puts s.puts p.to s.run.out.took s.rest (ap (λ (x : List Entry). x ++ s.rest) took) rest in
         ⊎_elim (λ none. inl (same puts s.puts p.to (others_then p.to s.outs s.rest (subst (λ (x : List Entry). AreOthers p.to x) (sym none) tt) rest)))
@@ -415,7 +414,7 @@ module _ (words : List Text) (IsPorts : Ports → Type 0) (before after : World)
       let input = input_was puts grows d (Some s.old.now) others run in
       resumes IsPorts since (paths_of d) after.files.ended run text identity (kept_for (option_text d.save)) (olds d.from.now) input.0 input.1
       p s.old.now auth.few
-      (front_was puts grows p s.old.now text (others s.old.now (inr (inr (inr (inl (s.old.now, refl, refl)))))) (auth.old_text p at))
+      (front_was puts grows p s.old.now text (others s.old.now (inr (inr (inr (inl refl))))) (auth.old_text p at))
       (auth.rest p at identity (opened puts grows d (Some s.old.now) others identity by))
 
   -- ---- What is promised, whichever request was made of the words.

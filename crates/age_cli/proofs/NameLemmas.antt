@@ -1,238 +1,230 @@
--- Names that have to differ, and are equal.
+-- Names that have to differ, and are the same.
 use Rattle.std.proofs.Common.{◌≡◌, ◌⊎◌, ◌∙◌, List, inl, inr, ap, sym, refl, None, Some, Option, Bool, true, false, true≢false, [], ◌∷◌}
 use Rattle.std.specs.Prelude.{◌&&◌, not}
 use Rattle.std.specs.Str.{bytes_eq}
 use Rattle.std.proofs.lemmas.Slice.Eq.{bytes_eq-Decides}
 use Rattle.clap.specs.Words.{Text}
-use Rattle.age_fileset.specs.FileSet.{FilesView, CameSince, Unfit, alike_as, unfit_if, with_outcomes}
-use Rattle.age_fileset.proofs.OutcomeLemmas.{came_one, does_none, does_only, does_then, grows_by, then_came, unfit_puts}
+use Rattle.age_fileset.specs.FileSet.{FilesView, Outcome, CameSince, Alike, alike_as, noted_if, with_outcomes}
+use Rattle.age_fileset.proofs.OutcomeLemmas.{alike_plain, does_none, does_then, grows_by, noted_came, noted_does, then_came}
 use Rattle.age_cli_args.specs.Requests.{option_text}
 use Rattle.age_cli_args.specs.declared.request.Decrypting.{Decrypting}
 use Rattle.age_cli_args.specs.declared.request.Encrypting.{Encrypting}
 use Rattle.age_cli_args.specs.declared.request.Resuming.{Resuming}
 use Rattle.age_cli_args.specs.declared.request.Request.{Request}
 use Rattle.age_cli_args.specs.declared.request.Request.TheVariants.{Decrypt, Encrypt, Resume}
-use Rattle.age_command.specs.Orders.{IsOneOf, IsSameName, NamesTwice, order_asked, random_name}
+use Rattle.age_command.specs.Orders.{AreApart, order_asked, random_name}
+use Rattle.age_cli.specs.Acts.{AreSame}
 use Rattle.age_cli.specs.inner.Openings.{Compares, IsReadAs}
+
+abbrev pub Pairs : Type 1
+Pairs = Text → Text → Type 0
+
+-- these two names
+abbrev pub IsBoth : Text → Text → Pairs
+IsBoth a b one other = (a ≡ one) × (b ≡ other)
 
 -- ---- What comparisons say, one after the other.
 
--- what no name shows came, if names that differ are one
-unfit_came : (old new : FilesView) (one other : Text) (answer same : Bool) → (same ≡ true → one ≡ other) → new ≡ with_outcomes (unfit_if (answer && not same)) old
-    → answer ≡ true → (one ≡ other) ⊎ CameSince old new Unfit
-unfit_came old new one other answer true so is holds = inl (so refl)
-unfit_came old new one other true false so is holds = inr (came_one old new Unfit (ap (λ v. v.outcomes) is))
-unfit_came old new one other false false so is holds = absurd (true≢false (sym holds))
+module _ (Came Later : Outcome → Type 0) (so : (o : Outcome) → Came o → Later o) (A B : Pairs) where
+  same_parts : (one other : Text) → (one ≡ other) ⊎ (Came (Alike one other) ⊎ Came (Alike other one)) → (one ≡ other) ⊎ (Later (Alike one other) ⊎ Later (Alike other one))
+  same_parts one other (inl is) = inl is
+  same_parts one other (inr (inl came)) = inr (inl (so (Alike one other) came))
+  same_parts one other (inr (inr came)) = inr (inr (so (Alike other one) came))
+
+  turned_parts : (one other : Text) → (one ≡ other) ⊎ (Came (Alike one other) ⊎ Came (Alike other one)) → (other ≡ one) ⊎ (Later (Alike other one) ⊎ Later (Alike one other))
+  turned_parts one other (inl is) = inl (sym is)
+  turned_parts one other (inr (inl came)) = inr (inr (so (Alike one other) came))
+  turned_parts one other (inr (inr came)) = inr (inl (so (Alike other one) came))
+
+  -- pairs that are such pairs too, in this order or in the other
+  pub same_as : ((one other : Text) → A one other → B one other ⊎ B other one) → AreSame Came A → AreSame Later B
+  same_as pairs (one, other, pair, same) = elim (pairs one other pair) [
+    | inl b ↦ (one, other, b, same_parts one other same)
+    | inr b ↦ (other, one, b, turned_parts one other same)
+  ]
+
+alike_came : (old new : FilesView) (one other : Text) (answer same : Bool) → (same ≡ true → one ≡ other) → new ≡ with_outcomes (noted_if (answer && not same) (Alike one other)) old
+    → answer ≡ true → (one ≡ other) ⊎ (CameSince old new (Alike one other) ⊎ CameSince old new (Alike other one))
+alike_came old new one other answer true so is holds = inl (so refl)
+alike_came old new one other true false so is holds = inr (inl (noted_came true (Alike one other) (alike_plain one other) old new is refl))
+alike_came old new one other false false so is holds = absurd (true≢false (sym holds))
 
 pub compared : (old new : FilesView) (one other : Text) (answer : Bool) → (one ≡ other → answer ≡ true) → new ≡ with_outcomes (alike_as one other answer) old
-    → Compares old new answer (one ≡ other)
+    → Compares old new answer (IsBoth one other)
 compared old new one other answer equal noted = record {
-  does = does_only old new (alike_as one other answer) noted (unfit_puts (answer && not (bytes_eq one other)));
-  twice = equal;
-  found = unfit_came old new one other answer (bytes_eq one other) (λ same. (bytes_eq-Decides one other).0 same) noted;
+  does = noted_does (answer && not (bytes_eq one other)) (Alike one other) (alike_plain one other) old new noted;
+  twice = λ name both. equal (both.0 ∙ sym both.1);
+  found = λ holds. (one, other, (refl, refl), alike_came old new one other answer (bytes_eq one other) (λ same. (bytes_eq-Decides one other).0 same) noted holds);
 }
 
--- names that aren't so
-pub no_names : (old : FilesView) (Same : Type 0) → (Same → ⊥) → Compares old old false Same
-no_names old Same none = record { does = does_none old; twice = λ same. absurd (none same); found = λ holds. absurd (true≢false (sym holds)) }
+module _ (old new : FilesView) (answer : Bool) (A B : Pairs) (so : (one other : Text) → A one other → B one other ⊎ B other one) where
+  -- they are the same, which is enough
+  pub enough_names : answer ≡ true → Compares old new answer A → Compares old new answer B
+  enough_names holds c = record {
+    does = c.does;
+    twice = λ name b. holds;
+    found = λ is. same_as (CameSince old new) (CameSince old new) (λ o came. came) A B so (c.found is);
+  }
 
--- the same in other words
-pub names_as : (old new : FilesView) (answer : Bool) (A B : Type 0) → (A → B) → (B → A) → Compares old new answer A → Compares old new answer B
-names_as old new answer A B so back c = record {
-  does = c.does;
-  twice = λ b. c.twice (back b);
-  found = λ holds. elim (c.found holds) [ inl a ↦ inl (so a) | inr unfit ↦ inr unfit ];
-}
+  pub true_names : answer ≡ true → Compares old new answer A → Compares old new true B
+  true_names holds c = rw (sym holds) (enough_names holds c)
 
--- they are so, which is enough
-pub enough_names : (old new : FilesView) (answer : Bool) (A B : Type 0) → (A → B) → answer ≡ true → Compares old new answer A → Compares old new answer B
-enough_names old new answer A B so holds c = record {
-  does = c.does;
-  twice = λ b. holds;
-  found = λ is. elim (c.found is) [ inl a ↦ inl (so a) | inr unfit ↦ inr unfit ];
-}
+  -- the same in other words
+  pub names_as : ((name : Text) → B name name → A name name) → Compares old new answer A → Compares old new answer B
+  names_as back c = record {
+    does = c.does;
+    twice = λ name b. c.twice name (back name b);
+    found = λ is. same_as (CameSince old new) (CameSince old new) (λ o came. came) A B so (c.found is);
+  }
 
-pub true_names : (old new : FilesView) (answer : Bool) (A B : Type 0) → (A → B) → answer ≡ true → Compares old new answer A → Compares old new true B
-true_names old new answer A B so holds c = rw (sym holds) (enough_names old new answer A B so holds c)
+-- no name is given
+pub no_names : (old : FilesView) (A : Pairs) → ((name : Text) → A name name → ⊥) → Compares old old false A
+no_names old A none = record { does = does_none old; twice = λ name a. absurd (none name a); found = λ holds. absurd (true≢false (sym holds)) }
 
--- these aren't so, and then others were compared
-pub then_names : (old mid new : FilesView) (first answer : Bool) (A B : Type 0) → first ≡ false → Compares old mid first A → Compares mid new answer B
-    → Compares old new answer (A ⊎ B)
+-- these aren't the same, and then others were compared
+pub then_names : (old mid new : FilesView) (first answer : Bool) (A B : Pairs) → first ≡ false → Compares old mid first A → Compares mid new answer B
+    → Compares old new answer (λ one other. A one other ⊎ B one other)
 then_names old mid new first answer A B isnt c d = record {
   does = does_then [] [] old mid new c.does d.does;
-  twice = λ either. elim either [ inl a ↦ absurd (true≢false (sym (c.twice a) ∙ isnt)) | inr b ↦ d.twice b ];
-  found = λ holds. elim (d.found holds) [ inl b ↦ inl (inr b) | inr unfit ↦ inr (then_came [] old mid new (grows_by [] old mid c.does) Unfit unfit) ];
+  twice = λ name either. elim either [ inl a ↦ absurd (true≢false (sym (c.twice name a) ∙ isnt)) | inr b ↦ d.twice name b ];
+  found = λ holds. same_as (CameSince mid new) (CameSince old new) (then_came [] old mid new (grows_by [] old mid c.does)) B _ (λ one other b. inl (inr b)) (d.found holds);
 }
 
 -- ---- Which names have to differ.
 
-abbrev pub Twice : Request → Type 0
-Twice asked = NamesTwice (order_asked asked).apart
+abbrev pub Twice : Request → Pairs
+Twice asked = AreApart (order_asked asked).apart
 
-none_same : (one : Option Text) → IsSameName one None → ⊥
-none_same one (name, is, other_is) = cc
+some_is : (one other : Text) → Some one ≡ Some other → one ≡ other
+some_is one other is = cc
 
-same_none : (other : Option Text) → IsSameName None other → ⊥
-same_none other (name, one_is, is) = cc
+none_is : (one : Text) → None ≡ Some one → ⊥
+none_is one is = cc
 
-none_one : (others : List (Option Text)) → IsOneOf None others → ⊥
-none_one [] never = never
-none_one (o ∷ others) (inl same) = same_none o same
-none_one (o ∷ others) (inr more) = none_one others more
+-- a name that is given, and another
+pub some_given : (given name one other : Text) → IsBoth given name one other → (Some given ≡ Some one) × (name ≡ other)
+some_given given name one other both = (ap Some both.0, both.1)
 
-only_none : (one : Option Text) → IsOneOf one (None ∷ []) → ⊥
-only_none one (inl same) = none_same one same
-only_none one (inr never) = never
+pub given_some : (given name one other : Text) → (Some given ≡ Some one) × (name ≡ other) → IsBoth given name one other
+given_some given name one other both = (some_is _ _ both.0, both.1)
 
--- the names of `resume`: the names of `decrypt`
-one_name : (one other : Text) → IsSameName (Some one) (Some other) → one ≡ other
-one_name one other (name, is, other_is) = cc
+pub none_given : (one : Text) → None ≡ Some one → ⊥
+none_given one is = none_is one is
 
-pub resumed : (r : Resuming) → Twice (Decrypt r.decrypting) → Twice (Resume r)
-resumed r (inl (inl none)) = absurd (none_same _ none)
-resumed r (inl (inr (inl same))) = inl (inr (inl same))
-resumed r (inl (inr (inr (inl same)))) = inl (inr (inr (inl same)))
-resumed r (inl (inr (inr (inr (inl same))))) = inl (inr (inr (inr (inl same))))
-resumed r (inl (inr (inr (inr (inr none))))) = absurd (only_none _ none)
-resumed r (inr (inl (inl same))) = inr (inl (inl same))
-resumed r (inr (inl (inr (inl same)))) = inr (inl (inr (inl same)))
-resumed r (inr (inl (inr (inr (inl same))))) = inr (inl (inr (inr (inl same))))
-resumed r (inr (inl (inr (inr (inr (inl same)))))) = inr (inl (inr (inr (inr (inl same)))))
-resumed r (inr (inl (inr (inr (inr (inr none)))))) = absurd (only_none _ none)
-resumed r (inr (inr (inl none))) = absurd (none_one (Some r.decrypting.from.now ∷ []) none)
-resumed r (inr (inr (inr never))) = absurd never
+-- of what `decrypt` reads
+abbrev pub ReadPairs : Decrypting → Text → Pairs
+ReadPairs d name one other = (IsBoth d.from.now name one other ⊎ ((option_text d.identity.pass ≡ Some one) × (name ≡ other)))
+    ⊎ ((option_text d.identity.shared ≡ Some one) × (name ≡ other))
 
--- OUT is the position; the old text is IN or OUT; the file of `--save` is the old text
-pub position_out : (r : Resuming) → r.position.now ≡ r.decrypting.to.now → Twice (Resume r)
-position_out r same = inl (inl (r.decrypting.to.now, refl, ap Some same))
+pub read_pairs : (d : Decrypting) (name one other : Text) → ReadPairs d name one other → IsReadAs d one × (name ≡ other)
+read_pairs d name one other (inl (inl both)) = (inl both.0, both.1)
+read_pairs d name one other (inl (inr pass)) = (inr (inl pass.0), pass.1)
+read_pairs d name one other (inr shared) = (inr (inr shared.0), shared.1)
 
-pub old_in : (r : Resuming) → r.old.now ≡ r.decrypting.from.now → Twice (Resume r)
-old_in r same = inr (inr (inl (inl (r.old.now, refl, ap Some (sym same)))))
+pub pairs_read : (d : Decrypting) (name one other : Text) → IsReadAs d one × (name ≡ other) → ReadPairs d name one other
+pairs_read d name one other (inl from, is) = inl (inl (from, is))
+pairs_read d name one other (inr (inl pass), is) = inl (inr (pass, is))
+pairs_read d name one other (inr (inr shared), is) = inr (shared, is)
 
-pub old_out : (r : Resuming) → r.old.now ≡ r.decrypting.to.now → Twice (Resume r)
-old_out r same = inl (inr (inr (inr (inr (inl (r.decrypting.to.now, refl, ap Some same))))))
+-- of `decrypt`: OUT is read
+pub out_read : (d : Decrypting) (one other : Text) → IsReadAs d one × (d.to.now ≡ other) → Twice (Decrypt d) other one
+out_read d one other (inl from, is) = inl (ap Some is, inr (inl (ap Some from)))
+out_read d one other (inr (inl pass), is) = inl (ap Some is, inr (inr (inl pass)))
+out_read d one other (inr (inr shared), is) = inl (ap Some is, inr (inr (inr (inl shared))))
 
-pub save_old : (r : Resuming) → option_text r.decrypting.save ≡ Some r.old.now → Twice (Resume r)
-save_old r is = inr (inl (inr (inr (inr (inr (inl (r.old.now, is, refl)))))))
+-- the file of `--save` is OUT, or is read
+abbrev pub SavedPairs : Decrypting → Text → Pairs
+SavedPairs d save one other = ((IsReadAs d one × (d.to.now ≡ other)) ⊎ IsBoth save d.to.now one other) ⊎ (IsReadAs d one × (save ≡ other))
 
--- and no other names of `resume`
-abbrev pub ResumesTwice : Resuming → Type 0
-ResumesTwice r = (((Twice (Decrypt r.decrypting) ⊎ (r.position.now ≡ r.decrypting.to.now)) ⊎ (option_text r.decrypting.save ≡ Some r.old.now))
-    ⊎ (r.old.now ≡ r.decrypting.from.now)) ⊎ (r.old.now ≡ r.decrypting.to.now)
+pub decrypts_saved : (d : Decrypting) (save : Text) → option_text d.save ≡ Some save → (one other : Text) → SavedPairs d save one other
+    → Twice (Decrypt d) one other ⊎ Twice (Decrypt d) other one
+decrypts_saved d save given one other (inl (inl read)) = inr (out_read d one other read)
+decrypts_saved d save given one other (inl (inr (is, to))) = inl (inr (inl (given ∙ ap Some is, inl (ap Some to))))
+decrypts_saved d save given one other (inr (inl from, is)) = inr (inr (inl (given ∙ ap Some is, inr (inl (ap Some from)))))
+decrypts_saved d save given one other (inr (inr (inl pass), is)) = inr (inr (inl (given ∙ ap Some is, inr (inr (inl pass)))))
+decrypts_saved d save given one other (inr (inr (inr shared), is)) = inr (inr (inl (given ∙ ap Some is, inr (inr (inr (inl shared))))))
 
-given_name : (o : Option Text) (name : Text) → IsSameName o (Some name) → o ≡ Some name
-given_name o name (n, is, other_is) = cc
+named_by : (saved : Option Text) (save name : Text) → saved ≡ Some save → saved ≡ Some name → save ≡ name
+named_by saved save name given is = some_is _ _ (sym given ∙ is)
 
-pub resumes_twice : (r : Resuming) → Twice (Resume r) → ResumesTwice r
-resumes_twice r (inl (inl same)) = inl (inl (inl (inr (sym (one_name _ _ same)))))
-resumes_twice r (inl (inr (inl same))) = inl (inl (inl (inl (inl (inr (inl same))))))
-resumes_twice r (inl (inr (inr (inl same)))) = inl (inl (inl (inl (inl (inr (inr (inl same)))))))
-resumes_twice r (inl (inr (inr (inr (inl same))))) = inl (inl (inl (inl (inl (inr (inr (inr (inl same))))))))
-resumes_twice r (inl (inr (inr (inr (inr (inl same)))))) = inr (sym (one_name _ _ same))
-resumes_twice r (inl (inr (inr (inr (inr (inr never)))))) = absurd never
-resumes_twice r (inr (inl (inl same))) = inl (inl (inl (inl (inr (inl (inl same))))))
-resumes_twice r (inr (inl (inr (inl same)))) = inl (inl (inl (inl (inr (inl (inr (inl same)))))))
-resumes_twice r (inr (inl (inr (inr (inl same))))) = inl (inl (inl (inl (inr (inl (inr (inr (inl same))))))))
-resumes_twice r (inr (inl (inr (inr (inr (inl same)))))) = inl (inl (inl (inl (inr (inl (inr (inr (inr (inl same)))))))))
-resumes_twice r (inr (inl (inr (inr (inr (inr (inl same))))))) = inl (inl (inr (given_name _ _ same)))
-resumes_twice r (inr (inl (inr (inr (inr (inr (inr never))))))) = absurd never
-resumes_twice r (inr (inr (inl (inl same)))) = inl (inr (one_name _ _ same))
-resumes_twice r (inr (inr (inl (inr never)))) = absurd never
-resumes_twice r (inr (inr (inr never))) = absurd never
+pub saved_decrypts : (d : Decrypting) (save : Text) → option_text d.save ≡ Some save → (name : Text) → Twice (Decrypt d) name name → SavedPairs d save name name
+saved_decrypts d save given name (inl (to, inl none)) = absurd (none_is name none)
+saved_decrypts d save given name (inl (to, inr (inl from))) = inl (inl (inl (some_is _ _ from), some_is _ _ to))
+saved_decrypts d save given name (inl (to, inr (inr (inl pass)))) = inl (inl (inr (inl pass), some_is _ _ to))
+saved_decrypts d save given name (inl (to, inr (inr (inr (inl shared))))) = inl (inl (inr (inr shared), some_is _ _ to))
+saved_decrypts d save given name (inl (to, inr (inr (inr (inr (inl none)))))) = absurd (none_is name none)
+saved_decrypts d save given name (inl (to, inr (inr (inr (inr (inr never)))))) = absurd never
+saved_decrypts d save given name (inr (inl (is, inl to))) = inl (inr (named_by _ save name given is, some_is _ _ to))
+saved_decrypts d save given name (inr (inl (is, inr (inl from)))) = inr (inl (some_is _ _ from), named_by _ save name given is)
+saved_decrypts d save given name (inr (inl (is, inr (inr (inl pass))))) = inr (inr (inl pass), named_by _ save name given is)
+saved_decrypts d save given name (inr (inl (is, inr (inr (inr (inl shared)))))) = inr (inr (inr shared), named_by _ save name given is)
+saved_decrypts d save given name (inr (inl (is, inr (inr (inr (inr (inl none))))))) = absurd (none_is name none)
+saved_decrypts d save given name (inr (inl (is, inr (inr (inr (inr (inr never))))))) = absurd never
+saved_decrypts d save given name (inr (inr (inl (none, old)))) = absurd (none_is name none)
+saved_decrypts d save given name (inr (inr (inr never))) = absurd never
 
--- a name is that of a file that `decrypt` reads
-same_so : (one other : Text) → one ≡ other → IsSameName (Some other) (Some one)
-same_so one other is = (other, refl, ap Some is)
+-- of `resume`: those of `decrypt`; OUT is the position; the old text is IN or OUT; the file of `--save` is the old text
+abbrev pub ResumePairs : Resuming → Pairs
+ResumePairs r one other = (((Twice (Decrypt r.decrypting) one other ⊎ IsBoth r.position.now r.decrypting.to.now one other)
+    ⊎ ((option_text r.decrypting.save ≡ Some one) × (r.old.now ≡ other))) ⊎ IsBoth r.old.now r.decrypting.from.now one other) ⊎ IsBoth r.old.now r.decrypting.to.now one other
 
-given_so : (o : Option Text) (name : Text) → o ≡ Some name → IsSameName (Some name) o
-given_so o name is = (name, refl, is)
+pub resumed : (r : Resuming) (one other : Text) → Twice (Decrypt r.decrypting) one other → Twice (Resume r) one other
+resumed r one other (inl (to, inl none)) = absurd (none_is other none)
+resumed r one other (inl (to, inr (inl from))) = inl (to, inr (inl from))
+resumed r one other (inl (to, inr (inr (inl pass)))) = inl (to, inr (inr (inl pass)))
+resumed r one other (inl (to, inr (inr (inr (inl shared))))) = inl (to, inr (inr (inr (inl shared))))
+resumed r one other (inl (to, inr (inr (inr (inr (inl none)))))) = absurd (none_is other none)
+resumed r one other (inl (to, inr (inr (inr (inr (inr never)))))) = absurd never
+resumed r one other (inr (inl (save, inl to))) = inr (inl (save, inl to))
+resumed r one other (inr (inl (save, inr (inl from)))) = inr (inl (save, inr (inl from)))
+resumed r one other (inr (inl (save, inr (inr (inl pass))))) = inr (inl (save, inr (inr (inl pass))))
+resumed r one other (inr (inl (save, inr (inr (inr (inl shared)))))) = inr (inl (save, inr (inr (inr (inl shared)))))
+resumed r one other (inr (inl (save, inr (inr (inr (inr (inl none))))))) = absurd (none_is other none)
+resumed r one other (inr (inl (save, inr (inr (inr (inr (inr never))))))) = absurd never
+resumed r one other (inr (inr (inl (none, old)))) = absurd (none_is one none)
+resumed r one other (inr (inr (inr never))) = absurd never
 
-name_given : (name : Text) (o : Option Text) → IsSameName (Some name) o → o ≡ Some name
-name_given name o (n, is, other_is) = cc
+pub resumes_so : (r : Resuming) (one other : Text) → ResumePairs r one other → Twice (Resume r) one other ⊎ Twice (Resume r) other one
+resumes_so r one other (inl (inl (inl (inl both)))) = inl (resumed r one other both)
+resumes_so r one other (inl (inl (inl (inr (position, to))))) = inr (inl (ap Some to, inl (ap Some position)))
+resumes_so r one other (inl (inl (inr (save, old)))) = inl (inr (inl (save, inr (inr (inr (inr (inl (ap Some old))))))))
+resumes_so r one other (inl (inr (old, from))) = inl (inr (inr (inl (ap Some old, inl (ap Some from)))))
+resumes_so r one other (inr (old, to)) = inr (inl (ap Some to, inr (inr (inr (inr (inl (ap Some old)))))))
 
-abbrev ReadNames : Decrypting → Text → Type 0
-ReadNames d name = IsOneOf (Some name) (Some d.from.now ∷ option_text d.identity.pass ∷ option_text d.identity.shared ∷ None ∷ [])
+pub so_resumes : (r : Resuming) (name : Text) → Twice (Resume r) name name → ResumePairs r name name
+so_resumes r name (inl (to, inl position)) = inl (inl (inl (inr (some_is _ _ position, some_is _ _ to))))
+so_resumes r name (inl (to, inr (inl from))) = inl (inl (inl (inl (inl (to, inr (inl from))))))
+so_resumes r name (inl (to, inr (inr (inl pass)))) = inl (inl (inl (inl (inl (to, inr (inr (inl pass)))))))
+so_resumes r name (inl (to, inr (inr (inr (inl shared))))) = inl (inl (inl (inl (inl (to, inr (inr (inr (inl shared))))))))
+so_resumes r name (inl (to, inr (inr (inr (inr (inl old)))))) = inr (some_is _ _ old, some_is _ _ to)
+so_resumes r name (inl (to, inr (inr (inr (inr (inr never)))))) = absurd never
+so_resumes r name (inr (inl (save, inl to))) = inl (inl (inl (inl (inr (inl (save, inl to))))))
+so_resumes r name (inr (inl (save, inr (inl from)))) = inl (inl (inl (inl (inr (inl (save, inr (inl from)))))))
+so_resumes r name (inr (inl (save, inr (inr (inl pass))))) = inl (inl (inl (inl (inr (inl (save, inr (inr (inl pass))))))))
+so_resumes r name (inr (inl (save, inr (inr (inr (inl shared)))))) = inl (inl (inl (inl (inr (inl (save, inr (inr (inr (inl shared)))))))))
+so_resumes r name (inr (inl (save, inr (inr (inr (inr (inl old))))))) = inl (inl (inr (save, some_is _ _ old)))
+so_resumes r name (inr (inl (save, inr (inr (inr (inr (inr never))))))) = absurd never
+so_resumes r name (inr (inr (inl (old, inl from)))) = inl (inr (some_is _ _ old, some_is _ _ from))
+so_resumes r name (inr (inr (inl (old, inr never)))) = absurd never
+so_resumes r name (inr (inr (inr never))) = absurd never
 
-read_so : (d : Decrypting) (name : Text) → IsReadAs d name → ReadNames d name
-read_so d name (inl from) = inl (same_so _ _ from)
-read_so d name (inr (inl pass)) = inr (inl (given_so _ _ pass))
-read_so d name (inr (inr shared)) = inr (inr (inl (given_so _ _ shared)))
+-- of `encrypt`: OUT is read
+abbrev pub EncryptPairs : Encrypting → Pairs
+EncryptPairs e one other = (IsBoth e.from.now e.to.now one other ⊎ IsBoth e.pass.now e.to.now one other)
+    ⊎ IsBoth (random_name (option_text e.random)) e.to.now one other
 
-so_read : (d : Decrypting) (name : Text) → ReadNames d name → IsReadAs d name
-so_read d name (inl same) = inl (sym (one_name _ _ same))
-so_read d name (inr (inl same)) = inr (inl (name_given _ _ same))
-so_read d name (inr (inr (inl same))) = inr (inr (name_given _ _ same))
-so_read d name (inr (inr (inr none))) = absurd (only_none _ none)
+pub encrypts_so : (e : Encrypting) (one other : Text) → EncryptPairs e one other → Twice (Encrypt e) one other ⊎ Twice (Encrypt e) other one
+encrypts_so e one other (inl (inl (from, to))) = inr (inl (ap Some to, inr (inl (ap Some from))))
+encrypts_so e one other (inl (inr (pass, to))) = inr (inl (ap Some to, inr (inr (inl (ap Some pass)))))
+encrypts_so e one other (inr (random, to)) = inr (inl (ap Some to, inr (inr (inr (inl (ap Some random))))))
 
-pub out_read : (d : Decrypting) → IsReadAs d d.to.now → Twice (Decrypt d)
-out_read d is = inl (inr (read_so d d.to.now is))
-
-pub save_out : (d : Decrypting) (save : Text) → option_text d.save ≡ Some save → save ≡ d.to.now → Twice (Decrypt d)
-save_out d save given is = inr (inl (inl (save, given, ap Some (sym is))))
-
-pub save_read : (d : Decrypting) (save : Text) → option_text d.save ≡ Some save → IsReadAs d save → Twice (Decrypt d)
-save_read d save given is = inr (inl (inr (rw given (read_so d save is))))
-
--- and no other names of `decrypt`
-
-pub twice_saved : (d : Decrypting) (save : Text) → option_text d.save ≡ Some save → Twice (Decrypt d) → (IsReadAs d d.to.now ⊎ (save ≡ d.to.now)) ⊎ IsReadAs d save
-twice_saved d save saved (inl (inl none)) = absurd (none_same _ none)
-twice_saved d save saved (inl (inr read)) = inl (inl (so_read d d.to.now read))
-twice_saved d save saved (inr (inl (inl same))) = inl (inr (one_name _ _ (rw saved at same)))
-twice_saved d save saved (inr (inl (inr read))) = inr (so_read d save (rw saved at read))
-twice_saved d save saved (inr (inr (inl none))) = absurd (none_one (Some d.from.now ∷ []) none)
-twice_saved d save saved (inr (inr (inr never))) = absurd never
-
--- the names of `encrypt`
-abbrev pub EncryptsTwice : Encrypting → Type 0
-EncryptsTwice e = ((e.from.now ≡ e.to.now) ⊎ (e.pass.now ≡ e.to.now)) ⊎ (random_name (option_text e.random) ≡ e.to.now)
-
-pub encrypts_so : (e : Encrypting) → EncryptsTwice e → Twice (Encrypt e)
-encrypts_so e (inl (inl from)) = inl (inr (inl (same_so _ _ from)))
-encrypts_so e (inl (inr pass)) = inl (inr (inr (inl (same_so _ _ pass))))
-encrypts_so e (inr random) = inl (inr (inr (inr (inl (same_so _ _ random)))))
-
-pub so_encrypts : (e : Encrypting) → Twice (Encrypt e) → EncryptsTwice e
-so_encrypts e (inl (inl none)) = absurd (none_same _ none)
-so_encrypts e (inl (inr (inl same))) = inl (inl (sym (one_name _ _ same)))
-so_encrypts e (inl (inr (inr (inl same)))) = inl (inr (sym (one_name _ _ same)))
-so_encrypts e (inl (inr (inr (inr (inl same))))) = inr (sym (one_name _ _ same))
-so_encrypts e (inl (inr (inr (inr (inr none))))) = absurd (only_none _ none)
-so_encrypts e (inr (inl none)) =
-    absurd (none_one (Some e.to.now ∷ Some e.from.now ∷ Some e.pass.now ∷ Some (random_name (option_text e.random)) ∷ None ∷ []) none)
-so_encrypts e (inr (inr (inl none))) = absurd (none_one (Some e.from.now ∷ []) none)
-so_encrypts e (inr (inr (inr never))) = absurd never
-
--- a name that is given
-pub given_as : (one other : Text) → one ≡ other → Some one ≡ Some other
-given_as one other is = ap Some is
-
-pub as_given : (one other : Text) → Some one ≡ Some other → one ≡ other
-as_given one other is = cc
-
-pub none_given : (name : Text) → None ≡ Some name → ⊥
-none_given name is = cc
-
--- three cases
-pub three_as : (A B C : Type 0) → (A ⊎ B) ⊎ C → A ⊎ (B ⊎ C)
-three_as A B C (inl (inl a)) = inl a
-three_as A B C (inl (inr b)) = inr (inl b)
-three_as A B C (inr c) = inr (inr c)
-
-pub as_three : (A B C : Type 0) → A ⊎ (B ⊎ C) → (A ⊎ B) ⊎ C
-as_three A B C (inl a) = inl (inl a)
-as_three A B C (inr (inl b)) = inl (inr b)
-as_three A B C (inr (inr c)) = inr c
-
--- the names of `decrypt` and of `resume`, in the order in which they are compared
-pub saved_so : (d : Decrypting) (save : Text) → option_text d.save ≡ Some save → (IsReadAs d d.to.now ⊎ (save ≡ d.to.now)) ⊎ IsReadAs d save → Twice (Decrypt d)
-saved_so d save given (inl (inl read)) = out_read d read
-saved_so d save given (inl (inr same)) = save_out d save given same
-saved_so d save given (inr read) = save_read d save given read
-
-pub resumes_so : (r : Resuming) → ResumesTwice r → Twice (Resume r)
-resumes_so r (inl (inl (inl (inl twice)))) = resumed r twice
-resumes_so r (inl (inl (inl (inr same)))) = position_out r same
-resumes_so r (inl (inl (inr given))) = save_old r given
-resumes_so r (inl (inr same)) = old_in r same
-resumes_so r (inr same) = old_out r same
+pub so_encrypts : (e : Encrypting) (name : Text) → Twice (Encrypt e) name name → EncryptPairs e name name
+so_encrypts e name (inl (to, inl none)) = absurd (none_is name none)
+so_encrypts e name (inl (to, inr (inl from))) = inl (inl (some_is _ _ from, some_is _ _ to))
+so_encrypts e name (inl (to, inr (inr (inl pass)))) = inl (inr (some_is _ _ pass, some_is _ _ to))
+so_encrypts e name (inl (to, inr (inr (inr (inl random))))) = inr (some_is _ _ random, some_is _ _ to)
+so_encrypts e name (inl (to, inr (inr (inr (inr (inl none)))))) = absurd (none_is name none)
+so_encrypts e name (inl (to, inr (inr (inr (inr (inr never)))))) = absurd never
+so_encrypts e name (inr (inl (none, others))) = absurd (none_is name none)
+so_encrypts e name (inr (inr (inl (none, others)))) = absurd (none_is name none)
+so_encrypts e name (inr (inr (inr never))) = absurd never

@@ -105,7 +105,7 @@ module _ (IsPorts : Ports → Type 0) (before after : FilesView) (Unshown : Type
         order = follows;
         order_done = on_ok_weaker r (λ did. did_events (order_asked (Drill d)).done before after did) finished;
         order_judged = every_fault r _ (λ e usage. inl follows);
-        apart = λ twice. absurd twice;
+        apart = λ twice. absurd twice.1;
         silent = λ asked. silent;
         progress = inl silent;
         shown = always r _ (λ asked. absurd (shown_not_silent asked));
@@ -115,16 +115,16 @@ module _ (IsPorts : Ports → Type 0) (before after : FilesView) (Unshown : Type
   pub inspect_acts : (file : Option (Bor Text)) (Fails : FileFault → Type 0) (was is : SinkView) → Does (order_asked (Inspect file)).done before after → IfErr r (FailsReport Fails was is)
       → Acts IsPorts (Inspect file) before after Unshown Progress r
   inspect_acts file Fails was is did fails =
-      let impossible : (P : Type 0) → IfErr r (λ e. IsUsage e → P) =
+      let impossible : (P : Ending → Type 0) → IfErr r (λ e. IsUsage e → P e) =
       λ P. IfErr-weaker r _ _ (λ e f usage. absurd (true≢false (sym usage ∙ report_fault Fails was is e f))) fails in
       record {
         done = always r _ tt;
         stopped = every_fault r _ (λ e. inr tt);
-        blamed = IfErr-weaker r _ _ (λ e f usage. absurd (true≢false (sym usage ∙ report_fault Fails was is e f))) fails;
+        blamed = impossible _;
         order = follows_by (order_asked (Inspect file)).whole before after (begun (order_asked (Inspect file)).whole before after did);
         order_done = always r _ (did_events (order_asked (Inspect file)).done before after did);
         order_judged = impossible _;
-        apart = λ twice. absurd twice;
+        apart = λ twice. absurd twice.1;
         silent = λ asked. silent;
         progress = inl silent;
         shown = always r _ (λ asked. absurd (shown_not_silent asked));

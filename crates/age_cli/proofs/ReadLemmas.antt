@@ -23,9 +23,9 @@ use Rattle.age_cli_args.specs.declared.request.Encrypting.{Encrypting}
 use Rattle.age_cli_args.specs.declared.request.Request.TheVariants.{Encrypt}
 use Rattle.age_command.specs.Orders.{random_name}
 use Rattle.age_command.specs.declared.ending.Usage.TheVariants.{BadPassphraseFile, BadRandomFile}
-use Rattle.age_cli.specs.Acts.{IsBlamed, IsUnfit}
+use Rattle.age_cli.specs.Acts.{IsBlamed, IsUnusable}
 use Rattle.age_cli.specs.Commands.{WasRead, old_found, HoldsNoPassphrase, HoldsNoRandom}
-use Rattle.age_cli.proofs.OpeningLemmas.{holds_as, unfit_as}
+use Rattle.age_cli.proofs.OpeningLemmas.{holds_as, taken_as}
 
 -- a file was opened, and then its reading was over
 module _ (How : Option (List ℕ) → Option ℕ → Outcome) (name : Text) (e : Event) (old mid new : FilesView) (did : Does (e ∷ []) old mid) (last : SourceView)
@@ -92,16 +92,16 @@ too_few bytes few s is = absurd (omega (
   got (Some held) = held
   got None = []
 
--- an encryption has no passphrase, or no random bytes, or what no name shows came
+-- an encryption has no passphrase, or no random bytes, or a name is in use
 module _ (Came Later : Outcome → Type 0) (so : (o : Outcome) → Came o → Later o) (a : Encrypting) (e : Ending) where
-  pub pass_blamed : ((e ≡ Usage BadPassphraseFile) × HoldsOnly Came a.pass.now (HoldsNoPassphrase a.log)) ⊎ IsUnfit Came e
-      → IsBlamed Later (Encrypt a) e ⊎ IsUnfit Later e
+  pub pass_blamed : ((e ≡ Usage BadPassphraseFile) × HoldsOnly Came a.pass.now (HoldsNoPassphrase a.log)) ⊎ IsUnusable Came None e
+      → IsBlamed Later (Encrypt a) e ⊎ IsUnusable Later None e
   pass_blamed (inl (is, holds)) = inl (inr (inl (inl (is, holds_as Came Later so a.pass.now (HoldsNoPassphrase a.log) (HoldsNoPassphrase a.log) (λ bytes none. none) holds))))
-  pass_blamed (inr unfit) = inr (unfit_as Came Later so e unfit)
+  pass_blamed (inr taken) = inr (taken_as Came Later so None e taken)
 
   pub random_blamed : (name : Text) → name ≡ random_name (option_text a.random)
-      → ((e ≡ Usage BadRandomFile) × HoldsOnly Came name HoldsNoRandom) ⊎ IsUnfit Came e
-      → IsBlamed Later (Encrypt a) e ⊎ IsUnfit Later e
+      → ((e ≡ Usage BadRandomFile) × HoldsOnly Came name HoldsNoRandom) ⊎ IsUnusable Came None e
+      → IsBlamed Later (Encrypt a) e ⊎ IsUnusable Later None e
   random_blamed name named (inl (is, holds)) =
       inl (inr (inl (inr (is, subst (λ (n : Text). HoldsOnly Later n HoldsNoRandom) named (holds_as Came Later so name HoldsNoRandom HoldsNoRandom (λ bytes none. none) holds)))))
-  random_blamed name named (inr unfit) = inr (unfit_as Came Later so e unfit)
+  random_blamed name named (inr taken) = inr (taken_as Came Later so None e taken)

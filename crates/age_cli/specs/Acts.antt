@@ -24,7 +24,8 @@ use Rattle.age_machine.specs.Ends.{EndedFile, TouchesItself, IsThere, IsOnDisk, 
 use Rattle.age_machine.specs.Saved.{SavedFile, Saves}
 use Rattle.age_file.specs.declared.decryption.Stopped.{Stopped}
 use Rattle.age_fileset.specs.FileSet.{Event, FilesView, Outcome, Found, Absent, Unwritten, Settled}
-use Rattle.age_fileset.specs.FileSet.{Unfit, Entry, entry, PutsOnly, CameSince, HasGivenAll, puts_in}
+use Rattle.age_fileset.specs.FileSet.{Alike, OneStream, InUse, Terminal, CameSince, HasGivenAll}
+use Rattle.age_fileset.specs.FileSet.{Entry, entry, PutsOnly, puts_in}
 use Rattle.age_cli_args.specs.Requests.{option_text}
 use Rattle.age_cli_args.specs.declared.request.ClobberOption.{ClobberOption}
 use Rattle.age_cli_args.specs.declared.request.ClobberOption.TheVariants.{Refused}
@@ -43,7 +44,7 @@ use Rattle.age_command.specs.Files.{HasReason, HoldsOnly}
 use Rattle.age_command.specs.declared.identity.Identity.{Identity}
 use Rattle.age_command.specs.Identities.{allows_by, refuses_by, blame_by, identity_file}
 use Rattle.age_command.specs.Identities.{IsSecretGiven, MakesBy, MakesNone}
-use Rattle.age_command.specs.Orders.{Follows, NamesTwice, order_asked, random_name}
+use Rattle.age_command.specs.Orders.{Follows, Order, AreApart, NamesTwice, order_asked, random_name}
 use Rattle.age_cli.specs.Commands.{HoldsNoPassphrase, HoldsNoPosition, HoldsNoRandom}
 use Rattle.age_cli.specs.Commands.{HasSecret, WasRead, old_found}
 
@@ -218,16 +219,30 @@ GivesNone Came (Resume r) ending = OpensNone Came r.decrypting.identity ending
 GivesNone Came (Drill d) ending = Unit {0}
 GivesNone Came (Inspect file) ending = ⊥
 
--- the set of files found what no name shows, and the ending says so: two are one, or the output is a
--- terminal
-abbrev pub IsUnfit : (Came : Outcome → Type 0) → Ending → Type 0
-IsUnfit Came ending = ((ending ≡ Usage SameFile) ⊎ (ending ≡ Usage OutIsTerminal)) × Came Unfit
+-- OUT, if it is to be an age file, which no terminal shows
+abbrev pub age_file_of : Request → Option Text
+age_file_of (Encrypt e) = Some e.to.now
+age_file_of other = None
 
--- the command line is refused for what the ending says: names that have to differ are equal, the
--- options and the files that they name give none, or the set of files found what no name shows
+-- what a file's name leads to is in use, or the output of this name is a terminal; and the ending says so
+abbrev pub IsUnusable : (Came : Outcome → Type 0) → (age_file : Option Text) → Ending → Type 0
+IsUnusable Came age_file ending = ((ending ≡ Usage SameFile) × ((name : Text) × Came (InUse name)))
+    ⊎ ((ending ≡ Usage OutIsTerminal) × IsSomeAnd age_file (λ name. Came (Terminal name)))
+
+-- two of these pairs of names are equal, or lead to one file
+abbrev pub AreSame : (Came : Outcome → Type 0) → (IsPair : Text → Text → Type 0) → Type 0
+AreSame Came IsPair = (one : Text) × (other : Text) × IsPair one other
+    × ((one ≡ other) ⊎ (Came (Alike one other) ⊎ Came (Alike other one)))
+
+-- names that have to differ do so, or two of what is read lead to one stream
+abbrev pub NamesOne : (Came : Outcome → Type 0) → Order → Type 0
+NamesOne Came order = AreSame Came (AreApart order.apart) ⊎ Came (OneStream order.read)
+
+-- the command line is refused for what the ending says: its names, which have to differ; the options and
+-- the files that they name give none; or what a name leads to
 abbrev pub IsBlamed : (Came : Outcome → Type 0) → Request → Ending → Type 0
-IsBlamed Came asked ending = ((ending ≡ Usage SameFile) × NamesTwice (order_asked asked).apart)
-    ⊎ (GivesNone Came asked ending ⊎ IsUnfit Came ending)
+IsBlamed Came asked ending = ((ending ≡ Usage SameFile) × NamesOne Came (order_asked asked))
+    ⊎ (GivesNone Came asked ending ⊎ IsUnusable Came (age_file_of asked) ending)
 
 -- IN, of a command that may show progress
 abbrev pub input_of : Request → Option Text
@@ -404,7 +419,8 @@ module _ (IsPorts : Ports → Type 0) (Came : Outcome → Type 0) where
     pub rest : List Entry
     pub puts : PutsOnly (outs ++ rest) before after
     pub out : (outs ≡ []) ⊎ ((outs ≡ entry p.to run.out.took ∷ []) × (run.out.took ≢ []))
-    pub saved : ((rest ≡ []) × IsNotDue settled ending p.save position × Follows done before.events after.events)
+    pub saved : ((rest ≡ []) × IsNotDue settled ending p.save position
+        × Follows done before.events after.events)
         ⊎ IsStored Came durability p.save settled position ending rest after.saved
 
 -- It ended as if no engine ran: 26 and 27 have a reason, no output is touched, nothing was put, and no
@@ -438,11 +454,11 @@ module _ (IsPorts : Ports → Type 0) (asked : Request) (before after : FilesVie
     pub order : Follows (order_asked asked).whole before.events after.events
     -- If all is done, it is all of it but what a stop adds.
     pub order_done : OnOk ended (after.events ≡ before.events ++ (order_asked asked).done)
-    -- If the command line is refused, it is a beginning of what the words are judged by, unless the set of
-    -- files found what no name shows: for that, the output has to be opened.
+    -- If the command line is refused, it is a beginning of what the words are judged by, unless it is for
+    -- what a name leads to: for that, the output has to be opened.
     pub order_judged : IfErr ended
         (λ e. IsUsage e → Follows (order_asked asked).judged before.events after.events
-        ⊎ CameSince before after Unfit)
+        ⊎ IsUnusable (CameSince before after) (age_file_of asked) e)
     -- Names that have to differ are refused before a file is opened.
     pub apart : NamesTwice (order_asked asked).apart
         → (after.events ≡ before.events) × IsErrAnd ended IsUsage

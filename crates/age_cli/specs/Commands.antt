@@ -18,7 +18,7 @@ use Rattle.age_file.specs.Reports as file
 use Rattle.age_file.specs.declared.position.Position.{Position}
 use Rattle.age_file.specs.declared.report.Report.{Report}
 use Rattle.age_file.specs.declared.report.StanzaReport.{StanzaReport}
-use Rattle.age_fileset.specs.FileSet.{FilesView, CameSince, Outcome, Found, FoundOrEmpty, Unread, Unfit}
+use Rattle.age_fileset.specs.FileSet.{FilesView, CameSince, Outcome, Found, FoundOrEmpty, Unread, InUse}
 use Rattle.age_fileset.specs.FileSet.{Gave, reading_of, HasGiven, HasGivenAll}
 use Rattle.age_cli_args.specs.Requests.{option_text}
 use Rattle.age_cli_args.specs.declared.request.Encrypting.{Encrypting}
@@ -139,10 +139,10 @@ pub record ReportsFile (Came : Outcome → Type 0) (name : Text) (output_old out
 abbrev pub FailsInput : (old new : SourceView) → FileFault → Type 0
 FailsInput = HeadFails NoHeadFault
 
--- the same of the file of this name; or 26, since it couldn't be opened or is an output of the set
+-- the same of the file of this name; or 26, since it couldn't be opened or is in use
 abbrev pub FailsFile : (old new : FilesView) → Text → FileFault → Type 0
 FailsFile old new name fault = ((fault ≡ Read)
-    × (CameSince old new (Unread name) ⊎ (new.outcomes ≡ old.outcomes ++ Unfit ∷ [])))
+    × (CameSince old new (Unread name) ⊎ (new.outcomes ≡ old.outcomes ++ InUse name ∷ [])))
     ⊎ ((first : SourceView) × (last : SourceView)
     × WasRead (CameSince old new) (Found name) name first last × FailsInput first last fault)
 

@@ -9,8 +9,8 @@ ghost use Rattle.age_cli_args.specs.declared.request.Request.TheVariants.{Decryp
 ghost use Rattle.age_command.specs.Identities.{IsEnough, IsSecretGiven, file_bytes, file_of, allows_by};
 ghost use Rattle.age_command.specs.Identities.{refuses_by};
 ghost use Rattle.age_io.specs.Io.{Named};
-ghost use Rattle.age_fileset.specs.FileSet.{CameSince, FilesView, Outcome};
-ghost use Rattle.age_command.specs.Orders.{opening_event, NamesTwice, order_asked};
+ghost use Rattle.age_fileset.specs.FileSet.{CameSince, FilesView, Outcome, passed_names};
+ghost use Rattle.age_command.specs.Orders.{opening_event, AreApart, order_asked};
 ghost use Rattle.age_command.specs.Endings.{Tells};
 ghost use Rattle.age_cli.specs.Acts.{Acts, PortsOf, ShowsProgress, ShowsReadings, ShowsRun};
 ghost use Rattle.age_cli.specs.Acts.{decrypt_engine, kept_for, paths_of};
@@ -31,7 +31,7 @@ use std::alloc::Global;
 /// Whether a name is given, and stands for the same file as another.
 pub(crate) fn is_given_as<F: FileSet>(files: &mut F, given: Option<&str>, name: &str) -> bool
     ensures { Compares (F.view files.old) (F.view files.new) result
-        (option_text given.entry ≡ Some name.now) }
+        (λ one other. (option_text given.entry ≡ Some one) × (name.now ≡ other)) }
 {
     match given {
         Some(given) => files.is_same(given, name),
@@ -42,7 +42,8 @@ pub(crate) fn is_given_as<F: FileSet>(files: &mut F, given: Option<&str>, name: 
 /// Whether a name stands for a file that a decryption reads: its input, or the file of what opens
 /// that.
 fn is_read<F: FileSet>(files: &mut F, asked: &Decrypting<'_>, name: &str) -> bool
-    ensures { Compares (F.view files.old) (F.view files.new) result (IsReadAs asked.now name.now) }
+    ensures { Compares (F.view files.old) (F.view files.new) result
+        (λ one other. IsReadAs asked.now one × (name.now ≡ other)) }
 {
     files.is_same(asked.from, name)
         || is_given_as(files, asked.identity.pass, name)
@@ -53,7 +54,7 @@ fn is_read<F: FileSet>(files: &mut F, asked: &Decrypting<'_>, name: &str) -> boo
 /// the file of `--save` from all of these and from OUT.
 pub(crate) fn names_a_file_twice<F: FileSet>(files: &mut F, asked: &Decrypting<'_>) -> bool
     ensures { Compares (F.view files.old) (F.view files.new) result
-        (NamesTwice (order_asked (Decrypt asked.now)).apart) }
+        (AreApart (order_asked (Decrypt asked.now)).apart) }
 {
     if is_read(files, asked, asked.to) {
         return true;
@@ -81,7 +82,8 @@ pub(crate) fn read_secret<F: FileSet>(
     ensures enough { IfOk result (λ secret. IsEnough (CameSince (F.view files.old)
         (F.view files.new)) choice.now (file_bytes secret)) }
     ensures judges { Judges (opening_event (file_of choice.now)) (F.view files.old) (F.view files.new)
-        (is_file_named_twice ≡ true) (BlamesNames is_file_named_twice) result }
+        (is_file_named_twice ≡ true) (BlamesNames (CameSince (F.view files.old) (F.view files.new))
+        is_file_named_twice (passed_names read.now)) result }
 {
     if is_file_named_twice {
         return Err(Ending::Usage(Usage::SameFile));

@@ -1,7 +1,7 @@
 //! The command that encrypts a file.
 
 ghost use Rattle.std.specs.Prelude.{◌≡◌, ◌⊎◌, ◌<◌, [], ◌∷◌, ℕ, List, length};
-ghost use Rattle.std.specs.Prelude.{Some, true, IfOk, IfErr, IfSome, IfNone};
+ghost use Rattle.std.specs.Prelude.{Some, None, true, IfOk, IfErr, IfSome, IfNone};
 ghost use Rattle.age_io.specs.Io.{Named, Origin};
 ghost use Rattle.age_io.specs.Supply.{Consumes, IsAtEnd};
 ghost use Rattle.age_fileset.specs.FileSet.{Opened, Does, CameSince, HasGiven, HasGivenAll};
@@ -15,11 +15,11 @@ ghost use Rattle.age_cli_args.specs.declared.request.ProgressOption.TheVariants.
 ghost use Rattle.age_command.specs.Identities.{IsPassphraseIn, file_bytes};
 ghost use Rattle.age_command.specs.Files.{without_line_feed};
 ghost use Rattle.age_keys.specs.Scrypt.{IsAllowed};
-ghost use Rattle.age_command.specs.Orders.{NamesTwice, order_asked, random_name};
+ghost use Rattle.age_command.specs.Orders.{AreApart, NamesTwice, order_asked, random_name};
 ghost use Rattle.age_command.specs.declared.ending.Ending.TheVariants.{Fault, Usage as UsageEnding};
 ghost use Rattle.age_fault.specs.declared.fault.FileFault.TheVariants.{Read, Write};
 ghost use Rattle.age_command.specs.declared.ending.Usage.TheVariants.{BadPassphraseFile, BadRandomFile};
-ghost use Rattle.age_cli.specs.Acts.{Acts, IsBlamed, IsUnfit, PortsOf, ShowsProgress, ShowsRun};
+ghost use Rattle.age_cli.specs.Acts.{Acts, IsBlamed, IsUnusable, PortsOf, ShowsProgress, ShowsRun};
 ghost use Rattle.age_cli.specs.Commands.{HoldsNoPassphrase, HoldsNoRandom, MakesSecret};
 ghost use Rattle.age_cli.specs.inner.Openings.{Compares, Judges, IsRandom, IsMaterialGiven};
 
@@ -73,7 +73,7 @@ fn read_random<F: FileSet>(alloc: Global, files: &mut F, name: &str) -> Result<F
         × IsRandom bytes r) }
     ensures short { IfErr result (λ e. is_usage e ≡ true → ((e ≡ UsageEnding BadRandomFile)
         × HoldsOnly (CameSince (F.view files.old) (F.view files.new)) name.now HoldsNoRandom)
-        ⊎ IsUnfit (CameSince (F.view files.old) (F.view files.new)) e) }
+        ⊎ IsUnusable (CameSince (F.view files.old) (F.view files.new)) None e) }
     ensures early { IfErr result EndsEarly }
     ensures reason { IfErr result (HasReason (CameSince (F.view files.old) (F.view files.new))) }
 {
@@ -115,7 +115,7 @@ fn read_pass<F: FileSet>(
     ensures refused { IfErr result (λ e. is_usage e ≡ true → ((e ≡ UsageEnding BadPassphraseFile)
         × HoldsOnly (CameSince (F.view files.old) (F.view files.new)) asked.now.pass.now
         (HoldsNoPassphrase asked.now.log))
-        ⊎ IsUnfit (CameSince (F.view files.old) (F.view files.new)) e) }
+        ⊎ IsUnusable (CameSince (F.view files.old) (F.view files.new)) None e) }
 {
     let choice = Choice::PassphraseFile(asked.pass, asked.log);
     let held = choice.read(alloc, files)?;
@@ -145,7 +145,7 @@ fn random_name<'a>(asked: &Encrypting<'a>) -> &'a str
 /// Whether the output is one of the files that are read.
 fn names_out_twice<F: FileSet>(files: &mut F, asked: &Encrypting<'_>) -> bool
     ensures { Compares (F.view files.old) (F.view files.new) result
-        (NamesTwice (order_asked (Encrypt asked.now)).apart) }
+        (AreApart (order_asked (Encrypt asked.now)).apart) }
 {
     files.is_same(asked.from, asked.to)
         || files.is_same(asked.pass, asked.to)

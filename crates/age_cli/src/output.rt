@@ -1,22 +1,24 @@
 //! How the input and the output of a command are opened, and how the output is ended.
 
-ghost use Rattle.std.specs.Prelude.{◌≡◌, ◌⊎◌, [], ◌∷◌, ◌++◌, Some, true, is_some, IfErr, ℕ, List};
+ghost use Rattle.std.specs.Prelude.{◌≡◌, [], ◌∷◌, ◌++◌, Some, None, true, is_some, IfErr, ℕ, List};
 ghost use Rattle.std.specs.Prelude.{length, OnOk, OnErr, IfOk, IfSome, IsSomeAnd};
 ghost use Rattle.age_io.specs.Io.{Adds, Begins, Ends, Named};
 ghost use Rattle.age_fault.specs.declared.fault.FileFault.TheVariants.{Write};
-ghost use Rattle.age_fileset.specs.FileSet.{Opened, Closed, Found, Absent, Unwritten, Settled, Unfit};
+ghost use Rattle.age_fileset.specs.FileSet.{Opened, Closed, Found, Absent, Unwritten, Settled, InUse};
+ghost use Rattle.age_fileset.specs.FileSet.{Terminal};
 ghost use Rattle.age_fileset.specs.FileSet.{Entry, Does, PutsOnly, CameSince, OpenFails};
 ghost use Rattle.age_fileset.specs.declared.files.OpenFault.TheVariants.{SameFile, Fault};
 ghost use Rattle.age_cli_args.specs.Requests.{option_text};
 ghost use Rattle.age_cli_args.specs.declared.request.ClobberOption.TheVariants.{Refused};
 ghost use Rattle.age_command.specs.Endings.{EndsEarly, is_usage, Tells};
 ghost use Rattle.age_command.specs.Files.{HasReason};
-ghost use Rattle.age_command.specs.declared.ending.Usage.TheVariants as usage;
+ghost use Rattle.age_command.specs.declared.ending.Ending.TheVariants.{Usage as UsageEnding};
 ghost use Rattle.age_command.specs.Orders.{creating, preparing, making};
 ghost use Rattle.age_file.specs.Runs.{ports};
-ghost use Rattle.age_cli.specs.Acts.{AreNew, IsUnfit};
+ghost use Rattle.age_cli.specs.Acts.{AreNew, IsUnusable};
 ghost use Rattle.age_cli.specs.inner.Endings.{Concludes, EndsOut, IsPut, LeavesFile};
-ghost use Rattle.age_cli.specs.inner.Openings.{OpensFiles};
+ghost use Rattle.age_cli.specs.inner.Openings.{OpensFiles, age_file_in};
+ghost use Rattle.age_cli.specs.declared.output.Content.TheVariants.{AgeFile};
 
 use crate::interruption::{Interruption, end_of};
 use crate::taking::Taking;
@@ -55,7 +57,8 @@ pub(crate) struct Output<'a> {
 /// Whether an output is a terminal, which can't show what it is to hold.
 fn is_unshown<F: FileSet>(files: &mut F, out: &F::Out, content: Content) -> bool
     ensures does { Does [] (F.view files.old) (F.view files.new) }
-    ensures unfit { result ≡ true → CameSince (F.view files.old) (F.view files.new) Unfit }
+    ensures terminal { result ≡ true → (content ≡ AgeFile)
+        × CameSince (F.view files.old) (F.view files.new) (Terminal (F.Out.view out.now).label) }
 {
     match content {
         Content::AgeFile => files.is_terminal(out),
@@ -67,8 +70,8 @@ fn is_unshown<F: FileSet>(files: &mut F, out: &F::Out, content: Content) -> bool
 /// progress and faults go there.
 fn refusal_of<F: FileSet>(files: &mut F, out: &F::Out, content: Content) -> Option<Usage>
     ensures does { Does [] (F.view files.old) (F.view files.new) }
-    ensures unfit { IfSome result (λ u. ((u ≡ usage.SameFile) ⊎ (u ≡ usage.OutIsTerminal))
-        × CameSince (F.view files.old) (F.view files.new) Unfit) }
+    ensures taken { IfSome result (λ u. IsUnusable (CameSince (F.view files.old) (F.view files.new))
+        (age_file_in content (F.Out.view out.now).label) (UsageEnding u)) }
 {
     if is_unshown(files, out, content) {
         return Some(Usage::OutIsTerminal);
@@ -94,8 +97,8 @@ fn make_out<F: FileSet>(
     ensures faults { IfErr result (OpenFails Write) }
     ensures reason { IfErr result (λ f. f ≡ Fault Write
         → CameSince (F.view files.old) (F.view files.new) (Unwritten asked.now.to.now)) }
-    ensures unfit { IfErr result (λ f. f ≡ SameFile
-        → CameSince (F.view files.old) (F.view files.new) Unfit) }
+    ensures in_use { IfErr result (λ f. f ≡ SameFile
+        → CameSince (F.view files.old) (F.view files.new) (InUse asked.now.to.now)) }
 {
     match asked.clobber {
         ClobberOption::Allowed => files.create(alloc, asked.to),
@@ -112,7 +115,7 @@ fn create_out<F: FileSet>(
 ) -> Result<Taking<F>, Ending>
     ensures { OpensFiles (creating asked.now.clobber asked.now.to.now ∷ [])
         (making asked.now.clobber (Some asked.now.to.now) asked.now.durability)
-        (F.view files.old) (F.view files.new)
+        (age_file_in asked.now.content asked.now.to.now) (F.view files.old) (F.view files.new)
         (λ o. ((F.Out.view o.out).taken.bytes ≡ []) × ((F.Out.view o.out).failed ≡ 0)
         × ((F.Out.view o.out).label ≡ asked.now.to.now) × (asked.now.clobber ≡ Refused
         → CameSince (F.view files.old) (F.view files.new) (Absent asked.now.to.now)))
@@ -135,7 +138,7 @@ fn prepare_save<F: FileSet>(alloc: Global, files: &mut F, asked: &Output<'_>) ->
     ensures early { IfErr result EndsEarly }
     ensures reason { IfErr result (HasReason (CameSince (F.view files.old) (F.view files.new))) }
     ensures fault { IfErr result (λ e. is_usage e ≡ true
-        → IsUnfit (CameSince (F.view files.old) (F.view files.new)) e) }
+        → IsUnusable (CameSince (F.view files.old) (F.view files.new)) None e) }
 {
     match asked.save {
         Some(save) => Ok(files.prepare(alloc, save, asked.position)?),
@@ -156,7 +159,7 @@ pub(crate) fn open_both<F: FileSet>(
         ++ creating asked.now.clobber asked.now.to.now ∷ []))
         (Opened from.now ∷ (preparing (option_text asked.now.save)
         ++ making asked.now.clobber (Some asked.now.to.now) asked.now.durability))
-        (F.view files.old) (F.view files.new)
+        (age_file_in asked.now.content asked.now.to.now) (F.view files.old) (F.view files.new)
         (λ both. AreNew (ports (F.In.view both.0) (F.Out.view both.1.out))
         × F.In.began both.0 (Named from.now) × ((F.Out.view both.1.out).label ≡ asked.now.to.now)
         × CameSince (F.view files.old) (F.view files.new)

@@ -3,7 +3,7 @@
 ghost use Rattle.std.specs.Prelude.{◌≡◌, ◌⊎◌, [], ◌∷◌, ℕ, List, IfOk, IfErr, OnOk};
 ghost use Rattle.age_fault.specs.declared.fault.FileFault.TheVariants.{Read, BadPosition};
 ghost use Rattle.age_io.specs.Io.{Named, Origin};
-ghost use Rattle.age_fileset.specs.FileSet.{Opened, Unread, Unfit, Outcome, OpenFails, Does, CameSince};
+ghost use Rattle.age_fileset.specs.FileSet.{Opened, Unread, InUse, Outcome, OpenFails, Does, CameSince};
 ghost use Rattle.age_fileset.specs.FileSet.{HasGivenAll, FilesView, Entry, PutsOnly};
 ghost use Rattle.age_fileset.specs.declared.files.OpenFault.TheVariants as OpenFault;
 ghost use Rattle.age_cli_args.specs.Requests.{option_text};
@@ -12,7 +12,7 @@ ghost use Rattle.age_cli_args.specs.declared.request.Request.TheVariants.{Resume
 ghost use Rattle.age_file.specs.Resumes.{resume_ports, position_text, ResumesKeyed};
 ghost use Rattle.age_file.specs.Runs.{ports};
 ghost use Rattle.age_command.specs.Identities.{allows_by, refuses_by};
-ghost use Rattle.age_command.specs.Orders.{Begins, NamesTwice, order_asked};
+ghost use Rattle.age_command.specs.Orders.{Begins, AreApart, order_asked};
 ghost use Rattle.age_command.specs.Endings.{Tells};
 ghost use Rattle.age_command.specs.Files.{IsUnread, HoldsOnly};
 ghost use Rattle.age_cli.specs.Acts.{Acts, PortsOf, ShowsProgress, ShowsReadings, ShowsRun};
@@ -52,8 +52,8 @@ fn read_position<F: FileSet>(
         → HoldsOnly (CameSince (F.view files.old) (F.view files.new)) name.now HoldsNoPosition) }
     ensures reason { IfErr result (λ f. f ≡ OpenFault.Fault Read
         → IsUnread (CameSince (F.view files.old) (F.view files.new))) }
-    ensures unfit { IfErr result (λ f. f ≡ OpenFault.SameFile
-        → CameSince (F.view files.old) (F.view files.new) Unfit) }
+    ensures in_use { IfErr result (λ f. f ≡ OpenFault.SameFile
+        → CameSince (F.view files.old) (F.view files.new) (InUse name.now)) }
 {
     match read_file(alloc, files, name, POSITION_FILE_MAX)? {
         Some(text) => Ok(Position::read(text.as_slice())?),
@@ -65,7 +65,7 @@ fn read_position<F: FileSet>(
 /// output must differ from IN, OUT and the file of `--save`, and OUT from the position.
 fn names_one_twice<F: FileSet>(files: &mut F, asked: &Resuming<'_>) -> bool
     ensures { Compares (F.view files.old) (F.view files.new) result
-        (NamesTwice (order_asked (Resume asked.now)).apart) }
+        (AreApart (order_asked (Resume asked.now)).apart) }
 {
     let others = &asked.decrypting;
     if names_a_file_twice(files, others) {
@@ -99,8 +99,8 @@ fn open_old<F: FileSet>(
     ensures faults { IfErr result (OpenFails Read) }
     ensures reason { IfErr result (λ f. f ≡ OpenFault.Fault Read
         → CameSince (F.view files.old) (F.view files.new) (Unread name.now)) }
-    ensures unfit { IfErr result (λ f. f ≡ OpenFault.SameFile
-        → CameSince (F.view files.old) (F.view files.new) Unfit) }
+    ensures in_use { IfErr result (λ f. f ≡ OpenFault.SameFile
+        → CameSince (F.view files.old) (F.view files.new) (InUse name.now)) }
 {
     if position.index == 0 {
         files.open_or_empty(alloc, name)
@@ -131,8 +131,8 @@ fn open_earlier<F: FileSet>(
         HoldsNoPosition) }
     ensures reason { IfErr result (λ f. f ≡ OpenFault.Fault Read
         → IsUnread (CameSince (F.view files.old) (F.view files.new))) }
-    ensures unfit { IfErr result (λ f. f ≡ OpenFault.SameFile
-        → CameSince (F.view files.old) (F.view files.new) Unfit) }
+    ensures in_use { IfErr result (λ f. f ≡ OpenFault.SameFile → (name : List ℕ)
+        × CameSince (F.view files.old) (F.view files.new) (InUse name)) }
 {
     let position = read_position(alloc, files, asked.position)?;
     let old = open_old(alloc, files, asked.old, &position)?;

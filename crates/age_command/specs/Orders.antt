@@ -3,7 +3,7 @@ use Rattle.std.specs.Prelude.{◌≡◌, List, [], ◌∷◌, ◌++◌, Option, 
 use Rattle.clap.specs.Words.{Text}
 use Rattle.age_io.specs.declared.durability.Durability.{Durability}
 use Rattle.age_fileset.specs.FileSet.{Event, Opened, Prepared, Created, Made, Replaced, Closed}
-use Rattle.age_fileset.specs.FileSet.{FilesView, Does}
+use Rattle.age_fileset.specs.FileSet.{FilesView, Does, given_names}
 use Rattle.age_cli_args.specs.Requests.{option_text}
 use Rattle.age_cli_args.specs.declared.request.ClobberOption.{ClobberOption}
 use Rattle.age_cli_args.specs.declared.request.ClobberOption.TheVariants.{Allowed, Refused}
@@ -54,14 +54,10 @@ identity_order pass shared = opening_event pass ++ opening_event shared
 
 -- ---- The names that have to differ.
 
--- two names are given, and they are equal
-abbrev pub IsSameName : Option Text → Option Text → Type 0
-IsSameName one other = (name : Text) × (one ≡ Some name) × (other ≡ Some name)
-
--- a name is given, and is one of these
-abbrev pub IsOneOf : Option Text → List (Option Text) → Type 0
-IsOneOf one [] = ⊥
-IsOneOf one (other ∷ others) = IsSameName one other ⊎ IsOneOf one others
+-- a name is one of these that are given
+abbrev pub IsOneOf : Text → List (Option Text) → Type 0
+IsOneOf name [] = ⊥
+IsOneOf name (other ∷ others) = (other ≡ Some name) ⊎ IsOneOf name others
 
 -- a name that has to differ from others, if they are given
 pub record Apart : Type 0 where
@@ -71,10 +67,14 @@ pub record Apart : Type 0 where
 abbrev pub apart_from : Option Text → List (Option Text) → Apart
 apart_from name others = record { name = name; others = others }
 
--- one of these is a name from which it has to differ
+-- one of these says that two names have to differ
+abbrev pub AreApart : List Apart → Text → Text → Type 0
+AreApart [] one other = ⊥
+AreApart (a ∷ rest) one other = ((a.name ≡ Some one) × IsOneOf other a.others) ⊎ AreApart rest one other
+
+-- and they are equal
 abbrev pub NamesTwice : List Apart → Type 0
-NamesTwice [] = ⊥
-NamesTwice (a ∷ rest) = IsOneOf a.name a.others ⊎ NamesTwice rest
+NamesTwice apart = (name : Text) × AreApart apart name name
 
 -- ---- The order in which a command opens and makes the files that the arguments name, and which of
 -- these names have to differ.
@@ -83,6 +83,8 @@ NamesTwice (a ∷ rest) = IsOneOf a.name a.others ⊎ NamesTwice rest
 pub record Order : Type 0 where
   -- the names that have to differ
   pub apart : List Apart
+  -- the names of what is read, of which no two may be of one stream
+  pub read : List Text
   -- what the command opens to judge its arguments
   pub judged : List Event
   -- all that the command does if it ends well
@@ -90,9 +92,10 @@ pub record Order : Type 0 where
   -- that, and all that a stop may add
   pub whole : List Event
 
--- a command that writes nothing opens these files
-abbrev pub reading_order : List Event → Order
-reading_order opened = record { apart = []; judged = opened; done = opened; whole = opened }
+-- a command that writes nothing opens the files of these names
+abbrev pub reading_order : List (Option Text) → List Event → Order
+reading_order names opened =
+    record { apart = []; read = given_names names; judged = opened; done = opened; whole = opened }
 
 -- the file of random bytes, if none is named
 abbrev pub random_name : Option Text → Text
@@ -113,6 +116,7 @@ writing_order first second position old from clobber to save durability =
     record {
       apart = apart_from to (position ∷ read) ∷ apart_from save (to ∷ read)
           ∷ apart_from old (from ∷ []) ∷ [];
+      read = given_names (position ∷ old ∷ first ∷ second ∷ from ∷ []);
       judged = judged;
       done = done;
       whole = done ++ replacing save durability;
@@ -120,7 +124,7 @@ writing_order first second position old from clobber to save durability =
 
 -- the order of what is asked
 abbrev pub order_asked : Request → Order
-order_asked (Inspect file) = reading_order (opening_event (option_text file))
+order_asked (Inspect file) = reading_order (option_text file ∷ []) (opening_event (option_text file))
 order_asked (Encrypt e) = writing_order (Some e.pass.now) (Some (random_name (option_text e.random)))
     None None (Some e.from.now) e.clobber (Some e.to.now) None e.durability
 order_asked (Decrypt d) = writing_order (option_text d.identity.pass) (option_text d.identity.shared)
@@ -129,6 +133,6 @@ order_asked (Resume r) =
     let d = r.decrypting in
     writing_order (option_text d.identity.pass) (option_text d.identity.shared) (Some r.position.now)
     (Some r.old.now) (Some d.from.now) d.clobber (Some d.to.now) (option_text d.save) d.durability
-order_asked (Drill d) =
-    reading_order (opening_event (option_text d.pass) ++ (opening_event (Some d.script.now)
+order_asked (Drill d) = reading_order (option_text d.pass ∷ Some d.script.now ∷ Some d.from.now ∷ [])
+    (opening_event (option_text d.pass) ++ (opening_event (Some d.script.now)
     ++ opening_event (Some d.from.now)))

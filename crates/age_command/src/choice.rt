@@ -1,10 +1,10 @@
 //! What opens a file, as one of the options says.
 
-ghost use Rattle.std.specs.Prelude.{◌≡◌, ℕ, List, Option, IfOk, IfErr, IfSome, IfNone};
+ghost use Rattle.std.specs.Prelude.{◌≡◌, ℕ, List, Option, IfOk, IfErr, IfSome, IfNone, IsSomeAnd};
 ghost use Rattle.age_keys.specs.Scrypt.{IsAllowed, PassphraseIdentity};
 ghost use Rattle.age_keys.specs.X25519.{Shared};
 ghost use Rattle.age_fault.specs.declared.fault.FileFault.TheVariants.{Read};
-ghost use Rattle.age_fileset.specs.FileSet.{OpenFails, Unfit, Does, CameSince};
+ghost use Rattle.age_fileset.specs.FileSet.{OpenFails, InUse, Does, CameSince};
 ghost use Rattle.age_command.specs.Orders.{opening_event};
 ghost use Rattle.age_command.specs.Identities.{IsPassphraseIn, IsSharedIn, MakesBy, file_of};
 ghost use Rattle.age_command.specs.Identities.{blame_by, blame_in};
@@ -64,8 +64,8 @@ impl<'a> Choice<'a> {
         ensures faults { IfErr result (OpenFails Read) }
         ensures reason { IfErr result (λ f. f ≡ Fault Read
             → IsUnread (CameSince (F.view files.old) (F.view files.new))) }
-        ensures unfit { IfErr result (λ f. f ≡ SameFile
-            → CameSince (F.view files.old) (F.view files.new) Unfit) }
+        ensures in_use { IfErr result (λ f. f ≡ SameFile → IsSomeAnd (file_of self.now)
+            (λ name. CameSince (F.view files.old) (F.view files.new) (InUse name))) }
         ensures given { IfOk result (λ o. IsSecretGiven
             (CameSince (F.view files.old) (F.view files.new)) (file_of self.now) (file_bytes o)) }
         ensures enough { IfOk result (λ o. IsEnough

@@ -2,7 +2,7 @@
 
 ghost use Rattle.std.specs.Prelude.{◌≡◌, ◌^◌, ◌<◌, ◌≤◌, [], ℕ, List, length, OnOk, IfOk, IfErr};
 ghost use Rattle.std.specs.Prelude.{IfSome, IfNone, ◌∷◌, true};
-ghost use Rattle.age_fileset.specs.FileSet.{Opened, Unfit, IsMemoryOr, OpenFails, Does, CameSince};
+ghost use Rattle.age_fileset.specs.FileSet.{Opened, InUse, IsMemoryOr, OpenFails, Does, CameSince};
 ghost use Rattle.age_fault.specs.declared.fault.FileFault.TheVariants.{Read};
 ghost use Rattle.age_io.specs.Io.{Origin};
 ghost use Rattle.age_io.specs.Supply.{Consumes, IsAtEnd};
@@ -126,8 +126,8 @@ pub fn read_file<F: FileSet>(
     ensures faults { IfErr result (OpenFails Read) }
     ensures reason { IfErr result (λ f. f ≡ Fault Read
         → IsUnread (CameSince (F.view files.old) (F.view files.new))) }
-    ensures unfit { IfErr result (λ f. f ≡ SameFile
-        → CameSince (F.view files.old) (F.view files.new) Unfit) }
+    ensures in_use { IfErr result (λ f. f ≡ SameFile
+        → CameSince (F.view files.old) (F.view files.new) (InUse name.now)) }
 {
     let mut source = files.open(alloc, name)?;
     let read = read_up_to(alloc, &mut source, most);

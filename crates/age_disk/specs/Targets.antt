@@ -1,6 +1,7 @@
 -- What is known of a file while it is written.
-use Rattle.std.specs.Prelude.{◌≡◌, ℕ, List, [], Option, Some, None, false}
+use Rattle.std.specs.Prelude.{◌≡◌, ◌≤◌, ℕ, List, [], length, Option, Some, None, false}
 use Rattle.age_machine.specs.Outs.{OutView, text_of}
+use Rattle.age_disk.specs.declared.output.Pace.{Pace}
 use Rattle.age_disk.specs.declared.output.Target.{Target}
 use Rattle.age_disk.specs.declared.output.Target.TheVariants as target
 
@@ -18,3 +19,7 @@ IsTaking None failed took = Unit {0}
 IsTaking (Some out) failed took = (text_of out.calls ≡ took)
     × ((failed ≡ 0 → out.is_lost ≡ false → out.failed ≡ 0)
     × (failed ≡ 0 → took ≡ [] → out.failed ≡ 0))
+
+-- no more was waited for than was written, nor written than a sink took
+abbrev pub IsPaced : Pace → List ℕ → Type 0
+IsPaced pace took = (pace.settled ≤ pace.taken) × (pace.taken ≤ length took)

@@ -11,7 +11,7 @@ ghost use Rattle.age_machine.specs.Ends.{Closes, Discards, TouchesItself};
 ghost use Rattle.age_machine.specs.Numbers.{number_of};
 ghost use Rattle.age_machine.specs.Outs.{OutView};
 ghost use Rattle.age_disk.specs.Outputs.{IsNew, IsMadeAt, HasNode, sink_of, as_sink};
-ghost use Rattle.age_disk.specs.Targets.{regular_of, IsTaking};
+ghost use Rattle.age_disk.specs.Targets.{regular_of, IsTaking, IsPaced};
 ghost use Rattle.age_disk.specs.inner.Puts.{opening_calls, part_of, TargetPuts};
 
 use crate::device::Device;
@@ -105,7 +105,9 @@ struct Pace {
 
 impl Pace {
     /// Before anything is written.
-    fn new() -> Pace {
+    fn new() -> Pace
+        ensures { IsPaced result [] }
+    {
         Pace {
             taken: 0,
             settled: 0,
@@ -116,7 +118,8 @@ impl Pace {
 
     /// Waits until what was written has reached the disk. Fails for good once that has failed.
     fn reach_disk(&mut self, target: &mut Target) -> io::Result<()>
-        ensures { TargetPuts (regular_of target.old) (regular_of target.new) true [] }
+        ensures goes { TargetPuts (regular_of target.old) (regular_of target.new) true [] }
+        ensures paced { (took : List ℕ) → IsPaced self.old took → IsPaced self.new took }
     {
         if let Some(error) = self.lost {
             return Err(error);
@@ -135,7 +138,8 @@ impl Pace {
 
     /// Waits for the disk before more is written, if it is time to.
     fn wait(&mut self, target: &mut Target) -> io::Result<()>
-        ensures { TargetPuts (regular_of target.old) (regular_of target.new) true [] }
+        ensures goes { TargetPuts (regular_of target.old) (regular_of target.new) true [] }
+        ensures paced { (took : List ℕ) → IsPaced self.old took → IsPaced self.new took }
     {
         if self.durability == Durability::Buffered || !is_wait_due(self.taken, self.settled) {
             return Ok(());
@@ -154,6 +158,8 @@ fn write_paced(
     ensures bound { WritesAtMost result from.now }
     ensures goes { TargetPuts (regular_of target.old) (regular_of target.new) (is_ok result)
         (part_of result from.now) }
+    ensures paced { (took : List ℕ) → IsPaced pace.old took
+        → IsPaced pace.new (took ++ part_of result from.now) }
 {
     pace.wait(target)?;
     let n = target.write(rt, from)?;
@@ -259,7 +265,7 @@ impl Model for HostOut {
     ghost use Rattle.age_disk.specs.Outputs.{OutputView, HasNode};
     ghost use Rattle.std.specs.Prelude.{option_map, IfSome};
     ghost use Rattle.age_machine.specs.Outs.{OutView};
-    ghost use Rattle.age_disk.specs.Targets.{regular_of, IsTaking};
+    ghost use Rattle.age_disk.specs.Targets.{regular_of, IsTaking, IsPaced};
 
     ghost Value = { OutputView };
 
@@ -272,7 +278,7 @@ impl Model for HostOut {
     } };
 
     ghost invariant = { λ s. IsTaking (regular_of s.target) s.failures.count s.took
-        × IfSome (regular_of s.target) (λ o. HasNode s.id o.file) };
+        × (IfSome (regular_of s.target) (λ o. HasNode s.id o.file) × IsPaced s.pace s.took) };
 }
 
 /// How many bytes are written at least, and at most, between two waits for the disk. In between,
@@ -601,7 +607,8 @@ impl HostOut {
     /// How many of the bytes that it took are there for certain: on the disk, if they are to be and
     /// the machine can wait for that. A file that was cut off or removed has fewer.
     pub fn settle(&mut self, _rt: &HostRuntime, durability: Durability) -> u64
-        ensures { self.new ≡ self.old }
+        ensures same { self.new ≡ self.old }
+        ensures most { result ≤ length self.old.took }
     {
         let held = match durability {
             Durability::Synced

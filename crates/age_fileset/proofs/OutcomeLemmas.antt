@@ -6,12 +6,12 @@ use Rattle.age_io.specs.Io.{SourceView}
 use Rattle.age_io.specs.declared.durability.Durability.{Durability}
 use Rattle.age_io.specs.Supply.{Consumes, IsAtEnd}
 use Rattle.age_fault.specs.declared.fault.FileFault.{FileFault}
-use Rattle.age_fault.specs.declared.fault.FileFault.TheVariants.{Read, Write, Memory}
+use Rattle.age_fault.specs.declared.fault.FileFault.TheVariants.{Read, Write}
 use Rattle.age_fileset.specs.declared.files.OpenFault.{OpenFault}
 use Rattle.age_fileset.specs.declared.files.OpenFault.TheVariants.{SameFile, Fault}
-use Rattle.age_fileset.specs.FileSet.{Event, Opened, Outcome, Found, FoundOrEmpty, Unread, Unwritten, Absent, Gave, Settled, Put, Unfit, Reading, reading_of}
+use Rattle.age_fileset.specs.FileSet.{Event, Opened, Outcome, Found, FoundOrEmpty, Unread, Unwritten, Absent, Gave, Settled, Put, Alike, OneStream, InUse, Terminal, Reading, reading_of}
 use Rattle.age_fileset.specs.FileSet.{Entry, entry, FilesView, Does, PutsOnly, CameSince, HasGiven, HasGivenAll, puts_in, with_event, with_outcomes, refused_as, OpenFails, IsMemoryOr}
-use Rattle.age_fileset.specs.FileSet.{opened_as, made_as, unfit_if}
+use Rattle.age_fileset.specs.FileSet.{opened_as, made_as, checked_as, noted_if, ChecksStreams}
 
 pub puts_then : (a b : List Outcome) → puts_in (a ++ b) ≡ puts_in a ++ puts_in b
 unfolding puts_in
@@ -24,7 +24,10 @@ puts_then (Unwritten name ∷ a) b = puts_then a b
 puts_then (Absent name ∷ a) b = puts_then a b
 puts_then (Gave r ∷ a) b = puts_then a b
 puts_then (Settled durability took size ∷ a) b = puts_then a b
-puts_then (Unfit ∷ a) b = puts_then a b
+puts_then (Alike one other ∷ a) b = puts_then a b
+puts_then (OneStream names ∷ a) b = puts_then a b
+puts_then (InUse name ∷ a) b = puts_then a b
+puts_then (Terminal name ∷ a) b = puts_then a b
 
 -- ---- Parts of a run, one after the other.
 
@@ -117,11 +120,6 @@ unfolding puts_in
 unwritten_puts name SameFile fails = refl
 unwritten_puts name (Fault fault) fails = memory_or name Write fault refl fails
 
-pub shared_puts : (name : List ℕ) (fault : OpenFault) → OpenFails Memory fault → puts_in (refused_as name fault) ≡ []
-unfolding puts_in
-shared_puts name SameFile fails = refl
-shared_puts name (Fault fault) fails = memory_or name Memory fault refl fails
-
 came_of : (old new : FilesView) (name : List ℕ) (e : Event) (fault : OpenFault) (o : Outcome) (other : OpenFault) → refused_as name other ≡ o ∷ [] → new ≡ with_event e (refused_as name fault) old
     → fault ≡ other → CameSince old new o
 came_of old new name e fault o other one is same = came_one old new o (ap (λ v. v.outcomes) is ∙ ap (λ f. old.outcomes ++ refused_as name f) same ∙ ap (λ l. old.outcomes ++ l) one)
@@ -141,9 +139,9 @@ module _ {In : Type 0} (read : In → SourceView) (size : In → Option ℕ) (na
   opened_unread (Ok s) is = tt
   opened_unread (Err fault) is = λ same. came_of old new name (Opened name) fault (Unread name) (Fault Read) refl is same
 
-  pub opened_unfit : (r : Result In OpenFault) → new ≡ with_event (Opened name) (opened_as read size found name r) old → IfErr r (λ f. f ≡ SameFile → CameSince old new Unfit)
-  opened_unfit (Ok s) is = tt
-  opened_unfit (Err fault) is = λ same. came_of old new name (Opened name) fault Unfit SameFile refl is same
+  pub opened_in_use : (r : Result In OpenFault) → new ≡ with_event (Opened name) (opened_as read size found name r) old → IfErr r (λ f. f ≡ SameFile → CameSince old new (InUse name))
+  opened_in_use (Ok s) is = tt
+  opened_in_use (Err fault) is = λ same. came_of old new name (Opened name) fault (InUse name) SameFile refl is same
 
 pub found_plain : (name : List ℕ) (left : Option (List ℕ)) (size : Option ℕ) → puts_in (Found name left size ∷ []) ≡ []
 unfolding puts_in
@@ -168,19 +166,41 @@ unfolding puts_in
 absent_plain name = refl
 
 -- streams were to be checked
-module _ {A : Type 0} (old new : FilesView) where
-  pub checked_does : (r : Result A OpenFault) → new ≡ with_outcomes (made_as [] [] r) old → IfErr r (OpenFails Memory) → Does [] old new
-  checked_does (Ok done) is fails = does_only old new [] is none_plain
-  checked_does (Err fault) is fails = does_only old new _ is (shared_puts [] fault fails)
+module _ {names : List (List ℕ)} {old new : FilesView} where
+  pub checked_does : {r : Result (Unit {0}) OpenFault} → ChecksStreams names r old new → Does [] old new
+  unfolding puts_in
+  checked_does {r = Ok done} c = does_only old new [] c.noted refl
+  checked_does {r = Err SameFile} c = does_only old new (OneStream names ∷ []) c.noted refl
+  checked_does {r = Err (Fault fault)} c = does_only old new [] c.noted refl
 
-  pub checked_unfit : (r : Result A OpenFault) → new ≡ with_outcomes (made_as [] [] r) old → IfErr r (λ f. f ≡ SameFile → CameSince old new Unfit)
-  checked_unfit (Ok done) is = tt
-  checked_unfit (Err fault) is = λ same. came_one old new Unfit (ap (λ v. v.outcomes) is ∙ ap (λ f. old.outcomes ++ refused_as [] f) same)
+  pub checked_stream : {r : Result (Unit {0}) OpenFault} → ChecksStreams names r old new → IfErr r (λ f. f ≡ SameFile → CameSince old new (OneStream names))
+  checked_stream {r = Ok done} c = tt
+  checked_stream {r = Err fault} c = λ same. came_one old new (OneStream names) (ap (λ v. v.outcomes) c.noted ∙ ap (λ f. old.outcomes ++ checked_as names (Err f)) same)
 
-pub unfit_puts : (b : Bool) → puts_in (unfit_if b) ≡ []
+-- an answer was noted
+noted_puts : (b : Bool) (o : Outcome) → puts_in (o ∷ []) ≡ [] → puts_in (noted_if b o) ≡ []
 unfolding puts_in
-unfit_puts true = refl
-unfit_puts false = refl
+noted_puts true o none = none
+noted_puts false o none = refl
+
+module _ (b : Bool) (o : Outcome) (plain : puts_in (o ∷ []) ≡ []) (old new : FilesView) (is : new ≡ with_outcomes (noted_if b o) old) where
+  pub noted_does : Does [] old new
+  noted_does = does_only old new (noted_if b o) is (noted_puts b o plain)
+
+  pub noted_came : b ≡ true → CameSince old new o
+  noted_came holds = came_one old new o (ap (λ v. v.outcomes) is ∙ ap (λ a. old.outcomes ++ noted_if a o) holds)
+
+pub alike_plain : (one other : List ℕ) → puts_in (Alike one other ∷ []) ≡ []
+unfolding puts_in
+alike_plain one other = refl
+
+pub in_use_plain : (name : List ℕ) → puts_in (InUse name ∷ []) ≡ []
+unfolding puts_in
+in_use_plain name = refl
+
+pub terminal_plain : (name : List ℕ) → puts_in (Terminal name ∷ []) ≡ []
+unfolding puts_in
+terminal_plain name = refl
 
 pub gave_puts : (r : Reading) → puts_in (Gave r ∷ []) ≡ []
 unfolding puts_in

@@ -4,7 +4,7 @@ use Rattle.std.specs.Str.{bytes_eq}
 use Rattle.std.proofs.lemmas.Slice.Eq.{bytes_eq-Decides}
 use Rattle.std.specs.Prelude.{if◌then◌else◌}
 use Rattle.age_fileset.specs.declared.mem_entry.MemEntry.{MemEntry}
-use Rattle.age_fileset.specs.FileSet.{Outcome, Found, FoundOrEmpty, Unread, Unwritten, Absent, Gave, Settled, Put, Unfit, Files, no_files, once, stands, or_empty}
+use Rattle.age_fileset.specs.FileSet.{Outcome, Found, FoundOrEmpty, Unread, Unwritten, Absent, Gave, Settled, Put, Alike, OneStream, InUse, Terminal, Files, no_files, once, stands, or_empty}
 use Rattle.age_fileset.specs.FileSet.{Fits, AllFit, AreTrue, PutsEntry, entry_of, refused_as, MemFails, IsMemoryOr}
 use Rattle.age_fileset.specs.declared.files.OpenFault.{OpenFault}
 use Rattle.age_fileset.specs.declared.files.OpenFault.TheVariants.{SameFile, Fault}
@@ -29,7 +29,10 @@ fits_by f g (FoundOrEmpty name left size) same fit = (fit.0 ∙ ap or_empty (sam
 fits_by f g (Unread name) same fit = sym (same name) ∙ fit
 fits_by f g (Absent name) same fit = sym (same name) ∙ fit
 fits_by f g (Settled durability took size) same fit = fit
-fits_by f g Unfit same fit = fit
+fits_by f g (Alike one other) same fit = fit
+fits_by f g (OneStream names) same fit = fit
+fits_by f g (InUse name) same fit = fit
+fits_by f g (Terminal name) same fit = fit
 fits_by f g (Unwritten name) same fit = tt
 fits_by f g (Gave r) same fit = tt
 fits_by f g (Put name bytes) same fit = tt

@@ -1,7 +1,8 @@
 -- What contracts see of a set of files, and what a set over memory does.
 use Rattle.std.specs.Prelude.{ℕ, List, ◌≡◌, ◌⊎◌, ◌&&◌, Bool, false, [], Option, Some, None, ◌≢◌, ◌-◌, ◌^◌}
 use Rattle.std.specs.Prelude.{true, not, is_some, ◌++◌, ◌∷◌, if◌then◌else◌}
-use Rattle.std.specs.Prelude.{find, length, option_map, Result, Ok, Err, OnOk, OnErr}
+use Rattle.std.specs.Prelude.{find, length, map, option_map, Result, Ok, Err, OnOk, OnErr}
+use Rattle.std.specs.Borrow.{Bor}
 use Rattle.std.specs.Str.{bytes_eq}
 use Rattle.std.specs.Io.KnownBytes.{IsAtEnd, prepend_known}
 use Rattle.age_io.specs.Io.{Feeding, Holding, SourceView, SinkView, holds, memory_supply}
@@ -63,13 +64,42 @@ pub data Outcome : Type 0 where
   -- A close or a replacing with these bytes succeeded. What a disk holds then is said by its calls: if
   -- a put failed not all of the bytes need be there, and what failed may have left some.
   Put : List ℕ → List ℕ → Outcome
-  -- what no name shows: two lead to one file or stream, or an output is a terminal or takes the lines
-  -- of faults
-  Unfit : Outcome
+  -- what no name shows: two names that differ lead to one file
+  Alike : (one other : List ℕ) → Outcome
+  -- two of these names lead to one stream
+  OneStream : List (List ℕ) → Outcome
+  -- what this name leads to was opened, prepared or created before, or takes the lines of faults
+  InUse : List ℕ → Outcome
+  -- the output of this name is a terminal
+  Terminal : List ℕ → Outcome
 
--- what comes of a file that can't be opened or written
+-- this came, if so it was answered
+abbrev pub noted_if : Bool → Outcome → List Outcome
+noted_if true outcome = outcome ∷ []
+noted_if false outcome = []
+
+-- what comes of two names that were compared: equal ones are one file
+abbrev pub alike_as : (one other : List ℕ) → Bool → List Outcome
+alike_as one other answer = noted_if (answer && not (bytes_eq one other)) (Alike one other)
+
+-- those of these names that are given
+abbrev pub given_names : List (Option (List ℕ)) → List (List ℕ)
+given_names [] = []
+given_names (None ∷ more) = given_names more
+given_names (Some name ∷ more) = name ∷ given_names more
+
+-- the same of names that are passed to a call
+abbrev pub passed_names : List (Option (Bor (List ℕ))) → List (List ℕ)
+passed_names names = given_names (map (option_map (λ s. s.now)) names)
+
+-- of names of which two may be of one stream
+abbrev pub checked_as : List (List ℕ) → Result (Unit {0}) OpenFault → List Outcome
+checked_as names (Err SameFile) = OneStream names ∷ []
+checked_as names other = []
+
+-- of a file that can't be opened or written
 abbrev pub refused_as : List ℕ → OpenFault → List Outcome
-refused_as name SameFile = Unfit ∷ []
+refused_as name SameFile = InUse name ∷ []
 refused_as name (Fault Read) = Unread name ∷ []
 refused_as name (Fault Write) = Unwritten name ∷ []
 refused_as name (Fault other) = []
@@ -100,15 +130,6 @@ abbrev pub written_as : List ℕ → List ℕ → Result (Unit {0}) FileFault �
 written_as name bytes (Ok done) = Put name bytes ∷ []
 written_as name bytes (Err fault) = refused_as name (Fault fault)
 
--- of a question whose answer no name shows
-abbrev pub unfit_if : Bool → List Outcome
-unfit_if true = Unfit ∷ []
-unfit_if false = []
-
--- and whether two names are one file: equal ones are
-abbrev pub alike_as : (one other : List ℕ) → Bool → List Outcome
-alike_as one other answer = unfit_if (answer && not (bytes_eq one other))
-
 -- what was done with a set of files, and what came of it, in order
 pub record Doings : Type 0 where
   pub events : List Event
@@ -137,6 +158,11 @@ with_event event more files = record files {
   events = files.events ++ event ∷ [];
   outcomes = files.outcomes ++ more;
 }
+
+-- names of which no two may be of one stream were looked at
+pub record ChecksStreams (names : List (List ℕ)) (result : Result (Unit {0}) OpenFault)
+    (old new : FilesView) : Type 0 where
+  pub noted : new ≡ with_outcomes (checked_as names result) old
 
 -- an output was ended, and that came of it
 pub record EndsOne (durability : Durability) (more : List Outcome) (old new : FilesView) : Type 0 where
@@ -244,8 +270,10 @@ Fits files (FoundOrEmpty name left size) = (left ≡ or_empty (files name)) × (
 Fits files (Unread name) = files name ≡ None
 Fits files (Absent name) = files name ≡ None
 Fits files (Settled durability took size) = size ≡ length took
-Fits files Unfit = ⊥
-Fits files other = Unit {0}
+Fits files (Unwritten name) = Unit {0}
+Fits files (Gave reading) = Unit {0}
+Fits files (Put name bytes) = Unit {0}
+Fits files other = ⊥
 
 -- each of these, when it came
 unfoldable pub AllFit : Files → List Outcome → Type 0

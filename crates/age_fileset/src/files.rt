@@ -5,7 +5,8 @@ ghost use Rattle.std.specs.Prelude.{IfOk, IfErr, IsOkUnless, OnOk, IfSome, ◌�
 ghost use Rattle.age_fileset.specs.FileSet.{FilesView, IsMemoryOr, OpenFails, Opened, Prepared, Created};
 ghost use Rattle.age_fileset.specs.FileSet.{Made, Replaced, EndsOne, Found, FoundOrEmpty, Absent, Gave};
 ghost use Rattle.age_fileset.specs.FileSet.{Settled, reading_of, opened_as, reread_as, made_as};
-ghost use Rattle.age_fileset.specs.FileSet.{written_as, alike_as, unfit_if, with_event, with_outcomes};
+ghost use Rattle.age_fileset.specs.FileSet.{written_as, alike_as, noted_if, passed_names, ChecksStreams};
+ghost use Rattle.age_fileset.specs.FileSet.{InUse, Terminal, with_event, with_outcomes};
 ghost use Rattle.age_io.specs.Io.{Named, Origin};
 ghost use Rattle.age_machine.specs.Ends.{Closes, Discards};
 ghost use Rattle.age_machine.specs.Saved.{Saves};
@@ -74,7 +75,7 @@ pub trait FileSet {
     /// stream gives each of its bytes once: a pipe, a socket or a terminal, or standard input,
     /// whatever it is. The call opens nothing. It refuses with `Memory` (28) too.
     fn check_streams(&mut self, alloc: Global, names: &[Option<&str>]) -> Result<(), OpenFault>
-        ensures noted { view self.new ≡ with_outcomes (made_as [] [] result) (view self.old) }
+        ensures checks { ChecksStreams (passed_names names.now) result (view self.old) (view self.new) }
         ensures faults { IfErr result (OpenFails FileFault.Memory) };
 
     /// Opens a file to be read. Refuses with `Read` (26) if it can't be opened, with `Memory` (28),
@@ -162,12 +163,14 @@ pub trait FileSet {
 
     /// Whether a file that was created is standard error's, which the lines of progress and of
     /// faults go to.
-    fn is_for_faults(&mut self, _out: &Self::Out) -> bool
-        ensures { view self.new ≡ with_outcomes (unfit_if result) (view self.old) };
+    fn is_for_faults(&mut self, out: &Self::Out) -> bool
+        ensures { view self.new ≡ with_outcomes
+            (noted_if result (InUse (Self.Out.view out.now).label)) (view self.old) };
 
     /// Whether a file that was created is a terminal.
-    fn is_terminal(&mut self, _out: &Self::Out) -> bool
-        ensures { view self.new ≡ with_outcomes (unfit_if result) (view self.old) };
+    fn is_terminal(&mut self, out: &Self::Out) -> bool
+        ensures { view self.new ≡ with_outcomes
+            (noted_if result (Terminal (Self.Out.view out.now).label)) (view self.old) };
 
     /// How many bytes of those that a sink took its file holds for certain: on the disk, if that is
     /// asked for and the machine can wait. Never more than the sink took.
@@ -175,7 +178,7 @@ pub trait FileSet {
         ensures noted { view self.new ≡ with_outcomes
             (Settled durability (Self.Out.view out.old).taken.bytes result ∷ []) (view self.old) }
         ensures same { Self.Out.view out.new ≡ Self.Out.view out.old }
-        ensures most { IfSome (Self.Out.view out.old).taken.contents (λ taken. result ≤ length taken) };
+        ensures most { result ≤ length (Self.Out.view out.old).taken.bytes };
 
     /// Ends a file that was created, with exactly the bytes that its sink took, in place of what it
     /// held, and waits until they have reached the disk if that is asked for and the machine can

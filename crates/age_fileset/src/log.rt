@@ -4,7 +4,7 @@ ghost use Rattle.std.specs.Prelude.{◌≡◌, [], ◌∷◌, ◌++◌, option_m
 ghost use Rattle.std.specs.Borrow.{ftrue};
 ghost use Rattle.age_fileset.specs.FileSet.{Doings, Opened, Prepared, Created, Made, Replaced, Closed};
 ghost use Rattle.age_fileset.specs.FileSet.{Found, FoundOrEmpty, Unwritten, Absent, Gave, Settled, Put};
-ghost use Rattle.age_fileset.specs.FileSet.{refused_as, unfit_if};
+ghost use Rattle.age_fileset.specs.FileSet.{Alike, OneStream, InUse, Terminal, passed_names, refused_as};
 ghost use Rattle.age_fileset.specs.inner.Events.{once_done, coded_doings};
 
 use crate::files::OpenFault;
@@ -28,7 +28,10 @@ enum Action<'a> {
     Gave(&'a Tape, &'a Tape, bool, bool),
     Settled(Durability, &'a Tape, u64),
     Put(&'a Tape, &'a Tape),
-    Answered(bool),
+    Alike(&'a str, &'a str),
+    OneStream(&'a [Option<&'a str>]),
+    InUse(&'a Tape),
+    Terminal(&'a Tape),
 }
 
 // Doings that no code holds: the proof of `note` adds one.
@@ -203,12 +206,37 @@ impl Log {
         self.cell.note(&Action::Put(name, bytes));
     }
 
-    /// What no name shows was asked: whether two are one file, or an output a terminal.
-    pub fn answered(&mut self, is_unfit: bool)
+    /// These names, which differ, lead to one file.
+    pub fn alike(&mut self, one: &str, other: &str)
         ensures { self.new ≡ record self.old {
-          outcomes = self.old.outcomes ++ unfit_if is_unfit;
+          outcomes = self.old.outcomes ++ Alike one.now other.now ∷ [];
         } }
     {
-        self.cell.note(&Action::Answered(is_unfit));
+        self.cell.note(&Action::Alike(one, other));
+    }
+
+    /// Two of these names lead to one stream.
+    pub fn one_stream(&mut self, names: &[Option<&str>])
+        ensures { self.new ≡ record self.old {
+          outcomes = self.old.outcomes ++ OneStream (passed_names names.now) ∷ [];
+        } }
+    {
+        self.cell.note(&Action::OneStream(names));
+    }
+
+    /// What the output of this name leads to takes the lines of faults.
+    pub fn in_use(&mut self, name: &Tape)
+        ensures { self.new ≡ record self.old { outcomes = self.old.outcomes ++ InUse name.now ∷ [] } }
+    {
+        self.cell.note(&Action::InUse(name));
+    }
+
+    /// The output of this name is a terminal.
+    pub fn terminal(&mut self, name: &Tape)
+        ensures { self.new ≡ record self.old {
+          outcomes = self.old.outcomes ++ Terminal name.now ∷ [];
+        } }
+    {
+        self.cell.note(&Action::Terminal(name));
     }
 }

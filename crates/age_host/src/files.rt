@@ -473,15 +473,15 @@ impl<'r, 'w> FileSet for HostFiles<'r, 'w> {
         let is_same = is_one_file(self.rt, one, other);
         if is_same {
             self.failures.note_twice(one, other);
+            self.log.alike(one, other);
         }
-        self.log.answered(is_same);
         is_same
     }
 
     fn check_streams(&mut self, alloc: Global, names: &[Option<&str>]) -> Result<(), OpenFault> {
         let checked = self.check_each(alloc, names);
-        if let Err(fault) = checked {
-            self.log.refused("", fault);
+        if let Err(OpenFault::SameFile) = checked {
+            self.log.one_stream(names);
         }
         checked
     }
@@ -637,13 +637,17 @@ impl<'r, 'w> FileSet for HostFiles<'r, 'w> {
 
     fn is_for_faults(&mut self, out: &WatchedOut<'r, 'w>) -> bool {
         let is_for_faults = out.is_for_faults(self.rt);
-        self.log.answered(is_for_faults);
+        if is_for_faults {
+            self.log.in_use(out.label());
+        }
         is_for_faults
     }
 
     fn is_terminal(&mut self, out: &WatchedOut<'r, 'w>) -> bool {
         let is_terminal = out.is_terminal();
-        self.log.answered(is_terminal);
+        if is_terminal {
+            self.log.terminal(out.label());
+        }
         is_terminal
     }
 

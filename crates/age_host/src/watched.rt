@@ -211,8 +211,16 @@ impl<'r, 'w> WatchedOut<'r, 'w> {
     pub(crate) fn settle(&mut self, rt: &HostRuntime, durability: Durability) -> u64
         ensures same { self.new.sink ≡ self.old.sink }
         ensures named { self.new.label ≡ self.old.label }
+        ensures most { result ≤ length self.old.sink.took }
     {
         self.sink.settle(rt, durability)
+    }
+
+    /// The name under which it was created or made, for contracts alone.
+    pub(crate) fn label(&self) -> &Tape
+        ensures { result.now ≡ self.now.label }
+    {
+        &self.label
     }
 
     /// The bytes that it took, for contracts alone.

@@ -1,10 +1,10 @@
 -- How files are opened, and the random bytes of an encryption. Private: no public contract cites
 -- this module.
-use Rattle.std.specs.Prelude.{◌≡◌, ◌⊎◌, [], Some, ◌++◌, true, Bool, List, Result}
+use Rattle.std.specs.Prelude.{◌≡◌, ◌⊎◌, [], Option, Some, None, ◌++◌, true, Bool, List, Result}
 use Rattle.std.specs.Prelude.{IfOk, OnOk, OnErr, IfErr, ℕ, length}
 use Rattle.clap.specs.Words.{Text}
 use Rattle.age_keys.specs.declared.random.FileRandom.{FileRandom}
-use Rattle.age_fileset.specs.FileSet.{Event, FilesView, Outcome, Unfit, HasGiven, HasGivenAll}
+use Rattle.age_fileset.specs.FileSet.{Event, FilesView, Outcome, OneStream, HasGiven, HasGivenAll}
 use Rattle.age_fileset.specs.FileSet.{Does, PutsOnly, CameSince}
 use Rattle.age_cli_args.specs.Requests.{option_text}
 use Rattle.age_cli_args.specs.declared.request.Decrypting.{Decrypting}
@@ -15,8 +15,10 @@ use Rattle.age_command.specs.declared.ending.Ending.TheVariants.{Usage}
 use Rattle.age_command.specs.declared.ending.Usage.TheVariants.{SameFile}
 use Rattle.age_command.specs.Files.{HasReason}
 use Rattle.age_command.specs.Orders.{Begins, Follows, random_name}
-use Rattle.age_cli.specs.Acts.{SparesOut, IsUnfit}
+use Rattle.age_cli.specs.Acts.{SparesOut, AreSame, IsUnusable}
 use Rattle.age_cli.specs.declared.encrypt_command.Material.{Material}
+use Rattle.age_cli.specs.declared.output.Content.{Content}
+use Rattle.age_cli.specs.declared.output.Content.TheVariants.{Plaintext, AgeFile}
 
 -- ---- The names of the files that are read.
 
@@ -25,17 +27,24 @@ abbrev pub IsReadAs : Decrypting → Text → Type 0
 IsReadAs d name = (d.from.now ≡ name)
     ⊎ ((option_text d.identity.pass ≡ Some name) ⊎ (option_text d.identity.shared ≡ Some name))
 
--- names were compared: they are so, or the set found what no name shows; or they aren't
-pub record Compares (old new : FilesView) (answer : Bool) (Same : Type 0) : Type 0 where
+-- these pairs of names were compared: two are the same, or they aren't
+pub record Compares (old new : FilesView) (answer : Bool) (IsPair : Text → Text → Type 0)
+    : Type 0 where
   pub does : Does [] old new
-  pub twice : Same → answer ≡ true
-  pub found : answer ≡ true → Same ⊎ CameSince old new Unfit
+  pub twice : (name : Text) → IsPair name name → answer ≡ true
+  pub found : answer ≡ true → AreSame (CameSince old new) IsPair
 
 -- ---- How files are opened and made before anything is written.
 
--- the files of `order` were opened or made, and this holds of them; or it ended early, in `whole`
-pub record OpensFiles {A : Type 0} (order whole : List Event) (old new : FilesView) (IsNew : A → Type 0)
-    (result : Result A Ending) : Type 0 where
+-- the name of an output, if that is to be an age file
+abbrev pub age_file_in : Content → Text → Option Text
+age_file_in AgeFile name = Some name
+age_file_in Plaintext name = None
+
+-- the files of `order` were opened or made, and this holds of them; or it ended early, in `whole`.
+-- The output of this name, if it is given, may be no terminal.
+pub record OpensFiles {A : Type 0} (order whole : List Event) (age_file : Option Text)
+    (old new : FilesView) (IsNew : A → Type 0) (result : Result A Ending) : Type 0 where
   -- Nothing was given or taken so far.
   pub begun : IfOk result IsNew
   -- All of the order was done.
@@ -49,12 +58,13 @@ pub record OpensFiles {A : Type 0} (order whole : List Event) (old new : FilesVi
   pub early : IfErr result EndsEarly
   -- It had a reason.
   pub reason : IfErr result (HasReason (CameSince old new))
-  -- The command line is to blame only for what no name shows.
-  pub fault : IfErr result (λ ending. is_usage ending ≡ true → IsUnfit (CameSince old new) ending)
+  -- The command line is to blame only for what a name leads to.
+  pub fault : IfErr result (λ ending. is_usage ending ≡ true → IsUnusable (CameSince old new) age_file ending)
 
--- names that have to differ are equal, and the ending says so
-abbrev pub BlamesNames : Bool → Ending → Type 0
-BlamesNames is_twice ending = (ending ≡ Usage SameFile) × (is_twice ≡ true)
+-- names that have to differ are the same, or two of these are of one stream, and the ending says so
+abbrev pub BlamesNames : (Came : Outcome → Type 0) → Bool → List Text → Ending → Type 0
+BlamesNames Came is_twice read ending =
+    (ending ≡ Usage SameFile) × ((is_twice ≡ true) ⊎ Came (OneStream read))
 
 -- the files by which a command line is judged were opened, `order` being the events of that; if names
 -- that have to differ are equal, none is
@@ -66,9 +76,9 @@ pub record Judges {A : Type 0} (order : List Event) (old new : FilesView) (IsTwi
   pub followed : Begins order old new
   -- Names that have to differ are refused before a file is opened.
   pub apart : IsTwice → RefusesAtOnce old.events new.events result
-  -- The command line is refused for this alone, or for what no name shows.
+  -- The command line is refused for this alone, or for what a name leads to.
   pub blamed : IfErr result
-      (λ ending. is_usage ending ≡ true → Blame ending ⊎ IsUnfit (CameSince old new) ending)
+      (λ ending. is_usage ending ≡ true → Blame ending ⊎ IsUnusable (CameSince old new) None ending)
   -- It ended early.
   pub early : IfErr result EndsEarly
   -- It had a reason.

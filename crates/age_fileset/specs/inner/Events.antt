@@ -1,12 +1,13 @@
 -- How code notes what was done with a set of files. Private: no public contract cites this module.
-use Rattle.std.specs.Prelude.{◌≡◌, ◌⊎◌, ℕ, Bool, List, [], ◌∷◌, ◌++◌, refl, Option, Some, None, option_map}
-use Rattle.std.specs.Coded.{Coded, coded_ℕ, coded_bool, coded_list, coded⊎, coded×, code_by}
+use Rattle.std.specs.Prelude.{◌≡◌, ◌⊎◌, ℕ, Bool, List, [], ◌∷◌, ◌++◌, refl, Option, option_map}
+use Rattle.std.specs.Coded.{Coded, coded_ℕ, coded_bool, coded_list, coded_option, coded⊎, coded×, code_by}
 use base.Stored.{coded_unit}
 use mathlib.Core.Logic.{inl, inr}
 use Rattle.age_io.specs.declared.durability.Durability.TheVariants.{Synced, Buffered}
 use Rattle.age_fileset.specs.FileSet.{Event, Opened, Prepared, Created, Made, Replaced, Closed}
 use Rattle.age_fileset.specs.FileSet.{Reading, Doings, Outcome, Found, FoundOrEmpty, Unread, Unwritten}
-use Rattle.age_fileset.specs.FileSet.{Absent, Gave, Settled, Put, Unfit, refused_as, unfit_if}
+use Rattle.age_fileset.specs.FileSet.{Absent, Gave, Settled, Put, Alike, OneStream, InUse, Terminal}
+use Rattle.age_fileset.specs.FileSet.{passed_names, refused_as}
 use Rattle.age_fileset.specs.declared.log.Action.{Action}
 use Rattle.age_fileset.specs.declared.log.Action.TheVariants as action
 
@@ -41,7 +42,10 @@ once_done (action.Gave name given is_at_end is_failing) old =
     came (Gave reading ∷ []) old
 once_done (action.Settled durability took size) old = came (Settled durability took.now size ∷ []) old
 once_done (action.Put name bytes) old = came (Put name.now bytes.now ∷ []) old
-once_done (action.Answered unfit) old = came (unfit_if unfit) old
+once_done (action.Alike one other) old = came (Alike one.now other.now ∷ []) old
+once_done (action.OneStream names) old = came (OneStream (passed_names names.now) ∷ []) old
+once_done (action.InUse name) old = came (InUse name.now ∷ []) old
+once_done (action.Terminal name) old = came (Terminal name.now ∷ []) old
 
 -- an event as a choice among sums, the form in which ghost state is kept
 abbrev Parts : Type 0
@@ -86,81 +90,77 @@ coded_event = code_by Parts (coded⊎ coded_named (coded⊎ coded_named (coded�
     split join join-split
 
 -- an outcome likewise
-abbrev Maybe : Type 0 → Type 0
-Maybe X = Unit {0} ⊎ X
-
-abbrev option_part : {X : Type 0} → Option X → Maybe X
-option_part None = inl tt
-option_part (Some x) = inr x
-
-abbrev known_of : {X : Type 0} → Maybe X → Option X
-known_of (inl _) = None
-known_of (inr x) = Some x
-
 abbrev Bytes : Type 0
 Bytes = List ℕ
 
 abbrev FoundParts : Type 0
-FoundParts = Bytes × (Maybe Bytes × Maybe ℕ)
+FoundParts = Bytes × (Option Bytes × Option ℕ)
 
 abbrev Pieces : Type 0
-Pieces = FoundParts ⊎ (FoundParts ⊎ (Bytes ⊎ (Bytes ⊎ (Bytes ⊎ ((Bytes × (Bytes × (Bool × Bool)))
-    ⊎ ((Bytes × ℕ) ⊎ ((Bytes × ℕ) ⊎ ((Bytes × Bytes) ⊎ Unit {0}))))))))
+Pieces = FoundParts ⊎ (FoundParts ⊎ ((Bytes × (Bytes × (Bool × Bool))) ⊎ ((Bytes × ℕ) ⊎ ((Bytes × ℕ)
+    ⊎ ((Bytes × Bytes) ⊎ ((Bytes × Bytes) ⊎ (List Bytes ⊎ (Bytes ⊎ (Bytes ⊎ (Bytes ⊎ (Bytes ⊎ Bytes)))))))))))
 
 abbrev cut : Outcome → Pieces
-cut (Found name left size) = inl (name, (option_part left, option_part size))
-cut (FoundOrEmpty name left size) = inr (inl (name, (option_part left, option_part size)))
-cut (Unread name) = inr (inr (inl name))
-cut (Unwritten name) = inr (inr (inr (inl name)))
-cut (Absent name) = inr (inr (inr (inr (inl name))))
-cut (Gave r) = inr (inr (inr (inr (inr (inl (r.name, (r.given, (r.is_at_end, r.failing))))))))
-cut (Settled Synced took size) = inr (inr (inr (inr (inr (inr (inl (took, size)))))))
-cut (Settled Buffered took size) = inr (inr (inr (inr (inr (inr (inr (inl (took, size))))))))
-cut (Put name bytes) = inr (inr (inr (inr (inr (inr (inr (inr (inl (name, bytes)))))))))
-cut Unfit = inr (inr (inr (inr (inr (inr (inr (inr (inr tt))))))))
+cut (Found name left size) = inl (name, (left, size))
+cut (FoundOrEmpty name left size) = inr (inl (name, (left, size)))
+cut (Gave r) = inr (inr (inl (r.name, (r.given, (r.is_at_end, r.failing)))))
+cut (Settled Synced took size) = inr (inr (inr (inl (took, size))))
+cut (Settled Buffered took size) = inr (inr (inr (inr (inl (took, size)))))
+cut (Put name bytes) = inr (inr (inr (inr (inr (inl (name, bytes))))))
+cut (Alike one other) = inr (inr (inr (inr (inr (inr (inl (one, other)))))))
+cut (OneStream names) = inr (inr (inr (inr (inr (inr (inr (inl names)))))))
+cut (Unread name) = inr (inr (inr (inr (inr (inr (inr (inr (inl name))))))))
+cut (Unwritten name) = inr (inr (inr (inr (inr (inr (inr (inr (inr (inl name)))))))))
+cut (Absent name) = inr (inr (inr (inr (inr (inr (inr (inr (inr (inr (inl name))))))))))
+cut (InUse name) = inr (inr (inr (inr (inr (inr (inr (inr (inr (inr (inr (inl name)))))))))))
+cut (Terminal name) = inr (inr (inr (inr (inr (inr (inr (inr (inr (inr (inr (inr name)))))))))))
 
 abbrev glue : Pieces → Outcome
-glue (inl t) = Found t.0 (known_of t.1.0) (known_of t.1.1)
-glue (inr (inl t)) = FoundOrEmpty t.0 (known_of t.1.0) (known_of t.1.1)
-glue (inr (inr (inl name))) = Unread name
-glue (inr (inr (inr (inl name)))) = Unwritten name
-glue (inr (inr (inr (inr (inl name))))) = Absent name
-glue (inr (inr (inr (inr (inr (inl t)))))) =
+glue (inl t) = Found t.0 t.1.0 t.1.1
+glue (inr (inl t)) = FoundOrEmpty t.0 t.1.0 t.1.1
+glue (inr (inr (inl t))) =
     Gave (record { name = t.0; given = t.1.0; is_at_end = t.1.1.0; failing = t.1.1.1 })
-glue (inr (inr (inr (inr (inr (inr (inl t))))))) = Settled Synced t.0 t.1
-glue (inr (inr (inr (inr (inr (inr (inr (inl t)))))))) = Settled Buffered t.0 t.1
-glue (inr (inr (inr (inr (inr (inr (inr (inr (inl t))))))))) = Put t.0 t.1
-glue (inr (inr (inr (inr (inr (inr (inr (inr (inr _))))))))) = Unfit
-
-pub known-option : {X : Type 0} (o : Option X) → known_of (option_part o) ≡ o
-known-option None = refl
-known-option (Some x) = refl
+glue (inr (inr (inr (inl t)))) = Settled Synced t.0 t.1
+glue (inr (inr (inr (inr (inl t))))) = Settled Buffered t.0 t.1
+glue (inr (inr (inr (inr (inr (inl t)))))) = Put t.0 t.1
+glue (inr (inr (inr (inr (inr (inr (inl t))))))) = Alike t.0 t.1
+glue (inr (inr (inr (inr (inr (inr (inr (inl names)))))))) = OneStream names
+glue (inr (inr (inr (inr (inr (inr (inr (inr (inl name))))))))) = Unread name
+glue (inr (inr (inr (inr (inr (inr (inr (inr (inr (inl name)))))))))) = Unwritten name
+glue (inr (inr (inr (inr (inr (inr (inr (inr (inr (inr (inl name))))))))))) = Absent name
+glue (inr (inr (inr (inr (inr (inr (inr (inr (inr (inr (inr (inl name)))))))))))) = InUse name
+glue (inr (inr (inr (inr (inr (inr (inr (inr (inr (inr (inr (inr name)))))))))))) = Terminal name
 
 pub glue-cut : (o : Outcome) → glue (cut o) ≡ o
-glue-cut (Found name left size) = rw (known-option left, known-option size) refl
-glue-cut (FoundOrEmpty name left size) = rw (known-option left, known-option size) refl
-glue-cut (Unread name) = refl
-glue-cut (Unwritten name) = refl
-glue-cut (Absent name) = refl
+glue-cut (Found name left size) = refl
+glue-cut (FoundOrEmpty name left size) = refl
 glue-cut (Gave r) = refl
 glue-cut (Settled Synced took size) = refl
 glue-cut (Settled Buffered took size) = refl
 glue-cut (Put name bytes) = refl
-glue-cut Unfit = refl
+glue-cut (Alike one other) = refl
+glue-cut (OneStream names) = refl
+glue-cut (Unread name) = refl
+glue-cut (Unwritten name) = refl
+glue-cut (Absent name) = refl
+glue-cut (InUse name) = refl
+glue-cut (Terminal name) = refl
 
 abbrev coded_found : Coded FoundParts
-coded_found = coded× coded_named (coded× (coded⊎ coded_unit coded_named) (coded⊎ coded_unit coded_ℕ))
+coded_found = coded× coded_named (coded× (coded_option coded_named) (coded_option coded_ℕ))
 
 abbrev coded_settled : Coded (Bytes × ℕ)
 coded_settled = coded× coded_named coded_ℕ
 
+abbrev coded_two : Coded (Bytes × Bytes)
+coded_two = coded× coded_named coded_named
+
 abbrev coded_outcome : Coded Outcome
-coded_outcome = code_by Pieces (coded⊎ coded_found (coded⊎ coded_found (coded⊎ coded_named
-    (coded⊎ coded_named (coded⊎ coded_named
+coded_outcome = code_by Pieces (coded⊎ coded_found (coded⊎ coded_found
     (coded⊎ (coded× coded_named (coded× coded_named (coded× coded_bool coded_bool)))
-    (coded⊎ coded_settled (coded⊎ coded_settled
-    (coded⊎ (coded× coded_named coded_named) coded_unit)))))))))
-    cut glue glue-cut
+    (coded⊎ coded_settled (coded⊎ coded_settled (coded⊎ coded_two (coded⊎ coded_two
+    (coded⊎ (coded_list coded_named) (coded⊎ coded_named (coded⊎ coded_named (coded⊎ coded_named
+    (coded⊎ coded_named coded_named)))))))))))) cut glue glue-cut
 
 -- and what was done, and came of it, as a pair of lists
 abbrev pub coded_doings : Coded Doings

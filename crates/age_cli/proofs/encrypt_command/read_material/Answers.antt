@@ -1,12 +1,12 @@
 use Rattle.std.proofs.Common.{◌∙◌, ◌∷◌, [], refl, sym, subst, inl, inr, true≢false, Err}
 use Rattle.clap.specs.Words.{Text}
 use Rattle.age_cli_args.specs.Requests.{option_text}
-use Rattle.age_fileset.specs.FileSet.{Opened, Unfit, Does, CameSince, HasGiven}
-use Rattle.age_fileset.proofs.OutcomeLemmas.{all_as, given_as, checked_does, checked_unfit, does_then}
+use Rattle.age_fileset.specs.FileSet.{Opened, OneStream, Does, CameSince, HasGiven}
+use Rattle.age_fileset.proofs.OutcomeLemmas.{all_as, given_as, checked_does, checked_stream, does_then}
 use Rattle.age_command.specs.inner.Endings.{ending_of}
 use Rattle.age_command.specs.Orders.{random_name}
 use Rattle.age_command.proofs.EventLemmas.{begun, begins_none, begins_then}
-use Rattle.age_cli.proofs.OpeningLemmas.{came_did, did_came, judges_not, open_blame, same_events, streams_early, streams_reason}
+use Rattle.age_cli.proofs.OpeningLemmas.{came_did, did_came, judges_not, same_events, streams_blame, streams_early, streams_reason, streams_same}
 use Rattle.age_cli.proofs.ReadLemmas.{pass_blamed, random_blamed}
 use Rattle.age_cli.proofs.encrypt_command.read_material.Goals as goal
 
@@ -21,7 +21,7 @@ returns-then-names_out_twice-clause-judges g c =
       noted = tt;
       followed = begins_then [] (Opened a.pass.now ∷ Opened (random_name (option_text a.random)) ∷ []) old new new names.does (begins_none _ new);
       apart = λ twice. (same_events old new names.does, refl);
-      blamed = λ usage. elim (names.found c.if-names_out_twice.true) [ inl twice ↦ inl (inl (refl, twice)) | inr unfit ↦ inr (inl refl, unfit) ];
+      blamed = λ usage. inl (inl (refl, inl (names.found c.if-names_out_twice.true)));
       early = tt;
       reason = tt;
     }
@@ -35,14 +35,17 @@ returns-in_err-check_streams-clause-judges g c =
     let new = Files c.check_streams.new.self in
     let a = c.args.asked.now in
     let f = c.in_err-check_streams.field-0.0 in
-    let noted = c.in_err-check_streams.ensures.noted in
     let fails = c.in_err-check_streams.ensures.faults in
-    let did = does_then [] [] old named new names.does (checked_does {A = Unit {0}} named new (Err f) noted fails) in
+    let did = does_then [] [] old named new names.does (checked_does c.in_err-check_streams.ensures.checks) in
     judges_not _ old new new _ _ c.from_residual.result (ending_of f) c.from_residual.ensures
     (begins_then [] (Opened a.pass.now ∷ Opened (random_name (option_text a.random)) ∷ []) old new new did (begins_none _ new))
-    (λ twice. true≢false (sym (names.twice twice) ∙ c.if-names_out_twice.false))
-    (λ usage. inr (open_blame (CameSince old new) f
-    (λ same. did_came [] old named new names.does Unfit (checked_unfit {A = Unit {0}} named new (Err f) noted same)) usage))
+    (λ twice. true≢false (sym (names.twice twice.0 twice.1) ∙ c.if-names_out_twice.false))
+    (λ usage. inl (inl (
+      streams_blame f usage,
+      inr (did_came [] old named new names.does _
+          (subst (λ (n : Text). CameSince named new (OneStream (a.pass.now ∷ n ∷ a.from.now ∷ []))) c.random_name-random_name.ensures
+          (checked_stream c.in_err-check_streams.ensures.checks (streams_same f usage)))),
+    )))
     (streams_early f fails) (streams_reason (CameSince new new) f fails) (did_came [] old new new did)
 
 pub returns-in_err-pass-clause-judges : goal.returns-in_err-pass-clause-judges
@@ -56,14 +59,14 @@ returns-in_err-pass-clause-judges g c =
     let a = c.args.asked.now in
     let e = c.in_err-pass.field-0.0 in
     let pass = c.in_err-pass.ensures in
-    let did = does_then [] [] old named mid names.does (checked_does {A = Unit {0}} named mid c.check_streams.result c.check_streams.ensures.noted c.check_streams.ensures.faults) in
+    let did = does_then [] [] old named mid names.does (checked_does c.check_streams.ensures.checks) in
     judges_not _ old mid new _ _ c.from_residual-in_err-pass.result e c.from_residual-in_err-pass.ensures
     (record {
       done = Opened a.pass.now ∷ [];
       rest = Opened (random_name (option_text a.random)) ∷ [];
       did = does_then [] (Opened a.pass.now ∷ []) old mid new did pass.does;
       front = refl;
-    }) (λ twice. true≢false (sym (names.twice twice) ∙ c.if-names_out_twice.false))
+    }) (λ twice. true≢false (sym (names.twice twice.0 twice.1) ∙ c.if-names_out_twice.false))
     (λ usage. pass_blamed (CameSince mid new) (CameSince old new) (did_came [] old mid new did) a e (pass.refused usage)) pass.early pass.reason
     (did_came [] old mid new did)
 
@@ -80,12 +83,12 @@ returns-in_err-random-clause-judges g c =
     let e = c.in_err-random.field-0.0 in
     let random = c.in_err-random.ensures in
     let name = c.random_name-random_name.result.now in
-    let did = does_then [] [] old named mid names.does (checked_does {A = Unit {0}} named mid c.check_streams.result c.check_streams.ensures.noted c.check_streams.ensures.faults) in
+    let did = does_then [] [] old named mid names.does (checked_does c.check_streams.ensures.checks) in
     let before = does_then [] (Opened a.pass.now ∷ []) old mid passed did c.in_ok-pass.ensures.does in
     let all = does_then (Opened a.pass.now ∷ []) (Opened name ∷ []) old passed new before random.does in
     judges_not _ old passed new _ _ c.from_residual-in_err-random.result e c.from_residual-in_err-random.ensures
     (begun _ old new (subst (λ (n : Text). Does (Opened a.pass.now ∷ Opened n ∷ []) old new) c.random_name-random_name.ensures all))
-    (λ twice. true≢false (sym (names.twice twice) ∙ c.if-names_out_twice.false))
+    (λ twice. true≢false (sym (names.twice twice.0 twice.1) ∙ c.if-names_out_twice.false))
     (λ usage. random_blamed (CameSince passed new) (CameSince old new) (did_came (Opened a.pass.now ∷ []) old passed new before) a e name
     c.random_name-random_name.ensures (random.short usage)) random.early random.reason (did_came (Opened a.pass.now ∷ []) old passed new before)
 
@@ -100,7 +103,7 @@ returns-clause-given g c =
     let new = Files c.read_random.new.files in
     let a = c.args.asked.now in
     let name = c.random_name-random_name.result.now in
-    let did = does_then [] [] old named mid names.does (checked_does {A = Unit {0}} named mid c.check_streams.result c.check_streams.ensures.noted c.check_streams.ensures.faults) in
+    let did = does_then [] [] old named mid names.does (checked_does c.check_streams.ensures.checks) in
     let before = does_then [] (Opened a.pass.now ∷ []) old mid passed did c.in_ok-pass.ensures.does in
     let random = c.in_ok-random.ensures.given in
     record {
@@ -123,14 +126,14 @@ returns-clause-judges g c =
     let new = Files c.read_random.new.files in
     let a = c.args.asked.now in
     let name = c.random_name-random_name.result.now in
-    let did = does_then [] [] old named mid names.does (checked_does {A = Unit {0}} named mid c.check_streams.result c.check_streams.ensures.noted c.check_streams.ensures.faults) in
+    let did = does_then [] [] old named mid names.does (checked_does c.check_streams.ensures.checks) in
     let before = does_then [] (Opened a.pass.now ∷ []) old mid passed did c.in_ok-pass.ensures.does in
     let all = subst (λ (n : Text). Does (Opened a.pass.now ∷ Opened n ∷ []) old new) c.random_name-random_name.ensures
     (does_then (Opened a.pass.now ∷ []) (Opened name ∷ []) old passed new before c.in_ok-random.ensures.does) in
     record {
       noted = all;
       followed = begun _ old new all;
-      apart = λ twice. absurd (true≢false (sym (names.twice twice) ∙ c.if-names_out_twice.false));
+      apart = λ twice. absurd (true≢false (sym (names.twice twice.0 twice.1) ∙ c.if-names_out_twice.false));
       blamed = tt;
       early = tt;
       reason = tt;

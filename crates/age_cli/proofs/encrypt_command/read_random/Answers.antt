@@ -1,11 +1,11 @@
-use Rattle.std.proofs.Common.{inl, Ok, Err}
+use Rattle.std.proofs.Common.{inl, inr, Ok, Err}
 use Rattle.std.proofs.lemmas.Result.{IfOk-weaker, IfErr-weaker}
 use Rattle.age_io.specs.Io.{Named}
 use Rattle.age_fileset.specs.FileSet.{Opened, Found, CameSince}
-use Rattle.age_fileset.proofs.OutcomeLemmas.{opened_does, opened_came, opened_unread, found_plain}
+use Rattle.age_fileset.proofs.OutcomeLemmas.{opened_does, opened_came, opened_in_use, opened_unread, found_plain}
 use Rattle.age_command.proofs.FileLemmas.{all_so, given_so}
 use Rattle.age_command.proofs.ResultLemmas.{this_error}
-use Rattle.age_cli.proofs.OpeningLemmas.{read_reason}
+use Rattle.age_cli.proofs.OpeningLemmas.{open_blame, read_reason}
 use Rattle.age_cli.proofs.ReadLemmas.{over_does, too_few}
 use Rattle.age_cli.proofs.encrypt_command.read_random.Goals as goal
 
@@ -21,6 +21,14 @@ returns-in_err-source-clause-reason g c =
     this_error c.from_residual.result _ c.from_residual.ensures _
     (read_reason (CameSince (g.F.FileSet.view c.args.files.now) (g.F.FileSet.view c.open.new.self)) f c.in_err-source.ensures.faults
     (λ read. inl (name, opened_unread g.F.In.Source.view g.F.FileSet.size name (Found name) (found_plain name) _ _ (Err f) c.in_err-source.ensures.noted read)))
+
+pub returns-in_err-source-clause-short : goal.returns-in_err-source-clause-short
+returns-in_err-source-clause-short g c =
+    let name = c.args.name.now in
+    let f = c.in_err-source.field-0.0 in
+    this_error c.from_residual.result _ c.from_residual.ensures _
+    (λ usage. inr (open_blame (CameSince (g.F.FileSet.view c.args.files.now) (g.F.FileSet.view c.open.new.self)) f
+    (λ same. (name, opened_in_use g.F.In.Source.view g.F.FileSet.size name (Found name) (found_plain name) _ _ (Err f) c.in_err-source.ensures.noted same)) usage))
 
 pub returns-clause-does : goal.returns-clause-does
 returns-clause-does g c =

@@ -1,9 +1,11 @@
-use Rattle.age_fileset.specs.FileSet.{unfit_if}
-use Rattle.age_fileset.proofs.OutcomeLemmas.{does_none, does_only, unfit_puts}
+use Rattle.age_fileset.proofs.OutcomeLemmas.{does_none, noted_came, noted_does, terminal_plain}
 use Rattle.age_cli.proofs.output.is_unshown.Goals as goal
 
 pub returns-in-AgeFile-clause-does : goal.returns-in-AgeFile-clause-does
-returns-in-AgeFile-clause-does g c = does_only _ _ (unfit_if c.is_terminal.result) c.is_terminal.ensures (unfit_puts _)
+returns-in-AgeFile-clause-does g c = noted_does c.is_terminal.result _ (terminal_plain _) _ _ c.is_terminal.ensures
+
+pub returns-in-AgeFile-clause-terminal : goal.returns-in-AgeFile-clause-terminal
+returns-in-AgeFile-clause-terminal g c holds = (c.in-AgeFile.is, noted_came c.is_terminal.result _ (terminal_plain _) _ _ c.is_terminal.ensures holds)
 
 pub returns-in-Plaintext-clause-does : goal.returns-in-Plaintext-clause-does
 returns-in-Plaintext-clause-does g c = does_none _

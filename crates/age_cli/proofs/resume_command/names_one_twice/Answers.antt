@@ -1,15 +1,15 @@
 use Rattle.std.proofs.Common.{inl}
-use Rattle.age_cli.proofs.NameLemmas.{compared, true_names, names_as, then_names, resumed, resumes_so, resumes_twice}
+use Rattle.age_cli.proofs.NameLemmas.{compared, true_names, names_as, then_names, resumed, resumes_so, so_resumes}
 use Rattle.age_cli.proofs.resume_command.names_one_twice.Goals as goal
 
 pub returns-then-names_a_file_twice : goal.returns-then-names_a_file_twice
-returns-then-names_a_file_twice g c = true_names _ _ c.names_a_file_twice.result _ _ (λ a. resumed c.args.asked.now a) c.if-names_a_file_twice.true c.names_a_file_twice.ensures
+returns-then-names_a_file_twice g c = true_names _ _ c.names_a_file_twice.result _ _ (λ one other a. inl (resumed c.args.asked.now one other a)) c.if-names_a_file_twice.true c.names_a_file_twice.ensures
 
 pub returns-then-is_same : goal.returns-then-is_same
 returns-then-is_same g c =
     let r = c.args.asked.now in
     let Files = g.F.FileSet.view in
-    true_names _ _ c.is_same.result _ _ (λ a. resumes_so r (inl (inl (inl a)))) c.if-is_same.true
+    true_names _ _ c.is_same.result _ _ (λ one other a. resumes_so r one other (inl (inl (inl a)))) c.if-is_same.true
     (then_names _ _ _ c.names_a_file_twice.result _ _ _ c.if-names_a_file_twice.false c.names_a_file_twice.ensures
     (compared (Files c.names_a_file_twice.new.files) (Files c.is_same.new.self) r.position.now r.decrypting.to.now c.is_same.result c.is_same.ensures.equal c.is_same.ensures.noted))
 
@@ -17,7 +17,7 @@ pub returns-then-is_given_as : goal.returns-then-is_given_as
 returns-then-is_given_as g c =
     let r = c.args.asked.now in
     let Files = g.F.FileSet.view in
-    true_names _ _ c.is_given_as.result _ _ (λ a. resumes_so r (inl (inl a))) c.if-is_given_as.true
+    true_names _ _ c.is_given_as.result _ _ (λ one other a. resumes_so r one other (inl (inl a))) c.if-is_given_as.true
     (then_names _ _ _ c.is_same.result _ _ _ c.if-is_same.false
     (then_names _ _ _ c.names_a_file_twice.result _ _ _ c.if-names_a_file_twice.false c.names_a_file_twice.ensures
     (compared (Files c.names_a_file_twice.new.files) (Files c.is_same.new.self) r.position.now r.decrypting.to.now c.is_same.result c.is_same.ensures.equal c.is_same.ensures.noted))
@@ -27,7 +27,7 @@ pub returns-then-is_same-2 : goal.returns-then-is_same-2
 returns-then-is_same-2 g c =
     let r = c.args.asked.now in
     let Files = g.F.FileSet.view in
-    true_names _ _ c.is_same-2.result _ _ (λ a. resumes_so r (inl a)) c.if-is_same-2.true
+    true_names _ _ c.is_same-2.result _ _ (λ one other a. resumes_so r one other (inl a)) c.if-is_same-2.true
     (then_names _ _ _ c.is_given_as.result _ _ _ c.if-is_given_as.false
     (then_names _ _ _ c.is_same.result _ _ _ c.if-is_same.false
     (then_names _ _ _ c.names_a_file_twice.result _ _ _ c.if-names_a_file_twice.false c.names_a_file_twice.ensures
@@ -39,7 +39,7 @@ pub returns : goal.returns
 returns g c =
     let r = c.args.asked.now in
     let Files = g.F.FileSet.view in
-    names_as _ _ _ _ _ (resumes_so r) (resumes_twice r)
+    names_as _ _ _ _ _ (resumes_so r) (so_resumes r)
     (then_names _ _ _ c.is_same-2.result _ _ _ c.if-is_same-2.false
     (then_names _ _ _ c.is_given_as.result _ _ _ c.if-is_given_as.false
     (then_names _ _ _ c.is_same.result _ _ _ c.if-is_same.false

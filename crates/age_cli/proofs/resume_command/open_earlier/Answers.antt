@@ -1,6 +1,6 @@
 use Rattle.std.proofs.Common.{◌∷◌, [], inl}
 use Rattle.age_file.specs.Resumes.{position_text}
-use Rattle.age_fileset.specs.FileSet.{Opened, Unread, Unfit, CameSince}
+use Rattle.age_fileset.specs.FileSet.{Opened, Unread, InUse, CameSince}
 use Rattle.age_fileset.proofs.OutcomeLemmas.{all_as, does_then}
 use Rattle.age_command.proofs.EventLemmas.{begun}
 use Rattle.age_command.proofs.ResultLemmas.{this_error}
@@ -23,13 +23,19 @@ returns-in_err-old-clause-reason g c =
           (Unread a.old.now) (c.in_err-old.ensures.reason read),
     ))
 
-pub returns-in_err-old-clause-unfit : goal.returns-in_err-old-clause-unfit
-returns-in_err-old-clause-unfit g c =
+pub returns-in_err-position-clause-in_use : goal.returns-in_err-position-clause-in_use
+returns-in_err-position-clause-in_use g c =
+    this_error c.from_residual.result _ c.from_residual.ensures _ (λ same. (c.args.asked.now.position.now, c.in_err-position.ensures.in_use same))
+
+pub returns-in_err-old-clause-in_use : goal.returns-in_err-old-clause-in_use
+returns-in_err-old-clause-in_use g c =
     let a = c.args.asked.now in
     let Files = g.F.FileSet.view in
-    this_error c.from_residual-in_err-old.result _ c.from_residual-in_err-old.ensures _ (λ same.
-    did_came (Opened a.position.now ∷ []) (Files c.args.files.now) (Files c.read_position.new.files) (Files c.open_old.new.files) c.in_ok-position.ensures.does
-    Unfit (c.in_err-old.ensures.unfit same))
+    this_error c.from_residual-in_err-old.result _ c.from_residual-in_err-old.ensures _ (λ same. (
+      a.old.now,
+      did_came (Opened a.position.now ∷ []) (Files c.args.files.now) (Files c.read_position.new.files) (Files c.open_old.new.files) c.in_ok-position.ensures.does
+          (InUse a.old.now) (c.in_err-old.ensures.in_use same),
+    ))
 
 pub returns-clause-found : goal.returns-clause-found
 returns-clause-found g c =

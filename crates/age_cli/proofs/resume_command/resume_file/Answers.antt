@@ -72,7 +72,7 @@ returns-in_err-position-clause-acts g c =
     (position_early (HoldsOnly (CameSince old new) r.position.now HoldsNoPosition) f earlier.faults
     (λ bad. holds_as (CameSince mid new) (CameSince old new) later r.position.now HoldsNoPosition HoldsNoPosition (λ bytes none. none) (earlier.bad bad)))
     (position_reason (CameSince mid new) f earlier.faults earlier.reason)
-    (open_blame (CameSince mid new) f earlier.unfit) (λ same. absurd (judged.apart same).1) refl
+    (open_blame (CameSince mid new) f earlier.in_use) (λ same. absurd (judged.apart same).1) refl
 
 pub returns-in_err-source-clause-acts : goal.returns-in_err-source-clause-acts
 returns-in_err-source-clause-acts g c =

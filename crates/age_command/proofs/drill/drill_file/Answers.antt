@@ -7,4 +7,4 @@ pub returns-then-asked-is_some-clause-order : goal.returns-then-asked-is_some-cl
 returns-then-asked-is_some-clause-order g c = begins_none _ _
 
 pub returns-in_err-check_streams-clause-order : goal.returns-in_err-check_streams-clause-order
-returns-in_err-check_streams-clause-order g c = begins_then [] _ _ _ _ (checked_does _ _ c.check_streams.result c.check_streams.ensures.noted c.check_streams.ensures.faults) (begins_none _ _)
+returns-in_err-check_streams-clause-order g c = begins_then [] _ _ _ _ (checked_does c.check_streams.ensures.checks) (begins_none _ _)

@@ -1,7 +1,7 @@
 use Rattle.std.proofs.Common.{◌∷◌, [], Err, inl, Ok}
 use Rattle.age_io.specs.Io.{Named}
 use Rattle.age_fileset.specs.FileSet.{Opened, Found, Gave, reading_of}
-use Rattle.age_fileset.proofs.OutcomeLemmas.{does_only, does_then, opened_does, opened_came, opened_unread, opened_unfit, found_plain, gave_puts}
+use Rattle.age_fileset.proofs.OutcomeLemmas.{does_only, does_then, opened_does, opened_came, opened_unread, opened_in_use, found_plain, gave_puts}
 use Rattle.age_command.proofs.ResultLemmas.{this_error}
 use Rattle.age_command.proofs.FileLemmas.{given_if, long_if}
 use Rattle.age_command.proofs.first_bytes.read_file.Goals as goal
@@ -15,10 +15,10 @@ returns-in_err-source-clause-reason g c =
     this_error c.from_residual.result c.in_err-source.field-0.0 c.from_residual.ensures _ (λ same.
     inl (c.args.name.now, opened_unread g.F.In.Source.view g.F.FileSet.size c.args.name.now (Found c.args.name.now) (found_plain c.args.name.now) _ _ (Err c.in_err-source.field-0.0) c.in_err-source.ensures.noted same))
 
-pub returns-in_err-source-clause-unfit : goal.returns-in_err-source-clause-unfit
-returns-in_err-source-clause-unfit g c =
+pub returns-in_err-source-clause-in_use : goal.returns-in_err-source-clause-in_use
+returns-in_err-source-clause-in_use g c =
     this_error c.from_residual.result c.in_err-source.field-0.0 c.from_residual.ensures _ (λ same.
-    opened_unfit g.F.In.Source.view g.F.FileSet.size c.args.name.now (Found c.args.name.now) (found_plain c.args.name.now) _ _ (Err c.in_err-source.field-0.0) c.in_err-source.ensures.noted same)
+    opened_in_use g.F.In.Source.view g.F.FileSet.size c.args.name.now (Found c.args.name.now) (found_plain c.args.name.now) _ _ (Err c.in_err-source.field-0.0) c.in_err-source.ensures.noted same)
 
 pub returns-in_err-read-clause-does : goal.returns-in_err-read-clause-does
 returns-in_err-read-clause-does g c =
