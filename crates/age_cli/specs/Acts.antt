@@ -224,17 +224,17 @@ abbrev pub age_file_of : Request → Option Text
 age_file_of (Encrypt e) = Some e.to.now
 age_file_of other = None
 
--- what a file's name leads to is in use, or the output of this name is a terminal; and the ending says so
+-- what a name leads to is in use, or the output of this name is a terminal; and the ending says so
 abbrev pub IsUnusable : (Came : Outcome → Type 0) → (age_file : Option Text) → Ending → Type 0
 IsUnusable Came age_file ending = ((ending ≡ Usage SameFile) × ((name : Text) × Came (InUse name)))
     ⊎ ((ending ≡ Usage OutIsTerminal) × IsSomeAnd age_file (λ name. Came (Terminal name)))
 
--- two of these pairs of names are equal, or lead to one file
+-- the two names of such a pair are equal, or lead to one file
 abbrev pub AreSame : (Came : Outcome → Type 0) → (IsPair : Text → Text → Type 0) → Type 0
 AreSame Came IsPair = (one : Text) × (other : Text) × IsPair one other
     × ((one ≡ other) ⊎ (Came (Alike one other) ⊎ Came (Alike other one)))
 
--- names that have to differ do so, or two of what is read lead to one stream
+-- names that have to differ are the same so, or two of what is read lead to one stream
 abbrev pub NamesOne : (Came : Outcome → Type 0) → Order → Type 0
 NamesOne Came order = AreSame Came (AreApart order.apart) ⊎ Came (OneStream order.read)
 

@@ -73,12 +73,12 @@ pub data Outcome : Type 0 where
   -- the output of this name is a terminal
   Terminal : List ℕ → Outcome
 
--- this came, if so it was answered
+-- an outcome, if the answer is yes
 abbrev pub noted_if : Bool → Outcome → List Outcome
 noted_if true outcome = outcome ∷ []
 noted_if false outcome = []
 
--- what comes of two names that were compared: equal ones are one file
+-- what comes of two names that were compared: that they lead to one file, unless they are equal
 abbrev pub alike_as : (one other : List ℕ) → Bool → List Outcome
 alike_as one other answer = noted_if (answer && not (bytes_eq one other)) (Alike one other)
 
@@ -92,7 +92,7 @@ given_names (Some name ∷ more) = name ∷ given_names more
 abbrev pub passed_names : List (Option (Bor (List ℕ))) → List (List ℕ)
 passed_names names = given_names (map (option_map (λ s. s.now)) names)
 
--- of names of which two may be of one stream
+-- of names that were looked at: whether two lead to one stream
 abbrev pub checked_as : List (List ℕ) → Result (Unit {0}) OpenFault → List Outcome
 checked_as names (Err SameFile) = OneStream names ∷ []
 checked_as names other = []
@@ -159,7 +159,7 @@ with_event event more files = record files {
   outcomes = files.outcomes ++ more;
 }
 
--- names of which no two may be of one stream were looked at
+-- names were looked at, of which no two may lead to one stream
 pub record ChecksStreams (names : List (List ℕ)) (result : Result (Unit {0}) OpenFault)
     (old new : FilesView) : Type 0 where
   pub noted : new ≡ with_outcomes (checked_as names result) old
