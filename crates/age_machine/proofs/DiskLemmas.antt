@@ -1,10 +1,10 @@
 -- What a call leaves as it was, and what a power cut leaves after it.
-use Rattle.std.proofs.Common.{◌≡◌, ◌⊎◌, inl, inr, ℕ, List, [], ◌∷◌, Bool, Option, Some, None, refl, sym, ◌∙◌, ap, subst}
+use Rattle.std.proofs.Common.{◌≡◌, ◌⊎◌, inl, inr, ℕ, List, [], ◌∷◌, Bool, Option, Some, None, refl, sym, ◌∙◌, ap, subst, rules}
 use Rattle.std.specs.Prelude.{bytes_eq, if◌then◌else◌}
 use Rattle.std.proofs.lemmas.Bool.{false_from_ne_true, eq-eqb, ne_eqb}
 use Rattle.std.proofs.lemmas.Bool.Decides.{eqb_tells}
 use Rattle.std.proofs.lemmas.Slice.Eq.{bytes_eq-Decides}
-use Rattle.age_machine.specs.Calls.{FileCall, Made, Wrote, Cut, Broke, Measured, Synced, Unwaited, IsOf, Locked, Unlockable, Linked, Renamed, Removed}
+use Rattle.age_machine.specs.Calls.{FileCall, Made, Wrote, IsOf, Linked, Renamed, Removed}
 use Rattle.age_machine.specs.Calls.{SyncedNames}
 use Rattle.age_machine.specs.Disk.{Disk, at_path, for_file, changed, after_call, IsAmong, MayLead, MayLeaveFile, MayLeave}
 use Rattle.age_machine.specs.inner.Steps.{Has}
@@ -64,14 +64,7 @@ apart_kept n m path is_kept is_lost disk of = record {
 -- after a call about the one file
 pub apart_of : (n : ℕ) (path : List ℕ) (call : FileCall) (disk : Disk) → IsOf n call → Apart n path disk (after_call call disk)
 apart_of n path (Wrote m at part) disk of = apart_changed n m path _ disk of
-apart_of n path (Cut m len) disk of = apart_changed n m path _ disk of
-apart_of n path (Broke m) disk of = apart_kept n m path _ _ disk of
-apart_of n path (Synced m) disk of = apart_kept n m path _ _ disk of
-apart_of n path (Measured m len) disk of = apart_same n path disk
-apart_of n path (Unwaited m) disk of = apart_same n path disk
-apart_of n path (Locked m) disk of = apart_same n path disk
-apart_of n path (Unlockable m) disk of = apart_same n path disk
-apart_of n path call disk of = absurd of
+apart_of n path call disk of = search (rules, apart_changed, apart_kept, apart_same)
 
 -- ---- What a power cut leaves.
 

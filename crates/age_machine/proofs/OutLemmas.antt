@@ -1,10 +1,9 @@
 -- A file that is written in place, call by call.
-use Rattle.std.proofs.Common.{◌≡◌, ◌⊎◌, inl, inr, ⊎_elim, ℕ, ◌+◌, ◌<◌, List, [], ◌∷◌, ◌++◌, Bool, true, false, not, Option, None, length, take, drop}
-use Rattle.std.proofs.Common.{refl, sym, ◌∙◌, ap, subst, arith, length-append, length-take}
+use Rattle.std.proofs.Common.{◌≡◌, ◌⊎◌, inl, inr, ⊎_elim, ℕ, zero, suc, ◌+◌, ◌<◌, List, [], ◌∷◌, ◌++◌, Bool, true, false, not, Option, None, length, take, drop}
+use Rattle.std.proofs.Common.{refl, sym, ◌∙◌, ap, subst, arith, rules, length-append, length-take}
 use Rattle.std.specs.Prelude.{Contains}
 use Rattle.std.proofs.lemmas.Bool.{cases_Bool}
 use Rattle.std.proofs.lemmas.List.{append-nil, take_at, drop_all}
-use Rattle.std.proofs.lemmas.List.Elements.{Contains-append_cases, Contains-push_cases}
 use Rattle.age_machine.specs.Calls.{FileCall, Made, Opened, Wrote, Cut, Broke, Synced, Unwaited, Locked, Unlockable, Removed, SyncedNames, UnwaitedNames, IsOf}
 use Rattle.age_machine.specs.Calls.{Waited}
 use Rattle.age_machine.specs.declared.in_place.Opening.{Opening}
@@ -13,7 +12,7 @@ use Rattle.age_machine.specs.declared.machine.Kind.{Kind}
 use Rattle.age_machine.specs.declared.machine.Kind.TheVariants.{Regular}
 use Rattle.age_machine.specs.Disk.{Disk, sized, after_call, after_calls, IsAmong, MayLead, MayLeave}
 use Rattle.age_machine.specs.Saves.{IsAnswered, AllAnswered, HasMade, SavesWhole, LeadsTo}
-use Rattle.age_machine.specs.Outs.{OutFile, OutView, opening_of, is_making, text_of, IsOn, AllOn, MayChange, IsClaimed, LocksFirst, TouchesFile}
+use Rattle.age_machine.specs.Outs.{OutFile, opening_of, is_making, text_of, IsOn, AllOn, MayChange, IsClaimed, LocksFirst, TouchesFile}
 use Rattle.age_machine.specs.Laws.{HasOneLock, IsUnchanged}
 use Rattle.age_machine.specs.Held.{HasWritten, IsBegun, IsJustOpened, IsOut}
 use Rattle.age_machine.specs.inner.Steps.{AllOf, IsAbout, IsHeld, IsInPlace, StaysHeld, RemovesAt, is_waited}
@@ -27,9 +26,8 @@ contains_none : (call : FileCall) → Contains [] call → ⊥
 contains_none call held = omega (arith, held.1)
 
 contains_cases : (call first : FileCall) (calls : List FileCall) → Contains (first ∷ calls) call → (first ≡ call) ⊎ Contains calls call
-contains_cases call first calls held =
-    ⊎_elim (λ at. ⊎_elim (λ none. absurd (contains_none call none)) (λ same. inl same) (Contains-push_cases [] first call at)) (λ later. inr later)
-    (Contains-append_cases (first ∷ []) calls call held)
+contains_cases call first calls (zero, short, is) = inl is
+contains_cases call first calls (suc k, short, is) = inr (k, omega arith, is)
 
 pub claimed_later : (n : ℕ) (call : FileCall) (calls : List FileCall) → IsClaimed n calls → IsClaimed n (call ∷ calls)
 claimed_later n call calls (inl held) = inl (contains_later call (Locked n) calls held)
@@ -63,9 +61,6 @@ held_more path n opening call calls on held = record {
   locked = (λ may. held.claimed, held.locked);
 }
 
-pub held_same : (path : List ℕ) (n : ℕ) (opening : FileCall) (old new : List FileCall) → new ≡ old → StaysHeld path n opening old new
-held_same path n opening old new same held = subst (IsHeld path n opening) (sym same) held
-
 pub held_one : (path : List ℕ) (n : ℕ) (opening call : FileCall) (old new : List FileCall) → IsOn path n call → new ≡ call ∷ old
     → StaysHeld path n opening old new
 held_one path n opening call old new on is held =
@@ -79,11 +74,7 @@ held_named path n opening old new either held =
 
 on_of : (path : List ℕ) (n : ℕ) (call : FileCall) → IsOf n call → IsOn path n call
 on_of path n (Made p m) of = absurd of
-on_of path n (Opened p m kind) of = absurd of
-on_of path n (Removed p) of = absurd of
-on_of path n (SyncedNames p) of = absurd of
-on_of path n (UnwaitedNames p) of = absurd of
-on_of path n call of = of
+on_of path n call of = search rules
 
 held_all : (path : List ℕ) (n : ℕ) (opening : FileCall) (since old : List FileCall) → AllOf n since → IsHeld path n opening old
     → IsHeld path n opening (since ++ old)
@@ -239,19 +230,15 @@ begun_settled path n is_stale text calls later either begun =
     if_either (IsBegun path n is_stale text) (Synced n) (Unwaited n) calls later begun (λ disk answers. let holds = begun disk answers.1 in
     record { file = holds.file; front = holds.front; whole = holds.whole; is_lost = holds.is_lost }) (λ disk answers. absurd answers.0) either
 
-pub begun_same : (path : List ℕ) (n : ℕ) (is_stale : Bool) (text : List ℕ) (calls later : List FileCall) → later ≡ calls
-    → IsBegun path n is_stale text calls → IsBegun path n is_stale text later
-begun_same path n is_stale text calls later same begun = subst (IsBegun path n is_stale text) (sym same) begun
-
 -- it has reached the disk
-pub place_waited : (path : List ℕ) (n : ℕ) (text : List ℕ) (calls waited later : List FileCall)
-    → Waited (Synced n) (Unwaited n) calls waited → later ≡ waited → IsBegun path n false text calls → IsInPlace path n text later
-place_waited path n text calls waited later is same begun =
-    subst (IsInPlace path n text) (sym same) (if_waited (IsInPlace path n text) (Synced n) (Unwaited n) calls waited (record {
+pub place_waited : (path : List ℕ) (n : ℕ) (text : List ℕ) (calls waited : List FileCall)
+    → Waited (Synced n) (Unwaited n) calls waited → IsBegun path n false text calls → IsInPlace path n text waited
+place_waited path n text calls waited is begun =
+    if_waited (IsInPlace path n text) (Synced n) (Unwaited n) calls waited (record {
       file = λ disk answers. (begun disk answers.1).file;
       has = λ disk answers. let holds = begun disk answers.1 in
           record { bytes = holds.whole refl; is_kept = file_same n _ (after_calls calls disk).is_kept ∙ ap not holds.is_lost };
-    }) (record { file = λ disk answers. absurd answers.0; has = λ disk answers. absurd answers.0 }) is)
+    }) (record { file = λ disk answers. absurd answers.0; has = λ disk answers. absurd answers.0 }) is
 
 -- ---- What holds between the calls.
 
@@ -386,19 +373,19 @@ saves_claimed path n calls later saves =
     (saves_quietly path [] [] (Locked n) calls saves (λ disk answers left leaves. leaves))
     (saves_quietly path [] [] (Unlockable n) calls saves (λ disk answers left leaves. leaves))
 
--- and one that was made is removed
-saves_removed : (path : List ℕ) (n : ℕ) (calls : List FileCall)
-    → (calls ≡ Made path n ∷ []) ⊎ Waited (Locked n) (Unlockable n) (Made path n ∷ []) calls → SavesWhole path [] [] (Removed path ∷ calls)
-saves_removed path n calls =
-    if_either (λ (l : List FileCall). SavesWhole path [] [] (Removed path ∷ l)) (Locked n) (Unlockable n) (Made path n ∷ []) calls
-    (removed (Made path n ∷ []) (inl refl) (λ disk answers left. leaves_taken path n disk answers.1.0.0 left))
-    (removed (Locked n ∷ Made path n ∷ []) (inr (inl refl)) (λ disk answers left. leaves_taken path n disk answers.1.1.0.0 left))
-    (removed (Unlockable n ∷ Made path n ∷ []) (inr (inr refl)) (λ disk answers left. leaves_taken path n disk answers.1.1.0.0 left)) where
-      removed : (calls : List FileCall) → (calls ≡ Made path n ∷ []) ⊎ Waited (Locked n) (Unlockable n) (Made path n ∷ []) calls
-          → ((disk : Disk) → AllAnswered path (Removed path ∷ calls) disk → (left : Option (List ℕ))
-          → MayLeave (after_calls (Removed path ∷ calls) disk) path left → MayLeave (after_calls calls disk) path left)
-          → SavesWhole path [] [] (Removed path ∷ calls)
-      removed calls fresh = saves_quietly path [] [] (Removed path) calls (saves_claimed path n (Made path n ∷ []) calls (saves_made path n) fresh)
+-- one that was made, and perhaps claimed, is as it was made
+fresh_made : (path : List ℕ) (n : ℕ) (calls : List FileCall) → IsJustOpened n (Made path n) calls → (disk : Disk) → AllAnswered path calls disk
+    → (after_calls calls disk ≡ after_call (Made path n) disk) × (disk.file path ≡ None)
+fresh_made path n calls (inl is) = rw is (λ disk answers. (refl, answers.0.0))
+fresh_made path n calls (inr (inl is)) = rw is (λ disk answers. (refl, answers.1.0.0))
+fresh_made path n calls (inr (inr is)) = rw is (λ disk answers. (refl, answers.1.0.0))
+
+-- and it is removed
+saves_removed : (path : List ℕ) (n : ℕ) (calls : List FileCall) → IsJustOpened n (Made path n) calls → SavesWhole path [] [] (Removed path ∷ calls)
+saves_removed path n calls fresh =
+    saves_quietly path [] [] (Removed path) calls (saves_claimed path n (Made path n ∷ []) calls (saves_made path n) fresh) (λ disk answers left leaves.
+    let made = fresh_made path n calls fresh disk answers.1 in
+    rw made.0 (leaves_taken path n disk made.1 left (rw made.0 at leaves)))
 
 saves_named : (path : List ℕ) (calls later : List FileCall) → SavesWhole path [] [] calls
     → (later ≡ calls) ⊎ Waited (SyncedNames path) (UnwaitedNames path) calls later → SavesWhole path [] [] later
@@ -422,10 +409,3 @@ saves_discarded path n way.New calls later fresh removes same =
 
 pub leads_begun : (path : List ℕ) (n : ℕ) (bytes : List ℕ) (calls : List FileCall) → IsBegun path n false bytes calls → LeadsTo path n bytes calls
 leads_begun path n bytes calls begun disk answers = let holds = begun disk answers in (holds.file, holds.whole refl, holds.is_lost)
-
--- what holds of it once it was ended
-pub ended_as : (P : OutFile → List ℕ → Type 0) (view now : OutView) (file : OutFile) (text : List ℕ) → view ≡ now → now.file ≡ file
-    → text_of now.calls ≡ text → P view.file (text_of view.calls) → P file text
-ended_as P view now file text is same texts held =
-    subst (λ (t : List ℕ). P file t) (ap (λ (v : OutView). text_of v.calls) is ∙ texts)
-    (subst (λ (f : OutFile). P f (text_of view.calls)) (ap (λ (v : OutView). v.file) is ∙ same) held)

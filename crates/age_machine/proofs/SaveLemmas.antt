@@ -1,6 +1,6 @@
 -- How a replacement goes on, call by call.
 use Rattle.std.proofs.Common.{◌≡◌, ◌⊎◌, inl, inr, ⊎_elim, ℕ, ◌+◌, ◌-◌, ◌≤◌, List, [], ◌∷◌, ◌++◌, Option, Some, None, false, length, take, drop, not, refl}
-use Rattle.std.proofs.Common.{sym, ◌∙◌, ap, subst, arith, append_assoc, length-append, length-drop, take-add}
+use Rattle.std.proofs.Common.{sym, ◌∙◌, ap, subst, arith, rules, append_assoc, length-append, length-drop, take-add}
 use Rattle.std.specs.Prelude.{Contains, Result, Err, OnOk, replicate}
 use Rattle.std.proofs.lemmas.List.{append-nil, take_at, drop_at, take_all, drop-drop, length-take-le}
 use Rattle.std.proofs.lemmas.List.Elements.{Contains-append_left, Contains-append_right}
@@ -8,13 +8,13 @@ use Rattle.age_io.specs.declared.durability.Durability.{Durability}
 use Rattle.age_io.specs.declared.durability.Durability.TheVariants as wait
 use Rattle.age_machine.specs.declared.replacing.Spot.{Spot}
 use Rattle.age_machine.specs.declared.replacing.Spot.TheVariants as spot
-use Rattle.age_machine.specs.Calls.{FileCall, Made, Wrote, Cut, Broke, Measured, Synced, Unwaited, Locked, Unlockable, Missing, Linked, Renamed, Removed}
+use Rattle.age_machine.specs.Calls.{FileCall, Made, Wrote, Synced, Unwaited, Missing, Linked, Renamed, Removed}
 use Rattle.age_machine.specs.Calls.{SyncedNames, UnwaitedNames, IsOf, MayHave, Waited}
 use Rattle.age_machine.specs.Disk.{Disk, after_call, after_calls, MayLeave, sized, written}
 use Rattle.age_machine.specs.Saves.{AllAnswered, AtEachMoment, Throughout, SavesWhole, SparesFile, HasMade, IsLonger, IsWithin, AllWithin, Touches, IsSafe}
 use Rattle.age_machine.specs.Saved.{Replaces}
 use Rattle.age_machine.specs.Beside.{HasBeside, IsBeside, IsKept}
-use Rattle.age_machine.specs.inner.Steps.{AllOf, IsAbout, HasTried, Fills, IsFull, IsInPlace, IsReady, WritesOver, CutsOff}
+use Rattle.age_machine.specs.inner.Steps.{AllOf, IsAbout, HasTried, Fills, IsInPlace, IsReady, WritesOver, CutsOff}
 use Rattle.age_machine.proofs.DiskLemmas.{path_same, path_other, file_same, apart_made, apart_of, led, leaves_apart, leaves_renamed, leaves_linked}
 use Rattle.age_machine.proofs.DiskLemmas.{file_renamed, file_linked, leaves_removed, leaves_synced, leaves_only}
 
@@ -73,8 +73,7 @@ throughout_then : (path : List ℕ) (P Q : Disk → List FileCall → Type 0) (o
     → Throughout path P old new
 throughout_then path P Q old mid new first second carry = record {
   since = second.since ++ first.since;
-  are =
-      second.are ∙ (ap (λ (l : List FileCall). second.since ++ l) first.are ∙ sym (append_assoc second.since first.since old));
+  are = rw (second.are, first.are, append_assoc);
   each = λ disk answers. let were : AllAnswered path mid disk =
       answers_then path second.since mid disk (subst (λ (l : List FileCall). AllAnswered path l disk) second.are answers) in
       each_then (P disk) (Q disk) second.since first.since old (first.each disk were)
@@ -136,17 +135,7 @@ contains_later call other calls held = Contains-append_right (call ∷ []) calls
 
 within_more : (path : List ℕ) (call : FileCall) (first second : List FileCall) → IsWithin path second call → IsWithin path (second ++ first) call
 within_more path (Wrote n at part) first second within = (within.0, Contains-append_left second first _ within.1)
-within_more path (Cut n len) first second within = (within.0, Contains-append_left second first _ within.1)
-within_more path (Broke n) first second within = (within.0, Contains-append_left second first _ within.1)
-within_more path (Measured n len) first second within = (within.0, Contains-append_left second first _ within.1)
-within_more path (Synced n) first second within = (within.0, Contains-append_left second first _ within.1)
-within_more path (Unwaited n) first second within = (within.0, Contains-append_left second first _ within.1)
-within_more path (Locked n) first second within = (within.0, Contains-append_left second first _ within.1)
-within_more path (Unlockable n) first second within = (within.0, Contains-append_left second first _ within.1)
-within_more path (Linked from to) first second within = ((within.0.0, Contains-append_left second first _ within.0.1), within.1)
-within_more path (Renamed from to) first second within = ((within.0.0, Contains-append_left second first _ within.0.1), within.1)
-within_more path (Removed p) first second within = (within.0, Contains-append_left second first _ within.1)
-within_more path call first second within = within
+within_more path call first second within = search (rules, Contains-append_left)
 
 all_within : (path : List ℕ) (first second : List FileCall) → AllWithin path first → AllWithin path second → AllWithin path (second ++ first)
 all_within path first [] before after_call = before
@@ -156,8 +145,7 @@ all_within path first (call ∷ second) before after_call =
 pub touches_then : (path : List ℕ) (old mid new : List FileCall) → Touches path old mid → Touches path mid new → Touches path old new
 touches_then path old mid new first second = record {
   since = second.since ++ first.since;
-  are =
-      second.are ∙ (ap (λ (l : List FileCall). second.since ++ l) first.are ∙ sym (append_assoc second.since first.since old));
+  are = rw (second.are, first.are, append_assoc);
   within = all_within path first.since second.since first.within second.within;
 }
 
@@ -180,14 +168,7 @@ made_for from n m since of made = (from, subst (λ (k : ℕ). Contains since (Ma
 within_of : (path from : List ℕ) (n : ℕ) (call : FileCall) (since : List FileCall) → IsOf n call
     → Contains since (Made from n) → IsWithin path since call
 within_of path from n (Wrote m at part) since = made_for from n m since
-within_of path from n (Cut m len) since = made_for from n m since
-within_of path from n (Broke m) since = made_for from n m since
-within_of path from n (Measured m len) since = made_for from n m since
-within_of path from n (Synced m) since = made_for from n m since
-within_of path from n (Unwaited m) since = made_for from n m since
-within_of path from n (Locked m) since = made_for from n m since
-within_of path from n (Unlockable m) since = made_for from n m since
-within_of path from n call since = λ of made. absurd of
+within_of path from n call since = search (rules, made_for)
 
 module _ (path from : List ℕ) (n : ℕ) (old : List FileCall) where
   beside_of : (call : FileCall) (calls : List FileCall) → IsOf n call → IsBeside path from n old calls → IsBeside path from n old (call ∷ calls)
@@ -289,13 +270,9 @@ all_append n first (call ∷ second) before after_call = (after_call.0, all_appe
 pub about_then : (n : ℕ) (old mid new : List FileCall) → IsAbout n old mid → IsAbout n mid new → IsAbout n old new
 about_then n old mid new first second = record {
   since = second.since ++ first.since;
-  are =
-      second.are ∙ (ap (λ (l : List FileCall). second.since ++ l) first.are ∙ sym (append_assoc second.since first.since old));
+  are = rw (second.are, first.are, append_assoc);
   all = all_append n first.since second.since first.all second.all;
 }
-
-pub about_same : (n : ℕ) (old mid new : List FileCall) → IsAbout n old mid → new ≡ mid → IsAbout n old new
-about_same n old mid new about same = subst (IsAbout n old) (sym same) about
 
 pub about_waited : (n : ℕ) (old new : List FileCall) → Waited (Synced n) (Unwaited n) old new → IsAbout n old new
 about_waited n old new (inl synced) = about_more n (Synced n) old old new (about_none n old) synced refl
@@ -356,9 +333,6 @@ fills_waited n bytes old wrote cut waited writes cuts =
       };
     }) (record { on = λ path disk answers. absurd answers.0 })
 
-pub fills_same : (n : ℕ) (bytes : List ℕ) (old mid new : List FileCall) → Fills n bytes old mid → new ≡ mid → Fills n bytes old new
-fills_same n bytes old mid new fills same = subst (Fills n bytes old) (sym same) fills
-
 -- ---- How a file that was filled comes to its path.
 
 pub safe_named : (path : List ℕ) (n : ℕ) (bytes : List ℕ) (calls new : List FileCall) → IsInPlace path n bytes calls
@@ -370,175 +344,126 @@ safe_named path n bytes calls new put =
     (put.file disk answers.1) (path_same path [] (after_calls calls disk).before) (record { bytes = has.bytes; is_kept = has.is_kept }))
     (λ disk answers. absurd answers.0)
 
-module _ (path from : List ℕ) (n : ℕ) (bytes : List ℕ) (old : List FileCall) where
-  -- names that the file gets
-  full_linked : (calls : List FileCall) → IsFull path from n bytes old calls → IsFull path from n bytes old (Linked from path ∷ calls)
-  full_linked calls full = record {
-    apart = full.apart;
-    saves =
-        saves_loudly path bytes old (Linked from path) calls full.saves (λ disk answers.
-        leaves_linked n from path (after_calls calls disk) full.apart (full.file disk answers.1) bytes (full.has disk answers.1));
-    file = λ disk answers. path_other path from _ (after_calls calls disk).file (λ same. full.apart (sym same)) ∙ full.file disk answers.1;
-    has = λ disk answers. let has = full.has disk answers.1 in record { bytes = has.bytes; is_kept = has.is_kept };
+module _ (path from : List ℕ) (n : ℕ) (bytes : List ℕ) (old : List FileCall) (wanted : Durability) where
+  abbrev Ready : List FileCall → Type 0
+  Ready = IsReady wanted path from n bytes old
+
+  abbrev Tried : Spot → List FileCall → Type 0
+  Tried to = HasTried to wanted path from n bytes old
+
+  nothing : (m : ℕ) → None ≡ Some m → ⊥
+  nothing m same = cc
+
+  -- nothing was done with it
+  pub tried_ready : (to : Spot) (calls : List FileCall) → Ready calls → Tried to calls
+  tried_ready to calls ready = record { has = ready.tried.has; spares = λ free. ready.tried.spares refl; saves = ready.tried.saves }
+
+  pub tried_beside : (to : Spot) (calls : List FileCall) → IsBeside path from n old calls → Tried to calls
+  tried_beside to calls beside = record { has = beside.has; spares = λ free. beside.spares; saves = λ synced. beside.saves bytes }
+
+  -- it was filled
+  pub ready_filled : (calls new : List FileCall) → IsKept path from n old calls
+      → IsAbout n calls new → (wanted ≡ wait.Synced → Fills n bytes calls new) → Ready new
+  ready_filled calls new kept about fills =
+      let beside = beside_about path from n old calls new kept.beside about in
+      record {
+        tried = tried_beside spot.Free new beside;
+        apart = beside.apart;
+        file = beside.file;
+        has = λ synced disk answers. (fills synced).on path disk answers (kept.sound disk);
+      }
+
+  -- after one more call, by which the path may come to lead to it
+  tried_more : (to : Spot) (call : FileCall) (calls : List FileCall) → ((since : List FileCall) → Contains since (Made from n) → IsWithin path since call)
+      → (to ≡ spot.Free → (disk : Disk) → AllAnswered path (call ∷ calls) disk → (m : ℕ)
+      → (after_calls calls disk).file path ≡ Some m → (after_calls (call ∷ calls) disk).file path ≡ Some m)
+      → (wanted ≡ wait.Synced → (disk : Disk) → AllAnswered path (call ∷ calls) disk → (left : Option (List ℕ))
+      → MayLeave (after_calls (call ∷ calls) disk) path left → MayLeave (after_calls calls disk) path left ⊎ (left ≡ Some bytes))
+      → Tried to calls → Tried to (call ∷ calls)
+  tried_more to call calls within spares saves tried = record {
+    has = has_more path from n old call calls tried.has within;
+    spares = λ free. spares_quietly path old call calls (tried.spares free) (spares free);
+    saves = λ synced. saves_loudly path bytes old call calls (tried.saves synced) (saves synced);
   }
 
-  full_missing : (calls : List FileCall) → IsFull path from n bytes old calls → IsFull path from n bytes old (Missing path ∷ calls)
-  full_missing calls full = record {
-    apart = full.apart;
-    saves = saves_quietly path bytes old (Missing path) calls full.saves (λ disk answers left leaves. leaves);
-    file = λ disk answers. full.file disk answers.1;
-    has = λ disk answers. full.has disk answers.1;
+  ready_missing : (calls : List FileCall) → Ready calls → Ready (Missing path ∷ calls)
+  ready_missing calls ready = record {
+    tried = tried_more spot.Free (Missing path) calls (λ since made. refl) (λ free disk answers m is. is) (λ synced disk answers left leaves. inl leaves) ready.tried;
+    apart = ready.apart;
+    file = λ disk answers. ready.file disk answers.1;
+    has = λ synced disk answers. ready.has synced disk answers.1;
   }
 
-  saves_full : (calls : List FileCall) → IsFull path from n bytes old calls → SavesWhole path bytes old (Renamed from path ∷ calls)
-  saves_full calls full =
-      saves_loudly path bytes old (Renamed from path) calls full.saves (λ disk answers.
-      leaves_renamed n from path (after_calls calls disk) full.apart (full.file disk answers.1) bytes (full.has disk answers.1))
+  pub ready_may : (calls linked : List FileCall) → Ready calls → MayHave (Linked from path) calls linked → Ready linked
+  ready_may calls linked ready = if_made Ready (Linked from path) calls linked ready (record {
+    tried = tried_more spot.Free (Linked from path) calls (λ since made. ((n, made), refl)) (λ free disk answers m is. absurd (nothing m (sym answers.0 ∙ is)))
+        (λ synced disk answers. leaves_linked n from path (after_calls calls disk) ready.apart (ready.file disk answers.1) bytes
+        (ready.has synced disk answers.1)) ready.tried;
+    apart = ready.apart;
+    file = λ disk answers. path_other path from _ (after_calls calls disk).file (λ same. ready.apart (sym same)) ∙ ready.file disk answers.1;
+    has = λ synced disk answers. let has = ready.has synced disk answers.1 in record { bytes = has.bytes; is_kept = has.is_kept };
+  })
 
-  pub put_renamed : (calls new : List FileCall) → IsFull path from n bytes old calls → new ≡ Renamed from path ∷ calls → IsInPlace path n bytes new
-  put_renamed calls new full is =
-      subst (IsInPlace path n bytes) (sym is) (record {
-        file = λ disk answers. file_renamed n from path (after_calls calls disk) full.apart (full.file disk answers.1);
-        has = λ disk answers. let has = full.has disk answers.1 in record { bytes = has.bytes; is_kept = has.is_kept };
-      })
+  pub tried_removed : (to : Spot) (calls new : List FileCall) → (from ≡ path → ⊥) → Tried to calls → MayHave (Removed from) calls new → Tried to new
+  tried_removed to calls new apart tried =
+      if_made (Tried to) (Removed from) calls new tried (tried_more to (Removed from) calls (λ since made. (n, made))
+      (λ free disk answers m is. path_other from path None (after_calls calls disk).file apart ∙ is)
+      (λ synced disk answers left leaves. inl (leaves_removed path from (after_calls calls disk) apart left leaves)) tried)
 
-  put_linked : (calls : List FileCall) → IsFull path from n bytes old calls → IsInPlace path n bytes (Linked from path ∷ calls)
-  put_linked calls full = record {
-    file = λ disk answers. file_linked n from path (after_calls calls disk) full.apart (full.file disk answers.1);
-    has = λ disk answers. let has = full.has disk answers.1 in record { bytes = has.bytes; is_kept = has.is_kept };
-  }
+  pub tried_named : (to : Spot) (calls new : List FileCall) → Tried to calls
+      → (new ≡ calls) ⊎ Waited (SyncedNames path) (UnwaitedNames path) calls new → Tried to new
+  tried_named to calls new tried =
+      if_either (Tried to) (SyncedNames path) (UnwaitedNames path) calls new tried
+      (tried_more to (SyncedNames path) calls (λ since made. refl) (λ free disk answers m is. is)
+      (λ synced disk answers left leaves. inl (leaves_synced path (after_calls calls disk) left leaves)) tried)
+      (tried_more to (UnwaitedNames path) calls (λ since made. refl) (λ free disk answers. absurd answers.0) (λ synced disk answers. absurd answers.0) tried)
 
-  -- it is linked, and its first name is removed, or not
-  pub put_published : (calls linked new : List FileCall) → IsFull path from n bytes old calls
+  -- it is renamed
+  renamed : (to : Spot) (calls : List FileCall) → Ready calls
+      → (to ≡ spot.Free → (disk : Disk) → AllAnswered path calls disk → (after_calls calls disk).file path ≡ None) → Tried to (Renamed from path ∷ calls)
+  renamed to calls ready none = tried_more to (Renamed from path) calls (λ since made. ((n, made), refl))
+      (λ free disk answers m is. absurd (nothing m (sym (none free disk answers.1) ∙ is)))
+      (λ synced disk answers. leaves_renamed n from path (after_calls calls disk) ready.apart (ready.file disk answers.1) bytes
+      (ready.has synced disk answers.1)) (tried_ready to calls ready)
+
+  -- over what is there
+  pub tried_taken : (calls new : List FileCall) → Ready calls → MayHave (Renamed from path) calls new → Tried spot.Taken new
+  tried_taken calls new ready =
+      if_made (Tried spot.Taken) (Renamed from path) calls new (tried_ready spot.Taken calls ready) (renamed spot.Taken calls ready (λ free. cc))
+
+  -- where nothing was seen
+  pub tried_looked : (calls looked new : List FileCall) → Ready calls
+      → looked ≡ Missing path ∷ calls → MayHave (Renamed from path) looked new → Tried spot.Free new
+  tried_looked calls looked new ready missing =
+      let seen : Ready looked = rw missing (ready_missing calls ready) in
+      if_made (Tried spot.Free) (Renamed from path) looked new (tried_ready spot.Free looked seen)
+      (renamed spot.Free looked seen (rw missing (λ free disk answers. answers.0)))
+
+  -- it is linked where nothing is
+  pub tried_linked : (calls linked new : List FileCall) → Ready calls
+      → MayHave (Linked from path) calls linked → MayHave (Removed from) linked new → Tried spot.Free new
+  tried_linked calls linked new ready may =
+      tried_removed spot.Free linked new ready.apart (tried_ready spot.Free linked (ready_may calls linked ready may))
+
+  -- where it is then
+  pub put_renamed : (calls new : List FileCall) → Ready calls → wanted ≡ wait.Synced → new ≡ Renamed from path ∷ calls → IsInPlace path n bytes new
+  put_renamed calls new ready synced is = rw is (record {
+    file = λ disk answers. file_renamed n from path (after_calls calls disk) ready.apart (ready.file disk answers.1);
+    has = λ disk answers. let has = ready.has synced disk answers.1 in record { bytes = has.bytes; is_kept = has.is_kept };
+  })
+
+  pub put_looked : (calls looked new : List FileCall) → Ready calls → wanted ≡ wait.Synced
+      → looked ≡ Missing path ∷ calls → new ≡ Renamed from path ∷ looked → IsInPlace path n bytes new
+  put_looked calls looked new ready synced missing = put_renamed looked new (rw missing (ready_missing calls ready)) synced
+
+  pub put_published : (calls linked new : List FileCall) → Ready calls → wanted ≡ wait.Synced
       → linked ≡ Linked from path ∷ calls → MayHave (Removed from) linked new → IsInPlace path n bytes new
-  put_published calls linked new full is =
-      let put : IsInPlace path n bytes linked = subst (IsInPlace path n bytes) (sym is) (put_linked calls full) in
+  put_published calls linked new ready synced is =
+      let put : IsInPlace path n bytes linked = rw is (record {
+        file = λ disk answers. file_linked n from path (after_calls calls disk) ready.apart (ready.file disk answers.1);
+        has = λ disk answers. let has = ready.has synced disk answers.1 in record { bytes = has.bytes; is_kept = has.is_kept };
+      }) in
       if_made (IsInPlace path n bytes) (Removed from) linked new put (record {
-        file = λ disk answers. path_other from path None (after_calls linked disk).file full.apart ∙ put.file disk answers.1;
+        file = λ disk answers. path_other from path None (after_calls linked disk).file ready.apart ∙ put.file disk answers.1;
         has = λ disk answers. let has = put.has disk answers.1 in record { bytes = has.bytes; is_kept = has.is_kept };
       })
-
-  pub full_may : (calls linked : List FileCall) → IsFull path from n bytes old calls
-      → MayHave (Linked from path) calls linked → IsFull path from n bytes old linked
-  full_may calls linked full = if_made (IsFull path from n bytes old) (Linked from path) calls linked full (full_linked calls full)
-
-  -- its name was looked for before it was renamed
-  pub put_looked : (calls looked new : List FileCall) → IsFull path from n bytes old calls
-      → looked ≡ Missing path ∷ calls → new ≡ Renamed from path ∷ looked → IsInPlace path n bytes new
-  put_looked calls looked new full missing is =
-      put_renamed looked new (subst (IsFull path from n bytes old) (sym missing) (full_missing calls full)) is
-
-  -- ---- All that is said of a try.
-
-  module _ (wanted : Durability) where
-    abbrev Ready : List FileCall → Type 0
-    Ready = IsReady wanted path from n bytes old
-
-    abbrev Tried : Spot → List FileCall → Type 0
-    Tried to = HasTried to wanted path from n bytes old
-
-    nothing : (m : ℕ) → None ≡ Some m → ⊥
-    nothing m same = cc
-
-    ready_missing : (calls : List FileCall) → Ready calls → Ready (Missing path ∷ calls)
-    ready_missing calls ready = record {
-      apart = ready.apart;
-      has = has_more path from n old (Missing path) calls ready.has (λ since made. refl);
-      spares = spares_quietly path old (Missing path) calls ready.spares (λ disk answers m is. is);
-      full = λ synced. full_missing calls (ready.full synced);
-    }
-
-    pub ready_may : (calls linked : List FileCall) → Ready calls → MayHave (Linked from path) calls linked → Ready linked
-    ready_may calls linked ready = if_made Ready (Linked from path) calls linked ready (record {
-      apart = ready.apart;
-      has = has_more path from n old (Linked from path) calls ready.has (λ since made. ((n, made), refl));
-      spares = spares_quietly path old (Linked from path) calls ready.spares (λ disk answers m is. absurd (nothing m (sym answers.0 ∙ is)));
-      full = λ synced. full_linked calls (ready.full synced);
-    })
-
-    -- nothing was done with it
-    pub tried_ready : (to : Spot) (calls : List FileCall) → Ready calls → Tried to calls
-    tried_ready to calls ready = record { has = ready.has; spares = λ free. ready.spares; saves = λ synced. (ready.full synced).saves }
-
-    pub tried_beside : (to : Spot) (calls : List FileCall) → IsBeside path from n old calls → Tried to calls
-    tried_beside to calls beside = record { has = beside.has; spares = λ free. beside.spares; saves = λ synced. beside.saves bytes }
-
-    -- after a call that lets the path lead nowhere else
-    tried_quietly : (to : Spot) (call : FileCall) (calls : List FileCall) → ((since : List FileCall) → Contains since (Made from n) → IsWithin path since call)
-        → ((disk : Disk) → (after_calls (call ∷ calls) disk).file path ≡ (after_calls calls disk).file path)
-        → ((disk : Disk) → (left : Option (List ℕ)) → MayLeave (after_calls (call ∷ calls) disk) path left → MayLeave (after_calls calls disk) path left)
-        → Tried to calls → Tried to (call ∷ calls)
-    tried_quietly to call calls within file quiet tried = record {
-      has = has_more path from n old call calls tried.has within;
-      spares = λ free. spares_quietly path old call calls (tried.spares free) (λ disk answers m is. file disk ∙ is);
-      saves = λ synced. saves_quietly path bytes old call calls (tried.saves synced) (λ disk answers. quiet disk);
-    }
-
-    pub tried_removed : (to : Spot) (calls new : List FileCall) → (from ≡ path → ⊥) → Tried to calls → MayHave (Removed from) calls new → Tried to new
-    tried_removed to calls new apart tried =
-        if_made (Tried to) (Removed from) calls new tried (tried_quietly to (Removed from) calls (λ since made. (n, made))
-        (λ disk. path_other from path None (after_calls calls disk).file apart) (λ disk. leaves_removed path from (after_calls calls disk) apart) tried)
-
-    pub tried_named : (to : Spot) (calls new : List FileCall) → Tried to calls
-        → (new ≡ calls) ⊎ Waited (SyncedNames path) (UnwaitedNames path) calls new → Tried to new
-    tried_named to calls new tried =
-        if_either (Tried to) (SyncedNames path) (UnwaitedNames path) calls new tried
-        (tried_quietly to (SyncedNames path) calls (λ since made. refl) (λ disk. refl) (λ disk. leaves_synced path (after_calls calls disk)) tried)
-        (tried_quietly to (UnwaitedNames path) calls (λ since made. refl) (λ disk. refl) (λ disk left leaves. leaves) tried)
-
-    pub tried_as : (to there : Spot) (calls : List FileCall) → to ≡ there → Tried there calls → Tried to calls
-    tried_as to there calls same = subst (λ (t : Spot). Tried t calls) (sym same)
-
-    -- it is renamed over what is there
-    pub tried_taken : (calls new : List FileCall) → Ready calls → MayHave (Renamed from path) calls new → Tried spot.Taken new
-    tried_taken calls new ready = if_made (Tried spot.Taken) (Renamed from path) calls new (tried_ready spot.Taken calls ready) (record {
-      has = has_more path from n old (Renamed from path) calls ready.has (λ since made. ((n, made), refl));
-      spares = λ free. absurd (taken free);
-      saves = λ synced. saves_full calls (ready.full synced);
-    }) where
-      taken : spot.Taken ≡ spot.Free → ⊥
-      taken same = cc
-
-    -- it is linked where nothing is
-    pub tried_linked : (calls linked new : List FileCall) → Ready calls
-        → MayHave (Linked from path) calls linked → MayHave (Removed from) linked new → Tried spot.Free new
-    tried_linked calls linked new ready may =
-        tried_removed spot.Free linked new ready.apart (tried_ready spot.Free linked (ready_may calls linked ready may))
-
-    -- it is renamed where nothing was seen
-    renamed_free : (calls : List FileCall) → Ready calls → Tried spot.Free (Renamed from path ∷ Missing path ∷ calls)
-    renamed_free calls ready =
-        let looked = ready_missing calls ready in
-        record {
-          has = has_more path from n old (Renamed from path) (Missing path ∷ calls) looked.has (λ since made. ((n, made), refl));
-          spares = λ free. spares_quietly path old (Renamed from path) (Missing path ∷ calls) looked.spares
-              (λ disk answers m is. absurd (nothing m (sym answers.1.0 ∙ is)));
-          saves = λ synced. saves_full (Missing path ∷ calls) (looked.full synced);
-        }
-
-    pub tried_looked : (calls looked new : List FileCall) → Ready calls
-        → looked ≡ Missing path ∷ calls → MayHave (Renamed from path) looked new → Tried spot.Free new
-    tried_looked calls looked new ready missing =
-        if_made (Tried spot.Free) (Renamed from path) looked new
-        (subst (Tried spot.Free) (sym missing) (tried_ready spot.Free (Missing path ∷ calls) (ready_missing calls ready)))
-        (subst (λ (l : List FileCall). Tried spot.Free (Renamed from path ∷ l)) (sym missing) (renamed_free calls ready))
-
-    pub tried_same : (to : Spot) (calls new : List FileCall) → Ready calls → new ≡ calls → Tried to new
-    tried_same to calls new ready same = subst (Tried to) (sym same) (tried_ready to calls ready)
-
-    -- it was filled
-    pub ready_filled : (calls new : List FileCall) → IsKept path from n old calls
-        → IsAbout n calls new → (wanted ≡ wait.Synced → Fills n bytes calls new) → IsReady wanted path from n bytes old new
-    ready_filled calls new kept about fills =
-        let beside = beside_about path from n old calls new kept.beside about in
-        record {
-          apart = beside.apart;
-          has = beside.has;
-          spares = beside.spares;
-          full = λ synced. record {
-            apart = beside.apart;
-            saves = beside.saves bytes;
-            file = beside.file;
-            has = λ disk answers. (fills synced).on path disk answers (kept.sound disk);
-          };
-        }

@@ -2,8 +2,7 @@
 
 ghost use Rattle.std.specs.Prelude.{◌≡◌, ◌+◌, ◌<◌, [], ◌∷◌, length, IfOk, OnOk, OnErr};
 ghost use Rattle.std.specs.Io.{WritesAtMost};
-ghost use Rattle.age_machine.specs.Calls.{Made, Opened, Broke, SyncedNames, UnwaitedNames, Waited};
-ghost use Rattle.age_machine.specs.Calls.{CountsFailure};
+ghost use Rattle.age_machine.specs.Calls.{Made, Opened, Broke, Waited, CountsFailure};
 ghost use Rattle.age_machine.specs.Numbers.{number_of};
 
 use crate::calls;
@@ -248,6 +247,8 @@ pub struct HostMachine {
 }
 
 impl HostMachine {
+    ghost use Rattle.age_machine.specs.inner.Notes.{file_call_of};
+
     /// The machine before the first call.
     pub fn new(rt: &HostRuntime) -> HostMachine
         ensures { (result.calls ≡ []) × (result.failed ≡ 0) }
@@ -305,24 +306,24 @@ impl HostMachine {
         }
     }
 
-    /// Notes a wait for the names in the folder of a path.
-    fn note_names(&mut self, path: &str, synced: io::Result<bool>) -> io::Result<()>
-        ensures ok { OnOk result (Waited (SyncedNames path.now) (UnwaitedNames path.now)
+    /// Notes one call if the machine could make it, and another if it has no way to.
+    fn note_either(
+        &mut self,
+        made: &Word<'_>,
+        cant: &Word<'_>,
+        was_made: io::Result<bool>,
+    ) -> io::Result<()>
+        ensures ok { OnOk result (Waited (file_call_of made.now) (file_call_of cant.now)
             self.old.calls self.new.calls) }
         ensures err { OnErr result (self.new.calls ≡ self.old.calls) }
         ensures counted { CountsFailure result self.old.failed self.new.failed }
     {
-        match synced {
-            Ok(true) => {
-                self.calls.note(&Word::SyncedNames(path));
-                Ok(())
-            }
-            Ok(false) => {
-                self.calls.note(&Word::UnwaitedNames(path));
-                Ok(())
-            }
-            Err(error) => Err(self.fail(error)),
+        match was_made {
+            Ok(true) => self.calls.note(made),
+            Ok(false) => self.calls.note(cant),
+            Err(error) => return Err(self.fail(error)),
         }
+        Ok(())
     }
 
     /// Counts a call that failed.
@@ -388,17 +389,8 @@ impl Machine for HostMachine {
     }
 
     fn lock(&mut self, file: &HostFile) -> io::Result<()> {
-        match lock(&file.file) {
-            Ok(true) => {
-                self.calls.note(&Word::Locked(file.node));
-                Ok(())
-            }
-            Ok(false) => {
-                self.calls.note(&Word::Unlockable(file.node));
-                Ok(())
-            }
-            Err(error) => Err(self.fail(error)),
-        }
+        let (made, cant) = (Word::Locked(file.node), Word::Unlockable(file.node));
+        self.note_either(&made, &cant, lock(&file.file))
     }
 
     fn is_alone(&self, file: &HostFile) -> bool {
@@ -459,12 +451,12 @@ impl Machine for HostMachine {
 
     fn sync_names(&mut self, path: &str) -> io::Result<()> {
         let synced = sync_folder(&self.rt, path);
-        self.note_names(path, synced)
+        self.note_either(&Word::SyncedNames(path), &Word::UnwaitedNames(path), synced)
     }
 
     fn sync_readable_names(&mut self, path: &str) -> io::Result<()> {
         let synced = sync_readable_folder(&self.rt, path);
-        self.note_names(path, synced)
+        self.note_either(&Word::SyncedNames(path), &Word::UnwaitedNames(path), synced)
     }
 
     fn check_folder(&mut self, folder: Option<&Folder>, path: &str) -> io::Result<()> {

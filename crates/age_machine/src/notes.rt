@@ -4,7 +4,7 @@ ghost use Rattle.std.specs.Prelude.{◌≡◌, ◌+◌, [], ◌∷◌, List, ℕ
 ghost use Rattle.std.specs.Borrow.{ftrue};
 ghost use Rattle.std.specs.Coded.{coded_list};
 ghost use Rattle.age_machine.specs.Calls.{FileCall};
-ghost use Rattle.age_machine.specs.inner.Calls.{coded_call, file_call_of};
+ghost use Rattle.age_machine.specs.inner.Calls.{coded_call};
 
 use crate::machine::Kind;
 use crate::node::Node;
@@ -32,13 +32,14 @@ pub(crate) enum Word<'a> {
     UnwaitedNames(&'a str),
 }
 
-/// Calls that were noted.
+/// One more call, or all that were noted elsewhere.
 #[derive(Clone, Copy)]
-struct Noted<'a> {
-    calls: &'a Calls,
+enum Note<'a> {
+    Call(Word<'a>),
+    All(&'a Calls),
 }
 
-// Calls that no code holds: the proofs of `note` and `copy` set them.
+// Calls that no code holds: the proof of `note` sets them.
 #[derive(Drop)]
 struct Cell {
     pub ghost calls: { List FileCall } by { coded_list coded_call },
@@ -49,18 +50,16 @@ impl Model for Cell {
 }
 
 impl Cell {
+    ghost use Rattle.age_machine.specs.inner.Notes.{calls_after};
+
     fn empty() -> Cell
         ensures { result.calls ≡ [] }
     {
         Cell {}
     }
 
-    fn note(&mut self, _word: &Word<'_>)
-        ensures { self.new.calls ≡ file_call_of _word.now ∷ self.old.calls }
-    {}
-
-    fn copy(&mut self, _noted: &Noted<'_>)
-        ensures { self.new.calls ≡ _noted.now.calls.now }
+    fn note(&mut self, _note: &Note<'_>)
+        ensures { self.new.calls ≡ calls_after _note.now self.old.calls }
     {}
 }
 
@@ -79,6 +78,8 @@ impl Model for Calls {
 }
 
 impl Calls {
+    ghost use Rattle.age_machine.specs.inner.Notes.{file_call_of};
+
     /// No call so far.
     pub(crate) fn new() -> Calls
         ensures { result ≡ [] }
@@ -93,7 +94,7 @@ impl Calls {
         ensures { result ≡ self.now }
     {
         let mut cell = Cell::empty();
-        cell.copy(&Noted { calls: self });
+        cell.note(&Note::All(self));
         Calls { cell }
     }
 
@@ -101,7 +102,7 @@ impl Calls {
     pub(crate) fn note(&mut self, word: &Word<'_>)
         ensures { self.new ≡ file_call_of word.now ∷ self.old }
     {
-        self.cell.note(word);
+        self.cell.note(&Note::Call(*word));
     }
 }
 

@@ -10,7 +10,7 @@ ghost use Rattle.age_machine.specs.Beside.{IsKept};
 ghost use Rattle.age_machine.specs.declared.beside.Unplaced.{Unplaced};
 ghost use Rattle.age_machine.specs.declared.beside.Unplaced.TheVariants.{Memory};
 ghost use Rattle.age_machine.specs.declared.replacing.Spot.TheVariants as spot;
-ghost use Rattle.age_machine.specs.inner.Steps.{IsAbout, CutsOff, Fills, IsFull, IsInPlace, IsReady};
+ghost use Rattle.age_machine.specs.inner.Steps.{IsAbout, CutsOff, Fills, IsInPlace, IsReady};
 ghost use Rattle.age_machine.specs.inner.Steps.{HasTried};
 ghost use Rattle.age_io.specs.declared.durability.Durability.{Durability};
 
@@ -104,7 +104,7 @@ fn take_free<M: Machine>(machine: &mut M, beside: &str, path: &str) -> Result<()
         → IsReady wanted path.now beside.now n bytes old (M.calls machine.old)
         → HasTried spot.Free wanted path.now beside.now n bytes old (M.calls machine.new) }
     ensures put { OnOk result ((n : ℕ) (bytes : List ℕ) (old : List FileCall)
-        → IsFull path.now beside.now n bytes old (M.calls machine.old)
+        → IsReady wait.Synced path.now beside.now n bytes old (M.calls machine.old)
         → IsInPlace path.now n bytes (M.calls machine.new)) }
     ensures counted { M.failed machine.old ≤ M.failed machine.new }
 {
@@ -131,7 +131,7 @@ fn publish<M: Machine>(
         → HasTried spot.Free wanted path.now beside.now (M.number file.now) bytes old
         (M.calls machine.new) }
     ensures put { OnOk result ((bytes : List ℕ) (old : List FileCall)
-        → IsFull path.now beside.now (M.number file.now) bytes old (M.calls machine.old)
+        → IsReady wait.Synced path.now beside.now (M.number file.now) bytes old (M.calls machine.old)
         → IsInPlace path.now (M.number file.now) bytes (M.calls machine.new)) }
     ensures counted { M.failed machine.old ≤ M.failed machine.new }
     ensures caused { OnErr result (M.failed machine.old < M.failed machine.new) }
@@ -164,7 +164,7 @@ fn put<M: Machine>(
         → HasTried to wanted path.now beside.now (M.number file.now) bytes old
         (M.calls machine.new) }
     ensures put { OnOk result ((bytes : List ℕ) (old : List FileCall)
-        → IsFull path.now beside.now (M.number file.now) bytes old (M.calls machine.old)
+        → IsReady wait.Synced path.now beside.now (M.number file.now) bytes old (M.calls machine.old)
         → IsInPlace path.now (M.number file.now) bytes (M.calls machine.new)) }
     ensures counted { M.failed machine.old ≤ M.failed machine.new }
     ensures caused { OnErr result (M.failed machine.old < M.failed machine.new) }
@@ -216,7 +216,7 @@ fn place<M: Machine>(
         → HasTried to durability path.now (string_bytes new.now.path) (M.number new.now.file) bytes
         old (M.calls machine.new) }
     ensures safe { durability ≡ wait.Synced → (bytes : List ℕ) (old : List FileCall)
-        → IsFull path.now (string_bytes new.now.path) (M.number new.now.file) bytes old
+        → IsReady wait.Synced path.now (string_bytes new.now.path) (M.number new.now.file) bytes old
         (M.calls machine.old)
         → OnOk result (IsSafe path.now bytes (M.calls machine.new)) }
     ensures counted { M.failed machine.old ≤ M.failed machine.new }

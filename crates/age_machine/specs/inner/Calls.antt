@@ -1,36 +1,14 @@
--- How code notes calls. Private: no public contract cites this module.
+-- How calls are kept as ghost state. Private: no public contract cites this module.
 use Rattle.std.specs.Prelude.{◌≡◌, ◌⊎◌, ℕ, List, Bool, Option, Some, None, refl}
 use Rattle.std.specs.Coded.{Coded, coded_ℕ, coded_bool, coded_list, coded⊎, coded×, coded_option, code_by}
 use mathlib.Core.Logic.{inl, inr}
 use Rattle.age_machine.specs.Calls.{FileCall, Made, Opened, Wrote, Cut, Broke, Measured, Synced, Unwaited}
 use Rattle.age_machine.specs.Calls.{Locked, Unlockable, Missing, Linked, Renamed, Removed}
 use Rattle.age_machine.specs.Calls.{SyncedNames, UnwaitedNames}
-use Rattle.age_machine.specs.Numbers.{number_of}
 use Rattle.age_machine.specs.declared.machine.Kind.{Kind}
 use Rattle.age_machine.specs.declared.machine.Kind.TheVariants.{Regular, Device}
-use Rattle.age_machine.specs.declared.notes.Word.{Word}
-use Rattle.age_machine.specs.declared.notes.Word.TheVariants as word
 
--- the call that a word says
-abbrev pub file_call_of : Word → FileCall
-file_call_of (word.Made path node) = Made path.now (number_of node)
-file_call_of (word.Opened path node kind) = Opened path.now (number_of node) kind
-file_call_of (word.Wrote node at bytes) = Wrote (number_of node) at bytes.now
-file_call_of (word.Cut node len) = Cut (number_of node) len
-file_call_of (word.Broke node) = Broke (number_of node)
-file_call_of (word.Measured node len) = Measured (number_of node) len
-file_call_of (word.Synced node) = Synced (number_of node)
-file_call_of (word.Unwaited node) = Unwaited (number_of node)
-file_call_of (word.Locked node) = Locked (number_of node)
-file_call_of (word.Unlockable node) = Unlockable (number_of node)
-file_call_of (word.Missing path) = Missing path.now
-file_call_of (word.Linked from to) = Linked from.now to.now
-file_call_of (word.Renamed from to) = Renamed from.now to.now
-file_call_of (word.Removed path) = Removed path.now
-file_call_of (word.SyncedNames path) = SyncedNames path.now
-file_call_of (word.UnwaitedNames path) = UnwaitedNames path.now
-
--- a call as a choice among sums, the form in which ghost state is kept
+-- a call as a choice among sums
 abbrev Text : Type 0
 Text = List ℕ
 
@@ -84,23 +62,9 @@ from_parts (inr (inr (inr (inr (inr (inr (inr opened))))))) =
     Opened opened.0 opened.1.0 (kind_of opened.1.1)
 
 pub from_parts-parts_of : (call : FileCall) → from_parts (parts_of call) ≡ call
-from_parts-parts_of (Made path n) = refl
-from_parts-parts_of (Wrote n at bytes) = refl
-from_parts-parts_of (Cut n len) = refl
-from_parts-parts_of (Broke n) = refl
-from_parts-parts_of (Measured n len) = refl
-from_parts-parts_of (Synced n) = refl
-from_parts-parts_of (Unwaited n) = refl
-from_parts-parts_of (Locked n) = refl
-from_parts-parts_of (Unlockable n) = refl
-from_parts-parts_of (Missing path) = refl
-from_parts-parts_of (Linked from to) = refl
-from_parts-parts_of (Renamed from to) = refl
-from_parts-parts_of (Removed path) = refl
-from_parts-parts_of (SyncedNames path) = refl
-from_parts-parts_of (UnwaitedNames path) = refl
 from_parts-parts_of (Opened path n (Regular is_named)) = refl
 from_parts-parts_of (Opened path n Device) = refl
+from_parts-parts_of call = refl
 
 abbrev coded_text : Coded (List ℕ)
 coded_text = coded_list coded_ℕ

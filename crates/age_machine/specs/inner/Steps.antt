@@ -76,29 +76,23 @@ pub record RemovesAt (path : List ℕ) (old new : List FileCall) : Type 0 where
 
 -- ---- From a file that was filled to one that is at its path.
 
--- beside the path is a file of these bytes, which a power cut leaves
-pub record IsFull (path from : List ℕ) (n : ℕ) (bytes : List ℕ) (old calls : List FileCall)
-    : Type 0 where
-  pub apart : from ≢ path
-  pub saves : SavesWhole path bytes old calls
-  pub file : (disk : Disk) → AllAnswered path calls disk → (after_calls calls disk).file from ≡ Some n
-  pub has : (disk : Disk) → AllAnswered path calls disk → Has n bytes (after_calls calls disk)
-
 -- it is at the path
 pub record IsInPlace (path : List ℕ) (n : ℕ) (bytes : List ℕ) (calls : List FileCall) : Type 0 where
   pub file : (disk : Disk) → AllAnswered path calls disk → (after_calls calls disk).file path ≡ Some n
   pub has : (disk : Disk) → AllAnswered path calls disk → Has n bytes (after_calls calls disk)
 
--- what holds before it is put there, and after that was tried
-pub record IsReady (durability : Durability) (path from : List ℕ) (n : ℕ) (bytes : List ℕ)
-    (old calls : List FileCall) : Type 0 where
-  pub apart : from ≢ path
-  pub has : HasBeside path from n old calls
-  pub spares : SparesFile path old calls
-  pub full : durability ≡ wait.Synced → IsFull path from n bytes old calls
-
+-- what holds after that was tried
 pub record HasTried (to : Spot) (durability : Durability) (path from : List ℕ) (n : ℕ)
     (bytes : List ℕ) (old calls : List FileCall) : Type 0 where
   pub has : HasBeside path from n old calls
   pub spares : to ≡ spot.Free → SparesFile path old calls
   pub saves : durability ≡ wait.Synced → SavesWhole path bytes old calls
+
+-- and before: beside the path is a file of these bytes, which a power cut leaves
+pub record IsReady (durability : Durability) (path from : List ℕ) (n : ℕ) (bytes : List ℕ)
+    (old calls : List FileCall) : Type 0 where
+  pub tried : HasTried spot.Free durability path from n bytes old calls
+  pub apart : from ≢ path
+  pub file : (disk : Disk) → AllAnswered path calls disk → (after_calls calls disk).file from ≡ Some n
+  pub has : durability ≡ wait.Synced → (disk : Disk) → AllAnswered path calls disk
+      → Has n bytes (after_calls calls disk)

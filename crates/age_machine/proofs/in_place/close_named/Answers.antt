@@ -1,5 +1,5 @@
 use Rattle.std.proofs.Common.{refl}
-use Rattle.age_machine.proofs.OutLemmas.{held_one, held_same, held_named}
+use Rattle.age_machine.proofs.OutLemmas.{held_one, held_named}
 use Rattle.age_machine.proofs.in_place.close_named.Goals as goal
 
 pub returns-in_err-close-clause-held : goal.returns-in_err-close-clause-held
@@ -7,8 +7,8 @@ returns-in_err-close-clause-held g c = λ opening. held_one _ _ opening _ _ _ re
 
 pub returns-in_err-settle_name-clause-held : goal.returns-in_err-settle_name-clause-held
 returns-in_err-settle_name-clause-held g c =
-    λ opening held. held_named _ _ opening _ _ c.settle_name.ensures.either (held_same _ _ opening _ _ c.in_ok-close.ensures.ok held)
+    λ opening held. held_named _ _ opening _ _ c.settle_name.ensures.either (rw c.in_ok-close.ensures.ok held)
 
 pub returns-clause-held : goal.returns-clause-held
 returns-clause-held g c =
-    λ opening held. held_named _ _ opening _ _ c.settle_name.ensures.either (held_same _ _ opening _ _ c.in_ok-close.ensures.ok held)
+    λ opening held. held_named _ _ opening _ _ c.settle_name.ensures.either (rw c.in_ok-close.ensures.ok held)

@@ -1,5 +1,5 @@
 use Rattle.std.proofs.Common.{refl}
-use Rattle.age_machine.proofs.SaveLemmas.{about_more, about_then, about_same, fills_waited, fills_same}
+use Rattle.age_machine.proofs.SaveLemmas.{about_more, about_then, fills_waited}
 use Rattle.age_machine.proofs.replacing.fill.Goals as goal
 
 pub returns-in_err-cut_off-clause-about : goal.returns-in_err-cut_off-clause-about
@@ -16,10 +16,9 @@ returns-in_err-close-clause-about g c =
 
 pub returns-clause-about : goal.returns-clause-about
 returns-clause-about g c =
-    about_same _ _ _ _ (about_then _ _ _ _ (about_then _ _ _ _ c.write_all.ensures.about c.cut_off.ensures.about) c.settle.ensures.about)
-    c.in_ok-close.ensures.ok
+    rw c.in_ok-close.ensures.ok (about_then _ _ _ _ (about_then _ _ _ _ c.write_all.ensures.about c.cut_off.ensures.about) c.settle.ensures.about)
 
 pub returns-clause-filled : goal.returns-clause-filled
 returns-clause-filled g c =
-    λ synced. fills_same _ _ _ _ _ (fills_waited _ _ _ _ _ _ c.in_ok-write_all.ensures.written c.in_ok-cut_off.ensures.cut
-    (c.in_ok-settle.ensures.synced synced)) c.in_ok-close.ensures.ok
+    λ synced. rw c.in_ok-close.ensures.ok (fills_waited _ _ _ _ _ _ c.in_ok-write_all.ensures.written c.in_ok-cut_off.ensures.cut
+    (c.in_ok-settle.ensures.synced synced))

@@ -1,8 +1,8 @@
-use Rattle.age_machine.proofs.SaveLemmas.{tried_same, tried_named, safe_named}
+use Rattle.age_machine.proofs.SaveLemmas.{tried_ready, tried_named, safe_named}
 use Rattle.age_machine.proofs.replacing.place.Goals as goal
 
 pub returns-in_err-check_folder-clause-tried : goal.returns-in_err-check_folder-clause-tried
-returns-in_err-check_folder-clause-tried g c = λ bytes old ready. tried_same _ _ _ bytes old _ _ _ _ ready c.check_folder.ensures.same
+returns-in_err-check_folder-clause-tried g c = λ bytes old ready. rw c.check_folder.ensures.same (tried_ready _ _ _ bytes old _ _ _ ready)
 
 pub returns-in_err-put-clause-tried : goal.returns-in_err-put-clause-tried
 returns-in_err-put-clause-tried g c = let tried = rw (c.as_str.ensures.value, c.check_folder.ensures.same) at c.put.ensures.tried in tried c.args.durability

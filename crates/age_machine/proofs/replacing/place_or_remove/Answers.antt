@@ -7,7 +7,7 @@ use Rattle.age_machine.proofs.replacing.place_or_remove.Goals.{in-Ok+in-Err-plac
 pub returns-in-Ok-place-clause-replaces : goal.returns-in-Ok-place-clause-replaces
 returns-in-Ok-place-clause-replaces g c =
     λ old kept. let ready = ready_filled _ _ _ _ old _ _ _ kept c.fill.ensures.about c.in-Ok.ensures.filled in
-    replaces_tried _ _ _ _ old _ _ _ _ (c.place.ensures.tried _ old ready) (λ synced. c.in-Ok-place.ensures.safe synced _ old (ready.full synced))
+    replaces_tried _ _ _ _ old _ _ _ _ (c.place.ensures.tried _ old ready) (λ synced. c.in-Ok-place.ensures.safe synced _ old (rw synced at ready))
 
 pub returns-clause-replaces : goal.returns-clause-replaces
 returns-clause-replaces g c =

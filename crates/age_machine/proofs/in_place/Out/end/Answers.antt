@@ -1,53 +1,48 @@
-use Rattle.std.proofs.Common.{◌∙◌, length, refl, ap, sym, OnOk}
+use Rattle.std.proofs.Common.{◌∙◌, length, refl, ap, sym}
 use Rattle.std.proofs.lemmas.Result.{on_ok_weaker}
-use Rattle.age_machine.specs.Saves.{IsSafe, LeadsTo}
-use Rattle.age_machine.specs.Outs.{OutView, TouchesFile, text_of}
+use Rattle.age_machine.specs.Outs.{OutView, text_of}
 use Rattle.age_machine.proofs.SaveLemmas.{safe_named}
-use Rattle.age_machine.proofs.OutLemmas.{ended_as, leads_begun, out_held, touches_held, touches_now, waited_for}
+use Rattle.age_machine.proofs.OutLemmas.{leads_begun, out_held, touches_held, touches_now, waited_for}
 use Rattle.age_machine.proofs.in_place.Out.end.Goals as goal
 
 pub returns-in-Ok-clause-safe : goal.returns-in-Ok-clause-safe
 returns-in-Ok-clause-safe g c =
     λ synced sound. let closed = g.M.Machine.calls c.close_named-closed.new.machine in
-    let same = c.claim-claimed.ensures.same in let end = c.close_named-closed.result in let opening = c.self.inside.opening in
+    let same = c.claim-claimed.ensures.same in let opening = c.self.inside.opening in
     let unfailed = ap (λ (v : OutView). v.failed) c.self.view_is ∙ (c.in_default.ensures.counted ∙ sound) in
     let long = ap (λ (v : OutView). length (text_of v.calls)) c.self.view_is ∙ sym c.shape-shape.ensures in
     let claimed = rw (← c.self.view_is) at c.in_default.ensures.claimed in
     let stays = rw c.as_str.ensures.value at c.close_named-closed.ensures.held in
     let named = rw c.as_str.ensures.value at c.close_named-closed.ensures.named in
     let held = stays _ (c.finish-finished.ensures.held _ _ (out_held _ _ opening _ _ _ _ _ _ c.self.invariant claimed)) in
-    ended_as (λ file text. OnOk end (IsSafe file.path text closed)) _ _ _ _ c.self.view_is same.0 same.2
-    (on_ok_weaker end (λ named disk answers. safe_named _ _ _ _ closed (c.in-Ok.ensures.finished synced _ _ long (c.self.invariant.begun unfailed))
+    rw (← same.0, ← same.2, ← c.self.view_is)
+    (on_ok_weaker c.close_named-closed.result (λ named disk answers. safe_named _ _ _ _ closed (c.in-Ok.ensures.finished synced _ _ long (c.self.invariant.begun unfailed))
     (named synced (waited_for _ _ opening closed disk held.opened answers)) disk answers) named)
 
 pub returns-in-Ok-clause-there : goal.returns-in-Ok-clause-there
 returns-in-Ok-clause-there g c =
     λ sound. let closed = g.M.Machine.calls c.close_named-closed.new.machine in
-    let same = c.claim-claimed.ensures.same in let end = c.close_named-closed.result in
+    let same = c.claim-claimed.ensures.same in
     let unfailed = ap (λ (v : OutView). v.failed) c.self.view_is ∙ (c.in_default.ensures.counted ∙ sound) in
     let long = ap (λ (v : OutView). length (text_of v.calls)) c.self.view_is ∙ sym c.shape-shape.ensures in
     let keeps = rw c.as_str.ensures.value at c.close_named-closed.ensures.begun in
-    ended_as (λ file text. OnOk end (LeadsTo file.path file.number text closed)) _ _ _ _ c.self.view_is same.0 same.2
-    (on_ok_weaker end (λ keeps. leads_begun _ _ _ closed (keeps _ (c.in-Ok.ensures.begun _ _ long (c.self.invariant.begun unfailed)))) keeps)
+    rw (← same.0, ← same.2, ← c.self.view_is)
+    (on_ok_weaker c.close_named-closed.result (λ keeps. leads_begun _ _ _ closed (keeps _ (c.in-Ok.ensures.begun _ _ long (c.self.invariant.begun unfailed)))) keeps)
 
 pub returns-in-Ok-clause-within : goal.returns-in-Ok-clause-within
 returns-in-Ok-clause-within g c =
-    let same = c.claim-claimed.ensures.same in let opening = c.self.inside.opening in
     let claimed = rw (← c.self.view_is) at c.in_default.ensures.claimed in
     let stays = rw c.as_str.ensures.value at c.close_named-closed.ensures.held in
-    ended_as (λ file text. TouchesFile file (g.M.Machine.calls c.close_named-closed.new.machine)) _ _ _ _ c.self.view_is same.0 same.2
-    (touches_held _ opening _ refl (stays _ (c.finish-finished.ensures.held _ _ (out_held _ _ opening _ _ _ _ _ _ c.self.invariant claimed))))
+    rw (← c.claim-claimed.ensures.same.0, ← c.self.view_is)
+    (touches_held _ _ _ refl (stays _ (c.finish-finished.ensures.held _ _ (out_held _ _ c.self.inside.opening _ _ _ _ _ _ c.self.invariant claimed))))
 
 pub returns-clause-within : goal.returns-clause-within
 returns-clause-within g c =
-    let same = c.claim-claimed.ensures.same in let opening = c.self.inside.opening in
     let claimed = rw (← c.self.view_is) at c.in_default.ensures.claimed in
     let stays = rw c.as_str.ensures.value at c.close_named-closed.ensures.held in
-    ended_as (λ file text. TouchesFile file (g.M.Machine.calls c.close_named-closed.new.machine)) _ _ _ _ c.self.view_is same.0 same.2
-    (touches_held _ opening _ refl (stays _ (c.finish-finished.ensures.held _ _ (out_held _ _ opening _ _ _ _ _ _ c.self.invariant claimed))))
+    rw (← c.claim-claimed.ensures.same.0, ← c.self.view_is)
+    (touches_held _ _ _ refl (stays _ (c.finish-finished.ensures.held _ _ (out_held _ _ c.self.inside.opening _ _ _ _ _ _ c.self.invariant claimed))))
 
 pub returns-in-Err-clause-within : goal.returns-in-Err-clause-within
 returns-in-Err-clause-within g c =
-    let same = c.claim-claimed.ensures.same in
-    ended_as (λ file text. TouchesFile file (g.M.Machine.calls c.self.inside.machine)) _ _ _ _ c.self.view_is same.0 same.2
-    (touches_now _ _ _ _ _ _ _ _ _ c.self.invariant _ refl)
+    rw (← c.claim-claimed.ensures.same.0, ← c.self.view_is) (touches_now _ _ _ _ _ _ _ _ _ c.self.invariant _ refl)

@@ -1,0 +1,34 @@
+-- Which calls are noted. Private: no public contract cites this module.
+use Rattle.std.specs.Prelude.{List, ◌∷◌}
+use Rattle.age_machine.specs.Calls.{FileCall, Made, Opened, Wrote, Cut, Broke, Measured, Synced, Unwaited}
+use Rattle.age_machine.specs.Calls.{Locked, Unlockable, Missing, Linked, Renamed, Removed}
+use Rattle.age_machine.specs.Calls.{SyncedNames, UnwaitedNames}
+use Rattle.age_machine.specs.Numbers.{number_of}
+use Rattle.age_machine.specs.declared.notes.Note.{Note}
+use Rattle.age_machine.specs.declared.notes.Note.TheVariants as note
+use Rattle.age_machine.specs.declared.notes.Word.{Word}
+use Rattle.age_machine.specs.declared.notes.Word.TheVariants as word
+
+-- the call that a word says
+abbrev pub file_call_of : Word → FileCall
+file_call_of (word.Made path node) = Made path.now (number_of node)
+file_call_of (word.Opened path node kind) = Opened path.now (number_of node) kind
+file_call_of (word.Wrote node at bytes) = Wrote (number_of node) at bytes.now
+file_call_of (word.Cut node len) = Cut (number_of node) len
+file_call_of (word.Broke node) = Broke (number_of node)
+file_call_of (word.Measured node len) = Measured (number_of node) len
+file_call_of (word.Synced node) = Synced (number_of node)
+file_call_of (word.Unwaited node) = Unwaited (number_of node)
+file_call_of (word.Locked node) = Locked (number_of node)
+file_call_of (word.Unlockable node) = Unlockable (number_of node)
+file_call_of (word.Missing path) = Missing path.now
+file_call_of (word.Linked from to) = Linked from.now to.now
+file_call_of (word.Renamed from to) = Renamed from.now to.now
+file_call_of (word.Removed path) = Removed path.now
+file_call_of (word.SyncedNames path) = SyncedNames path.now
+file_call_of (word.UnwaitedNames path) = UnwaitedNames path.now
+
+-- the calls after a note
+abbrev pub calls_after : Note → List FileCall → List FileCall
+calls_after (note.Call word) calls = file_call_of word ∷ calls
+calls_after (note.All others) calls = others.now
