@@ -120,10 +120,6 @@ generator_on g k = record g { word_pos = (g.word_pos + k) % 2 ^ 68 }
 unfoldable pub word_on : ChaCha → ℕ → ℕ
 word_on g k = word_at 10 g.key g.stream ((g.word_pos + k) % 2 ^ 68)
 
-pub generator_on-none : (g : ChaCha) → g.word_pos < 2 ^ 68 → g ≡ generator_on g 0
-unfolding generator_on
-generator_on-none g h = let e : (g.word_pos + 0) % 2 ^ 68 ≡ g.word_pos = omega arith in rw e refl
-
 pub word_drawn : (g now new : ChaCha) (x k : ℕ) → now ≡ generator_on g k → (x, new) ≡ next_word 10 now
     → (x ≡ word_on g k) × (new ≡ generator_on g (k + 1))
 unfolding generator_on word_on

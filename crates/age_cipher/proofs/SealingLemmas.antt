@@ -1,5 +1,5 @@
 -- Ciphertexts, tags, sealings and openings; the crates above use some of it.
-use Rattle.std.proofs.Common.{◌≡◌, ℕ, ◌+◌, ◌-◌, ◌<◌, List, ◌++◌, length, take, drop, get_or, slice_index, bit_xor, refl, sym, ap, ◌∙◌, arith, length-append}
+use Rattle.std.proofs.Common.{◌≡◌, ℕ, ◌+◌, ◌-◌, ◌<◌, ◌≤◌, replicate, List, ◌++◌, length, take, drop, get_or, slice_index, bit_xor, refl, sym, ap, ◌∙◌, arith, length-append}
 use Rattle.std.proofs.Common.{Bool, true, false, [], ◌∷◌, ap₂, bit_or}
 use Rattle.std.specs.Bool.{OnTrue, OnFalse}
 use Rattle.std.specs.Int.{w64, to_le_bytes}
@@ -7,7 +7,7 @@ use Rattle.std.specs.Int.Bits.{xor_assoc, xor_self, xor_zero_r, xor_add_and}
 use Rattle.std.specs.List.{concat}
 use Rattle.std.specs.Prelude.{Option, Some, None, cond, IsTrue, ◌↔◌}
 use Rattle.std.specs.Str.{bytes_eq}
-use Rattle.std.proofs.lemmas.List.{take_at, drop_at, ext_get_or, take-append-drop}
+use Rattle.std.proofs.lemmas.List.{take_at, drop_at, ext_get_or, take-append-drop, take-replicate}
 use Rattle.std.proofs.lemmas.List.FromFn.{length-map-range_with_len, get_or-map-range_with_len}
 use Rattle.std.proofs.lemmas.Nat.{le_or_l, le_or_r, and_le_l, and_le_r}
 use Rattle.std.proofs.lemmas.Option.{cond_some}
@@ -44,21 +44,18 @@ unfolding tag poly1305
 length-tag key nonce aad cipher = refl
 
 -- the two ends of a sealing
-pub front_of_sealing : (key nonce aad text : List ℕ) → take (length (sealing key nonce aad text) - 16) (sealing key nonce aad text)
-    ≡ ciphertext key nonce 1 text
-unfolding sealing
-front_of_sealing key nonce aad text =
-    let c : List ℕ = ciphertext key nonce 1 text in
-    let t : List ℕ = tag key nonce aad c in
-    take_at c t (length (c ++ t) - 16) (omega (arith, length-append c t, length-tag key nonce aad c))
+record HasEnds (block cipher tag : List ℕ) : Type 0 where
+  pub front : take (length block - 16) block ≡ cipher
+  pub end : drop (length block - 16) block ≡ tag
 
-pub end_of_sealing : (key nonce aad text : List ℕ) → drop (length (sealing key nonce aad text) - 16) (sealing key nonce aad text)
-    ≡ tag key nonce aad (ciphertext key nonce 1 text)
+ends_of_sealing : (key nonce aad text : List ℕ)
+    → HasEnds (sealing key nonce aad text) (ciphertext key nonce 1 text) (tag key nonce aad (ciphertext key nonce 1 text))
 unfolding sealing
-end_of_sealing key nonce aad text =
+ends_of_sealing key nonce aad text =
     let c : List ℕ = ciphertext key nonce 1 text in
     let t : List ℕ = tag key nonce aad c in
-    drop_at c t (length (c ++ t) - 16) (omega (arith, length-append c t, length-tag key nonce aad c))
+    let long : length (c ++ t) - 16 ≡ length c = omega (arith, length-append c t, length-tag key nonce aad c) in
+    record { front = take_at c t (length (c ++ t) - 16) (sym long); end = drop_at c t (length (c ++ t) - 16) (sym long) }
 
 -- a sealing is 16 bytes longer than its text
 pub length-sealing : (key nonce aad text : List ℕ) → length (sealing key nonce aad text) ≡ length text + 16
@@ -70,7 +67,7 @@ length-sealing key nonce aad text =
 -- the front of a sealing, enciphered once more, is the text
 pub deciphered_front : (key nonce aad text : List ℕ)
     → ciphertext key nonce 1 (take (length (sealing key nonce aad text) - 16) (sealing key nonce aad text)) ≡ text
-deciphered_front key nonce aad text = ap (ciphertext key nonce 1) (front_of_sealing key nonce aad text) ∙ twice key nonce 1 text
+deciphered_front key nonce aad text = ap (ciphertext key nonce 1) ((ends_of_sealing key nonce aad text).front) ∙ twice key nonce 1 text
 
 -- a block is the sealing of one text at most
 pub one_text : (key nonce aad text other : List ℕ) → sealing key nonce aad text ≡ sealing key nonce aad other → text ≡ other
@@ -120,6 +117,10 @@ opening_where_false false key nonce aad block e =
 
 -- ---- the tag of a block, and the comparison of a block's end with it
 
+-- the first of sixteen zeros
+pub cut_zeros : (n : ℕ) → n ≤ 16 → take {A = ℕ} n (0 ∷ 0 ∷ 0 ∷ 0 ∷ 0 ∷ 0 ∷ 0 ∷ 0 ∷ 0 ∷ 0 ∷ 0 ∷ 0 ∷ 0 ∷ 0 ∷ 0 ∷ 0 ∷ []) ≡ replicate n 0
+cut_zeros n few = take-replicate n 16 0 few
+
 pub tag_is : (key nonce aad cipher one az cz al cl : List ℕ) → one ≡ one_time_key key nonce → az ≡ padding aad → cz ≡ padding cipher
     → al ≡ to_le_bytes w64 (length aad) → cl ≡ to_le_bytes w64 (length cipher)
     → poly1305 one (concat (aad ∷ az ∷ cipher ∷ cz ∷ al ∷ cl ∷ [])) ≡ tag key nonce aad cipher
@@ -131,8 +132,8 @@ tag_is key nonce aad cipher one az cz al cl o a c la lc =
 pub end_is_tag : (key nonce aad text block : List ℕ) → block ≡ sealing key nonce aad text
     → drop (length block - 16) block ≡ tag key nonce aad (take (length block - 16) block)
 end_is_tag key nonce aad text block e =
-    ap (λ b. drop (length b - 16) b) e ∙ end_of_sealing key nonce aad text
-    ∙ ap (tag key nonce aad) (sym (ap (λ b. take (length b - 16) b) e ∙ front_of_sealing key nonce aad text))
+    ap (λ b. drop (length b - 16) b) e ∙ (ends_of_sealing key nonce aad text).end
+    ∙ ap (tag key nonce aad) (sym (ap (λ b. take (length b - 16) b) e ∙ (ends_of_sealing key nonce aad text).front))
 
 -- and if it is, the block is the sealing of what the front deciphers to
 pub sealed_by_tag : (key nonce aad block : List ℕ) (n : ℕ) → drop n block ≡ tag key nonce aad (take n block)
@@ -142,25 +143,14 @@ sealed_by_tag key nonce aad block n e =
     sym (take-append-drop n block) ∙ ap₂ ◌++◌ (sym (twice key nonce 1 (take n block)))
     (e ∙ ap (tag key nonce aad) (sym (twice key nonce 1 (take n block))))
 
--- ---- the comparison of a block's end with a tag
-
--- the clauses of an opening
-pub opens_if : (key nonce aad block : List ℕ) (n : ℕ) (t e : List ℕ) → t ≡ e → t ≡ tag key nonce aad (take n block) → e ≡ drop n block
-    → block ≡ sealing key nonce aad (ciphertext key nonce 1 (take n block))
-opens_if key nonce aad block n t e same tags ends = sealed_by_tag key nonce aad block n (sym ends ∙ sym same ∙ tags)
-
-opens_of : (key nonce aad block : List ℕ) (t e : List ℕ) → t ≡ tag key nonce aad (take (length block - 16) block) → e ≡ drop (length block - 16) block
-    → IsSealing key nonce aad block → t ≡ e
-opens_of key nonce aad block t e tags ends w = sym (ends ∙ end_is_tag key nonce aad w.0 block w.1 ∙ sym tags)
-
 -- a test of the tag tells whether the block is a sealing
 pub opens_exactly : (same : Bool) (key nonce aad block front t e : List ℕ) → (IsTrue same ↔ (t ≡ e)) → t ≡ tag key nonce aad front
     → front ≡ take (length block - 16) block → e ≡ drop (length block - 16) block → IsTrue same ↔ IsSealing key nonce aad block
 opens_exactly same key nonce aad block front t e tested tags front_is end_is =
     let n : ℕ = length block - 16 in
     let tagged : t ≡ tag key nonce aad (take n block) = tags ∙ ap (tag key nonce aad) front_is in (
-      λ h. (ciphertext key nonce 1 (take n block), opens_if key nonce aad block n t e (tested.0 h) tagged end_is),
-      λ w. tested.1 (opens_of key nonce aad block t e tagged end_is w),
+      λ h. (ciphertext key nonce 1 (take n block), sealed_by_tag key nonce aad block n (sym end_is ∙ sym (tested.0 h) ∙ tagged)),
+      λ w. tested.1 (sym (end_is ∙ end_is_tag key nonce aad w.0 block w.1 ∙ sym tagged)),
     )
 
 -- ---- differences, gathered by or

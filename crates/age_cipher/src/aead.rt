@@ -17,6 +17,7 @@ const TEXT_BLOCK: u32 = 1;
 static ZEROS: [u8; 16] = [0; 16];
 
 /// The zeros up to a multiple of 16 bytes.
+#[tactic(auto, using(crate::proofs::SealingLemmas::cut_zeros), unfolding(crate::specs::Aead::padding))]
 fn padding(bytes: &[u8]) -> &'static [u8]
     ensures { result.now ≡ padding bytes.now }
 {
@@ -61,6 +62,7 @@ fn tag_of_parts<'a>(
 }
 
 /// The tag over the associated data and the ciphertext.
+#[tactic(auto, using(crate::proofs::SealingLemmas::tag_is))]
 fn tag(key: &[u8; 32], nonce: &[u8; 12], aad: &[u8], cipher: &[u8]) -> [u8; 16]
     ensures { result ≡ tag key.now nonce.now aad.now cipher.now }
 {
@@ -80,6 +82,7 @@ fn tag(key: &[u8; 32], nonce: &[u8; 12], aad: &[u8], cipher: &[u8]) -> [u8; 16]
 
 /// Seals a text in place (RFC 8439, 2.8). `block` must have 16 to 65,552 bytes: the text and 16
 /// more. The text becomes the ciphertext and the last 16 bytes the tag, whatever they were.
+#[tactic(auto, unfolding(crate::specs::Aead::sealing))]
 pub fn seal_in_place(key: &[u8; 32], nonce: &[u8; 12], aad: &[u8], block: &mut [u8])
     requires { (16 ≤ length block.old) × (length block.old ≤ block_limit) }
     ensures { block.new

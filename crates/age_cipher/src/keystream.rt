@@ -30,6 +30,7 @@ fn block_number(nonce: &[u8; 12], counter: u32) -> u64
 
 /// Draws the next words.
 #[inline(always)]
+#[tactic(auto, unfolding(crate::proofs::KeystreamLemmas::generator_on, crate::proofs::KeystreamLemmas::word_on))]
 fn draw(generator: &mut ChaCha20Rng, words: &mut [u32])
     requires { generator.old.word_pos < 2 ^ 68 }
     ensures words { (k : ℕ) → k < length words.old

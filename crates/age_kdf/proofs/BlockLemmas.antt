@@ -1,14 +1,17 @@
 -- Keys as blocks, blocks of 32 bytes that are joined, and an array's map.
-use Rattle.std.proofs.Common.{◌≡◌, ℕ, zero, suc, ◌+◌, ◌-◌, ◌*◌, ◌≤◌, List, [], ◌++◌, length, take, drop, refl, sym, ap, ◌∙◌, add-one, arith, ◌⊎◌, inl, inr, ◌<◌}
-use Rattle.std.proofs.Common.{map, get_or, subst}
+use Rattle.std.proofs.Common.{◌≡◌, ℕ, zero, suc, ◌+◌, ◌-◌, ◌*◌, ◌≤◌, List, [], ◌++◌, length, take, drop, refl, sym, ap, ◌∙◌, arith, ◌⊎◌, inl, inr, ◌<◌}
+use Rattle.std.proofs.Common.{map, get_or, subst, ap₂, ◌∷◌}
 use Rattle.std.specs.Array.{MapsFrom, IsMapOf}
 use Rattle.std.specs.Fn.{Called, Mut}
 use Rattle.std.specs.List.{range_with_len, flat_map}
 use Rattle.std.proofs.Math.Seq.{take-append-add}
 use Rattle.std.proofs.lemmas.Bool.Decides.{leb_tells}
 use Rattle.std.proofs.lemmas.List.{append-nil, append_assoc, length-append, length-take, take_all, take_at, drop_all, length-drop, ext_get_or, length-map}
+use Rattle.std.proofs.lemmas.Grind.{flat_map-append}
 use Rattle.std.proofs.lemmas.List.{get_or-map}
-use Rattle.sha2.specs.Sha256.{sha256, digest_bytes}
+use Rattle.std.proofs.lemmas.List.Folds.{flat_map-map}
+use Rattle.std.proofs.lemmas.List.FromFn.{map-range_with_len_more}
+use Rattle.sha2.proofs.Facts256.{length-sha256}
 use Rattle.age_kdf.specs.Derivation.{hmac, pbkdf2_block}
 
 -- ---- what decides whether a key fits into a block
@@ -17,14 +20,9 @@ pub ruleset length_tests = (leb_tells)
 
 -- ---- blocks of 32 bytes that are joined, and a slice that takes them one by one
 
-length-digest_bytes : (h : List ℕ) (n : ℕ) → length (digest_bytes h n) ≡ 4 * n
-unfolding digest_bytes
-length-digest_bytes h zero = refl
-length-digest_bytes h (suc n) = omega (arith, length-append {A = ℕ}, length-digest_bytes h n)
-
-pub length-hmac : (key message : List ℕ) → length (hmac key message) ≡ 32
-unfolding hmac sha256
-length-hmac key message = length-digest_bytes _ 8
+length-hmac : (key message : List ℕ) → length (hmac key message) ≡ 32
+unfolding hmac
+length-hmac key message = length-sha256 _
 
 pub length-pbkdf2_block : (pass salt : List ℕ) (i : ℕ) → length (pbkdf2_block pass salt i) ≡ 32
 unfolding pbkdf2_block
@@ -34,34 +32,25 @@ length-pbkdf2_block pass salt i = length-hmac pass _
 abbrev pub joined : List ℕ → List ℕ → ℕ → List ℕ
 joined pass salt q = flat_map (pbkdf2_block pass salt) (range_with_len 1 q)
 
-length-joined_from : (pass salt : List ℕ) (a q : ℕ) → length (flat_map (pbkdf2_block pass salt) (range_with_len a q)) ≡ 32 * q
-length-joined_from pass salt a zero = refl
-length-joined_from pass salt a (suc q) = omega (
-  arith,
-  length-append (pbkdf2_block pass salt a) (flat_map (pbkdf2_block pass salt) (range_with_len (a + 1) q)),
-  length-pbkdf2_block pass salt a,
-  length-joined_from pass salt (a + 1) q,
-)
-
-pub length-joined : (pass salt : List ℕ) (q : ℕ) → length (joined pass salt q) ≡ 32 * q
-length-joined pass salt q = length-joined_from pass salt 1 q
-
-joined_more_from : (pass salt : List ℕ) (a q : ℕ) → flat_map (pbkdf2_block pass salt) (range_with_len a (suc q))
-    ≡ flat_map (pbkdf2_block pass salt) (range_with_len a q) ++ pbkdf2_block pass salt (a + q)
-joined_more_from pass salt a zero =
-    let at : a + 0 ≡ a = omega arith in
-    rw at (append-nil (pbkdf2_block pass salt a))
-joined_more_from pass salt a (suc q) =
-    let at : a + 1 + q ≡ a + suc q = omega arith in
-    let rest = flat_map (pbkdf2_block pass salt) (range_with_len (a + 1) q) in
-    ap (λ more. pbkdf2_block pass salt a ++ more) (joined_more_from pass salt (a + 1) q)
-    ∙ sym (append_assoc (pbkdf2_block pass salt a) rest (pbkdf2_block pass salt (a + 1 + q)))
-    ∙ ap (λ i. flat_map (pbkdf2_block pass salt) (range_with_len a (suc q)) ++ pbkdf2_block pass salt i) at
-
 pub joined_more : (pass salt : List ℕ) (q : ℕ) → joined pass salt (q + 1) ≡ joined pass salt q ++ pbkdf2_block pass salt (q + 1)
 joined_more pass salt q =
-    let at : 1 + q ≡ suc q = omega arith in
-    rw add-one (joined_more_from pass salt 1 q ∙ ap (λ i. joined pass salt q ++ pbkdf2_block pass salt i) at)
+    let block : ℕ → List ℕ = pbkdf2_block pass salt in
+    let parts : (n : ℕ) → flat_map (λ x. x) (map block (range_with_len 1 n)) ≡ joined pass salt n = λ n. flat_map-map (λ x. x) block (range_with_len 1 n) in
+    sym (parts (q + 1)) ∙ ap (flat_map (λ x. x)) (map-range_with_len_more block 1 q (q + 1) (omega arith))
+    ∙ flat_map-append (λ x. x) (map block (range_with_len 1 q)) (block (q + 1) ∷ []) ∙ ap₂ ◌++◌ (parts q) (append-nil (block (q + 1)))
+
+pub length-joined : (pass salt : List ℕ) (q : ℕ) → length (joined pass salt q) ≡ 32 * q
+length-joined pass salt zero = refl
+length-joined pass salt (suc q) =
+    let next : q + 1 ≡ suc q = omega arith in
+    omega (
+      arith,
+      ap (λ n. length (joined pass salt n)) next,
+      ap length (joined_more pass salt q),
+      length-append {A = ℕ},
+      length-pbkdf2_block pass salt (q + 1),
+      length-joined pass salt q,
+    )
 
 -- in a list that begins with the a items of `front`, the k items after them become the first of a
 -- block of 32

@@ -3,14 +3,12 @@ use Rattle.std.proofs.lemmas.Bool.{OnTrue_from}
 use Rattle.std.proofs.lemmas.List.{take_at}
 use Rattle.age_cipher.specs.Keystream.{ciphertext}
 use Rattle.age_cipher.specs.Aead.{sealing, tag}
-use Rattle.age_cipher.proofs.SealingLemmas.{opens_if, opens_exactly}
+use Rattle.age_cipher.proofs.SealingLemmas.{sealed_by_tag, opens_exactly}
 use Rattle.age_cipher.proofs.aead.open_in_place.Goals as goal
 
 pub returns-then-same-clause-exact : goal.returns-then-same-clause-exact
 returns-then-same-clause-exact c =
-    let split = c.split_at_mut-cipher.ensures in
-    opens_exactly c.is_tag-same.result c.args.key.now c.args.nonce.now c.args.aad.now c.args.block.now _ c.tag.result _ c.is_tag-same.ensures c.tag.ensures
-    split.front split.back
+    let split = c.split_at_mut-cipher.ensures in opens_exactly _ _ _ _ _ _ _ _ c.is_tag-same.ensures c.tag.ensures split.front split.back
 
 pub returns-then-same-clause-text : goal.returns-then-same-clause-text
 returns-then-same-clause-text c =
@@ -24,11 +22,9 @@ returns-then-same-clause-text c =
     let text : c.xor_stream.new.text ≡ ciphertext key nonce 1 (take n block) = c.xor_stream.ensures ∙ ap (ciphertext key nonce 1) split.front in
     let front : take n (c.xor_stream.new.text ++ c.split_at_mut-cipher.result.1.now) ≡ c.xor_stream.new.text = take_at _ _ n (omega arith) in
     OnTrue_from _ _ (λ h.
-    opens_if key nonce aad block n c.tag.result c.split_at_mut-cipher.result.1.now (c.is_tag-same.ensures.0 h) tags split.back
+    sealed_by_tag key nonce aad block n (sym split.back ∙ sym (c.is_tag-same.ensures.0 h) ∙ tags)
     ∙ ap (sealing key nonce aad) (sym (front ∙ text)))
 
 pub returns-else-same-clause-exact : goal.returns-else-same-clause-exact
 returns-else-same-clause-exact c =
-    let split = c.split_at_mut-cipher.ensures in
-    opens_exactly c.is_tag-same.result c.args.key.now c.args.nonce.now c.args.aad.now c.args.block.now _ c.tag.result _ c.is_tag-same.ensures c.tag.ensures
-    split.front split.back
+    let split = c.split_at_mut-cipher.ensures in opens_exactly _ _ _ _ _ _ _ _ c.is_tag-same.ensures c.tag.ensures split.front split.back

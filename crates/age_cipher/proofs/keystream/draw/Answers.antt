@@ -1,9 +1,6 @@
-use Rattle.std.proofs.Common.{◌≡◌, ◌≢◌, ◌∙◌, ◌<◌, ℕ, length, refl, arith, below_more, get_or-set_other, get_or-set_same}
-use Rattle.age_cipher.proofs.KeystreamLemmas.{generator_on, word_on, generator_on-none, word_drawn}
+use Rattle.std.proofs.Common.{◌≢◌, ◌<◌, ℕ, length, arith, below_more, get_or-set_other, get_or-set_same}
+use Rattle.age_cipher.proofs.KeystreamLemmas.{word_drawn}
 use Rattle.age_cipher.proofs.keystream.draw.Goals as goal
-
-pub loop-k-init : goal.loop-k-init
-loop-k-init c = record { drawn = λ j h. absurd (omega arith); generator = generator_on-none c.args.generator.now c.requires }
 
 pub loop-k-preserved : goal.loop-k-preserved
 loop-k-preserved c =
@@ -14,13 +11,3 @@ loop-k-preserved c =
       drawn = below_more _ _ (λ j h. let ne : j ≢ k = omega arith in rw get_or-set_other (c.loop-k.invariant.drawn j h)) (rw get_or-set_same next.0);
       generator = next.1;
     }
-
-pub returns-clause-words : goal.returns-clause-words
-unfolding word_on
-returns-clause-words c k h = c.loop-k.invariant.drawn k (omega arith)
-
-pub returns-clause-generator : goal.returns-clause-generator
-unfolding generator_on
-returns-clause-generator c =
-    let done : c.loop-k.k ≡ length c.args.words.now = omega arith in
-    c.loop-k.invariant.generator ∙ rw done refl
