@@ -1,20 +1,23 @@
 -- A block in its parts, each kept as its rows or turned into its diagonals.
 use Rattle.std.proofs.Common.{◌≡◌, ◌≢◌, ◌++◌, ◌+◌, ◌-◌, ◌*◌, ◌<◌, ◌≤◌, ℕ, zero, suc, List, [], ◌∷◌, bit_xor, refl, sym, ap, ap₂, ◌∙◌, arith, length, take, drop}
-use Rattle.std.proofs.Common.{length-take, length-drop, inl, inr, ◌/◌, ◌%◌, get_or, below_more, below_none}
-use Rattle.std.specs.List.{flat_map, range_with_len}
+use Rattle.std.proofs.Common.{length-take, length-drop, inl, inr, ◌/◌, ◌%◌, get_or}
+use Rattle.std.specs.List.{flat_map}
 use Rattle.std.specs.Simd.Lanes.{zip2}
 use Rattle.std.proofs.Math.Nat.{mul-le-mul_left}
 use Rattle.std.proofs.Math.Seq.{take-add, drop-append-add}
+use Rattle.std.specs.Prelude.{nat_lt, if◌then◌else◌}
 use Rattle.std.proofs.lemmas.Bool.{cases_lt}
-use Rattle.std.proofs.lemmas.List.{drop_all, drop-take, drop-drop, take-append-drop, take_at, drop_at, append_assoc, length-append, drop-append-le}
-use Rattle.std.proofs.lemmas.List.{take-append-le, take_all, get_or-drop, get_or-take}
+use Rattle.std.proofs.lemmas.Bool.Decides.{nat_tests}
+use Rattle.std.proofs.lemmas.List.FromFn.{get_or-map-range_with_len}
+use Rattle.std.proofs.lemmas.List.{drop-take, drop-drop, take-append-drop, take_at, drop_at, append_assoc, length-append, drop-append-le}
+use Rattle.std.proofs.lemmas.List.{take-append-le, take_all, get_or-drop, get_or-take, ext_get_or}
 use Rattle.std.proofs.lemmas.Simd.{length-zip2}
 use Rattle.std.proofs.lemmas.Slice.{take-put_mid_below, drop-put_mid, between-put_mid}
 use borrow.Rule.Slice.PartMut.{put_mid}
 use Rattle.age_scrypt.specs.declared.part.Part.{Part}
 use Rattle.age_scrypt.specs.Scrypt.{part, xor_words, add32, salsa20_8, double_rounds, x_part, block_mix}
 use Rattle.age_scrypt.specs.inner.Workspace.{words, at_places, IsDiagonals, turned, IsTurned}
-use Rattle.age_scrypt.proofs.SalsaLemmas.{sixteen_words, length-double_rounds, rows_of_words}
+use Rattle.age_scrypt.proofs.SalsaLemmas.{length-double_rounds, rows_of_words}
 
 -- ---- a list cut into parts of k: what a write to one part leaves, and the list as its parts joined
 
@@ -42,25 +45,12 @@ part-put_other k w xs ys i j e room len ne =
           (take-put_mid_below (k * i) w xs ys (k * j + k) (next_part k j i below) (omega arith)) ∙ drop-take (k * j) k xs
     ]
 
-parts_from : (k a n : ℕ) (xs : List ℕ) → length xs ≡ k * (a + n) → drop (k * a) xs ≡ flat_map (part k xs) (range_with_len a n)
+-- word k of a list stands in its part k / 16
+get_or-part : (xs : List ℕ) (k : ℕ) → get_or xs k 0 ≡ get_or (part 16 xs (k / 16)) (k % 16) 0
 unfolding part
-parts_from k a zero xs h = drop_all (k * a) xs (omega arith)
-parts_from k a (suc n) xs h =
-    let next : k * a + k ≡ k * (a + 1) = omega arith in
-    sym (take-append-drop k (drop (k * a) xs)) ∙ ap (λ t. part k xs a ++ t)
-    (drop-drop k (k * a) xs ∙ ap (λ m. drop m xs) next
-    ∙ parts_from k (a + 1) n xs (omega arith))
-
--- a list is its parts joined
-pub parts_joined : (k n : ℕ) (xs : List ℕ) → length xs ≡ k * n → xs ≡ flat_map (part k xs) (range_with_len 0 n)
-parts_joined k n xs h =
-    let start : k * 0 ≡ 0 = omega arith in
-    sym (ap (λ m. drop m xs) start) ∙ parts_from k 0 n xs (omega arith)
-
-pub same_pieces : (f g : ℕ → List ℕ) (a n : ℕ) → ((i : ℕ) → a ≤ i → i < a + n → f i ≡ g i)
-    → flat_map f (range_with_len a n) ≡ flat_map g (range_with_len a n)
-same_pieces f g a zero h = refl
-same_pieces f g a (suc n) h = ap₂ ◌++◌ (h a (omega arith) (omega arith)) (same_pieces f g (a + 1) n (λ i low high. h i (omega arith) (omega arith)))
+get_or-part xs k =
+    let place : 16 * (k / 16) + k % 16 ≡ k = omega arith in
+    sym (get_or-take 16 (drop (16 * (k / 16)) xs) (k % 16) 0 (omega arith) ∙ get_or-drop (16 * (k / 16)) xs (k % 16) 0 ∙ ap (λ j. get_or xs j 0) place)
 
 -- four rows of four, one after the other, are sixteen words
 pub rows_read : (block : List ℕ) (at : ℕ) → take 4 (drop at block) ++ take 4 (drop (at + 4) block) ++ take 4 (drop (at + 8) block)
@@ -113,14 +103,17 @@ pub part-xor : (x y : List ℕ) → length x ≡ length y → (j : ℕ) → part
 unfolding part
 part-xor x y same_len j = ap (take 16) (drop-zip2 bit_xor (16 * j) x y same_len) ∙ take-zip2 bit_xor 16 (drop (16 * j) x) (drop (16 * j) y)
 
+-- two blocks with the same parts
+pub same_parts : (x y : List ℕ) → length x ≡ 256 → length y ≡ 256 → ((i : ℕ) → i < 16 → part 16 x i ≡ part 16 y i) → x ≡ y
+same_parts x y x_len y_len h = ext_get_or 0 x y (x_len ∙ sym y_len) (λ k below.
+    get_or-part x k ∙ ap (λ p. get_or p (k % 16) 0) (h (k / 16) (omega arith)) ∙ sym (get_or-part y k))
+
 -- a block is the exclusive or of two others if each of its parts is
 pub xored_parts : (x y to : List ℕ) → length x ≡ 256 → length y ≡ 256 → length to ≡ 256
     → ((j : ℕ) → j < 16 → part 16 to j ≡ xor_words (part 16 x j) (part 16 y j)) → to ≡ xor_words x y
 xored_parts x y to x_len y_len to_len h =
     let same_len : length x ≡ length y = omega arith in
-    parts_joined 16 16 to to_len ∙ same_pieces (part 16 to) (part 16 (xor_words x y)) 0 16
-    (λ j low high. h j (omega arith) ∙ sym (part-xor x y same_len j))
-    ∙ sym (parts_joined 16 16 (xor_words x y) (length-zip2 bit_xor x y same_len ∙ x_len))
+    same_parts to (xor_words x y) to_len (length-zip2 bit_xor x y same_len ∙ x_len) (λ j below. h j below ∙ sym (part-xor x y same_len j))
 
 pub part-append_left : (k : ℕ) (xs ys : List ℕ) (j : ℕ) → k * j + k ≤ length xs → part k (xs ++ ys) j ≡ part k xs j
 unfolding part
@@ -136,12 +129,8 @@ part-append_right k xs ys i len ys_len = ap (take k) (drop_at xs ys (k * i) len)
 -- an operation on turned words is the turned result
 pub zip2-turned : (f : ℕ → ℕ → ℕ) (x y : List ℕ) → length x ≡ 16 → length y ≡ 16 → zip2 f (turned x) (turned y) ≡ turned (zip2 f x y)
 unfolding turned
-zip2-turned f x y x_len y_len =
-    sixteen_words (λ x. zip2 f (turned x) (turned y) ≡ turned (zip2 f x y))
-    (λ x0 x1 x2 x3 x4 x5 x6 x7 x8 x9 x10 x11 x12 x13 x14 x15.
-    let x : List ℕ = x0 ∷ x1 ∷ x2 ∷ x3 ∷ x4 ∷ x5 ∷ x6 ∷ x7 ∷ x8 ∷ x9 ∷ x10 ∷ x11 ∷ x12 ∷ x13 ∷ x14 ∷ x15 ∷ [] in
-    sixteen_words (λ y. zip2 f (turned x) (turned y) ≡ turned (zip2 f x y))
-    (λ y0 y1 y2 y3 y4 y5 y6 y7 y8 y9 y10 y11 y12 y13 y14 y15. refl) y y_len) x x_len
+zip2-turned f (x0 ∷ x1 ∷ x2 ∷ x3 ∷ x4 ∷ x5 ∷ x6 ∷ x7 ∷ x8 ∷ x9 ∷ x10 ∷ x11 ∷ x12 ∷ x13 ∷ x14 ∷ x15 ∷ []) (y0 ∷ y1 ∷ y2 ∷ y3 ∷ y4 ∷ y5 ∷ y6 ∷ y7 ∷ y8 ∷ y9 ∷ y10 ∷ y11 ∷ y12 ∷ y13 ∷ y14 ∷ y15 ∷ []) x_len y_len = refl
+zip2-turned f x y x_len y_len = absurd (omega arith)
 
 pub diagonals_of_words : (x : List ℕ) (p : Part) → words p ≡ turned x → IsDiagonals x p
 unfolding turned
@@ -176,14 +165,6 @@ length-chained b (suc i) len below =
     let y = length-part b i len (omega arith) in
     length-salsa20_8 _ (length-zip2 bit_xor (x_part b i) (part 16 b i) (x ∙ sym y) ∙ x)
 
--- what holds of each number below sixteen
-each_of_sixteen : (P : ℕ → Type 0) → P 0 → P 1 → P 2 → P 3 → P 4 → P 5 → P 6 → P 7 → P 8 → P 9 → P 10 → P 11 → P 12 → P 13 → P 14 → P 15
-    → (k : ℕ) → k < 16 → P k
-each_of_sixteen P p0 p1 p2 p3 p4 p5 p6 p7 p8 p9 p10 p11 p12 p13 p14 p15 =
-    below_more P 15 (below_more P 14 (below_more P 13 (below_more P 12 (below_more P 11 (below_more P 10 (below_more P 9 (below_more P 8
-    (below_more P 7 (below_more P 6 (below_more P 5 (below_more P 4 (below_more P 3 (below_more P 2 (below_more P 1 (below_more P 0 (below_none P)
-    p0) p1) p2) p3) p4) p5) p6) p7) p8) p9) p10) p11) p12) p13) p14) p15
-
 -- pieces of sixteen, joined
 part_after : (xs ys : List ℕ) (i : ℕ) → length xs ≡ 16 → part 16 (xs ++ ys) (suc i) ≡ part 16 ys i
 unfolding part
@@ -201,12 +182,8 @@ part-pieces f (x ∷ xs) len (suc i) below =
 
 length-pieces : (f : ℕ → List ℕ) (xs : List ℕ) → ((m : ℕ) → m < length xs → length (f (get_or xs m 0)) ≡ 16) → length (flat_map f xs) ≡ 16 * length xs
 length-pieces f [] len = refl
-length-pieces f (x ∷ xs) len = omega (
-  arith,
-  length-append (f x) (flat_map f xs),
-  len 0 (omega arith),
-  length-pieces f xs (λ m h. len (suc m) (omega arith)),
-)
+length-pieces f (x ∷ xs) len =
+    omega (arith, length-append {A = ℕ}, len 0 (omega arith), length-pieces f xs (λ m h. len (suc m) (omega arith)))
 
 -- the parts in the order of the outputs
 abbrev order : List ℕ
@@ -214,11 +191,10 @@ order = 0 ∷ 2 ∷ 4 ∷ 6 ∷ 8 ∷ 10 ∷ 12 ∷ 14 ∷ 1 ∷ 3 ∷ 5 ∷ 7 �
 
 -- which output stands at place i, and that its place is i
 in_order : (i : ℕ) → i < 16 → (get_or order i 0 < 16) × (get_or order i 0 / 2 + get_or order i 0 % 2 * 8 ≡ i)
-in_order =
-    each_of_sixteen (λ i. (get_or order i 0 < 16) × (get_or order i 0 / 2 + get_or order i 0 % 2 * 8 ≡ i))
-    (omega arith, refl) (omega arith, refl) (omega arith, refl) (omega arith, refl) (omega arith, refl) (omega arith, refl)
-    (omega arith, refl) (omega arith, refl) (omega arith, refl) (omega arith, refl) (omega arith, refl) (omega arith, refl)
-    (omega arith, refl) (omega arith, refl) (omega arith, refl) (omega arith, refl)
+in_order i below =
+    let at : get_or order i 0 ≡ (if nat_lt i 8 then 2 * i else 2 * i - 15) =
+    get_or-map-range_with_len (λ k. if nat_lt k 8 then 2 * k else 2 * k - 15) 0 16 i i 0 below (omega arith) in
+    (grind (arith, nat_tests), grind (arith, nat_tests))
 
 lengths_of_outputs : (b : List ℕ) → length b ≡ 256 → (m : ℕ) → m < 16 → length (x_part b (get_or order m 0 + 1)) ≡ 16
 lengths_of_outputs b len m below =
@@ -251,12 +227,5 @@ xor_turned a b x y s t x_len y_len =
 
 -- the first word of the last part stays in its place
 pub word_240 : (b y : List ℕ) → IsTurned b y → get_or y 240 0 ≡ get_or b 240 0
-unfolding part turned
-word_240 b y t =
-    sym (get_or-drop 240 y 0 0) ∙ sym (get_or-take 16 (drop 240 y) 0 0 (omega arith)) ∙ ap (λ x. get_or x 0 0) (t.at 15 (omega arith))
-    ∙ get_or-take 16 (drop 240 b) 0 0 (omega arith) ∙ get_or-drop 240 b 0 0
-
--- two blocks with the same parts
-pub same_parts : (x y : List ℕ) → length x ≡ 256 → length y ≡ 256 → ((i : ℕ) → i < 16 → part 16 x i ≡ part 16 y i) → x ≡ y
-same_parts x y x_len y_len h =
-    parts_joined 16 16 x x_len ∙ same_pieces (part 16 x) (part 16 y) 0 16 (λ i low high. h i (omega arith)) ∙ sym (parts_joined 16 16 y y_len)
+unfolding turned
+word_240 b y t = get_or-part y 240 ∙ ap (λ x. get_or x 0 0) (t.at 15 (omega arith)) ∙ sym (get_or-part b 240)

@@ -1,22 +1,18 @@
 -- The two loops of ROMix, and the words of its bytes.
-use Rattle.std.proofs.Common.{◌≡◌, ◌++◌, ◌+◌, ◌-◌, ◌*◌, ◌/◌, ◌%◌, ◌^◌, ◌<◌, ◌≤◌, ℕ, suc, List, [], ◌∷◌, length, take, drop, get_or, refl, sym, ap, ◌∙◌, subst}
-use Rattle.std.proofs.Common.{arith, add-one, length-drop, below_more}
+use Rattle.std.proofs.Common.{◌≡◌, ◌++◌, ◌+◌, ◌-◌, ◌*◌, ◌/◌, ◌%◌, ◌^◌, ◌<◌, ◌≤◌, ℕ, List, length, take, drop, get_or, sym, ap, ◌∙◌, subst}
+use Rattle.std.proofs.Common.{arith, below_more}
 use Rattle.std.specs.Int.{w32, from_le_bytes}
 use Rattle.std.proofs.Math.Nat.{add-mul-mod_self_left, mul_assoc, div-add-mod, mod-lt, mul-mod_left, pow-le-pow_right}
-use Rattle.std.proofs.lemmas.List.{get_or-drop, get_or-take}
+use Rattle.std.proofs.Math.Seq.{drop-cons}
+use Rattle.std.proofs.lemmas.List.{get_or-take}
 use Rattle.std.proofs.lemmas.List.FromFn.{fill_by_all}
 use Rattle.std.proofs.lemmas.Nat.{pow-add}
 use Rattle.byteorder.specs.Endian.{little_number, IsRead}
-use Rattle.age_scrypt.specs.Scrypt.{part, xor_words, block_mix, v_block, number, integerify, x_block, word_at, words_of}
+use Rattle.age_scrypt.specs.Scrypt.{part, v_block, number, integerify, word_at, words_of}
 use Rattle.age_scrypt.specs.inner.Workspace.{IsTable, IsTurned}
 use Rattle.age_scrypt.proofs.PartLemmas.{part-append_left, part-append_right}
 
 -- ---- steps of ROMix's two loops
-
-number_of_front : (xs : List ℕ) (k : ℕ) → 0 < length xs → (rest : ℕ) × (number (take (suc k) xs) ≡ get_or xs 0 0 + 2 ^ 32 * rest)
-unfolding number
-number_of_front [] k h = absurd (omega arith)
-number_of_front (w ∷ ws) k h = (number (take k ws), refl)
 
 -- a number that 2 ^ 32 is a multiple of sees the lowest word alone
 mod_of_low : (w rest n : ℕ) → 2 ^ 32 % n ≡ 0 → (w + 2 ^ 32 * rest) % n ≡ w % n
@@ -27,10 +23,8 @@ mod_of_low w rest n h =
     rw e (add-mul-mod_self_left w n (q * rest))
 
 pub integerify_mod : (x : List ℕ) (n : ℕ) → length x ≡ 256 → 2 ^ 32 % n ≡ 0 → get_or x 240 0 % n ≡ integerify x % n
-unfolding integerify part
-integerify_mod x n len h =
-    let front = number_of_front (drop 240 x) 15 (omega (arith, length-drop 240 x)) in
-    sym (ap (λ m. m % n) front.1 ∙ mod_of_low (get_or (drop 240 x) 0 0) front.0 n h ∙ ap (λ m. m % n) (get_or-drop 240 x 0 0))
+unfolding integerify number part
+integerify_mod x n len h = rw (drop-cons x 240 0 (omega arith)) (sym (mod_of_low (get_or x 240 0) _ n h))
 
 pub power_few : (log : ℕ) → log ≤ 22 → 2 ^ log ≤ 2 ^ 22
 power_few log h = pow-le-pow_right {n = 2} (omega arith) {i = log} {j = 22} h
@@ -40,9 +34,6 @@ power_divides log h =
     let split : 32 - log + log ≡ 32 = omega arith in
     let e : 2 ^ 32 ≡ 2 ^ (32 - log) * 2 ^ log = ap (λ k. 2 ^ k) (sym split) ∙ pow-add 2 (32 - log) log in
     ap (λ y. y % 2 ^ log) e ∙ mul-mod_left (2 ^ (32 - log)) (2 ^ log)
-
-pub power_whole : (log : ℕ) → log ≤ 22 → 1 * 2 ^ log % 2 ^ 64 ≡ 2 ^ log
-power_whole log h = omega (arith, power_few log h)
 
 -- one more block of the table
 pub table_more : (b : List ℕ) (i : ℕ) (table x : List ℕ) → length table ≡ 256 * i → length x ≡ 256 → IsTable b i table
@@ -54,15 +45,6 @@ table_more b i table x len x_len t e = record {
       (t.at j below))
       (subst (IsTurned (v_block b i)) (sym (part-append_right 256 table x i len x_len)) e);
 }
-
-pub mixed_times_more : (b y : List ℕ) (i : ℕ) → IsTurned (block_mix (v_block b i)) y → IsTurned (v_block b (i + 1)) y
-unfolding v_block
-mixed_times_more b y i t = rw add-one t
-
-pub looked_up_more : (n : ℕ) (b y : List ℕ) (i : ℕ) → IsTurned (block_mix (xor_words (x_block n b i) (v_block b (integerify (x_block n b i) % n))))
-    y → IsTurned (x_block n b (i + 1)) y
-unfolding x_block
-looked_up_more n b y i t = rw add-one t
 
 -- the block of the table that a turned block asks for
 pub table_at : (n : ℕ) (b table x : List ℕ) (at : ℕ) → IsTable b n table → 0 < n → at ≡ integerify x % n

@@ -1,46 +1,25 @@
 -- Salsa20/8 on vectors of four words, which are the diagonals of sixteen.
-use Rattle.std.proofs.Common.{◌≡◌, ℕ, ◌-◌, ◌*◌, ◌/◌, ◌%◌, ◌^◌, ◌<◌, List, [], ◌∷◌, ◌++◌, length, take, drop, map, bit_or, bit_xor, refl, ap, ◌∙◌, subst, zero}
-use Rattle.std.proofs.Common.{suc, ◌+◌, arith, sym}
+use Rattle.std.proofs.Common.{◌≡◌, ℕ, ◌-◌, ◌*◌, ◌/◌, ◌%◌, ◌^◌, ◌<◌, List, [], ◌∷◌, ◌++◌, length, map, bit_or, bit_xor, refl, ap, ◌∙◌, zero}
+use Rattle.std.proofs.Common.{suc, arith, sym}
 use Rattle.std.specs.Int.{w32, rotate_left}
 use Rattle.std.specs.Simd.Lanes.{zip2}
 use Rattle.std.proofs.lemmas.Simd.{length-zip2}
-use Rattle.std.proofs.lemmas.List.{append_assoc, take-append-drop, drop-drop, length-take, length-drop, length-append}
+use Rattle.std.proofs.lemmas.List.{length-append}
 use Rattle.age_scrypt.specs.declared.part.Part.{Part}
 use Rattle.age_scrypt.specs.Scrypt.{add32, quarter, columns, rows, double_rounds}
 use Rattle.age_scrypt.specs.inner.Workspace.{quarters, transpose, words, at_places, IsRows, IsDiagonals}
 
 -- ---- vectors of four words
 
--- what holds of every list of four words written out
-pub for_four : (P : List ℕ → Type 0) → ((p q r s : ℕ) → P (p ∷ q ∷ r ∷ s ∷ [])) → (xs : List ℕ) → length xs ≡ 4 → P xs
-for_four P h [] len = absurd (omega arith)
-for_four P h (p ∷ []) len = absurd (omega arith)
-for_four P h (p ∷ q ∷ []) len = absurd (omega arith)
-for_four P h (p ∷ q ∷ r ∷ []) len = absurd (omega arith)
-for_four P h (p ∷ q ∷ r ∷ s ∷ []) len = h p q r s
-for_four P h (p ∷ q ∷ r ∷ s ∷ t ∷ rest) len = absurd (omega arith)
-
 -- two shifts and an or are a rotation
 pub shifts_rotate : (k : ℕ) → 0 < k → k < 32 → (words : List ℕ) → length words ≡ 4
     → zip2 bit_or (zip2 (λ x by. x * 2 ^ by % 2 ^ 32) words (k ∷ k ∷ k ∷ k ∷ []))
     (zip2 (λ x by. x / 2 ^ by) words ((32 - k) ∷ (32 - k) ∷ (32 - k) ∷ (32 - k) ∷ [])) ≡ map (λ x. rotate_left w32 x k) words
-shifts_rotate k some below =
+shifts_rotate k some below (p ∷ q ∷ r ∷ s ∷ []) len =
     let left : k % 32 ≡ k = omega arith in
     let right : (32 - k) % 32 ≡ 32 - k = omega arith in
-    for_four _ (λ p q r s. rw (left, right) refl)
-
--- what holds of all words of four vectors holds of four vectors
-pub for_sixteen : (P : List ℕ → List ℕ → List ℕ → List ℕ → Type 0) → ((a0 a1 a2 a3 b0 b1 b2 b3 c0 c1 c2 c3 d0 d1 d2 d3 : ℕ)
-    → P (a0 ∷ a1 ∷ a2 ∷ a3 ∷ []) (b0 ∷ b1 ∷ b2 ∷ b3 ∷ []) (c0 ∷ c1 ∷ c2 ∷ c3 ∷ [])
-    (d0 ∷ d1 ∷ d2 ∷ d3 ∷ []))
-    → (a b c d : List ℕ) → length a ≡ 4 → length b ≡ 4 → length c ≡ 4 → length d ≡ 4 → P a b c d
-for_sixteen P h a b c d a_len b_len c_len d_len =
-    for_four (λ a. P a b c d) (λ a0 a1 a2 a3.
-    for_four (λ b. P (a0 ∷ a1 ∷ a2 ∷ a3 ∷ []) b c d) (λ b0 b1 b2 b3.
-    for_four (λ c. P (a0 ∷ a1 ∷ a2 ∷ a3 ∷ []) (b0 ∷ b1 ∷ b2 ∷ b3 ∷ []) c d) (λ c0 c1 c2 c3.
-    for_four (λ d. P (a0 ∷ a1 ∷ a2 ∷ a3 ∷ []) (b0 ∷ b1 ∷ b2 ∷ b3 ∷ []) (c0 ∷ c1 ∷ c2 ∷ c3 ∷ []) d)
-    (λ d0 d1 d2 d3.
-    h a0 a1 a2 a3 b0 b1 b2 b3 c0 c1 c2 c3 d0 d1 d2 d3) d d_len) c c_len) b b_len) a a_len
+    rw (left, right) refl
+shifts_rotate k some below words len = absurd (omega arith)
 
 -- b xor the sum of x and y, rotated, on vectors
 abbrev pub xor_rotated_lanes : List ℕ → List ℕ → List ℕ → ℕ → List ℕ
@@ -55,39 +34,24 @@ pub record IsQuarter (a b c d : List ℕ) : Type 0 where
 
 pub quarter_lanes : (a b c d : List ℕ) → length a ≡ 4 → length b ≡ 4 → length c ≡ 4 → length d ≡ 4 → IsQuarter a b c d
 unfolding quarter
-quarter_lanes = for_sixteen IsQuarter (λ a0 a1 a2 a3 b0 b1 b2 b3 c0 c1 c2 c3 d0 d1 d2 d3.
-    record { second = refl; third = refl; fourth = refl; first = refl })
-
--- sixteen words, written out
-pub sixteen_words : (P : List ℕ → Type 0) → ((x0 x1 x2 x3 x4 x5 x6 x7 x8 x9 x10 x11 x12 x13 x14 x15 : ℕ)
-    → P (x0 ∷ x1 ∷ x2 ∷ x3 ∷ x4 ∷ x5 ∷ x6 ∷ x7 ∷ x8 ∷ x9 ∷ x10 ∷ x11 ∷ x12 ∷ x13 ∷ x14 ∷ x15 ∷ []))
-    → (x : List ℕ) → length x ≡ 16 → P x
-sixteen_words P h x len =
-    let cut : (i : ℕ) → take 4 (drop i x) ++ drop (i + 4) x ≡ drop i x = λ i. rw (← drop-drop) (take-append-drop 4 (drop i x)) in
-    let parts : take 4 x ++ take 4 (drop 4 x) ++ take 4 (drop 8 x) ++ drop 12 x ≡ x =
-    append_assoc (take 4 x ++ take 4 (drop 4 x)) (take 4 (drop 8 x)) (drop 12 x) ∙ ap (λ rest. take 4 x ++ take 4 (drop 4 x) ++ rest) (cut 8)
-    ∙ append_assoc (take 4 x) (take 4 (drop 4 x)) (drop 8 x) ∙ ap (λ rest. take 4 x ++ rest) (cut 4) ∙ take-append-drop 4 x in
-    subst P parts
-    (for_sixteen (λ a b c d. P (a ++ b ++ c ++ d)) h (take 4 x) (take 4 (drop 4 x))
-    (take 4 (drop 8 x)) (drop 12 x)
-    (omega (arith, length-take 4 x))
-    (omega (arith, length-take 4 (drop 4 x), length-drop 4 x))
-    (omega (arith, length-take 4 (drop 8 x), length-drop 8 x))
-    (omega (arith, length-drop 12 x)))
+quarter_lanes (a0 ∷ a1 ∷ a2 ∷ a3 ∷ []) (b0 ∷ b1 ∷ b2 ∷ b3 ∷ []) (c0 ∷ c1 ∷ c2 ∷ c3 ∷ []) (d0 ∷ d1 ∷ d2 ∷ d3 ∷ []) _ _ _ _ = record { second = refl; third = refl; fourth = refl; first = refl }
+quarter_lanes a b c d a_len b_len c_len d_len = absurd (omega arith)
 
 -- the rows are the columns of the transpose
 pub transpose-columns_of-transpose : (x : List ℕ) → length x ≡ 16 → transpose (columns (transpose x)) ≡ rows x
 unfolding transpose columns rows
-transpose-columns_of-transpose = sixteen_words (λ x. transpose (columns (transpose x)) ≡ rows x)
-    (λ x0 x1 x2 x3 x4 x5 x6 x7 x8 x9 x10 x11 x12 x13 x14 x15. refl)
+transpose-columns_of-transpose (x0 ∷ x1 ∷ x2 ∷ x3 ∷ x4 ∷ x5 ∷ x6 ∷ x7 ∷ x8 ∷ x9 ∷ x10 ∷ x11 ∷ x12 ∷ x13 ∷ x14 ∷ x15 ∷ []) len = refl
+transpose-columns_of-transpose x len = absurd (omega arith)
 
 pub length-columns : (x : List ℕ) → length x ≡ 16 → length (columns x) ≡ 16
 unfolding columns
-length-columns = sixteen_words (λ x. length (columns x) ≡ 16) (λ x0 x1 x2 x3 x4 x5 x6 x7 x8 x9 x10 x11 x12 x13 x14 x15. refl)
+length-columns (x0 ∷ x1 ∷ x2 ∷ x3 ∷ x4 ∷ x5 ∷ x6 ∷ x7 ∷ x8 ∷ x9 ∷ x10 ∷ x11 ∷ x12 ∷ x13 ∷ x14 ∷ x15 ∷ []) len = refl
+length-columns x len = absurd (omega arith)
 
 pub length-rows : (x : List ℕ) → length x ≡ 16 → length (rows x) ≡ 16
 unfolding rows
-length-rows = sixteen_words (λ x. length (rows x) ≡ 16) (λ x0 x1 x2 x3 x4 x5 x6 x7 x8 x9 x10 x11 x12 x13 x14 x15. refl)
+length-rows (x0 ∷ x1 ∷ x2 ∷ x3 ∷ x4 ∷ x5 ∷ x6 ∷ x7 ∷ x8 ∷ x9 ∷ x10 ∷ x11 ∷ x12 ∷ x13 ∷ x14 ∷ x15 ∷ []) len = refl
+length-rows x len = absurd (omega arith)
 
 pub length-double_rounds : (n : ℕ) (x : List ℕ) → length x ≡ 16 → length (double_rounds n x) ≡ 16
 unfolding double_rounds
@@ -112,8 +76,9 @@ record AreColumns (x : List ℕ) : Type 0 where
 
 diagonal_quarters_are_columns : (x : List ℕ) → length x ≡ 16 → AreColumns x
 unfolding columns
-diagonal_quarters_are_columns = sixteen_words AreColumns (λ x0 x1 x2 x3 x4 x5 x6 x7 x8 x9 x10 x11 x12 x13 x14 x15.
-    record { first = refl; second = refl; third = refl; fourth = refl })
+diagonal_quarters_are_columns (x0 ∷ x1 ∷ x2 ∷ x3 ∷ x4 ∷ x5 ∷ x6 ∷ x7 ∷ x8 ∷ x9 ∷ x10 ∷ x11 ∷ x12 ∷ x13 ∷ x14 ∷ x15 ∷ []) len =
+    record { first = refl; second = refl; third = refl; fourth = refl }
+diagonal_quarters_are_columns x len = absurd (omega arith)
 
 pub columns_on_diagonals : (x : List ℕ) (p q : Part) → length x ≡ 16 → IsDiagonals x p → q.a ≡ map (λ q. q.0) (quarters p.a p.b p.c p.d)
     → q.b ≡ map (λ q. q.1) (quarters p.a p.b p.c p.d) → q.c ≡ map (λ q. q.2) (quarters p.a p.b p.c p.d)
@@ -129,16 +94,7 @@ columns_on_diagonals x p q len h a b c d =
     }
 
 pub length-words : (p : Part) → length (words p) ≡ 16
-length-words p = omega (
-  arith,
-  length-append (p.a ++ p.b ++ p.c) p.d,
-  length-append (p.a ++ p.b) p.c,
-  length-append p.a p.b,
-  p.a_len,
-  p.b_len,
-  p.c_len,
-  p.d_len,
-)
+length-words p = omega (arith, length-append {A = ℕ}, p.a_len, p.b_len, p.c_len, p.d_len)
 
 -- an operation on two parts is one on each pair of their vectors
 zip2-append : (f : ℕ → ℕ → ℕ) (xs ys us vs : List ℕ) → length xs ≡ length us → zip2 f (xs ++ ys) (us ++ vs) ≡ zip2 f xs us ++ zip2 f ys vs
@@ -149,19 +105,10 @@ zip2-append f (x ∷ xs) ys (u ∷ us) vs len = ap (λ rest. f x u ∷ rest) (zi
 
 pub zip2_words : (f : ℕ → ℕ → ℕ) (p q : Part) → zip2 f (words p) (words q) ≡ zip2 f p.a q.a ++ zip2 f p.b q.b ++ zip2 f p.c q.c ++ zip2 f p.d q.d
 zip2_words f p q =
-    let ab : length (p.a ++ p.b) ≡ length (q.a ++ q.b) =
-    omega
-    (arith, length-append p.a p.b, length-append q.a q.b, p.a_len, p.b_len, q.a_len, q.b_len) in
-    let abc : length (p.a ++ p.b ++ p.c) ≡ length (q.a ++ q.b ++ q.c) = omega (
-      arith,
-      length-append (p.a ++ p.b) p.c,
-      length-append (q.a ++ q.b) q.c,
-      p.c_len,
-      q.c_len,
-    ) in
-    zip2-append f (p.a ++ p.b ++ p.c) p.d (q.a ++ q.b ++ q.c) q.d abc
-    ∙ ap (λ front. front ++ zip2 f p.d q.d) (zip2-append f (p.a ++ p.b) p.c (q.a ++ q.b) q.c ab
-    ∙ ap (λ front. front ++ zip2 f p.c q.c) (zip2-append f p.a p.b q.a q.b (p.a_len ∙ sym q.a_len)))
+    let a : length p.a ≡ length q.a = p.a_len ∙ sym q.a_len in
+    let ab : length (p.a ++ p.b) ≡ length (q.a ++ q.b) = omega (arith, length-append {A = ℕ}, a, p.b_len, q.b_len) in
+    let abc : length (p.a ++ p.b ++ p.c) ≡ length (q.a ++ q.b ++ q.c) = omega (arith, length-append {A = ℕ}, ab, p.c_len, q.c_len) in
+    rw (zip2-append, zip2-append, zip2-append) refl
 
 -- an operation on two vectors keeps their length
 pub ruleset vector_lengths = (length-zip2)
@@ -172,17 +119,16 @@ record FourRows (a b c d : List ℕ) : Type 0 where
   pub third : c ≡ at_places (a ++ b ++ c ++ d) 8 9 10 11
   pub fourth : d ≡ at_places (a ++ b ++ c ++ d) 12 13 14 15
 
+four_rows : (a b c d : List ℕ) → length a ≡ 4 → length b ≡ 4 → length c ≡ 4 → length d ≡ 4 → FourRows a b c d
+four_rows (a0 ∷ a1 ∷ a2 ∷ a3 ∷ []) (b0 ∷ b1 ∷ b2 ∷ b3 ∷ []) (c0 ∷ c1 ∷ c2 ∷ c3 ∷ []) (d0 ∷ d1 ∷ d2 ∷ d3 ∷ []) _ _ _ _ = record { first = refl; second = refl; third = refl; fourth = refl }
+four_rows a b c d a_len b_len c_len d_len = absurd (omega arith)
+
 -- the vectors of a part are the rows of its words
 pub rows_of_words : (p : Part) → IsRows (words p) p
 rows_of_words p =
-    let are = for_sixteen FourRows (λ a0 a1 a2 a3 b0 b1 b2 b3 c0 c1 c2 c3 d0 d1 d2 d3.
-    record { first = refl; second = refl; third = refl; fourth = refl }) p.a p.b p.c p.d p.a_len p.b_len p.c_len p.d_len in
+    let are = four_rows p.a p.b p.c p.d p.a_len p.b_len p.c_len p.d_len in
     record { a = are.first; b = are.second; c = are.third; d = are.fourth }
 
 pub words_of_rows : (x : List ℕ) (p : Part) → length x ≡ 16 → IsRows x p → words p ≡ x
-words_of_rows x p len h =
-    rw (h.a, h.b, h.c, h.d)
-    (sixteen_words
-    (λ x. at_places x 0 1 2 3 ++ at_places x 4 5 6 7 ++ at_places x 8 9 10 11
-    ++ at_places x 12 13 14 15 ≡ x)
-    (λ x0 x1 x2 x3 x4 x5 x6 x7 x8 x9 x10 x11 x12 x13 x14 x15. refl) x len)
+words_of_rows (x0 ∷ x1 ∷ x2 ∷ x3 ∷ x4 ∷ x5 ∷ x6 ∷ x7 ∷ x8 ∷ x9 ∷ x10 ∷ x11 ∷ x12 ∷ x13 ∷ x14 ∷ x15 ∷ []) p len h = rw (h.a, h.b, h.c, h.d) refl
+words_of_rows x p len h = absurd (omega arith)

@@ -42,6 +42,7 @@ impl Part {
 
     /// Part `i` of a block of 256 words, row by row.
     #[inline(always)]
+    #[tactic(auto, using(crate::proofs::PartLemmas::rows_read), unfolding(crate::specs::Scrypt::part))]
     pub fn read(block: &[u32], i: usize) -> Part
         requires block { length block.now ≡ 256 }
         requires i { i < 16 }

@@ -19,6 +19,7 @@ pub(crate) fn block_count(log: u32) -> usize
 }
 
 /// Writes the exclusive or of two blocks over a third.
+#[tactic(auto, using(crate::proofs::PartLemmas::xored_parts))]
 fn xor_blocks(x: &[u32], y: &[u32], to: &mut [u32])
     requires x { length x.now ≡ 256 }
     requires y { length y.now ≡ 256 }

@@ -5,6 +5,7 @@ ghost use Rattle.age_scrypt.specs.Scrypt.{words_of, bytes_of};
 
 use byteorder::{ByteOrder, LittleEndian};
 
+#[tactic(auto, using(crate::proofs::RomixLemmas::words_all))]
 pub(crate) fn read_words(bytes: &[u8; 1024], words: &mut [u32])
     requires { length words.old ≡ 256 }
     ensures { words.new ≡ words_of bytes.now }

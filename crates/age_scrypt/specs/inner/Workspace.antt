@@ -37,12 +37,9 @@ transpose x =
 
 -- a quarter round on each lane of four vectors
 abbrev pub quarters : List ℕ → List ℕ → List ℕ → List ℕ → List (ℕ × ℕ × ℕ × ℕ)
-quarters [] _ _ _ = []
-quarters (a ∷ rest_a) [] _ _ = []
-quarters (a ∷ rest_a) (b ∷ rest_b) [] _ = []
-quarters (a ∷ rest_a) (b ∷ rest_b) (c ∷ rest_c) [] = []
 quarters (a ∷ rest_a) (b ∷ rest_b) (c ∷ rest_c) (d ∷ rest_d) =
     quarter a b c d ∷ quarters rest_a rest_b rest_c rest_d
+quarters _ _ _ _ = []
 
 -- ---- A block that is kept with the diagonals of each part in place of its rows.
 

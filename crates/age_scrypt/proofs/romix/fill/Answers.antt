@@ -1,10 +1,9 @@
-use Rattle.std.proofs.Common.{◌≡◌, ◌+◌, ◌-◌, ◌*◌, ◌++◌, ℕ, List, length, take, drop, refl, sym, subst, ap, arith}
+use Rattle.std.proofs.Common.{◌≡◌, ◌+◌, ◌-◌, ◌*◌, ◌++◌, ℕ, List, length, take, drop, refl, ap, arith, add-one}
 use Rattle.std.proofs.lemmas.List.{length-append}
 use Rattle.std.proofs.lemmas.Slice.{pushed}
 use Rattle.age_scrypt.specs.Scrypt.{part, v_block}
-use Rattle.age_scrypt.specs.inner.Workspace.{IsTurned}
 use Rattle.age_scrypt.proofs.PartLemmas.{part-append_right}
-use Rattle.age_scrypt.proofs.RomixLemmas.{table_more, mixed_times_more}
+use Rattle.age_scrypt.proofs.RomixLemmas.{table_more}
 use Rattle.age_scrypt.proofs.romix.fill.Goals as goal
 
 pub loop-i-init : goal.loop-i-init
@@ -18,24 +17,21 @@ loop-i-init c = record {
 }
 
 pub loop-i-preserved : goal.loop-i-preserved
-unfolding part
+unfolding part v_block
 loop-i-preserved c =
     let inv = c.loop-i.invariant in
     let i : ℕ = c.loop-i.i in
     let x : List ℕ = c.loop-i.x in
     let table : List ℕ = c.loop-i.table.items in
-    let x_len : length x ≡ 256 = omega arith in
     let len : length table ≡ 256 * i = omega (arith, c.loop-i.table.ok.0, inv.len) in
     let items : c.extend_from_slice.new.self.items ≡ table ++ x = pushed x refl c.unwrap.ensures c.extend_from_slice.ensures.items in
     let width : 256 * i + 256 - 256 * i ≡ 256 = omega arith in
     let from : take (256 * i + 256 - 256 * i) (drop (256 * i) c.deref.result.now) ≡ x =
-    rw (width, c.deref.ensures.value, items) (part-append_right 256 table x i len x_len) in
+    rw (width, c.deref.ensures.value, items) (part-append_right 256 table x i len (omega arith)) in
     record {
       room = omega (arith, c.extend_from_slice.ensures.capacity);
       len = omega (arith, c.deref.ensures.len, ap length c.deref.ensures.value, ap length items, length-append table x);
-      table = λ b t. rw items (table_more b i table x len x_len (inv.table b t) (inv.x b t));
-      x = λ b t. mixed_times_more b c.block_mix.new.to i
-          (c.block_mix.ensures.mixed (v_block b i)
-          (subst (IsTurned (v_block b i)) (sym from) (inv.x b t)));
+      table = λ b t. rw items (table_more b i table x len (omega arith) (inv.table b t) (inv.x b t));
+      x = λ b t. rw add-one (c.block_mix.ensures.mixed _ (rw (← from) at (inv.x b t)));
       counted = omega arith;
     }
