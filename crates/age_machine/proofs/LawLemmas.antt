@@ -3,10 +3,10 @@ use Rattle.std.proofs.Common.{◌≡◌, ◌⊎◌, inl, inr, ⊎_elim, ℕ, ◌
 use Rattle.std.proofs.Common.{arith}
 use Rattle.std.proofs.lemmas.Bool.{false≢true}
 use Rattle.std.proofs.lemmas.List.{append-nil, drop_all}
-use Rattle.age_machine.specs.Calls.{FileCall, Made, Opened, Wrote, Cut, Synced, Linked, Renamed, Removed, SyncedNames, Locked}
+use Rattle.age_machine.specs.Calls.{Made, Opened, Wrote, Cut, Synced, Linked, Renamed, Removed, SyncedNames, Locked}
 use Rattle.age_machine.specs.declared.machine.Kind.TheVariants.{Regular}
 use Rattle.age_machine.specs.Disk.{Disk, at_path, written, after_call, after_calls, IsAmong, MayLead, MayLeave}
-use Rattle.age_machine.specs.Saves.{AllAnswered, AtEachMoment, SavesWhole, IsSafe}
+use Rattle.age_machine.specs.Saves.{AllAnswered, SavesWhole, IsSafe}
 use Rattle.age_machine.specs.Laws.{filled, renamed, linked, bare, bare_but, overwritten, put_out, HasOneLock}
 use Rattle.age_machine.proofs.DiskLemmas.{path_same, path_other, file_same, file_renamed, file_linked}
 use Rattle.age_machine.proofs.OutLemmas.{opened_beside}
@@ -68,8 +68,7 @@ module _ (n : ℕ) (from path bytes : List ℕ) (apart : from ≡ path → ⊥) 
   renamed_first saves =
       let all : saves.since ≡ SyncedNames path ∷ Synced n ∷ Renamed from path ∷ filled n from bytes =
       sym (append-nil saves.since) ∙ sym saves.are in
-      let each = subst (λ (l : List FileCall). AtEachMoment (λ calls. (left : Option (List ℕ)) → MayLeave (after_calls calls bare) path left
-      → MayLeave (after_calls [] bare) path left ⊎ (left ≡ Some bytes)) l []) all (saves.each bare (tt, (tt, (tt, answered)))) in
+      let each = rw all at (saves.each bare (tt, (tt, (tt, answered)))) in
       ⊎_elim never (garbage bytes) (each.1.1.0 (Some (0 ∷ bytes)) (torn n path bytes (after_call (Renamed from path) wrote) at_once (file_same n false begun.is_kept)))
 
   pub names_unwaited : IsSafe path bytes (Renamed from path ∷ Synced n ∷ filled n from bytes) → ⊥
@@ -79,11 +78,7 @@ module _ (n : ℕ) (from path bytes : List ℕ) (apart : from ≡ path → ⊥) 
         synced = after_call (Synced n) wrote
 
         before : (after_call (Renamed from path) synced).before path ≡ synced.file path ∷ synced.before path
-        before =
-            path_other from path (at_path path (synced.file from) synced.file from
-            ∷ at_path path (synced.file path ∷ synced.before path) synced.before from)
-            (at_path path (synced.file path ∷ synced.before path) synced.before) apart
-            ∙ path_same path (synced.file path ∷ synced.before path) synced.before
+        before = path_other from path _ (at_path path _ synced.before) apart ∙ path_same path (synced.file path ∷ synced.before path) synced.before
 
         old : {l : List (Option ℕ)} → synced.file path ∷ synced.before path ≡ l → IsAmong None l
         old same = subst (λ (l : List (Option ℕ)). IsAmong None l) same (inl (sym free))

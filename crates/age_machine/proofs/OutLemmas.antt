@@ -63,8 +63,7 @@ held_more path n opening call calls on held = record {
 
 pub held_one : (path : List ℕ) (n : ℕ) (opening call : FileCall) (old new : List FileCall) → IsOn path n call → new ≡ call ∷ old
     → StaysHeld path n opening old new
-held_one path n opening call old new on is held =
-    subst (IsHeld path n opening) (sym is) (held_more path n opening call old on held)
+held_one path n opening call old new on is held = rw is (held_more path n opening call old on held)
 
 pub held_named : (path : List ℕ) (n : ℕ) (opening : FileCall) (old new : List FileCall)
     → (new ≡ old) ⊎ Waited (SyncedNames path) (UnwaitedNames path) old new → StaysHeld path n opening old new
@@ -83,8 +82,7 @@ held_all path n opening (call ∷ since) old all held =
     held_more path n opening call (since ++ old) (on_of path n call all.0) (held_all path n opening since old all.1 held)
 
 pub held_about : (path : List ℕ) (n : ℕ) (opening : FileCall) (old new : List FileCall) → IsAbout n old new → StaysHeld path n opening old new
-held_about path n opening old new about held =
-    subst (IsHeld path n opening) (sym about.are) (held_all path n opening about.since old about.all held)
+held_about path n opening old new about held = rw about.are (held_all path n opening about.since old about.all held)
 
 -- ---- What is known by the call that opened it.
 
@@ -254,18 +252,12 @@ module _ (path : List ℕ) (n : ℕ) (opening : Opening) (is_stale is_lost is_cl
   some_claimed some = ⊎_elim out.claimed none (cases_Bool is_claimed) where
     none : is_claimed ≡ false → IsClaimed n calls
     none is =
-        absurd (omega (
-          arith,
-          some,
-          out.written,
-          ap (λ (l : List FileCall). length (text_of l)) (out.unclaimed is),
-          ap length (no_text path n opening),
-        ))
+        absurd (omega (arith, some, out.written, ap (λ (l : List FileCall). length (text_of l)) (out.unclaimed is), ap length (no_text path n opening)))
 
   pub out_wrote : (part : List ℕ) (sum now : ℕ) (later : List FileCall) → IsClaimed n calls → later ≡ Wrote n written part ∷ calls → 0 < length part
       → sum ≡ written + length part → now ≡ failed → IsOut path n call is_stale is_lost is_claimed sum now later
   out_wrote part sum now later claimed is some added same =
-      subst (IsOut path n call is_stale is_lost is_claimed sum now) (sym is) (record {
+      rw is (record {
         opened = contains_later (Wrote n written part) call calls out.opened;
         on = (refl, out.on);
         written =
@@ -286,7 +278,7 @@ module _ (path : List ℕ) (n : ℕ) (opening : Opening) (is_stale is_lost is_cl
   pub out_broke : (lost : Bool) (now : ℕ) (later : List FileCall) → IsClaimed n calls
       → later ≡ Broke n ∷ calls → failed < now → IsOut path n call is_stale lost is_claimed written now later
   out_broke lost now later claimed is more =
-      subst (IsOut path n call is_stale lost is_claimed written now) (sym is) (record {
+      rw is (record {
         opened = contains_later (Broke n) call calls out.opened;
         on = (refl, out.on);
         written = out.written;

@@ -191,33 +191,29 @@ module _ (path from : List ℕ) (n : ℕ) (old : List FileCall) where
   beside_all (call ∷ since) calls all beside = beside_of call (since ++ calls) all.0 (beside_all since calls all.1 beside)
 
   pub beside_about : (calls new : List FileCall) → IsBeside path from n old calls → IsAbout n calls new → IsBeside path from n old new
-  beside_about calls new beside about =
-      subst (IsBeside path from n old) (sym about.are) (beside_all about.since calls about.all beside)
+  beside_about calls new beside about = rw about.are (beside_all about.since calls about.all beside)
 
   -- right after it was made
   pub kept_made : (new : List FileCall) → IsLonger path from → new ≡ Made from n ∷ old → IsKept path from n old new
-  kept_made new longer made =
-      subst (IsKept path from n old) (sym made) there where
-        there : IsKept path from n old (Made from n ∷ old)
-        there = record {
-          beside = record {
-            has = record {
-              touches = record { since = Made from n ∷ []; are = refl; within = (longer, tt) };
-              made = contains_first (Made from n) [];
-            };
-            apart = longer.2;
-            saves = λ bytes. saves_quietly path bytes old (Made from n) old (saves_none path bytes old)
-                (λ disk answers. leaves_apart n path (after_calls old disk) (after_call (Made from n) (after_calls old disk))
-                (apart_made n path from (after_calls old disk) longer.2) answers.0.1);
-            spares =
-                spares_quietly path old (Made from n) old (spares_none path old) (λ disk answers m is.
-                (apart_made n path from (after_calls old disk) longer.2).file ∙ is);
-            file = λ disk answers. path_same from (Some n) (after_calls old disk).file;
-            elsewhere = λ disk answers may. let apart = apart_made n path from (after_calls old disk) longer.2 in
-                answers.0.1 (led _ _ _ _ (Some n) apart.file apart.before may);
-          };
-          sound = λ disk. file_same n false (after_calls old disk).is_lost;
-        }
+  kept_made new longer made = rw made (record {
+    beside = record {
+      has = record {
+        touches = record { since = Made from n ∷ []; are = refl; within = (longer, tt) };
+        made = contains_first (Made from n) [];
+      };
+      apart = longer.2;
+      saves = λ bytes. saves_quietly path bytes old (Made from n) old (saves_none path bytes old)
+          (λ disk answers. leaves_apart n path (after_calls old disk) (after_call (Made from n) (after_calls old disk))
+          (apart_made n path from (after_calls old disk) longer.2) answers.0.1);
+      spares =
+          spares_quietly path old (Made from n) old (spares_none path old) (λ disk answers m is.
+          (apart_made n path from (after_calls old disk) longer.2).file ∙ is);
+      file = λ disk answers. path_same from (Some n) (after_calls old disk).file;
+      elsewhere = λ disk answers may. let apart = apart_made n path from (after_calls old disk) longer.2 in
+          answers.0.1 (led _ _ _ _ (Some n) apart.file apart.before may);
+    };
+    sound = λ disk. file_same n false (after_calls old disk).is_lost;
+  })
 
 -- ---- Bytes that are put to a path.
 
@@ -306,7 +302,7 @@ pub writes_more : (n at m : ℕ) (bytes : List ℕ) (old new later : List FileCa
     → m ≤ length bytes - at → WritesOver n at bytes old new
     → later ≡ Wrote n at (take m (drop at bytes)) ∷ new → WritesOver n (at + m) bytes old later
 writes_more n at m bytes old new later begun within writes is =
-    subst (WritesOver n (at + m) bytes old) (sym is) (record {
+    rw is (record {
       sound = writes.sound;
       bytes = λ disk. file_same n _ (after_calls new disk).bytes ∙ (ap (λ (l : List ℕ). written at (take m (drop at bytes)) l) (writes.bytes disk)
           ∙ over at m bytes ((after_calls old disk).bytes n) begun within);
