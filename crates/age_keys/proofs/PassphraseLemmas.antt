@@ -13,7 +13,7 @@ use Rattle.age_stanza.specs.declared.header.Header.{Header}
 use Rattle.age_stanza.specs.declared.header.Stanza.{Stanza}
 use Rattle.base64.specs.GeneralPurpose.{IsBytes}
 use Rattle.age_keys.specs.declared.fault.KeyFault.{KeyFault}
-use Rattle.age_keys.specs.declared.fault.KeyFault.TheVariants.{WrongKey, ScryptNotAlone, BadScrypt, WorkTooHigh, NoMatch, MacMismatch, BadX25519, Memory}
+use Rattle.age_keys.specs.declared.fault.KeyFault.TheVariants.{WrongKey, ScryptNotAlone, BadScrypt, WorkTooHigh, NoMatch, Memory}
 use Rattle.age_keys.specs.Keys.{Counts, header_mac, wrapped_key, has_scrypt, IsMacOf, AllowsAlone}
 use Rattle.age_keys.specs.Scrypt.{PassphraseIdentity, IsPassphraseKey, PassphraseRefuses, wrap_key, IsWorkFactor, IsScryptStanza, OnlyScrypt, scrypt_stanza}
 use Rattle.age_keys.specs.Scrypt.{scrypt_head}
@@ -139,17 +139,12 @@ only_memory : (w : PassphraseIdentity) (h : Header) (key : List ℕ) (only : Onl
 only_memory w h key only wraps within typed ScryptNotAlone r = absurd (not_beside h only.stanza only.alone r)
 only_memory w h key only wraps within typed NoMatch r = absurd (false≢true (sym r ∙ typed))
 only_memory w h key only wraps within typed BadScrypt r = absurd (r.2 only)
-only_memory w h key only wraps within typed WorkTooHigh r =
-    let same = same_parts h r.0 only in
-    let above = r.1 in
-    let logs = same.logs in
-    absurd (omega arith)
+only_memory w h key only wraps within typed WorkTooHigh r = absurd (omega (arith, r.1, (same_parts h r.0 only).logs, within))
 only_memory w h key only wraps within typed WrongKey r =
     let same = same_parts h r.0 only in
     absurd (r.2 key (same.bodies ∙ wraps ∙ ap (λ (k : List ℕ). wrapped_key k key) (sym (ap₂ (wrap_key w.pass) same.salts same.logs))))
-only_memory w h key only wraps within typed MacMismatch r = absurd r
-only_memory w h key only wraps within typed BadX25519 r = absurd r
 only_memory w h key only wraps within typed Memory r = refl
+only_memory w h key only wraps within typed fault r = absurd r
 
 pub opens_alone : (w : PassphraseIdentity) (log : ℕ) (salt key : List ℕ) → 1 ≤ log → log ≤ 22 → log ≤ w.max_log → length salt ≡ 16 → IsBytes salt
     → length key ≡ 16 → AllowsAlone (IsPassphraseKey w) (PassphraseRefuses w) (scrypt_head w.pass log salt key) key

@@ -49,8 +49,7 @@ text_visible m fits = rw text-symbols (symbols_visible the_symbols m (λ i lt. v
 digits_visible : (ds : List ℕ) → AllDigits 10 ds → AllByRecursion IsVisible ds
 digits_visible [] h = tt
 digits_visible (c ∷ cs) h =
-    let range = digit_from_value c h.0 in
-    ((omega arith, omega arith), digits_visible cs h.1)
+    let range = digit_from_value c h.0 in ((omega arith, omega arith), digits_visible cs h.1)
 
 -- a work factor below a hundred has two digits at most
 factor_size : (log : ℕ) → log ≤ 22 → length (decimal log) ≤ 2
@@ -88,11 +87,13 @@ pub scrypt_size : (salt body : List ℕ) (log : ℕ) → length salt ≡ 16 → 
     → length (stanza_text (scrypt_stanza salt log body)) ≤ 100
 unfolding scrypt_stanza
 scrypt_size salt body log size body_size few =
-    let factor = factor_size log few in
-    let lines = length-body body in
-    let characters = length-text salt in
-    let whole = three_arguments (codes "scrypt") (base64_text salt) (decimal log) body in
-    omega arith
+    omega (
+      arith,
+      factor_size log few,
+      length-body body,
+      length-text salt,
+      three_arguments (codes "scrypt") (base64_text salt) (decimal log) body,
+    )
 
 -- a MAC of 32 bytes doesn't change the length
 pub size_of_one : (s : Stanza) (mac : List ℕ) → length mac ≡ 32

@@ -19,30 +19,24 @@ use Rattle.age_keys.specs.X25519.{IsX25519Stanza, Shared, shared_wrap_key, Stays
 -- two arguments; the first is the type
 pub two_arguments : (kind t : List ℕ) (args : List (List ℕ)) → has_type kind args ≡ true → 2 ≤ length args → length args < 3
     → t ≡ get_or args 1 t → args ≡ kind ∷ t ∷ []
-two_arguments kind t [] typed most least e = cc
-two_arguments kind t (a ∷ []) typed most least e = absurd (omega arith)
-two_arguments kind t (a ∷ b ∷ []) typed most least e = ap₂ (λ x y. x ∷ y ∷ []) ((bytes_eq-Decides a kind).0 typed) (sym e)
-two_arguments kind t (a ∷ b ∷ d ∷ rest) typed most least e = absurd (omega arith)
+two_arguments kind t (a ∷ b ∷ []) typed least most e = ap₂ (λ x y. x ∷ y ∷ []) ((bytes_eq-Decides a kind).0 typed) (sym e)
+two_arguments kind t args typed least most e = absurd (omega arith)
 
 -- three arguments; the first is the type
 pub three_arguments : (kind t u : List ℕ) (args : List (List ℕ)) → has_type kind args ≡ true → 3 ≤ length args → length args < 4
     → t ≡ get_or args 1 t → u ≡ get_or args 2 u → args ≡ kind ∷ t ∷ u ∷ []
-three_arguments kind t u [] typed most least e f = cc
-three_arguments kind t u (a ∷ []) typed most least e f = absurd (omega arith)
-three_arguments kind t u (a ∷ b ∷ []) typed most least e f = absurd (omega arith)
-three_arguments kind t u (a ∷ b ∷ c ∷ []) typed most least e f =
+three_arguments kind t u (a ∷ b ∷ c ∷ []) typed least most e f =
     ap₂ (λ (x : List ℕ) (y : List (List ℕ)). x ∷ y) ((bytes_eq-Decides a kind).0 typed) (ap₂ (λ x y. x ∷ y ∷ []) (sym e) (sym f))
-three_arguments kind t u (a ∷ b ∷ c ∷ d ∷ rest) typed most least e f = absurd (omega arith)
+three_arguments kind t u args typed least most e f = absurd (omega arith)
 
 -- a list of one
 pub only_one : (ss : List Stanza) (s : Stanza) → 1 ≤ length ss → length ss < 2 → s ≡ get_or ss 0 s → ss ≡ s ∷ []
-only_one [] s most least e = absurd (omega arith)
-only_one (t ∷ []) s most least e = ap (λ x. x ∷ []) (sym e)
-only_one (t ∷ u ∷ rest) s most least e = absurd (omega arith)
+only_one (t ∷ []) s least most e = ap (λ x. x ∷ []) (sym e)
+only_one ss s least most e = absurd (omega arith)
 
 -- and of a slice of them
 pub only_one_of : (ss items : List Stanza) (s : Stanza) → items ≡ ss → 1 ≤ length items → length items < 2 → s ≡ get_or items 0 s → ss ≡ s ∷ []
-only_one_of ss items s same most least e = sym same ∙ only_one items s most least e
+only_one_of ss items s same least most e = sym same ∙ only_one items s least most e
 
 -- nothing stands beside a stanza that is the only one
 pub not_beside : (h : Header) (s : Stanza) → h.stanzas ≡ s ∷ [] → ¬ IsScryptNotAlone h

@@ -22,24 +22,17 @@ pub test_from_digits : (ds : List ℕ) → AllDigits 10 ds → list_all is_ascii
 test_from_digits ds h = digits_model.from ds h
 
 value_of_digit : (c : ℕ) → IsInRange 48 57 c → digit_value c ≡ c - 48
-value_of_digit c h =
-    let low = h.0 in
-    let high = h.1 in
-    grind (arith, nat_tests)
+value_of_digit c h = grind (arith, nat_tests, h.0, h.1)
 
 -- one digit more, if both numbers stop at a limit
 pub next_number : (ds : List ℕ) (i m n : ℕ) → AllDigits 10 ds → i < length ds → n ≡ min (digits_value 10 (take i ds)) m
     → min (min (n * 10) m + (get_or ds i 0 - 48)) m ≡ min (digits_value 10 (take (i + 1) ds)) m
 next_number ds i m n all lt so_far =
-    let more = digits_value_more 10 ds i lt in
-    let digit = value_of_digit (get_or ds i 0) (digit_at ds i all lt) in
-    omega arith
+    omega (arith, so_far, digits_value_more 10 ds i lt, value_of_digit (get_or ds i 0) (digit_at ds i all lt))
 
 not_less : (n : ℕ) (ds : List ℕ) → n ≤ digits_value_after 10 n ds
 not_less n [] = omega arith
-not_less n (c ∷ cs) =
-    let rest = not_less (n * 10 + digit_value c) cs in
-    omega arith
+not_less n (c ∷ cs) = omega (arith, not_less (n * 10 + digit_value c) cs)
 
 -- if the first character is a zero
 pub zero_first : (ds : List ℕ) → take 1 ds ≡ 48 ∷ [] → get_or ds 0 0 ≡ 48
@@ -48,12 +41,13 @@ zero_first (d ∷ ds) e = cc
 
 -- a work factor is above zero
 pub work_factor_some : (ds : List ℕ) → IsWorkFactor ds → 1 ≤ digits_value 10 ds
-work_factor_some [] h =
-    let some = h.digits.0 in
-    absurd (omega arith)
+work_factor_some [] h = absurd (omega (arith, h.digits.0))
 work_factor_some (c ∷ cs) h =
     let range = digit_from_value c h.digits.1.0 in
-    let digit = value_of_digit c range in
     let other : c ≡ 48 → ⊥ = λ e. h.no_leading_zero (ap (λ (d : ℕ). d ∷ []) e) in
-    let rest = not_less (0 * 10 + digit_value c) cs in
-    omega arith
+    omega (arith, range.0, other, value_of_digit c range, not_less (0 * 10 + digit_value c) cs)
+
+-- what is known of characters that are tested, and of those that are read as a number
+pub ruleset digit_tests = (digits_from_test, test_from_digits, zero_first)
+
+pub ruleset digit_numbers = (next_number, digit_at)

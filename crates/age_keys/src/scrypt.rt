@@ -55,6 +55,7 @@ fn are_digits(characters: &[u8]) -> bool
 }
 
 /// Whether characters spell a work factor: decimal digits, and the first isn't zero.
+#[tactic(auto, using(crate::proofs::WorkFactorLemmas::digit_tests))]
 fn is_work_factor(characters: &[u8]) -> bool
     ensures { IsTrue result ↔ IsWorkFactor characters.now }
 {
@@ -65,6 +66,7 @@ fn is_work_factor(characters: &[u8]) -> bool
 }
 
 /// The number that the characters spell, or the greatest `u32` if it is above that.
+#[tactic(auto, using(crate::proofs::WorkFactorLemmas::digit_numbers))]
 fn number_of(characters: &[u8]) -> u32
     requires { IsWorkFactor characters.now }
     ensures { result ≡ min (digits_value 10 characters.now) 4294967295 }

@@ -20,48 +20,34 @@ returns-in_default-read-clause-answer c =
 pub wrap_key-requires-clause-least : goal.wrap_key-requires-clause-least
 wrap_key-requires-clause-least c =
     let read = c.in-Some.ensures.read in
-    let some = work_factor_some read.2.characters read.2.work_factor in
-    let is = read.2.log_is in
-    let log = read.1 in
-    omega arith
+    omega (arith, work_factor_some read.2.characters read.2.work_factor, read.2.log_is, read.1)
 
 pub returns-then-read-self-clause-answer : goal.returns-then-read-self-clause-answer
 returns-then-read-self-clause-answer c =
     let one = only_one_of _ _ c.stanza-item.result c.as_slice-stanzas.ensures c.in-len1.len_at_least c.in-len1.len_below c.stanza-item.is in
     let read = c.in-Some.ensures.read in
-    let least = read.1 in
-    let above = c.if-read-self.true in
-    rw (← c.self.view_is) (only_scrypt c.args.header.now c.stanza-item.result c.in-Some.read.salt read.0 c.in-Some.read.body one read.2, omega arith)
+    rw (← c.self.view_is) (only_scrypt c.args.header.now _ _ _ _ one read.2, omega (arith, read.1, c.if-read-self.true))
 
 pub returns-in_err-wrap_key-clause-answer : goal.returns-in_err-wrap_key-clause-answer
 returns-in_err-wrap_key-clause-answer c =
     let one = only_one_of _ _ c.stanza-item.result c.as_slice-stanzas.ensures c.in-len1.len_at_least c.in-len1.len_below c.stanza-item.is in
     let read = c.in-Some.ensures.read in
-    let least = read.1 in
-    let within = c.if-read-self.false in
-    let most = c.self.invariant.most_log in
     let p = err_from_is_err_and c.from_residual.result c.from_residual.ensures.1 in
     rw (p.1, p.2, c.in_err-wrap_key.ensures.memory, ← c.self.view_is)
-    (only_scrypt c.args.header.now c.stanza-item.result c.in-Some.read.salt read.0 c.in-Some.read.body one read.2, omega arith)
+    (only_scrypt c.args.header.now _ _ _ _ one read.2, omega (arith, read.1, c.if-read-self.false, c.self.invariant.most_log))
 
 pub returns-clause-answer : goal.returns-clause-answer
 returns-clause-answer c =
     let one = only_one_of _ _ c.stanza-item.result c.as_slice-stanzas.ensures c.in-len1.len_at_least c.in-len1.len_below c.stanza-item.is in
     let read = c.in-Some.ensures.read in
-    let least = read.1 in
-    let within = c.if-read-self.false in
-    let most = c.self.invariant.most_log in
-    let log_is : c.in-Some.read.log ≡ read.0 = omega arith in
-    let only = only_scrypt c.args.header.now c.stanza-item.result c.in-Some.read.salt read.0 c.in-Some.read.body one read.2 in
+    let log_is : c.in-Some.read.log ≡ read.0 = omega (arith, read.1, c.if-read-self.false, c.self.invariant.most_log) in
     rw (← c.self.view_is)
-    (found_or_wrong _ c.args.header.now only c.in_ok-wrap_key.wrap_key c.unwrapped_key.result c.ok_or.result (omega arith)
-    (c.in_ok-wrap_key.ensures.key ∙ ap (wrap_key c.self.inside.bytes.now c.in-Some.read.salt) log_is) c.unwrapped_key.ensures.key c.unwrapped_key.ensures.none
-    c.ok_or.ensures.value)
+    (found_or_wrong _ c.args.header.now (only_scrypt c.args.header.now _ _ _ _ one read.2) c.in_ok-wrap_key.wrap_key c.unwrapped_key.result c.ok_or.result
+    (omega (arith, log_is, c.if-read-self.false)) (c.in_ok-wrap_key.ensures.key ∙ ap (wrap_key c.self.inside.bytes.now c.in-Some.read.salt) log_is)
+    c.unwrapped_key.ensures.key c.unwrapped_key.ensures.none c.ok_or.ensures.value)
 
 pub returns-clause-counted : goal.returns-clause-counted
 returns-clause-counted c =
-    let within = c.if-read-self.false in
-    let fewer : 2 ^ c.in-Some.read.log ≤ 2 ^ c.self.inside.max_log = pow_mono (omega arith) in
-    let counted = c.in_ok-wrap_key.ensures.counted in
-    rw (← c.self.view_is)
-    (was_tried _ c.unwrapped_key.result c.ok_or.result c.args.steps.now c.wrap_key.new.steps (omega arith) c.ok_or.ensures.value)
+    let fewer : 2 ^ c.in-Some.read.log ≤ 2 ^ c.self.inside.max_log = pow_mono (omega (arith, c.if-read-self.false)) in
+    rw (← c.self.view_is) (was_tried _ c.unwrapped_key.result c.ok_or.result c.args.steps.now c.wrap_key.new.steps
+    (omega (arith, fewer, c.in_ok-wrap_key.ensures.counted)) c.ok_or.ensures.value)
