@@ -43,6 +43,7 @@ fn place_of(x: &[u32], n: usize) -> usize
 }
 
 /// Fills a table that has room for `n` turned blocks: block `i` is `x` mixed `i` times.
+#[tactic(auto, unfolding(crate::specs::Scrypt::v_block))]
 fn fill(table: &mut Vec<u32>, x: &mut [u32], n: usize, steps: &mut Steps)
     requires count { IsCount n }
     requires table { HasTableRoom n table.old }
@@ -58,6 +59,7 @@ fn fill(table: &mut Vec<u32>, x: &mut [u32], n: usize, steps: &mut Steps)
 }
 
 /// Looks up as many blocks as the table has.
+#[tactic(auto, unfolding(crate::specs::Scrypt::x_block))]
 fn look_up(table: &[u32], x: &mut [u32], y: &mut [u32], n: usize, steps: &mut Steps)
     requires count { IsCount n }
     requires table { length table.now ≡ 256 * n }

@@ -65,6 +65,7 @@ impl Steps {
 }
 
 /// Mixes a turned block of 256 words into another turned block, which is one step.
+#[tactic(auto, unfolding(crate::specs::Scrypt::x_part))]
 pub(crate) fn block_mix(from: &[u32], to: &mut [u32], steps: &mut Steps)
     requires from { length from.now ≡ 256 }
     requires to { length to.old ≡ 256 }

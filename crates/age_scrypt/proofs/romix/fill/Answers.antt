@@ -6,16 +6,6 @@ use Rattle.age_scrypt.proofs.PartLemmas.{part-append_right}
 use Rattle.age_scrypt.proofs.RomixLemmas.{table_more}
 use Rattle.age_scrypt.proofs.romix.fill.Goals as goal
 
-pub loop-i-init : goal.loop-i-init
-unfolding v_block
-loop-i-init c = record {
-  room = c.requires.table.room;
-  len = c.requires.table.empty;
-  table = λ b t. record { at = λ j h. absurd (omega arith) };
-  x = λ b t. t;
-  counted = omega arith;
-}
-
 pub loop-i-preserved : goal.loop-i-preserved
 unfolding part v_block
 loop-i-preserved c =

@@ -5,10 +5,6 @@ use Rattle.age_scrypt.proofs.PartLemmas.{xor_turned}
 use Rattle.age_scrypt.proofs.RomixLemmas.{table_at}
 use Rattle.age_scrypt.proofs.romix.look_up.Goals as goal
 
-pub loop-round-init : goal.loop-round-init
-unfolding x_block
-loop-round-init c = record { x = λ b t e. e; counted = omega arith }
-
 pub loop-round-preserved : goal.loop-round-preserved
 unfolding part x_block
 loop-round-preserved c =

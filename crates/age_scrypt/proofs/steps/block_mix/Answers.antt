@@ -5,10 +5,6 @@ use Rattle.age_scrypt.specs.inner.Workspace.{words, turned, IsTurned}
 use Rattle.age_scrypt.proofs.PartLemmas.{zip2-turned, length-part, length-chained, mixed_turned}
 use Rattle.age_scrypt.proofs.steps.block_mix.Goals as goal
 
-pub loop-i-init : goal.loop-i-init
-unfolding x_part
-loop-i-init c = record { x = λ b t. c.read-x.ensures ∙ t.at 15 (omega arith); to = λ b t j h. absurd (omega arith) }
-
 pub loop-i-preserved : goal.loop-i-preserved
 unfolding x_part
 loop-i-preserved c =
