@@ -248,9 +248,6 @@ module _ {E : Type 0} (to : Spot) (path bytes : List ℕ) (wanted : Durability) 
 
 -- ---- Calls about one file.
 
-pub about_none : (n : ℕ) (old : List FileCall) → IsAbout n old old
-about_none n old = record { since = []; are = refl; all = tt }
-
 pub about_more : (n : ℕ) (call : FileCall) (old new later : List FileCall) → IsAbout n old new
     → later ≡ call ∷ new → IsOf n call → IsAbout n old later
 about_more n call old new later about are of = record {
@@ -270,9 +267,12 @@ about_then n old mid new first second = record {
   all = all_append n first.since second.since first.all second.all;
 }
 
+pub about_first : (n : ℕ) (call : FileCall) (old new : List FileCall) → new ≡ call ∷ old → IsOf n call → IsAbout n old new
+about_first n call old new is of = record { since = call ∷ []; are = is; all = (of, tt) }
+
 pub about_waited : (n : ℕ) (old new : List FileCall) → Waited (Synced n) (Unwaited n) old new → IsAbout n old new
-about_waited n old new (inl synced) = about_more n (Synced n) old old new (about_none n old) synced refl
-about_waited n old new (inr unwaited) = about_more n (Unwaited n) old old new (about_none n old) unwaited refl
+about_waited n old new (inl synced) = about_first n (Synced n) old new synced refl
+about_waited n old new (inr unwaited) = about_first n (Unwaited n) old new unwaited refl
 
 -- ---- What is written.
 

@@ -122,6 +122,7 @@ pub(crate) fn settle<M: Machine>(
 }
 
 /// Fills a new file with room for what is to be written to it.
+#[tactic(auto, using(crate::proofs::SaveLemmas::about_then))]
 fn keep_room<M: Machine>(
     machine: &mut M,
     file: &M::File,

@@ -1,8 +1,0 @@
-use Rattle.age_machine.proofs.SaveLemmas.{about_then}
-use Rattle.age_machine.proofs.beside.keep_room.Goals as goal
-
-pub returns-in_err-settle-clause-about : goal.returns-in_err-settle-clause-about
-returns-in_err-settle-clause-about g c = about_then _ _ _ _ c.write_all.ensures.about c.settle.ensures.about
-
-pub returns-clause-about : goal.returns-clause-about
-returns-clause-about g c = about_then _ _ _ _ c.write_all.ensures.about c.settle.ensures.about
