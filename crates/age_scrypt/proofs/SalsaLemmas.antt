@@ -64,34 +64,18 @@ length-transpose x = refl
 
 -- ---- rounds on the diagonals of sixteen words
 
--- the quarter rounds on the lanes of the diagonals
-abbrev diagonal_quarters : List ℕ → List (ℕ × ℕ × ℕ × ℕ)
-diagonal_quarters x = quarters (at_places x 0 5 10 15) (at_places x 4 9 14 3) (at_places x 8 13 2 7) (at_places x 12 1 6 11)
-
-record AreColumns (x : List ℕ) : Type 0 where
-  pub first : map (λ q. q.0) (diagonal_quarters x) ≡ at_places (columns x) 0 5 10 15
-  pub second : map (λ q. q.1) (diagonal_quarters x) ≡ at_places (columns x) 4 9 14 3
-  pub third : map (λ q. q.2) (diagonal_quarters x) ≡ at_places (columns x) 8 13 2 7
-  pub fourth : map (λ q. q.3) (diagonal_quarters x) ≡ at_places (columns x) 12 1 6 11
-
-diagonal_quarters_are_columns : (x : List ℕ) → length x ≡ 16 → AreColumns x
-unfolding columns
-diagonal_quarters_are_columns (x0 ∷ x1 ∷ x2 ∷ x3 ∷ x4 ∷ x5 ∷ x6 ∷ x7 ∷ x8 ∷ x9 ∷ x10 ∷ x11 ∷ x12 ∷ x13 ∷ x14 ∷ x15 ∷ []) len =
-    record { first = refl; second = refl; third = refl; fourth = refl }
-diagonal_quarters_are_columns x len = absurd (omega arith)
-
+-- the quarter rounds on the lanes of the diagonals are those of the columns
 pub columns_on_diagonals : (x : List ℕ) (p q : Part) → length x ≡ 16 → IsDiagonals x p → q.a ≡ map (λ q. q.0) (quarters p.a p.b p.c p.d)
     → q.b ≡ map (λ q. q.1) (quarters p.a p.b p.c p.d) → q.c ≡ map (λ q. q.2) (quarters p.a p.b p.c p.d)
     → q.d ≡ map (λ q. q.3) (quarters p.a p.b p.c p.d) → IsDiagonals (columns x) q
-columns_on_diagonals x p q len h a b c d =
-    let are = diagonal_quarters_are_columns x len in
-    let placed : quarters p.a p.b p.c p.d ≡ diagonal_quarters x = rw (h.a, h.b, h.c, h.d) refl in
-    record {
-      a = rw placed at a ∙ are.first;
-      b = rw placed at b ∙ are.second;
-      c = rw placed at c ∙ are.third;
-      d = rw placed at d ∙ are.fourth;
-    }
+unfolding columns
+columns_on_diagonals (x0 ∷ x1 ∷ x2 ∷ x3 ∷ x4 ∷ x5 ∷ x6 ∷ x7 ∷ x8 ∷ x9 ∷ x10 ∷ x11 ∷ x12 ∷ x13 ∷ x14 ∷ x15 ∷ []) p q len h a b c d = record {
+  a = rw (h.a, h.b, h.c, h.d) at a;
+  b = rw (h.a, h.b, h.c, h.d) at b;
+  c = rw (h.a, h.b, h.c, h.d) at c;
+  d = rw (h.a, h.b, h.c, h.d) at d;
+}
+columns_on_diagonals x p q len h a b c d = absurd (omega arith)
 
 pub length-words : (p : Part) → length (words p) ≡ 16
 length-words p = omega (arith, length-append {A = ℕ}, p.a_len, p.b_len, p.c_len, p.d_len)
