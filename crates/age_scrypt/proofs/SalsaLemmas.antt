@@ -26,16 +26,14 @@ abbrev pub xor_rotated_lanes : List ℕ → List ℕ → List ℕ → ℕ → Li
 xor_rotated_lanes b x y k = zip2 bit_xor b (map (λ sum. rotate_left w32 sum k) (zip2 add32 x y))
 
 -- a quarter round on each lane, as it is computed on vectors
-pub record IsQuarter (a b c d : List ℕ) : Type 0 where
-  pub second : xor_rotated_lanes b a d 7 ≡ map (λ q. q.1) (quarters a b c d)
-  pub third : xor_rotated_lanes c (map (λ q. q.1) (quarters a b c d)) a 9 ≡ map (λ q. q.2) (quarters a b c d)
-  pub fourth : xor_rotated_lanes d (map (λ q. q.2) (quarters a b c d)) (map (λ q. q.1) (quarters a b c d)) 13 ≡ map (λ q. q.3) (quarters a b c d)
-  pub first : xor_rotated_lanes a (map (λ q. q.3) (quarters a b c d)) (map (λ q. q.2) (quarters a b c d)) 18 ≡ map (λ q. q.0) (quarters a b c d)
-
-pub quarter_lanes : (a b c d : List ℕ) → length a ≡ 4 → length b ≡ 4 → length c ≡ 4 → length d ≡ 4 → IsQuarter a b c d
+pub quarter_lanes : (a b c d a' b' c' d' : List ℕ) → length a ≡ 4 → length b ≡ 4 → length c ≡ 4 → length d ≡ 4
+    → b' ≡ xor_rotated_lanes b a d 7 → c' ≡ xor_rotated_lanes c b' a 9 → d' ≡ xor_rotated_lanes d c' b' 13 → a' ≡ xor_rotated_lanes a d' c' 18
+    → (a' ≡ map (λ q. q.0) (quarters a b c d)) × (b' ≡ map (λ q. q.1) (quarters a b c d)) × (c' ≡ map (λ q. q.2) (quarters a b c d))
+    × (d' ≡ map (λ q. q.3) (quarters a b c d))
 unfolding quarter
-quarter_lanes (a0 ∷ a1 ∷ a2 ∷ a3 ∷ []) (b0 ∷ b1 ∷ b2 ∷ b3 ∷ []) (c0 ∷ c1 ∷ c2 ∷ c3 ∷ []) (d0 ∷ d1 ∷ d2 ∷ d3 ∷ []) _ _ _ _ = record { second = refl; third = refl; fourth = refl; first = refl }
-quarter_lanes a b c d a_len b_len c_len d_len = absurd (omega arith)
+quarter_lanes (a0 ∷ a1 ∷ a2 ∷ a3 ∷ []) (b0 ∷ b1 ∷ b2 ∷ b3 ∷ []) (c0 ∷ c1 ∷ c2 ∷ c3 ∷ []) (d0 ∷ d1 ∷ d2 ∷ d3 ∷ []) a' b' c' d' _ _ _ _ second third fourth first =
+    rw (first, fourth, third, second) (refl, refl, refl, refl)
+quarter_lanes a b c d a' b' c' d' a_len b_len c_len d_len second third fourth first = absurd (omega arith)
 
 -- the rows are the columns of the transpose
 pub transpose-columns_of-transpose : (x : List ℕ) → length x ≡ 16 → transpose (columns (transpose x)) ≡ rows x
