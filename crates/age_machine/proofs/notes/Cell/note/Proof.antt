@@ -1,5 +1,4 @@
--- An action is noted: the code does nothing, and the walk gives the borrow back with one more
--- event.
+-- Calls are noted: the code does nothing, and the walk gives the borrow back with the calls after that.
 use Rattle.std.proofs.Common.{[], ◌∷◌, refl}
 use Rattle.std.proofs.raw_atomic.Walks.{proved}
 use Rattle.age_machine.specs.inner.Notes.{calls_after}
@@ -21,7 +20,7 @@ use Rattle.age_machine.specs.contracts.notes.Cell.note as f
 use Rattle.age_machine.proofs.notes.Cell.note.Statement.{statement}
 use Rattle.age_machine.proofs.notes.Cell.note.Code as code
 
--- the action, under its reference
+-- the note, under its reference
 abbrev borrowed : Slot 3
 borrowed = shr_ref_to (1 ∷ []) tt (plain (λ κs. Note (named_lft 3 2 tt κs)))
 
