@@ -1,5 +1,5 @@
 -- What any calls do to a reader, whether it is given blocks or, by a stream, pieces.
-use Rattle.std.proofs.Common.{inl, inr, ◌≡◌, ◌≢◌, ℕ, ◌+◌, ◌*◌, ◌<◌, ◌≤◌, refl, ap, sym, subst, ◌∙◌, arith, List, [], ◌∷◌, ◌++◌, length, take, drop, Bool, true}
+use Rattle.std.proofs.Common.{inl, inr, ◌≡◌, ◌≢◌, ℕ, zero, suc, ◌+◌, ◌-◌, ◌*◌, ◌<◌, ◌≤◌, refl, ap, sym, subst, ◌∙◌, arith, List, [], ◌∷◌, ◌++◌, length, take, drop, Bool, true}
 use Rattle.std.proofs.Common.{false}
 use Rattle.std.specs.Prelude.{◌==◌, ◌&&◌, ◌⊎◌, nat_le, if◌then◌else◌, Some, Option, is_some}
 use Rattle.std.specs.List.{flat_map, AllByRecursion}
@@ -74,33 +74,20 @@ fault_from n some = fault_by n (nat_le 17 n && nat_le n 22) refl some
 abbrev IsRefused : ℕ → ℕ → Type 0
 IsRefused n chunk = (f : StreamFault) × (reader_status n chunk ≡ Some (Failed f))
 
-refused_last : (n chunk : ℕ) → (n ≡ 20) ⊎ ((n ≡ 21) ⊎ (n ≡ 22)) → IsRefused n chunk
-refused_last n chunk (inl is) = (record { kind = Truncated; chunk = chunk }, ap (λ (m : ℕ). reader_status m chunk) is)
-refused_last n chunk (inr (inl is)) = (record { kind = Trailing; chunk = chunk }, ap (λ (m : ℕ). reader_status m chunk) is)
-refused_last n chunk (inr (inr is)) = (record { kind = TooManyChunks; chunk = chunk }, ap (λ (m : ℕ). reader_status m chunk) is)
-
-refused_first : (n chunk : ℕ) → (n ≡ 17) ⊎ ((n ≡ 18) ⊎ (n ≡ 19)) → IsRefused n chunk
-refused_first n chunk (inl is) = (record { kind = ChunkDamaged; chunk = chunk }, ap (λ (m : ℕ). reader_status m chunk) is)
-refused_first n chunk (inr (inl is)) = (record { kind = ChunkCut; chunk = chunk }, ap (λ (m : ℕ). reader_status m chunk) is)
-refused_first n chunk (inr (inr is)) = (record { kind = EmptyLast; chunk = chunk }, ap (λ (m : ℕ). reader_status m chunk) is)
-
-three : (n k : ℕ) → k ≤ n → n ≤ k + 2 → (n ≡ k) ⊎ ((n ≡ k + 1) ⊎ (n ≡ k + 2))
-three n k least most =
-    elim (cases_lt n (k + 1)) [
-      | inl lt ↦ inl (omega (arith, lt, least))
-      | inr ge ↦ inr (elim (cases_lt n (k + 2)) [
-        | inl lt ↦ inl (omega (arith, lt, ge))
-        | inr le ↦ inr (omega (arith, le, most))
-      ])
-    ]
+refused_at : (k chunk : ℕ) → k ≤ 5 → IsRefused (17 + k) chunk
+refused_at zero chunk le = (record { kind = ChunkDamaged; chunk = chunk }, refl)
+refused_at (suc zero) chunk le = (record { kind = ChunkCut; chunk = chunk }, refl)
+refused_at (suc (suc zero)) chunk le = (record { kind = EmptyLast; chunk = chunk }, refl)
+refused_at (suc (suc (suc zero))) chunk le = (record { kind = Truncated; chunk = chunk }, refl)
+refused_at (suc (suc (suc (suc zero)))) chunk le = (record { kind = Trailing; chunk = chunk }, refl)
+refused_at (suc (suc (suc (suc (suc zero))))) chunk le = (record { kind = TooManyChunks; chunk = chunk }, refl)
+refused_at (suc (suc (suc (suc (suc (suc k)))))) chunk le = absurd (omega arith)
 
 pub refused_of : (n chunk : ℕ) → answer_of n ≢ 0 → IsRefused n chunk
 refused_of n chunk some =
     let fault = fault_from n some in
-    elim (cases_lt n 20) [
-      | inl lt ↦ refused_first n chunk (three n 17 fault.least (omega (arith, lt)))
-      | inr le ↦ refused_last n chunk (three n 20 le (omega (arith, fault.most)))
-    ]
+    let is : 17 + (n - 17) ≡ n = omega (arith, fault.least) in
+    subst (λ (m : ℕ). IsRefused m chunk) is (refused_at (n - 17) chunk (omega (arith, fault.most)))
 
 -- ---- Segments.
 
@@ -209,9 +196,9 @@ text_after k (c ∷ calls) s known =
 -- an end that answers 0 is done
 done_after : (k : List ℕ) (before : List Call) (last : Call) (s : Segment) → AreKnown k s (before ++ last ∷ []) → last.is_end ≡ true
     → last.answer ≡ 0 → (outcome (opens k) chunk_length (segment_from s (before ++ last ∷ []))).status ≡ Done
-done_after k [] last s known is_end zero =
-    some_is (sym known.0.status ∙ ap (λ (n : ℕ). reader_status n last.after.fault_chunk) (known.0.done is_end zero))
-done_after k (c ∷ before) last s known is_end zero = done_after k before last (next c s) known.1 is_end zero
+done_after k [] last s known is_end ok =
+    some_is (sym known.0.status ∙ ap (λ (n : ℕ). reader_status n last.after.fault_chunk) (known.0.done is_end ok))
+done_after k (c ∷ before) last s known is_end ok = done_after k before last (next c s) known.1 is_end ok
 
 -- of a call among others: its answer, and that all of them have its fault
 record IsOneOf (k : List ℕ) (whole : Segment) (c : Call) : Type 0 where
@@ -326,15 +313,15 @@ module _ (r : Reader) (start : ℕ) (limit : start < chunk_limit) (calls : List 
 
   all_written : AreCallsAuthentic r text start calls → (before : List Call) (last : Call)
       → calls ≡ before ++ last ∷ [] → last.is_end ≡ true → last.answer ≡ 0 → (texts_of calls ≡ there) × (start * chunk_length ≤ length text)
-  all_written authentic before last parts is_end zero =
+  all_written authentic before last parts is_end ok =
       all_there (right authentic) (subst (λ (cs : List Call). (outcome (opens k) chunk_length (given_by start cs)).status ≡ Done) (sym parts)
-      (done_after k before last (fresh start) (subst (AreKnown k (fresh start)) parts known) is_end zero))
+      (done_after k before last (fresh start) (subst (AreKnown k (fresh start)) parts known) is_end ok))
 
   -- ---- the undamaged payload
 
   zero_by : status ≡ Done → (c : Call) → IsOneOf k s c → ((c.answer == 0) ≡ true) × (c.answer ≡ 0) ⊎ ((c.answer == 0) ≡ false) × (c.answer ≢ 0)
       → c.answer ≢ misused → c.answer ≡ 0
-  zero_by done c is (inl zero) other = zero.1
+  zero_by done c is (inl ok) other = ok.1
   zero_by done c is (inr some) other =
       let fault = refused_whole k s c is other some.1 in
       let no : Done ≡ Failed fault.0 = sym done ∙ fault.1 in

@@ -4,12 +4,11 @@ use Rattle.std.specs.Prelude.{Some, min, ◌-◌}
 use Rattle.std.specs.List.{flat_map}
 use Rattle.std.proofs.lemmas.Bool.{cases_lt, false≢true}
 use Rattle.std.proofs.lemmas.List.{append-nil, length-take, nil_from_length}
-use Rattle.std.proofs.Math.Bool.{or-false}
 use Rattle.age_chunk.specs.Payload.{block_length, chunk_length, payload}
 use Rattle.age_keys.specs.Keys.{box, unbox}
 use Rattle.age_stream.specs.Segment.{Segment, Outcome, fresh, outcome, released, with_end, with_piece}
 use Rattle.age_stream.specs.declared.step.Status.TheVariants.{Open}
-use Rattle.age_stream.proofs.GoingLemmas.{going, going_part}
+use Rattle.age_stream.proofs.GoingLemmas.{going, going_part, nothing}
 use Rattle.age_stream.proofs.LawLemmas.{pieces_join}
 use Rattle.age_c.specs.declared.reader.Reader.{Reader}
 use Rattle.age_c.specs.declared.stream.Stream.{Stream}
@@ -22,14 +21,9 @@ use Rattle.age_c.proofs.CallLemmas.{AreKnown, Timely, a_call, known_misused, kno
 use Rattle.age_c.proofs.ReaderLemmas.{key_same, some_is, unchanged}
 use Rattle.age_c.proofs.WriterLemmas.{payload_written, few_chunks}
 
-nil_by : (start : ℕ) (bytes : List ℕ) (ended late : Bool) → with_piece (record { start = start; bytes = bytes; ended = ended; late = late }) []
-    ≡ record { start = start; bytes = bytes; ended = ended; late = late }
-nil_by start bytes true late = ap (λ (l : Bool). record { start = start; bytes = bytes; ended = true; late = l }) (or-false late)
-nil_by start bytes false late = ap (λ (b : List ℕ). record { start = start; bytes = b; ended = false; late = late }) (append-nil bytes)
-
 -- no bytes change nothing
 piece_nil : (s : Segment) → with_piece s [] ≡ s
-piece_nil s = nil_by s.start s.bytes s.ended s.late
+piece_nil s = nothing s.start s.bytes s.ended s.late
 
 -- a part of a block releases nothing
 part_same : (r : Reader) (blocks : Segment) (part : List ℕ) → IsAt r blocks

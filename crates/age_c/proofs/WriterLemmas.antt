@@ -133,16 +133,14 @@ none_yet w h =
 
 pub idle_or_did : {State : Type 0} (old new : State) (before after : List ℕ) (answer written : ℕ)
     (Fits : Type 0) (Does : List ℕ → State → Type 0) (Why : ℕ → Type 0)
-    → Answers Fits (WritesOrRefuses Does Why old) old new answer written before after → ((answer == misused) ≡ true) × (answer ≡ misused)
-    ⊎ ((answer == misused) ≡ false) × (answer ≢ misused) → (answer ≢ 0 → (new ≡ old) × (take written after ≡ []))
-    × (answer ≡ 0 → Does (take written after) new)
-idle_or_did old new before after answer written Fits Does Why it (inl is) = (
-  λ some. (it.idle is.1, ap (λ (n : ℕ). take n after) (it.nothing some)),
-  λ zero. absurd (omega (arith, zero, is.1)),
-)
-idle_or_did old new before after answer written Fits Does Why it (inr other) = (
-  λ some. ((it.taken other.1).same some, ap (λ (n : ℕ). take n after) (it.nothing some)),
-  λ zero. (it.taken other.1).wrote zero,
+    → Answers Fits (WritesOrRefuses Does Why old) old new answer written before after
+    → (answer ≢ 0 → (new ≡ old) × (take written after ≡ [])) × (answer ≡ 0 → Does (take written after) new)
+idle_or_did old new before after answer written Fits Does Why it = (
+  λ some. (
+    elim (eqb_tells answer misused) [ inl is ↦ it.idle is.1 | inr other ↦ (it.taken other.1).same some ],
+    ap (λ (n : ℕ). take n after) (it.nothing some),
+  ),
+  λ zero. (it.taken (λ e. omega (arith, zero, e))).wrote zero,
 )
 
 -- ---- whole files
@@ -341,16 +339,14 @@ texts_are_files header key nonce front s calls last it =
 
 pub answers_are_text_calls : AnswersAreTextCalls
 answers_are_text_calls old new piece before after answer taken written = (
-  λ it none. let both = idle_or_did old new before after answer written _ _ _ it
-      (eqb_tells answer misused) in (
-        λ some. ((both.0 some).0, ap (λ (n : ℕ). take n piece) (none some), (both.0 some).1),
-        λ zero middle. (both.1 zero).takes,
-        λ zero is. absurd (false≢true is),
-      ),
-  λ it. let both = idle_or_did old new before after answer written _ _ _ it
-      (eqb_tells answer misused) in (
-        λ some. ((both.0 some).0, refl, (both.0 some).1),
-        λ zero middle. absurd (false≢true (sym middle)),
-        λ zero is. (refl, both.1 zero),
-      ),
+  λ it none. let both = idle_or_did old new before after answer written _ _ _ it in (
+    λ some. ((both.0 some).0, ap (λ (n : ℕ). take n piece) (none some), (both.0 some).1),
+    λ zero middle. (both.1 zero).takes,
+    λ zero is. absurd (false≢true is),
+  ),
+  λ it. let both = idle_or_did old new before after answer written _ _ _ it in (
+    λ some. ((both.0 some).0, refl, (both.0 some).1),
+    λ zero middle. absurd (false≢true (sym middle)),
+    λ zero is. (refl, both.1 zero),
+  ),
 )
