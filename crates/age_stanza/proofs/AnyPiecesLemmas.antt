@@ -9,11 +9,11 @@ use Rattle.age_stanza.specs.declared.header.Header.{Header}
 use Rattle.age_stanza.specs.declared.head_step.HeadStep.{HeadStep}
 use Rattle.age_stanza.specs.declared.head_step.HeadStep.TheVariants.{More, Ready}
 use Rattle.age_stanza.specs.declared.fault.HeadFault.{HeadFault}
-use Rattle.age_stanza.specs.Parsing.{memory_fault, FirstFault, HasHeader, IsLineFault, IsFault, Parsing, reading, complete, refused, IsOpen, FeedsParser}
+use Rattle.age_stanza.specs.Parsing.{memory_fault, Begins, FirstFault, HasHeader, IsLineFault, IsFault, Parsing, reading, complete, refused, IsOpen, FeedsParser}
 use Rattle.age_stanza.specs.Grammar.{line, Spells, HeadText}
 use Rattle.age_stanza.specs.Laws.{Fed, none, more, StandsFor}
-use Rattle.age_stanza.proofs.PlaceLemmas.{two_parts}
-use Rattle.age_stanza.proofs.FaultLemmas.{prefix_of}
+use Rattle.age_stanza.specs.inner.LineMachine.{Fails}
+use Rattle.age_stanza.proofs.FaultLemmas.{begins_front, prefix_of}
 
 -- ---- what more bytes leave as it was
 
@@ -59,11 +59,8 @@ no_text : (bytes before l : List ℕ) → FirstFault (take 1048576 bytes) before
     → front ≡ bytes ++ drop (length bytes) front → ⊥
 no_text bytes before l f h front text lt is =
     let within = text.within in
-    let all : take 1048576 bytes ≡ bytes = take_all 1048576 bytes (omega arith) in
-    let bytes-is : bytes ≡ before ++ (line l ++ f.rest) = sym all ∙ f.parts in
-    let grouped : front ≡ (before ++ line l) ++ (f.rest ++ drop (length bytes) front) =
-    is ∙ ap (λ (t : List ℕ). t ++ drop (length bytes) front) bytes-is ∙ two_parts before (line l) f.rest (drop (length bytes) front) in
-    f.faulty (h, f.rest ++ drop (length bytes) front, subst (Spells h) grouped text.spells)
+    let bytes-is : bytes ≡ (before ++ line l) ++ f.rest = sym (take_all 1048576 bytes (omega arith)) ∙ f.parts ∙ sym (append_assoc before (line l) f.rest) in
+    f.faulty (begins_front (before ++ line l) f.rest (subst Begins bytes-is (h, drop (length bytes) front, subst (Spells h) is text.spells)))
 
 pub more_fault : (bytes piece : List ℕ) (fault : HeadFault) → (HasHeader bytes → ⊥) → IsFault bytes fault → (HasHeader (bytes ++ piece) → ⊥)
     × IsFault (bytes ++ piece) fault
@@ -76,6 +73,14 @@ more_fault bytes piece fault inside (inr f) =
       inr (rw same f.0, rw same f.1, rw same' f.2),
     )
 
+more_fails : (bytes piece : List ℕ) (fault : HeadFault) → (fault ≡ memory_fault) ⊎ ((HasHeader bytes → ⊥) × IsFault bytes fault)
+    → (fault ≡ memory_fault) ⊎ ((HasHeader (bytes ++ piece) → ⊥) × IsFault (bytes ++ piece) fault)
+more_fails bytes piece fault (inl memory) = inl memory
+more_fails bytes piece fault (inr f) = inr (more_fault bytes piece fault f.0 f.1)
+
+pub fails_more : (bytes piece : List ℕ) (fault : HeadFault) → Fails fault bytes → Fails fault (bytes ++ piece)
+fails_more bytes piece fault fails = record { why = more_fails bytes piece fault fails.why }
+
 -- ---- one piece more
 
 grown : (pieces : List (List ℕ)) (piece : List ℕ) → concat (pieces ++ piece ∷ []) ≡ concat pieces ++ piece
@@ -84,23 +89,17 @@ grown (p ∷ pieces) piece = ap (λ (t : List ℕ). p ++ t) (grown pieces piece)
 
 step_stands : (bytes piece : List ℕ) (old new : Parsing) (result : Result HeadStep HeadFault) → StandsFor old bytes → IsOpen old → FeedsParser old piece result new
     → StandsFor new (bytes ++ piece)
-step_stands bytes piece (reading held) new (Ok More) e is-open f = subst (λ (p : Parsing). StandsFor p (bytes ++ piece)) (sym f.0)
-    (ap (λ (t : List ℕ). t ++ piece) e)
-step_stands bytes piece (reading held) new (Ok (Ready taken h)) e is-open f = subst (λ (p : Parsing). StandsFor p (bytes ++ piece)) (sym f.0) (
+step_stands bytes piece (reading held) new (Ok More) e is-open f = rw (f.0) (ap (λ (t : List ℕ). t ++ piece) e)
+step_stands bytes piece (reading held) new (Ok (Ready taken h)) e is-open f = rw (f.0) (
   h,
   held ++ take taken piece,
   drop taken piece,
   f.2,
-  ap (λ (t : List ℕ). t ++ piece) (sym e)
-      ∙ ap (λ (t : List ℕ). held ++ t) (sym (take-append-drop taken piece)) ∙ sym (append_assoc held (take taken piece) (drop taken piece)),
+  rw (← e, append_assoc, take-append-drop) refl,
 )
-step_stands bytes piece (reading held) new (Err fault) e is-open f =
-    subst (λ (p : Parsing). StandsFor p (bytes ++ piece)) (sym f.0)
-    (subst (λ (b : List ℕ). (fault ≡ memory_fault) ⊎ ((HasHeader (b ++ piece) → ⊥) × IsFault (b ++ piece) fault)) e f.1)
+step_stands bytes piece (reading held) new (Err fault) e is-open f = rw (f.0, ← e) f.1
 step_stands bytes piece complete new result e is-open f = absurd (is-open refl)
-step_stands bytes piece (refused fault) new result (inl memory) is-open f = subst (λ (p : Parsing). StandsFor p (bytes ++ piece)) (sym f.1) (inl memory)
-step_stands bytes piece (refused fault) new result (inr e) is-open f = subst (λ (p : Parsing). StandsFor p (bytes ++ piece)) (sym f.1)
-    (inr (more_fault bytes piece fault e.0 e.1))
+step_stands bytes piece (refused fault) new result fails is-open f = rw (f.1) (more_fails bytes piece fault fails)
 
 pub any_pieces : {pieces : List (List ℕ)} {parser : Parsing} → Fed pieces parser → StandsFor parser (concat pieces)
 any_pieces none = refl

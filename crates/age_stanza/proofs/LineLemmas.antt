@@ -1,19 +1,21 @@
 -- The lines of a header: a body's, an argument line, an end line.
-use Rattle.std.proofs.Common.{◌≡◌, ℕ, zero, suc, ◌<◌, ◌≤◌, ◌+◌, ◌*◌, ◌/◌, ◌%◌, Bool, true, false, cond, leb, eqb, nat_eq, ◌&&◌, List, [], ◌∷◌, ◌++◌, length}
+use Rattle.std.proofs.Common.{◌≡◌, ℕ, zero, suc, ◌<◌, ◌≤◌, ◌+◌, ◌*◌, ◌/◌, ◌%◌, Bool, true, false, cond, ltb, eqb, nat_eq, List, [], ◌∷◌, ◌++◌, length}
 use Rattle.std.proofs.Common.{take, drop, Option, Some, None, refl, sym, ap, subst, ◌∙◌, arith, inl, inr}
 use Rattle.std.specs.Prelude.{codes, ◌⊎◌}
-use Rattle.std.specs.List.{flat_map, AllByRecursion, starts_with}
-use Rattle.std.proofs.lemmas.Bool.{eqb-true, eqb-false, eq-eqb, ne_eqb, leb-true, le-leb, and_parts, and_from}
+use Rattle.std.specs.List.{flat_map, list_all, join_with_byte, AllByRecursion, starts_with}
+use Rattle.std.proofs.lemmas.Bool.{eqb-true, eq-eqb, ne_eqb, ltb-true, lt-ltb, and_parts, and_from}
 use Rattle.std.proofs.lemmas.Bool.Decides.{Decides-eqb}
 use Rattle.std.specs.Simd.{first_chunks}
 use Rattle.std.proofs.lemmas.List.{append-nil, append_assoc, length-append, length-take, length-drop, take_at, drop_at, drop-drop, take-append-drop}
-use Rattle.std.proofs.lemmas.List.Concat.{flat_map-append}
+use Rattle.std.proofs.lemmas.List.Elements.{All-from_recursion}
+use Rattle.std.proofs.lemmas.List.Splits.{join_with_byte-slice_split, length-slice_split, slice_split_at, slice_split_none}
 use Rattle.std.proofs.lemmas.Slice.Eq.{starts_is}
 use Rattle.std.proofs.lemmas.Option.{cond_some}
 use Rattle.base64.specs.GeneralPurpose.{IsBytes}
-use Rattle.age_stanza.specs.inner.LineMachine.{whole_lines, base64_bytes, arguments_from, arguments_of, mac_of, whole_mac}
+use Rattle.age_stanza.specs.inner.LineMachine.{whole_lines, base64_bytes, at_spaces, tests_argument, arguments_from, arguments_of, mac_of, whole_mac}
 use Rattle.age_stanza.specs.Text.{base64_text}
 use Rattle.age_stanza.specs.Grammar.{line, IsArgument, argument_line, in_lines, end_line}
+use Rattle.age_stanza.proofs.ElementLemmas.{visible_from_test, test_from_visible}
 use Rattle.age_stanza.proofs.TextLemmas.{text_of_decoded, decoded-text, IsBytes-drop, text-append, length-text}
 
 -- ---- a test that was passed or not
@@ -27,7 +29,7 @@ pub by_test : {A : Type 0} (P : A → Type 0) (b : Bool) (x y : A) → (b ≡ tr
 by_test P true x y f g = f refl
 by_test P false x y f g = g refl
 
-tested : (b : Bool) → (b ≡ true) ⊎ (b ≡ false)
+pub tested : (b : Bool) → (b ≡ true) ⊎ (b ≡ false)
 tested true = inl refl
 tested false = inr refl
 
@@ -142,130 +144,90 @@ pub All-back : {X : Type 0} (P : X → Type 0) (xs ys : List X) → AllByRecursi
 All-back P [] ys f = f
 All-back P (x ∷ xs) ys f = All-back P xs ys f.1
 
-spaced_word : (done : List (List ℕ)) (word : List ℕ) → spaced (done ++ word ∷ []) ≡ spaced done ++ 32 ∷ word
-spaced_word done word = flat_map-append (λ a. 32 ∷ a) done (word ∷ []) ∙ ap (λ (w : List ℕ). spaced done ++ 32 ∷ w) (append-nil word)
+-- a visible character is none of those below
+pub visible_other : (mark : ℕ) (w : List ℕ) → mark < 33 → AllByRecursion IsVisible w → AllByRecursion (λ c. c ≡ mark → ⊥) w
+visible_other mark [] low seen = tt
+visible_other mark (c ∷ w) low seen = (let visible = seen.0.0 in λ e. omega (arith, visible), visible_other mark w low seen.1)
 
-some_length : (word : List ℕ) → eqb (length word) 0 ≡ false → 0 < length word
-some_length word e =
-    let ne = eqb-false (length word) 0 e in
-    omega arith
+no_space : (w : List ℕ) → AllByRecursion (λ c. c ≡ 32 → ⊥) w → AllByRecursion (λ c. eqb c 32 ≡ false) w
+no_space [] other = tt
+no_space (c ∷ w) other = (ne_eqb c 32 other.0, no_space w other.1)
 
-arguments_sound : (done : List (List ℕ)) (word cs : List ℕ) (args : List (List ℕ)) → AllByRecursion IsArgument done → AllByRecursion IsVisible word
-    → arguments_from done word cs ≡ Some args
-    → (spaced done ++ (32 ∷ (word ++ cs)) ≡ spaced args) × (0 < length args) × AllByRecursion IsArgument args
+pub words_next : (w rest : List ℕ) → AllByRecursion (λ c. c ≡ 32 → ⊥) w → at_spaces (w ++ 32 ∷ rest) ≡ w ∷ at_spaces rest
+words_next w rest other = slice_split_at (λ c. eqb c 32) w 32 rest (All-from_recursion _ w (no_space w other)) refl
+
+pub words_last : (w : List ℕ) → AllByRecursion (λ c. c ≡ 32 → ⊥) w → at_spaces w ≡ w ∷ []
+words_last w other = slice_split_none (λ c. eqb c 32) w (All-from_recursion _ w (no_space w other))
+
+-- the words of a line are the line
+spaced_joined : (w : List ℕ) (ws : List (List ℕ)) → spaced (w ∷ ws) ≡ 32 ∷ join_with_byte 32 (w ∷ ws)
+spaced_joined w [] = ap (λ (t : List ℕ). 32 ∷ t) (append-nil w)
+spaced_joined w (v ∷ vs) = ap (λ (t : List ℕ). 32 ∷ (w ++ t)) (spaced_joined v vs)
+
+spaced_words : (l : List ℕ) (ws : List (List ℕ)) → at_spaces l ≡ ws → (spaced ws ≡ 32 ∷ l) × (0 < length ws)
+spaced_words l [] e = absurd (omega (arith, ap length e, length-slice_split (λ c. eqb c 32) l))
+spaced_words l (w ∷ ws) e = (
+  spaced_joined w ws ∙ ap (λ (t : List (List ℕ)). 32 ∷ join_with_byte 32 t) (sym e)
+      ∙ ap (λ (t : List ℕ). 32 ∷ t) (join_with_byte-slice_split 32 l),
+  omega arith,
+)
+
+words_spaced : (w : List ℕ) (ws : List (List ℕ)) → IsArgument w → AllByRecursion IsArgument ws → at_spaces (w ++ spaced ws) ≡ w ∷ ws
+words_spaced w [] valid all = ap at_spaces (append-nil w) ∙ words_last w (visible_other 32 w (omega arith) valid.1)
+words_spaced w (v ∷ vs) valid all =
+    words_next w (v ++ spaced vs) (visible_other 32 w (omega arith) valid.1) ∙ ap (λ (ws : List (List ℕ)). w ∷ ws) (words_spaced v vs all.0 all.1)
+
+argument_from_test : (w : List ℕ) → tests_argument w ≡ true → IsArgument w
+argument_from_test w e =
+    let parts = and_parts (ltb 0 (length w)) _ e in
+    (ltb-true 0 (length w) parts.0, visible_from_test w parts.1)
+
+test_from_argument : (w : List ℕ) → IsArgument w → tests_argument w ≡ true
+test_from_argument w valid = and_from (ltb 0 (length w)) _ (lt-ltb 0 (length w) valid.0) (test_from_visible w valid.1)
+
+arguments_from_test : (ws : List (List ℕ)) → list_all tests_argument ws ≡ true → AllByRecursion IsArgument ws
+arguments_from_test [] e = tt
+arguments_from_test (w ∷ ws) e =
+    let parts = and_parts (tests_argument w) (list_all tests_argument ws) e in
+    (argument_from_test w parts.0, arguments_from_test ws parts.1)
+
+test_from_arguments : (ws : List (List ℕ)) → AllByRecursion IsArgument ws → list_all tests_argument ws ≡ true
+test_from_arguments [] valid = refl
+test_from_arguments (w ∷ ws) valid =
+    and_from (tests_argument w) (list_all tests_argument ws) (test_from_argument w valid.0) (test_from_arguments ws valid.1)
+
+-- one word more is an argument, or isn't
+pub next_argument : (done : List (List ℕ)) (w : List ℕ) (ws : List (List ℕ)) → IsArgument w → arguments_from done (w ∷ ws) ≡ arguments_from (done ++ w ∷ []) ws
 unfolding arguments_from
-arguments_sound done word [] args dones visible e = elim (chosen (eqb (length word) 0) None (Some (done ++ word ∷ [])) (Some args) e) [
-  | inl h ↦ absurd (cc (h.1))
-  | inr h ↦
-      let is : done ++ word ∷ [] ≡ args = cc (h.1) in
-      rw (← is) (
-        rw append-nil (sym (spaced_word done word)),
-        omega (arith, length-append done (word ∷ [])),
-        All-append IsArgument done (word ∷ []) dones ((some_length word h.0, visible), tt),
-      )
+next_argument done w ws valid = rw (test_from_argument w valid, append_assoc) refl
+
+pub bad_argument : (done : List (List ℕ)) (w : List ℕ) (ws : List (List ℕ)) → (IsArgument w → ⊥) → arguments_from done (w ∷ ws) ≡ None
+unfolding arguments_from
+bad_argument done w ws bad = elim (tested (tests_argument w)) [
+  | inl is ↦ absurd (bad (argument_from_test w is))
+  | inr other ↦ rw other refl
 ]
-arguments_sound done word (c ∷ cs) args dones visible e = elim (chosen (eqb c 32) _ _ (Some args) e) [
-  | inl h ↦ elim (chosen (eqb (length word) 0) None (arguments_from (done ++ word ∷ []) [] cs) (Some args) h.1) [
-    | inl g ↦ absurd (cc (g.1))
-    | inr g ↦
-        let space : c ≡ 32 = eqb-true c 32 h.0 in
-        let rest = arguments_sound (done ++ word ∷ []) [] cs args (All-append IsArgument done (word ∷ []) dones ((some_length word g.0, visible), tt)) tt g.1 in
-        let joined : spaced done ++ (32 ∷ (word ++ c ∷ cs)) ≡ spaced (done ++ word ∷ []) ++ (32 ∷ cs) = rw (
-          spaced_word done word,
-          space,
-        ) (sym (append_assoc (spaced done) (32 ∷ word) (32 ∷ cs))) in
-        (joined ∙ rest.0, rest.1, rest.2)
-  ]
-  | inr h ↦ elim (chosen (leb 33 c && leb c 126) (arguments_from done (word ++ c ∷ []) cs) None (Some args) h.1) [
-    | inl g ↦
-        let parts = and_parts (leb 33 c) (leb c 126) g.0 in
-        let rest = arguments_sound done (word ++ c ∷ []) cs args dones
-        (All-append IsVisible word (c ∷ []) visible ((leb-true 33 c parts.0, leb-true c 126 parts.1), tt)) g.1 in
-        (rw (← append_assoc word (c ∷ []) cs) rest.0, rest.1, rest.2)
-    | inr g ↦ absurd (cc (g.1))
-  ]
-]
 
--- the letters of a word, and what follows it
-word_read : (done : List (List ℕ)) (word w cs : List ℕ) → AllByRecursion IsVisible w → arguments_from done word (w ++ cs) ≡ arguments_from done (word ++ w) cs
+pub none_left : (done : List (List ℕ)) → arguments_from done [] ≡ Some done
 unfolding arguments_from
-word_read done word [] cs visible = ap (λ (xs : List ℕ). arguments_from done xs cs) (sym (append-nil word))
-word_read done word (c ∷ w) cs visible =
-    let seen : IsVisible c = visible.0 in
-    let space : eqb c 32 ≡ false = ne_eqb c 32 (λ e. omega arith) in
-    let pass : (leb 33 c && leb c 126) ≡ true = and_from (leb 33 c) (leb c 126) (le-leb 33 c seen.0) (le-leb c 126 seen.1) in
-    rw (space, pass) (word_read done (word ++ c ∷ []) w cs visible.1 ∙ ap (λ (xs : List ℕ). arguments_from done xs cs) (append_assoc word (c ∷ []) w))
-
-pub next_argument : (done : List (List ℕ)) (w rest : List ℕ) → IsArgument w → arguments_from done [] (w ++ 32 ∷ rest) ≡ arguments_from (done ++ w ∷ []) [] rest
-unfolding arguments_from
-next_argument done w rest valid =
-    let size = valid.0 in
-    let long : eqb (length w) 0 ≡ false = ne_eqb (length w) 0 (λ e. omega arith) in
-    word_read done [] w (32 ∷ rest) valid.1 ∙ rw long refl
-
-pub last_argument : (done : List (List ℕ)) (w : List ℕ) → IsArgument w → arguments_from done [] w ≡ Some (done ++ w ∷ [])
-unfolding arguments_from
-last_argument done w valid =
-    let size = valid.0 in
-    let long : eqb (length w) 0 ≡ false = ne_eqb (length w) 0 (λ e. omega arith) in
-    ap (arguments_from done []) (sym (append-nil w)) ∙ word_read done [] w [] valid.1 ∙ rw long refl
-
-arguments_complete : (done : List (List ℕ)) (w : List ℕ) (ws : List (List ℕ)) → IsArgument w → AllByRecursion IsArgument ws
-    → arguments_from done [] (w ++ spaced ws) ≡ Some (done ++ w ∷ ws)
-arguments_complete done w [] valid args = ap (arguments_from done []) (append-nil w) ∙ last_argument done w valid
-arguments_complete done w (v ∷ vs) valid args =
-    next_argument done w (v ++ spaced vs) valid ∙ arguments_complete (done ++ w ∷ []) v vs args.0 args.1
-    ∙ ap (λ (xs : List (List ℕ)). Some xs) (append_assoc done (w ∷ []) (v ∷ vs))
-
--- the line ends here, or a space follows
-abbrev pub EndsWord : List ℕ → Type 0
-EndsWord cs = (cs ≡ []) ⊎ ((rest : List ℕ) × (cs ≡ 32 ∷ rest))
-
-no_word : (done : List (List ℕ)) (word cs : List ℕ) → EndsWord cs → eqb (length word) 0 ≡ true → arguments_from done word cs ≡ None
-unfolding arguments_from
-no_word done word cs (inl e) none = rw (e, none) refl
-no_word done word cs (inr (rest, e)) none = rw (e, none) refl
-
-bad_word : (done : List (List ℕ)) (word w cs : List ℕ) → EndsWord cs → AllByRecursion (λ c. c ≡ 32 → ⊥) w → AllByRecursion IsVisible word
-    → (IsArgument (word ++ w) → ⊥) → arguments_from done word (w ++ cs) ≡ None
-unfolding arguments_from
-bad_word done word [] cs ends others visible bad = elim (tested (eqb (length word) 0)) [
-  | inl h ↦ no_word done word cs ends h
-  | inr h ↦ absurd (bad (rw append-nil (some_length word h, visible)))
-]
-bad_word done word (c ∷ w) cs ends others visible bad =
-    let space : eqb c 32 ≡ false = ne_eqb c 32 others.0 in
-    elim (tested (leb 33 c && leb c 126)) [
-      | inl h ↦
-          let parts = and_parts (leb 33 c) (leb c 126) h in
-          let seen = All-append IsVisible word (c ∷ []) visible ((leb-true 33 c parts.0, leb-true c 126 parts.1), tt) in
-          rw (space, h) (bad_word done (word ++ c ∷ []) w cs ends others.1 seen (λ valid. bad (rw (← append_assoc word (c ∷ []) w) valid)))
-      | inr h ↦ rw (space, h) refl
-    ]
-
--- a word that is no argument, before a space and at the end
-pub bad_argument : (done : List (List ℕ)) (w rest : List ℕ) → AllByRecursion (λ c. c ≡ 32 → ⊥) w → (IsArgument w → ⊥) → arguments_from done [] (w ++ 32 ∷ rest)
-    ≡ None
-bad_argument done w rest others bad = bad_word done [] w (32 ∷ rest) (inr (rest, refl)) others tt bad
-
-pub bad_last_argument : (done : List (List ℕ)) (w : List ℕ) → AllByRecursion (λ c. c ≡ 32 → ⊥) w → (IsArgument w → ⊥) → arguments_from done [] w ≡ None
-bad_last_argument done w others bad = ap (arguments_from done []) (sym (append-nil w)) ∙ bad_word done [] w [] (inl refl) others tt bad
+none_left done = ap Some (append-nil done)
 
 pub argument_line_read : (l : List ℕ) (args : List (List ℕ)) → arguments_of l ≡ Some args → (l ≡ argument_line args) × (0 < length args)
     × AllByRecursion IsArgument args
-unfolding arguments_of
-argument_line_read l args e = elim (chosen (starts_with nat_eq l (codes "-> ")) (arguments_from [] [] (drop 3 l)) None (Some args) e) [
+unfolding arguments_of arguments_from
+argument_line_read l args e = elim (chosen (starts_with nat_eq l (codes "-> ")) (arguments_from [] (at_spaces (drop 3 l))) None (Some args) e) [
   | inl h ↦
-      let front = starts_at l (codes "-> ") h.0 in
-      let rest = arguments_sound [] [] (drop 3 l) args tt tt h.1 in
-      (front ∙ ap (λ (xs : List ℕ). codes "->" ++ xs) rest.0, rest.1, rest.2)
+      let read = cond_some (list_all tests_argument (at_spaces (drop 3 l))) (at_spaces (drop 3 l)) args h.1 in
+      let is = spaced_words (drop 3 l) args read.1 in
+      (starts_at l (codes "-> ") h.0 ∙ ap (λ (xs : List ℕ). codes "->" ++ xs) (sym is.0), is.1, rw (← read.1) (arguments_from_test (at_spaces (drop 3 l)) read.0))
   | inr h ↦ absurd (cc (h.1))
 ]
 
 pub read_argument_line : (args : List (List ℕ)) → 0 < length args → AllByRecursion IsArgument args → arguments_of (argument_line args) ≡ Some args
-unfolding arguments_of
+unfolding arguments_of arguments_from
 read_argument_line [] some valid = absurd (omega arith)
-read_argument_line (a ∷ as') some valid = arguments_complete [] a as' valid.0 valid.1
+read_argument_line (a ∷ as') some valid =
+    ap (arguments_from []) (words_spaced a as' valid.0 valid.1) ∙ rw (test_from_arguments (a ∷ as') valid) refl
 
 -- ---- an end line
 

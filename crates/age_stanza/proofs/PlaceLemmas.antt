@@ -26,7 +26,7 @@ use Rattle.age_stanza.specs.inner.LineMachine.{base64_bytes, ready, walk, after,
 use Rattle.age_stanza.specs.inner.LineMachine.{mac_of, whole_lines, bytes_before, IsPlace}
 use Rattle.age_stanza.proofs.TextLemmas.{text-append, text-none, length-text, text_of_decoded, decoded-text, no_bytes, IsBytes-append, IsBytes-take}
 use Rattle.age_stanza.proofs.TextLemmas.{IsBytes-drop, IsLine-append, text_line, line_from_test}
-use Rattle.age_stanza.proofs.LineLemmas.{IsVisible, by_test, starts_from, All-append, by_lines, whole_lines-full, in_lines-full, in_lines-short, full_line}
+use Rattle.age_stanza.proofs.LineLemmas.{visible_other, by_test, starts_from, All-append, by_lines, whole_lines-full, in_lines-full, in_lines-short, full_line}
 use Rattle.age_stanza.proofs.LineLemmas.{last_line, argument_line_read, read_argument_line, end_line_read, read_end_line}
 
 regrouped : (a b c d : List ℕ) → a ++ (b ++ (c ++ d)) ≡ (a ++ (b ++ c)) ++ d
@@ -169,13 +169,9 @@ leads (InBody ss args body) l known fits =
 
 -- ---- lines hold no end of line
 
-visible_line : (w : List ℕ) → AllByRecursion IsVisible w → IsLine w
-visible_line [] seen = tt
-visible_line (c ∷ w) seen = (λ e. let low : 33 ≤ c = seen.0.0 in omega arith, visible_line w seen.1)
-
 spaced_line : (args : List (List ℕ)) → AllByRecursion IsArgument args → IsLine (flat_map (λ a. 32 ∷ a) args)
 spaced_line [] valid = tt
-spaced_line (a ∷ args) valid = IsLine-append (32 ∷ a) (flat_map (λ b. 32 ∷ b) args) ((λ e. omega arith), visible_line a valid.0.1) (spaced_line args valid.1)
+spaced_line (a ∷ args) valid = IsLine-append (32 ∷ a) (flat_map (λ b. 32 ∷ b) args) ((λ e. omega arith), visible_other 10 a (omega arith) valid.0.1) (spaced_line args valid.1)
 
 argument_line_line : (args : List (List ℕ)) → AllByRecursion IsArgument args → IsLine (argument_line args)
 argument_line_line args valid = IsLine-append (codes "->") (flat_map (λ b. 32 ∷ b) args) (line_from_test (codes "->") refl) (spaced_line args valid)

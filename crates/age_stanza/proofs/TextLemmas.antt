@@ -53,10 +53,6 @@ line_refused s (Err e) h = not_decoded s e h
 pub no_bytes : IsBytes []
 no_bytes = bytes_from_pass [] refl
 
-pub IsBytes-tail : (a b : List ℕ) → IsBytes (a ++ b) → IsBytes b
-IsBytes-tail [] b h = h
-IsBytes-tail (x ∷ a) b h = IsBytes-tail a b (λ i. h (suc i))
-
 pub IsBytes-drop : (n : ℕ) (b : List ℕ) → IsBytes b → IsBytes (drop n b)
 IsBytes-drop n b h i = rw get_or-drop (h (n + i))
 

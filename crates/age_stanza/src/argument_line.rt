@@ -3,7 +3,7 @@
 ghost use Rattle.std.specs.Prelude.{◌≡◌, ◌==◌, ◌≤◌, ◌++◌, ◌∷◌, [], length, true, false, IfOk, Some, None};
 ghost use Rattle.std.specs.List.{position};
 ghost use Rattle.age_stanza.specs.Grammar.{IsArgument};
-ghost use Rattle.age_stanza.specs.inner.LineMachine.{arguments_from, arguments_of as spec_arguments_of};
+ghost use Rattle.age_stanza.specs.inner.LineMachine.{arguments_from, arguments_of as spec_arguments_of, at_spaces};
 
 use crate::argument::{Argument, Arguments};
 use crate::valid::is_argument;
@@ -32,9 +32,9 @@ fn argument_end(letters: &[u8]) -> Option<usize>
 /// Adds the arguments that letters hold, separated by single spaces. False if one isn't valid.
 fn push_all(alloc: Global, args: &mut Arguments, letters: &[u8]) -> Result<bool, AllocError>
     ensures all { IfOk result
-        (λ r. r ≡ true → arguments_from args.old [] letters.now ≡ Some args.new) }
+        (λ r. r ≡ true → arguments_from args.old (at_spaces letters.now) ≡ Some args.new) }
     ensures refused { IfOk result
-        (λ r. r ≡ false → arguments_from args.old [] letters.now ≡ None) }
+        (λ r. r ≡ false → arguments_from args.old (at_spaces letters.now) ≡ None) }
 {
     let mut rest = letters;
     while let Some(end) = argument_end(rest) {
@@ -55,7 +55,7 @@ fn spaces_in(letters: &[u8]) -> usize
 
 /// The arguments that letters hold, separated by single spaces, or `None` if one isn't valid.
 fn arguments_in(alloc: Global, letters: &[u8]) -> Result<Option<Arguments>, AllocError>
-    ensures { IfOk result (λ r. r ≡ arguments_from [] [] letters.now) }
+    ensures { IfOk result (λ r. r ≡ arguments_from [] (at_spaces letters.now)) }
 {
     let mut args = Arguments::from_vec(Vec::with_capacity(alloc, spaces_in(letters) + 1)?);
     if push_all(alloc, &mut args, letters)? {

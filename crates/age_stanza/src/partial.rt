@@ -1,6 +1,6 @@
 //! The part of a header that came so far.
 
-ghost use Rattle.std.specs.Prelude.{◌≡◌, ◌++◌, ◌+◌, ◌-◌, ◌<◌, ◌≤◌, [], length, take, OnOk, IfErr, OnErr};
+ghost use Rattle.std.specs.Prelude.{◌≡◌, ◌++◌, ◌+◌, ◌<◌, ◌≤◌, [], length, OnOk, IfErr, OnErr};
 ghost use Rattle.age_stanza.specs.Grammar.{header_limit};
 ghost use Rattle.age_stanza.specs.Parsing.{line_after, memory_fault, IsLine};
 ghost use Rattle.age_stanza.specs.inner.LineMachine.{fault_at as spec_fault_at, Gives, step as step_of};
@@ -69,7 +69,8 @@ fn step_whole(
 }
 
 impl PartialHeader {
-    ghost use Rattle.age_stanza.specs.inner.LineMachine.{EndsLine};
+    ghost use Rattle.age_stanza.specs.Grammar.{line};
+    ghost use Rattle.age_stanza.specs.inner.LineMachine.{EndsLine, Fails};
 
     /// Nothing came yet. Takes no memory.
     pub(crate) fn new(alloc: Global) -> PartialHeader
@@ -108,7 +109,7 @@ impl PartialHeader {
     pub(crate) fn end_line(&mut self, characters: &[u8]) -> Result<Option<Header>, HeadFault>
         requires one_line { IsLine characters.now }
         requires within { length self.old + length characters.now < header_limit }
-        ensures { EndsLine (self.old ++ characters.now) result self.new }
+        ensures { EndsLine (self.old ++ line characters.now) result self.new }
     {
         let alloc = *self.line.allocator();
         let PartialHeader {
@@ -148,10 +149,7 @@ impl PartialHeader {
     /// The fault of a header that reached the limit: its line is the last byte's.
     pub(crate) fn too_long_fault(&self) -> HeadFault
         requires { length self.now ≡ header_limit }
-        ensures { result ≡ record {
-          kind = HeadKind.HeadTooLong;
-          line = line_after (take (header_limit - 1) self.now);
-        } }
+        ensures { Fails result self.now }
     {
         let line = if self.line.is_empty() {
             self.finished_lines

@@ -33,17 +33,15 @@ fn read_lines(partial: &mut PartialHeader, bytes: &[u8]) -> Result<HeadStep, Hea
     requires { length partial.old + length bytes.now ≤ header_limit }
     ensures { ReadsLines partial.old bytes.now result partial.new }
 {
-    let mut rest = bytes;
-    while let Some(end) = line_end(rest) {
-        if let Some(header) = partial.end_line(&rest[..end])? {
-            return Ok(HeadStep::Ready {
-                taken: bytes.len() - rest.len() + end + 1,
-                header,
-            });
+    let mut taken = 0;
+    while let Some(end) = line_end(&bytes[taken..]) {
+        let line = &bytes[taken..taken + end];
+        taken += end + 1;
+        if let Some(header) = partial.end_line(line)? {
+            return Ok(HeadStep::Ready { taken, header });
         }
-        rest = &rest[end + 1..];
     }
-    partial.extend(rest)?;
+    partial.extend(&bytes[taken..])?;
     Ok(HeadStep::More)
 }
 

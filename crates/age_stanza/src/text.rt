@@ -24,7 +24,6 @@ pub(crate) fn decode_line(line: &[u8], room: &mut [u8]) -> Option<usize>
 /// Reads as many bytes as there is room for, at most 32, out of a text in canonical base64 without
 /// padding (RFC 4648, sections 3.5 and 4). False means that the text doesn't spell this many bytes,
 /// and leaves `bytes` as they were.
-#[tactic(none)]
 pub fn read_base64(characters: &[u8], bytes: &mut [u8]) -> bool
     requires { length bytes.old ≤ 32 }
     ensures read { OnTrue result (characters.now ≡ base64_text bytes.new) }

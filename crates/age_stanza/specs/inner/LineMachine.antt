@@ -3,13 +3,14 @@
 use Rattle.std.specs.Prelude.{◌≡◌, ◌⊎◌, ℕ, ◌+◌, ◌==◌, nat_eq, nat_lt, nat_le, Bool, true, false}
 use Rattle.std.specs.Prelude.{◌&&◌, ◌||◌, if◌then◌else◌, List, [], ◌∷◌, ◌++◌, length, drop, codes}
 use Rattle.std.specs.Prelude.{Option, Some, None, Result, Ok, Err, ◌/◌, ◌%◌, ◌≤◌, ◌<◌, take}
-use Rattle.std.specs.List.{list_all, starts_with, flat_map, AllByRecursion}
+use Rattle.std.specs.List.{list_all, slice_split, starts_with, flat_map, AllByRecursion}
 use Rattle.std.specs.Result.{result_ok}
 use Rattle.std.specs.Str.{bytes_eq}
 use Rattle.std.specs.Simd.{first_chunks}
 use Rattle.base64.specs.GeneralPurpose.{decode_of, IsBytes}
 use Rattle.base64.specs.Engines.{standard_no_pad}
 use Rattle.age_stanza.specs.Grammar.{version, line, IsArgument, argument_line, IsStanza, header_limit, HeadText}
+use Rattle.age_stanza.specs.Grammar.{Spells}
 use Rattle.age_stanza.specs.Parsing.{armor, memory_fault, IsLine, AreLines, stanzas_text}
 use Rattle.age_stanza.specs.Parsing.{line_after, HasHeader, IsFault}
 use Rattle.age_stanza.specs.Text.{base64_text}
@@ -35,17 +36,20 @@ only_bytes (Some xs) = if list_all (λ x. nat_lt x 256) xs then Some xs else Non
 unfoldable pub base64_bytes : List ℕ → Option (List ℕ)
 base64_bytes s = only_bytes (result_ok (decode_of standard_no_pad s))
 
--- the arguments of what is left of a line, after those that are done and the letters of the next
-unfoldable pub arguments_from : List (List ℕ) → List ℕ → List ℕ → Option (List (List ℕ))
-arguments_from done word [] = if length word == 0 then None else Some (done ++ word ∷ [])
-arguments_from done word (c ∷ cs) =
-    if c == 32 then (if length word == 0 then None else arguments_from (done ++ word ∷ []) [] cs)
-    else if nat_le 33 c && nat_le c 126 then arguments_from done (word ++ c ∷ []) cs
-    else None
+-- what single spaces separate
+abbrev pub at_spaces : List ℕ → List (List ℕ)
+at_spaces l = slice_split (λ c. c == 32) l
+
+abbrev pub tests_argument : List ℕ → Bool
+tests_argument a = nat_lt 0 (length a) && list_all (λ c. nat_le 33 c && nat_le c 126) a
+
+-- the arguments that are done, and these words, if all of them are arguments
+unfoldable pub arguments_from : List (List ℕ) → List (List ℕ) → Option (List (List ℕ))
+arguments_from done ws = if list_all tests_argument ws then Some (done ++ ws) else None
 
 unfoldable pub arguments_of : List ℕ → Option (List (List ℕ))
 arguments_of l = if starts_with nat_eq l (codes "-> ")
-    then arguments_from [] [] (drop 3 l) else None
+    then arguments_from [] (at_spaces (drop 3 l)) else None
 
 abbrev pub whole_mac : Option (List ℕ) → Option (List ℕ)
 whole_mac None = None
@@ -160,28 +164,38 @@ pub record IsPartial (place : Place) (l : List ℕ) (bytes lines : ℕ) : Type 0
   pub size : bytes ≡ length (bytes_before place ++ l)
   pub within : bytes ≤ header_limit
 
+-- finished lines, and a begun one after them
+pub record UnderWay (held : List ℕ) : Type 0 where
+  pub place : Place
+  pub n : ℕ
+  pub l : List ℕ
+  pub led : LeadTo place n
+  pub one_line : IsLine l
+  pub parts : held ≡ bytes_before place ++ l
+
 -- bytes that hold no header and no fault
 pub record IsUnfinished (held : List ℕ) : Type 0 where
-  pub goes_on : walk Start 1 [] held ≡ unfinished
+  pub goes_on : UnderWay held
   pub are_bytes : IsBytes held
 
 -- ---- What the end of a line, some bytes and a piece do to a part of a header.
 
--- the LF after some bytes
+-- memory ran out, or this is the fault of the bytes, which hold no header
+pub record Fails (fault : HeadFault) (bytes : List ℕ) : Type 0 where
+  pub why : (fault ≡ memory_fault) ⊎ ((¬ HasHeader bytes) × IsFault bytes fault)
+
+-- the bytes that came up to and with the LF of a line
 abbrev pub EndsLine : List ℕ → Result (Option Header) HeadFault → List ℕ → Type 0
-EndsLine held (Ok None) new = new ≡ held ++ 10 ∷ []
-EndsLine held (Ok (Some h)) new = (rest : List ℕ)
-    → walk Start 1 [] (held ++ 10 ∷ rest) ≡ ready h rest
-EndsLine held (Err fault) new = (fault ≡ memory_fault)
-    ⊎ ((rest : List ℕ) → walk Start 1 [] (held ++ 10 ∷ rest) ≡ faulty fault)
+EndsLine bytes (Ok None) new = new ≡ bytes
+EndsLine bytes (Ok (Some h)) new = Spells h bytes
+EndsLine bytes (Err fault) new = Fails fault bytes
 
 -- bytes that are all read
 abbrev pub ReadsLines : List ℕ → List ℕ → Result HeadStep HeadFault → List ℕ → Type 0
 ReadsLines held bytes (Ok More) new = new ≡ held ++ bytes
-ReadsLines held bytes (Ok (Ready taken h)) new = (taken ≤ length bytes)
-    × (walk Start 1 [] (held ++ bytes) ≡ ready h (drop taken bytes))
-ReadsLines held bytes (Err fault) new = ((fault ≡ memory_fault)
-    ⊎ (walk Start 1 [] (held ++ bytes) ≡ faulty fault)) × (0 < length bytes)
+ReadsLines held bytes (Ok (Ready taken h)) new =
+    (taken ≤ length bytes) × Spells h (held ++ take taken bytes)
+ReadsLines held bytes (Err fault) new = Fails fault (held ++ bytes) × (0 < length bytes)
 
 -- a piece: no more of it is read than the limit allows
 abbrev pub TakesPiece : List ℕ → List ℕ → Result HeadStep HeadFault → List ℕ → Type 0
@@ -189,5 +203,4 @@ TakesPiece held piece (Ok More) new = (new ≡ held ++ piece)
     × (length (held ++ piece) < header_limit) × IsUnfinished (held ++ piece)
 TakesPiece held piece (Ok (Ready taken h)) new = (taken ≤ length piece)
     × HeadText h (held ++ take taken piece)
-TakesPiece held piece (Err fault) new = ((fault ≡ memory_fault)
-    ⊎ ((¬ HasHeader (held ++ piece)) × IsFault (held ++ piece) fault)) × (0 < length piece)
+TakesPiece held piece (Err fault) new = Fails fault (held ++ piece) × (0 < length piece)

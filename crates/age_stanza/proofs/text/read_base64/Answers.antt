@@ -1,4 +1,4 @@
-use Rattle.std.proofs.Common.{◌≤◌, take, length, sym, ap, ◌∙◌, refl, arith}
+use Rattle.std.proofs.Common.{◌≤◌, take, length, sym, ap, ◌∙◌, arith}
 use Rattle.std.proofs.lemmas.List.{length-take}
 use Rattle.base64.specs.GeneralPurpose.{IsBytes}
 use Rattle.age_stanza.proofs.TextLengthLemmas.{div_ceil-characters}
@@ -29,50 +29,14 @@ pub returns-in_default-2-clause-refused : goal.returns-in_default-2-clause-refus
 returns-in_default-2-clause-refused c = λ other fits len is.
     never_decodes c.args.characters.now other c.in_default.field-0 (rw c.in_default.is at c.decode_slice_unchecked.ensures.err) fits is
 
-pub overflow_mul-bytes : goal.overflow_mul-bytes
-overflow_mul-bytes c = omega arith
-
-pub div_ceil-requires : goal.div_ceil-requires
-div_ceil-requires c = omega arith
-
 pub decode_slice_unchecked-requires : goal.decode_slice_unchecked-requires
 decode_slice_unchecked-requires c =
     let same = c.if-characters-div_ceil.false ∙ (c.div_ceil.ensures ∙ div_ceil-characters (length c.args.bytes.now)) in
     let few : length c.args.characters.now ≤ 43 = omega arith in
     omega arith
 
-pub invariant_of-decode_slice_unchecked-2 : goal.invariant_of-decode_slice_unchecked-2
-invariant_of-decode_slice_unchecked-2 c = record { tables = refl }
-
-pub slice_bounds-decode_slice_unchecked-end : goal.slice_bounds-decode_slice_unchecked-end
-slice_bounds-decode_slice_unchecked-end c = refl
-
-pub slice_bounds-room-end : goal.slice_bounds-room-end
-slice_bounds-room-end c = omega arith
-
 pub slice_bounds-copy_from_slice-end : goal.slice_bounds-copy_from_slice-end
 slice_bounds-copy_from_slice-end c = omega (arith, length-take c.in-Ok.len c.decode_slice_unchecked.new.output)
 
 pub copy_from_slice-requires : goal.copy_from_slice-requires
 copy_from_slice-requires c = omega (arith, length-take c.in-Ok.len c.decode_slice_unchecked.new.output)
-
-pub returns-in-Ok-clause-bytes : goal.returns-in-Ok-clause-bytes
-returns-in-Ok-clause-bytes c = λ i. omega (arith, c.type_inv.bytes i)
-
-pub returns-then-characters-div_ceil-clause-bytes : goal.returns-then-characters-div_ceil-clause-bytes
-returns-then-characters-div_ceil-clause-bytes c = λ i. omega (arith, c.type_inv.bytes i)
-
-pub returns-in_default-clause-bytes : goal.returns-in_default-clause-bytes
-returns-in_default-clause-bytes c = λ i. omega (arith, c.type_inv.bytes i)
-
-pub returns-in_default-2-clause-bytes : goal.returns-in_default-2-clause-bytes
-returns-in_default-2-clause-bytes c = λ i. omega (arith, c.type_inv.bytes i)
-
-pub returns-then-characters-div_ceil-clause-kept : goal.returns-then-characters-div_ceil-clause-kept
-returns-then-characters-div_ceil-clause-kept c = refl
-
-pub returns-in_default-clause-kept : goal.returns-in_default-clause-kept
-returns-in_default-clause-kept c = refl
-
-pub returns-in_default-2-clause-kept : goal.returns-in_default-2-clause-kept
-returns-in_default-2-clause-kept c = refl
