@@ -1,14 +1,14 @@
--- A walk that meets a faulty line meets the first one, a walk that meets none has none, and no bytes have two first faults.
-use Rattle.std.proofs.Common.{◌≡◌, ℕ, ◌<◌, ◌≤◌, ◌+◌, eqb, nat_eq, cond, List, [], ◌∷◌, ◌++◌, length, take, drop, Some, Ok, Err, refl, sym, ap, ap₂, subst, ◌∙◌, arith, inl, inr}
-use Rattle.std.specs.Prelude.{codes, count_by, ◌⊎◌, if◌then◌else◌}
+-- A line that is refused is the first faulty one, finished lines and a begun one have none, and no bytes have two first faults.
+use Rattle.std.proofs.Common.{◌≡◌, ℕ, ◌<◌, ◌≤◌, ◌+◌, eqb, nat_eq, cond, List, [], ◌∷◌, ◌++◌, length, take, drop, Some, None, Ok, Err, refl, sym, ap, ap₂, subst, ◌∙◌, arith, inl, inr}
+use Rattle.std.specs.Prelude.{codes, count_by, if◌then◌else◌}
 use Rattle.std.specs.List.{flat_map, AllByRecursion, starts_with}
 use Rattle.std.proofs.lemmas.Bool.{ne_eqb, cases_lt}
+use Rattle.std.proofs.lemmas.Option.{none-some}
 use Rattle.std.proofs.lemmas.Bool.Decides.{eqb_tells}
 use Rattle.std.proofs.lemmas.List.{append-nil, append_assoc, append_cancel_left, length-append, same_from_push, take_all, take_at, take-append-drop, take-append-le}
 use Rattle.std.proofs.lemmas.List.Sums.{sum_by-append, sum_by-cons}
 use Rattle.base64.specs.GeneralPurpose.{IsBytes}
 use Rattle.age_stanza.specs.declared.header.Stanza.{Stanza}
-use Rattle.age_stanza.specs.declared.header.Header.{Header}
 use Rattle.age_stanza.specs.declared.fault.HeadKind.{HeadKind}
 use Rattle.age_stanza.specs.declared.fault.HeadKind.TheVariants.{NotAge, Armored, BadStanzaLine, BadBody, BadEndLine, NoStanza, HeadTooLong, HeadCut, Memory}
 use Rattle.age_stanza.specs.declared.fault.HeadFault.{HeadFault}
@@ -18,11 +18,11 @@ use Rattle.age_stanza.specs.declared.place.Next.TheVariants.{Go}
 use Rattle.age_stanza.specs.Grammar.{line, version, stanza_text, end_line, head_text, IsStanza, IsHeader, Spells}
 use Rattle.age_stanza.specs.Parsing.{Begins, IsLine, AreLines, FirstFault, stanzas_text, IsEndLine, RefusesBetween, RefusesLine, line_after, NoFault, HasHeader}
 use Rattle.age_stanza.specs.Parsing.{IsLineFault, IsFault, head_fault_number}
-use Rattle.age_stanza.specs.inner.LineMachine.{base64_bytes, Walked, unfinished, ready, faulty, walk, after, step, arguments_of, fault_at, bytes_before}
+use Rattle.age_stanza.specs.inner.LineMachine.{base64_bytes, walk, step, arguments_of, fault_at, bytes_before}
 use Rattle.age_stanza.specs.inner.LineMachine.{IsPlace, LeadTo, UnderWay, Fails}
 use Rattle.age_stanza.proofs.TextLemmas.{bytes_from_pass, no_bytes, IsBytes-append, decoded-text, text-none}
 use Rattle.age_stanza.proofs.LineLemmas.{tested, All-append, All-front, All-back}
-use Rattle.age_stanza.proofs.PlaceLemmas.{stanzas_pushed, Reports, Leads, leads, walk_text, walk_go, step_last, stanzas_walk, text_walk}
+use Rattle.age_stanza.proofs.PlaceLemmas.{stanzas_pushed, Reports, Leads, leads, walk_line, step_last, stanzas_walk, end_walk, text_walk}
 
 -- ---- the number of a line
 
@@ -57,8 +57,8 @@ next_lead place next n l led lined fits e =
     let to = subst (Leads place l) e (leads place l led.known fits) in
     record {
       known = to.1;
-      reaches = λ rest. ap (λ (t : List ℕ). walk Start 1 [] (t ++ rest)) to.0 ∙ ap (walk Start 1 []) (append_assoc (bytes_before place) (line l) rest)
-          ∙ led.reaches (line l ++ rest) ∙ walk_go place next n l rest lined e;
+      reaches = λ rest. ap (λ (t : List ℕ). walk Start [] (t ++ rest)) to.0 ∙ ap (walk Start []) (append_assoc (bytes_before place) (line l) rest)
+          ∙ led.reaches (line l ++ rest) ∙ walk_line place l rest _ lined e;
       line_is = ap (λ k. k + 1) led.line_is ∙ sym (line_after-line (bytes_before place) l lined) ∙ ap line_after (sym to.0);
       are_lines = inr (bytes_before place ++ l, to.0 ∙ sym (append_assoc (bytes_before place) l (10 ∷ [])));
       are_bytes = subst IsBytes (sym to.0) (IsBytes-append (bytes_before place) (line l) led.are_bytes
@@ -123,24 +123,22 @@ no_text ss e = cc
 not_first : (ss : List Stanza) (args : List (List ℕ)) (body : List ℕ) → bytes_before (InBody ss args body) ≡ [] → ⊥
 not_first ss args body e = cc
 
-empty_refused : (ss : List Stanza) (n : ℕ) → walk (Between ss) n [] (line [] ++ []) ≡ faulty (fault_at BadStanzaLine n)
-unfolding walk step arguments_of
-empty_refused ss n = refl
-
-empty_goes : (ss : List Stanza) (args : List (List ℕ)) (body : List ℕ) (n : ℕ) → walk (InBody ss args body) n [] (line [] ++ []) ≡ unfinished
-unfolding walk
-empty_goes ss args body n = walk_go (InBody ss args body) _ n [] [] tt (empty_ends ss args body)
-
-apart : (f : HeadFault) → unfinished ≡ faulty f → ⊥
-apart f e = cc
-
 -- an empty line is valid in a body, and between stanzas it isn't
+empty_refused : (ss : List Stanza) (rest : List ℕ) → walk (Between ss) [] (line [] ++ rest) ≡ None
+unfolding walk step arguments_of
+empty_refused ss rest = refl
+
+empty_goes : (ss : List Stanza) (args : List (List ℕ)) (body : List ℕ) → let s : Stanza = record { args = args; body = body ++ [] } in
+    walk (InBody ss args body) [] (line [] ++ (line (end_line zeros) ++ [])) ≡ Some (record { stanzas = ss ++ s ∷ []; mac = zeros }, [])
+empty_goes ss args body =
+    walk_line (InBody ss args body) [] (line (end_line zeros) ++ []) _ tt (empty_ends ss args body) ∙ end_walk _ zeros [] (some_pushed ss _) refl zeros_bytes
+
 not_between : (ss ts : List Stanza) (args : List (List ℕ)) (body : List ℕ) (n : ℕ) → LeadTo (InBody ss args body) n
     → AllByRecursion IsStanza ts → bytes_before (InBody ss args body) ≡ stanzas_text ts → ⊥
 not_between ss ts args body n led valid e =
-    let reach = stanzas_walk ts (line [] ++ []) valid in
-    apart (fault_at BadStanzaLine reach.0) (sym (empty_goes ss args body n) ∙ sym (led.reaches (line [] ++ []))
-    ∙ ap (λ (b : List ℕ). walk Start 1 [] (b ++ (line [] ++ []))) e ∙ reach.1 ∙ empty_refused ts reach.0)
+    let end : List ℕ = line (end_line zeros) ++ [] in
+    none-some _ (sym (empty_refused ts end) ∙ sym (stanzas_walk ts (line [] ++ end) valid) ∙ ap (λ (b : List ℕ). walk Start [] (b ++ (line [] ++ end))) (sym e)
+    ∙ led.reaches (line [] ++ end) ∙ empty_goes ss args body)
 
 refuses : (place : Place) (n : ℕ) (l : List ℕ) (kind : HeadKind) → LeadTo place n → Reports place l kind → RefusesLine (bytes_before place) l kind
 refuses Start n l kind led reported =
@@ -155,38 +153,31 @@ refuses (InBody ss args body) n l kind led reported = record {
 
 -- ---- bytes that hold no header
 
-not_ready : (w : Walked) (h : Header) (rest : List ℕ) → w ≡ ready h rest → (w ≡ unfinished) ⊎ ((f : HeadFault) × (w ≡ faulty f)) → ⊥
-not_ready w h rest e (inl is) = absurd cc
-not_ready w h rest e (inr (f, is)) = absurd cc
+-- where a walk finds no header, no header's text is whole
+no_header : (bytes : List ℕ) → walk Start [] bytes ≡ None → HasHeader bytes → ⊥
+no_header bytes none (h, front, rest, text, is) =
+    none-some _ (sym none ∙ ap (walk Start []) (is ∙ ap (λ (t : List ℕ). t ++ rest) text.spells.bytes_are) ∙ text_walk h rest text.spells.valid)
 
--- where a walk isn't ready, no header's text is whole
-no_header : (bytes : List ℕ) (w : Walked) → walk Start 1 [] bytes ≡ w → (w ≡ unfinished) ⊎ ((f : HeadFault) × (w ≡ faulty f)) → HasHeader bytes → ⊥
-no_header bytes w walked other (h, front, rest, text, is) =
-    not_ready w h rest (sym walked ∙ ap (walk Start 1 []) (is ∙ ap (λ (t : List ℕ). t ++ rest) text.spells.bytes_are) ∙ text_walk h rest text.spells.valid) other
-
-walk_within : (place : Place) (n : ℕ) (l w : List ℕ) → IsLine w → walk place n l w ≡ unfinished
+walk_within : (place : Place) (l w : List ℕ) → IsLine w → walk place l w ≡ None
 unfolding walk
-walk_within place n l [] lined = refl
-walk_within place n l (c ∷ w) lined = rw (ne_eqb c 10 lined.0) (walk_within place n (l ++ c ∷ []) w lined.1)
+walk_within place l [] lined = refl
+walk_within place l (c ∷ w) lined = rw (ne_eqb c 10 lined.0) (walk_within place (l ++ c ∷ []) w lined.1)
 
 pub none_begun : (held : List ℕ) → UnderWay held → HasHeader held → ⊥
-none_begun held h =
-    no_header held unfinished (ap (walk Start 1 []) h.parts ∙ h.led.reaches h.l ∙ walk_within h.place h.n [] h.l h.one_line) (inl refl)
+none_begun held h = no_header held (ap (walk Start []) h.parts ∙ h.led.reaches h.l ∙ walk_within h.place [] h.l h.one_line)
 
 -- ---- a line that is refused
 
 refused_walk : (place : Place) (n : ℕ) (l rest : List ℕ) (kind : HeadKind) → LeadTo place n → IsLine l → step place l ≡ Err kind
-    → walk Start 1 [] (bytes_before place ++ (line l ++ rest)) ≡ faulty (fault_at kind n)
-refused_walk place n l rest kind led lined e =
-    led.reaches (line l ++ rest) ∙ walk_text place n [] l rest lined ∙ ap (after n rest (λ q. walk q (n + 1) [] rest)) e
+    → walk Start [] (bytes_before place ++ (line l ++ rest)) ≡ None
+refused_walk place n l rest kind led lined e = led.reaches (line l ++ rest) ∙ walk_line place l rest _ lined e
 
 -- no text goes on after it
 no_text_goes_on : (place : Place) (n : ℕ) (l : List ℕ) (kind : HeadKind) → LeadTo place n → IsLine l → step place l ≡ Err kind
     → Begins (bytes_before place ++ line l) → ⊥
 no_text_goes_on place n l kind led lined e (h, r, spells) =
-    not_ready _ h [] (sym (refused_walk place n l r kind led lined e) ∙ ap (walk Start 1 [])
+    none-some _ (sym (refused_walk place n l r kind led lined e) ∙ ap (walk Start [])
     (sym (append_assoc (bytes_before place) (line l) r) ∙ spells.bytes_are ∙ sym (append-nil (head_text h))) ∙ text_walk h [] spells.valid)
-    (inr (fault_at kind n, refl))
 
 line_of_kind : (kind : HeadKind) (n : ℕ) → (kind ≡ Memory → ⊥) → fault_at kind n ≡ record { kind = kind; line = n }
 line_of_kind Memory n not = absurd (not refl)
@@ -198,7 +189,7 @@ pub line_fails : (place : Place) (n : ℕ) (l : List ℕ) (kind : HeadKind) → 
 line_fails place n l kind led lined fits e room =
     let bytes = bytes_before place ++ line l in
     let to = subst (Leads place l) e (leads place l led.known fits) in
-    let walked = ap (λ (t : List ℕ). walk Start 1 [] (bytes_before place ++ t)) (sym (append-nil (line l))) ∙ refused_walk place n l [] kind led lined e in
+    let none = ap (λ (t : List ℕ). walk Start [] (bytes_before place ++ t)) (sym (append-nil (line l))) ∙ refused_walk place n l [] kind led lined e in
     let first : FirstFault bytes (bytes_before place) l = record {
       rest = [];
       parts = ap (λ (t : List ℕ). bytes_before place ++ t) (sym (append-nil (line l)));
@@ -209,7 +200,7 @@ line_fails place n l kind led lined fits e room =
     } in
     rw (line_of_kind kind n to.1) (record {
       why = inr (
-        no_header bytes _ walked (inr (fault_at kind n, refl)),
+        no_header bytes none,
         inl (rw (take_all 1048576 bytes room) (bytes_before place, l, first, led.line_is, refuses place n l kind led to.0)),
       );
     })

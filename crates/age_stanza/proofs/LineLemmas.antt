@@ -1,6 +1,6 @@
 -- The lines of a header: a body's, an argument line, an end line.
 use Rattle.std.proofs.Common.{◌≡◌, ℕ, zero, suc, ◌<◌, ◌≤◌, ◌+◌, ◌*◌, ◌/◌, ◌%◌, Bool, true, false, cond, ltb, eqb, nat_eq, List, [], ◌∷◌, ◌++◌, length}
-use Rattle.std.proofs.Common.{take, drop, Option, Some, None, refl, sym, ap, subst, ◌∙◌, arith, inl, inr}
+use Rattle.std.proofs.Common.{take, drop, Option, Some, None, refl, sym, ap, ◌∙◌, arith, inl, inr}
 use Rattle.std.specs.Prelude.{codes, ◌⊎◌}
 use Rattle.std.specs.List.{flat_map, list_all, join_with_byte, AllByRecursion, starts_with}
 use Rattle.std.proofs.lemmas.Bool.{eqb-true, eq-eqb, ne_eqb, ltb-true, lt-ltb, and_parts, and_from}
@@ -72,30 +72,29 @@ in_lines-full l rest len =
     ap (λ (w : List ℕ). w ++ line (drop (length all / 64 * 64) all)) (whole_lines-full l rest len)
     ∙ ap (λ (d : List ℕ). (line l ++ whole_lines rest) ++ line d) last ∙ append_assoc (line l) (whole_lines rest) (line (drop (n * 64) rest))
 
--- a text is fewer than 64 characters, or a line of 64 before such a text
-pub by_lines : (P : List ℕ → Type 0) → ((cs : List ℕ) → length cs < 64 → P cs) → ((l rest : List ℕ) → length l ≡ 64 → P rest → P (l ++ rest))
-    → (n : ℕ) (cs : List ℕ) → length cs / 64 ≡ n → P cs
-by_lines P short full zero cs e = short cs (omega (arith, e))
-by_lines P short full (suc n) cs e =
-    let long : 64 ≤ length cs = omega (arith, e) in
-    let len : length (take 64 cs) ≡ 64 = omega (arith, length-take 64 cs, long) in
-    let fewer : length (drop 64 cs) / 64 ≡ n = omega (arith, length-drop 64 cs, e) in
-    subst P (take-append-drop 64 cs) (full (take 64 cs) (drop 64 cs) len (by_lines P short full n (drop 64 cs) fewer))
-
 -- a text in lines has an LF for each 64 characters, and one more
+length-first_lines : (n : ℕ) (cs : List ℕ) → n * 64 ≤ length cs → length (flat_map line (first_chunks 64 n cs)) ≡ n * 65
+length-first_lines zero cs le = omega arith
+length-first_lines (suc n) cs le = omega (
+  arith,
+  le,
+  length-append (line (take 64 cs)) (flat_map line (first_chunks 64 n (drop 64 cs))),
+  length-append (take 64 cs) (10 ∷ []),
+  length-take 64 cs,
+  length-first_lines n (drop 64 cs) (omega (arith, le, length-drop 64 cs)),
+)
+
 pub length-in_lines : (cs : List ℕ) → length (in_lines cs) ≡ length cs + length cs / 64 + 1
+unfolding in_lines
 length-in_lines cs =
-    by_lines (λ (t : List ℕ). length (in_lines t) ≡ length t + length t / 64 + 1)
-    (λ t lt. omega (arith, lt, ap length (in_lines-short t lt), length-append t (10 ∷ [])))
-    (λ l rest len more. omega (
+    let n = length cs / 64 in
+    omega (
       arith,
-      len,
-      more,
-      ap length (in_lines-full l rest len),
-      length-append (line l) (in_lines rest),
-      length-append l (10 ∷ []),
-      length-append l rest,
-    )) (length cs / 64) cs refl
+      length-append (flat_map line (first_chunks 64 n cs)) (line (drop (n * 64) cs)),
+      length-first_lines n cs (omega arith),
+      length-append (drop (n * 64) cs) (10 ∷ []),
+      length-drop (n * 64) cs,
+    )
 
 -- ---- a body in lines: each but the last spells 48 bytes
 

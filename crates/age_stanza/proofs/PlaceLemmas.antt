@@ -5,9 +5,9 @@ use Rattle.std.specs.Prelude.{codes}
 use Rattle.std.specs.List.{flat_map, AllByRecursion, starts_with}
 use Rattle.std.specs.Str.{bytes_eq}
 use Rattle.std.proofs.lemmas.Bool.{eqb-true, eqb-false, ltb-false, eq-eqb, ne_eqb, le-ltb, cases_lt}
-use Rattle.std.proofs.lemmas.List.{append-nil, append_assoc, length-append, length-take, length-drop, take-append-drop}
+use Rattle.std.proofs.lemmas.List.{append-nil, append_assoc, length-append, length-take, length-drop, nil_from_length, take-append-drop}
 use Rattle.std.proofs.lemmas.List.Concat.{flat_map-append}
-use Rattle.std.proofs.lemmas.Option.{none-some}
+use Rattle.std.proofs.lemmas.Option.{none-some, same_Some}
 use Rattle.std.proofs.lemmas.Slice.Eq.{bytes_eq-Decides}
 use Rattle.base64.specs.GeneralPurpose.{IsBytes}
 use Rattle.age_stanza.specs.declared.header.Stanza.{Stanza}
@@ -22,11 +22,11 @@ use Rattle.age_stanza.specs.Text.{base64_text}
 use Rattle.age_stanza.specs.Grammar.{line, version, IsArgument, argument_line, in_lines, stanza_text, end_line, head_text, IsStanza, IsHeader, Spells, HeadText}
 use Rattle.age_stanza.specs.Grammar.{mac_text}
 use Rattle.age_stanza.specs.Parsing.{IsLine, stanzas_text, armor, IsEndLine, RefusesBetween}
-use Rattle.age_stanza.specs.inner.LineMachine.{base64_bytes, ready, walk, after, step, end_line_result, argument_line_result, body_line_result, arguments_of}
+use Rattle.age_stanza.specs.inner.LineMachine.{base64_bytes, walk, after, step, end_line_result, argument_line_result, body_line_result, arguments_of}
 use Rattle.age_stanza.specs.inner.LineMachine.{mac_of, whole_lines, bytes_before, IsPlace}
 use Rattle.age_stanza.proofs.TextLemmas.{text-append, text-none, length-text, text_of_decoded, decoded-text, no_bytes, IsBytes-append, IsBytes-take}
 use Rattle.age_stanza.proofs.TextLemmas.{IsBytes-drop, IsLine-append, text_line, line_from_test}
-use Rattle.age_stanza.proofs.LineLemmas.{visible_other, by_test, starts_from, All-append, by_lines, whole_lines-full, in_lines-full, in_lines-short, full_line}
+use Rattle.age_stanza.proofs.LineLemmas.{visible_other, by_test, starts_from, All-append, whole_lines-full, in_lines-full, in_lines-short, full_line}
 use Rattle.age_stanza.proofs.LineLemmas.{last_line, argument_line_read, read_argument_line, end_line_read, read_end_line}
 
 regrouped : (a b c d : List ℕ) → a ++ (b ++ (c ++ d)) ≡ (a ++ (b ++ c)) ++ d
@@ -42,32 +42,28 @@ unfolding whole_lines
 whole_line l len = ap whole_lines (sym (append-nil l)) ∙ whole_lines-full l [] len ∙ append-nil (line l)
 
 -- whole lines before a text that a function puts into lines
-abbrev IsBeforeWhole : (List ℕ → List ℕ) → List ℕ → Type 0
-IsBeforeWhole f t = (l : List ℕ) → length t % 64 ≡ 0 → f (t ++ l) ≡ whole_lines t ++ f l
-
-before_short : (f : List ℕ → List ℕ) (t : List ℕ) → length t < 64 → IsBeforeWhole f t
+whole_before : (f : List ℕ → List ℕ) → ((l rest : List ℕ) → length l ≡ 64 → f (l ++ rest) ≡ line l ++ f rest) → (k : ℕ) (t l : List ℕ) → length t ≡ k * 64
+    → f (t ++ l) ≡ whole_lines t ++ f l
 unfolding whole_lines
-before_short f [] lt l whole = refl
-before_short f (c ∷ t) lt l whole = absurd (omega arith)
-
-before_full : (f : List ℕ → List ℕ) → ((l rest : List ℕ) → length l ≡ 64 → f (l ++ rest) ≡ line l ++ f rest) → (first rest : List ℕ) → length first ≡ 64
-    → IsBeforeWhole f rest → IsBeforeWhole f (first ++ rest)
-before_full f full first rest len more l whole =
-    let fewer : length rest % 64 ≡ 0 = omega (arith, len, whole, length-append first rest) in
-    ap f (append_assoc first rest l) ∙ full first (rest ++ l) len ∙ ap (λ (t : List ℕ). line first ++ t) (more l fewer)
-    ∙ sym (append_assoc (line first) (whole_lines rest) (f l)) ∙ ap (λ (t : List ℕ). t ++ f l) (sym (whole_lines-full first rest len))
-
-whole_before : (f : List ℕ → List ℕ) → ((l rest : List ℕ) → length l ≡ 64 → f (l ++ rest) ≡ line l ++ f rest) → (t : List ℕ) → IsBeforeWhole f t
-whole_before f full t = by_lines (IsBeforeWhole f) (before_short f) (before_full f full) (length t / 64) t refl
+whole_before f full zero t l e =
+    rw (nil_from_length t (omega (arith, e))) refl
+whole_before f full (suc k) t l e =
+    let first = take 64 t in
+    let rest = drop 64 t in
+    let parts = take-append-drop 64 t in
+    let len : length first ≡ 64 = omega (arith, e, length-take 64 t) in
+    let on = whole_before f full k rest l (omega (arith, e, length-drop 64 t)) in
+    ap (λ (x : List ℕ). f (x ++ l)) (sym parts) ∙ ap f (append_assoc first rest l) ∙ full first (rest ++ l) len ∙ ap (λ (x : List ℕ). line first ++ x) on
+    ∙ sym (append_assoc (line first) (whole_lines rest) (f l)) ∙ ap (λ (x : List ℕ). x ++ f l) (sym (whole_lines-full first rest len) ∙ ap whole_lines parts)
 
 -- whole lines before the last line of a body, or before more whole lines
 body_lines : (f : List ℕ → List ℕ) → ((l rest : List ℕ) → length l ≡ 64 → f (l ++ rest) ≡ line l ++ f rest) → (body more l : List ℕ) → length body % 48 ≡ 0
     → l ≡ base64_text more → f l ≡ line l → f (base64_text (body ++ more)) ≡ whole_lines (base64_text body) ++ line l
 body_lines f full body more l whole is one =
     let third : length body % 3 ≡ 0 = omega arith in
-    let lines : length (base64_text body) % 64 ≡ 0 = omega (arith, length-text body) in
-    ap f (text-append body more third ∙ ap (λ (t : List ℕ). base64_text body ++ t) (sym is)) ∙ whole_before f full (base64_text body) l lines
-    ∙ ap (λ (t : List ℕ). whole_lines (base64_text body) ++ t) one
+    let lines : length (base64_text body) ≡ length body / 48 * 64 = omega (arith, length-text body) in
+    ap f (text-append body more third ∙ ap (λ (t : List ℕ). base64_text body ++ t) (sym is))
+    ∙ whole_before f full (length body / 48) (base64_text body) l lines ∙ ap (λ (t : List ℕ). whole_lines (base64_text body) ++ t) one
 
 pub stanzas_pushed : (ss : List Stanza) (s : Stanza) → stanzas_text (ss ++ s ∷ []) ≡ stanzas_text ss ++ stanza_text s
 stanzas_pushed ss s =
@@ -181,20 +177,16 @@ end_line_line mac = IsLine-append (codes "--- ") (base64_text mac) (line_from_te
 
 -- ---- a walk over one line
 
-pub walk_text : (place : Place) (n : ℕ) (l w cs : List ℕ) → IsLine w
-    → walk place n l (line w ++ cs) ≡ after n cs (λ next. walk next (n + 1) [] cs) (step place (l ++ w))
+pub walk_text : (place : Place) (l w cs : List ℕ) → IsLine w → walk place l (line w ++ cs) ≡ after cs (λ next. walk next [] cs) (step place (l ++ w))
 unfolding walk
-walk_text place n l [] cs lined = rw append-nil refl
-walk_text place n l (c ∷ w) cs lined =
+walk_text place l [] cs lined = rw append-nil refl
+walk_text place l (c ∷ w) cs lined =
     rw (ne_eqb c 10 lined.0)
-    (walk_text place n (l ++ c ∷ []) w cs lined.1
-    ∙ ap (λ (x : List ℕ). after n cs (λ next. walk next (n + 1) [] cs) (step place x)) (append_assoc l (c ∷ []) w))
+    (walk_text place (l ++ c ∷ []) w cs lined.1 ∙ ap (λ (x : List ℕ). after cs (λ next. walk next [] cs) (step place x)) (append_assoc l (c ∷ []) w))
 
-pub walk_go : (place next : Place) (n : ℕ) (w cs : List ℕ) → IsLine w → step place w ≡ Ok (Go next) → walk place n [] (line w ++ cs) ≡ walk next (n + 1) [] cs
-walk_go place next n w cs lined leads = walk_text place n [] w cs lined ∙ ap (after n cs (λ q. walk q (n + 1) [] cs)) leads
-
-pub walk_done : (place : Place) (h : Header) (n : ℕ) (w cs : List ℕ) → IsLine w → step place w ≡ Ok (Done h) → walk place n [] (line w ++ cs) ≡ ready h cs
-walk_done place h n w cs lined leads = walk_text place n [] w cs lined ∙ ap (after n cs (λ q. walk q (n + 1) [] cs)) leads
+pub walk_line : (place : Place) (w cs : List ℕ) (leads_to : Result Next HeadKind) → IsLine w → step place w ≡ leads_to
+    → walk place [] (line w ++ cs) ≡ after cs (λ q. walk q [] cs) leads_to
+walk_line place w cs leads_to lined e = walk_text place [] w cs lined ∙ ap (after cs (λ q. walk q [] cs)) e
 
 -- ---- where valid lines lead
 
@@ -226,83 +218,70 @@ step_last ss args body l more short is = rw (le-ltb 64 (length l) (omega arith),
 
 -- ---- a walk over a header's text
 
-abbrev PassesBody : List Stanza → List (List ℕ) → List ℕ → List ℕ → ℕ → List ℕ → Type 0
-PassesBody ss args body rest n cs = (m : ℕ) × (walk (InBody ss args body) n [] (in_lines (base64_text rest) ++ cs)
-    ≡ walk (Between (ss ++ (record { args = args; body = body ++ rest }) ∷ [])) m [] cs)
+abbrev PassesBody : List Stanza → List (List ℕ) → List ℕ → List ℕ → List ℕ → Type 0
+PassesBody ss args body rest cs = walk (InBody ss args body) [] (in_lines (base64_text rest) ++ cs)
+    ≡ walk (Between (ss ++ (record { args = args; body = body ++ rest }) ∷ [])) [] cs
 
-last_body : (ss : List Stanza) (args : List (List ℕ)) (body rest : List ℕ) (n : ℕ) (cs : List ℕ) → length rest < 48 → IsBytes rest
-    → PassesBody ss args body rest n cs
-last_body ss args body rest n cs lt fits =
+last_body : (ss : List Stanza) (args : List (List ℕ)) (body rest cs : List ℕ) → length rest < 48 → IsBytes rest → PassesBody ss args body rest cs
+last_body ss args body rest cs lt fits =
     let short : length (base64_text rest) < 64 = omega (arith, length-text rest) in
-    let leads_to = step_last ss args body (base64_text rest) rest short (decoded-text rest fits) in
-    (n + 1, rw (last_line rest lt) (walk_go (InBody ss args body) _ n (base64_text rest) cs (text_line rest) leads_to))
+    rw (last_line rest lt) (walk_line (InBody ss args body) (base64_text rest) cs _ (text_line rest)
+    (step_last ss args body (base64_text rest) rest short (decoded-text rest fits)))
 
-body_walk : (fuel : ℕ) (ss : List Stanza) (args : List (List ℕ)) (body rest : List ℕ) (n : ℕ) (cs : List ℕ) → length rest ≤ fuel → IsBytes rest
-    → PassesBody ss args body rest n cs
-body_walk zero ss args body rest n cs le fits = last_body ss args body rest n cs (omega arith) fits
-body_walk (suc fuel) ss args body rest n cs le fits = elim (cases_lt (length rest) 48) [
-  | inl lt ↦ last_body ss args body rest n cs lt fits
+body_walk : (fuel : ℕ) (ss : List Stanza) (args : List (List ℕ)) (body rest cs : List ℕ) → length rest ≤ fuel → IsBytes rest → PassesBody ss args body rest cs
+body_walk zero ss args body rest cs le fits = last_body ss args body rest cs (omega arith) fits
+body_walk (suc fuel) ss args body rest cs le fits = elim (cases_lt (length rest) 48) [
+  | inl lt ↦ last_body ss args body rest cs lt fits
   | inr ge ↦
       let a : List ℕ = take 48 rest in
       let b : List ℕ = drop 48 rest in
       let long : length (base64_text (take 48 rest)) ≡ 64 = omega (arith, length-text (take 48 rest), length-take 48 rest) in
-      let leads_to = step_full ss args body (base64_text a) a long (decoded-text a (IsBytes-take 48 rest fits)) in
-      let one = walk_go (InBody ss args body) (InBody ss args (body ++ a)) n (base64_text a) (in_lines (base64_text b) ++ cs) (text_line a) leads_to in
-      let on = body_walk fuel ss args (body ++ a) b (n + 1) cs (omega (arith, length-drop 48 rest)) (IsBytes-drop 48 rest fits) in
-      let joined : (body ++ a) ++ b ≡ body ++ rest = append_assoc body a b ∙ ap (λ (t : List ℕ). body ++ t) (take-append-drop 48 rest) in (
-        on.0,
-        rw (full_line rest ge, append_assoc (line (base64_text (take 48 rest))))
-            (one ∙ on.1 ∙ ap (λ (t : List ℕ). walk (Between (ss ++ (record { args = args; body = t }) ∷ [])) on.0 [] cs) joined),
-      )
+      let one = walk_line (InBody ss args body) (base64_text a) (in_lines (base64_text b) ++ cs) _ (text_line a)
+      (step_full ss args body (base64_text a) a long (decoded-text a (IsBytes-take 48 rest fits))) in
+      let on = body_walk fuel ss args (body ++ a) b cs (omega (arith, length-drop 48 rest)) (IsBytes-drop 48 rest fits) in
+      let joined : (body ++ a) ++ b ≡ body ++ rest = append_assoc body a b ∙ ap (λ (t : List ℕ). body ++ t) (take-append-drop 48 rest) in
+      rw (full_line rest ge, append_assoc (line (base64_text (take 48 rest))))
+      (one ∙ on ∙ ap (λ (t : List ℕ). walk (Between (ss ++ (record { args = args; body = t }) ∷ [])) [] cs) joined)
 ]
 
 three_parts : (a b c r : List ℕ) → ((a ++ b) ++ c) ++ r ≡ a ++ (b ++ (c ++ r))
 three_parts a b c r = simp append_assoc
 
-abbrev PassesStanzas : List Stanza → List Stanza → ℕ → List ℕ → Type 0
-PassesStanzas more ss n rest = (m : ℕ) × (walk (Between ss) n [] (flat_map stanza_text more ++ rest) ≡ walk (Between (ss ++ more)) m [] rest)
-
-stanzas_reach : (more ss : List Stanza) (n : ℕ) (rest : List ℕ) → AllByRecursion IsStanza more → PassesStanzas more ss n rest
-stanzas_reach [] ss n rest valid = (n, rw append-nil refl)
-stanzas_reach (s ∷ more) ss n rest valid =
-    let apart = three_parts (line (argument_line s.args)) (in_lines (base64_text s.body)) (flat_map stanza_text more) rest in
-    let one = walk_go (Between ss) (InBody ss s.args []) n (argument_line s.args) (in_lines (base64_text s.body) ++ (flat_map stanza_text more ++ rest))
-    (argument_line_line s.args valid.0.arguments) (step_arguments ss s.args valid.0.some_argument valid.0.arguments) in
-    let two = body_walk (length s.body) ss s.args [] s.body (n + 1) (flat_map stanza_text more ++ rest) (omega arith) valid.0.body in
-    let three = stanzas_reach more (ss ++ s ∷ []) two.0 rest valid.1 in (
-      three.0,
-      ap (walk (Between ss) n []) apart ∙ one ∙ two.1 ∙ three.1 ∙ ap (λ (x : List Stanza). walk (Between x) three.0 [] rest)
-          (append_assoc ss (s ∷ []) more),
-    )
+stanzas_reach : (more ss : List Stanza) (rest : List ℕ) → AllByRecursion IsStanza more
+    → walk (Between ss) [] (flat_map stanza_text more ++ rest) ≡ walk (Between (ss ++ more)) [] rest
+stanzas_reach [] ss rest valid = rw append-nil refl
+stanzas_reach (s ∷ more) ss rest valid =
+    let after : List ℕ = flat_map stanza_text more ++ rest in
+    ap (walk (Between ss) []) (three_parts (line (argument_line s.args)) (in_lines (base64_text s.body)) (flat_map stanza_text more) rest)
+    ∙ walk_line (Between ss) (argument_line s.args) (in_lines (base64_text s.body) ++ after) _ (argument_line_line s.args valid.0.arguments)
+    (step_arguments ss s.args valid.0.some_argument valid.0.arguments)
+    ∙ body_walk (length s.body) ss s.args [] s.body after (omega arith) valid.0.body ∙ stanzas_reach more (ss ++ s ∷ []) rest valid.1
+    ∙ ap (λ (x : List Stanza). walk (Between x) [] rest) (append_assoc ss (s ∷ []) more)
 
 -- the version line and whole stanzas lead between stanzas
-pub stanzas_walk : (ss : List Stanza) (rest : List ℕ) → AllByRecursion IsStanza ss
-    → (m : ℕ) × (walk Start 1 [] (stanzas_text ss ++ rest) ≡ walk (Between ss) m [] rest)
+pub stanzas_walk : (ss : List Stanza) (rest : List ℕ) → AllByRecursion IsStanza ss → walk Start [] (stanzas_text ss ++ rest) ≡ walk (Between ss) [] rest
 stanzas_walk ss rest valid =
-    let reach = stanzas_reach ss [] 2 rest valid in (
-      reach.0,
-      ap (walk Start 1 []) (append_assoc (line version) (flat_map stanza_text ss) rest)
-          ∙ walk_go Start (Between []) 1 version (flat_map stanza_text ss ++ rest) (line_from_test version refl) step_version ∙ reach.1,
-    )
+    ap (walk Start []) (append_assoc (line version) (flat_map stanza_text ss) rest)
+    ∙ walk_line Start version (flat_map stanza_text ss ++ rest) _ (line_from_test version refl) step_version ∙ stanzas_reach ss [] rest valid
+
+-- and the end line to the header
+pub end_walk : (ss : List Stanza) (mac rest : List ℕ) → 0 < length ss → length mac ≡ 32 → IsBytes mac
+    → walk (Between ss) [] (line (end_line mac) ++ rest) ≡ Some (record { stanzas = ss; mac = mac }, rest)
+end_walk ss mac rest some long fits = walk_line (Between ss) (end_line mac) rest _ (end_line_line mac) (step_end ss mac some long fits)
 
 -- a walk over a header's text finds the header, whatever follows
-pub text_walk : (h : Header) (rest : List ℕ) → IsHeader h → walk Start 1 [] (head_text h ++ rest) ≡ ready h rest
+pub text_walk : (h : Header) (rest : List ℕ) → IsHeader h → walk Start [] (head_text h ++ rest) ≡ Some (h, rest)
 text_walk h rest valid =
-    let reach = stanzas_walk h.stanzas (line (end_line h.mac) ++ rest) valid.stanzas in
-    ap (walk Start 1 []) (two_parts (line version) (flat_map stanza_text h.stanzas) (line (end_line h.mac)) rest) ∙ reach.1
-    ∙ walk_done (Between h.stanzas) h reach.0 (end_line h.mac) rest (end_line_line h.mac)
-    (step_end h.stanzas h.mac valid.some_stanza valid.mac_length valid.mac)
+    ap (walk Start []) (two_parts (line version) (flat_map stanza_text h.stanzas) (line (end_line h.mac)) rest)
+    ∙ stanzas_walk h.stanzas (line (end_line h.mac) ++ rest) valid.stanzas ∙ end_walk h.stanzas h.mac rest valid.some_stanza valid.mac_length valid.mac
 
 -- ---- laws of headers' texts
 
-same_header : (h k : Header) (x y : List ℕ) → ready h x ≡ ready k y → h ≡ k
-same_header h k x y e = cc
-
 pub one_header : (h k : Header) (a b x y : List ℕ) → Spells h a → Spells k b → a ++ x ≡ b ++ y → (h ≡ k) × (a ≡ b)
 one_header h k a b x y p q e =
-    let left : walk Start 1 [] (a ++ x) ≡ ready h x = rw p.bytes_are (text_walk h x p.valid) in
-    let right : walk Start 1 [] (b ++ y) ≡ ready k y = rw q.bytes_are (text_walk k y q.valid) in
-    let same = same_header h k x y (sym left ∙ ap (walk Start 1 []) e ∙ right) in
+    let left : walk Start [] (a ++ x) ≡ Some (h, x) = rw p.bytes_are (text_walk h x p.valid) in
+    let right : walk Start [] (b ++ y) ≡ Some (k, y) = rw q.bytes_are (text_walk k y q.valid) in
+    let same : h ≡ k = ap (λ (p : Header × List ℕ). p.0) (same_Some _ _ (sym left ∙ ap (walk Start []) e ∙ right)) in
     (same, p.bytes_are ∙ ap head_text same ∙ sym q.bytes_are)
 
 pub mac_text_is_front : (h : Header) (bytes : List ℕ) → HeadText h bytes → (last : List ℕ) × (length last ≡ 45) × (bytes ≡ mac_text h ++ last)

@@ -87,27 +87,26 @@ step (InBody ss args body) l =
     if nat_lt 64 (length l) then Err BadBody
     else body_line_result ss args body (length l == 64) (base64_bytes l)
 
-pub data Walked : Type 0 where
-  unfinished : Walked
-  ready : Header → List ℕ → Walked
-  faulty : HeadFault → Walked
-
 -- a refusal in this line; running out of memory has no line
 abbrev pub fault_at : HeadKind → ℕ → HeadFault
 fault_at Memory n = memory_fault
 fault_at kind n = record { kind = kind; line = n }
 
-abbrev pub after : ℕ → List ℕ → (Place → Walked) → Result Next HeadKind → Walked
-after n rest go (Err kind) = faulty (fault_at kind n)
-after n rest go (Ok (Done h)) = ready h rest
-after n rest go (Ok (Go place)) = go place
+-- a header, and what follows it
+abbrev pub Found : Type 0
+Found = Option (Header × List ℕ)
 
--- what bytes lead to, from a place in line n whose characters so far are l
-unfoldable pub walk : Place → ℕ → List ℕ → List ℕ → Walked
-walk place n l [] = unfinished
-walk place n l (c ∷ cs) =
-    if c == 10 then after n cs (λ next. walk next (n + 1) [] cs) (step place l)
-    else walk place n (l ++ c ∷ []) cs
+abbrev pub after : List ℕ → (Place → Found) → Result Next HeadKind → Found
+after rest go (Err kind) = None
+after rest go (Ok (Done h)) = Some (h, rest)
+after rest go (Ok (Go place)) = go place
+
+-- the header that bytes lead to, from a place in whose line the characters so far are l
+unfoldable pub walk : Place → List ℕ → List ℕ → Found
+walk place l [] = None
+walk place l (c ∷ cs) =
+    if c == 10 then after cs (λ next. walk next [] cs) (step place l)
+    else walk place (l ++ c ∷ []) cs
 
 -- what the code returns is what a function on lists gives, unless memory ran out
 abbrev pub Gives : Result Next HeadKind → Result Next HeadKind → Type 0
@@ -151,7 +150,7 @@ IsPlace (InBody ss args body) = AllByRecursion IsStanza ss × (0 < length args) 
 -- finished lines led to this place, in line n
 pub record LeadTo (place : Place) (n : ℕ) : Type 0 where
   pub known : IsPlace place
-  pub reaches : (rest : List ℕ) → walk Start 1 [] (bytes_before place ++ rest) ≡ walk place n [] rest
+  pub reaches : (rest : List ℕ) → walk Start [] (bytes_before place ++ rest) ≡ walk place [] rest
   pub line_is : n ≡ line_after (bytes_before place)
   pub are_lines : AreLines (bytes_before place)
   pub are_bytes : IsBytes (bytes_before place)
