@@ -13,20 +13,28 @@ pub all_is : {X : Type 0} (P : X → Type 0) (d : X) (r : Bool) (xs : List X) �
 all_is P d true xs h = (λ _. recursion_from_All P xs (All-from_all_within P xs h), λ _. refl)
 all_is P d false xs h = (λ e. absurd (false≢true e), λ each. absurd (h.2 d (All-from_recursion P xs each h.0 d h.1)))
 
-abbrev visible_test : ℕ → Bool
-visible_test c = leb 33 c && leb c 126
+module _ {X : Type 0} (p : X → Bool) (P : X → Type 0) where
+  pub all_from_test : ((x : X) → p x ≡ true → P x) → (xs : List X) → list_all p xs ≡ true → AllByRecursion P xs
+  all_from_test f [] e = tt
+  all_from_test f (x ∷ xs) e =
+      let parts = and_parts (p x) (list_all p xs) e in
+      (f x parts.0, all_from_test f xs parts.1)
+
+  pub test_from_all : ((x : X) → P x → p x ≡ true) → (xs : List X) → AllByRecursion P xs → list_all p xs ≡ true
+  test_from_all f [] h = refl
+  test_from_all f (x ∷ xs) h = and_from (p x) (list_all p xs) (f x h.0) (test_from_all f xs h.1)
+
+pub all_map : {X : Type 0} (P Q : X → Type 0) → ((x : X) → P x → Q x) → (xs : List X) → AllByRecursion P xs → AllByRecursion Q xs
+all_map P Q f [] h = tt
+all_map P Q f (x ∷ xs) h = (f x h.0, all_map P Q f xs h.1)
 
 pub visible_from_test : (a : List ℕ) → list_all (λ c. leb 33 c && leb c 126) a ≡ true → AllByRecursion (λ c. (33 ≤ c) × (c ≤ 126)) a
-visible_from_test [] e = tt
-visible_from_test (c ∷ cs) e =
-    let parts = and_parts (visible_test c) (list_all visible_test cs) e in
-    let ends = and_parts (leb 33 c) (leb c 126) parts.0 in
-    ((leb-true 33 c ends.0, leb-true c 126 ends.1), visible_from_test cs parts.1)
+visible_from_test a e = all_from_test (λ c. leb 33 c && leb c 126) (λ c. (33 ≤ c) × (c ≤ 126))
+    (λ c seen. let ends = and_parts (leb 33 c) (leb c 126) seen in (leb-true 33 c ends.0, leb-true c 126 ends.1)) a e
 
 pub test_from_visible : (a : List ℕ) → AllByRecursion (λ c. (33 ≤ c) × (c ≤ 126)) a → list_all (λ c. leb 33 c && leb c 126) a ≡ true
-test_from_visible [] h = refl
-test_from_visible (c ∷ cs) h =
-    and_from (visible_test c) (list_all visible_test cs) (and_from (leb 33 c) (leb c 126) (le-leb 33 c h.0.0) (le-leb c 126 h.0.1)) (test_from_visible cs h.1)
+test_from_visible a h = test_from_all (λ c. leb 33 c && leb c 126) (λ c. (33 ≤ c) × (c ≤ 126))
+    (λ c seen. and_from (leb 33 c) (leb c 126) (le-leb 33 c seen.0) (le-leb c 126 seen.1)) a h
 
 -- a write that went well
 pub on_ok : {A E : Type 0} (r : Result A E) (new wrote old : List ℕ) → new ≡ cond (is_ok r) wrote old → OnOk r (new ≡ wrote)

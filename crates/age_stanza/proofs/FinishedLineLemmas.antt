@@ -4,8 +4,9 @@ use Rattle.std.specs.Prelude.{◌⊎◌}
 use Rattle.std.proofs.lemmas.List.{append-nil, append_assoc, length-append, take_all, take_at}
 use Rattle.base64.specs.GeneralPurpose.{IsBytes}
 use Rattle.age_stanza.specs.declared.header.Header.{Header}
+use Rattle.age_stanza.specs.declared.fault.HeadFault.{HeadFault}
 use Rattle.age_stanza.specs.declared.fault.HeadKind.{HeadKind}
-use Rattle.age_stanza.specs.declared.fault.HeadKind.TheVariants.{HeadTooLong, Memory}
+use Rattle.age_stanza.specs.declared.fault.HeadKind.TheVariants.{HeadCut, HeadTooLong, Memory}
 use Rattle.age_stanza.specs.declared.place.Place.{Place}
 use Rattle.age_stanza.specs.declared.place.Place.TheVariants.{Start}
 use Rattle.age_stanza.specs.declared.place.Next.TheVariants.{Go, Done}
@@ -38,6 +39,12 @@ nothing_under_way = record {
 -- the begun line is the one after the finished ones
 pub begun_number : (place : Place) (n : ℕ) (l : List ℕ) → LeadTo place n → IsLine l → n ≡ line_after (bytes_before place ++ l)
 begun_number place n l led lined = led.line_is ∙ sym (line_after-begun (bytes_before place) l lined)
+
+-- the fault of a header that the input's end cuts
+pub cut_here : (place : Place) (bytes lines : ℕ) (l held : List ℕ) → IsPartial place l bytes lines → bytes_before place ++ l ≡ held
+    → ◌≡◌ {A = HeadFault} (record { kind = HeadCut; line = lines + 1 }) (record { kind = HeadCut; line = line_after held })
+cut_here place bytes lines l held known is =
+    ap (λ n. record { kind = HeadCut; line = n }) (begun_number place (lines + 1) l known.lead_to known.one_line ∙ ap line_after is)
 
 -- the line of the last byte, if that is the LF of a finished line
 last_finished : (held : List ℕ) (lines n : ℕ) → AreLines held → length held ≡ n + 1 → lines + 1 ≡ line_after held → lines ≡ line_after (take n held)

@@ -2,7 +2,7 @@
 use Rattle.std.proofs.Common.{◌≡◌, ℕ, zero, suc, ◌<◌, ◌≤◌, ◌+◌, ◌*◌, ◌/◌, ◌%◌, Bool, true, false, cond, ltb, eqb, nat_eq, List, [], ◌∷◌, ◌++◌, length}
 use Rattle.std.proofs.Common.{take, drop, Option, Some, None, refl, sym, ap, ◌∙◌, arith, inl, inr}
 use Rattle.std.specs.Prelude.{codes, ◌⊎◌}
-use Rattle.std.specs.List.{flat_map, list_all, join_with_byte, AllByRecursion, starts_with}
+use Rattle.std.specs.List.{All, flat_map, list_all, join_with_byte, AllByRecursion, starts_with}
 use Rattle.std.proofs.lemmas.Bool.{eqb-true, eq-eqb, ne_eqb, ltb-true, lt-ltb, and_parts, and_from}
 use Rattle.std.proofs.lemmas.Bool.Decides.{Decides-eqb}
 use Rattle.std.specs.Simd.{first_chunks}
@@ -15,7 +15,7 @@ use Rattle.base64.specs.GeneralPurpose.{IsBytes}
 use Rattle.age_stanza.specs.inner.LineMachine.{whole_lines, base64_bytes, at_spaces, tests_argument, arguments_from, arguments_of, mac_of, whole_mac}
 use Rattle.age_stanza.specs.Text.{base64_text}
 use Rattle.age_stanza.specs.Grammar.{line, IsArgument, argument_line, in_lines, end_line}
-use Rattle.age_stanza.proofs.ElementLemmas.{visible_from_test, test_from_visible}
+use Rattle.age_stanza.proofs.ElementLemmas.{all_from_test, all_map, test_from_all, visible_from_test, test_from_visible}
 use Rattle.age_stanza.proofs.TextLemmas.{text_of_decoded, decoded-text, IsBytes-drop, text-append, length-text}
 
 -- ---- a test that was passed or not
@@ -145,18 +145,16 @@ All-back P (x ∷ xs) ys f = All-back P xs ys f.1
 
 -- a visible character is none of those below
 pub visible_other : (mark : ℕ) (w : List ℕ) → mark < 33 → AllByRecursion IsVisible w → AllByRecursion (λ c. c ≡ mark → ⊥) w
-visible_other mark [] low seen = tt
-visible_other mark (c ∷ w) low seen = (let visible = seen.0.0 in λ e. omega (arith, visible), visible_other mark w low seen.1)
+visible_other mark w low seen = all_map IsVisible (λ c. c ≡ mark → ⊥) (λ c visible e. let least = visible.0 in omega (arith, least, low, e)) w seen
 
-no_space : (w : List ℕ) → AllByRecursion (λ c. c ≡ 32 → ⊥) w → AllByRecursion (λ c. eqb c 32 ≡ false) w
-no_space [] other = tt
-no_space (c ∷ w) other = (ne_eqb c 32 other.0, no_space w other.1)
+no_space : (w : List ℕ) → AllByRecursion (λ c. c ≡ 32 → ⊥) w → All (λ c. eqb c 32 ≡ false) w
+no_space w other = All-from_recursion _ w (all_map (λ c. c ≡ 32 → ⊥) (λ c. eqb c 32 ≡ false) (λ c ne. ne_eqb c 32 ne) w other)
 
 pub words_next : (w rest : List ℕ) → AllByRecursion (λ c. c ≡ 32 → ⊥) w → at_spaces (w ++ 32 ∷ rest) ≡ w ∷ at_spaces rest
-words_next w rest other = slice_split_at (λ c. eqb c 32) w 32 rest (All-from_recursion _ w (no_space w other)) refl
+words_next w rest other = slice_split_at (λ c. eqb c 32) w 32 rest (no_space w other) refl
 
 pub words_last : (w : List ℕ) → AllByRecursion (λ c. c ≡ 32 → ⊥) w → at_spaces w ≡ w ∷ []
-words_last w other = slice_split_none (λ c. eqb c 32) w (All-from_recursion _ w (no_space w other))
+words_last w other = slice_split_none (λ c. eqb c 32) w (no_space w other)
 
 -- the words of a line are the line
 spaced_joined : (w : List ℕ) (ws : List (List ℕ)) → spaced (w ∷ ws) ≡ 32 ∷ join_with_byte 32 (w ∷ ws)
@@ -184,17 +182,6 @@ argument_from_test w e =
 test_from_argument : (w : List ℕ) → IsArgument w → tests_argument w ≡ true
 test_from_argument w valid = and_from (ltb 0 (length w)) _ (lt-ltb 0 (length w) valid.0) (test_from_visible w valid.1)
 
-arguments_from_test : (ws : List (List ℕ)) → list_all tests_argument ws ≡ true → AllByRecursion IsArgument ws
-arguments_from_test [] e = tt
-arguments_from_test (w ∷ ws) e =
-    let parts = and_parts (tests_argument w) (list_all tests_argument ws) e in
-    (argument_from_test w parts.0, arguments_from_test ws parts.1)
-
-test_from_arguments : (ws : List (List ℕ)) → AllByRecursion IsArgument ws → list_all tests_argument ws ≡ true
-test_from_arguments [] valid = refl
-test_from_arguments (w ∷ ws) valid =
-    and_from (tests_argument w) (list_all tests_argument ws) (test_from_argument w valid.0) (test_from_arguments ws valid.1)
-
 -- one word more is an argument, or isn't
 pub next_argument : (done : List (List ℕ)) (w : List ℕ) (ws : List (List ℕ)) → IsArgument w → arguments_from done (w ∷ ws) ≡ arguments_from (done ++ w ∷ []) ws
 unfolding arguments_from
@@ -218,7 +205,7 @@ argument_line_read l args e = elim (chosen (starts_with nat_eq l (codes "-> ")) 
   | inl h ↦
       let read = cond_some (list_all tests_argument (at_spaces (drop 3 l))) (at_spaces (drop 3 l)) args h.1 in
       let is = spaced_words (drop 3 l) args read.1 in
-      (starts_at l (codes "-> ") h.0 ∙ ap (λ (xs : List ℕ). codes "->" ++ xs) (sym is.0), is.1, rw (← read.1) (arguments_from_test (at_spaces (drop 3 l)) read.0))
+      (starts_at l (codes "-> ") h.0 ∙ ap (λ (xs : List ℕ). codes "->" ++ xs) (sym is.0), is.1, rw (← read.1) (all_from_test tests_argument IsArgument argument_from_test (at_spaces (drop 3 l)) read.0))
   | inr h ↦ absurd (cc (h.1))
 ]
 
@@ -226,7 +213,7 @@ pub read_argument_line : (args : List (List ℕ)) → 0 < length args → AllByR
 unfolding arguments_of arguments_from
 read_argument_line [] some valid = absurd (omega arith)
 read_argument_line (a ∷ as') some valid =
-    ap (arguments_from []) (words_spaced a as' valid.0 valid.1) ∙ rw (test_from_arguments (a ∷ as') valid) refl
+    ap (arguments_from []) (words_spaced a as' valid.0 valid.1) ∙ rw (test_from_all tests_argument IsArgument test_from_argument (a ∷ as') valid) refl
 
 -- ---- an end line
 

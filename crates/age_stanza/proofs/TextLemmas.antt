@@ -14,6 +14,7 @@ use Rattle.base64.specs.declared.decode.DecodeError.{DecodeError}
 use Rattle.base64.proofs.EngineFacts.{decode_of-encode_of, decode_of_strict, encode_of-append, front_bytes}
 use Rattle.base64.proofs.RoundTrip.{length-encode_symbols}
 use Rattle.age_stanza.specs.Text.{base64_text}
+use Rattle.age_stanza.proofs.ElementLemmas.{all_from_test}
 use Rattle.age_stanza.specs.Parsing.{IsLine}
 use Rattle.age_stanza.specs.Laws.{character, IsBase64}
 use Rattle.age_stanza.specs.inner.LineMachine.{base64_bytes, only_bytes}
@@ -133,10 +134,7 @@ IsLine-append [] b f g = g
 IsLine-append (x ∷ a) b f g = (f.0, IsLine-append a b f.1 g)
 
 pub line_from_test : (xs : List ℕ) → list_all (λ c. not (eqb c 10)) xs ≡ true → IsLine xs
-line_from_test [] h = tt
-line_from_test (x ∷ xs) h =
-    let parts = and_parts (not (eqb x 10)) (list_all (λ c. not (eqb c 10)) xs) h in
-    (eqb-false x 10 (not-true (eqb x 10) parts.0), line_from_test xs parts.1)
+line_from_test = all_from_test (λ c. not (eqb c 10)) (λ c. c ≡ 10 → ⊥) (λ c e. eqb-false c 10 (not-true (eqb c 10) e))
 
 at_line : (xs : List ℕ) (i : ℕ) → IsLine xs → get_or xs i 0 ≡ 10 → ⊥
 at_line [] i h e = omega arith

@@ -11,7 +11,7 @@ use Rattle.age_stanza.specs.declared.header.Stanza.{Stanza}
 use Rattle.age_stanza.specs.declared.header.Header.{Header}
 use Rattle.age_stanza.specs.Text.{base64_text}
 use Rattle.age_stanza.specs.inner.Lengths.{HasArguments, Leaves, IsHeaderLength}
-use Rattle.age_stanza.specs.Grammar.{line, version, in_lines, stanza_text, end_line, head_text, IsStanza, HasText}
+use Rattle.age_stanza.specs.Grammar.{line, version, in_lines, stanza_text, end_line, head_text, IsStanza, HeadText, HasText}
 use Rattle.age_stanza.proofs.LineLemmas.{length-in_lines}
 use Rattle.age_stanza.proofs.TextLemmas.{length-text}
 
@@ -30,6 +30,11 @@ length-head h long = omega (
   length-text h.mac,
 )
 
+pub head_least : (h : Header) (bytes : List ℕ) → HeadText h bytes → 70 ≤ length (head_text h)
+head_least h bytes is =
+    let size = length-head h is.spells.valid.mac_length in
+    omega arith
+
 -- what a difference leaves
 pub leaves : (r : Option ℕ) (size n room : ℕ) → SomeIff r (size ≤ room) (room - size) → n ≡ size → Leaves room n r
 leaves None size n room h e = elim (cases_lt room n) [ inl lt ↦ lt | inr ge ↦ absurd (h (omega arith)) ]
@@ -41,6 +46,9 @@ leaves (Some left) size n room h e =
 -- three bytes are four characters
 pub div_ceil-characters : (n : ℕ) → div_ceil (4 * n) 3 ≡ (4 * n + 2) / 3
 div_ceil-characters n = omega arith
+
+pub text_characters : (bytes : List ℕ) → div_ceil (4 * length bytes) 3 ≡ length (base64_text bytes)
+text_characters bytes = div_ceil-characters (length bytes) ∙ sym (length-text bytes)
 
 -- ---- the texts of stanzas
 

@@ -124,6 +124,7 @@ pub fn encode_head(alloc: Global, header: &Header) -> Result<Vec<u8>, HeadFault>
 /// of the end line, without the space that follows (<https://c2sp.org/age#header-mac>). It requires
 /// [`is_header`](crate::is_header). All memory is taken at once; the only fault is a refusal of it
 /// ([`HeadKind::Memory`](crate::HeadKind::Memory)).
+#[tactic(auto, using(crate::proofs::TextLengthLemmas::head_least))]
 pub fn mac_text(alloc: Global, header: &Header) -> Result<Vec<u8>, HeadFault>
     requires { HasText header.now }
     ensures text { IfOk result (λ bytes. bytes.items ≡ mac_text header.now) }

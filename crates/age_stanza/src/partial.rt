@@ -85,6 +85,7 @@ impl PartialHeader {
     }
 
     /// How many bytes came.
+    #[tactic(auto, using(crate::proofs::FinishedLineLemmas::under_way))]
     pub(crate) fn len(&self) -> usize
         ensures len { result ≡ length self.now }
         ensures known { IsUnfinished self.now }

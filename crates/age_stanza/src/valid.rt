@@ -47,6 +47,7 @@ fn room_after_arguments(room: usize, args: &[Argument]) -> Option<usize>
 }
 
 /// How many characters the text of some bytes has.
+#[tactic(auto, using(crate::proofs::TextLengthLemmas::text_characters))]
 fn characters_of(bytes: &[u8]) -> usize
     requires { length bytes.now ≤ header_limit }
     ensures len { result ≡ length (base64_text bytes.now) }
