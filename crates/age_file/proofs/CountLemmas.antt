@@ -1,15 +1,14 @@
 -- Counting the chunks that were written, and writing what an opener releases, one step after another.
-use Rattle.std.proofs.Common.{inl, inr, ◌≡◌, ℕ, ◌+◌, ◌-◌, ◌*◌, ◌/◌, ◌<◌, ◌≤◌, min, List, [], ◌∷◌, ◌++◌, length, take, Option, Some, refl, sym, ap, ◌∙◌, arith}
-use Rattle.std.proofs.Common.{append-nil, append_assoc, Bool, true, false, replicate, None, subst}
-use Rattle.std.specs.Prelude.{◌⊎◌}
+use Rattle.std.proofs.Common.{inl, inr, ◌≡◌, ℕ, ◌+◌, ◌-◌, ◌*◌, ◌/◌, ◌<◌, ◌≤◌, min, List, [], ◌∷◌, ◌++◌, length, take, drop, Option, Some, refl, sym, ap, ◌∙◌, arith}
+use Rattle.std.proofs.Common.{append-nil, append_assoc, false, replicate, None, subst}
+use Rattle.std.specs.Prelude.{◌⊎◌, Result, MatchResult, IfSome, IfNone}
 use Rattle.std.specs.Simd.{first_chunks}
 use Rattle.std.specs.List.{flat_map}
 use Rattle.std.proofs.lemmas.Grind.{flat_map-append, fold-append}
-use Rattle.std.proofs.lemmas.List.{length-append, length-take, take_all}
+use Rattle.std.proofs.lemmas.List.{length-append, length-take, take_all, take-append-drop}
 use Rattle.std.proofs.lemmas.Bool.{cases_lt}
-use Rattle.std.proofs.Math.Bool.{or-false}
 use Rattle.std.proofs.Math.Nat.{le-div_iff_mul-le}
-use Rattle.age_chunk.specs.ChunkBoxes.{IsChunkBox}
+use Rattle.age_chunk.specs.ChunkBoxes.{IsChunkBox, tag_length}
 use Rattle.age_stream.specs.Segment.{Segment, Outcome, outcome, released, with_piece, with_end, fresh}
 use Rattle.age_stream.specs.Laws.{counted_chunks}
 use Rattle.age_stream.specs.declared.step.Status.{Status}
@@ -21,7 +20,9 @@ use Rattle.age_file.specs.Bindings.{link, chain}
 use Rattle.age_file.specs.inner.Parts.{link_if, chain_if}
 use Rattle.age_file.specs.declared.position.PositionPolicy.{PositionPolicy}
 use Rattle.age_file.specs.declared.position.PositionPolicy.TheVariants.{Kept, Dropped}
-use Rattle.age_file.specs.inner.Payloads.{AdvancesTally, CountsChunks, HasCounted, Releases, FeedGoes, FeedFails}
+use Rattle.age_file.specs.inner.Payloads.{AdvancesTally, CountsChunks, HasCounted, Releases, FeedGoes, FeedFails, FeedsOnce}
+use Rattle.age_stream.proofs.ReplayLemmas.{lent_flat}
+use Rattle.age_stream.proofs.GoingLemmas.{nothing}
 use Rattle.age_file.specs.declared.tally.Tally.{Tally}
 use Rattle.std.specs.Borrow.{Bor}
 use Rattle.age_file.proofs.ReadLemmas.{wrote_none, wrote_then}
@@ -47,11 +48,7 @@ min_is x n i j positive low le (inr same) =
 
 -- no bytes
 pub no_piece : (s : Segment) → with_piece s [] ≡ s
-no_piece s = nothing s.start s.bytes s.ended s.late where
-  nothing : (start : ℕ) (bytes : List ℕ) (ended late : Bool) → with_piece (record { start = start; bytes = bytes; ended = ended; late = late }) []
-      ≡ record { start = start; bytes = bytes; ended = ended; late = late }
-  nothing start bytes true late = ap (λ (l : Bool). record { start = start; bytes = bytes; ended = true; late = l }) (or-false late)
-  nothing start bytes false late = ap (λ (b : List ℕ). record { start = start; bytes = b; ended = false; late = late }) (append-nil bytes)
+no_piece s = nothing s.start s.bytes s.ended s.late
 
 -- one link more
 pub chain_on : (chunks : List (List ℕ)) (chunk : List ℕ) → chain (chunks ++ chunk ∷ []) ≡ link (chain chunks) chunk
@@ -207,10 +204,6 @@ module _ (sealing : List ℕ → List ℕ → List ℕ) (opening : List ℕ → 
       ∙ (ap (chain_if keep) (sym (front_stays base s next more len e))
       ∙ ap (λ (k : ℕ). chain_if keep (first_chunks n k (base ++ released opening n next))) (sym (index ∙ old)))))
 
-  none_lent : (ts : List (List ℕ)) → length ts ≡ 0 → flat_map (λ (t : List ℕ). t) ts ≡ []
-  none_lent [] z = refl
-  none_lent (t ∷ ts) z = absurd (omega (arith, z))
-
   one_text : (ts : List (List ℕ)) → length ts ≡ 1 → ts ≡ flat_map (λ (t : List ℕ). t) ts ∷ []
   one_text [] e = absurd (omega (arith, e))
   one_text (t ∷ []) e = ap (λ (x : List ℕ). x ∷ []) (sym (append-nil t))
@@ -281,19 +274,14 @@ module _ (sealing : List ℕ → List ℕ → List ℕ) (opening : List ℕ → 
       let text' = base ++ released opening n next in
       let e = more_released s piece ts more_is ∙ ap (λ (t : List ℕ). released opening n s ++ t) parts in
       let left = cut_len base s next out unwritten e in
-      let lent : 0 < length (flat_map (λ (t : List ℕ). t) ts) = omega (arith, ap length parts, length-append out unwritten, some) in
-      let size : length (outcome opening n next).texts ≡ length (outcome opening n s).texts + length ts = ap length texts
-      ∙ length-append (outcome opening n s).texts ts in
       -- it lent something, so it was open
       let o : (outcome opening n s).status ≡ Open =
       elim (stays s timely) [
         | inl o ↦ o
-        | inr same ↦ (let none = none_lent ts (omega (arith, size, ap length (same piece).1)) in absurd (omega (arith, lent, ap length none)))
+        | inr same ↦ (let none = ap (flat_map (λ (t : List ℕ). t)) (same piece).1 in
+            absurd (omega (arith, some, ap length e, ap length none, length-append {A = ℕ})))
       ] in
-      let start = piece_start s piece in
-      let some_text : length ts ≡ 0 → ⊥ = λ z. let none = none_lent ts z in omega (arith, lent, ap length none) in
       let whole = open_text base s len (c.all o) in
-      let count : s.start + length (outcome opening n s).texts ≡ at s = ap (λ (xs : List (List ℕ)). s.start + length xs) (sym (c.all o)) ∙ c.count in
       let step : (at s + 1) * n ≡ at s * n + n = omega arith in
       record {
         index = λ more.
@@ -308,9 +296,8 @@ module _ (sealing : List ℕ → List ℕ → List ℕ) (opening : List ℕ → 
                   (let same : at next ≡ at s = omega (arith, le, index_stays s piece timely) in
                   elim (stays next timely') [
                     | inl o' ↦
-                        (let count' : next.start + length (outcome opening n next).texts
-                        ≡ at next = ap (λ (xs : List (List ℕ)). next.start + length xs) (sym (c'.all o')) ∙ c'.count in
-                        absurd (some_text (omega (arith, count', count, size, same, start))))
+                        (let k : at next * n ≡ at s * n = ap (λ (i : ℕ). i * n) same in
+                        absurd (omega (arith, some, whole, open_text base next len' (c'.all o'), k, ap length e, length-append {A = ℕ})))
                     | inr still ↦ inr ((still more).0 ∙ same)
                   ])
             ] in
@@ -369,11 +356,6 @@ module _ (sealing : List ℕ → List ℕ → List ℕ) (opening : List ℕ → 
       }
 
 -- ---- Feeding an opener and writing what it releases, one call after another.
-
--- what was lent, joined
-lent_flat : (chunk : Option (Bor (List ℕ))) → flat_map (λ (t : List ℕ). t) (chunk_texts chunk) ≡ chunk_bytes chunk
-lent_flat None = refl
-lent_flat (Some chunk) = append-nil chunk.now
 
 -- a chunk is one text at most
 chunk_few : (chunk : Option (Bor (List ℕ))) → length (chunk_texts chunk) ≤ 1
@@ -449,11 +431,11 @@ module _ {B : Type 0} (opening : B → List ℕ → List ℕ → Option (List �
 
   -- what the opener lent of a piece was written whole, and counted
   pub counts_whole : {sealing : List ℕ → List ℕ → List ℕ} {old new : OpenerView B} {was now : Tally} (fed : List ℕ) (chunk : Option (Bor (List ℕ)))
-      (index : ℕ) → IsChunkBox sealing (opening old.key) → new.key ≡ old.key → index ≡ new.index
-      → StandsOn old new fed → Lends old fed (chunk_texts chunk) → AdvancesTally was.index was.chain index (link_if was.chain (chunk_bytes chunk)) now
-      → IsMarkedOn old fed was now []
-  counts_whole {sealing} {old} {new} {was} {now} fed chunk index valid key is stands texts a keep positive s base len h m =
-      let a' = subst (λ (l : Option (List ℕ)). AdvancesTally was.index was.chain index l now) (ap (link_if was.chain) (sym (lent_flat chunk))) a in
+      (index : ℕ) {bytes : List ℕ} → IsChunkBox sealing (opening old.key) → new.key ≡ old.key → index ≡ new.index
+      → StandsOn old new fed → Lends old fed (chunk_texts chunk) → chunk_bytes chunk ≡ bytes
+      → AdvancesTally was.index was.chain index (link_if was.chain bytes) now → IsMarkedOn old fed was now []
+  counts_whole {sealing} {old} {new} {was} {now} fed chunk index valid key is stands texts lent a keep positive s base len h m =
+      let a' = subst (λ (l : Option (List ℕ)). AdvancesTally was.index was.chain index l now) (ap (link_if was.chain) (sym (lent_flat chunk ∙ lent))) a in
       let at : index ≡ (outcome (opening old.key) n (with_piece s fed)).index = is
       ∙ ((stands s h).index ∙ ap (λ k. (outcome (opening k) n (with_piece s fed)).index) key) in
       mark_step sealing (opening old.key) valid n positive keep base s fed (chunk_texts chunk) index
@@ -475,31 +457,48 @@ module _ {B : Type 0} (opening : B → List ℕ → List ℕ → Option (List �
       (texts s h) (chunk_few chunk) (lent_flat chunk ∙ lent) some index chain_same m
 
   -- a call that took the front of a piece and lent a chunk, of which this much was written
-  pub fed_front : {old new : OpenerView B} {was now : WriterView} (piece : List ℕ) (taken : ℕ)
+  pub fed_front : {result : Result ℕ FileFault} {old new : OpenerView B} {was now : WriterView} (piece : List ℕ) (taken : ℕ)
       (chunk : Option (Bor (List ℕ))) {out unwritten : List ℕ} → new.key ≡ old.key
       → StandsOn old new (take taken piece) → Lends old (take taken piece) (chunk_texts chunk)
       → chunk_bytes chunk ≡ out ++ unwritten → Wrote was now out → IsMarkedOn old (take taken piece) was.tally now.tally unwritten
-      → Releases opening n (λ s. with_piece s (take taken piece)) old new was now unwritten
-  fed_front {old} {new} {was} {now} piece taken chunk {out} {unwritten} key stands texts lent wrote counts =
+      → MatchResult result (λ n'. (n' ≡ length (take taken piece)) × FeedGoes opening n old new was now (take taken piece) unwritten)
+      (FeedFails opening n new was now (drop taken piece) unwritten) → FeedsOnce opening n old new was now piece result
+  fed_front {result} {old} {new} {was} {now} piece taken chunk {out} {unwritten} key stands texts lent wrote counts answered =
       record {
-        out = out;
-        key = key;
-        wrote = wrote;
-        stands = stands;
-        text = λ s h. more_text (opening old.key) n s (with_piece s (take taken piece))
-            (chunk_texts chunk) (out ++ unwritten) (texts s h) (lent_flat chunk ∙ lent);
-        counts = counts;
+        fed = take taken piece;
+        left = drop taken piece;
+        unwritten = unwritten;
+        parts = sym (take-append-drop taken piece);
+        releases = record {
+          out = out;
+          key = key;
+          wrote = wrote;
+          stands = stands;
+          text = λ s h. more_text (opening old.key) n s (with_piece s (take taken piece))
+              (chunk_texts chunk) (out ++ unwritten) (texts s h) (lent_flat chunk ∙ lent);
+          counts = counts;
+        };
+        answered = answered;
       }
 
+  -- the opener holds what was taken, or lent it without a tag
+  holds_or_lends : (old new : OpenerView B) (size taken : ℕ) (chunk : Option (Bor (List ℕ)))
+      → IfSome chunk (λ c. (length c.now ≡ size) × (length old.held + taken ≡ size + tag_length) × (new.held ≡ []))
+      → IfNone chunk (length new.held ≡ length old.held + taken) → length new.held + length (chunk_bytes chunk) ≤ length old.held + taken
+  holds_or_lends old new size taken None lent unlent = omega (arith, unlent)
+  holds_or_lends old new size taken (Some c) lent unlent = omega (arith, lent.0, lent.1, ap length lent.2)
+
   -- how much it then holds and wrote
-  pub goes_front : (old new : OpenerView B) {was now : WriterView} (piece : List ℕ) (taken : ℕ)
-      (chunk : Option (Bor (List ℕ))) {out unwritten : List ℕ} → taken ≤ length piece → length new.held + length (chunk_bytes chunk) ≤ length old.held
-      + taken → chunk_bytes chunk ≡ out ++ unwritten → Wrote was now out → unwritten ≡ [] → now.sink.failed ≡ was.sink.failed → has_failed new.status ≡ false → (taken ≡ length (take taken piece))
-      × FeedGoes opening n old new was now (take taken piece) unwritten
-  goes_front old new {was} {now} piece taken chunk {out} {unwritten} le room lent wrote whole failed sound =
-      let len : length (chunk_bytes chunk) ≡ length out = ap length (lent ∙ (ap (λ (t : List ℕ). out ++ t) whole ∙ append-nil out)) in (
+  pub goes_front : (old new : OpenerView B) {was now : WriterView} (piece : List ℕ) (taken : ℕ) (chunk : Option (Bor (List ℕ))) {out : List ℕ}
+      → taken ≤ length piece → IfSome chunk (λ c. (length c.now ≡ n) × (length old.held + taken ≡ n + tag_length) × (new.held ≡ []))
+      → IfNone chunk (length new.held ≡ length old.held + taken) → chunk_bytes chunk ≡ out ++ [] → Wrote was now out
+      → now.sink.failed ≡ was.sink.failed → has_failed new.status ≡ false
+      → (taken ≡ length (take taken piece)) × FeedGoes opening n old new was now (take taken piece) []
+  goes_front old new {was} {now} piece taken chunk {out} le lent unlent is wrote failed sound =
+      let len : length (chunk_bytes chunk) ≡ length out = ap length (is ∙ append-nil out) in
+      let room = holds_or_lends old new n taken chunk lent unlent in (
         omega (arith, le, length-take taken piece),
-        (omega (arith, le, room, wrote.count, len, length-take taken piece), whole, failed, sound),
+        (omega (arith, le, room, wrote.count, len, length-take taken piece), refl, failed, sound),
       )
 
   goes_then : (a b : List ℕ) (old mid new : OpenerView B) (was between now : WriterView) → FeedGoes opening n old mid was between a []

@@ -1,7 +1,7 @@
 -- What was read: bytes, a header, a nonce, and what was passed over; and what was written.
 use Rattle.std.proofs.Common.{◌≡◌, ℕ, ◌≤◌, List, [], ◌++◌, length, take, drop, Option, Some, None, refl, sym, ap, subst, ◌∙◌, append_assoc, append-nil, inl}
-use Rattle.std.proofs.Common.{inr, arith, ◌<◌, suc, ◌*◌}
-use Rattle.std.specs.Prelude.{Bool, ◌⊎◌, IfSome, Result, Ok, Err, IfOk, IfErr}
+use Rattle.std.proofs.Common.{inr, arith, ◌<◌, suc, ◌*◌, ◌/◌}
+use Rattle.std.specs.Prelude.{Bool, ◌⊎◌, Result}
 use Rattle.std.specs.Io.KnownBytes as known
 use Rattle.age_io.specs.Supply.{Supply, Consumes, IsAtEnd}
 use Rattle.std.proofs.lemmas.List.{take-append-drop, take_at, drop_at, length-take-le, length-append}
@@ -19,7 +19,7 @@ use Rattle.age_stream.specs.Headline.{IsPrefixOf}
 use Rattle.age_file.specs.Runs.{pull_room, EndsInHeader, InHeader, IsCut, IsHeadFault, ReportsFault, StopsAtHeader, HeadFails, Ports, ports}
 use Rattle.age_fault.specs.inner.Faults.{fault_of, fault_by_kind, fault_of_key}
 use Rattle.age_fault.specs.declared.fault.FileFault.{FileFault}
-use Rattle.age_fault.specs.declared.fault.FileFault.TheVariants.{Head, Read, ReadNeverEnds, Memory, NonceCut}
+use Rattle.age_fault.specs.declared.fault.FileFault.TheVariants.{Head, Read, ReadNeverEnds, Memory, NonceCut, Stream}
 use Rattle.age_file.specs.inner.Readers.{Start, start_at, start_after, Pulled, PullFails, ReaderView, reader_view, WriterView, Wrote, ReadsHead, Refills}
 use Rattle.age_io.proofs.TakenLemmas.{Appends-nil, Appends-trans}
 use Rattle.age_fault.specs.Faults.{HasFailed}
@@ -31,7 +31,9 @@ use Rattle.age_keys.specs.declared.fault.KeyFault.{KeyFault}
 use Rattle.age_keys.specs.declared.fault.KeyFault.TheVariants.{Memory as KeyMemory}
 use Rattle.age_keys.specs.Keys.{Opens, Refuses}
 use Rattle.age_file.specs.Decrypts.{StartFails, InNonce}
-use Rattle.age_file.specs.inner.Copies.{Uses, UsesShort, NonceFails, ReadsNonce, StartsAt, Passes, Dries, SkipFails}
+use Rattle.age_file.specs.inner.Copies.{Uses, NonceFails, TakesNonce, StartsAt, Passes, NoMore, Dries, HasSome, SkipFails}
+use Rattle.age_chunk.specs.declared.fault.StreamKind.TheVariants.{Truncated}
+use Rattle.age_file.specs.Bindings.{file_id}
 use Rattle.age_file.specs.declared.start.Unlocked.{Unlocked}
 use Rattle.age_file.specs.declared.head.Head.{Head as TheHead}
 use Rattle.std.proofs.Math.Nat.{mul-le-mul_right}
@@ -110,32 +112,16 @@ fails_by_kind : (old new : SourceView) (kind : HeadKind) (fault : HeadFault) →
 fails_by_kind old new HeadMemory fault stops reported = stops
 fails_by_kind old new other fault stops reported = reported
 
--- what is reported of the bytes that were read is reported of all that the source had
-abbrev OfAll : Option (List ℕ) → HeadFault → Type 0
-OfAll old fault = IfSome old (λ (all : List ℕ). IsHeadFault all fault)
-
-whole_fault : (old new : Option (List ℕ)) (bytes : List ℕ) (fault : HeadFault)
-    → known.Consumes old new bytes → (HasHeader bytes → ⊥) → IsFault bytes fault → OfAll old fault
-whole_fault None new bytes fault consumed none is = tt
-whole_fault (Some all) None bytes fault consumed none is = absurd consumed
-whole_fault (Some all) (Some rest) bytes fault consumed none is =
-    let more = more_fault bytes rest fault none is in
-    subst (λ (t : List ℕ). IsHeadFault t fault) (sym consumed) (more.0, inl more.1)
-
-whole_cut : (old new : Option (List ℕ)) (bytes : List ℕ) (fault : HeadFault)
-    → known.Consumes old new bytes → known.IsAtEnd new → IsCut bytes fault → OfAll old fault
-whole_cut None new bytes fault consumed ended cut = tt
-whole_cut (Some all) None bytes fault consumed ended cut = absurd consumed
-whole_cut (Some all) (Some rest) bytes fault consumed ended cut =
-    let same : all ≡ bytes = consumed ∙ ap (λ (t : List ℕ). bytes ++ t) ended ∙ append-nil bytes in
-    subst (λ (t : List ℕ). IsHeadFault t fault) (sym same) (cut.0.no_header, inr cut)
-
--- a fault that was reported is that of all that the source had
-pub fault_of_all : (old new : Supply) (fault : HeadFault) → ReportsFault old new fault → OfAll old.left fault
-fault_of_all old new fault r = elim r.reports [
-  | inl is ↦ whole_fault old.left new.left r.bytes fault r.consumed.left r.no_header is
-  | inr cut ↦ whole_cut old.left new.left r.bytes fault r.consumed.left cut.0.1 cut.1
-]
+-- a fault that was reported of the bytes that were read is that of all that the source had
+pub fault_of_all : (old new : Supply) (all : List ℕ) (fault : HeadFault) → old.left ≡ Some all → ReportsFault old new fault → IsHeadFault all fault
+fault_of_all old new all fault shown r =
+    let t = left_of old new all r.bytes shown r.consumed in
+    elim r.reports [
+      | inl is ↦ (let more = more_fault r.bytes t.0 fault r.no_header is in
+          subst (λ (x : List ℕ). IsHeadFault x fault) (sym t.1) (more.0, inl more.1))
+      | inr cut ↦ (let same : all ≡ r.bytes = t.1 ∙ ap (λ (x : List ℕ). r.bytes ++ x) (none_left new t.0 t.2 cut.0) ∙ append-nil r.bytes in
+          subst (λ (x : List ℕ). IsHeadFault x fault) (sym same) (cut.1.0.no_header, inr cut.1))
+    ]
 
 -- the input ended inside the header
 pub end_fails : (old new : SourceView) (bytes : List ℕ) (fault : HeadFault) → Consumes old.supply new.supply bytes → IsAtEnd new.supply
@@ -295,16 +281,6 @@ pub uses_front : (v : SourceView) (x y : Unread) (piece : List ℕ) (n : ℕ) �
 uses_front v x y piece n pulls is rest = λ start used h. subst (λ (t : List ℕ). Pulled start v.supply y.pulls t)
     (append_assoc used (take n piece) y.bytes) (head_pulled start v.supply x y used piece n pulls is rest h)
 
--- no byte came for the rest of a nonce
-pub nonce_fails : (x y z : ReaderView) (p : List ℕ) (fault : FileFault) → length p < 16 → y.source.failed ≡ x.source.failed → Uses x y p → Uses y z []
-    → z.unread.bytes ≡ [] → PullFails y z fault → NonceFails x z fault
-nonce_fails x y z p Read lt e f g none h = (
-  (p, lt, uses_then x y z p [] p (append-nil p) f g, none),
-  subst (λ (m : ℕ). HasFailed m z.source.failed z.source.failing) e h,
-)
-nonce_fails x y z p ReadNeverEnds lt e f g none h = ((p, lt, uses_then x y z p [] p (append-nil p) f g, none), h.0)
-nonce_fails x y z p other lt e f g none h = absurd h
-
 module _ (Allows : Header → List ℕ → Type 0) (Refused : Header → KeyFault → Type 0) where
   pub key_to_start : {a : SourceView} {y : ReaderView} {h : TheHead} → ReadsHead a y h → (fault : KeyFault) → Refuses Allows Refused h.header fault
       → StartFails Allows Refused a y.source (fault_of_key fault)
@@ -312,42 +288,39 @@ module _ (Allows : Header → List ℕ → Type 0) (Refused : Header → KeyFaul
   key_to_start {a} {y} {h} head other refuses = (h.header, head.front, y.unread.bytes, head.text, head.pulled.consumed, λ e. cc, refuses, head.few)
 
   -- a header was read and opened
-  module _ {a : SourceView} {y : ReaderView} (z : ReaderView) {h : TheHead} {key : List ℕ} (head : ReadsHead a y h) (opens : Opens Allows h.header key) where
-    -- what was pulled if a nonce fell short
-    short_pulled : (u : UsesShort y z) → Pulled (start_at a.supply) z.source.supply z.unread.pulls (head.front ++ u.0)
-    short_pulled u = cut_pulled (head.front ++ u.0) u.3 (subst (λ (t : List ℕ). Pulled (start_at a.supply) z.source.supply z.unread.pulls t) (sym (append_assoc head.front u.0 z.unread.bytes))
-        (u.2 (start_at a.supply) head.front head.pulled))
+  module _ {a : SourceView} {y z : ReaderView} {h : TheHead} {key : List ℕ} (head : ReadsHead a y h) (opens : Opens Allows h.header key) where
+    -- no nonce came
+    pub nonce_missed : (fault : FileFault) → NonceFails y z fault → StartFails Allows Refused a z.source fault
+    nonce_missed fault (short, lt, d) = by fault d.why where
+      all : Pulled (start_at a.supply) z.source.supply z.unread.pulls (head.front ++ short)
+      all = cut_pulled (head.front ++ short) d.used (subst (λ (t : List ℕ). Pulled (start_at a.supply) z.source.supply z.unread.pulls t)
+          (sym (append_assoc head.front short z.unread.bytes)) (d.uses (start_at a.supply) head.front head.pulled))
 
-    in_nonce : UsesShort y z → InNonce Allows a.supply z.source.supply
-    in_nonce u = (h.header, head.front, key, u.0, head.text, opens, u.1, (short_pulled u).consumed)
+      in_nonce : InNonce Allows a.supply z.source.supply
+      in_nonce = (h.header, head.front, key, short, head.text, opens, lt, all.consumed)
 
-    nonce_to_start : (fault : FileFault) → NonceFails y z fault → StartFails Allows Refused a z.source fault
-    nonce_to_start NonceCut f = (in_nonce f.0, f.1)
-    nonce_to_start Read f = (inr (in_nonce f.0), subst (λ (m : ℕ). HasFailed m z.source.failed z.source.failing) head.unfailed f.1)
-    nonce_to_start ReadNeverEnds f =
-        let all = short_pulled f.0 in
-        (inr (in_nonce f.0), (head.front ++ f.0.0, all.consumed, (omega (arith, all.each_gave, f.1), omega (arith, all.small, f.1))))
-    nonce_to_start other f = absurd f
+      by : (fault : FileFault) → NoMore NonceCut y z fault → StartFails Allows Refused a z.source fault
+      by fault (inl ended) = subst (StartFails Allows Refused a z.source) (sym ended.0) (in_nonce, ended.1)
+      by Read (inr f) = (inr in_nonce, subst (λ (m : ℕ). HasFailed m z.source.failed z.source.failing) head.unfailed f)
+      by ReadNeverEnds (inr f) =
+          (inr in_nonce, (head.front ++ short, all.consumed, (omega (arith, all.each_gave, f.0), omega (arith, all.small, f.0))))
+      by other (inr f) = absurd f
 
-    -- the nonce after it was read, or not
-    pub nonce_found : (result : Result Unlocked FileFault) → IfOk result (ReadsNonce key h.digest y z) → IfOk result (StartsAt Allows a z)
-    nonce_found (Ok u) r = record {
+    -- it came
+    pub nonce_found : (u : Unlocked) → u.key ≡ key → length u.nonce ≡ 16 → u.id ≡ file_id head.front u.nonce → TakesNonce y z u.nonce
+        → StartsAt Allows a z u
+    nonce_found u key_is size id takes = record {
       header = h.header;
       front = head.front;
       text = head.text;
-      opens = subst (λ (k : List ℕ). Opens Allows h.header k) (sym r.key_is) opens;
-      size = r.size;
-      id = r.id head.front head.hashed;
-      few = r.takes.few;
+      opens = subst (λ (k : List ℕ). Opens Allows h.header k) (sym key_is) opens;
+      size = size;
+      id = id;
+      few = takes.few;
       pulled = subst (λ (t : List ℕ). Pulled (start_at a.supply) z.source.supply z.unread.pulls t)
-          (sym (append_assoc head.front u.nonce z.unread.bytes)) (r.takes.uses (start_at a.supply) head.front head.pulled);
-      unfailed = r.takes.unfailed ∙ head.unfailed;
+          (sym (append_assoc head.front u.nonce z.unread.bytes)) (takes.passes.uses (start_at a.supply) head.front head.pulled);
+      unfailed = takes.passes.unfailed ∙ head.unfailed;
     }
-    nonce_found (Err fault) r = tt
-
-    pub nonce_missed : (result : Result Unlocked FileFault) → IfErr result (NonceFails y z) → IfErr result (StartFails Allows Refused a z.source)
-    nonce_missed (Ok u) f = tt
-    nonce_missed (Err fault) f = nonce_to_start fault f
 
 -- ---- What was passed over, one step after another.
 
@@ -361,16 +334,32 @@ passes_then {x} {y} {z} p q f g = record {
 pub passes_same : {x y z : ReaderView} {p : List ℕ} → Passes x y p → Passes y z [] → Passes x z p
 passes_same {x} {y} {z} {p} f g = subst (Passes x z) (append-nil p) (passes_then p [] f g)
 
-pub dries_then : {x y z : ReaderView} (p q : List ℕ) (fault : FileFault) → Passes x y p → Dries y z q fault → Dries x z (p ++ q) fault
-dries_then {x} {y} {z} p q fault f g = record {
+-- the front of the bytes that are there
+pub passes_on : {x y : ReaderView} {source : SourceView} {u v : Unread} {p : List ℕ} (piece : List ℕ) (n : ℕ) → Passes x y p
+    → HasSome y (reader_view source u) → v.pulls ≡ u.pulls → piece ≡ u.bytes → v.bytes ≡ drop n u.bytes
+    → Passes x (reader_view source v) (p ++ take n piece)
+passes_on {x} {y} {source} {u} {v} {p} piece n f some pulls is rest =
+    passes_then p (take n piece) (passes_same f some.passes) (record { uses = uses_front source u v piece n pulls is rest; unfailed = refl })
+
+-- no more came, after pulls none of which failed
+no_more_since : (at_end : FileFault) (old mid new : ReaderView) (fault : FileFault) → mid.source.failed ≡ old.source.failed
+    → NoMore at_end mid new fault → NoMore at_end old new fault
+no_more_since at_end old mid new fault same (inl ended) = inl (ended.0, ended.1, ended.2 ∙ same)
+no_more_since at_end old mid new fault same (inr f) = inr (pull_fails_since old mid new fault same f)
+
+pub dries_then : {at_end : FileFault} {x y z : ReaderView} (p q : List ℕ) (fault : FileFault) → Passes x y p → Dries at_end y z q fault
+    → Dries at_end x z (p ++ q) fault
+dries_then {at_end} {x} {y} {z} p q fault f g = record {
   uses = uses_then x y z p q (p ++ q) refl f.uses g.uses;
   used = g.used;
-  why = pull_fails_since x y z fault f.unfailed g.why;
+  why = no_more_since at_end x y z fault f.unfailed g.why;
 }
 
 -- if no byte came
-pub dries_same : {x y z : ReaderView} {p : List ℕ} (fault : FileFault) → Passes x y p → Dries y z [] fault → Dries x z p fault
-dries_same {x} {y} {z} {p} fault f g = subst (λ (t : List ℕ). Dries x z t fault) (append-nil p) (dries_then p [] fault f g)
+pub dries_same : {at_end : FileFault} {x y z : ReaderView} {p : List ℕ} (fault : FileFault) → Passes x y p → Dries at_end y z [] fault
+    → Dries at_end x z p fault
+dries_same {at_end} {x} {y} {z} {p} fault f g =
+    subst (λ (t : List ℕ). Dries at_end x z t fault) (append-nil p) (dries_then p [] fault f g)
 
 -- whole parts before the last, and less than one more
 pub within : (n blocks j : ℕ) (p q : List ℕ) → length p ≡ j * n → j < blocks → length q < n → length (p ++ q) < blocks * n
@@ -378,9 +367,8 @@ within n blocks j p q size lt short =
     let more : suc j * n ≤ blocks * n = mul-le-mul_right n lt in
     omega (arith, more, size, short, length-append p q)
 
--- a pull gave no more, before all blocks were passed over
-pub skip_dry : (n blocks : ℕ) (x z : ReaderView) (p : List ℕ) (fault : FileFault) → length p < blocks * n → Dries x z p fault
-    → SkipFails n blocks x z fault
-skip_dry n blocks x z p Read lt g = (p, lt, g)
-skip_dry n blocks x z p ReadNeverEnds lt g = (p, lt, g)
-skip_dry n blocks x z p other lt g = absurd g.why
+-- no more came before all blocks were passed over
+pub skip_fails : (n blocks : ℕ) {k : ℕ} {x z : ReaderView} {p : List ℕ} {fault : FileFault} → length p < blocks * n
+    → Dries (Stream (record { kind = Truncated; chunk = k })) x z p fault → k ≡ length p / n → SkipFails n blocks x z fault
+skip_fails n blocks {k} {x} {z} {p} {fault} lt d e =
+    (p, lt, subst (λ (i : ℕ). Dries (Stream (record { kind = Truncated; chunk = i })) x z p fault) e d)

@@ -1,6 +1,6 @@
 -- From what was read, copied and decrypted to what a decryption did, from the start or from a position on.
 use Rattle.std.proofs.Common.{Some, None, refl, ◌≡◌, ℕ, List, [], ◌++◌, ap, arith, append_assoc, suc, ◌+◌, ◌*◌, ◌<◌, Err, ◌∷◌, length, take, drop, sym, subst}
-use Rattle.std.proofs.Common.{◌∙◌, append-nil, ◌≤◌, Option, inl, inr, ◌^◌}
+use Rattle.std.proofs.Common.{◌∙◌, append-nil, ◌≤◌, Option, inl, inr, ◌^◌, ◌/◌}
 use Rattle.std.specs.Prelude.{Result}
 use Rattle.age_io.specs.Io.{SourceView, SinkView}
 use Rattle.age_stanza.specs.declared.header.Header.{Header}
@@ -13,7 +13,8 @@ use Rattle.age_file.specs.declared.decryption.Stopped.{Stopped}
 use Rattle.age_file.specs.declared.position.PositionPolicy.{PositionPolicy}
 use Rattle.age_file.specs.declared.start.Unlocked.{Unlocked}
 use Rattle.age_file.specs.inner.Parts.{chain_if, Unread}
-use Rattle.age_file.specs.inner.Copies.{StartsAt, Passes, Dries, FailsInCopy, CopiesChunk, CopiesAll, TextFails, CopiesBefore, TextGoes, SkipFails, Uses}
+use Rattle.age_file.specs.inner.Copies.{StartsAt, Passes, NoMore, Dries, FailsInCopy, CopiesChunk, CopiesAll, TextFails, CopiesBefore, TextGoes, SkipFails, Uses}
+use Rattle.age_chunk.specs.declared.fault.StreamKind.TheVariants.{Truncated}
 use Rattle.age_file.specs.inner.Decrypts.{OpensPayload, IsPositionAt, PositionAt, EndsAs, PositionRefused, StartsFor, StartForFails, ResumesRest}
 use Rattle.age_file.specs.inner.Readers.{Stage, ports_at, start_at, ReaderView, WriterView, Wrote, reader_view, stage, Start, Pulled, start_after}
 use Rattle.age_file.proofs.RunLemmas.{BeginsAt, run, due, ended, opened, place_at}
@@ -100,21 +101,20 @@ chain_more n i out chunk whole size =
 
 copy_fails : (x y z : ReaderView) (a b c : WriterView) (p q : List ℕ) (fault : FileFault) → Passes x y p → b.sink.failed ≡ a.sink.failed
     → FailsInCopy y z b c q fault → FailsInCopy x z a c (p ++ q) fault
-copy_fails x y z a b c p q ShortText f same g = (passes_then p q f g.0, g.1, g.2, g.3 ∙ same)
-copy_fails x y z a b c p q Write f same g =
-    let more : IsPrefixOf (p ++ q) ((p ++ g.0) ++ z.unread.bytes) = (
-      g.2.0,
-      append_assoc p q g.2.0 ∙ ap (λ (t : List ℕ). p ++ t) g.2.1 ∙ sym (append_assoc p g.0 z.unread.bytes),
-    ) in (
-      p ++ g.0,
-      passes_then p g.0 f g.1,
-      more,
-      subst (λ (m : ℕ). HasFailed m c.sink.failed c.sink.failing) same g.3,
-      omega (arith, g.4, length-append p g.0, length-append p q),
-    )
-copy_fails x y z a b c p q Read f same g = (dries_then p q Read f g.0, g.1 ∙ same)
-copy_fails x y z a b c p q ReadNeverEnds f same g = (dries_then p q ReadNeverEnds f g.0, g.1 ∙ same)
-copy_fails x y z a b c p q other f same g = absurd g
+copy_fails x y z a b c p q fault f same (inl (dries, unfailed)) = inl (dries_then p q fault f dries, unfailed ∙ same)
+copy_fails x y z a b c p q fault f same (inr (is, cut)) = inr (
+  is,
+  record {
+    used = p ++ cut.used;
+    passes = passes_then p cut.used f cut.passes;
+    front = (
+      cut.front.0,
+      append_assoc p q cut.front.0 ∙ ap (λ (t : List ℕ). p ++ t) cut.front.1 ∙ sym (append_assoc p cut.used z.unread.bytes),
+    );
+    failed = subst (λ (m : ℕ). HasFailed m c.sink.failed c.sink.failing) same cut.failed;
+    most = omega (arith, cut.most, length-append p cut.used, length-append p q);
+  },
+)
 
 -- whole chunks, and then one that was not copied
 pub chunk_failed : (n chunks i : ℕ) (x y z : ReaderView) (a b c : WriterView) (p : List ℕ)
@@ -133,13 +133,6 @@ front_written used out unwritten bytes n parts = (
   append_assoc used out (unwritten ++ drop n bytes) ∙ ap (λ (t : List ℕ). used ++ t) (sym (append_assoc out unwritten (drop n bytes))
       ∙ ap (λ (t : List ℕ). t ++ drop n bytes) (sym parts) ∙ take-append-drop n bytes),
 )
-
--- a pull gave no more
-pub copy_dry : (x z : ReaderView) (a b : WriterView) (p : List ℕ) (fault : FileFault) → Dries x z p fault → b.sink.failed ≡ a.sink.failed
-    → FailsInCopy x z a b p fault
-copy_dry x z a b p Read g same = (g, same)
-copy_dry x z a b p ReadNeverEnds g same = (g, same)
-copy_dry x z a b p other g same = absurd g.why
 
 -- ---- From what was read, copied, skipped and decrypted to what a resumed decryption did.
 
@@ -296,29 +289,38 @@ module _ (keep : PositionPolicy) (Allows : Header → List ℕ → Type 0) (Refu
     dried_in_old fault empty uses short why =
         stops_in_old fault out (omega (arith, short)) (old_dried out empty uses).consumed (omega (arith, short)) ([], append-nil out) why
 
-    text_fails_in_old : (fault : FileFault) → TextFails chunk_length p.index p.chain x z first s1.writer out fault
-        → StopsInOld Allows p old (new s1.reader) (stop fault None)
-    text_fails_in_old ShortText f = dried_in_old ShortText f.1.1 f.1.0.uses f.0 (f.0, (refl, f.1.2))
-    text_fails_in_old Write f =
-        stops_in_old Write (f.1.0 ++ z.unread.bytes) (omega (arith, f.0)) (old_pulled f.1.0 f.1.1.uses).consumed
-        (omega (arith, f.0, f.1.4, cb.few, length-append f.1.0 z.unread.bytes)) f.1.2 (f.0, ((f.1.3, s.unfailed), f.1.1.unfailed))
-    text_fails_in_old Read f = dried_in_old Read f.1.0.used f.1.0.uses f.0 (f.0, (refl, (s.unfailed, f.1.1), f.1.0.why))
-    text_fails_in_old ReadNeverEnds f =
-        let all = old_dried out f.1.0.used f.1.0.uses in
-        let both = length-append started out in
-        let never : NeverEndTogether old (new s1.reader) = (
-          started,
-          out,
-          s.pulled.consumed,
-          all.consumed,
-          (omega (arith, all.each_gave, f.1.0.why.0, both), omega (arith, all.small, f.1.0.why.0, both)),
-        ) in
-        dried_in_old ReadNeverEnds f.1.0.used f.1.0.uses f.0 (f.0, (refl, never))
-    text_fails_in_old OldTextDiffers f =
-        let le : length out ≤ p.index * chunk_length = omega (arith, f.0.0) in
-        stops_in_old OldTextDiffers (out ++ z.unread.bytes) le (old_pulled out f.0.1.uses).consumed
-        (omega (arith, le, cb.few, length-append out z.unread.bytes)) (z.unread.bytes, refl) (f.0.0, λ e. f.1 (f.0.4 ∙ ap Some e))
-    text_fails_in_old other f = absurd f.1
+    abbrev Stops : FileFault → Type 0
+    Stops fault = StopsInOld Allows p old (new s1.reader) (stop fault None)
+
+    text_dried : (fault : FileFault) → length out < p.index * chunk_length → Dries ShortText x z out fault
+        → s1.writer.sink.failed ≡ first.sink.failed → Stops fault
+    text_dried fault short d same = by fault d.why where
+      by : (fault : FileFault) → NoMore ShortText x z fault → Stops fault
+      by fault (inl ended) = subst Stops (sym ended.0) (dried_in_old ShortText d.used d.uses short (short, (refl, ended.1)))
+      by Read (inr f) = dried_in_old Read d.used d.uses short (short, (refl, (s.unfailed, same), f))
+      by ReadNeverEnds (inr f) =
+          let all = old_dried out d.used d.uses in
+          let both = length-append started out in
+          let never : NeverEndTogether old (new s1.reader) = (
+            started,
+            out,
+            s.pulled.consumed,
+            all.consumed,
+            (omega (arith, all.each_gave, f.0, both), omega (arith, all.small, f.0, both)),
+          ) in
+          dried_in_old ReadNeverEnds d.used d.uses short (short, (refl, never))
+      by other (inr f) = absurd f
+
+    text_fails_in_old : (fault : FileFault) → TextFails chunk_length p.index p.chain x z first s1.writer out fault → Stops fault
+    text_fails_in_old fault (inl (short, inl (dries, same))) = text_dried fault short dries same
+    text_fails_in_old fault (inl (short, inr (is, cut))) =
+        subst Stops (sym is) (stops_in_old Write (cut.used ++ z.unread.bytes) (omega (arith, short)) (old_pulled cut.used cut.passes.uses).consumed
+        (omega (arith, short, cut.most, cb.few, length-append cut.used z.unread.bytes)) cut.front
+        (short, ((cut.failed, s.unfailed), cut.passes.unfailed)))
+    text_fails_in_old fault (inr (is, goes, differs)) =
+        let le : length out ≤ p.index * chunk_length = omega (arith, goes.0) in
+        subst Stops (sym is) (stops_in_old OldTextDiffers (out ++ z.unread.bytes) le (old_pulled out goes.1.uses).consumed
+        (omega (arith, le, cb.few, length-append out z.unread.bytes)) (z.unread.bytes, refl) (goes.0, λ e. differs (goes.4 ∙ ap Some e)))
 
     pub copy_stopped : (fault : FileFault) → TextFails chunk_length p.index p.chain x z first s1.writer out fault
         → ResumesKeyed keep Allows Refused p old (new s1.reader) (Err (stop fault None)) Before
@@ -389,18 +391,21 @@ module _ (keep : PositionPolicy) (Allows : Header → List ℕ → Type 0) (Refu
       skipped_fails : (m : ReaderView) (position : Option Position) (fault : FileFault)
           → GivesPosition keep (IsSame p) position → SkipFails block_length p.index s1.reader m fault
           → StopsInSkipped Allows p old (new m) keep (stop fault position)
-      skipped_fails m position (Stream fault) at (kind, skipped, short, chunk, passes, used, at_end) =
-          stops_in_skipped m position (Stream fault) skipped at short (dried m skipped used passes.uses).consumed
-          (kind, chunk, at_end, (passes.unfailed ∙ s.unfailed, g.2))
-      skipped_fails m position Read at f =
-          stops_in_skipped m position Read f.0 at f.1 (dried m f.0 f.2.used f.2.uses).consumed (
-            subst (λ (k : ℕ). HasFailed k m.source.failed m.source.failing) s.unfailed f.2.why,
-            g.2,
-          )
-      skipped_fails m position ReadNeverEnds at f =
-          let all = dried m f.0 f.2.used f.2.uses in
-          stops_in_skipped m position ReadNeverEnds f.0 at f.1 all.consumed (never_end m s1.writer.sink (head ++ f.0) all f.2.why.0)
-      skipped_fails m position other at f = absurd f
+      skipped_fails m position fault at (skipped, short, d) = by fault d.why where
+        cut : FileFault
+        cut = Stream (record { kind = Truncated; chunk = length skipped / block_length })
+
+        all : Pulled start m.source.supply m.unread.pulls (head ++ skipped)
+        all = dried m skipped d.used d.uses
+
+        by : (fault : FileFault) → NoMore cut s1.reader m fault → StopsInSkipped Allows p old (new m) keep (stop fault position)
+        by fault (inl ended) = subst (λ (f : FileFault). StopsInSkipped Allows p old (new m) keep (stop f position)) (sym ended.0)
+            (stops_in_skipped m position cut skipped at short all.consumed (refl, refl, ended.1, (ended.2 ∙ s.unfailed, g.2)))
+        by Read (inr f) = stops_in_skipped m position Read skipped at short all.consumed
+            (subst (λ (k : ℕ). HasFailed k m.source.failed m.source.failing) s.unfailed f, g.2)
+        by ReadNeverEnds (inr f) =
+            stops_in_skipped m position ReadNeverEnds skipped at short all.consumed (never_end m s1.writer.sink (head ++ skipped) all f.0)
+        by other (inr f) = absurd f
 
       -- the position is that from which the run began, if nothing was decrypted
       same_position : (next : Position) → IsPositionAt unlocked s1.writer.tally.index (chain (first_chunks chunk_length p.index out)) next

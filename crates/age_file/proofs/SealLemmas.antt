@@ -1,10 +1,11 @@
 -- Sealing a source, and what of the age file was written.
-use Rattle.std.proofs.Common.{◌≡◌, ℕ, ◌+◌, ◌-◌, ◌*◌, ◌^◌, ◌<◌, ◌≤◌, sym, ap, subst, ◌∙◌, List, [], ◌++◌, length, take, drop, Option, append-nil, append_assoc}
+use Rattle.std.proofs.Common.{◌≡◌, ℕ, ◌+◌, ◌-◌, ◌*◌, ◌^◌, ◌<◌, ◌≤◌, sym, ap, subst, ◌∙◌, List, [], ◌++◌, length, take, drop, Option, None, Some, append-nil, append_assoc}
 use Rattle.std.proofs.Common.{take-append-drop, take-add, Bool, false, true, arith, refl, ◌/◌, ◌∷◌, Result, Ok, Err, IfOk, IfErr}
 use Rattle.std.specs.Prelude.{nat_lt, ◌==◌, ◌&&◌, ◌||◌, map}
 use Rattle.std.proofs.Math.Nat.{div-le_self, div-mul-le_self}
 use Rattle.std.proofs.lemmas.Nat.{mul-le}
 use Rattle.std.specs.Borrow.{Bor}
+use Rattle.std.specs.Option.{unwrap_or}
 use Rattle.std.proofs.lemmas.Bool.{ltb-true, eqb-true, and_parts}
 use Rattle.std.proofs.lemmas.Bool.Decides.{nat_tests}
 use Rattle.std.proofs.lemmas.List.{length-take, length-append, length-drop, take_rest, take_at}
@@ -35,11 +36,13 @@ use Rattle.age_file.specs.declared.encryption.Written.{Written}
 
 -- ---- One feed of a sealer, and what then was written.
 
-pub step_len_le : (m : ℕ) (held piece : List ℕ) → step_len m held piece ≤ length piece
-step_len_le m held piece = grind (arith, nat_tests)
-
 pub step_len_some : (m : ℕ) (held piece : List ℕ) → 0 < length piece → 0 < step_len m held piece
 step_len_some m held piece h = grind (arith, nat_tests, h)
+
+-- the block that a step lent, or none
+pub lent : (chunk : Option (Bor (List ℕ))) (none : Bor (List ℕ)) → none.now ≡ [] → chunk_bytes chunk ≡ (unwrap_or chunk none).now
+lent None none e = sym e
+lent (Some block) none e = refl
 
 -- a sealer that was never refused is refused only at the last chunk that a payload may have, if
 -- it is full and more comes

@@ -4,7 +4,7 @@ use Rattle.std.proofs.Common.{append-nil, append_assoc, Bool, true, false, None,
 use Rattle.std.proofs.lemmas.List.{length-append, drop_at, drop_all, length-take}
 use Rattle.age_io.specs.Taken.{Appends}
 use Rattle.age_io.specs.Supply.{Supply, Consumes, IsAtEnd}
-use Rattle.std.specs.Prelude.{IfSome, IsSomeAnd}
+use Rattle.std.specs.Prelude.{IsSomeAnd}
 use Rattle.age_stanza.specs.declared.header.Header.{Header}
 use Rattle.age_stanza.specs.declared.fault.HeadFault.{HeadFault}
 use Rattle.age_stanza.specs.Grammar.{HeadText}
@@ -93,9 +93,8 @@ module _ (one : OneHeader) {Allows : Header → List ℕ → Type 0} {Refused : 
         rest_is = sym (same_front file.front front (u.nonce ++ payload (box u.key u.nonce) chunk_length text) behind (ap length same.1) e).1;
       }
 
-  no_head_fault : (fault : HeadFault) → IfSome coming.left (λ (all : List ℕ). IsHeadFault all fault) → ⊥
-  no_head_fault fault f =
-      let here : IsHeadFault u.bytes fault = subst (λ (c : Option (List ℕ)). IfSome c (λ (all : List ℕ). IsHeadFault all fault)) u.all f in
+  no_head_fault : (fault : HeadFault) → IsHeadFault u.bytes fault → ⊥
+  no_head_fault fault here =
       let file = u.file in
       here.0 (
         u.header,
@@ -202,7 +201,7 @@ module _ (one : OneHeader) {Allows : Header → List ℕ → Type 0} {Refused : 
 module _ (one : OneHeader) {Allows : Header → List ℕ → Type 0} {Refused : Header → KeyFault → Type 0} (before after : SourceView) {text : List ℕ}
     (u : IsWhole Allows Refused before.supply text) where
   pub start_undamaged : (fault : FileFault) → StartFails Allows Refused before after fault → StopsOutside fault
-  start_undamaged (Head x) f = absurd (no_head_fault one u x (fault_of_all before.supply after.supply x f))
+  start_undamaged (Head x) f = absurd (no_head_fault one u x (fault_of_all before.supply after.supply u.bytes x u.all f))
   start_undamaged (Key x) f = absurd (no_key_fault one u after.supply f.0 f.1 f.2 x f.3 f.4 f.5 f.6)
   start_undamaged NonceCut f = absurd (no_nonce_cut one u after.supply f.0.0 f.0.1 f.0.3 f.0.4 f.0.6 f.0.7 f.1)
   start_undamaged Read f = tt

@@ -9,7 +9,7 @@ ghost use Rattle.age_file.specs.inner.Copies.{CanCopy, CopiesChunk, CopiesAll};
 ghost use Rattle.age_chunk.specs.Payload.{chunk_length, chunk_limit};
 
 use crate::reader::{Reader, Writer};
-use crate::start::has_bytes;
+use crate::start::need_bytes;
 use age_fault::{FileFault, write_all};
 use age_io::{Sink, Source};
 use age_stream::CHUNK_LEN;
@@ -35,9 +35,7 @@ fn copy_chunk<S: Source, O: Sink>(
     digest.update(&chain);
     let mut left = CHUNK_LEN;
     'parts: while left > 0 {
-        if !has_bytes(reader)? {
-            return Err(FileFault::ShortText);
-        }
+        need_bytes(reader, FileFault::ShortText)?;
         let n = left.min(reader.intake.bytes().len());
         let piece = &reader.intake.bytes()[..n];
         write_all(writer.sink, piece, &mut writer.tally.written)?;

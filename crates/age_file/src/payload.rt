@@ -32,11 +32,10 @@ fn feed_once<O: Sink>(
 {
     let step = opener.feed(piece)?;
     let taken = step.taken;
-    let Some(chunk) = step.chunk else {
-        return Ok(taken);
-    };
+    let index = step.index;
+    let chunk = step.chunk.unwrap_or(&[]);
     write_all(writer.sink, chunk, &mut writer.tally.written)?;
-    writer.tally.count(step.index, chunk);
+    writer.tally.count(index, chunk);
     Ok(taken)
 }
 

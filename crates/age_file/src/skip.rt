@@ -5,7 +5,7 @@ ghost use Rattle.age_file.specs.inner.Readers.{view_of_reader, SameReader, Keeps
 ghost use Rattle.age_chunk.specs.Payload.{block_length};
 
 use crate::reader::Reader;
-use crate::start::has_bytes;
+use crate::start::need_bytes;
 use age_fault::FileFault;
 use age_io::Source;
 use age_stream::{BLOCK_LEN, StreamFault, StreamKind};
@@ -23,12 +23,11 @@ pub(crate) fn skip_blocks<S: Source>(
     let all = u128::from(blocks) * BLOCK_LEN as u128;
     let mut left = all;
     'pieces: while left > 0 {
-        if !has_bytes(reader)? {
-            return Err(FileFault::Stream(StreamFault {
-                kind: StreamKind::Truncated,
-                chunk: ((all - left) / BLOCK_LEN as u128) as u64,
-            }));
-        }
+        let cut = StreamFault {
+            kind: StreamKind::Truncated,
+            chunk: ((all - left) / BLOCK_LEN as u128) as u64,
+        };
+        need_bytes(reader, FileFault::Stream(cut))?;
         let n = left.min(reader.intake.bytes().len() as u128);
         reader.intake.use_front(n as usize);
         left -= n;

@@ -1,10 +1,9 @@
 //! Reads a file up to its payload.
 
-ghost use Rattle.std.specs.Prelude.{◌≡◌, ◌+◌, ◌-◌, ◌≤◌, [], ◌++◌, length, take, min, IfOk, IfErr};
+ghost use Rattle.std.specs.Prelude.{◌≡◌, ◌+◌, ◌-◌, ◌≤◌, [], ◌++◌, length, take, min, IfOk, IfErr, OnOk};
 ghost use Rattle.age_file.specs.Decrypts.{StartFails};
 ghost use Rattle.age_file.specs.inner.Readers.{view_of_reader, SameReader, KeepsOrigin};
-ghost use Rattle.age_file.specs.inner.Copies.{Uses, SomeAnswers, NonceFails, TakesNonce, ReadsNonce};
-ghost use Rattle.age_file.specs.inner.Copies.{StartsAt};
+ghost use Rattle.age_file.specs.inner.Copies.{HasSome, Dries, NonceFails, TakesNonce, StartsAt};
 ghost use Rattle.age_file.specs.Runs.{pull_room};
 
 use crate::head::read_head;
@@ -14,7 +13,6 @@ use age_chunk::PAYLOAD_NONCE_LEN;
 use age_fault::FileFault;
 use age_io::Source;
 use age_keys::{FileKey, Steps, Unlock, open_header};
-use sha2::Sha256;
 use std::alloc::Global;
 
 /// What a file's payload is opened with.
@@ -26,18 +24,22 @@ pub(crate) struct Unlocked {
     pub(crate) id: [u8; 32],
 }
 
-/// Pulls if the buffer is empty; false at the end of the source.
-pub(crate) fn has_bytes<S: Source>(reader: &mut Reader<'_, S>) -> Result<bool, FileFault>
-    ensures answers { SomeAnswers (view_of_reader S.view reader.old)
-        (view_of_reader S.view reader.new) result }
-    ensures uses { Uses (view_of_reader S.view reader.old) (view_of_reader S.view reader.new) [] }
+/// Pulls if the buffer is empty. The end of the source is this fault.
+pub(crate) fn need_bytes<S: Source>(
+    reader: &mut Reader<'_, S>,
+    at_end: FileFault,
+) -> Result<(), FileFault>
+    ensures some { OnOk result (HasSome (view_of_reader S.view reader.old)
+        (view_of_reader S.view reader.new)) }
+    ensures none { IfErr result (Dries at_end (view_of_reader S.view reader.old)
+        (view_of_reader S.view reader.new) []) }
     ensures same { SameReader reader.old reader.new }
     ensures began { KeepsOrigin S.began reader.old reader.new }
 {
-    if !reader.intake.bytes().is_empty() {
-        return Ok(true);
+    if reader.intake.bytes().is_empty() && !reader.intake.refill(reader.source)? {
+        return Err(at_end);
     }
-    reader.intake.refill(reader.source)
+    Ok(())
 }
 
 /// Copies as many bytes as there is room for, and returns how many.
@@ -64,33 +66,12 @@ fn take_nonce<S: Source>(reader: &mut Reader<'_, S>) -> Result<[u8; PAYLOAD_NONC
     let mut nonce = [0; PAYLOAD_NONCE_LEN];
     let mut have = 0;
     'parts: while have < PAYLOAD_NONCE_LEN {
-        if !has_bytes(reader)? {
-            return Err(FileFault::NonceCut);
-        }
+        need_bytes(reader, FileFault::NonceCut)?;
         let n = copy_some(reader.intake.bytes(), &mut nonce, have);
         reader.intake.use_front(n);
         have += n;
     }
     Ok(nonce)
-}
-
-/// Reads the payload nonce after a header that was opened. The digest was fed the header's text.
-fn read_nonce<S: Source>(
-    key: FileKey,
-    digest: Sha256,
-    reader: &mut Reader<'_, S>,
-) -> Result<Unlocked, FileFault>
-    requires { length reader.old.intake.now.bytes ≤ pull_room }
-    ensures found { IfOk result (ReadsNonce key digest (view_of_reader S.view reader.old)
-        (view_of_reader S.view reader.new)) }
-    ensures fails { IfErr result (NonceFails (view_of_reader S.view reader.old)
-        (view_of_reader S.view reader.new)) }
-    ensures same { SameReader reader.old reader.new }
-    ensures began { KeepsOrigin S.began reader.old reader.new }
-{
-    let nonce = take_nonce(reader)?;
-    let id = file_id(digest, &nonce);
-    Ok(Unlocked { key, nonce, id })
 }
 
 /// Reads a file up to its payload: the header, which is opened, and the payload nonce.
@@ -109,7 +90,9 @@ pub(crate) fn start<U: Unlock, S: Source>(
 {
     let head = read_head(alloc, reader)?;
     let key = open_header(alloc, &head.header, unlock, &mut Steps::new())?;
-    read_nonce(key, head.digest, reader)
+    let nonce = take_nonce(reader)?;
+    let id = file_id(head.digest, &nonce);
+    Ok(Unlocked { key, nonce, id })
 }
 
 /// Reads a file up to its payload, and drops what opened it.

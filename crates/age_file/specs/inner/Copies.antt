@@ -1,11 +1,9 @@
 -- What reading the nonce, skipping blocks and copying the old text do. Private: no public contract
 -- cites this module.
-use Rattle.std.specs.Prelude.{◌≡◌, ℕ, ◌^◌, ◌<◌, ◌≤◌, List, [], ◌++◌, length, Result, Bool, Ok, Err, true}
-use Rattle.std.specs.Prelude.{false, ◌+◌, ◌*◌, ◌/◌, ◌≢◌, Some, IsSome, MatchResult}
+use Rattle.std.specs.Prelude.{◌≡◌, ℕ, ◌^◌, ◌<◌, ◌≤◌, List, [], ◌++◌, length, Result, Ok, Err}
+use Rattle.std.specs.Prelude.{◌+◌, ◌*◌, ◌/◌, ◌≢◌, Some, IsSome, MatchResult, ◌⊎◌}
 use Rattle.age_io.specs.Supply.{IsAtEnd}
 use Rattle.std.specs.Simd.{first_chunks}
-use Rattle.sha2.specs.Hashers.{Holds256}
-use Rattle.sha2.specs.declared.Sha256.{Sha256}
 use Rattle.age_stanza.specs.Grammar.{HeadText}
 use Rattle.age_stanza.specs.declared.header.Header.{Header}
 use Rattle.age_chunk.specs.Payload.{chunk_limit, chunk_length}
@@ -15,7 +13,7 @@ use Rattle.age_keys.specs.Keys.{Opens}
 use Rattle.age_io.specs.Io.{SourceView}
 use Rattle.age_fault.specs.Faults.{HasFailed}
 use Rattle.age_fault.specs.declared.fault.FileFault.{FileFault}
-use Rattle.age_fault.specs.declared.fault.FileFault.TheVariants.{NonceCut, Read, ReadNeverEnds, Stream}
+use Rattle.age_fault.specs.declared.fault.FileFault.TheVariants.{NonceCut, Stream}
 use Rattle.age_fault.specs.declared.fault.FileFault.TheVariants.{ShortText, Write, OldTextDiffers}
 use Rattle.age_file.specs.Bindings.{file_id, chain}
 use Rattle.age_file.specs.inner.Readers.{Start, start_at, ReaderView, Pulled, PullFails, reader_view, WriterView}
@@ -36,39 +34,37 @@ Uses old new bytes = (start : Start) (used : List ℕ)
     → Pulled start old.source.supply old.unread.pulls (used ++ old.unread.bytes)
     → Pulled start new.source.supply new.unread.pulls (used ++ (bytes ++ new.unread.bytes))
 
--- some byte is there, or the source is at its end
-abbrev pub SomeAnswers : ReaderView → ReaderView → Result Bool FileFault → Type 0
-SomeAnswers old new (Ok true) = (0 < length new.unread.bytes)
-    × (new.source.failed ≡ old.source.failed) × (length new.unread.bytes ≤ pull_room)
-SomeAnswers old new (Ok false) = (new.unread.bytes ≡ []) × IsAtEnd new.source.supply
-    × (new.source.failed ≡ old.source.failed)
-SomeAnswers old new (Err fault) = (new.unread.bytes ≡ []) × PullFails old new fault
+-- these bytes of a source were used, and no pull failed
+pub record Passes (old new : ReaderView) (bytes : List ℕ) : Type 0 where
+  pub uses : Uses old new bytes
+  pub unfailed : new.source.failed ≡ old.source.failed
 
--- fewer bytes than a nonce has were used, and no byte is left
-abbrev pub UsesShort : ReaderView → ReaderView → Type 0
-UsesShort old new = (short : List ℕ) × (length short < 16) × Uses old new short
-    × (new.unread.bytes ≡ [])
+-- why no more came: the source is at its end, which is this fault, or a pull gave nothing
+abbrev pub NoMore : FileFault → ReaderView → ReaderView → FileFault → Type 0
+NoMore at_end old new fault = ((fault ≡ at_end) × IsAtEnd new.source.supply
+    × (new.source.failed ≡ old.source.failed)) ⊎ PullFails old new fault
+
+-- no more came, and all that was pulled was used
+pub record Dries (at_end : FileFault) (old new : ReaderView) (bytes : List ℕ) (fault : FileFault)
+    : Type 0 where
+  pub uses : Uses old new bytes
+  pub used : new.unread.bytes ≡ []
+  pub why : NoMore at_end old new fault
+
+-- some byte is there
+pub record HasSome (old new : ReaderView) : Type 0 where
+  pub passes : Passes old new []
+  pub some : 0 < length new.unread.bytes
+  pub few : length new.unread.bytes ≤ pull_room
 
 abbrev pub NonceFails : ReaderView → ReaderView → FileFault → Type 0
-NonceFails old new NonceCut = UsesShort old new × IsAtEnd new.source.supply
-NonceFails old new Read = UsesShort old new
-    × HasFailed old.source.failed new.source.failed new.source.failing
-NonceFails old new ReadNeverEnds = UsesShort old new × (new.unread.pulls ≡ 2 ^ 63)
-NonceFails old new other = ⊥
+NonceFails old new fault = (short : List ℕ) × (length short < 16)
+    × Dries NonceCut old new short fault
 
 -- the nonce was read; what follows it came with the last pull
 pub record TakesNonce (old new : ReaderView) (nonce : List ℕ) : Type 0 where
-  pub uses : Uses old new nonce
+  pub passes : Passes old new nonce
   pub few : length new.unread.bytes ≤ pull_room
-  pub unfailed : new.source.failed ≡ old.source.failed
-
--- the nonce was read, and identifies the file together with what the digest was fed
-pub record ReadsNonce (key : List ℕ) (digest : Sha256) (old new : ReaderView) (unlocked : Unlocked)
-    : Type 0 where
-  pub key_is : unlocked.key ≡ key
-  pub size : length unlocked.nonce ≡ 16
-  pub takes : TakesNonce old new unlocked.nonce
-  pub id : (front : List ℕ) → Holds256 digest front → unlocked.id ≡ file_id front unlocked.nonce
 
 -- a header was read and opened, and the nonce after it was read
 pub record StartsAt (Allows : Header → List ℕ → Type 0) (old : SourceView) (new : ReaderView)
@@ -86,27 +82,10 @@ pub record StartsAt (Allows : Header → List ℕ → Type 0) (old : SourceView)
 
 -- ---- What of a source was passed over, and what of an old text was copied.
 
--- these bytes of a source were used, and no pull failed
-pub record Passes (old new : ReaderView) (bytes : List ℕ) : Type 0 where
-  pub uses : Uses old new bytes
-  pub unfailed : new.source.failed ≡ old.source.failed
-
--- a pull gave no more, and all that was pulled was used
-pub record Dries (old new : ReaderView) (bytes : List ℕ) (fault : FileFault) : Type 0 where
-  pub uses : Uses old new bytes
-  pub used : new.unread.bytes ≡ []
-  pub why : PullFails old new fault
-
 -- the source ended after a number of whole blocks of n bytes, or failed before all were passed over
 abbrev pub SkipFails : ℕ → ℕ → ReaderView → ReaderView → FileFault → Type 0
-SkipFails n blocks old new (Stream fault) = (fault.kind ≡ Truncated) × (bytes : List ℕ)
-    × (length bytes < blocks * n) × (fault.chunk ≡ length bytes / n) × Passes old new bytes
-    × (new.unread.bytes ≡ []) × IsAtEnd new.source.supply
-SkipFails n blocks old new Read = (bytes : List ℕ) × (length bytes < blocks * n)
-    × Dries old new bytes Read
-SkipFails n blocks old new ReadNeverEnds = (bytes : List ℕ) × (length bytes < blocks * n)
-    × Dries old new bytes ReadNeverEnds
-SkipFails n blocks old new other = ⊥
+SkipFails n blocks old new fault = (bytes : List ℕ) × (length bytes < blocks * n)
+    × Dries (Stream (record { kind = Truncated; chunk = length bytes / n })) old new bytes fault
 
 -- this many blocks of n bytes were passed over
 abbrev pub SkipsBlocks : ℕ → ℕ → ReaderView → ReaderView → Result (Unit {0}) FileFault → Type 0
@@ -125,19 +104,21 @@ pub record CanCopy (t : Tally) : Type 0 where
   -- there is a chain that goes on
   pub kept : IsSome t.chain
 
+-- the sink failed after it took the front of what the source gave
+pub record CutsCopy (old new : ReaderView) (was now : WriterView) (out : List ℕ) : Type 0 where
+  pub used : List ℕ
+  pub passes : Passes old new used
+  pub front : IsPrefixOf out (used ++ new.unread.bytes)
+  pub failed : HasFailed was.sink.failed now.sink.failed now.sink.failing
+  pub most : length used ≤ length out
+
 -- what was written of the old text, fewer bytes than were to be copied: all that the source gave,
 -- or its front if the sink failed
 abbrev pub FailsInCopy : ReaderView → ReaderView → WriterView → WriterView → List ℕ → FileFault
     → Type 0
-FailsInCopy old new was now out ShortText = Passes old new out × (new.unread.bytes ≡ [])
-    × IsAtEnd new.source.supply × (now.sink.failed ≡ was.sink.failed)
-FailsInCopy old new was now out Write = (used : List ℕ) × Passes old new used
-    × IsPrefixOf out (used ++ new.unread.bytes)
-    × HasFailed was.sink.failed now.sink.failed now.sink.failing × (length used ≤ length out)
-FailsInCopy old new was now out Read = Dries old new out Read × (now.sink.failed ≡ was.sink.failed)
-FailsInCopy old new was now out ReadNeverEnds = Dries old new out ReadNeverEnds
-    × (now.sink.failed ≡ was.sink.failed)
-FailsInCopy old new was now out other = ⊥
+FailsInCopy old new was now out fault =
+    (Dries ShortText old new out fault × (now.sink.failed ≡ was.sink.failed))
+    ⊎ ((fault ≡ Write) × CutsCopy old new was now out)
 
 -- a chunk was copied, and counted with its link
 abbrev pub ChunkGoes : ℕ → ReaderView → ReaderView → WriterView → WriterView → List ℕ → Type 0
@@ -179,9 +160,9 @@ CopiesAll n chunks old new was now result = Copies (ChunksGo n chunks old new wa
 -- why the old text was not copied, or is not the one whose chain this is
 abbrev pub TextFails : ℕ → ℕ → List ℕ → ReaderView → ReaderView → WriterView → WriterView
     → List ℕ → FileFault → Type 0
-TextFails n chunks links old new was now out OldTextDiffers = ChunksGo n chunks old new was now out
-    × (now.tally.chain ≢ Some links)
 TextFails n chunks links old new was now out fault = ShortCopy (chunks * n) old new was now out fault
+    ⊎ ((fault ≡ OldTextDiffers) × ChunksGo n chunks old new was now out
+    × (now.tally.chain ≢ Some links))
 
 -- this many chunks were copied, which have this chain; it goes on if positions are kept
 abbrev pub TextGoes : PositionPolicy → ℕ → ℕ → List ℕ → ReaderView → ReaderView → WriterView

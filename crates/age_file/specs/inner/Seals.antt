@@ -99,29 +99,28 @@ module _ {B : Type 0} (sealing : B → List ℕ → List ℕ → List ℕ) (n : 
     pub blocks : (text : List ℕ) → Holds n old text → front_of (sealing old.key) n (text ++ fed)
         ≡ front_of (sealing old.key) n text ++ (out ++ unwritten)
 
-  -- one feed
-  pub record SealsOnce (old new : SealerView B) (was now : WriterView) (piece : List ℕ)
-      (result : Result ℕ FileFault) : Type 0 where
+  -- the sealer was fed the front of a piece, and went on so or failed
+  pub record SealsFed {R : Type 0} (Goes : List ℕ → List ℕ → R → Type 0) (old new : SealerView B)
+      (was now : WriterView) (piece : List ℕ) (result : Result R FileFault) : Type 0 where
     pub fed : List ℕ
     pub left : List ℕ
     pub unwritten : List ℕ
     pub some : SealsSome old new was now piece fed left unwritten
-    pub answered : MatchResult result
-        (λ taken. (taken ≡ length fed) × (0 < length piece → 0 < taken) × (unwritten ≡ [])
+    pub answered : MatchResult result (λ r. Goes fed left r × (unwritten ≡ [])
         × (now.sink.failed ≡ was.sink.failed) × GoesOn old new fed)
         (SealFails old was now piece)
 
+  -- one feed
+  abbrev pub SealsOnce : SealerView B → SealerView B → WriterView → WriterView → List ℕ
+      → Result ℕ FileFault → Type 0
+  SealsOnce old new was now piece result = SealsFed
+      (λ fed left taken. (taken ≡ length fed) × (0 < length piece → 0 < taken)) old new was now piece
+      result
+
   -- a whole piece
-  pub record SealsPiece (old new : SealerView B) (was now : WriterView) (piece : List ℕ)
-      (result : Result (Unit {0}) FileFault) : Type 0 where
-    pub fed : List ℕ
-    pub left : List ℕ
-    pub unwritten : List ℕ
-    pub some : SealsSome old new was now piece fed left unwritten
-    pub answered : MatchResult result
-        (λ _. (left ≡ []) × (unwritten ≡ []) × (now.sink.failed ≡ was.sink.failed)
-        × GoesOn old new fed)
-        (SealFails old was now piece)
+  abbrev pub SealsPiece : SealerView B → SealerView B → WriterView → WriterView → List ℕ
+      → Result (Unit {0}) FileFault → Type 0
+  SealsPiece = SealsFed (λ fed left done. left ≡ [])
 
 -- the last block of what the sealer holds: what of it was written, and what wasn't if the sink
 -- failed

@@ -1,13 +1,12 @@
-use Rattle.std.proofs.Common.{◌≡◌, ◌++◌, ◌∙◌, ℕ, List, Some, [], refl, sym, ap, subst, take, length, arith, append-nil, append_assoc}
+use Rattle.std.proofs.Common.{◌≡◌, ◌++◌, ◌∙◌, ℕ, List, Some, [], refl, sym, ap, subst, take, length, arith, append-nil, append_assoc, inl, inr}
 use Rattle.std.proofs.lemmas.Result.{err_from_is_err_and}
 use Rattle.std.proofs.lemmas.List.{length-append, length-take}
 use Rattle.sha2.specs.Hashers.{Holds256}
 use Rattle.age_stream.specs.Headline.{IsPrefixOf}
 use Rattle.age_fault.specs.Faults.{HasFailed}
-use Rattle.age_file.specs.inner.Readers.{view_of_reader, view_of_writer}
 use Rattle.age_io.specs.Taken.{Appends}
-use Rattle.age_file.proofs.ReadLemmas.{uses_front, passes_then, passes_same, dries_same, wrote_none, wrote_then}
-use Rattle.age_file.proofs.ResumeLemmas.{copy_dry, front_written}
+use Rattle.age_file.proofs.ReadLemmas.{passes_on, passes_same, dries_same, wrote_none, wrote_then}
+use Rattle.age_file.proofs.ResumeLemmas.{front_written}
 use Rattle.age_file.proofs.copy.copy_chunk.Goals as goal
 
 pub parts-init : goal.parts-init
@@ -30,37 +29,16 @@ parts-init g c =
           subst (λ (t : List ℕ). Holds256 c.update.new.self t) (same ∙ sym (append-nil links)) start;
     }
 
-pub returns-then-not-branch-clause-copied : goal.returns-then-not-branch-clause-copied
-returns-then-not-branch-clause-copied g c =
-    let kept = c.parts.invariant in
-    let r = rw c.if-not-branch.true at c.in_ok-has_bytes.ensures.answers in
-    record {
-      out = kept.copied;
-      wrote = kept.wrote;
-      answered = (
-        omega (arith, kept.size, c.parts-test.true),
-        (passes_same kept.passes (record { uses = c.has_bytes.ensures.uses; unfailed = r.2 }), r.0, r.1, kept.failures),
-      );
-    }
-
-pub returns-in_err-has_bytes-clause-copied : goal.returns-in_err-has_bytes-clause-copied
-returns-in_err-has_bytes-clause-copied g c =
+pub returns-in_err-need_bytes-clause-copied : goal.returns-in_err-need_bytes-clause-copied
+returns-in_err-need_bytes-clause-copied g c =
     let p = err_from_is_err_and c.from_residual.result c.from_residual.ensures.1 in
     let kept = c.parts.invariant in
-    let a = c.in_err-has_bytes.ensures.answers in
-    let was = view_of_writer g.O.Sink.view c.args.writer.now in
-    let now = view_of_writer g.O.Sink.view c.parts.writer in
-    let dries = dries_same {z = view_of_reader g.S.Source.view c.has_bytes.new.reader} c.in_err-has_bytes.field-0.0 kept.passes (record {
-      uses = c.has_bytes.ensures.uses;
-      used = a.0;
-      why = a.1;
-    }) in
     record {
       out = kept.copied;
       wrote = kept.wrote;
       answered = rw (p.1, p.2) (
         omega (arith, kept.size, c.parts-test.true),
-        copy_dry _ _ was now kept.copied c.in_err-has_bytes.field-0.0 dries kept.failures,
+        inl (dries_same c.in_err-need_bytes.field-0.0 kept.passes c.in_err-need_bytes.ensures.none, kept.failures),
       );
     }
 
@@ -68,7 +46,6 @@ pub returns-in_err-write_all-clause-copied : goal.returns-in_err-write_all-claus
 returns-in_err-write_all-clause-copied g c =
     let p = err_from_is_err_and c.from_residual-in_err-write_all.result c.from_residual-in_err-write_all.ensures.1 in
     let kept = c.parts.invariant in
-    let r = rw c.if-not-branch.false at c.in_ok-has_bytes.ensures.answers in
     let put = c.in_err-write_all.ensures.writes in
     let n = c.min-n.result in
     let bytes = c.bytes-in-parts.result.now in
@@ -77,14 +54,17 @@ returns-in_err-write_all-clause-copied g c =
       wrote = wrote_then kept.wrote (record { bytes = put.wrote; count = put.count; named = c.in_err-write_all.ensures.named });
       answered = rw (p.1, p.2, c.in_err-write_all.ensures.fault) (
         omega (arith, kept.size, put.stopped, ap length put.parts, length-append {A = ℕ}, length-take n bytes, c.min-n.ensures),
-        (
-          kept.copied,
-          passes_same kept.passes (record { uses = c.has_bytes.ensures.uses; unfailed = r.1 }),
-          subst (λ (t : List ℕ). IsPrefixOf (kept.copied ++ put.out) (kept.copied ++ t)) c.bytes-in-parts.ensures.bytes
-              (front_written kept.copied put.out put.unwritten bytes n put.parts),
-          subst (λ (m : ℕ). HasFailed m (g.O.Sink.view c.write_all.new.sink).failed (g.O.Sink.view c.write_all.new.sink).failing)
-              kept.failures put.answered,
-          omega (arith, length-append kept.copied put.out),
+        inr (
+          refl,
+          record {
+            used = kept.copied;
+            passes = passes_same kept.passes c.in_ok-need_bytes.ensures.some.passes;
+            front = subst (λ (t : List ℕ). IsPrefixOf (kept.copied ++ put.out) (kept.copied ++ t)) c.bytes-in-parts.ensures.bytes
+                (front_written kept.copied put.out put.unwritten bytes n put.parts);
+            failed = subst (λ (m : ℕ). HasFailed m (g.O.Sink.view c.write_all.new.sink).failed (g.O.Sink.view c.write_all.new.sink).failing)
+                kept.failures put.answered;
+            most = omega (arith, length-append kept.copied put.out);
+          },
         ),
       );
     }
@@ -92,16 +72,13 @@ returns-in_err-write_all-clause-copied g c =
 pub parts-preserved : goal.parts-preserved
 parts-preserved g c =
     let kept = c.parts.invariant in
-    let r = rw c.if-not-branch.false at c.in_ok-has_bytes.ensures.answers in
     let n = c.min-n.result in
     let bytes = c.bytes-in-parts.result.now in
     let put = c.in_ok-write_all.ensures.writes in
     let whole : put.out ≡ take n bytes = sym (put.parts ∙ ap (λ (t : List ℕ). put.out ++ t) put.answered.0 ∙ append-nil put.out) in
-    let front = uses_front (g.S.Source.view c.has_bytes.new.reader.source.now) c.has_bytes.new.reader.intake.now c.use_front.new.self bytes n
-    c.use_front.ensures.pulls c.bytes-in-parts.ensures.bytes c.use_front.ensures.bytes in
     record {
-      same_reader = (c.in_ok-has_bytes.ensures.same.0 ∙ kept.same_reader.0, c.in_ok-has_bytes.ensures.same.1 ∙ kept.same_reader.1);
-      began = λ from so. c.in_ok-has_bytes.ensures.began from (kept.began from so);
+      same_reader = (c.in_ok-need_bytes.ensures.same.0 ∙ kept.same_reader.0, c.in_ok-need_bytes.ensures.same.1 ∙ kept.same_reader.1);
+      began = λ from so. c.in_ok-need_bytes.ensures.began from (kept.began from so);
       same_writer = kept.same_writer;
       copied = kept.copied ++ take n bytes;
       size = omega (
@@ -113,8 +90,8 @@ parts-preserved g c =
         ap length c.bytes.ensures.bytes,
         ap length c.bytes-in-parts.ensures.bytes,
       );
-      passes = passes_then kept.copied (take n bytes) (passes_same {z = view_of_reader g.S.Source.view c.has_bytes.new.reader} kept.passes
-          (record { uses = c.has_bytes.ensures.uses; unfailed = r.1 })) (record { uses = front; unfailed = refl });
+      passes = passes_on {v = c.use_front.new.self} bytes n kept.passes c.in_ok-need_bytes.ensures.some c.use_front.ensures.pulls
+          c.bytes-in-parts.ensures.bytes c.use_front.ensures.bytes;
       wrote = wrote_then {q = take n bytes} kept.wrote (record {
         bytes = subst (λ (t : List ℕ). Appends (g.O.Sink.view c.parts.writer.sink.now).taken (g.O.Sink.view c.write_all.new.sink).taken t) whole put.wrote;
         count = omega (arith, put.count, ap length whole);

@@ -1,21 +1,14 @@
-use Rattle.std.proofs.Common.{ℕ, ◌≡◌, take, drop, sym, ap, ◌∙◌, arith, List, [], Option, None, Some, append-nil, refl}
-use Rattle.std.specs.Borrow.{Bor}
-use Rattle.std.specs.Option.{unwrap_or}
+use Rattle.std.proofs.Common.{ℕ, take, drop, sym, ap, ◌∙◌, arith, [], append-nil, refl}
 use Rattle.std.proofs.lemmas.Result.{err_from_is_err_and}
 use Rattle.std.proofs.lemmas.List.{length-take}
 use Rattle.age_file.proofs.ReadLemmas.{wrote_none}
 use Rattle.age_stream.specs.Sealer.{too_many}
-use Rattle.age_stream.specs.Opener.{chunk_bytes}
+use Rattle.age_stream.proofs.SealerLemmas.{step_len_le}
 use Rattle.age_file.specs.inner.Decrypts.{seals}
 use Rattle.age_file.specs.inner.Seals.{front_of}
-use Rattle.age_file.proofs.SealLemmas.{step_len_le, step_len_some, at_limit, too_long, some_sealed}
+use Rattle.age_file.proofs.SealLemmas.{lent, step_len_some, at_limit, too_long, some_sealed}
 use Rattle.age_chunk.specs.Payload.{chunk_length}
 use Rattle.age_file.proofs.sealing.seal_once.Goals as goal
-
--- the block that a step lent, or none
-lent : (chunk : Option (Bor (List ℕ))) (none : Bor (List ℕ)) → none.now ≡ [] → chunk_bytes chunk ≡ (unwrap_or chunk none).now
-lent None none e = sym e
-lent (Some block) none e = refl
 
 pub returns-in_err-step-clause-sealed : goal.returns-in_err-step-clause-sealed
 returns-in_err-step-clause-sealed g c =
@@ -57,8 +50,10 @@ returns-clause-sealed g c =
         named = c.in_ok-write_all.ensures.named;
       }) ok.chunk;
       answered = (
-        omega (arith, ok.taken, step_len_le n held piece, length-take c.in_ok-step.step.taken c.args.piece.now),
-        λ more. omega (arith, ok.taken, step_len_some n held piece more),
+        (
+          omega (arith, ok.taken, step_len_le n held piece, length-take c.in_ok-step.step.taken c.args.piece.now),
+          λ more. omega (arith, ok.taken, step_len_some n held piece more),
+        ),
         put.answered.0,
         put.answered.1,
         record {

@@ -47,9 +47,9 @@ loop-at-preserved g c =
     let now = view_of_writer g.O.Sink.view c.seal_once.new.writer in
     let a = c.args.sealer.now in
     let d = c.seal_once.new.sealer in
-    let same : take at piece ++ s.fed ≡ take (at + c.in_ok-at.field-0) piece = fed_is piece at c.in_ok-at.field-0 s.fed s.left s.some.parts s.answered.0 in
+    let same : take at piece ++ s.fed ≡ take (at + c.in_ok-at.field-0) piece = fed_is piece at c.in_ok-at.field-0 s.fed s.left s.some.parts s.answered.0.0 in
     let whole : SealsSome seals n a d was now piece (take at piece ++ s.fed) s.left [] =
-    subst (λ (t : List ℕ). SealsSome seals n a d was now piece (take at piece ++ s.fed) s.left t) s.answered.2
+    subst (λ (t : List ℕ). SealsSome seals n a d was now piece (take at piece ++ s.fed) s.left t) s.answered.1
     (next_some piece at kept.some kept.goes s.some) in
     record {
       same_writer = c.in_ok-at.ensures.same_writer ∙ kept.same_writer;
@@ -57,14 +57,14 @@ loop-at-preserved g c =
         arith,
         ap length s.some.parts,
         length-append s.fed s.left,
-        s.answered.0,
+        s.answered.0.0,
         length-drop c.loop-at.at c.args.piece.now,
         ap length (take_rest c.args.piece.now c.loop-at.at),
         kept.within,
       );
       some = subst (λ (t : List ℕ). SealsSome seals n a d was now t t [] []) same (fed_alone whole);
-      goes = subst (λ (t : List ℕ). GoesOn seals n a d t) same (goes_then kept.goes s.answered.4);
-      failures = s.answered.3 ∙ kept.failures;
+      goes = subst (λ (t : List ℕ). GoesOn seals n a d t) same (goes_then kept.goes s.answered.3);
+      failures = s.answered.2 ∙ kept.failures;
     }
 
 pub returns-in_err-at-clause-sealed : goal.returns-in_err-at-clause-sealed

@@ -1,4 +1,4 @@
-use Rattle.age_file.specs.inner.Readers.{view_of_reader}
+use Rattle.std.proofs.Common.{refl, rules}
 use Rattle.age_file.proofs.ReadLemmas.{key_to_start, nonce_found, nonce_missed}
 use Rattle.std.proofs.lemmas.Result.{err_from_is_err_and}
 use Rattle.age_file.proofs.start.start.Goals as goal
@@ -10,14 +10,14 @@ returns-in_err-key-clause-fails g c =
     rw (p.1, p.2) (key_to_start (g.U.Unlock.allows c.args.unlock.now) (g.U.Unlock.refuses c.args.unlock.now) head c.in_err-key.field-0.0
     c.in_err-key.ensures.refused)
 
+pub returns-in_err-nonce-clause-fails : goal.returns-in_err-nonce-clause-fails
+returns-in_err-nonce-clause-fails g c =
+    let p = err_from_is_err_and c.from_residual-in_err-nonce.result c.from_residual-in_err-nonce.ensures.1 in
+    rw (p.1, p.2) (nonce_missed (g.U.Unlock.allows c.args.unlock.now) (g.U.Unlock.refuses c.args.unlock.now) c.in_ok-head.ensures.found
+    c.in_ok-key.ensures.key c.in_err-nonce.field-0.0 c.in_err-nonce.ensures.fails)
+
 pub returns-clause-found : goal.returns-clause-found
 returns-clause-found g c =
     let head = c.in_ok-head.ensures.found in
-    nonce_found (g.U.Unlock.allows c.args.unlock.now) (g.U.Unlock.refuses c.args.unlock.now) (view_of_reader g.S.Source.view c.read_nonce.new.reader)
-    head c.in_ok-key.ensures.key c.read_nonce.result c.read_nonce.ensures.found
-
-pub returns-clause-fails : goal.returns-clause-fails
-returns-clause-fails g c =
-    let head = c.in_ok-head.ensures.found in
-    nonce_missed (g.U.Unlock.allows c.args.unlock.now) (g.U.Unlock.refuses c.args.unlock.now) (view_of_reader g.S.Source.view c.read_nonce.new.reader)
-    head c.in_ok-key.ensures.key c.read_nonce.result c.read_nonce.ensures.fails
+    nonce_found (g.U.Unlock.allows c.args.unlock.now) (g.U.Unlock.refuses c.args.unlock.now) head c.in_ok-key.ensures.key _ refl (search rules)
+    (c.file_id-id.ensures head.front head.hashed) c.in_ok-nonce.ensures.found

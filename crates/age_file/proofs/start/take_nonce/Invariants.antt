@@ -1,5 +1,5 @@
 use Rattle.std.proofs.Common.{◌-◌, ◌≡◌, ◌≤◌, take, length}
-use Rattle.age_file.specs.inner.Copies.{Uses}
+use Rattle.age_file.specs.inner.Copies.{Passes}
 use Rattle.age_file.specs.inner.Readers.{view_of_reader, SameReader, KeepsOrigin}
 use Rattle.age_file.specs.Runs.{pull_room}
 use Rattle.age_file.proofs.start.take_nonce.Given as goal
@@ -11,8 +11,7 @@ invariant-parts g l = record {
   most : l.have ≤ 16;
   few : length l.reader.intake.now.bytes ≤ pull_room;
   room : length l.nonce ≡ 16;
-  uses : Uses (view_of_reader g.S.Source.view l.fn.reader) (view_of_reader g.S.Source.view l.reader) (take l.have l.nonce);
-  unfailed : (g.S.Source.view l.reader.source.now).failed ≡ (g.S.Source.view l.fn.reader.source.now).failed;
+  passes : Passes (view_of_reader g.S.Source.view l.fn.reader) (view_of_reader g.S.Source.view l.reader) (take l.have l.nonce);
 }
 
 abbrev pub decreases-parts : goal.decreases-parts
