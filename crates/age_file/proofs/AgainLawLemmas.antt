@@ -6,10 +6,10 @@ use Rattle.std.specs.Simd.{first_chunks}
 use Rattle.age_io.specs.Io.{SourceView, SinkView}
 use Rattle.age_io.specs.Taken.{Appends}
 use Rattle.age_stanza.specs.declared.header.Header.{Header}
-use Rattle.age_chunk.specs.Payload.{block_length, chunk_length, chunk_limit}
+use Rattle.age_chunk.specs.Payload.{block_length, chunk_length}
 use Rattle.age_keys.specs.Keys.{payload_key, box, unbox}
 use Rattle.age_fault.specs.declared.fault.FileFault.{FileFault}
-use Rattle.age_file.specs.Runs.{ports, Run, IsRun, IsPositionOf, GivesPosition, held, Ports, Reads, run_text, segment_of, run_outcome}
+use Rattle.age_file.specs.Runs.{ports, Run, IsRun, IsPositionOf, GivesPosition, held, Ports, Reads, segment_of, run_outcome}
 use Rattle.age_file.specs.Again.{first_of, IsTextBefore, IsFoundAgain, ReadAgain, RestReadAgain}
 use Rattle.age_file.specs.declared.decryption.Done.{Done}
 use Rattle.age_file.specs.declared.decryption.Stopped.{Stopped}
@@ -168,10 +168,7 @@ module _ (sealing : List ℕ → List ℕ → List ℕ) (opening : List ℕ → 
       subst (λ (t : List ℕ). Extends (segment k bytes true) (segment k t true)) same
       (record { text = ([], append-nil (released opening n (segment k bytes true))); place = inl refl })
   to_whole k bytes more false len none =
-      let s = segment k bytes false in
-      let fed = segment k (bytes ++ more) false in
       let grows = released_grows opening n s more (λ _. refl) in
-      let closes = end_closes opening n fed in
       record {
         text = prefix_trans (released opening n s) (released opening n fed) (released opening n (with_end fed)) grows.0 (end_text fed (λ _. refl));
         place = by_status (outcome opening n s).status refl;
@@ -179,14 +176,14 @@ module _ (sealing : List ℕ → List ℕ → List ℕ) (opening : List ℕ → 
         s : Segment
         s = segment k bytes false
 
-        by_status : (status : Status) → (outcome opening n s).status ≡ status → (at (segment k (bytes ++ more) true) ≡ at s)
-            ⊎ ((length (base ++ released opening n s) ≤ at s * n) × (at s ≤ at (segment k (bytes ++ more) true)))
-        by_status Open e = inr (
-          open_text s len e,
-          omega (arith, (released_grows opening n s more (λ _. refl)).1, (end_closes opening n (segment k (bytes ++ more) false)).1),
-        )
-        by_status other e =
-            inl ((end_closes opening n (segment k (bytes ++ more) false)).1 ∙ ((closed_stays opening n s (λ _. refl) (λ o. cc)).0 more).index)
+        fed : Segment
+        fed = segment k (bytes ++ more) false
+
+        by_status : (status : Status) → (outcome opening n s).status ≡ status
+            → (at (with_end fed) ≡ at s) ⊎ ((length (base ++ released opening n s) ≤ at s * n) × (at s ≤ at (with_end fed)))
+        by_status Open e =
+            inr (open_text s len e, omega (arith, (released_grows opening n s more (λ _. refl)).1, (end_closes opening n fed).1))
+        by_status other e = inl ((end_closes opening n fed).1 ∙ ((closed_stays opening n s (λ _. refl) (λ o. cc)).0 more).index)
 
   -- so as many bytes of both end at the same chunk
   same_place : (a b : Segment) (w : ℕ) → 0 < n → Extends a b → w ≤ length (base ++ released opening n a) → min (w / n) (at a) ≡ min (w / n) (at b)
@@ -252,88 +249,70 @@ fronts one A B was now before after bytes r q shown again a b =
       record { header_bytes = sym same.1; nonce = sym both.0; behind = both.1 },
     )
 
--- the file's parts are the run's
-carried : (r q : Run) (p : Position) (limit : r.first < chunk_limit) → q.file.key ≡ r.file.key
-    → q.file.header_bytes ≡ r.file.header_bytes → q.file.nonce ≡ r.file.nonce → IsPrefixOf r.out (run_text r) → held q ≡ held r
-    → min (length (held q) / chunk_length) (run_outcome q).index ≡ min (length (held r) / chunk_length) (run_outcome r).index
-    → IsPositionOf q p → IsPositionOf r p
-carried r q p limit key head nonce begins wrote place at =
-    record {
-      index = at.index ∙ place;
-      own = cc (at.own, head, nonce);
-      chain_is = at.chain_is ∙ ap (chain_over p.index) wrote;
-      tagged = cc (at.tagged, key, nonce);
-    }
-
 -- Two runs by one key from the same chunk, after the same text and over the same bytes, which wrote
 -- as much.
-module _ (r q : Run) (k : ℕ) (at : Position) (left rest : List ℕ) (limit : k < chunk_limit)
-    (first_r : r.first ≡ k) (first_q : q.first ≡ k) (copied : q.copied ≡ r.copied)
-    (size : length r.copied ≡ k * chunk_length) (key : q.file.key ≡ r.file.key)
-    (head : q.file.header_bytes ≡ r.file.header_bytes) (nonce : q.file.nonce ≡ r.file.nonce)
-    (behind : r.bytes ++ left ≡ q.bytes ++ rest) (long : length (held r) ≡ length (held q))
-    (end_r : r.ended ≡ true → left ≡ []) (end_q : q.ended ≡ true → rest ≡ [])
-    (prefix_r : IsPrefixOf r.out (run_text r)) (prefix_q : IsPrefixOf q.out (run_text q)) where
-  abbrev part_of : Run → Segment
-  part_of x = segment k x.bytes x.ended
-
-  seg : (x : Run) → x.first ≡ k → segment_of x ≡ part_of x
-  seg x is = ap (λ (i : ℕ). segment i x.bytes x.ended) is
-
+module _ {A B : Header → List ℕ → Type 0} {before after was now : Ports} {written : ℕ} {r q : Run} {left rest : List ℕ}
+    (x : IsRun A before after written r) (y : IsRun B was now written q) (first : q.first ≡ r.first) (copied : q.copied ≡ r.copied)
+    (key : q.file.key ≡ r.file.key) (front : IsSameFront r q left rest) (left_is : after.source.supply.left ≡ Some left)
+    (rest_is : now.source.supply.left ≡ Some rest) where
   abbrev open_r : List ℕ → List ℕ → Option (List ℕ)
   open_r = unbox r.file.key r.file.nonce
 
+  -- the second, from the first one's chunk
+  abbrev part : Segment
+  part = segment r.first q.bytes q.ended
+
   keys : unbox q.file.key q.file.nonce ≡ open_r
-  keys = cc (key, nonce)
+  keys = cc (key, front.nonce)
 
-  begins_r : IsPrefixOf r.out (released open_r chunk_length (part_of r))
-  begins_r = subst (λ (s : Segment). IsPrefixOf r.out (released open_r chunk_length s)) (seg r first_r) prefix_r
+  part_is : segment_of q ≡ part
+  part_is = ap (λ (i : ℕ). segment i q.bytes q.ended) first
 
-  begins_q : IsPrefixOf q.out (released open_r chunk_length (part_of q))
-  begins_q =
-      subst (λ (o : List ℕ → List ℕ → Option (List ℕ)). IsPrefixOf q.out (released o chunk_length (part_of q))) keys
-      (subst (λ (s : Segment). IsPrefixOf q.out (released (unbox q.file.key q.file.nonce) chunk_length s)) (seg q first_q) prefix_q)
+  part_begins : IsPrefixOf q.out (released open_r chunk_length part)
+  part_begins =
+      subst (λ (o : List ℕ → List ℕ → Option (List ℕ)). IsPrefixOf q.out (released o chunk_length part)) keys
+      (subst (λ (s : Segment). IsPrefixOf q.out (released (unbox q.file.key q.file.nonce) chunk_length s)) part_is y.prefix)
+
+  index_is : (run_outcome q).index ≡ (outcome open_r chunk_length part).index
+  index_is =
+      ap (λ (s : Segment). (outcome (unbox q.file.key q.file.nonce) chunk_length s).index) part_is
+      ∙ ap (λ (o : List ℕ → List ℕ → Option (List ℕ)). (outcome o chunk_length part).index) keys
 
   held_q : held q ≡ r.copied ++ q.out
   held_q = ap (λ (t : List ℕ). t ++ q.out) copied
 
-  index_of : (x : Run) → x.first ≡ k → held x ≡ r.copied ++ x.out → unbox x.file.key x.file.nonce ≡ open_r
-      → min (length (held x) / chunk_length) (run_outcome x).index ≡ min (length (r.copied ++ x.out) / chunk_length)
-      (outcome open_r chunk_length (part_of x)).index
-  index_of x first_x holds is =
-      ap (λ (t : List ℕ). min (length t / chunk_length) (run_outcome x).index) holds
-      ∙ (ap (λ (s : Segment). min (length (r.copied ++ x.out) / chunk_length)
-      (outcome (unbox x.file.key x.file.nonce) chunk_length s).index) (seg x first_x)
-      ∙ ap (λ (o : List ℕ → List ℕ → Option (List ℕ)). min (length (r.copied ++ x.out) / chunk_length) (outcome o chunk_length (part_of x)).index) is)
+  behind : r.bytes ++ left ≡ q.bytes ++ rest
+  behind =
+      let passed : length r.skipped ≡ length q.skipped = x.skipped_size ∙ (ap (λ (n : ℕ). n * block_length) (sym first) ∙ sym y.skipped_size) in
+      (same_front r.skipped q.skipped (r.bytes ++ left) (q.bytes ++ rest) passed (sym (append_assoc r.skipped r.bytes left)
+      ∙ (front.behind ∙ append_assoc q.skipped q.bytes rest))).1
 
-  pub same_stand : IsPositionOf q at → IsPositionOf r at
-  same_stand found =
-      let alike = stand_alike (box r.file.key r.file.nonce) open_r
-      (box_valid (payload_key r.file.key r.file.nonce)) chunk_length r.copied k r.bytes q.bytes
-      left rest r.ended q.ended r.out q.out (omega arith) size behind end_r end_q begins_r begins_q
-      (omega (arith, long, length-append r.copied r.out, ap length held_q, length-append r.copied q.out)) in
-      carried r q at (omega (arith, limit, first_r)) key head nonce prefix_r (held_q ∙ ap (λ (t : List ℕ). r.copied ++ t) (sym alike.wrote))
-      (index_of q first_q held_q keys ∙ (sym alike.place ∙ sym (index_of r first_r refl refl))) found
+  alike : StandAlike (box r.file.key r.file.nonce) open_r (box_valid (payload_key r.file.key r.file.nonce)) chunk_length r.copied (segment_of r) part
+      r.out q.out
+  alike =
+      stand_alike (box r.file.key r.file.nonce) open_r (box_valid (payload_key r.file.key r.file.nonce)) chunk_length r.copied
+      r.first r.bytes q.bytes left rest r.ended q.ended r.out q.out (omega arith) x.copied_size behind
+      (λ e. none_left after.source.supply left left_is (x.at_end e)) (λ e. none_left now.source.supply rest rest_is (y.at_end e)) x.prefix part_begins
+      (omega (arith, x.count, y.count, ap length copied, length-append r.copied r.out, length-append q.copied q.out))
+
+  same_stand : {at : Position} → IsPositionOf q at → IsPositionOf r at
+  same_stand {at} found = record {
+    index = found.index ∙ (ap (λ (t : List ℕ). min (length t / chunk_length) (run_outcome q).index) held_q
+        ∙ (ap (min (length (r.copied ++ q.out) / chunk_length)) index_is ∙ sym alike.place));
+    own = cc (found.own, front.header_bytes, front.nonce);
+    chain_is = found.chain_is ∙ ap (chain_over at.index) (held_q ∙ ap (λ (t : List ℕ). r.copied ++ t) (sym alike.wrote));
+    tagged = cc (found.tagged, key, front.nonce);
+  }
 
 found_position : OneHeader → (Allows : Header → List ℕ → Type 0) (from : Option Position)
     (before after : Ports) (written : ℕ) (r : Run) (old new : SourceView) (bytes : List ℕ) (next : Position)
-    → first_of from < chunk_limit → r.first ≡ first_of from → IsRun Allows before after written r
+    → r.first ≡ first_of from → IsRun Allows before after written r
     → before.source.supply.left ≡ Some bytes → old.supply.left ≡ Some bytes
     → IsFoundAgain (λ _ key. key ≡ r.file.key) from r.copied old new written next → IsPositionOf r next
-found_position one Allows from before after written r old new bytes next limit first is shown again found =
-    let q = found.run in
+found_position one Allows from before after written r old new bytes next first is shown again found =
     let f = fronts one Allows (λ _ key. key ≡ r.file.key) before.source.supply
-    after.source.supply old.supply new.supply bytes r q shown again is.reads found.is.reads in
-    let same = f.4 in
-    let passed : length r.skipped ≡ length q.skipped = is.skipped_size ∙ (ap (λ (n : ℕ). n * block_length) (first ∙ sym found.first_is)
-    ∙ sym found.is.skipped_size) in
-    let all : r.skipped ++ (r.bytes ++ f.0) ≡ q.skipped ++ (q.bytes ++ f.1) = sym (append_assoc r.skipped r.bytes f.0)
-    ∙ (same.behind ∙ append_assoc q.skipped q.bytes f.1) in
-    let behind = (same_front r.skipped q.skipped (r.bytes ++ f.0) (q.bytes ++ f.1) passed all).1 in
-    same_stand r q (first_of from) next f.0 f.1 limit first found.first_is found.copied_is
-    (is.copied_size ∙ ap (λ (n : ℕ). n * chunk_length) first) found.is.reads.opens.allowed
-    same.header_bytes same.nonce behind (sym is.count ∙ found.is.count) (λ e. none_left after.source.supply f.0 f.2 (is.at_end e))
-    (λ e. none_left new.supply f.1 f.3 (found.is.at_end e)) is.prefix found.is.prefix found.here
+    after.source.supply old.supply new.supply bytes r found.run shown again is.reads found.is.reads in
+    same_stand is found.is (found.first_is ∙ sym first) found.copied_is found.is.reads.opens.allowed f.4 f.2 f.3 found.here
 
 -- the stop, with that position
 pub stops_kept : (Allows : Header → List ℕ → Type 0) (Refused : Header → KeyFault → Type 0)
@@ -346,7 +325,7 @@ pub read_again : OneHeader → (Who : Type 0) (Allows : Who → Header → List 
     (Refused : Who → Header → KeyFault → Type 0) → ReadAgain Who Allows Refused
 read_again one Who Allows Refused who before after r stopped old new bytes p s shown again found =
     stops_kept (Allows who) (Refused who) before after r stopped p s
-    (found_position one (Allows who) None before after stopped.written r old new bytes p (omega arith) s.0.zero s.1.is shown again
+    (found_position one (Allows who) None before after stopped.written r old new bytes p s.0.zero s.1.is shown again
     (subst (λ (c : List ℕ). IsFoundAgain (λ _ key. key ≡ r.file.key) None c old new stopped.written p) (sym s.0.none_copied) found))
 
 -- ---- A resumed run, whose rest is read again from the position that it began from.
@@ -361,4 +340,4 @@ pub rest_read_again : OneHeader → (Who : Type 0) (Allows : Who → Header → 
     (Refused : Who → Header → KeyFault → Type 0) → RestReadAgain Who Allows Refused
 rest_read_again one Who Allows Refused who p before after r stopped old new bytes next s shown again found =
     rest_kept (Allows who) (Refused who) p before after r stopped next s
-    (found_position one (Allows who) (Some p) before.main after.main stopped.written r old new bytes next p.within s.0.index s.2.is shown again found)
+    (found_position one (Allows who) (Some p) before.main after.main stopped.written r old new bytes next s.0.index s.2.is shown again found)

@@ -1,11 +1,11 @@
 -- Counting the chunks that were written, and writing what an opener releases, one step after another.
 use Rattle.std.proofs.Common.{inl, inr, ◌≡◌, ℕ, ◌+◌, ◌-◌, ◌*◌, ◌/◌, ◌<◌, ◌≤◌, min, List, [], ◌∷◌, ◌++◌, length, take, drop, Option, Some, refl, sym, ap, ◌∙◌, arith}
 use Rattle.std.proofs.Common.{append-nil, append_assoc, false, replicate, None, subst}
-use Rattle.std.specs.Prelude.{◌⊎◌, Result, MatchResult, IfSome, IfNone}
+use Rattle.std.specs.Prelude.{◌⊎◌, IfSome, IfNone}
 use Rattle.std.specs.Simd.{first_chunks}
 use Rattle.std.specs.List.{flat_map}
 use Rattle.std.proofs.lemmas.Grind.{flat_map-append, fold-append}
-use Rattle.std.proofs.lemmas.List.{length-append, length-take, take_all, take-append-drop}
+use Rattle.std.proofs.lemmas.List.{length-append, length-take, take_all}
 use Rattle.std.proofs.lemmas.Bool.{cases_lt}
 use Rattle.std.proofs.Math.Nat.{le-div_iff_mul-le}
 use Rattle.age_chunk.specs.ChunkBoxes.{IsChunkBox, tag_length}
@@ -20,17 +20,15 @@ use Rattle.age_file.specs.Bindings.{link, chain}
 use Rattle.age_file.specs.inner.Parts.{link_if, chain_if}
 use Rattle.age_file.specs.declared.position.PositionPolicy.{PositionPolicy}
 use Rattle.age_file.specs.declared.position.PositionPolicy.TheVariants.{Kept, Dropped}
-use Rattle.age_file.specs.inner.Payloads.{AdvancesTally, CountsChunks, HasCounted, Releases, FeedGoes, FeedFails, FeedsOnce}
+use Rattle.age_file.specs.inner.Payloads.{AdvancesTally, CountsChunks, HasCounted, Releases}
 use Rattle.age_stream.proofs.ReplayLemmas.{lent_flat}
 use Rattle.age_stream.proofs.GoingLemmas.{nothing}
+use Rattle.age_stream.proofs.SealerLemmas.{take_on}
 use Rattle.age_file.specs.declared.tally.Tally.{Tally}
 use Rattle.std.specs.Borrow.{Bor}
 use Rattle.age_file.proofs.ReadLemmas.{wrote_none, wrote_then}
-use Rattle.age_stream.specs.Opener.{has_failed, OpenerView, Stands, chunk_texts, chunk_bytes}
-use Rattle.age_fault.specs.Faults.{HasFailed}
+use Rattle.age_stream.specs.Opener.{OpenerView, Stands, chunk_texts, chunk_bytes}
 use Rattle.age_file.specs.inner.Readers.{WriterView, Wrote}
-use Rattle.age_fault.specs.declared.fault.FileFault.{FileFault}
-use Rattle.age_fault.specs.declared.fault.FileFault.TheVariants.{Stream, Write}
 
 -- ---- Counting the chunks that were written, one step after another. A chunk has n bytes.
 
@@ -415,117 +413,76 @@ module _ {B : Type 0} (opening : B → List ℕ → List ℕ → Option (List �
       → Releases opening n (λ s. with_piece s (a ++ b)) old new was now unwritten
   releases_then a b p q = releases_next a (λ s. with_piece s b) (λ s. with_piece s (a ++ b)) (λ s. pieces_join s a b) p q
 
-  -- what `counts` asks of a piece that was fed
-  abbrev pub IsMarkedOn : OpenerView B → List ℕ → Tally → Tally → List ℕ → Type 0
-  IsMarkedOn old fed was now unwritten =
-      (keep : PositionPolicy) → 0 < n → (s : Segment) (base : List ℕ) → length base ≡ s.start * n → Stands opening n old s
-      → CountsChunks keep (opening old.key) n base s [] was → CountsChunks keep (opening old.key) n base (with_piece s fed) unwritten now
+  -- a call that refused a piece
+  pub refused_front : {sealing : List ℕ → List ℕ → List ℕ} {old new : OpenerView B} {was : WriterView} (piece : List ℕ)
+      → IsChunkBox sealing (opening old.key) → new.key ≡ old.key → ((s : Segment) → Stands opening n old s → Stands opening n new (with_piece s piece))
+      → ((s : Segment) → Stands opening n old s
+      → (outcome (opening old.key) n (with_piece s piece)).texts ≡ (outcome (opening old.key) n s).texts ++ [])
+      → Releases opening n (λ s. with_piece s piece) old new was was []
+  refused_front {sealing} {old} {new} {was} piece valid key stands texts = record {
+    out = [];
+    key = key;
+    wrote = wrote_none was;
+    stands = stands;
+    text = λ s h. more_text (opening old.key) n s (with_piece s piece) [] [] (texts s h) refl;
+    counts = λ keep positive s base len h m.
+        mark_none sealing (opening old.key) valid n positive keep base s piece was.tally len h.timely (stands s h).timely (texts s h) m;
+  }
 
-  -- for each segment that the opener stood for, it stands for the one with more bytes, and lent these texts
-  abbrev StandsOn : OpenerView B → OpenerView B → List ℕ → Type 0
-  StandsOn old new fed = (s : Segment) → Stands opening n old s → Stands opening n new (with_piece s fed)
+  -- a call that took these bytes and lent a chunk, if one came
+  module _ {sealing : List ℕ → List ℕ → List ℕ} {old new : OpenerView B} (fed : List ℕ) (chunk : Option (Bor (List ℕ)))
+      (valid : IsChunkBox sealing (opening old.key)) (key : new.key ≡ old.key)
+      (stands : (s : Segment) → Stands opening n old s → Stands opening n new (with_piece s fed))
+      (texts : (s : Segment) → Stands opening n old s
+      → (outcome (opening old.key) n (with_piece s fed)).texts ≡ (outcome (opening old.key) n s).texts ++ chunk_texts chunk) where
+    more : (s : Segment) {text : List ℕ} → Stands opening n old s → chunk_bytes chunk ≡ text
+        → released (opening old.key) n (with_piece s fed) ≡ released (opening old.key) n s ++ text
+    more s {text} h lent = more_text (opening old.key) n s (with_piece s fed) (chunk_texts chunk) text (texts s h) (lent_flat chunk ∙ lent)
 
-  abbrev Lends : OpenerView B → List ℕ → List (List ℕ) → Type 0
-  Lends old fed ts = (s : Segment) → Stands opening n old s
-      → (outcome (opening old.key) n (with_piece s fed)).texts ≡ (outcome (opening old.key) n s).texts ++ ts
+    -- it was written whole, and counted
+    pub fed_whole : {was now : WriterView} {bytes out : List ℕ} (index : ℕ) → index ≡ new.index → chunk_bytes chunk ≡ bytes → bytes ≡ out → Wrote was now out
+        → AdvancesTally was.tally.index was.tally.chain index (link_if was.tally.chain bytes) now.tally
+        → Releases opening n (λ s. with_piece s fed) old new was now []
+    fed_whole {was} {now} {bytes} {out} index is lent whole wrote a = record {
+      out = out;
+      key = key;
+      wrote = wrote;
+      stands = stands;
+      text = λ s h. more s h (lent ∙ whole ∙ sym (append-nil out));
+      counts = λ keep positive s base len h m.
+          let counted = subst (λ (l : Option (List ℕ)). AdvancesTally was.tally.index was.tally.chain index l now.tally)
+          (ap (link_if was.tally.chain) (sym (lent_flat chunk ∙ lent))) a in
+          let at : index ≡ (outcome (opening old.key) n (with_piece s fed)).index = is
+          ∙ ((stands s h).index ∙ ap (λ k. (outcome (opening k) n (with_piece s fed)).index) key) in
+          mark_step sealing (opening old.key) valid n positive keep base s fed (chunk_texts chunk) index was.tally now.tally len h.timely
+          (stands s h).timely (texts s h) (chunk_few chunk) at counted m;
+    }
 
-  -- what the opener lent of a piece was written whole, and counted
-  pub counts_whole : {sealing : List ℕ → List ℕ → List ℕ} {old new : OpenerView B} {was now : Tally} (fed : List ℕ) (chunk : Option (Bor (List ℕ)))
-      (index : ℕ) {bytes : List ℕ} → IsChunkBox sealing (opening old.key) → new.key ≡ old.key → index ≡ new.index
-      → StandsOn old new fed → Lends old fed (chunk_texts chunk) → chunk_bytes chunk ≡ bytes
-      → AdvancesTally was.index was.chain index (link_if was.chain bytes) now → IsMarkedOn old fed was now []
-  counts_whole {sealing} {old} {new} {was} {now} fed chunk index valid key is stands texts lent a keep positive s base len h m =
-      let a' = subst (λ (l : Option (List ℕ)). AdvancesTally was.index was.chain index l now) (ap (link_if was.chain) (sym (lent_flat chunk ∙ lent))) a in
-      let at : index ≡ (outcome (opening old.key) n (with_piece s fed)).index = is
-      ∙ ((stands s h).index ∙ ap (λ k. (outcome (opening k) n (with_piece s fed)).index) key) in
-      mark_step sealing (opening old.key) valid n positive keep base s fed (chunk_texts chunk) index
-      was now len h.timely (stands s h).timely (texts s h) (chunk_few chunk) at a' m
+    -- some of it was not
+    pub fed_cut : {was now : WriterView} {out unwritten : List ℕ} → chunk_bytes chunk ≡ out ++ unwritten → Wrote was now out → 0 < length unwritten
+        → now.tally.index ≡ was.tally.index → now.tally.chain ≡ was.tally.chain → Releases opening n (λ s. with_piece s fed) old new was now unwritten
+    fed_cut {was} {now} {out} {unwritten} lent wrote some index chain_same = record {
+      out = out;
+      key = key;
+      wrote = wrote;
+      stands = stands;
+      text = λ s h. more s h lent;
+      counts = λ keep positive s base len h m. mark_cut sealing (opening old.key) valid n positive keep base s fed (chunk_texts chunk) out unwritten
+          was.tally now.tally len h.timely (stands s h).timely (texts s h) (chunk_few chunk) (lent_flat chunk ∙ lent) some index chain_same m;
+    }
 
-  -- the opener refused it, and lent nothing
-  pub counts_refused : {sealing : List ℕ → List ℕ → List ℕ} {old new : OpenerView B} {was : Tally} (fed : List ℕ)
-      → IsChunkBox sealing (opening old.key) → StandsOn old new fed → Lends old fed [] → IsMarkedOn old fed was was []
-  counts_refused {sealing} {old} {new} {was} fed valid stands texts keep positive s base len h m =
-      mark_none sealing (opening old.key) valid n positive keep base s fed was len h.timely (stands s h).timely (texts s h) m
-
-  -- some of what it lent was not written
-  pub counts_cut : {sealing : List ℕ → List ℕ → List ℕ} {old new : OpenerView B} {was now : Tally} (fed : List ℕ) (chunk : Option (Bor (List ℕ)))
-      (out unwritten : List ℕ) → IsChunkBox sealing (opening old.key) → StandsOn old new fed → Lends old fed (chunk_texts chunk)
-      → chunk_bytes chunk ≡ out ++ unwritten → 0 < length unwritten → now.index ≡ was.index
-      → now.chain ≡ was.chain → IsMarkedOn old fed was now unwritten
-  counts_cut {sealing} {old} {new} {was} {now} fed chunk out unwritten valid stands texts lent some index chain_same keep positive s base len h m =
-      mark_cut sealing (opening old.key) valid n positive keep base s fed (chunk_texts chunk) out unwritten was now len h.timely (stands s h).timely
-      (texts s h) (chunk_few chunk) (lent_flat chunk ∙ lent) some index chain_same m
-
-  -- a call that took the front of a piece and lent a chunk, of which this much was written
-  pub fed_front : {result : Result ℕ FileFault} {old new : OpenerView B} {was now : WriterView} (piece : List ℕ) (taken : ℕ)
-      (chunk : Option (Bor (List ℕ))) {out unwritten : List ℕ} → new.key ≡ old.key
-      → StandsOn old new (take taken piece) → Lends old (take taken piece) (chunk_texts chunk)
-      → chunk_bytes chunk ≡ out ++ unwritten → Wrote was now out → IsMarkedOn old (take taken piece) was.tally now.tally unwritten
-      → MatchResult result (λ n'. (n' ≡ length (take taken piece)) × FeedGoes opening n old new was now (take taken piece) unwritten)
-      (FeedFails opening n new was now (drop taken piece) unwritten) → FeedsOnce opening n old new was now piece result
-  fed_front {result} {old} {new} {was} {now} piece taken chunk {out} {unwritten} key stands texts lent wrote counts answered =
-      record {
-        fed = take taken piece;
-        left = drop taken piece;
-        unwritten = unwritten;
-        parts = sym (take-append-drop taken piece);
-        releases = record {
-          out = out;
-          key = key;
-          wrote = wrote;
-          stands = stands;
-          text = λ s h. more_text (opening old.key) n s (with_piece s (take taken piece))
-              (chunk_texts chunk) (out ++ unwritten) (texts s h) (lent_flat chunk ∙ lent);
-          counts = counts;
-        };
-        answered = answered;
-      }
+  -- up to the next place in a piece
+  pub next_releases : {a b c : OpenerView B} {was mid now : WriterView} (piece : List ℕ) (at taken : ℕ)
+      → Releases opening n (λ s. with_piece s (take at piece)) a b was mid []
+      → Releases opening n (λ s. with_piece s (take taken (take (length piece - at) (drop at piece)))) b c mid now []
+      → Releases opening n (λ s. with_piece s (take (at + taken) piece)) a c was now []
+  next_releases {a} {b} {c} {was} {mid} {now} piece at taken p q =
+      subst (λ (t : List ℕ). Releases opening n (λ s. with_piece s t) a c was now []) (take_on at taken piece)
+      (releases_then (take at piece) (take taken (take (length piece - at) (drop at piece))) p q)
 
   -- the opener holds what was taken, or lent it without a tag
-  holds_or_lends : (old new : OpenerView B) (size taken : ℕ) (chunk : Option (Bor (List ℕ)))
-      → IfSome chunk (λ c. (length c.now ≡ size) × (length old.held + taken ≡ size + tag_length) × (new.held ≡ []))
+  pub holds_or_lends : (old new : OpenerView B) (taken : ℕ) (chunk : Option (Bor (List ℕ)))
+      → IfSome chunk (λ c. (length c.now ≡ n) × (length old.held + taken ≡ n + tag_length) × (new.held ≡ []))
       → IfNone chunk (length new.held ≡ length old.held + taken) → length new.held + length (chunk_bytes chunk) ≤ length old.held + taken
-  holds_or_lends old new size taken None lent unlent = omega (arith, unlent)
-  holds_or_lends old new size taken (Some c) lent unlent = omega (arith, lent.0, lent.1, ap length lent.2)
-
-  -- how much it then holds and wrote
-  pub goes_front : (old new : OpenerView B) {was now : WriterView} (piece : List ℕ) (taken : ℕ) (chunk : Option (Bor (List ℕ))) {out : List ℕ}
-      → taken ≤ length piece → IfSome chunk (λ c. (length c.now ≡ n) × (length old.held + taken ≡ n + tag_length) × (new.held ≡ []))
-      → IfNone chunk (length new.held ≡ length old.held + taken) → chunk_bytes chunk ≡ out ++ [] → Wrote was now out
-      → now.sink.failed ≡ was.sink.failed → has_failed new.status ≡ false
-      → (taken ≡ length (take taken piece)) × FeedGoes opening n old new was now (take taken piece) []
-  goes_front old new {was} {now} piece taken chunk {out} le lent unlent is wrote failed sound =
-      let len : length (chunk_bytes chunk) ≡ length out = ap length (is ∙ append-nil out) in
-      let room = holds_or_lends old new n taken chunk lent unlent in (
-        omega (arith, le, length-take taken piece),
-        (omega (arith, le, room, wrote.count, len, length-take taken piece), refl, failed, sound),
-      )
-
-  goes_then : (a b : List ℕ) (old mid new : OpenerView B) (was between now : WriterView) → FeedGoes opening n old mid was between a []
-      → FeedGoes opening n mid new between now b [] → FeedGoes opening n old new was now (a ++ b) []
-  goes_then a b old mid new was between now p q = (omega (arith, p.0, q.0, length-append a b), refl, q.2 ∙ p.2, q.3)
-
-  -- one call more, for a piece of which the front was fed
-  pub record Both (old new : OpenerView B) (was now : WriterView) (fed : List ℕ) : Type 0 where
-    pub releases : Releases opening n (λ s. with_piece s fed) old new was now []
-    pub goes : FeedGoes opening n old new was now fed []
-
-  pub both_then : (a b c : List ℕ) {old mid new : OpenerView B} {was between now : WriterView} {unwritten : List ℕ} → a ++ b ≡ c
-      → Releases opening n (λ s. with_piece s a) old mid was between [] → FeedGoes opening n old mid was between a []
-      → Releases opening n (λ s. with_piece s b) mid new between now unwritten → FeedGoes opening n mid new between now b unwritten
-      → Both old new was now c
-  both_then a b c {old} {mid} {new} {was} {between} {now} {unwritten} e p pg q qg =
-      let q' = subst (λ (t : List ℕ). Releases opening n (λ s. with_piece s b) mid new between now t) qg.1 q in
-      let qg' : FeedGoes opening n mid new between now b [] = (qg.0, refl, qg.2, qg.3) in
-      subst (λ (t : List ℕ). Both old new was now t) e (record {
-        releases = releases_then a b p q';
-        goes = goes_then a b old mid new was between now pg qg';
-      })
-
-  -- a fault after steps that went on
-  pub fails_then : (a : List ℕ) (old mid new : OpenerView B) (was between now : WriterView) (left unwritten : List ℕ) (fault : FileFault)
-      → FeedGoes opening n old mid was between a [] → FeedFails opening n new between now left unwritten fault
-      → FeedFails opening n new was now left unwritten fault
-  fails_then a old mid new was between now left unwritten (Stream f) p h = (h.0, h.1, h.2, h.3 ∙ p.2)
-  fails_then a old mid new was between now left unwritten Write p h = (subst (λ (k : ℕ). HasFailed k now.sink.failed now.sink.failing) p.2 h.0, h.1)
-  fails_then a old mid new was between now left unwritten other p h = h
+  holds_or_lends old new taken None lent unlent = omega (arith, unlent)
+  holds_or_lends old new taken (Some c) lent unlent = omega (arith, lent.0, lent.1, ap length lent.2)

@@ -1,23 +1,23 @@
 -- Sealing a source, and what of the age file was written.
 use Rattle.std.proofs.Common.{◌≡◌, ℕ, ◌+◌, ◌-◌, ◌*◌, ◌^◌, ◌<◌, ◌≤◌, sym, ap, subst, ◌∙◌, List, [], ◌++◌, length, take, drop, Option, None, Some, append-nil, append_assoc}
-use Rattle.std.proofs.Common.{take-append-drop, take-add, Bool, false, true, arith, refl, ◌/◌, ◌∷◌, Result, Ok, Err, IfOk, IfErr}
-use Rattle.std.specs.Prelude.{nat_lt, ◌==◌, ◌&&◌, ◌||◌, map}
+use Rattle.std.proofs.Common.{take-append-drop, Bool, false, true, arith, refl, ◌/◌, ◌∷◌, Result, Ok, Err, IfOk, IfErr}
+use Rattle.std.specs.Prelude.{IfSome, nat_lt, ◌==◌, ◌&&◌, ◌||◌, map}
 use Rattle.std.proofs.Math.Nat.{div-le_self, div-mul-le_self}
 use Rattle.std.proofs.lemmas.Nat.{mul-le}
 use Rattle.std.specs.Borrow.{Bor}
 use Rattle.std.specs.Option.{unwrap_or}
 use Rattle.std.proofs.lemmas.Bool.{ltb-true, eqb-true, and_parts}
-use Rattle.std.proofs.lemmas.Bool.Decides.{nat_tests}
-use Rattle.std.proofs.lemmas.List.{length-take, length-append, length-drop, take_rest, take_at}
+use Rattle.std.proofs.lemmas.List.{length-take, length-append, length-drop, take_rest}
 use Rattle.age_chunk.specs.ChunkBoxes.{IsChunkBox}
 use Rattle.age_chunk.specs.Payload.{chunk_limit, last_index, block_length, pair, block_bytes, payload, sealed_before_last, last_chunk, chunk_length}
-use Rattle.age_stream.specs.Sealer.{SealerView, Holds, step_len, needs_too_many}
+use Rattle.age_stream.specs.Sealer.{SealerView, Holds, needs_too_many}
 use Rattle.age_stream.specs.Opener.{chunk_bytes}
 use Rattle.age_stream.proofs.LawLemmas.{payload_is_longer, sealed_grows}
+use Rattle.age_stream.proofs.SealerLemmas.{take_on}
 use Rattle.age_fault.specs.Faults.{HasFailed}
-use Rattle.age_file.specs.inner.Readers.{WriterView, Wrote, ReaderView, PullFails}
+use Rattle.age_file.specs.inner.Readers.{WriterView, Wrote, ReaderView, PullFails, Pulled, start_at}
 use Rattle.age_file.specs.inner.Seals.{front_of, IsTooLong, SealsSome, SealsRest, GoesOn, SealFails, HasRoom, SealingFails, SealsFront, SealsSource, BeginsFile}
-use Rattle.age_file.specs.inner.Seals.{FrontFails, WroteFront, SealsAll}
+use Rattle.age_file.specs.inner.Seals.{FrontFails, WroteFront, SealsAll, ReadsWrites}
 use Rattle.age_fault.specs.declared.fault.FileFault.{FileFault}
 use Rattle.age_fault.specs.declared.fault.FileFault.TheVariants.{Stream, Write, Read, ReadNeverEnds, Memory}
 use Rattle.age_io.proofs.TakenLemmas.{Appends-trans}
@@ -26,7 +26,7 @@ use Rattle.std.specs.Simd.{first_chunks}
 use Rattle.std.proofs.lemmas.Grind.{flat_map-append}
 use Rattle.age_stream.specs.Headline.{IsPrefixOf}
 use Rattle.age_io.specs.Io.{SourceView, SinkView}
-use Rattle.age_file.specs.Runs.{Ports, pull_room, ports}
+use Rattle.age_file.specs.Runs.{Ports, NoneFailed, ports}
 use Rattle.age_file.proofs.ReadLemmas.{prefix_trans, wrote_then}
 use Rattle.age_io.proofs.SupplyLemmas.{Consumes-nil}
 use Rattle.age_keys.specs.Keys.{header_mac, IsMacOf, box}
@@ -36,13 +36,15 @@ use Rattle.age_file.specs.declared.encryption.Written.{Written}
 
 -- ---- One feed of a sealer, and what then was written.
 
-pub step_len_some : (m : ℕ) (held piece : List ℕ) → 0 < length piece → 0 < step_len m held piece
-step_len_some m held piece h = grind (arith, nat_tests, h)
-
 -- the block that a step lent, or none
 pub lent : (chunk : Option (Bor (List ℕ))) (none : Bor (List ℕ)) → none.now ≡ [] → chunk_bytes chunk ≡ (unwrap_or chunk none).now
 lent None none e = sym e
 lent (Some block) none e = refl
+
+pub lent_few : (chunk : Option (Bor (List ℕ))) (none : Bor (List ℕ)) (size : ℕ) → none.now ≡ [] → IfSome chunk (λ block. length block.now ≡ size)
+    → length (unwrap_or chunk none).now ≤ size
+lent_few None none size e whole = omega (arith, ap length e)
+lent_few (Some block) none size e whole = omega (arith, whole)
 
 -- a sealer that was never refused is refused only at the last chunk that a payload may have, if
 -- it is full and more comes
@@ -73,12 +75,12 @@ too_long n s piece positive limit text holds =
 -- the front of a piece that a sealer took, if what it lent was written but for a part that
 -- wasn't
 pub some_sealed : {B : Type 0} (sealing : B → List ℕ → List ℕ → List ℕ) (n : ℕ)
-    (old new : SealerView B) (was now : WriterView) (piece : List ℕ) (taken : ℕ) (chunk : Option (Bor (List ℕ))) (out unwritten : List ℕ)
+    (old : SealerView B) {was now : WriterView} (piece : List ℕ) (taken : ℕ) (chunk : Option (Bor (List ℕ))) (out unwritten : List ℕ)
     → chunk_bytes chunk ≡ out ++ unwritten → Wrote was now out
     → ((text : List ℕ) → Holds n old text → front_of (sealing old.key) n (text ++ take taken piece)
     ≡ front_of (sealing old.key) n text ++ chunk_bytes chunk)
-    → SealsSome sealing n old new was now piece (take taken piece) (drop taken piece) unwritten
-some_sealed sealing n old new was now piece taken chunk out unwritten is wrote blocks =
+    → SealsSome sealing n old was now piece (take taken piece) (drop taken piece) unwritten
+some_sealed sealing n old piece taken chunk out unwritten is wrote blocks =
     record {
       out = out;
       parts = sym (take-append-drop taken piece);
@@ -98,10 +100,10 @@ module _ {B : Type 0} {sealing : B → List ℕ → List ℕ → List ℕ} {n : 
       }
 
   -- what a piece's front gave, and then what of the rest
-  pub some_then : {a b c : SealerView B} {was mid now : WriterView} {front rest fed left unwritten : List ℕ}
-      → SealsSome sealing n a b was mid front front [] [] → GoesOn sealing n a b front → SealsSome sealing n b c mid now rest fed left unwritten
-      → SealsSome sealing n a c was now (front ++ rest) (front ++ fed) left unwritten
-  some_then {a} {b} {c} {was} {mid} {now} {front} {rest} {fed} {left} {unwritten} p goes q =
+  some_then : {a b : SealerView B} {was mid now : WriterView} {front rest fed left unwritten : List ℕ}
+      → SealsSome sealing n a was mid front front [] [] → GoesOn sealing n a b front → SealsSome sealing n b mid now rest fed left unwritten
+      → SealsSome sealing n a was now (front ++ rest) (front ++ fed) left unwritten
+  some_then {a} {b} {was} {mid} {now} {front} {rest} {fed} {left} {unwritten} p goes q =
       record {
         out = p.out ++ q.out;
         parts = ap (λ (t : List ℕ). front ++ t) q.parts ∙ sym (append_assoc front fed left);
@@ -117,21 +119,7 @@ module _ {B : Type 0} {sealing : B → List ℕ → List ℕ → List ℕ} {n : 
             (sym (append_assoc p.out q.out unwritten)))))));
       }
 
-  -- only the part that was fed
-  pub fed_alone : {a b : SealerView B} {was now : WriterView} {piece fed left unwritten : List ℕ}
-      → SealsSome sealing n a b was now piece fed left unwritten → SealsSome sealing n a b was now fed fed [] unwritten
-  fed_alone {a} {b} {was} {now} {piece} {fed} {left} {unwritten} p = record { out = p.out; parts = sym (append-nil fed); wrote = p.wrote; blocks = p.blocks }
-
-  -- the rest of a piece, as a slice has it
-  pub next_some : {a b c : SealerView B} {was mid now : WriterView} (piece : List ℕ) (at : ℕ) {fed left unwritten : List ℕ}
-      → SealsSome sealing n a b was mid (take at piece) (take at piece) [] [] → GoesOn sealing n a b (take at piece)
-      → SealsSome sealing n b c mid now (take (length piece - at) (drop at piece)) fed left unwritten
-      → SealsSome sealing n a c was now piece (take at piece ++ fed) left unwritten
-  next_some {a} {b} {c} {was} {mid} {now} piece at {fed} {left} {unwritten} p goes q =
-      subst (λ (t : List ℕ). SealsSome sealing n a c was now t (take at piece ++ fed) left unwritten)
-      (ap (λ (t : List ℕ). take at piece ++ t) (take_rest piece at) ∙ take-append-drop at piece) (some_then p goes q)
-
-  pub fails_then : {a b : SealerView B} (was mid now : WriterView) (front rest : List ℕ) (fault : FileFault) → mid.sink.failed ≡ was.sink.failed
+  fails_then : {a b : SealerView B} (was mid now : WriterView) (front rest : List ℕ) (fault : FileFault) → mid.sink.failed ≡ was.sink.failed
       → GoesOn sealing n a b front → SealFails sealing n b mid now rest fault → SealFails sealing n a was now (front ++ rest) fault
   fails_then {a} {b} was mid now front rest (Stream fault) same goes f =
       let more : IsTooLong n a (front ++ rest) = λ text h. subst (λ (t : List ℕ). chunk_limit * n < length t) (append_assoc text front rest)
@@ -140,12 +128,41 @@ module _ {B : Type 0} {sealing : B → List ℕ → List ℕ → List ℕ} {n : 
   fails_then was mid now front rest Write same goes f = subst (λ (k : ℕ). HasFailed k now.sink.failed now.sink.failing) same f
   fails_then was mid now front rest other same goes f = absurd f
 
--- what was fed up to the next place
-pub fed_is : (piece : List ℕ) (at taken : ℕ) (fed left : List ℕ) → take (length piece - at) (drop at piece) ≡ fed ++ left → taken ≡ length fed
-    → take at piece ++ fed ≡ take (at + taken) piece
-fed_is piece at taken fed left parts len =
-    let e : fed ≡ take taken (drop at piece) = sym (take_at fed left taken (sym len)) ∙ ap (take taken) (sym parts ∙ take_rest piece at) in
-    ap (λ (t : List ℕ). take at piece ++ t) e ∙ sym (take-add at taken piece)
+  module _ {a b : SealerView B} {was mid : WriterView} (piece : List ℕ) (at : ℕ) (some : SealsSome sealing n a was mid (take at piece) (take at piece) [] [])
+      (goes : GoesOn sealing n a b (take at piece)) where
+    -- the rest of the piece, as a slice has it
+    abbrev rest : List ℕ
+    rest = take (length piece - at) (drop at piece)
+
+    rejoined : take at piece ++ rest ≡ piece
+    rejoined = ap (λ (t : List ℕ). take at piece ++ t) (take_rest piece at) ∙ take-append-drop at piece
+
+    -- it was refused
+    pub some_alone : SealsSome sealing n a was mid piece (take at piece) rest []
+    some_alone = record { out = some.out; parts = sym rejoined; wrote = some.wrote; blocks = some.blocks }
+
+    -- not all of what came of it was written
+    pub next_some : {now : WriterView} {fed left unwritten : List ℕ} → SealsSome sealing n b mid now rest fed left unwritten
+        → SealsSome sealing n a was now piece (take at piece ++ fed) left unwritten
+    next_some {now} {fed} {left} {unwritten} q =
+        subst (λ (t : List ℕ). SealsSome sealing n a was now t (take at piece ++ fed) left unwritten) rejoined (some_then some goes q)
+
+    -- it was
+    pub next_fed : {now : WriterView} {left unwritten : List ℕ} (taken : ℕ) → SealsSome sealing n b mid now rest (take taken rest) left unwritten
+        → unwritten ≡ [] → SealsSome sealing n a was now (take (at + taken) piece) (take (at + taken) piece) [] []
+    next_fed {now} {left} {unwritten} taken q none =
+        let all = some_then some goes (subst (SealsSome sealing n b mid now rest (take taken rest) left) none q) in
+        let fed : SealsSome sealing n a was now (take at piece ++ take taken rest) (take at piece ++ take taken rest) [] [] =
+        record { out = all.out; parts = sym (append-nil _); wrote = all.wrote; blocks = all.blocks } in
+        subst (λ (t : List ℕ). SealsSome sealing n a was now t t [] []) (take_on at taken piece) fed
+
+    pub next_goes : {c : SealerView B} (taken : ℕ) → GoesOn sealing n b c (take taken rest) → GoesOn sealing n a c (take (at + taken) piece)
+    next_goes {c} taken q = subst (GoesOn sealing n a c) (take_on at taken piece) (goes_then goes q)
+
+    pub fails_on : (now : WriterView) (fault : FileFault) → mid.sink.failed ≡ was.sink.failed → SealFails sealing n b mid now rest fault
+        → SealFails sealing n a was now piece fault
+    fails_on now fault same f =
+        subst (λ (t : List ℕ). SealFails sealing n a was now t fault) rejoined (fails_then was mid now (take at piece) rest fault same goes f)
 
 -- ---- sizes
 
@@ -158,11 +175,11 @@ module _ (sealing : List ℕ → List ℕ → List ℕ) (opening : List ℕ → 
       omega (arith, (payload_is_longer sealing opening valid n text).1, mul-le q (n + 16) (length text) block_length few most)
 
 -- after a piece's front the count of what was written has room for a block
-pub room_left : {B : Type 0} {sealing : B → List ℕ → List ℕ → List ℕ} (opening : List ℕ → List ℕ → Option (List ℕ)) {n : ℕ} {a b : SealerView B}
+pub room_left : {B : Type 0} {sealing : B → List ℕ → List ℕ → List ℕ} (opening : List ℕ → List ℕ → Option (List ℕ)) {n : ℕ} {a : SealerView B}
     {was now : WriterView} (piece : List ℕ) (at : ℕ) → IsChunkBox (sealing a.key) opening → n + 16 ≤ block_length
-    → HasRoom sealing n a was.tally.written (length piece) → SealsSome sealing n a b was now (take at piece) (take at piece) [] []
+    → HasRoom sealing n a was.tally.written (length piece) → SealsSome sealing n a was now (take at piece) (take at piece) [] []
     → now.tally.written ≤ 2 ^ 127
-room_left {B} {sealing} opening {n} {a} {b} {was} {now} piece at valid most room some =
+room_left {B} {sealing} opening {n} {a} {was} {now} piece at valid most room some =
     let text = room.text in
     let fed = take at piece in
     let blocks = some.blocks text room.holds in
@@ -191,112 +208,92 @@ no_front sealing n positive =
     let zero : 0 / n ≡ 0 = omega arith in
     ap (λ (q : ℕ). block_bytes (map (pair sealing false) (enumerate_from 0 (first_chunks n q [])))) zero
 
-module _ {B : Type 0} {sealing : B → List ℕ → List ℕ → List ℕ} {n : ℕ} {a b d : SealerView B} {was mid now : WriterView}
-    {text piece fed left unwritten : List ℕ} (goes : GoesOn sealing n a b text)
-    (fresh : Holds n a []) (wrote : Wrote was mid (front_of (sealing a.key) n text))
-    (some : SealsSome sealing n b d mid now piece fed left unwritten) (positive : 0 < n) where
+module _ {B : Type 0} {sealing : B → List ℕ → List ℕ → List ℕ} {n : ℕ} {key : B} {b : SealerView B} {was mid now : WriterView}
+    {text piece fed left unwritten : List ℕ} (same_key : b.key ≡ key) (holds : Holds n b text) (wrote : Wrote was mid (front_of (sealing key) n text))
+    (some : SealsSome sealing n b mid now piece fed left unwritten) (positive : 0 < n) where
   -- the blocks that the piece brought
-  brought : front_of (sealing a.key) n (text ++ fed) ≡ front_of (sealing a.key) n text ++ (some.out ++ unwritten)
-  brought =
-      ap (λ (k : B). front_of (sealing k) n (text ++ fed)) (sym goes.key) ∙ (some.blocks text (goes.holds [] fresh)
-      ∙ ap (λ (k : B). front_of (sealing k) n text ++ (some.out ++ unwritten)) goes.key)
+  brought : front_of (sealing key) n (text ++ fed) ≡ front_of (sealing key) n text ++ (some.out ++ unwritten)
+  brought = subst (λ (k : B). front_of (sealing k) n (text ++ fed) ≡ front_of (sealing k) n text ++ (some.out ++ unwritten)) same_key
+      (some.blocks text holds)
 
-  both : Wrote was now (front_of (sealing a.key) n text ++ some.out)
+  both : Wrote was now (front_of (sealing key) n text ++ some.out)
   both = wrote_then wrote some.wrote
 
   -- a whole piece
-  pub piece_done : left ≡ [] → unwritten ≡ [] → GoesOn sealing n b d fed → GoesOn sealing n a d (text ++ piece)
-      × Wrote was now (front_of (sealing a.key) n (text ++ piece))
-  piece_done none whole more =
+  pub piece_done : {d : SealerView B} → left ≡ [] → unwritten ≡ [] → GoesOn sealing n b d fed → Holds n d (text ++ piece)
+      × Wrote was now (front_of (sealing key) n (text ++ piece))
+  piece_done {d} none whole more =
       let same : fed ≡ piece = sym (some.parts ∙ ap (λ (t : List ℕ). fed ++ t) none ∙ append-nil fed) in
-      let blocks : front_of (sealing a.key) n text ++ some.out ≡ front_of (sealing a.key) n (text ++ piece) =
-      ap (λ (t : List ℕ). front_of (sealing a.key) n text ++ t) (sym (append-nil some.out) ∙ ap (λ (t : List ℕ). some.out ++ t) (sym whole))
-      ∙ (sym brought ∙ ap (λ (t : List ℕ). front_of (sealing a.key) n (text ++ t)) same) in (
-        subst (λ (t : List ℕ). GoesOn sealing n a d (text ++ t)) same (goes_then goes more),
+      let blocks : front_of (sealing key) n text ++ some.out ≡ front_of (sealing key) n (text ++ piece) =
+      ap (λ (t : List ℕ). front_of (sealing key) n text ++ t) (sym (append-nil some.out) ∙ ap (λ (t : List ℕ). some.out ++ t) (sym whole))
+      ∙ (sym brought ∙ ap (λ (t : List ℕ). front_of (sealing key) n (text ++ t)) same) in (
+        subst (λ (t : List ℕ). Holds n d (text ++ t)) same (more.holds text holds),
         subst (λ (t : List ℕ). Wrote was now t) blocks both,
       )
 
   -- a piece at which it stopped
-  pub piece_cut : (out : List ℕ) × Wrote was now out × IsPrefixOf out (payload (sealing a.key) n (text ++ piece))
+  pub piece_cut : (out : List ℕ) × Wrote was now out × IsPrefixOf out (payload (sealing key) n (text ++ piece))
   piece_cut =
-      let key = sealing a.key in
-      let first : IsPrefixOf (front_of key n text ++ some.out) (front_of key n (text ++ fed)) = (
+      let seal = sealing key in
+      let first : IsPrefixOf (front_of seal n text ++ some.out) (front_of seal n (text ++ fed)) = (
         unwritten,
-        append_assoc (front_of key n text) some.out unwritten ∙ sym brought,
+        append_assoc (front_of seal n text) some.out unwritten ∙ sym brought,
       ) in
-      let grown = sealed_grows key n (text ++ fed) left positive in
+      let grown = sealed_grows seal n (text ++ fed) left positive in
       let whole : (text ++ fed) ++ left ≡ text ++ piece = append_assoc text fed left ∙ ap (λ (t : List ℕ). text ++ t) (sym some.parts) in
-      let second : IsPrefixOf (front_of key n (text ++ fed)) (payload key n (text ++ piece)) =
-      subst (λ (t : List ℕ). IsPrefixOf (front_of key n (text ++ fed)) (payload key n t)) whole
-      (prefix_trans _ _ _ grown (front_begins key n ((text ++ fed) ++ left))) in
-      (front_of key n text ++ some.out, both, prefix_trans _ _ _ first second)
+      let second : IsPrefixOf (front_of seal n (text ++ fed)) (payload seal n (text ++ piece)) =
+      subst (λ (t : List ℕ). IsPrefixOf (front_of seal n (text ++ fed)) (payload seal n t)) whole
+      (prefix_trans _ _ _ grown (front_begins seal n ((text ++ fed) ++ left))) in
+      (front_of seal n text ++ some.out, both, prefix_trans _ _ _ first second)
+
+-- what was pulled and what was written
+pub moved : {old new : SourceView} {pulls : ℕ} {was now : WriterView} {text out : List ℕ} → Pulled (start_at old.supply) new.supply pulls text
+    → Wrote was now out → ReadsWrites (ports old was.sink) (ports new now.sink) was.tally.written now.tally.written text out
+moved p w = record { read = p.consumed; wrote = w.bytes; count = w.count; small = omega (arith, p.small, p.most) }
 
 -- why no more came
-pub pull_fails : (sealing : List ℕ → List ℕ → List ℕ) (n : ℕ) (old new : Ports) (text : List ℕ) (x z : ReaderView) (fault : FileFault)
-    → x.source.failed ≡ old.source.failed → new.source ≡ z.source → new.sink.failed ≡ old.sink.failed → z.unread.pulls ≤ length text
-    → length text ≤ pull_room * z.unread.pulls → PullFails x z fault → SealingFails sealing n old new text (front_of sealing n text) fault
-pull_fails sealing n old new text x z Read same is kept gave small f = (
-  refl,
-  (
-    subst (λ (k : ℕ). HasFailed k new.source.failed new.source.failing) same
-        (subst (λ (s : SourceView). HasFailed x.source.failed s.failed s.failing) (sym is) f),
-    kept,
-  ),
-)
-pull_fails sealing n old new text x z ReadNeverEnds same is kept gave small f = (
-  refl,
-  (omega (arith, gave, f.0), omega (arith, small, f.0)),
-  (ap (λ (s : SourceView). s.failed) is ∙ (f.1 ∙ same), kept),
-)
-pull_fails sealing n old new text x z other same is kept gave small f = absurd f
+pub pull_fails : (sealing : List ℕ → List ℕ → List ℕ) (n : ℕ) (old : Ports) (x z : ReaderView) (sink : SinkView) (text : List ℕ) (fault : FileFault)
+    → NoneFailed old (ports x.source sink) → Pulled (start_at old.source.supply) z.source.supply z.unread.pulls text → PullFails x z fault
+    → SealingFails sealing n old (ports z.source sink) text (front_of sealing n text) fault
+pull_fails sealing n old x z sink text Read same all f =
+    (refl, (subst (λ (k : ℕ). HasFailed k z.source.failed z.source.failing) same.0 f, same.1))
+pull_fails sealing n old x z sink text ReadNeverEnds same all f =
+    (refl, (omega (arith, all.each_gave, f.0), omega (arith, all.small, f.0)), (f.1 ∙ same.0, same.1))
+pull_fails sealing n old x z sink text other same all f = absurd f
 
 -- why a piece wasn't sealed
-pub seal_fails : {B : Type 0} (sealing : B → List ℕ → List ℕ → List ℕ) (n : ℕ) (a b : SealerView B) (old new : Ports) (was now : WriterView)
-    (text piece out : List ℕ) (fault : FileFault) → was.sink.failed ≡ old.sink.failed → new.sink ≡ now.sink
-    → new.source.failed ≡ old.source.failed → GoesOn sealing n a b text → Holds n a [] → SealFails sealing n b was now piece fault
-    → SealingFails (sealing a.key) n old new (text ++ piece) out fault
-seal_fails sealing n a b old new was now text piece out (Stream fault) same is read goes fresh f =
-    (f.0 text (goes.holds [] fresh), f.1, (read, ap (λ (s : SinkView). s.failed) is ∙ (f.2 ∙ same)))
-seal_fails sealing n a b old new was now text piece out Write same is read goes fresh f = (
-  subst (λ (k : ℕ). HasFailed k new.sink.failed new.sink.failing) same
-      (subst (λ (s : SinkView). HasFailed was.sink.failed s.failed s.failing) (sym is) f),
-  read,
-)
-seal_fails sealing n a b old new was now text piece out other same is read goes fresh f = absurd f
+pub seal_fails : {B : Type 0} (sealing : B → List ℕ → List ℕ → List ℕ) (n : ℕ) (key : B) {b : SealerView B} (old : Ports) (source : SourceView)
+    (was now : WriterView) (text piece out : List ℕ) (fault : FileFault) → NoneFailed old (ports source was.sink) → Holds n b text
+    → SealFails sealing n b was now piece fault → SealingFails (sealing key) n old (ports source now.sink) (text ++ piece) out fault
+seal_fails sealing n key old source was now text piece out (Stream fault) same holds f = (f.0 text holds, f.1, (same.0, f.2 ∙ same.1))
+seal_fails sealing n key old source was now text piece out Write same holds f = (subst (λ (k : ℕ). HasFailed k now.sink.failed now.sink.failing) same.1 f, same.0)
+seal_fails sealing n key old source was now text piece out other same holds f = absurd f
 
--- a source wasn't sealed to its end, by the key that its sealer was made with
-pub sealing_failed : {B : Type 0} (sealing : B → List ℕ → List ℕ → List ℕ) (n : ℕ) (k key : B) (old new : Ports)
-    (was now : ℕ) (fault : FileFault) → k ≡ key → SealsFront (sealing k) n old new was now fault
-    → new.sink.label ≡ old.sink.label → SealsSource (sealing key) n old new was now (Err fault)
-sealing_failed {B} sealing n k key old new was now fault same front named = record {
-  done = tt;
-  counted = tt;
-  fails = subst (λ (c : B). SealsFront (sealing c) n old new was now fault) same front;
-  settled = tt;
-  named = named;
-}
+-- a source wasn't sealed to its end
+pub sealing_failed : {sealing : List ℕ → List ℕ → List ℕ} {n : ℕ} {old new : Ports} {was now : ℕ} {fault : FileFault}
+    → SealsFront sealing n old new was now fault → new.sink.label ≡ old.sink.label → SealsSource sealing n old new was now (Err fault)
+sealing_failed front named = record { done = tt; counted = tt; fails = front; settled = tt; named = named }
 
 -- ---- the last block
 
-module _ {B : Type 0} {sealing : B → List ℕ → List ℕ → List ℕ} {n : ℕ} {a b : SealerView B} {was mid now : WriterView} {text : List ℕ}
-    {result : Result (Unit {0}) FileFault} (goes : GoesOn sealing n a b text) (fresh : Holds n a [])
-    (wrote : Wrote was mid (front_of (sealing a.key) n text)) (last : SealsRest sealing n b mid now result) where
+module _ {B : Type 0} {sealing : B → List ℕ → List ℕ → List ℕ} {n : ℕ} {key : B} {b : SealerView B} {was mid now : WriterView} {text : List ℕ}
+    {result : Result (Unit {0}) FileFault} (same_key : b.key ≡ key) (holds : Holds n b text)
+    (wrote : Wrote was mid (front_of (sealing key) n text)) (last : SealsRest sealing n b mid now result) where
   abbrev written : List ℕ
-  written = front_of (sealing a.key) n text ++ last.out
+  written = front_of (sealing key) n text ++ last.out
 
-  whole : payload (sealing a.key) n text ≡ written ++ last.unwritten
+  whole : payload (sealing key) n text ≡ written ++ last.unwritten
   whole =
-      ap (λ (k : B). payload (sealing k) n text) (sym goes.key) ∙ (last.blocks text (goes.holds [] fresh)
-      ∙ (ap (λ (k : B). front_of (sealing k) n text ++ (last.out ++ last.unwritten)) goes.key
-      ∙ sym (append_assoc (front_of (sealing a.key) n text) last.out last.unwritten)))
+      subst (λ (k : B). payload (sealing k) n text ≡ front_of (sealing k) n text ++ (last.out ++ last.unwritten)) same_key (last.blocks text holds)
+      ∙ sym (append_assoc (front_of (sealing key) n text) last.out last.unwritten)
 
   pub last_written : Wrote was now written
   last_written = wrote_then wrote last.wrote
 
-  pub last_begins : IsPrefixOf written (payload (sealing a.key) n text)
+  pub last_begins : IsPrefixOf written (payload (sealing key) n text)
   last_begins = (last.unwritten, sym whole)
 
-  pub last_whole : last.unwritten ≡ [] → Wrote was now (payload (sealing a.key) n text)
+  pub last_whole : last.unwritten ≡ [] → Wrote was now (payload (sealing key) n text)
   last_whole none = subst (λ (t : List ℕ). Wrote was now t) (sym (whole ∙ ap (λ (t : List ℕ). written ++ t) none ∙ append-nil written)) last_written
 
 -- ---- A file's front, and what of the file was written.

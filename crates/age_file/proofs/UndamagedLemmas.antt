@@ -14,7 +14,7 @@ use Rattle.age_chunk.specs.declared.fault.StreamKind.TheVariants.{Truncated}
 use Rattle.age_chunk.specs.Payload.{payload, chunk_count, block_length, chunk_length, chunk_limit}
 use Rattle.age_io.specs.Io.{SourceView}
 use Rattle.age_stream.specs.declared.step.Status.TheVariants.{Open, Failed, Done as AllDone}
-use Rattle.age_stream.specs.Segment.{outcome}
+use Rattle.age_stream.specs.Segment.{Segment, outcome}
 use Rattle.age_stream.specs.Headline.{IsAuthentic, IsRest}
 use Rattle.age_stream.specs.Laws.{IsClosed}
 use Rattle.age_stream.proofs.LawLemmas.{closed_stays, released_is_written, rest_is_authentic}
@@ -74,23 +74,28 @@ failed_stays op n k bytes more false fault e none =
 
 module _ (one : OneHeader) {Allows : Header → List ℕ → Type 0} {Refused : Header → KeyFault → Type 0} {coming : Supply} {text : List ℕ}
     (u : IsWhole Allows Refused coming text) where
+  abbrev pub all : List ℕ
+  all = payload (box u.key u.nonce) chunk_length text
+
+  -- the payload from a chunk on
+  abbrev pub rest_of : ℕ → Segment
+  rest_of k = segment k (drop (k * block_length) all) true
+
   -- what was read of the header is the file's
   pub record IsFront (h : Header) (front behind : List ℕ) : Type 0 where
     pub header_is : h ≡ u.header
     pub front_is : front ≡ u.file.front
-    pub rest_is : behind ≡ u.nonce ++ payload (box u.key u.nonce) chunk_length text
+    pub rest_is : behind ≡ u.nonce ++ all
 
   fronts : (h : Header) (front behind : List ℕ) → HeadText h front → u.bytes ≡ front ++ behind → IsFront h front behind
   fronts h front behind text_is parts =
       let file = u.file in
-      let e : file.front ++ (u.nonce ++ payload (box u.key u.nonce) chunk_length text) ≡ front ++ behind = sym (append_assoc file.front u.nonce
-      (payload (box u.key u.nonce) chunk_length text)) ∙ (sym file.parts ∙ parts) in
-      let same = one u.header h file.front front (u.nonce ++ payload (box u.key u.nonce) chunk_length text) behind file.head.spells
-      text_is.spells e in
+      let e : file.front ++ (u.nonce ++ all) ≡ front ++ behind = sym (append_assoc file.front u.nonce all) ∙ (sym file.parts ∙ parts) in
+      let same = one u.header h file.front front (u.nonce ++ all) behind file.head.spells text_is.spells e in
       record {
         header_is = sym same.0;
         front_is = sym same.1;
-        rest_is = sym (same_front file.front front (u.nonce ++ payload (box u.key u.nonce) chunk_length text) behind (ap length same.1) e).1;
+        rest_is = sym (same_front file.front front (u.nonce ++ all) behind (ap length same.1) e).1;
       }
 
   no_head_fault : (fault : HeadFault) → IsHeadFault u.bytes fault → ⊥
@@ -99,9 +104,9 @@ module _ (one : OneHeader) {Allows : Header → List ℕ → Type 0} {Refused : 
       here.0 (
         u.header,
         file.front,
-        u.nonce ++ payload (box u.key u.nonce) chunk_length text,
+        u.nonce ++ all,
         file.head,
-        file.parts ∙ append_assoc file.front u.nonce (payload (box u.key u.nonce) chunk_length text),
+        file.parts ∙ append_assoc file.front u.nonce all,
       )
 
   no_key_fault : (after : Supply) (h : Header) (front rest : List ℕ) (fault : KeyFault) → HeadText h front → Consumes coming after (front ++ rest)
@@ -129,14 +134,14 @@ module _ (one : OneHeader) {Allows : Header → List ℕ → Type 0} {Refused : 
     pub nonce_is : nonce ≡ u.nonce
     pub left : List ℕ
     pub left_is : after.left ≡ Some left
-    pub payload_is : behind ++ left ≡ payload (box u.key u.nonce) chunk_length text
+    pub payload_is : behind ++ left ≡ all
 
   pub opened_as : {after : Supply} {f : OpenedFile} {behind : List ℕ} → Reads Allows coming after f behind → IsOpenedAs f.key f.nonce behind after
   opened_as {after} {f} {behind} r =
       let front = f.header_bytes in
       let t = left_of coming after u.bytes ((front ++ f.nonce) ++ behind) u.all r.read in
       let same = fronts f.header front (f.nonce ++ (behind ++ t.0)) r.text (t.1 ∙ regroup front f.nonce behind t.0) in
-      let both = same_front f.nonce u.nonce (behind ++ t.0) (payload (box u.key u.nonce) chunk_length text) (r.size ∙ sym u.file.size) same.rest_is in
+      let both = same_front f.nonce u.nonce (behind ++ t.0) all (r.size ∙ sym u.file.size) same.rest_is in
       record {
         key_is = u.only f.key (subst (λ (x : Header). Allows x f.key) same.header_is r.opens.allowed);
         nonce_is = both.0;
@@ -152,15 +157,13 @@ module _ (one : OneHeader) {Allows : Header → List ℕ → Type 0} {Refused : 
       (fronts f.header f.header_bytes (f.nonce ++ (behind ++ t.0)) r.text (t.1 ∙ regroup f.header_bytes f.nonce behind t.0)).front_is
 
   -- from a chunk of the text on, whose blocks are the writer's
-  module _ (k : ℕ) (below : k < chunk_count chunk_length text) (authentic : IsAuthentic (box u.key u.nonce) (unbox u.key u.nonce) chunk_length text
-      (segment k (drop (k * block_length) (payload (box u.key u.nonce) chunk_length text)) true)) where
+  module _ (k : ℕ) (below : k < chunk_count chunk_length text) (authentic : IsAuthentic (box u.key u.nonce) (unbox u.key u.nonce) chunk_length text (rest_of k)) where
     -- the rest of the payload opens to its end
-    rest_done : (outcome (unbox u.key u.nonce) chunk_length (segment k (drop (k * block_length) (payload (box u.key u.nonce) chunk_length text))
-        true)).status ≡ AllDone
+    rest_done : (outcome (unbox u.key u.nonce) chunk_length (rest_of k)).status ≡ AllDone
     rest_done =
         let valid = box_valid (payload_key u.key u.nonce) in
         let positive : 0 < chunk_length = omega arith in
-        let s = segment k (drop (k * block_length) (payload (box u.key u.nonce) chunk_length text)) true in
+        let s = rest_of k in
         let rest : IsRest (box u.key u.nonce) (unbox u.key u.nonce) chunk_length text s =
         record { below = below; bytes = refl; ended = refl; timely = refl } in
         ((released_is_written (box u.key u.nonce) (unbox u.key u.nonce) valid chunk_length positive
@@ -170,7 +173,6 @@ module _ (one : OneHeader) {Allows : Header → List ℕ → Type 0} {Refused : 
         → IsOpenedAs key nonce (passed ++ bytes) after → length passed ≡ k * block_length → (ended ≡ true → IsAtEnd after)
         → (outcome (unbox key nonce) chunk_length (segment k bytes ended)).status ≡ Failed fault → ⊥
     no_stream_fault after key nonce passed bytes ended fault o size at_end failed =
-        let all = payload (box u.key u.nonce) chunk_length text in
         let rest : bytes ++ o.left ≡ drop (k * block_length) all = sym (drop_at passed (bytes ++ o.left) (k * block_length) size)
         ∙ ap (drop (k * block_length)) (sym (append_assoc passed bytes o.left) ∙ o.payload_is) in
         let here = rw (o.key_is, o.nonce_is) at failed in
@@ -184,7 +186,6 @@ module _ (one : OneHeader) {Allows : Header → List ℕ → Type 0} {Refused : 
     pub no_early_end : (after : Supply) (key nonce passed : List ℕ)
         → IsOpenedAs key nonce passed after → length passed < k * block_length → IsAtEnd after → ⊥
     no_early_end after key nonce passed o short ended =
-        let all = payload (box u.key u.nonce) chunk_length text in
         let none : o.left ≡ [] = none_left after o.left o.left_is ended in
         let nothing : drop (k * block_length) all ≡ [] = drop_all (k * block_length) all (omega (
           arith,

@@ -75,25 +75,6 @@ impl HeadReader {
             }
         }
     }
-
-    /// Pulls and takes, up to the header's end.
-    fn read<S: Source>(&mut self, reader: &mut Reader<'_, S>) -> Result<Header, FileFault>
-        requires fresh { IsFront self.old [] }
-        requires unread { (reader.old.intake.now.bytes ≡ []) × (reader.old.intake.now.pulls ≡ 0) }
-        ensures found { IfOk result (λ header. ReadsHead (S.view reader.old.source.now)
-            (view_of_reader S.view reader.new) (head_of header self.new)) }
-        ensures fails { IfErr result (HeadFails InHeader (S.view reader.old.source.now)
-            (S.view reader.new.source.now)) }
-        ensures same { SameReader reader.old reader.new }
-        ensures began { KeepsOrigin S.began reader.old reader.new }
-    {
-        'pieces: while reader.intake.refill(reader.source)? {
-            if let Some(header) = self.take(reader.intake)? {
-                return Ok(header);
-            }
-        }
-        Err(FileFault::from(self.parser.end()))
-    }
 }
 
 /// Reads a header. The bytes that follow it and were pulled with it are left in the intake.
@@ -110,6 +91,10 @@ pub(crate) fn read_head<S: Source>(
     ensures began { KeepsOrigin S.began reader.old reader.new }
 {
     let mut front = HeadReader::new(alloc);
-    let header = front.read(reader)?;
-    Ok(front.head(header))
+    'pieces: while reader.intake.refill(reader.source)? {
+        if let Some(header) = front.take(reader.intake)? {
+            return Ok(front.head(header));
+        }
+    }
+    Err(FileFault::from(front.parser.end()))
 }

@@ -1,10 +1,9 @@
 //! Opens what a source gives, and writes each chunk once its tag was checked.
 
-ghost use Rattle.std.specs.Prelude.{◌≡◌, ◌+◌, ◌^◌, ◌<◌, length, IfOk, OnOk, true, false};
+ghost use Rattle.std.specs.Prelude.{◌≡◌, ◌+◌, ◌^◌, ◌<◌, length, OnOk, true, false};
 ghost use Rattle.age_stream.specs.Opener.{has_failed};
 ghost use Rattle.age_file.specs.inner.Decrypts.{opens};
-ghost use Rattle.age_file.specs.inner.Payloads.{FeedsOnce, FeedsPiece, ClosesPayload, HasPlace};
-ghost use Rattle.age_file.specs.inner.Payloads.{DecryptsPayload};
+ghost use Rattle.age_file.specs.inner.Payloads.{FeedsPiece, ClosesPayload, HasPlace, DecryptsPayload};
 ghost use Rattle.age_file.specs.inner.Readers.{view_of_writer, stage_of, SameReader, KeepsOrigin, SameWriter};
 ghost use Rattle.age_chunk.specs.Payload.{chunk_length, chunk_limit};
 
@@ -16,28 +15,6 @@ use age_stream::{BLOCK_LEN, Opener};
 
 /// What opens the blocks of a payload.
 type PayloadOpener<'a> = Opener<'a, PayloadKey, BLOCK_LEN>;
-
-/// Feeds the beginning of a piece, and writes the chunk that comes out.
-fn feed_once<O: Sink>(
-    opener: &mut PayloadOpener<'_>,
-    piece: &[u8],
-    writer: &mut Writer<'_, O>,
-) -> Result<usize, FileFault>
-    requires small { length opener.old.held + writer.old.tally.written + length piece.now
-        < 2 ^ 128 }
-    ensures fed { FeedsOnce opens chunk_length opener.old opener.new
-        (view_of_writer O.view writer.old) (view_of_writer O.view writer.new) piece.now result }
-    ensures some { IfOk result (λ n. 0 < length piece.now → 0 < n) }
-    ensures same { SameWriter writer.old writer.new }
-{
-    let step = opener.feed(piece)?;
-    let taken = step.taken;
-    let index = step.index;
-    let chunk = step.chunk.unwrap_or(&[]);
-    write_all(writer.sink, chunk, &mut writer.tally.written)?;
-    writer.tally.count(index, chunk);
-    Ok(taken)
-}
 
 /// Feeds a whole piece, and writes the chunks that come out.
 fn feed_piece<O: Sink>(
@@ -54,7 +31,13 @@ fn feed_piece<O: Sink>(
 {
     let mut at = 0;
     while at < piece.len() {
-        at += feed_once(opener, &piece[at..], writer)?;
+        let step = opener.feed(&piece[at..])?;
+        let taken = step.taken;
+        let index = step.index;
+        let chunk = step.chunk.unwrap_or(&[]);
+        write_all(writer.sink, chunk, &mut writer.tally.written)?;
+        writer.tally.count(index, chunk);
+        at += taken;
     }
     Ok(())
 }

@@ -3,8 +3,7 @@
 ghost use Rattle.std.specs.Prelude.{◌≡◌, ◌^◌, ◌≤◌, [], length, OnOk, true};
 ghost use Rattle.age_file.specs.inner.Decrypts.{seals};
 ghost use Rattle.age_file.specs.inner.Readers.{view_of_writer, ports_of, SameReader, KeepsOrigin, SameWriter};
-ghost use Rattle.age_file.specs.inner.Seals.{IsFeeding, HasRoom, SealsOnce, SealsPiece, SealsRest};
-ghost use Rattle.age_file.specs.inner.Seals.{SealsSource};
+ghost use Rattle.age_file.specs.inner.Seals.{IsFeeding, HasRoom, SealsPiece, SealsRest, SealsSource};
 ghost use Rattle.age_chunk.specs.Payload.{chunk_length};
 
 use crate::encryption::Written;
@@ -16,25 +15,6 @@ use age_stream::{BLOCK_LEN, Sealer};
 
 /// What seals the chunks of a payload.
 type PayloadSealer<'a> = Sealer<'a, PayloadKey, BLOCK_LEN>;
-
-/// Feeds the beginning of a piece, and writes the block that comes out.
-fn seal_once<O: Sink>(
-    sealer: &mut PayloadSealer<'_>,
-    piece: &[u8],
-    writer: &mut Writer<'_, O>,
-) -> Result<usize, FileFault>
-    requires feeding { IsFeeding sealer.old }
-    requires room { writer.old.tally.written ≤ 2 ^ 127 }
-    ensures sealed { SealsOnce seals chunk_length sealer.old sealer.new
-        (view_of_writer O.view writer.old) (view_of_writer O.view writer.new) piece.now result }
-    ensures same_writer { SameWriter writer.old writer.new }
-{
-    let step = sealer.feed(piece)?;
-    let taken = step.taken;
-    let block = step.chunk.unwrap_or(&[]);
-    write_all(writer.sink, block, &mut writer.tally.written)?;
-    Ok(taken)
-}
 
 /// Feeds a whole piece, and writes the blocks that come out.
 fn seal_piece<O: Sink>(
@@ -51,7 +31,11 @@ fn seal_piece<O: Sink>(
 {
     let mut at = 0;
     while at < piece.len() {
-        at += seal_once(sealer, &piece[at..], writer)?;
+        let step = sealer.feed(&piece[at..])?;
+        let taken = step.taken;
+        let block = step.chunk.unwrap_or(&[]);
+        write_all(writer.sink, block, &mut writer.tally.written)?;
+        at += taken;
     }
     Ok(())
 }

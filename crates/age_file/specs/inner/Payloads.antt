@@ -135,27 +135,16 @@ module _ {B : Type 0} (opening : B → List ℕ → List ℕ → Option (List �
       ≤ length old.held + was.tally.written + length fed) × (unwritten ≡ [])
       × (now.sink.failed ≡ was.sink.failed) × (has_failed new.status ≡ false)
 
-  -- the opener took the front of a piece, and went on so or failed
-  pub record FeedsFront {R : Type 0} (Goes : List ℕ → List ℕ → R → Type 0) (old new : OpenerView B)
-      (was now : WriterView) (piece : List ℕ) (result : Result R FileFault) : Type 0 where
+  -- calls for a piece: the opener took it, or its front
+  pub record FeedsPiece (old new : OpenerView B) (was now : WriterView) (piece : List ℕ)
+      (result : Result (Unit {0}) FileFault) : Type 0 where
     pub fed : List ℕ
     pub left : List ℕ
     pub unwritten : List ℕ
     pub parts : piece ≡ fed ++ left
     pub releases : Releases (λ s. with_piece s fed) old new was now unwritten
-    pub answered : MatchResult result
-        (λ r. Goes fed left r × FeedGoes old new was now fed unwritten)
+    pub answered : MatchResult result (λ _. (left ≡ []) × FeedGoes old new was now fed unwritten)
         (FeedFails new was now left unwritten)
-
-  -- one call
-  abbrev pub FeedsOnce : OpenerView B → OpenerView B → WriterView → WriterView → List ℕ
-      → Result ℕ FileFault → Type 0
-  FeedsOnce = FeedsFront (λ fed left taken. taken ≡ length fed)
-
-  -- calls for a whole piece
-  abbrev pub FeedsPiece : OpenerView B → OpenerView B → WriterView → WriterView → List ℕ
-      → Result (Unit {0}) FileFault → Type 0
-  FeedsPiece = FeedsFront (λ fed left done. left ≡ [])
 
   -- the end, for each segment that the opener stood for
   pub record ClosesPayload (old new : OpenerView B) (was now : WriterView)

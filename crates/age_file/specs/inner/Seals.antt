@@ -91,7 +91,7 @@ module _ {B : Type 0} (sealing : B → List ℕ → List ℕ → List ℕ) (n : 
 
   -- of a piece the sealer was fed the front; its blocks grew by what was written, and by what
   -- wasn't if the sink failed
-  pub record SealsSome (old new : SealerView B) (was now : WriterView)
+  pub record SealsSome (old : SealerView B) (was now : WriterView)
       (piece fed left unwritten : List ℕ) : Type 0 where
     pub out : List ℕ
     pub parts : piece ≡ fed ++ left
@@ -99,28 +99,16 @@ module _ {B : Type 0} (sealing : B → List ℕ → List ℕ → List ℕ) (n : 
     pub blocks : (text : List ℕ) → Holds n old text → front_of (sealing old.key) n (text ++ fed)
         ≡ front_of (sealing old.key) n text ++ (out ++ unwritten)
 
-  -- the sealer was fed the front of a piece, and went on so or failed
-  pub record SealsFed {R : Type 0} (Goes : List ℕ → List ℕ → R → Type 0) (old new : SealerView B)
-      (was now : WriterView) (piece : List ℕ) (result : Result R FileFault) : Type 0 where
+  -- a piece was fed, or a front of it
+  pub record SealsPiece (old new : SealerView B) (was now : WriterView) (piece : List ℕ)
+      (result : Result (Unit {0}) FileFault) : Type 0 where
     pub fed : List ℕ
     pub left : List ℕ
     pub unwritten : List ℕ
-    pub some : SealsSome old new was now piece fed left unwritten
-    pub answered : MatchResult result (λ r. Goes fed left r × (unwritten ≡ [])
+    pub some : SealsSome old was now piece fed left unwritten
+    pub answered : MatchResult result (λ _. (left ≡ []) × (unwritten ≡ [])
         × (now.sink.failed ≡ was.sink.failed) × GoesOn old new fed)
         (SealFails old was now piece)
-
-  -- one feed
-  abbrev pub SealsOnce : SealerView B → SealerView B → WriterView → WriterView → List ℕ
-      → Result ℕ FileFault → Type 0
-  SealsOnce old new was now piece result = SealsFed
-      (λ fed left taken. (taken ≡ length fed) × (0 < length piece → 0 < taken)) old new was now piece
-      result
-
-  -- a whole piece
-  abbrev pub SealsPiece : SealerView B → SealerView B → WriterView → WriterView → List ℕ
-      → Result (Unit {0}) FileFault → Type 0
-  SealsPiece = SealsFed (λ fed left done. left ≡ [])
 
 -- the last block of what the sealer holds: what of it was written, and what wasn't if the sink
 -- failed

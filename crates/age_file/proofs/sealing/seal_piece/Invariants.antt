@@ -10,7 +10,7 @@ abbrev pub invariant-loop-at : goal.invariant-loop-at
 invariant-loop-at g l = record {
   same_writer : SameWriter l.fn.writer l.writer;
   within : l.at ≤ length l.piece;
-  some : SealsSome seals chunk_length l.fn.sealer l.sealer (view_of_writer g.O.Sink.view l.fn.writer)
+  some : SealsSome seals chunk_length l.fn.sealer (view_of_writer g.O.Sink.view l.fn.writer)
       (view_of_writer g.O.Sink.view l.writer) (take l.at l.piece) (take l.at l.piece) [] [];
   goes : GoesOn seals chunk_length l.fn.sealer l.sealer (take l.at l.piece);
   failures : (g.O.Sink.view l.writer.sink.now).failed ≡ (g.O.Sink.view l.fn.writer.sink.now).failed;

@@ -4,7 +4,7 @@ use Rattle.std.proofs.lemmas.Result.{err_from_is_err_and}
 use Rattle.age_file.specs.Runs.{EndsInHeader, InHeader}
 use Rattle.age_file.specs.inner.Readers.{start_at, reader_view, view_of_reader}
 use Rattle.age_file.proofs.ReadLemmas.{pull_fails, piece_fails, end_fails, stops_at, nothing_pulled, head_pulled}
-use Rattle.age_file.proofs.head.HeadReader.read.Goals as goal
+use Rattle.age_file.proofs.head.read_head.Goals as goal
 
 pub returns-clause-fails : goal.returns-clause-fails
 returns-clause-fails g c =
@@ -49,7 +49,7 @@ returns-in-Some-clause-found g c =
     let ends = rw c.in-Some.is at (c.in_ok-header.ensures kept.held kept.front) in
     let r = rw c.if-branch.true at c.in_ok-refill.ensures.refills.answered in
     let bytes = c.refill.new.self.bytes in
-    record {
+    rw c.head.ensures (record {
       front = kept.held ++ take ends.taken bytes;
       text = ends.text;
       len_is = ends.len_is;
@@ -59,7 +59,7 @@ returns-in-Some-clause-found g c =
           bytes ends.taken ends.pulls refl ends.rest all;
       last = stops_at old.supply new.supply kept.held bytes r.1 kept.front.inside all.consumed;
       unfailed = r.4 ∙ kept.unfailed;
-    }
+    })
 
 pub pieces-preserved : goal.pieces-preserved
 pieces-preserved g c =
