@@ -1,22 +1,23 @@
 -- How an outcome goes on when more bytes come.
-use Rattle.std.proofs.Common.{inl, inr, ◌≡◌, ℕ, zero, suc, ◌<◌, ◌≤◌, ◌+◌, ◌*◌, ◌-◌, ◌/◌, refl, ap, sym, ◌∙◌, List, [], ◌∷◌, ◌++◌, length, take, drop, Bool}
+use Rattle.std.proofs.Common.{inl, inr, ◌≡◌, ℕ, zero, suc, ◌<◌, ◌≤◌, ◌+◌, ◌*◌, ◌/◌, refl, ap, sym, ◌∙◌, List, [], ◌∷◌, ◌++◌, length, take, drop, Bool}
 use Rattle.std.proofs.Common.{true, false, arith}
-use Rattle.std.specs.Prelude.{Option, Some, None, cond, nat_lt, not, ◌||◌, ◌&&◌, ◌==◌}
+use Rattle.std.specs.Prelude.{Option, Some, None, nat_lt, not, ◌||◌, ◌&&◌, ◌==◌}
 use Rattle.std.specs.Simd.{first_chunks}
 use Rattle.std.proofs.lemmas.List.{length-append, length-drop, drop-append-le, take-append-le, drop-drop, drop_all, take_all, append-nil, append_assoc}
-use Rattle.std.proofs.lemmas.Bool.{cases_lt, lt-ltb, le-ltb, eq-eqb, and_parts, not-true, both_ways, false_from_ne_true}
+use Rattle.std.proofs.lemmas.Bool.{cases_lt, cond-true, cond-false, lt-ltb, le-ltb, eq-eqb, and_parts, not-true, both_ways, false_from_ne_true}
 use Rattle.std.proofs.lemmas.Nat.{div-mul-add}
 use Rattle.std.proofs.Math.Bool.{or-true, or-false, or_assoc}
-use Rattle.std.proofs.Math.Nat.{div-mul-le_self, le-div_iff_mul-le}
+use Rattle.std.proofs.Math.Nat.{add-mul-div_left, div-mul-le_self, le-div_iff_mul-le}
 use Rattle.age_chunk.specs.ChunkBoxes.{OpensBlock, tag_length}
-use Rattle.age_chunk.proofs.FirstChunkLemmas.{first_chunks_more, first_chunks-append}
+use Rattle.age_chunk.specs.Payload.{nonce_bytes}
+use Rattle.age_chunk.proofs.FirstChunkLemmas.{first_chunks-append}
 use Rattle.age_stream.specs.Segment.{Segment, Outcome, Frontier, outcome, stop, verdict, is_waiting, block_at, front_texts, text_then, text_before_last}
 use Rattle.age_stream.specs.Segment.{whole_blocks, rest_bytes, with_piece, with_end}
-use Rattle.age_stream.specs.inner.OpenerSteps.{after_front, one_block, final_block}
+use Rattle.age_stream.specs.inner.OpenerSteps.{after_front, one_block, final_block, status_after, status_ended}
 use Rattle.age_stream.specs.declared.step.Status.TheVariants.{Open}
-use Rattle.age_stream.proofs.TableLemmas.{IsAfterBytes, IsAfterEnd, beside, block_full, by_lines, frontier, last_shut, length-whole_blocks, line_waiting}
-use Rattle.age_stream.proofs.TableLemmas.{not_whole, outcome_is, prepend, rest_is, rest_short, texts_fit, verdict-bytes, verdict-end, verdict-prepend}
-use Rattle.age_stream.proofs.TableLemmas.{whole_within}
+use Rattle.age_stream.proofs.TableLemmas.{after, beside, block_full, by_lines, bytes_status, end_status, ended_waits, fault_after, frontier, last_shut}
+use Rattle.age_stream.proofs.TableLemmas.{length-whole_blocks, line_waiting, not_whole, outcome_is, prepend, rest_is, rest_short, texts_fit, verdict-after}
+use Rattle.age_stream.proofs.TableLemmas.{verdict-prepend, whole_verdict, whole_within}
 
 pub first_chunks-add : (z q d : ℕ) (xs : List ℕ) → first_chunks z (q + d) xs ≡ first_chunks z q xs ++ first_chunks z d (drop (q * z) xs)
 first_chunks-add z zero d xs =
@@ -31,83 +32,72 @@ first_chunks-add z (suc q) d xs =
     (first_chunks-add z q d (drop z xs) ∙ ap (λ (ys : List ℕ). first_chunks z q (drop z xs) ++ first_chunks z d ys) (drop-drop (q * z) z xs
     ∙ ap (λ (k : ℕ). drop k xs) e))
 
--- whole blocks stay when bytes are added
-pub more_blocks : (n : ℕ) (bytes more : List ℕ) → (added : List (List ℕ)) × (whole_blocks n (bytes ++ more) ≡ whole_blocks n bytes ++ added)
-more_blocks n bytes more =
-    let z = n + tag_length in
-    let q = length bytes / z in
-    let r = length (bytes ++ more) / z in
-    let pos : 0 < z = omega arith in
-    let fits : q * z ≤ length bytes = div-mul-le_self (length bytes) z in
-    let len = length-append bytes more in
-    let le : q ≤ r = (le-div_iff_mul-le pos).1 (omega (arith, fits, len)) in
-    let d = r - q in
-    let e : r ≡ q + d = omega (arith, le) in (
-      first_chunks z d (drop (q * z) (bytes ++ more)),
-      ap (λ (k : ℕ). first_chunks z k (bytes ++ more)) e
-          ∙ (first_chunks-add z q d (bytes ++ more)
-          ∙ ap (λ (cs : List (List ℕ)). cs ++ first_chunks z d (drop (q * z) (bytes ++ more))) (first_chunks-append z q bytes more fits)),
-    )
-
--- bytes that make no whole block
+-- more bytes: the whole blocks stay, and those of what is left come after them
 module _ (n : ℕ) (bytes more : List ℕ) where
-  part_count : length (rest_bytes n bytes) + length more < n + tag_length → length (bytes ++ more) / (n + tag_length) ≡ length bytes / (n + tag_length)
-  part_count h =
-      let z = n + tag_length in
-      let q = length bytes / z in
-      let fits : q * z ≤ length bytes = div-mul-le_self (length bytes) z in
-      let r = length (rest_bytes n bytes) + length more in
-      let e : length (bytes ++ more) ≡ q * z + r = omega (arith, length-append bytes more, length-drop (q * z) bytes, fits) in
-      ap (λ (k : ℕ). k / z) e ∙ div-mul-add q z r h
+  abbrev z : ℕ
+  z = n + tag_length
 
-  pub part_blocks : length (rest_bytes n bytes) + length more < n + tag_length → whole_blocks n (bytes ++ more) ≡ whole_blocks n bytes
-  part_blocks h =
-      ap (λ (k : ℕ). first_chunks (n + tag_length) k (bytes ++ more)) (part_count h)
-      ∙ first_chunks-append (n + tag_length) (length bytes / (n + tag_length)) bytes more (div-mul-le_self (length bytes) (n + tag_length))
+  abbrev q : ℕ
+  q = length bytes / z
 
-  pub part_rest : length (rest_bytes n bytes) + length more < n + tag_length → rest_bytes n (bytes ++ more) ≡ rest_bytes n bytes ++ more
-  part_rest h =
-      ap (λ (k : ℕ). drop (k * (n + tag_length)) (bytes ++ more)) (part_count h)
-      ∙ drop-append-le (length bytes / (n + tag_length) * (n + tag_length)) bytes more (div-mul-le_self (length bytes) (n + tag_length))
+  abbrev tail : List ℕ
+  tail = rest_bytes n bytes ++ more
 
-  -- bytes that make just one
-  whole_count : length (rest_bytes n bytes) + length more ≡ n + tag_length → length (bytes ++ more) / (n + tag_length) ≡ suc (length bytes / (n + tag_length))
-  whole_count h =
-      let z = n + tag_length in
-      let q = length bytes / z in
-      let fits : q * z ≤ length bytes = div-mul-le_self (length bytes) z in
-      let e : length (bytes ++ more) ≡ suc q * z + 0 = omega (arith, length-append bytes more, length-drop (q * z) bytes, fits, h) in
+  fits : q * z ≤ length bytes
+  fits = div-mul-le_self (length bytes) z
+
+  count : length (bytes ++ more) / z ≡ q + length tail / z
+  count =
       let pos : 0 < z = omega arith in
-      ap (λ (k : ℕ). k / z) e ∙ div-mul-add (suc q) z 0 pos
+      let e : length (bytes ++ more) ≡ length tail + z * q =
+      omega (arith, length-append bytes more, length-append (rest_bytes n bytes) more, length-drop (q * z) bytes, fits) in
+      let f : length tail / z + q ≡ q + length tail / z = omega arith in
+      ap (λ (k : ℕ). k / z) e ∙ (add-mul-div_left (length tail) q pos ∙ f)
 
-  pub whole_len : length (rest_bytes n bytes) + length more ≡ n + tag_length → length (bytes ++ more) ≡ (length bytes / (n + tag_length) + 1) * (n + tag_length)
-  whole_len h =
-      let z = n + tag_length in
-      let q = length bytes / z in
-      let fits : q * z ≤ length bytes = div-mul-le_self (length bytes) z in
-      omega (arith, length-append bytes more, length-drop (q * z) bytes, fits, h)
+  pub blocks_on : whole_blocks n (bytes ++ more) ≡ whole_blocks n bytes ++ whole_blocks n tail
+  blocks_on =
+      let r = length tail / z in
+      ap (λ (k : ℕ). first_chunks z k (bytes ++ more)) count
+      ∙ (first_chunks-add z q r (bytes ++ more)
+      ∙ (ap (λ (cs : List (List ℕ)). cs ++ first_chunks z r (drop (q * z) (bytes ++ more))) (first_chunks-append z q bytes more fits)
+      ∙ ap (λ (xs : List ℕ). whole_blocks n bytes ++ first_chunks z r xs) (drop-append-le (q * z) bytes more fits)))
 
-  pub whole_more : length (rest_bytes n bytes) + length more ≡ n + tag_length → whole_blocks n (bytes ++ more)
-      ≡ whole_blocks n bytes ++ (rest_bytes n bytes ++ more) ∷ []
-  whole_more h =
-      let z = n + tag_length in
-      let q = length bytes / z in
-      let fits : q * z ≤ length bytes = div-mul-le_self (length bytes) z in
-      let tail : take z (drop (q * z) (bytes ++ more)) ≡ rest_bytes n bytes ++ more =
-      ap (take z) (drop-append-le (q * z) bytes more fits)
-      ∙ take_all z (rest_bytes n bytes ++ more) (omega (arith, length-append (rest_bytes n bytes) more, h)) in
-      ap (λ (k : ℕ). first_chunks z k (bytes ++ more)) (whole_count h)
-      ∙ (first_chunks_more z q (bytes ++ more)
-      ∙ (ap (λ (c : List ℕ). first_chunks z q (bytes ++ more) ++ c ∷ []) tail
-      ∙ ap (λ (cs : List (List ℕ)). cs ++ (rest_bytes n bytes ++ more) ∷ []) (first_chunks-append z q bytes more fits)))
+  pub rest_on : rest_bytes n (bytes ++ more) ≡ rest_bytes n tail
+  rest_on =
+      let r = length tail / z in
+      let e : (q + r) * z ≡ q * z + r * z = omega arith in
+      ap (λ (k : ℕ). drop (k * z) (bytes ++ more)) count
+      ∙ (ap (λ (k : ℕ). drop k (bytes ++ more)) e
+      ∙ (sym (drop-drop (r * z) (q * z) (bytes ++ more)) ∙ ap (drop (r * z)) (drop-append-le (q * z) bytes more fits)))
 
-  pub whole_rest : length (rest_bytes n bytes) + length more ≡ n + tag_length → rest_bytes n (bytes ++ more) ≡ []
-  whole_rest h =
-      let z = n + tag_length in
-      let q = length bytes / z in
-      let s : suc q ≡ q + 1 = omega arith in
-      ap (λ (k : ℕ). drop (k * z) (bytes ++ more)) (whole_count h)
-      ∙ drop_all (suc q * z) (bytes ++ more) (omega (arith, whole_len h, ap (λ (k : ℕ). k * z) s))
+module _ (n : ℕ) (bytes : List ℕ) where
+  count_is : (k r : ℕ) → length bytes ≡ k * (n + tag_length) + r → r < n + tag_length → length bytes / (n + tag_length) ≡ k
+  count_is k r e lt = ap (λ (x : ℕ). x / (n + tag_length)) e ∙ div-mul-add k (n + tag_length) r lt
+
+  -- too few bytes for a block
+  pub short_bytes : length bytes < n + tag_length → (whole_blocks n bytes ≡ []) × (rest_bytes n bytes ≡ bytes)
+  short_bytes short =
+      let none = count_is 0 (length bytes) (omega arith) short in
+      let z : 0 * (n + tag_length) ≡ 0 = omega arith in (
+        ap (λ (k : ℕ). first_chunks (n + tag_length) k bytes) none,
+        ap (λ (k : ℕ). drop (k * (n + tag_length)) bytes) none ∙ ap (λ (k : ℕ). drop k bytes) z,
+      )
+
+  -- just one block
+  pub full_bytes : length bytes ≡ n + tag_length → (whole_blocks n bytes ≡ bytes ∷ []) × (rest_bytes n bytes ≡ [])
+  full_bytes full =
+      let one = count_is 1 0 (omega (arith, full)) (omega arith) in (
+        ap (λ (k : ℕ). first_chunks (n + tag_length) k bytes) one
+            ∙ ap (λ (x : List ℕ). x ∷ []) (take_all (n + tag_length) bytes (omega (arith, full))),
+        ap (λ (k : ℕ). drop (k * (n + tag_length)) bytes) one ∙ drop_all (1 * (n + tag_length)) bytes (omega (arith, full)),
+      )
+
+-- a block before other bytes
+pub block_on : (n : ℕ) (block more : List ℕ) → length block ≡ n + tag_length → whole_blocks n (block ++ more) ≡ block ∷ whole_blocks n more
+block_on n block more full =
+    let one = full_bytes n block full in
+    blocks_on n block more
+    ∙ (ap (λ (bs : List (List ℕ)). bs ++ whole_blocks n (rest_bytes n block ++ more)) one.0 ∙ ap (λ (xs : List ℕ). block ∷ whole_blocks n (xs ++ more)) one.1)
 
 module _ (opening : OpensBlock) where
   -- if all these blocks open as before the last, the next ones go on from there
@@ -139,25 +129,11 @@ module _ (opening : OpensBlock) where
   front_stays [] ys i h = absurd (omega arith)
   front_stays (x ∷ xs) ys i h = stays_step (text_before_last opening i x) xs ys i (λ g. front_stays xs ys (i + 1) g) h
 
-pub unended_piece : (s : Segment) (p : List ℕ) → s.ended ≡ false → with_piece s p ≡ record {
-  start = s.start;
-  bytes = s.bytes ++ p;
-  ended = false;
-  late = s.late;
-}
-unended_piece s p is =
-    ap (λ (t : Bool). cond t (record { start = s.start; bytes = s.bytes; ended = true; late = s.late || nat_lt 0 (length p) })
-    (record { start = s.start; bytes = s.bytes ++ p; ended = false; late = s.late })) is
+pub unended_piece : (s : Segment) (p : List ℕ) → s.ended ≡ false → with_piece s p ≡ record s { bytes = s.bytes ++ p; ended = false }
+unended_piece s p is = cond-false s.ended (record s { ended = true; late = s.late || nat_lt 0 (length p) }) (record s { bytes = s.bytes ++ p; ended = false }) is
 
-pub ended_piece : (s : Segment) (p : List ℕ) → s.ended ≡ true → with_piece s p ≡ record {
-  start = s.start;
-  bytes = s.bytes;
-  ended = true;
-  late = s.late || nat_lt 0 (length p);
-}
-ended_piece s p is =
-    ap (λ (t : Bool). cond t (record { start = s.start; bytes = s.bytes; ended = true; late = s.late || nat_lt 0 (length p) })
-    (record { start = s.start; bytes = s.bytes ++ p; ended = false; late = s.late })) is
+pub ended_piece : (s : Segment) (p : List ℕ) → s.ended ≡ true → with_piece s p ≡ record s { ended = true; late = s.late || nat_lt 0 (length p) }
+ended_piece s p is = cond-true s.ended (record s { ended = true; late = s.late || nat_lt 0 (length p) }) (record s { bytes = s.bytes ++ p; ended = false }) is
 
 -- one piece after another
 some_append : (p r : List ℕ) → (nat_lt 0 (length p) || nat_lt 0 (length r)) ≡ nat_lt 0 (length (p ++ r))
@@ -246,10 +222,9 @@ module _ (opening : OpensBlock) (n : ℕ) where
       let pos : 0 < z = omega arith in
       let low : (m + 1) * z ≤ length s.bytes = (le-div_iff_mul-le pos).0 (omega (arith, lt)) in
       let step : (m + 1) * z ≡ m * z + z = omega arith in
-      let more = more_blocks n s.bytes p in
       let next : Segment = record { start = s.start; bytes = s.bytes ++ p; ended = false; late = s.late } in
-      let texts : front_texts opening s.start (whole_blocks n next.bytes) ≡ b.texts = ap (front_texts opening s.start) more.1
-      ∙ front_stays opening (whole_blocks n s.bytes) more.0 s.start (omega (arith, lt, length-whole_blocks n s)) in
+      let texts : front_texts opening s.start (whole_blocks n next.bytes) ≡ b.texts = ap (front_texts opening s.start) (blocks_on n s.bytes p)
+      ∙ front_stays opening (whole_blocks n s.bytes) (whole_blocks n (rest_bytes n s.bytes ++ p)) s.start (omega (arith, lt, length-whole_blocks n s)) in
       let block : block_at n next.bytes m ≡ b.block = ap (take z) (drop-append-le (m * z) s.bytes p (omega (arith, low, step)))
       ∙ take-append-le z (drop (m * z) s.bytes) p (omega (arith, length-drop (m * z) s.bytes, low, step)) in
       let flag : (nat_lt ((m + 1) * z) (length next.bytes) || s.late) ≡ (b.followed || some) = ap (λ (k : ℕ). nat_lt ((m + 1) * z) k || s.late) (length-append s.bytes p)
@@ -262,15 +237,24 @@ module _ (opening : OpensBlock) (n : ℕ) where
 
   -- a piece, if the segment is open no more
   pub after_piece : (s : Segment) (p : List ℕ) → (s.ended ≡ false → s.late ≡ false) → ((outcome opening n s).status ≡ Open → ⊥)
-      → IsAfterBytes (nat_lt 0 (length p)) (outcome opening n s) (outcome opening n (with_piece s p))
+      → outcome opening n (with_piece s p) ≡ after (status_after (nat_lt 0 (length p))) (outcome opening n s)
   after_piece s p timely shut =
+      let b = stop opening n s in
+      let some = nat_lt 0 (length p) in
       let unwaiting = shut_waits s shut in
-      rw (outcome_is opening n s, outcome_is opening n (with_piece s p) ∙ ap (verdict opening) (piece_stop s s.ended p refl timely unwaiting))
-      (verdict-bytes opening (stop opening n s) (nat_lt 0 (length p)) unwaiting)
+      outcome_is opening n (with_piece s p)
+      ∙ (ap (verdict opening) (piece_stop s s.ended p refl timely unwaiting)
+      ∙ (verdict-after opening b (status_after some) (b.followed || some) b.ended unwaiting unwaiting (fault_after some) (bytes_status b.followed some b.ended)
+      ∙ ap (after (status_after some)) (sym (outcome_is opening n s))))
 
   -- an end, likewise
-  pub after_end : (s : Segment) → ((outcome opening n s).status ≡ Open → ⊥) → IsAfterEnd (outcome opening n s) (outcome opening n (with_end s))
-  after_end s shut = rw (outcome_is opening n s, outcome_is opening n (with_end s)) (verdict-end opening (stop opening n s) (shut_waits s shut))
+  pub after_end : (s : Segment) → ((outcome opening n s).status ≡ Open → ⊥)
+      → outcome opening n (with_end s) ≡ after (λ _. status_ended) (outcome opening n s)
+  after_end s shut =
+      let b = stop opening n s in
+      outcome_is opening n (with_end s)
+      ∙ (verdict-after opening b (λ _. status_ended) b.followed true (shut_waits s shut) (ended_waits b.whole) (λ _ _. refl) (end_status b.followed b.ended)
+      ∙ ap (after (λ _. status_ended)) (sym (outcome_is opening n s)))
 
   -- an open segment's outcome
   pub going_outcome : (s : Segment) → IsGoing s
@@ -315,7 +299,9 @@ module _ (opening : OpensBlock) (n : ℕ) where
   going_part s p g h =
       let next : Segment = record { start = s.start; bytes = s.bytes ++ p; ended = false; late = s.late } in
       let e = unended_piece s p g.unended in
-      let blocks = part_blocks n s.bytes p h in
+      let part = short_bytes n (rest_bytes n s.bytes ++ p) (omega (arith, h, length-append (rest_bytes n s.bytes) p)) in
+      let blocks : whole_blocks n (s.bytes ++ p) ≡ whole_blocks n s.bytes =
+      blocks_on n s.bytes p ∙ (ap (λ (bs : List (List ℕ)). whole_blocks n s.bytes ++ bs) part.0 ∙ append-nil (whole_blocks n s.bytes)) in
       let F : List (List ℕ) → Outcome = λ bs. record {
         texts = front_texts opening s.start bs;
         index = s.start + length (front_texts opening s.start bs);
@@ -328,15 +314,12 @@ module _ (opening : OpensBlock) (n : ℕ) where
       } in
       record {
         same = ap (outcome opening n) e ∙ (going_outcome next on ∙ (ap F blocks ∙ sym (going_outcome s g)));
-        rest = ap (λ (t : Segment). rest_bytes n t.bytes) e ∙ part_rest n s.bytes p h;
+        rest = ap (λ (t : Segment). rest_bytes n t.bytes) e ∙ (rest_on n s.bytes p ∙ part.1);
       }
 
   -- bytes that make just one whole block
   pub record IsWhole (s : Segment) (p : List ℕ) : Type 0 where
-    pub texts : (outcome opening n (with_piece s p)).texts
-        ≡ (outcome opening n s).texts ++ (one_block opening (outcome opening n s).index (rest_bytes n s.bytes ++ p)).texts
-    pub index : (outcome opening n (with_piece s p)).index ≡ (one_block opening (outcome opening n s).index (rest_bytes n s.bytes ++ p)).index
-    pub status : (outcome opening n (with_piece s p)).status ≡ (one_block opening (outcome opening n s).index (rest_bytes n s.bytes ++ p)).status
+    pub is : outcome opening n (with_piece s p) ≡ prepend (outcome opening n s).texts (one_block opening (outcome opening n s).index (rest_bytes n s.bytes ++ p))
     pub rest : rest_bytes n (with_piece s p).bytes ≡ []
 
   pub going_whole : (s : Segment) (p : List ℕ) → IsGoing s → s.late ≡ false → length (rest_bytes n s.bytes) + length p ≡ n + tag_length → IsWhole s p
@@ -345,22 +328,24 @@ module _ (opening : OpensBlock) (n : ℕ) where
       let i = s.start + length texts in
       let b = rest_bytes n s.bytes ++ p in
       let e = unended_piece s p g.unended in
+      let one = full_bytes n b (length-append (rest_bytes n s.bytes) p ∙ h) in
       let here = going_outcome s g in
-      let at : (outcome opening n s).index ≡ i = ap (λ (o : Outcome). o.index) here in
-      let all : outcome opening n (with_piece s p) ≡ prepend texts (one_block opening i b) = ap (outcome opening n) e ∙ by_text (text_before_last opening i b) front in
       record {
-        texts = ap (λ (o : Outcome). o.texts) all ∙ (ap (λ (ts : List (List ℕ)). ts ++ (one_block opening i b).texts) (sym (ap (λ (o : Outcome). o.texts) here))
-            ∙ ap (λ (k : ℕ). (outcome opening n s).texts ++ (one_block opening k b).texts) (sym at));
-        index = ap (λ (o : Outcome). o.index) all ∙ ap (λ (k : ℕ). (one_block opening k b).index) (sym at);
-        status = ap (λ (o : Outcome). o.status) all ∙ ap (λ (k : ℕ). (one_block opening k b).status) (sym at);
-        rest = ap (λ (t : Segment). rest_bytes n t.bytes) e ∙ whole_rest n s.bytes p h;
+        is = ap (outcome opening n) e ∙ (by_text (text_before_last opening i b) front
+            ∙ sym (ap (λ (o : Outcome). prepend o.texts (one_block opening o.index b)) here));
+        rest = ap (λ (t : Segment). rest_bytes n t.bytes) e ∙ (rest_on n s.bytes p ∙ one.1);
       }
     where
+      more : whole_blocks n (s.bytes ++ p) ≡ whole_blocks n s.bytes ++ (rest_bytes n s.bytes ++ p) ∷ []
+      more =
+          blocks_on n s.bytes p
+          ∙ ap (λ (bs : List (List ℕ)). whole_blocks n s.bytes ++ bs) (full_bytes n (rest_bytes n s.bytes ++ p) (length-append (rest_bytes n s.bytes) p ∙ h)).0
+
       front : front_texts opening s.start (whole_blocks n (s.bytes ++ p))
           ≡ front_texts opening s.start (whole_blocks n s.bytes)
           ++ text_then opening (text_before_last opening (s.start + length (front_texts opening s.start (whole_blocks n s.bytes))) (rest_bytes n s.bytes ++ p)) []
       front =
-          ap (front_texts opening s.start) (whole_more n s.bytes p h)
+          ap (front_texts opening s.start) more
           ∙ (front_on opening (whole_blocks n s.bytes) ((rest_bytes n s.bytes ++ p) ∷ []) s.start g.all
           ∙ ap (λ (k : ℕ). front_texts opening s.start (whole_blocks n s.bytes) ++ front_texts opening (s.start + k) ((rest_bytes n s.bytes ++ p) ∷ [])) (sym g.all))
 
@@ -374,7 +359,7 @@ module _ (opening : OpensBlock) (n : ℕ) where
           let texts = front_texts opening s.start (whole_blocks n s.bytes) in
           let next : Segment = record { start = s.start; bytes = s.bytes ++ p; ended = false; late = s.late } in
           let count : length (texts ++ t ∷ []) ≡ length texts + 1 = length-append texts (t ∷ []) in
-          let blocks = ap length (whole_more n s.bytes p h) ∙ length-append (whole_blocks n s.bytes) ((rest_bytes n s.bytes ++ p) ∷ []) in
+          let blocks = ap length more ∙ length-append (whole_blocks n s.bytes) ((rest_bytes n s.bytes ++ p) ∷ []) in
           let i : s.start + length (texts ++ t ∷ []) ≡ s.start + length texts + 1 = omega (arith, count) in
           going_outcome next (record { unended = refl; all = omega (arith, ap length front, count, blocks, g.all) })
           ∙ (ap (λ (ts : List (List ℕ)). record { texts = ts; index = s.start + length ts; status = Open }) front
@@ -390,14 +375,16 @@ module _ (opening : OpensBlock) (n : ℕ) where
           let len : length b ≡ z = length-append (rest_bytes n s.bytes) p ∙ h in
           let block : block_at n next.bytes m ≡ b = ap (block_at n next.bytes) at
           ∙ (ap (take z) (drop-append-le (q * z) s.bytes p (div-mul-le_self (length s.bytes) z)) ∙ take_all z b (omega (arith, len))) in
-          let alone : nat_lt ((m + 1) * z) (length next.bytes) ≡ false = le-ltb ((m + 1) * z) (length next.bytes)
-          (omega (arith, whole_len n s.bytes p h, ap (λ (k : ℕ). (k + 1) * z) at)) in
+          let last : nat_lt ((m + 1) * z) (length next.bytes) ≡ false = le-ltb ((m + 1) * z) (length next.bytes)
+          (omega (arith, length-append s.bytes p, length-drop (q * z) s.bytes, div-mul-le_self (length s.bytes) z, h, ap (λ (k : ℕ). (k + 1) * z) at)) in
+          let alone : Frontier = record { texts = []; index = s.start + m; block = b; whole = true; followed = false; ended = false } in
           let F : List ℕ → Bool → Bool → Outcome = λ c w f.
           verdict opening (record { texts = texts; index = s.start + m; block = c; whole = w; followed = f; ended = false }) in
           outcome_is opening n next
           ∙ (ap (λ (ts : List (List ℕ)). verdict opening (frontier n next ts)) (front ∙ append-nil texts)
           ∙ (ap (λ (c : List ℕ). F c (length c == z) (nat_lt ((m + 1) * z) (length next.bytes) || s.late)) block
           ∙ (ap (λ (w : Bool). F b w (nat_lt ((m + 1) * z) (length next.bytes) || s.late)) (eq-eqb (length b) z len)
-          ∙ (ap (λ (f : Bool). F b true (f || s.late)) alone
+          ∙ (ap (λ (f : Bool). F b true (f || s.late)) last
           ∙ (ap (λ (f : Bool). F b true f) timely
-          ∙ verdict-prepend opening (record { texts = []; index = s.start + m; block = b; whole = true; followed = false; ended = false }) texts refl)))))
+          ∙ (verdict-prepend opening alone texts refl
+          ∙ ap (prepend texts) (whole_verdict opening alone (opening (nonce_bytes (s.start + m) false) b) refl (omega (arith, len)) refl)))))))

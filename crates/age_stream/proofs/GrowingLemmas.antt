@@ -5,11 +5,11 @@ use Rattle.std.proofs.lemmas.Grind.{flat_map-append}
 use Rattle.std.proofs.lemmas.List.{append-nil, append_assoc, length-append}
 use Rattle.age_chunk.specs.ChunkBoxes.{OpensBlock}
 use Rattle.age_chunk.specs.declared.fault.StreamKind.TheVariants.{ChunkDamaged, TooManyChunks}
-use Rattle.age_stream.specs.Segment.{Segment, Outcome, outcome, stop, stays, failed, front_texts, whole_blocks, released, with_piece}
+use Rattle.age_stream.specs.Segment.{Segment, Outcome, outcome, stop, stays, failed, front_texts, whole_blocks, rest_bytes, released, with_piece}
 use Rattle.age_stream.specs.Headline.{IsPrefixOf}
 use Rattle.age_stream.specs.declared.step.Status.{Status}
 use Rattle.age_stream.specs.declared.step.Status.TheVariants.{Open}
-use Rattle.age_stream.proofs.GoingLemmas.{going, going_outcome, IsGoing, unended_piece, more_blocks, front_on, after_piece}
+use Rattle.age_stream.proofs.GoingLemmas.{going, going_outcome, IsGoing, unended_piece, blocks_on, front_on, after_piece}
 use Rattle.age_stream.proofs.TableLemmas.{by_lines, outcome_is}
 
 module _ (opening : OpensBlock) (n : ℕ) where
@@ -37,15 +37,15 @@ module _ (opening : OpensBlock) (n : ℕ) where
 
   grows_going : (s : Segment) (p : List ℕ) → IsGoing opening n s → Grows (outcome opening n s) (outcome opening n (with_piece s p))
   grows_going s p g =
-      let more = more_blocks n s.bytes p in
       let here = going_outcome opening n s g in
       let next : Segment = record { start = s.start; bytes = s.bytes ++ p; ended = false; late = s.late } in
       let there = ap (outcome opening n) (unended_piece s p g.unended) in
       let b = stands_at next in
       let texts = front_texts opening s.start (whole_blocks n s.bytes) in
-      let rest = front_texts opening (s.start + length (whole_blocks n s.bytes)) more.0 in
+      let rest = front_texts opening (s.start + length (whole_blocks n s.bytes)) (whole_blocks n (rest_bytes n s.bytes ++ p)) in
       let on : front_texts opening s.start (whole_blocks n next.bytes) ≡ texts ++ rest =
-      ap (front_texts opening s.start) more.1 ∙ front_on opening (whole_blocks n s.bytes) more.0 s.start g.all in
+      ap (front_texts opening s.start) (blocks_on n s.bytes p)
+      ∙ front_on opening (whole_blocks n s.bytes) (whole_blocks n (rest_bytes n s.bytes ++ p)) s.start g.all in
       record {
         more = rest ++ b.more;
         texts_are = ap (λ (o : Outcome). o.texts) there ∙ (b.texts_are ∙ (ap (λ (ts : List (List ℕ)). ts ++ b.more) on
@@ -64,7 +64,11 @@ module _ (opening : OpensBlock) (n : ℕ) where
   grows_by s p Open timely e = grows_going s p (going opening n s e)
   grows_by s p other timely e =
       let after = after_piece opening n s p timely (λ o. cc) in
-      record { more = []; texts_are = after.texts ∙ sym (append-nil (outcome opening n s).texts); index = omega (arith, after.index) }
+      record {
+        more = [];
+        texts_are = ap (λ (o : Outcome). o.texts) after ∙ sym (append-nil (outcome opening n s).texts);
+        index = omega (arith, ap (λ (o : Outcome). o.index) after);
+      }
 
   pub released_grows : (s : Segment) (p : List ℕ) → (s.ended ≡ false → s.late ≡ false)
       → IsPrefixOf (released opening n s) (released opening n (with_piece s p))

@@ -3,7 +3,7 @@ use Rattle.std.proofs.Common.{inl, inr, ◌≡◌, ℕ, ◌<◌, ◌≤◌, ◌+
 use Rattle.std.specs.Prelude.{Option, Some, None, cond, min, nat_lt, nat_le, map}
 use Rattle.std.specs.Borrow.{Bor}
 use Rattle.std.specs.List.{flat_map, AllByRecursion}
-use Rattle.std.proofs.lemmas.List.{take-append-le, length-append, append-nil, append_assoc, take_at, drop_at}
+use Rattle.std.proofs.lemmas.List.{take-append-le, append-nil, append_assoc, take_at, drop_at}
 use Rattle.std.proofs.lemmas.Bool.{ltb-true, leb-true, and_parts}
 use Rattle.age_chunk.specs.ChunkBoxes.{IsChunkBox, OpensBlock, Seals, tag_length, clear_sealing, clear_opening, clear_mark}
 use Rattle.age_chunk.specs.Payload.{nonce_bytes, chunk_limit, chunk_count, payload, last_index, last_chunk}
@@ -11,12 +11,12 @@ use Rattle.age_chunk.specs.inner.ClearLaw.{clear_valid}
 use Rattle.age_chunk.proofs.NonceLemmas.{nonce_bytes-length, nonce_bytes-flag}
 use Rattle.age_stream.specs.Segment.{Segment, outcome, Standing, standing, standing_from, after_delivery, begin, fresh, with_piece, text_held, accepts}
 use Rattle.age_stream.specs.Headline.{IsAuthentic, AreAuthentic, IsRest, IsRight, IsStart, IsUndamaged}
-use Rattle.age_stream.specs.Laws.{AreWhole, IsClosed, RestIsAuthentic, WholeIsAuthentic, UndamagedIsAuthentic, PayloadRoundTrip}
+use Rattle.age_stream.specs.Laws.{AreWhole, IsClosed, RestIsAuthentic, WholeIsAuthentic, UndamagedIsAuthentic, PayloadRoundTrip, ClearIsSealable}
 use Rattle.age_stream.specs.declared.delivery.Delivery.{Delivery}
 use Rattle.age_stream.specs.declared.delivery.Delivery.TheVariants.{Piece, End, Restart}
 use Rattle.age_stream.specs.declared.step.Status.TheVariants.{Done}
 use Rattle.age_stream.proofs.SegmentLemmas.{released_segment, by_test, piece_start}
-use Rattle.age_stream.proofs.SegmentRightLemmas.{in_place, low_within, rest_done, rest_right}
+use Rattle.age_stream.proofs.SegmentRightLemmas.{rest_done, rest_right, right_after}
 
 -- ---- Where deliveries lead.
 
@@ -95,53 +95,38 @@ module _ (sealing : Seals) (opening : OpensBlock) (valid : IsChunkBox sealing op
   -- the text before the current segment is the writer's
   record IsSound (s : Standing) : Type 0 where
     small : s.segment.start < chunk_limit
-    fits : s.segment.start * n ≤ length text
     base : s.base ≡ take (s.segment.start * n) text
+
+  -- so it is if each segment that was given up is good
+  abbrev Stays : Standing → Type 0
+  Stays s = AllByRecursion Good s.given_up → IsSound s
 
   restarted : (s : Standing) (k : ℕ) → IsSound s → Good s.segment → accepts opening n s k ≡ true
       → IsSound (record { given_up = s.given_up ++ s.segment ∷ []; base = take (k * n) (text_held opening n s); segment = fresh k; refused = s.refused })
   restarted s k sound good sure =
-      let p = (released_segment sealing opening valid n text few positive s.segment s.base sound.small sound.fits sound.base good).prefix in
+      let p = (released_segment sealing opening valid n text few positive s.segment s.base sound.small sound.base good).prefix in
       let held = text_held opening n s in
       let a : (nat_lt k chunk_limit ≡ true) × (nat_le (k * n) (length held) ≡ true) = and_parts (nat_lt k chunk_limit) (nat_le (k * n) (length held)) sure in
       let le : k * n ≤ length held = leb-true (k * n) (length held) a.1 in
-      let len : length (held ++ p.0) ≡ length held + length p.0 = length-append held p.0 in
-      let len2 : length (held ++ p.0) ≡ length text = ap length p.1 in
-      record {
-        small = ltb-true k chunk_limit a.0;
-        fits = omega (arith, le, len, len2);
-        base = sym (take-append-le (k * n) held p.0 le) ∙ ap (take (k * n)) p.1;
-      }
+      record { small = ltb-true k chunk_limit a.0; base = sym (take-append-le (k * n) held p.0 le) ∙ ap (take (k * n)) p.1 }
 
-  given_up_front : (P : Segment → Type 0) (ds : List Delivery) (s : Standing) → AllByRecursion P (standing_from opening n s ds).given_up
-      → AllByRecursion P s.given_up
-  given_up_front P [] s h = h
-  given_up_front P (Piece p ∷ ds) s h = given_up_front P ds (after_delivery opening n s (Piece p)) h
-  given_up_front P (End ∷ ds) s h = given_up_front P ds (after_delivery opening n s End) h
-  given_up_front P (Restart k ∷ ds) s h =
-      let g = given_up_front P ds (after_delivery opening n s (Restart k)) h in
-      by_test (λ (t : Standing). AllByRecursion P t.given_up → AllByRecursion P s.given_up) (accepts opening n s k) _ _
-      (λ _ g'. all_front P s.given_up s.segment g') (λ _ g'. g') g
-
-  sound_after : (d : Delivery) (s : Standing) → IsSound s → AllByRecursion Good (after_delivery opening n s d).given_up → IsSound (after_delivery opening n s d)
-  sound_after (Piece p) s sound h =
+  sound_after : (d : Delivery) (s : Standing) → Stays s → Stays (after_delivery opening n s d)
+  sound_after (Piece p) s stays good =
       let e = piece_start s.segment p.now in
+      let sound = stays good in
       record {
         small = subst (λ (k : ℕ). k < chunk_limit) (sym e) sound.small;
-        fits = subst (λ (k : ℕ). k * n ≤ length text) (sym e) sound.fits;
         base = subst (λ (k : ℕ). s.base ≡ take (k * n) text) (sym e) sound.base;
       }
-  sound_after End s sound h = record { small = sound.small; fits = sound.fits; base = sound.base }
-  sound_after (Restart k) s sound h =
-      by_test (λ (t : Standing). AllByRecursion Good t.given_up → IsSound t) (accepts opening n s k) _ _
-      (λ sure g. restarted s k sound (all_last Good s.given_up s.segment g) sure)
-      (λ _ _. record { small = sound.small; fits = sound.fits; base = sound.base }) h
+  sound_after End s stays good = let sound = stays good in record { small = sound.small; base = sound.base }
+  sound_after (Restart k) s stays good =
+      by_test Stays (accepts opening n s k) _ _
+      (λ sure good. restarted s k (stays (all_front Good s.given_up s.segment good)) (all_last Good s.given_up s.segment good) sure)
+      (λ _ good. let sound = stays good in record { small = sound.small; base = sound.base }) good
 
-  sound_from : (ds : List Delivery) (s : Standing) → IsSound s → AllByRecursion Good (standing_from opening n s ds).given_up
-      → IsSound (standing_from opening n s ds)
-  sound_from [] s sound h = sound
-  sound_from (d ∷ ds) s sound h =
-      sound_from ds (after_delivery opening n s d) (sound_after d s sound (given_up_front Good ds (after_delivery opening n s d) h)) h
+  sound_from : (ds : List Delivery) (s : Standing) → Stays s → Stays (standing_from opening n s ds)
+  sound_from [] s stays = stays
+  sound_from (d ∷ ds) s stays = sound_from ds (after_delivery opening n s d) (sound_after d s stays)
 
   undamaged_done : (k : ℕ) (ds : List Delivery) → AreAuthentic sealing opening n text ds → IsUndamaged sealing opening n text k ds
       → (outcome opening n (standing opening n ds).segment).status ≡ Done
@@ -155,17 +140,10 @@ module _ (sealing : Seals) (opening : OpensBlock) (valid : IsChunkBox sealing op
       (text_held opening n (standing opening n ds)) (outcome opening n (standing opening n ds).segment).status
   held_right ds auth =
       let s = standing opening n ds in
-      let start : IsSound begin = record { small = omega arith; fits = omega arith; base = let z : 0 ≡ 0 * n = omega arith in ap (λ (k : ℕ). take k text) z } in
-      let sound = sound_from ds begin start auth.0 in
-      let r = released_segment sealing opening valid n text few positive s.segment s.base sound.small sound.fits sound.base auth.1 in
-      let low = low_within sealing opening valid n text few positive s.segment auth.1 sound.small sound.fits in
-      record {
-        prefix = r.prefix;
-        done = r.done;
-        within = λ _. sound.fits;
-        whole = λ u. let d = undamaged_done u.0 ds auth u.1 in (r.done d, d);
-        place = in_place sealing opening valid n text few positive s.segment auth.1 low;
-      }
+      let start : IsSound begin = record { small = omega arith; base = let z : 0 ≡ 0 * n = omega arith in ap (λ (k : ℕ). take k text) z } in
+      let sound = sound_from ds begin (λ _. start) auth.0 in
+      right_after sealing opening valid n text few positive s.segment auth.1 ((k : ℕ) × IsUndamaged sealing opening n text k ds) s.base sound.small sound.base
+      (λ u. undamaged_done u.0 ds auth u.1)
 
 -- ---- The payload of a writer, delivered as it is, meets the headline's premise.
 
@@ -221,6 +199,9 @@ clear_shut i chunk (Some t) e =
     let flag : false ≡ true = nonce_bytes-flag i i false true nonces in
     cc
 
-pub clear_closed : (n : ℕ) (text : List ℕ) → IsClosed clear_sealing clear_opening n text
+clear_closed : (n : ℕ) (text : List ℕ) → IsClosed clear_sealing clear_opening n text
 clear_closed n text full = clear_shut (last_index n text) (last_chunk n text) (clear_opening (nonce_bytes (last_index n text) false)
     (clear_sealing (nonce_bytes (last_index n text) true) (last_chunk n text))) refl
+
+pub clear_is_sealable : ClearIsSealable
+clear_is_sealable n text positive few = record { valid = clear_valid; some = positive; few = few; closed = clear_closed n text }

@@ -1,20 +1,21 @@
 -- Public laws, each with its proof: what the proofs of other crates cite of this one. Each is a clause in `src/laws.rt`.
-use Rattle.std.proofs.Common.{◌≡◌, ℕ, ◌+◌, ◌*◌, refl, ap, sym, ◌∙◌, List, length, Bool, true, false, arith}
-use Rattle.std.specs.Prelude.{nat_lt}
+use Rattle.std.proofs.Common.{◌≡◌, ℕ, ◌+◌, ◌*◌, refl, ap, sym, ◌∙◌, List, length, true, arith}
+use Rattle.std.specs.Prelude.{nat_lt, Some}
 use Rattle.std.specs.Simd.{first_chunks}
 use Rattle.std.proofs.lemmas.List.{length-append, length-drop}
 use Rattle.age_chunk.specs.ChunkBoxes.{IsChunkBox, tag_length, Seals, OpensBlock}
 use Rattle.age_chunk.specs.Payload.{nonce_bytes, chunk_length, last_index, last_chunk, sealed_before_last, block_bytes}
-use Rattle.age_stream.specs.Segment.{Outcome, outcome, with_piece, with_end}
+use Rattle.age_stream.specs.Segment.{Outcome, with_end}
 use Rattle.age_stream.specs.inner.OpenerSteps.{status_after, status_ended}
 use Rattle.age_chunk.specs.declared.fault.StreamFault.{StreamFault}
+use Rattle.age_stream.specs.declared.step.Status.{Status}
 use Rattle.age_stream.specs.declared.step.Status.TheVariants.{Failed}
 use Rattle.age_stream.specs.Laws.{RestIsAuthentic, PiecesJoin, ReleasedGrows, ChunksAreCounted, SealedGrows, FreshIsOpen, IsSettled, ClosedStays, EndCloses}
-use Rattle.age_stream.specs.Laws.{ReleasedIsWritten, PayloadIsLonger, LengthsAreOne}
+use Rattle.age_stream.specs.Laws.{ReleasedIsWritten, PayloadIsLonger, LengthsAreOne, SealingsDiffer}
 use Rattle.age_chunk.proofs.NonceLemmas.{nonce_bytes-length}
 use Rattle.age_chunk.proofs.FirstChunkLemmas.{length-first_chunks}
 use Rattle.age_stream.proofs.GoingLemmas.{going, after_piece, after_end}
-use Rattle.age_stream.proofs.TableLemmas.{IsAfterBytes}
+use Rattle.age_stream.proofs.TableLemmas.{after, fault_after}
 use Rattle.age_stream.proofs.GrowingLemmas.{stands_at}
 use Rattle.age_stream.proofs.FreshLemmas.{fresh_outcome}
 use Rattle.age_stream.proofs.SealingLemmas.{last_index_le}
@@ -41,6 +42,11 @@ sealed_grows sealing n text more positive = sealings.payload_begins n positive s
 pub rest_is_authentic : RestIsAuthentic
 rest_is_authentic = held.rest_is_right
 
+pub sealings_differ : SealingsDiffer
+sealings_differ sealing opening valid nonce text other len same =
+    let e : Some text ≡ Some other = sym (valid.opens nonce text len) ∙ (ap (opening nonce) same ∙ valid.opens nonce other len) in
+    cc
+
 pub fresh_is_open : FreshIsOpen
 fresh_is_open = fresh_outcome
 
@@ -49,22 +55,18 @@ released_is_written sealing opening valid n positive s = segment_right sealing o
 
 -- ---- closed segments
 
-fault_after : (some : Bool) (i : ℕ) (fault : StreamFault) → status_after some i (Failed fault) ≡ Failed fault
-fault_after true i fault = refl
-fault_after false i fault = refl
-
-settled_bytes : (some : Bool) (old new : Outcome) → IsAfterBytes some old new → IsSettled old new
-settled_bytes some old new h = record {
-  texts = h.texts;
-  index = h.index;
-  fault = λ fault e. h.status
-      ∙ (ap (status_after some old.index) e ∙ fault_after some old.index fault);
+settled : (f : ℕ → Status → Status) (old new : Outcome) → ((i : ℕ) (fault : StreamFault) → f i (Failed fault) ≡ Failed fault) → new ≡ after f old
+    → IsSettled old new
+settled f old new stays is = record {
+  texts = ap (λ (o : Outcome). o.texts) is;
+  index = ap (λ (o : Outcome). o.index) is;
+  fault = λ fault e. ap (λ (o : Outcome). o.status) is ∙ (ap (f old.index) e ∙ stays old.index fault);
 }
 
 pub closed_stays : ClosedStays
 closed_stays opening n s timely shut = (
-  λ piece. settled_bytes (nat_lt 0 (length piece)) (outcome opening n s) (outcome opening n (with_piece s piece)) (after_piece opening n s piece timely shut),
-  let h = after_end opening n s shut in record { texts = h.texts; index = h.index; fault = λ fault e. h.status ∙ ap status_ended e },
+  λ piece. settled (status_after (nat_lt 0 (length piece))) _ _ (fault_after (nat_lt 0 (length piece))) (after_piece opening n s piece timely shut),
+  settled (λ _. status_ended) _ _ (λ _ _. refl) (after_end opening n s shut),
 )
 
 pub end_closes : EndCloses

@@ -1,5 +1,5 @@
 -- A text has exactly one list of chunks, which is sealed chunk by chunk.
-use Rattle.std.proofs.Common.{inl, inr, ◌≡◌, ℕ, zero, suc, ◌<◌, ◌≤◌, ◌+◌, ◌*◌, ◌-◌, refl, ap, sym, ◌∙◌, List, [], ◌∷◌, ◌++◌, length, take, drop, get_or, Bool}
+use Rattle.std.proofs.Common.{inl, inr, ◌≡◌, ℕ, zero, suc, ◌<◌, ◌≤◌, ◌+◌, ◌*◌, ◌-◌, refl, ap, sym, subst, ◌∙◌, List, [], ◌∷◌, ◌++◌, length, take, drop, get_or, Bool}
 use Rattle.std.proofs.Common.{true, false, take-add, arith}
 use Rattle.std.specs.Prelude.{◌==◌}
 use Rattle.std.specs.List.{flat_map, AllByRecursion}
@@ -12,7 +12,7 @@ use Rattle.std.proofs.lemmas.Nat.{mul-le}
 use Rattle.std.proofs.Math.Seq.{drop-nil}
 use Rattle.age_chunk.specs.ChunkBoxes.{Seals}
 use Rattle.age_chunk.specs.Payload.{nonce_bytes, last_index, last_chunk, chunks, pair, sealed}
-use Rattle.age_stream.specs.Laws.{AreChunks}
+use Rattle.age_stream.specs.Laws.{AreChunks, ChunksAreOne, SealsChunks}
 use Rattle.age_chunk.proofs.FirstChunkLemmas.{length-first_chunks}
 use Rattle.age_stream.proofs.ChunkLemmas.{last_chunk_le, length-sealed, pair_before, pair_last}
 use Rattle.age_stream.proofs.SealingLemmas.{last_index_is, last_index_le}
@@ -50,7 +50,7 @@ module _ (n : ℕ) (text : List ℕ) (positive : 0 < n) where
       ap (λ (k : ℕ). first_chunks n k text ++ drop (k * n) text ∷ []) z
       ∙ (ap (λ (xs : List ℕ). drop (0 * n) xs ∷ []) e ∙ ap (λ (xs : List ℕ). xs ∷ []) (drop-nil (0 * n)))
 
-  pub chunks_are : AreChunks n text (chunks n text)
+  chunks_are : AreChunks n text (chunks n text)
   chunks_are =
       let fits : q * n ≤ length text = omega (arith, low) in
       let last = last_chunk n text in
@@ -83,7 +83,7 @@ module _ (n : ℕ) (text : List ℕ) (positive : 0 < n) where
       ap (λ (k : ℕ). drop (k * n) text) at ∙ (ap (drop (i * n)) (sym join) ∙ drop_at (flat front) last (i * n) size) in
       sym (ap (λ (ds : List (List ℕ)). ds ++ last_chunk n text ∷ []) cs ∙ ap (λ (l : List ℕ). front ++ l ∷ []) end)
 
-  pub chunks_only : (parts : List (List ℕ)) → AreChunks n text parts → parts ≡ chunks n text
+  chunks_only : (parts : List (List ℕ)) → AreChunks n text parts → parts ≡ chunks n text
   chunks_only parts a =
       let join : flat a.front ++ a.last ≡ text = sym (flat_push a.front a.last) ∙ (ap flat (sym a.are) ∙ a.join) in
       elim a.rest [
@@ -107,7 +107,7 @@ module _ (sealing : Seals) (n : ℕ) (text : List ℕ) where
   count : length (chunks n text) ≡ at + 1
   count = length_push cs last ∙ ap (λ (k : ℕ). k + 1) (length-first_chunks n at text)
 
-  pub sealed_count : length (sealed sealing n text) ≡ length (chunks n text)
+  sealed_count : length (sealed sealing n text) ≡ length (chunks n text)
   sealed_count = length-sealed sealing n text ∙ sym count
 
   pub sealed_at : (i : ℕ) → i < length (chunks n text) → get_or (sealed sealing n text) i ([], []) ≡ sealed_as (length (chunks n text)) (chunks n text) i
@@ -127,3 +127,12 @@ module _ (sealing : Seals) (n : ℕ) (text : List ℕ) where
             pair_last sealing n text i P is ∙ (ap (λ (j : ℕ). pair sealing true (j, last)) (sym is)
             ∙ (ap (λ (c : List ℕ). pair sealing true (i, c)) x ∙ ap (λ (b : Bool). pair sealing b (i, get_or (chunks n text) i [])) flag)))
       ]
+
+pub chunks_are_one : ChunksAreOne
+chunks_are_one n text positive = (chunks_are n text positive, chunks_only n text positive)
+
+pub seals_chunks : SealsChunks
+seals_chunks sealing n text parts positive a =
+    subst (λ (ps : List (List ℕ)). (length (sealed sealing n text) ≡ length ps)
+    × ((i : ℕ) → i < length ps → get_or (sealed sealing n text) i ([], []) ≡ sealed_as sealing n text (length ps) ps i))
+    (sym (chunks_only n text positive parts a)) (sealed_count sealing n text, sealed_at sealing n text)

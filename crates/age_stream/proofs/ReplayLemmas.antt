@@ -6,7 +6,7 @@ use Rattle.std.specs.List.{flat_map}
 use Rattle.std.specs.Borrow.{Bor}
 use Rattle.std.proofs.lemmas.Grind.{flat_map-append}
 use Rattle.std.proofs.lemmas.List.{append-nil, append_assoc, length-append, length-drop, take-append-drop, take_more}
-use Rattle.std.proofs.lemmas.Bool.{and_parts, cases_lt, ltb-true}
+use Rattle.std.proofs.lemmas.Bool.{cases_lt}
 use Rattle.std.proofs.Math.Nat.{add-mul-div_left, div-mul-le_self}
 use Rattle.age_chunk.specs.ChunkBoxes.{IsChunkBox, OpensBlock, Seals, tag_length, text_length}
 use Rattle.age_chunk.specs.Payload.{chunk_limit}
@@ -111,21 +111,20 @@ module _ {B : Type 0} (opening : B → OpensBlock) (n : ℕ) (old new : ReplayVi
       let op = opening old.key in
       subst (IsReplayAt opening n new) (sym (standing_more op n ds d) ∙ ap (λ k. standing (opening k) n (ds ++ d ∷ [])) (sym key)) (f (standing op n ds) h)
 
-module _ {B : Type 0} (sealing : B → Seals) (opening : B → OpensBlock) (n : ℕ) (old new : ReplayView B)
-    (valid : IsChunkBox (sealing old.key) (opening old.key)) (positive : 0 < n) (key : new.key ≡ old.key) where
-  pub written : (ds : List Delivery) → Replays opening n new ds → HoldsWritten (sealing old.key) (opening old.key) n ds new.text new.opener.status
-  written ds h text few auth =
-      let op = opening old.key in
-      let k : standing (opening new.key) n ds ≡ standing op n ds = ap (λ k. standing (opening k) n ds) key in
-      let is : new.text ≡ text_held op n (standing op n ds) =
-      h.text ∙ (ap (λ s. text_held (opening new.key) n s) k ∙ ap (λ k. text_held (opening k) n (standing op n ds)) key) in
-      let status : new.opener.status ≡ (outcome op n (standing op n ds).segment).status =
-      h.segment.status ∙ (ap (λ k. (outcome (opening k) n (standing (opening new.key) n ds).segment).status) (h.key ∙ key)
-      ∙ ap (λ s. (outcome op n s.segment).status) k) in
-      let Right : List ℕ → Status → Type 0 = IsRight (sealing old.key) op n text
-      ((k : ℕ) × IsUndamaged (sealing old.key) op n text k ds) (standing op n ds).segment in
-      subst (λ (t : List ℕ). Right t new.opener.status) (sym is)
-      (subst (Right (text_held op n (standing op n ds))) (sym status) (held_right (sealing old.key) op valid n text few positive ds auth))
+-- the headline of what a replay holds
+pub written : {B : Type 0} (sealing : B → Seals) (opening : B → OpensBlock) (n : ℕ) (key : B) (r : ReplayView B) → IsChunkBox (sealing key) (opening key)
+    → 0 < n → r.key ≡ key → (ds : List Delivery) → Replays opening n r ds → HoldsWritten (sealing key) (opening key) n ds r.text r.opener.status
+written sealing opening n key r valid positive same ds h text few auth =
+    let op = opening key in
+    let k : standing (opening r.key) n ds ≡ standing op n ds = ap (λ k. standing (opening k) n ds) same in
+    let is : r.text ≡ text_held op n (standing op n ds) =
+    h.text ∙ (ap (λ s. text_held (opening r.key) n s) k ∙ ap (λ k. text_held (opening k) n (standing op n ds)) same) in
+    let status : r.opener.status ≡ (outcome op n (standing op n ds).segment).status =
+    h.segment.status ∙ (ap (λ k. (outcome (opening k) n (standing (opening r.key) n ds).segment).status) (h.key ∙ same)
+    ∙ ap (λ s. (outcome op n s.segment).status) k) in
+    let Right : List ℕ → Status → Type 0 = IsRight (sealing key) op n text ((k : ℕ) × IsUndamaged (sealing key) op n text k ds) (standing op n ds).segment in
+    subst (λ (t : List ℕ). Right t r.opener.status) (sym is)
+    (subst (Right (text_held op n (standing op n ds))) (sym status) (held_right (sealing key) op valid n text few positive ds auth))
 
 -- ---- How much room a text needs.
 
@@ -156,10 +155,6 @@ text_below z k le =
     let e : z ≡ text_length z + tag_length = omega (arith, le) in
     let m : q * (text_length z + tag_length) ≡ q * text_length z + q * tag_length = omega arith in
     omega (arith, div-mul-le_self k z, ap (λ (x : ℕ). q * x) e, m)
-
--- a chunk that is reached has a number
-pub below_limit : (k : ℕ) (b : Bool) → (nat_lt k chunk_limit && b) ≡ true → k < chunk_limit
-below_limit k b e = ltb-true k chunk_limit (and_parts (nat_lt k chunk_limit) b e).0
 
 -- ---- If more room is asked for, more bytes than a tag has came.
 

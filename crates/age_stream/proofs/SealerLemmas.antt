@@ -1,14 +1,19 @@
 -- A step of a sealer, for each text that it was given; and how much of a whole text's payload its blocks before the last are.
-use Rattle.std.proofs.Common.{◌≡◌, ℕ, ◌<◌, ◌≤◌, ◌+◌, ◌*◌, ◌-◌, ap, sym, subst, ◌∙◌, List, [], ◌∷◌, ◌++◌, length, take, drop, true, false, take-add}
+use Rattle.std.proofs.Common.{◌≡◌, ℕ, ◌<◌, ◌≤◌, ◌+◌, ◌*◌, ◌-◌, refl, ap, sym, subst, ◌∙◌, List, [], ◌∷◌, ◌++◌, length, take, drop, Bool, true, false, take-add}
 use Rattle.std.proofs.Common.{take-append-drop, arith}
-use Rattle.std.specs.Prelude.{Option, Some, None}
+use Rattle.std.specs.Prelude.{Option, Some, None, Result, Ok, Err, IfSome}
+use Rattle.std.specs.Borrow.{Bor}
 use Rattle.std.proofs.lemmas.Bool.Decides.{nat_tests}
 use Rattle.std.proofs.lemmas.List.{append-nil, length-append, length-take, take_rest, take-append-le, take_all}
 use Rattle.std.proofs.lemmas.Grind.{flat_map-append}
 use Rattle.age_chunk.specs.ChunkBoxes.{IsChunkBox, OpensBlock, Seals, tag_length, text_length}
 use Rattle.age_chunk.specs.Payload.{nonce_bytes, chunk_count, last_index, last_chunk, sealed_before_last, block_bytes, pair, payload}
-use Rattle.age_stream.specs.Sealer.{SealerView, Holds, step_len}
-use Rattle.age_stream.specs.inner.SealerSteps.{block_or_none, IsStep, Grows, SealerCloses}
+use Rattle.age_chunk.specs.declared.fault.StreamFault.{StreamFault}
+use Rattle.age_stream.specs.Opener.{chunk_bytes}
+use Rattle.age_stream.specs.Sealer.{SealerView, Holds, step_len, sealer_view, IsTaken, Takes}
+use Rattle.age_stream.specs.inner.SealerSteps.{block_or_none, block_lent, IsStep, Grows, SealerCloses, Steps}
+use Rattle.age_stream.specs.declared.sealer.SealerState.{SealerState}
+use Rattle.age_stream.specs.declared.step.Step.{Step}
 use Rattle.age_stream.proofs.LawLemmas.{sealed_grows, payload_is_longer}
 use Rattle.age_stream.proofs.SealingLemmas.{grown_index, grown_chunk, grown_blocks, closed_index, closed_chunk, closed_blocks, last_index_le}
 use Rattle.std.specs.List.{refill}
@@ -79,6 +84,45 @@ module _ {B : Type 0} (sealing : B → Seals) (n : ℕ) (old : SealerView B) whe
       e ∙ (ap (λ (i : ℕ). key (nonce_bytes i true) old.held) h.index ∙ ap (key (nonce_bytes (last_index m text) true)) h.held) in
       flat_map-append (λ (p : List ℕ × List ℕ). p.1) (sealed_before_last key m text) (pair key true (last_index m text, last_chunk m text) ∷ [])
       ∙ ap (λ (t : List ℕ). block_bytes (sealed_before_last key m text) ++ t) (append-nil (pair key true (last_index m text, last_chunk m text)).1 ∙ sym is)
+
+-- ---- What `feed` answers, by what a step on the state does.
+
+module _ {B : Type 0} {n : ℕ} {g : _} (sealing : B → Seals) (old new : SealerState B n g) (unfinished : old.finished ≡ false) (piece : List ℕ) where
+  abbrev Fed : Result Step StreamFault → Type 0
+  Fed answer = IsTaken (text_length n) (sealer_view old) piece answer (sealer_view new) × Takes sealing n (sealer_view old) piece answer
+
+  pub fed_err : (fault : StreamFault) → Steps sealing old piece (Err fault) new → Fed (Err fault)
+  fed_err fault s = (
+    record { key = s.err.key; unfinished = s.err.finished ∙ unfinished; index = tt; unfailed = tt; holds = tt; refused = s.err; unchanged = s.still },
+    record { taken = tt; chunk = tt; whole = tt; fits = tt; refused = (s.refused, s.fault) },
+  )
+
+  -- the block that is lent, if any, is the buffer's
+  pub fed_ok : (taken : ℕ) (full : Bool) (chunk : Option (Bor (List ℕ))) → chunk_bytes chunk ≡ block_or_none (block_lent new.buffer.items (taken, full))
+      → IfSome chunk (λ block. length block.now ≡ n) → Steps sealing old piece (Ok (taken, full)) new
+      → Fed (Ok (record { taken = taken; index = new.index; chunk = chunk }))
+  fed_ok taken full chunk is whole s =
+      let positive : 0 < text_length n = omega (arith, old.sizes) in
+      let after = λ (text : List ℕ) (held : Holds (text_length n) (sealer_view old) text).
+      follows sealing (text_length n) (sealer_view old) (sealer_view new) positive piece taken text (block_lent new.buffer.items (taken, full)) held s.ok in (
+        record {
+          key = s.ok.key;
+          unfinished = s.ok.finished ∙ unfinished;
+          index = refl;
+          unfailed = s.ok.failed;
+          holds = λ text held. (after text held).holds;
+          refused = tt;
+          unchanged = s.still;
+        },
+        record {
+          taken = s.ok.count;
+          chunk = λ text held. (after text held).blocks
+              ∙ ap (λ (bytes : List ℕ). block_bytes (sealed_before_last (sealing old.key.now) (text_length n) text) ++ bytes) (sym is);
+          whole = whole;
+          fits = s.fits;
+          refused = tt;
+        },
+      )
 
 -- ---- A block that is sealed in place.
 

@@ -97,7 +97,6 @@ module _ (sealing : Seals) (opening : OpensBlock) (valid : IsChunkBox sealing op
 
   -- what the blocks in front release carries the text on
   pub record Carries (i : ℕ) (texts : List (List ℕ)) : Type 0 where
-    pub within : (i + length texts) * n ≤ length text
     pub joins : take (i * n) text ++ flat_map (λ (t : List ℕ). t) texts ≡ take ((i + length texts) * n) text
     pub small : i < chunk_limit → i + length texts < chunk_limit
 
@@ -118,7 +117,6 @@ module _ (sealing : Seals) (opening : OpensBlock) (valid : IsChunkBox sealing op
   step i x rest c lt more =
       let e : i + suc (length rest) ≡ i + 1 + length rest = omega arith in
       record {
-        within = rw e more.within;
         joins = ap (λ (t : List ℕ). take (i * n) text ++ (t ++ flat_map (λ (t : List ℕ). t) rest)) c.is
             ∙ (sym (append_assoc (take (i * n) text) (take n (drop (i * n) text)) (flat_map (λ (t : List ℕ). t) rest))
             ∙ (ap (λ (t : List ℕ). t ++ flat_map (λ (t : List ℕ). t) rest) (take_chunk i)
@@ -126,35 +124,37 @@ module _ (sealing : Seals) (opening : OpensBlock) (valid : IsChunkBox sealing op
         small = λ h. rw e (more.small lt);
       }
 
-  none : (i : ℕ) → i * n ≤ length text → Carries i []
-  none i h =
+  none : (i : ℕ) → Carries i []
+  none i =
       let e : i + 0 ≡ i = omega arith in
       record {
-        within = rw e h;
         joins = append-nil (take (i * n) text) ∙ ap (λ (k : ℕ). take (k * n) text) (sym e);
         small = λ g. rw e g;
       }
 
-  carries : (texts : List (List ℕ)) (i : ℕ) → i * n ≤ length text
+  carries : (texts : List (List ℕ)) (i : ℕ)
       → ((j : ℕ) → j < length texts → IsChunk n text (i + j) false (get_or texts j []) × (i + j + 1 < chunk_limit)) → Carries i texts
-  carries [] i h f = none i h
-  carries (x ∷ rest) i h f =
+  carries [] i f = none i
+  carries (x ∷ rest) i f =
       let z : i + 0 ≡ i = omega arith in
       let first = f 0 (omega arith) in
       let c = subst (λ (k : ℕ). IsChunk n text k false x) z first.0 in
-      step i x rest c (omega (arith, first.1)) (carries rest (i + 1) (next_within i c.below c.flag)
+      step i x rest c (omega (arith, first.1)) (carries rest (i + 1)
       (λ j lt. let s : i + suc j ≡ i + 1 + j = omega arith in
       subst (λ (k : ℕ). IsChunk n text k false (get_or rest j []) × (k + 1 < chunk_limit)) s (f (suc j) (omega (arith, lt)))))
 
-  pub front_carries : (blocks : List (List ℕ)) (i : ℕ) → i * n ≤ length text
+  pub front_carries : (blocks : List (List ℕ)) (i : ℕ)
       → ((j : ℕ) → j < length (front_texts opening i blocks) → IsWriters sealing opening n text (nonce_bytes (i + j) false) (get_or blocks j []))
       → Carries i (front_texts opening i blocks)
-  front_carries blocks i h w =
+  front_carries blocks i w =
       let texts = front_texts opening i blocks in
-      carries texts i h (λ j lt.
+      carries texts i (λ j lt.
       let p = opens_before (i + j) _ _ ((front_is opening blocks i).opens j lt) in
       let low : i + j + 1 < chunk_limit = ltb-true (i + j + 1) chunk_limit p.0 in
       (writer_text (i + j) false (get_or blocks j []) (get_or texts j []) (omega (arith, low)) p.1 (w j lt), low))
+
+  first_within : (i : ℕ) → i < chunk_count n text → i * n ≤ length text
+  first_within i below = let m : i * n ≤ length text - 1 = (le-div_iff_mul-le positive).0 (omega (arith, below)) in omega (arith, m)
 
   last_within : (i : ℕ) → true ≡ (i + 1 == chunk_count n text) → length text ≤ (i + 1) * n
   last_within i flag =
@@ -165,15 +165,19 @@ module _ (sealing : Seals) (opening : OpensBlock) (valid : IsChunkBox sealing op
         | inr le ↦ (let q : i + 1 ≤ (length text - 1) / n = back le in absurd (omega (arith, q, eq)))
       ]
 
-  -- o's text carries the text on, and Done says that all of it came
+  -- o's text carries the text on, and Done says that all of it came, after a chunk that begins in it
   pub record IsReleased (i : ℕ) (start : List ℕ) (o : Outcome) : Type 0 where
     pub prefix : IsPrefixOf (start ++ flat_map (λ (t : List ℕ). t) o.texts) text
     pub done : o.status ≡ Done → start ++ flat_map (λ (t : List ℕ). t) o.texts ≡ text
+    pub within : o.status ≡ Done → i * n ≤ length text
 
   at_carried : (i : ℕ) (start : List ℕ) (texts : List (List ℕ)) (status : Status) → start ++ flat_map (λ (t : List ℕ). t) texts ≡ take (i * n) text
       → (status ≡ Done → ⊥) → IsReleased i start (record { texts = texts; index = i; status = status })
-  at_carried i start texts status e ne =
-      record { prefix = (drop (i * n) text, ap (λ (t : List ℕ). t ++ drop (i * n) text) e ∙ take-append-drop (i * n) text); done = λ d. absurd (ne d) }
+  at_carried i start texts status e ne = record {
+    prefix = (drop (i * n) text, ap (λ (t : List ℕ). t ++ drop (i * n) text) e ∙ take-append-drop (i * n) text);
+    done = λ d. absurd (ne d);
+    within = λ d. absurd (ne d);
+  }
 
   whole : (i : ℕ) (start : List ℕ) (texts : List (List ℕ)) (x : List ℕ) → start ++ flat_map (λ (t : List ℕ). t) texts ≡ take (i * n) text
       → IsChunk n text i true x → start ++ flat_map (λ (t : List ℕ). t) (texts ++ x ∷ []) ≡ text
@@ -189,17 +193,22 @@ module _ (sealing : Seals) (opening : OpensBlock) (valid : IsChunkBox sealing op
       let in_it : j < length s.bytes / (n + tag_length) = omega (arith, lt, texts_fit opening n s) in
       subst (IsWriters sealing opening n text (nonce_bytes (s.start + j) false)) (block_is n s j in_it) (given.not_last j (omega (arith, lt)) (block_full n s j in_it))
 
-  pub released_segment : (s : Segment) (base : List ℕ) → s.start < chunk_limit → s.start * n ≤ length text → base ≡ take (s.start * n) text
+  pub released_segment : (s : Segment) (base : List ℕ) → s.start < chunk_limit → base ≡ take (s.start * n) text
       → IsAuthentic sealing opening n text s → IsReleased (s.start + length (front_texts opening s.start (whole_blocks n s.bytes))) base (outcome opening n s)
-  released_segment s base small fits e given =
+  released_segment s base small e given =
       let b = stop opening n s in
       let i = b.index in
-      let c : Carries s.start b.texts = front_carries (whole_blocks n s.bytes) s.start fits (front_written s given) in
+      let c : Carries s.start b.texts = front_carries (whole_blocks n s.bytes) s.start (front_written s given) in
       let here : base ++ flat_map (λ (t : List ℕ). t) b.texts ≡ take (i * n) text = ap (λ (t : List ℕ). t ++ flat_map (λ (t : List ℕ). t) b.texts) e ∙ c.joins in
       let P : Outcome → Type 0 = IsReleased i base in
       subst P (sym (outcome_is opening n s))
       (by_lines opening P b (λ _. at_carried i base b.texts Open here (λ d. cc)) (λ kind _ _. at_carried i base b.texts (failed kind i) here (λ d. cc))
       (λ _ _ _. at_carried i base b.texts (failed TooManyChunks i) here (λ d. cc)) (λ _ _ _. at_carried i base b.texts (failed ChunkDamaged i) here (λ d. cc))
       (λ x tried is.
-      let all = whole i base b.texts x here (writer_text i true b.block x (c.small small) is (given.last tried)) in
-      record { prefix = ([], append-nil (base ++ flat_map (λ (t : List ℕ). t) (b.texts ++ x ∷ [])) ∙ all); done = λ d. all }))
+      let chunk = writer_text i true b.block x (c.small small) is (given.last tried) in
+      let all = whole i base b.texts x here chunk in
+      record {
+        prefix = ([], append-nil (base ++ flat_map (λ (t : List ℕ). t) (b.texts ++ x ∷ [])) ∙ all);
+        done = λ d. all;
+        within = λ d. first_within i chunk.below;
+      }))

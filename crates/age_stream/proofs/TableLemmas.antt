@@ -159,24 +159,22 @@ module _ (opening other : OpensBlock) (b : Frontier) (texts : List (List ℕ)) (
 abbrev pub prepend : List (List ℕ) → Outcome → Outcome
 prepend texts o = record { texts = texts ++ o.texts; index = o.index; status = o.status }
 
-pub record IsAfterBytes (some : Bool) (old new : Outcome) : Type 0 where
-  pub texts : new.texts ≡ old.texts
-  pub index : new.index ≡ old.index
-  pub status : new.status ≡ status_after some old.index old.status
+-- an outcome with another status
+abbrev pub after : (ℕ → Status → Status) → Outcome → Outcome
+after f o = record o { status = f o.index o.status }
 
-pub record IsAfterEnd (old new : Outcome) : Type 0 where
-  pub texts : new.texts ≡ old.texts
-  pub index : new.index ≡ old.index
-  pub status : new.status ≡ status_ended old.status
-
-bytes_status : (followed some ended : Bool) (i : ℕ) → last_status (followed || some) ended i ≡ status_after some i (last_status followed ended i)
+pub bytes_status : (followed some ended : Bool) (i : ℕ) → last_status (followed || some) ended i ≡ status_after some i (last_status followed ended i)
 bytes_status true some ended i = refl
 bytes_status false true true i = refl
 bytes_status false true false i = refl
 bytes_status false false true i = refl
 bytes_status false false false i = refl
 
-end_status : (followed ended : Bool) (i : ℕ) → last_status followed true i ≡ status_ended (last_status followed ended i)
+pub fault_after : (some : Bool) (i : ℕ) (fault : StreamFault) → status_after some i (Failed fault) ≡ Failed fault
+fault_after true i fault = refl
+fault_after false i fault = refl
+
+pub end_status : (followed ended : Bool) (i : ℕ) → last_status followed true i ≡ status_ended (last_status followed ended i)
 end_status true ended i = refl
 end_status false true i = refl
 end_status false false i = refl
@@ -199,20 +197,15 @@ module _ (opening : OpensBlock) (b : Frontier) where
       by_both opening opening b texts b.followed b.ended (λ x y. y ≡ prepend texts x) refl (λ _. still Open) (λ fault. still (Failed fault)) (λ _. refl) (λ _. refl)
       (λ text. ap (λ (ts : List (List ℕ)). record { texts = texts ++ (ts ++ text ∷ []); index = b.index; status = last_status b.followed b.ended b.index }) (sym none))
 
-  -- once more bytes came, or none
-  pub verdict-bytes : (some : Bool) → is_waiting b ≡ false
-      → IsAfterBytes some (verdict opening b) (verdict opening (beside opening opening b b.texts (b.followed || some) b.ended))
-  verdict-bytes some unwaiting =
-      by_both opening opening b b.texts (b.followed || some) b.ended (IsAfterBytes some) refl (λ waiting. absurd (both_ways (is_waiting b) unwaiting waiting))
-      (λ fault. record { texts = refl; index = refl; status = refl }) (λ _. refl) (λ _. refl)
-      (λ text. record { texts = refl; index = refl; status = bytes_status b.followed some b.ended b.index })
-
-  -- once an end came
-  pub verdict-end : is_waiting b ≡ false → IsAfterEnd (verdict opening b) (verdict opening (beside opening opening b b.texts b.followed true))
-  verdict-end unwaiting =
-      by_both opening opening b b.texts b.followed true IsAfterEnd (unwaiting ∙ sym (ended_waits b.whole))
-      (λ waiting. absurd (both_ways (is_waiting b) unwaiting waiting)) (λ fault. record { texts = refl; index = refl; status = refl }) (λ _. refl) (λ _. refl)
-      (λ text. record { texts = refl; index = refl; status = end_status b.followed b.ended b.index })
+  -- once more came
+  pub verdict-after : (f : ℕ → Status → Status) (followed ended : Bool) → is_waiting b ≡ false → (not b.whole && not ended) ≡ false
+      → ((i : ℕ) (fault : StreamFault) → f i (Failed fault) ≡ Failed fault)
+      → ((i : ℕ) → last_status followed ended i ≡ f i (last_status b.followed b.ended i))
+      → verdict opening (beside opening opening b b.texts followed ended) ≡ after f (verdict opening b)
+  verdict-after f followed ended unwaiting still fault last =
+      by_both opening opening b b.texts followed ended (λ x y. y ≡ after f x) (unwaiting ∙ sym still) (λ waiting. absurd (both_ways (is_waiting b) unwaiting waiting))
+      (λ e. ap (stays b) (sym (fault b.index e))) (λ _. refl) (λ _. refl)
+      (λ text. ap (λ (s : Status). record { texts = b.texts ++ text ∷ []; index = b.index; status = s }) (last b.index))
 
 -- ---- Where a segment stands.
 
@@ -340,7 +333,7 @@ module _ (opening : OpensBlock) where
   after_last_is b None = refl
   after_last_is b (Some text) = refl
 
-  whole_verdict : (b : Frontier) (o : Option (List ℕ)) → b.whole ≡ true → tag_length ≤ length b.block → opening (nonce_bytes b.index false) b.block ≡ o
+  pub whole_verdict : (b : Frontier) (o : Option (List ℕ)) → b.whole ≡ true → tag_length ≤ length b.block → opening (nonce_bytes b.index false) b.block ≡ o
       → verdict opening b ≡ at_block opening b.texts b.index b.block b.followed b.ended o
   whole_verdict b o whole long is =
       by_text o is

@@ -1,16 +1,15 @@
 -- The writer's own payload, from any chunk on, opens to the end.
-use Rattle.std.proofs.Common.{inl, inr, ◌≡◌, ℕ, zero, suc, ◌<◌, ◌≤◌, ◌+◌, ◌*◌, ◌/◌, refl, ap, sym, subst, ◌∙◌, List, [], ◌∷◌, ◌++◌, length, take, drop, get_or}
+use Rattle.std.proofs.Common.{inl, inr, ◌≡◌, ℕ, zero, suc, ◌<◌, ◌≤◌, ◌+◌, ◌*◌, refl, ap, sym, subst, ◌∙◌, List, [], ◌∷◌, ◌++◌, length, take, drop, get_or}
 use Rattle.std.proofs.Common.{Bool, true, false, arith}
 use Rattle.std.specs.Prelude.{Option, Some, None, cond, nat_lt, not, ◌||◌, ◌&&◌, ◌==◌, map, Contains, IsSome}
 use Rattle.std.specs.List.{enumerate_from, AllByRecursion}
 use Rattle.std.specs.Simd.{first_chunks}
 use Rattle.std.proofs.lemmas.Grind.{flat_map-append}
-use Rattle.std.proofs.lemmas.List.{length-append, length-drop, length-take, append-nil, append_assoc, take_at, drop_at, drop-drop, take_all, get_or_append_left}
+use Rattle.std.proofs.lemmas.List.{length-append, length-drop, length-take, append-nil, append_assoc, drop_at, drop-drop, take_all, get_or_append_left}
 use Rattle.std.proofs.lemmas.List.{get_or-drop}
 use Rattle.std.proofs.lemmas.Bool.{cases_lt, lt-ltb, le-ltb, eq-eqb, eqb-true, and_right}
 use Rattle.std.proofs.lemmas.Bool.Decides.{nat_tests}
-use Rattle.std.proofs.lemmas.Nat.{div-mul-add, mul-le}
-use Rattle.std.proofs.Math.Nat.{add-mul-div_left}
+use Rattle.std.proofs.lemmas.Nat.{mul-le}
 use Rattle.age_chunk.specs.ChunkBoxes.{IsChunkBox, tag_length, Seals, OpensBlock}
 use Rattle.age_chunk.specs.Payload.{nonce_bytes, chunk_limit, last_index, last_chunk, chunk_count, pair, sealed_before_last, sealed, block_bytes, payload}
 use Rattle.age_chunk.proofs.NonceLemmas.{nonce_bytes-length}
@@ -21,7 +20,7 @@ use Rattle.age_stream.specs.declared.step.Status.TheVariants.{Done}
 use Rattle.age_stream.proofs.ChunkLemmas.{last_chunk_le, length-sealed, pair_before, pair_last}
 use Rattle.age_stream.proofs.SealingLemmas.{last_index_le}
 use Rattle.age_stream.proofs.SegmentLemmas.{writer_text}
-use Rattle.age_stream.proofs.GoingLemmas.{front_on}
+use Rattle.age_stream.proofs.GoingLemmas.{block_on, front_on, full_bytes, short_bytes}
 use Rattle.age_stream.proofs.TableLemmas.{block_is, ended_waits, frontier, length-whole_blocks, line_last, outcome_is}
 
 pub all_full : (n c : ℕ) (xs : List ℕ) → c * n ≤ length xs → AllByRecursion (λ (x : List ℕ). length x ≡ n) (first_chunks n c xs)
@@ -74,33 +73,13 @@ module _ (sealing : Seals) (opening : OpensBlock) (valid : IsChunkBox sealing op
       let e : (n + tag_length) * suc (length ds) ≡ (n + tag_length) * length ds + (n + tag_length) = omega arith in
       omega (arith, length-append (sealing (nonce_bytes i false) d) (bytes_of (i + 1) ds), full_len i d h.0, length-bytes_of (i + 1) ds h.1, e)
 
-  chunks_of : (i c : ℕ) (ds : List (List ℕ)) (l : List ℕ) → Full ds → first_chunks (n + tag_length) (length ds + c) (bytes_of i ds ++ l)
-      ≡ blocks_of i ds ++ first_chunks (n + tag_length) c l
-  chunks_of i c [] l h = let z : 0 + c ≡ c = omega arith in ap (λ (k : ℕ). first_chunks (n + tag_length) k l) z
-  chunks_of i c (d ∷ ds) l h =
-      let z = n + tag_length in
-      let b = sealing (nonce_bytes i false) d in
-      let s : suc (length ds) + c ≡ suc (length ds + c) = omega arith in
-      let a = append_assoc b (bytes_of (i + 1) ds) l in
-      let len = full_len i d h.0 in
-      let rest = bytes_of (i + 1) ds ++ l in
-      ap (λ (k : ℕ). first_chunks z k ((b ++ bytes_of (i + 1) ds) ++ l)) s
-      ∙ (ap (λ (xs : List ℕ). take z xs ∷ first_chunks z (length ds + c) (drop z xs)) a
-      ∙ (ap (λ (x : List ℕ). x ∷ first_chunks z (length ds + c) (drop z (b ++ rest))) (take_at b rest z len)
-      ∙ (ap (λ (x : List ℕ). b ∷ first_chunks z (length ds + c) x) (drop_at b rest z len)
-      ∙ ap (λ (cs : List (List ℕ)). b ∷ cs) (chunks_of (i + 1) c ds l h.1))))
-
   -- the whole blocks of these chunks' blocks with more after them
-  count_of : (i : ℕ) (ds : List (List ℕ)) (l : List ℕ) → Full ds → length (bytes_of i ds ++ l) / (n + tag_length) ≡ length ds + length l / (n + tag_length)
-  count_of i ds l h =
-      let z = n + tag_length in
-      let pos : 0 < z = omega arith in
-      let e : length (bytes_of i ds ++ l) ≡ length l + z * length ds = omega (arith, length-append (bytes_of i ds) l, length-bytes_of i ds h) in
-      let f : length l / z + length ds ≡ length ds + length l / z = omega arith in
-      ap (λ (k : ℕ). k / z) e ∙ (add-mul-div_left (length l) (length ds) pos ∙ f)
-
   whole_of : (i : ℕ) (ds : List (List ℕ)) (l : List ℕ) → Full ds → whole_blocks n (bytes_of i ds ++ l) ≡ blocks_of i ds ++ whole_blocks n l
-  whole_of i ds l h = ap (λ (k : ℕ). first_chunks (n + tag_length) k (bytes_of i ds ++ l)) (count_of i ds l h) ∙ chunks_of i (length l / (n + tag_length)) ds l h
+  whole_of i [] l h = refl
+  whole_of i (d ∷ ds) l h =
+      let b = sealing (nonce_bytes i false) d in
+      ap (whole_blocks n) (append_assoc b (bytes_of (i + 1) ds) l)
+      ∙ (block_on n b (bytes_of (i + 1) ds ++ l) (full_len i d h.0) ∙ ap (λ (bs : List (List ℕ)). b ∷ bs) (whole_of (i + 1) ds l h.1))
 
   front_opens : (i : ℕ) (ds : List (List ℕ)) → i + length ds < chunk_limit → front_texts opening i (blocks_of i ds) ≡ ds
   front_opens i [] h = refl
@@ -205,19 +184,6 @@ module _ (sealing : Seals) (opening : OpensBlock) (valid : IsChunkBox sealing op
         ap (take (n + tag_length)) (drop_at (bytes_of k ds) tail (length ds * (n + tag_length)) front_size)
         ∙ take_all (n + tag_length) tail (omega (arith, tail_most))
 
-    -- its whole blocks: none, or itself
-    none_whole : length tail < n + tag_length → whole_blocks n tail ≡ []
-    none_whole short =
-        let e : length tail ≡ 0 * (n + tag_length) + length tail = omega arith in
-        ap (λ (c : ℕ). first_chunks (n + tag_length) c tail) (ap (λ (x : ℕ). x / (n + tag_length)) e ∙ div-mul-add 0 (n + tag_length) (length tail) short)
-
-    one_whole : length tail ≡ n + tag_length → whole_blocks n tail ≡ tail ∷ []
-    one_whole full =
-        let e : length tail ≡ 1 * (n + tag_length) + 0 = omega (arith, full) in
-        let pos : 0 < n + tag_length = omega arith in
-        ap (λ (c : ℕ). first_chunks (n + tag_length) c tail) (ap (λ (x : ℕ). x / (n + tag_length)) e ∙ div-mul-add 1 (n + tag_length) 0 pos)
-        ∙ ap (λ (x : List ℕ). x ∷ []) (take_all (n + tag_length) tail (omega (arith, full)))
-
     front_begins : front_texts opening k (whole_blocks n bytes) ≡ ds ++ front_texts opening q (whole_blocks n tail)
     front_begins = ap (front_texts opening k) (whole_of k ds tail ds_full) ∙ front_after (whole_blocks n tail)
 
@@ -233,10 +199,10 @@ module _ (sealing : Seals) (opening : OpensBlock) (valid : IsChunkBox sealing op
         let z = n + tag_length in
         let none : front_texts opening q (whole_blocks n tail) ≡ [] =
         elim (cases_lt (length tail) z) [
-          | inl lt ↦ ap (front_texts opening q) (none_whole lt)
+          | inl lt ↦ ap (front_texts opening q) (short_bytes n tail lt).0
           | inr ge ↦
               (let full : length tail ≡ z = omega (arith, ge, tail_most) in
-              ap (front_texts opening q) (one_whole full) ∙ ap (λ (o : Option (List ℕ)). text_then opening (unless_greatest q o) []) (shut full))
+              ap (front_texts opening q) (full_bytes n tail full).0 ∙ ap (λ (o : Option (List ℕ)). text_then opening (unless_greatest q o) []) (shut full))
         ] in
         let front : front_texts opening k (whole_blocks n bytes) ≡ ds = front_begins ∙ (ap (λ (ts : List (List ℕ)). ds ++ ts) none ∙ append-nil ds) in
         let alone : nat_lt ((length ds + 1) * z) (length bytes) ≡ false = le-ltb ((length ds + 1) * z) (length bytes)

@@ -1,5 +1,7 @@
 //! The reader's side: sealed chunks in, text out.
-ghost use Rattle.std.specs.Prelude.{◌≡◌, ◌≢◌, ◌+◌, ◌-◌, ◌<◌, ◌≤◌, [], ◌++◌, length, take, IfOk, OnOk, Some};
+#![tactic(auto, using(crate::proofs::SizeLemmas::list_fits, crate::proofs::SizeLemmas::opener_state_fits))]
+
+ghost use Rattle.std.specs.Prelude.{◌≡◌, ◌≢◌, ◌+◌, ◌-◌, ◌<◌, ◌≤◌, [], length, take, IfOk, Some};
 ghost use Rattle.std.specs.Prelude.{None, true, false, if◌then◌else◌, nat_lt, ◌==◌, ◌&&◌};
 ghost use Rattle.std.specs.Bool.{OnTrue, OnFalse};
 ghost use Rattle.std.specs.Borrow.{sem};
@@ -33,9 +35,8 @@ struct OpenerState<'k, B: ChunkBox, const SEALED: usize> {
 
 impl<'k, B: ChunkBox, const SEALED: usize> OpenerState<'k, B, SEALED> {
     ghost use Rattle.age_stream.specs.Segment.{failed};
-    ghost use Rattle.age_stream.specs.inner.OpenerSteps.{final_block, one_block, IsTried, TakesPart};
-    ghost use Rattle.age_stream.specs.inner.OpenerSteps.{TakesWhole, TakesNone, OpenerAdvances, OpenerCloses};
-    ghost use Rattle.age_stream.specs.inner.OpenerSteps.{OpenerEndsAs, EndsNone};
+    ghost use Rattle.age_stream.specs.inner.OpenerSteps.{one_block, IsTried, TakesNone, OpenerAdvances};
+    ghost use Rattle.age_stream.specs.inner.OpenerSteps.{OpenerEndsAs, end_of_open, end_of_closed};
     ghost use Rattle.age_stream.specs.Opener.{held_bytes};
 
     /// Empties the buffer of a text that was lent.
@@ -78,14 +79,7 @@ impl<'k, B: ChunkBox, const SEALED: usize> OpenerState<'k, B, SEALED> {
     /// Takes what the block has room for, and tries the block that is full.
     fn take_open(&mut self, piece: &[u8]) -> Result<(usize, bool), StreamFault>
         requires { self.old.status ≡ Status.Open }
-        ensures part { length (held_bytes self.old) + length piece.now < SEALED
-            → TakesPart self.old piece.now result self.new }
-        ensures whole { SEALED ≤ length (held_bytes self.old) + length piece.now
-            → TakesWhole (one_block (B.opening self.old.key.now) self.old.index
-            (held_bytes self.old ++ take (SEALED - length (held_bytes self.old)) piece.now))
-            self.old result self.new }
-        ensures short { length (held_bytes self.old) < SEALED }
-        ensures key { self.new.key ≡ self.old.key }
+        ensures { OpenerAdvances B.sealing B.opening self.old piece.now result self.new }
     {
         self.reclaim();
         let room = SEALED - self.buffer.len();
@@ -129,11 +123,7 @@ impl<'k, B: ChunkBox, const SEALED: usize> OpenerState<'k, B, SEALED> {
     /// Tries what is held as the last block.
     fn end_open(&mut self) -> Result<usize, StreamFault>
         requires { self.old.status ≡ Status.Open }
-        ensures ends { OpenerEndsAs (final_block (B.opening self.old.key.now) [] self.old.index
-            (held_bytes self.old) false true) self.old result self.new }
-        ensures done { OnOk result (self.new.status ≡ Status.Done) }
-        ensures none { OnOk result (held_bytes self.new ≡ []) }
-        ensures len { IfOk result (λ len. len ≡ text_length (length (held_bytes self.old))) }
+        ensures { OpenerEndsAs (end_of_open B.opening self.old) self.old result self.new }
     {
         self.reclaim();
         let len = self.buffer.len();
@@ -157,7 +147,7 @@ impl<'k, B: ChunkBox, const SEALED: usize> OpenerState<'k, B, SEALED> {
     /// Takes an end if no block is open.
     fn end_closed(&mut self) -> Result<usize, StreamFault>
         requires { self.old.status ≢ Status.Open }
-        ensures { EndsNone self.old result self.new }
+        ensures { OpenerEndsAs (end_of_closed B.opening self.old) self.old result self.new }
     {
         if let Status::Failed(fault) = self.status {
             return Err(fault);
@@ -168,7 +158,11 @@ impl<'k, B: ChunkBox, const SEALED: usize> OpenerState<'k, B, SEALED> {
 
     /// Ends, and says how many bytes at the beginning of the buffer are the last text.
     fn close(&mut self) -> Result<usize, StreamFault>
-        ensures { OpenerCloses B.sealing B.opening self.old result self.new }
+        ensures open { self.old.status ≡ Status.Open
+            → OpenerEndsAs (end_of_open B.opening self.old) self.old result self.new }
+        ensures closed { self.old.status ≢ Status.Open
+            → OpenerEndsAs (end_of_closed B.opening self.old) self.old result self.new }
+        ensures fits { IfOk result (λ len. len ≤ length self.new.buffer.items) }
     {
         match self.status {
             Status::Open => self.end_open(),

@@ -1,4 +1,6 @@
 //! What a reader holds, under any deliveries.
+#![tactic(auto, using(crate::proofs::SizeLemmas::opener_fits, crate::proofs::SizeLemmas::replay_state_fits, crate::proofs::SizeLemmas::replay_fits))]
+
 ghost use Rattle.std.specs.Prelude.{◌≡◌, ◌+◌, ◌*◌, ◌^◌, ◌<◌, ◌≤◌, [], ◌++◌, length};
 ghost use Rattle.std.specs.Prelude.{OnOk, OnErr, vec_len, vec_capacity, nat_lt, nat_le, ◌&&◌};
 ghost use Rattle.std.specs.Bool.{OnTrue};
@@ -37,7 +39,7 @@ struct ReplayState<'k, B: ChunkBox, const SEALED: usize> {
 }
 
 impl<'k, B: ChunkBox, const SEALED: usize> ReplayState<'k, B, SEALED> {
-    ghost use Rattle.age_stream.specs.Replay.{IsCramped, TakesDelivery, replay_view};
+    ghost use Rattle.age_stream.specs.Replay.{IsCramped, replay_view};
     ghost use Rattle.age_stream.specs.inner.ReplaySteps.{ReplayFeeds, Goes, with_bytes};
     ghost use Rattle.age_stream.specs.Opener.{text_at_end, text_of_piece, whole_text};
     ghost use Rattle.age_stream.specs.Segment.{after_delivery};
@@ -170,7 +172,7 @@ impl<'k, B: ChunkBox, const SEALED: usize> ReplayState<'k, B, SEALED> {
         }
     }
 
-    /// Takes a delivery, whatever deliveries it was given before.
+    /// Takes a delivery.
     fn deliver(&mut self, delivery: &Delivery<'_>) -> Result<(), Memory>
         ensures stands { OnOk result (Goes B.opening self.old self.new (λ s.
             after_delivery (B.opening self.old.key.now) (text_length SEALED) s delivery.now)) }
@@ -188,15 +190,6 @@ impl<'k, B: ChunkBox, const SEALED: usize> ReplayState<'k, B, SEALED> {
                 Ok(())
             }
         }
-    }
-
-    /// Takes a delivery, for each list of deliveries that it may have been given. A function of its
-    /// own so that its proof builds on what `deliver` ensures.
-    fn take(&mut self, delivery: &Delivery<'_>) -> Result<(), Memory>
-        ensures { TakesDelivery B.sealing B.opening (text_length SEALED)
-            (replay_view self.old) delivery.now result (replay_view self.new) }
-    {
-        self.deliver(delivery)
     }
 }
 
@@ -297,7 +290,7 @@ impl<'k, B: ChunkBox, const SEALED: usize> Replay<'k, B, SEALED> {
         ensures { TakesDelivery B.sealing B.opening (text_length SEALED)
             self.old delivery.now result self.new }
     {
-        self.state.take(delivery)
+        self.state.deliver(delivery)
     }
 }
 

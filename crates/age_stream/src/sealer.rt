@@ -1,5 +1,7 @@
 //! The writer's side: text in, sealed chunks out.
-ghost use Rattle.std.specs.Prelude.{◌≡◌, ℕ, ◌+◌, ◌<◌, ◌≤◌, List, [], ◌++◌, length, OnOk, None, IsNone, true};
+#![tactic(auto, using(crate::proofs::SizeLemmas::list_fits, crate::proofs::SizeLemmas::sealer_state_fits))]
+
+ghost use Rattle.std.specs.Prelude.{◌≡◌, ◌+◌, ◌<◌, ◌≤◌, [], length, OnOk, None, IsNone, true};
 ghost use Rattle.std.specs.Prelude.{false};
 ghost use Rattle.std.specs.Borrow.{sem};
 ghost use Rattle.std.specs.Io.BufRead.{Rests};
@@ -29,9 +31,8 @@ struct SealerState<'k, B: ChunkBox, const SEALED: usize> {
 }
 
 impl<'k, B: ChunkBox, const SEALED: usize> SealerState<'k, B, SEALED> {
-    ghost use Rattle.age_stream.specs.Sealer.{held_text, sealer_view, Holds, too_many};
-    ghost use Rattle.age_stream.specs.inner.SealerSteps.{Steps, SealerAdvances, SealerSealsLast};
-    ghost use Rattle.age_chunk.specs.Payload.{sealed_before_last, block_bytes, payload};
+    ghost use Rattle.age_stream.specs.Sealer.{held_text, too_many};
+    ghost use Rattle.age_stream.specs.inner.SealerSteps.{Steps, SealerSealsLast};
 
     /// Empties the buffer of a block that was lent, and puts the byte beside it first.
     fn reclaim(&mut self)
@@ -87,15 +88,6 @@ impl<'k, B: ChunkBox, const SEALED: usize> SealerState<'k, B, SEALED> {
         Ok((1, true))
     }
 
-    /// Makes a step, for each text that the sealer may have been given. A function of its own so that
-    /// its proof builds on what `step` ensures, which names no text.
-    fn advance(&mut self, piece: &[u8]) -> Result<(usize, bool), StreamFault>
-        requires { self.old.finished ≡ false }
-        ensures { SealerAdvances B.sealing self.old piece.now result self.new }
-    {
-        self.step(piece)
-    }
-
     /// Seals what is held as the last chunk, in place.
     fn close(&mut self) -> Result<(), StreamFault>
         requires { self.old.finished ≡ false }
@@ -110,20 +102,6 @@ impl<'k, B: ChunkBox, const SEALED: usize> SealerState<'k, B, SEALED> {
         seal_in(self.key, self.index, true, &mut self.buffer);
         self.finished = true;
         Ok(())
-    }
-
-    /// Seals the last chunk, of each text that the sealer may have been given. A function of its own
-    /// so that its proof builds on what `close` ensures, which names no text.
-    fn close_text(&mut self) -> Result<(), StreamFault>
-        requires { self.old.finished ≡ false }
-        ensures last { SealerSealsLast self.old result self.new }
-        ensures blocks { OnOk result ((text : List ℕ)
-            → Holds (text_length SEALED) (sealer_view self.old) text
-            → payload (B.sealing self.old.key.now) (text_length SEALED) text
-            ≡ block_bytes (sealed_before_last (B.sealing self.old.key.now)
-            (text_length SEALED) text) ++ self.new.buffer.items) }
-    {
-        self.close()
     }
 }
 
@@ -218,7 +196,7 @@ impl<'k, B: ChunkBox, const SEALED: usize> Sealer<'k, B, SEALED> {
             (IsTaken (text_length SEALED) self.old piece.now result)) }
         ensures takes { Takes B.sealing SEALED self.old piece.now result }
     {
-        let (taken, full) = self.state.advance(piece)?;
+        let (taken, full) = self.state.step(piece)?;
         let reached = self.state.index;
         if !full {
             return Ok(Step {
@@ -243,7 +221,7 @@ impl<'k, B: ChunkBox, const SEALED: usize> Sealer<'k, B, SEALED> {
             (IsFinished (text_length SEALED) self.old result)) }
         ensures finishes { Finishes B.sealing SEALED self.old result }
     {
-        self.state.close_text()?;
+        self.state.close()?;
         Ok(self.state.buffer.as_slice())
     }
 }

@@ -1,19 +1,19 @@
 -- What each step of an opener does. Private: no public contract cites this module.
 use Rattle.std.specs.Prelude.{ℕ, ◌+◌, Bool, true, false, nat_lt, List, [], ◌∷◌, ◌++◌}
-use Rattle.std.specs.Prelude.{length, Option, Some, None, ◌≢◌, ◌≡◌, ◌-◌, ◌≤◌, ◌<◌, min, take, ⊤}
-use Rattle.std.specs.Prelude.{Result, Ok, Err, MatchResult, IfOk, IfErr, OnOk, if◌then◌else◌}
+use Rattle.std.specs.Prelude.{length, Option, Some, None, ◌≡◌, ◌≤◌, take}
+use Rattle.std.specs.Prelude.{Result, Ok, Err, MatchResult, if◌then◌else◌}
+use Rattle.std.specs.Borrow.{Bor}
 use Rattle.std.specs.List.{flat_map}
 use Rattle.age_chunk.specs.ChunkBoxes.{Seals, OpensBlock, text_length}
 use Rattle.age_chunk.specs.declared.fault.StreamFault.{StreamFault}
 use Rattle.age_chunk.specs.declared.fault.StreamKind.TheVariants.{ChunkDamaged, Trailing, TooManyChunks}
 use Rattle.age_chunk.specs.Payload.{nonce_bytes}
-use Rattle.age_stream.specs.Segment.{Outcome, failed, first_line, text_before_last, Segment, verdict}
-use Rattle.age_stream.specs.Segment.{outcome, released, with_piece, with_end}
-use Rattle.age_stream.specs.Headline.{ReleasesWritten}
-use Rattle.age_stream.specs.Opener.{Stands, given, handed, has_failed, text_at_end, held_bytes, opener_view}
+use Rattle.age_stream.specs.Segment.{Outcome, failed, first_line, text_before_last, verdict}
+use Rattle.age_stream.specs.Opener.{IsFed, Feeds, has_failed, text_at_end, held_bytes, opener_view}
 use Rattle.age_stream.specs.declared.opener.OpenerState.{OpenerState}
 use Rattle.age_stream.specs.declared.step.Status.{Status}
 use Rattle.age_stream.specs.declared.step.Status.TheVariants.{Open, LastSeen, Done, Failed}
+use Rattle.age_stream.specs.declared.step.Step.{Step}
 
 -- ---- The steps of an opener's outcome, as more bytes or an end come.
 
@@ -70,14 +70,7 @@ module _ (opening : OpensBlock) where
   -- what one whole block alone gives, at number i
   abbrev pub after_front : Option (List ℕ) → ℕ → List ℕ → Outcome
   after_front (Some text) i block = record { texts = text ∷ []; index = i + 1; status = Open }
-  after_front None i block = verdict opening (record {
-    texts = [];
-    index = i;
-    block = block;
-    whole = true;
-    followed = false;
-    ended = false;
-  })
+  after_front None i block = at_block [] i block false false (opening (nonce_bytes i false) block)
 
   abbrev pub one_block : ℕ → List ℕ → Outcome
   one_block i block = after_front (text_before_last opening i block) i block
@@ -98,177 +91,61 @@ module _ {B : Type 0} {n : ℕ} {g : _} where
     pub index : new.index ≡ outcome.index
     pub status : new.status ≡ outcome.status
     pub answered : MatchResult answer
-        (λ _. (new.lent ≡ true) × (length new.buffer.items ≡ n)
+        (λ _. (new.lent ≡ true) × (length new.buffer.items ≡ n) × (has_failed new.status ≡ false)
         × (outcome.texts ≡ take (text_length n) new.buffer.items ∷ []))
         (λ fault. (new.status ≡ Failed fault) × (outcome.texts ≡ []))
 
-  -- the piece made no whole block
-  pub record TakesPart (old : OpenerState B n g) (piece : List ℕ)
-      (answer : Result (ℕ × Bool) StreamFault) (new : OpenerState B n g) : Type 0 where
-    pub key : new.key ≡ old.key
-    pub index : new.index ≡ old.index
-    pub status : new.status ≡ old.status
-    pub held : held_bytes new ≡ held_bytes old ++ piece
-    pub answered : MatchResult answer (λ s. (s.0 ≡ length piece) × (s.1 ≡ false)) (λ _. ⊥)
-
-  -- the piece's front made one, which was tried
-  pub record TakesWhole (outcome : Outcome) (old : OpenerState B n g)
-      (answer : Result (ℕ × Bool) StreamFault) (new : OpenerState B n g) : Type 0 where
-    pub key : new.key ≡ old.key
-    pub index : new.index ≡ outcome.index
-    pub status : new.status ≡ outcome.status
-    pub answered : MatchResult answer
-        (λ s. (s.0 + length (held_bytes old) ≡ n) × (s.1 ≡ true) × (held_bytes new ≡ [])
-        × (outcome.texts ≡ take (text_length n) new.buffer.items ∷ [])
-        × (length new.buffer.items ≡ n))
-        (λ fault. (new.status ≡ Failed fault) × (outcome.texts ≡ []))
-
-  -- what `take_closed` does with a piece, if no block is open
+  -- what `take_closed` does with a piece: Ok comes only for an empty one, and only if no call before was refused
   pub record TakesNone (old : OpenerState B n g) (piece : List ℕ)
       (answer : Result (ℕ × Bool) StreamFault) (new : OpenerState B n g) : Type 0 where
-    -- the key stays
     pub key : new.key ≡ old.key
-    -- the opener stays at its chunk
     pub index : new.index ≡ old.index
-    -- the status is as once bytes came, or none
     pub status : new.status ≡ status_after (nat_lt 0 (length piece)) old.index old.status
-    -- after Ok it holds what it held
-    pub held : MatchResult answer (λ _. held_bytes new ≡ held_bytes old) (λ _. ⊤)
-    -- Ok comes only for an empty piece, and nothing is taken; a refusal is the status
-    pub answered : MatchResult answer (λ s. (s.0 ≡ 0) × (s.1 ≡ false)
-        × (length piece ≡ 0)) (λ fault. new.status ≡ Failed fault)
-    -- after Ok the status is no refusal
-    pub sound : IfOk answer (λ _. has_failed new.status ≡ false)
-    -- a fault that came before comes again
-    pub again : IfErr answer
-        (λ fault. (earlier : StreamFault) → old.status ≡ Failed earlier → fault ≡ earlier)
-    -- Ok comes only if no call before was refused
-    pub unfailed : OnOk answer (has_failed old.status ≡ false)
-    -- an empty piece changes nothing
-    pub still : length piece ≡ 0 → opener_view new ≡ opener_view old
+    pub answered : MatchResult answer
+        (λ s. (s.0 ≡ 0) × (s.1 ≡ false) × (length piece ≡ 0) × (has_failed old.status ≡ false))
+        (λ fault. new.status ≡ Failed fault)
 
-  -- an end came; this many bytes in front of the buffer are the text that it gave
+  -- an end came: Ok only if no call before was refused, and then this many bytes in front of the
+  -- buffer are the text that it gave
   pub record OpenerEndsAs (outcome : Outcome) (old : OpenerState B n g) (answer : Result ℕ StreamFault)
       (new : OpenerState B n g) : Type 0 where
     pub key : new.key ≡ old.key
     pub index : new.index ≡ outcome.index
     pub status : new.status ≡ outcome.status
-    pub closed : new.status ≢ Open
     pub answered : MatchResult answer
-        (λ len. (len ≤ length new.buffer.items) × (len ≤ length (held_bytes old))
-        × (flat_map (λ (text : List ℕ). text) outcome.texts ≡ take len new.buffer.items))
+        (λ len. (new.status ≡ Done) × (len ≤ length new.buffer.items)
+        × (flat_map (λ (text : List ℕ). text) outcome.texts ≡ take len new.buffer.items)
+        × (len ≡ text_at_end (opener_view old)) × (has_failed old.status ≡ false))
         (λ fault. (new.status ≡ Failed fault) × (outcome.texts ≡ []))
 
-  -- what `end_closed` does, if no block is open
-  pub record EndsNone (old : OpenerState B n g) (answer : Result ℕ StreamFault)
-      (new : OpenerState B n g) : Type 0 where
-    -- an end comes at the chunk at which the opener stands, and releases no text
-    pub ends : OpenerEndsAs
-        (record { texts = []; index = old.index; status = status_ended old.status })
-        old answer new
-    -- a fault that came before comes again
-    pub again : IfErr answer
-        (λ fault. (earlier : StreamFault) → old.status ≡ Failed earlier → fault ≡ earlier)
-    -- Ok comes only if no call before was refused
-    pub unfailed : OnOk answer (has_failed old.status ≡ false)
-    -- after Ok the opener is done
-    pub done : OnOk answer (new.status ≡ Done)
-    -- and holds nothing
-    pub none : OnOk answer (held_bytes new ≡ [])
-    -- the text is empty
-    pub len : IfOk answer (λ len. len ≡ 0)
+module _ {B : Type 0} {n : ℕ} {g : _} (opening : B → OpensBlock) (old : OpenerState B n g) where
+  -- what an end gives while a block is open
+  abbrev pub end_of_open : Outcome
+  end_of_open = final_block (opening old.key.now) [] old.index (held_bytes old) false true
 
--- the text in the buffer, if there is one, of an answer: what was taken, and whether there is
-abbrev pub text_lent : ℕ → List ℕ → ℕ × Bool → List (List ℕ)
-text_lent n buffer answer = if answer.1 then take (text_length n) buffer ∷ [] else []
+  -- and if none is
+  abbrev pub end_of_closed : Outcome
+  end_of_closed = record { texts = []; index = old.index; status = status_ended old.status }
 
--- the segment with what an answer says was taken of the piece, or with all of it after a refusal
-abbrev pub advanced : Segment → List ℕ → Result (ℕ × Bool) StreamFault → Segment
-advanced s piece answer = with_piece s (given (λ (a : ℕ × Bool). a.0) answer piece)
+-- the answer of `end` for one of `close`: it lends this
+abbrev pub lending : Bor (List ℕ) → Result ℕ StreamFault → Result (Bor (List ℕ)) StreamFault
+lending text (Ok len) = Ok text
+lending text (Err fault) = Err fault
+
+-- the step that `feed` returns for an answer of `advance`: it lends this, if a chunk was finished
+abbrev pub stepped : Bor (List ℕ) → ℕ → Result (ℕ × Bool) StreamFault → Result Step StreamFault
+stepped chunk index (Ok a) =
+    Ok (record { taken = a.0; index = index; chunk = if a.1 then Some chunk else None })
+stepped chunk index (Err fault) = Err fault
 
 module _ {B : Type 0} {n : ℕ} {g : _} (sealing : B → Seals) (opening : B → OpensBlock)
     (old : OpenerState B n g) where
-  -- what `advance` does with a piece
+  -- what `advance` does with a piece: what `feed` ensures of its step, which lends the text in front
+  -- of the buffer
   pub record OpenerAdvances (piece : List ℕ) (answer : Result (ℕ × Bool) StreamFault)
       (new : OpenerState B n g) : Type 0 where
-    -- the opener stands for each segment that it stood for, with what was taken added
-    pub stands : (s : Segment) → Stands opening (text_length n) (opener_view old) s
-        → Stands opening (text_length n) (opener_view new) (advanced s piece answer)
-    -- the text in the buffer is what the outcome gains
-    pub texts : (s : Segment) → Stands opening (text_length n) (opener_view old) s
-        → (outcome (opening old.key.now) (text_length n) (advanced s piece answer)).texts
-        ≡ (outcome (opening old.key.now) (text_length n) s).texts
-        ++ handed (text_lent n new.buffer.items) answer
-    -- the headline holds of what was released with it
-    pub written : (s : Segment) → Stands opening (text_length n) (opener_view old) s
-        → ReleasesWritten (sealing old.key.now) (opening old.key.now) (text_length n)
-        (advanced s piece answer)
-        (released (opening old.key.now) (text_length n) s
-        ++ flat_map (λ (text : List ℕ). text) (handed (text_lent n new.buffer.items) answer))
-        new.status
-    -- a refusal is the status
-    pub fault : IfErr answer (λ fault. new.status ≡ Failed fault)
-    -- the key stays
-    pub key : new.key ≡ old.key
-    -- a text in the buffer is a whole block's
-    pub full : IfOk answer (λ a. a.1 ≡ true → length new.buffer.items ≡ n)
-    -- bytes are taken up to the end of the block that is open
-    pub taken : IfOk answer (λ a. a.0 ≡ min (n - length (held_bytes old)) (length piece))
-    -- some are taken of a piece that isn't empty
-    pub some : IfOk answer (λ a. 0 < length piece → 0 < a.0)
-    -- after Ok the status is no refusal
-    pub sound : IfOk answer (λ _. has_failed new.status ≡ false)
-    -- a fault that came before comes again
-    pub again : IfErr answer
-        (λ fault. (earlier : StreamFault) → old.status ≡ Failed earlier → fault ≡ earlier)
-    -- Ok comes only if no call before was refused
-    pub unfailed : OnOk answer (has_failed old.status ≡ false)
-    -- an empty piece changes nothing
-    pub still : length piece ≡ 0 → opener_view new ≡ opener_view old
-    -- no text comes of an empty piece
-    pub nothing : length piece ≡ 0 → IfOk answer (λ a. a.1 ≡ false)
-    -- bytes are taken only while a block is open
-    pub was_open : OnOk answer (0 < length piece → old.status ≡ Open)
-    -- a text ends the block that was open, and nothing is held
-    pub lent : IfOk answer (λ a. a.1 ≡ true
-        → (length (held_bytes old) + a.0 ≡ n) × (held_bytes new ≡ []))
-    -- without a text, all that was taken is held
-    pub unlent : IfOk answer (λ a. a.1 ≡ false
-        → length (held_bytes new) ≡ length (held_bytes old) + a.0)
-    -- what is held or lent was held or taken
-    pub room : IfOk answer (λ a. length (held_bytes new)
-        + length (if a.1 then take (text_length n) new.buffer.items else [])
-        ≤ length (held_bytes old) + a.0)
-
-  -- what `close` does
-  pub record OpenerCloses (answer : Result ℕ StreamFault) (new : OpenerState B n g) : Type 0 where
-    -- the opener stands for each segment that it stood for, ended
-    pub stands : (s : Segment) → Stands opening (text_length n) (opener_view old) s
-        → Stands opening (text_length n) (opener_view new) (with_end s)
-    -- the bytes in front of the buffer are what the end releases
-    pub text : (s : Segment) → Stands opening (text_length n) (opener_view old) s
-        → released (opening old.key.now) (text_length n) (with_end s)
-        ≡ released (opening old.key.now) (text_length n) s ++ front_bytes answer new.buffer.items
-    -- the headline holds of what was released with them
-    pub written : (s : Segment) → Stands opening (text_length n) (opener_view old) s
-        → ReleasesWritten (sealing old.key.now) (opening old.key.now) (text_length n) (with_end s)
-        (released (opening old.key.now) (text_length n) s
-        ++ front_bytes answer new.buffer.items) new.status
-    -- a refusal is the status
-    pub fault : IfErr answer (λ fault. new.status ≡ Failed fault)
-    -- after Ok the opener is done
-    pub done : OnOk answer (new.status ≡ Done)
-    -- and holds nothing
-    pub none : OnOk answer (held_bytes new ≡ [])
-    -- a fault that came before comes again
-    pub again : IfErr answer
-        (λ fault. (earlier : StreamFault) → old.status ≡ Failed earlier → fault ≡ earlier)
-    -- Ok comes only if no call before was refused
-    pub unfailed : OnOk answer (has_failed old.status ≡ false)
-    -- the key stays
-    pub key : new.key ≡ old.key
-    -- the text is as long as what was held without a tag, or empty if no block was open
-    pub len : IfOk answer (λ len. len ≡ text_at_end (opener_view old))
-    -- it is in the buffer, and no longer than what was held
-    pub fits : IfOk answer
-        (λ len. (len ≤ length new.buffer.items) × (len ≤ length (held_bytes old)))
+    pub fed : (chunk : Bor (List ℕ)) → chunk.now ≡ take (text_length n) new.buffer.items
+        → IsFed sealing opening (text_length n) (opener_view old) piece
+        (stepped chunk new.index answer) (opener_view new)
+    pub feeds : (chunk : Bor (List ℕ)) → chunk.now ≡ take (text_length n) new.buffer.items
+        → Feeds opening n (opener_view old) piece (stepped chunk new.index answer)

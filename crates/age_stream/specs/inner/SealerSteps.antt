@@ -2,10 +2,10 @@
 use Rattle.std.specs.Prelude.{◌≡◌, ℕ, ◌+◌, ◌≤◌, ◌<◌, List, [], ◌++◌, length, take, Bool, true, false, Option}
 use Rattle.std.specs.Prelude.{Some, None, MatchOption, if◌then◌else◌, Result, IfOk, OnOk, IfErr, OnErr}
 use Rattle.age_chunk.specs.ChunkBoxes.{Seals, text_length}
-use Rattle.age_chunk.specs.Payload.{nonce_bytes, sealed_before_last, block_bytes, chunk_limit, chunk_count}
+use Rattle.age_chunk.specs.Payload.{nonce_bytes, chunk_limit, chunk_count}
 use Rattle.age_chunk.specs.Payload.{payload}
 use Rattle.age_chunk.specs.declared.fault.StreamFault.{StreamFault}
-use Rattle.age_stream.specs.Sealer.{SealerView, Holds, held_text, sealer_view, step_len}
+use Rattle.age_stream.specs.Sealer.{SealerView, held_text, sealer_view, step_len}
 use Rattle.age_stream.specs.Sealer.{needs_too_many, too_many, IsRefused, SealRefuses}
 use Rattle.age_stream.specs.declared.sealer.SealerState.{SealerState}
 use Rattle.age_stream.specs.declared.whole_text.SealFault.TheVariants.{Stream}
@@ -67,40 +67,6 @@ module _ {B : Type 0} {n : ℕ} {g : _} (sealing : B → Seals) (old : SealerSta
     pub fault : IfErr answer (λ fault. fault ≡ too_many old.index)
     -- and all else stays
     pub err : OnErr answer (IsRefused (sealer_view old) (sealer_view new))
-    -- an empty piece changes nothing
-    pub still : length piece ≡ 0 → sealer_view new ≡ sealer_view old
-
-  -- what `advance` does with a piece, for each text that the sealer may have been given
-  pub record SealerAdvances (piece : List ℕ) (answer : Result (ℕ × Bool) StreamFault)
-      (new : SealerState B n g) : Type 0 where
-    -- bytes are taken as far as there is room, or one after a full chunk
-    pub taken : IfOk answer (λ s. s.0 ≡ step_len (text_length n) (held_text old) piece)
-    -- the sealer was then given the text with them
-    pub holds : IfOk answer (λ s. (text : List ℕ)
-        → Holds (text_length n) (sealer_view old) text
-        → Holds (text_length n) (sealer_view new) (text ++ take s.0 piece))
-    -- the block in the buffer is what they add to the blocks before the last
-    pub blocks : IfOk answer (λ s. (text : List ℕ)
-        → Holds (text_length n) (sealer_view old) text
-        → block_bytes (sealed_before_last (sealing old.key.now) (text_length n)
-        (text ++ take s.0 piece))
-        ≡ block_bytes (sealed_before_last (sealing old.key.now) (text_length n) text)
-        ++ block_or_none (block_lent new.buffer.items s))
-    -- the block is a whole one
-    pub whole : IfOk answer (λ s. s.1 ≡ true → length new.buffer.items ≡ n)
-    -- no byte that is taken needs a chunk too many
-    pub fits : IfOk answer
-        (λ _. needs_too_many (text_length n) (sealer_view old) piece ≡ false)
-    -- after Ok the sealer isn't refused
-    pub unfailed : OnOk answer (new.failed ≡ false)
-    -- a byte that is refused needs a chunk too many
-    pub refused : OnErr answer (needs_too_many (text_length n) (sealer_view old) piece ≡ true)
-    -- the fault names the chunk that is open
-    pub fault : IfErr answer (λ fault. fault ≡ too_many old.index)
-    -- and all else stays
-    pub err : OnErr answer (IsRefused (sealer_view old) (sealer_view new))
-    -- the key stays, and it isn't finished by a piece
-    pub same : (new.key.now ≡ old.key.now) × (new.finished ≡ old.finished)
     -- an empty piece changes nothing
     pub still : length piece ≡ 0 → sealer_view new ≡ sealer_view old
 

@@ -1,11 +1,8 @@
-use Rattle.age_stream.proofs.HeldLemmas.{whole_is_right, rest_is_right, undamaged_is_right}
+use Rattle.age_stream.proofs.HeldLemmas.{whole_is_right, undamaged_is_right}
 use Rattle.age_stream.proofs.laws.undamaged_is_authentic.Goals as goal
 
 pub returns-clause-whole : goal.returns-clause-whole
 returns-clause-whole c = whole_is_right
-
-pub returns-clause-rest : goal.returns-clause-rest
-returns-clause-rest c = rest_is_right
 
 pub returns-clause-after : goal.returns-clause-after
 returns-clause-after c = undamaged_is_right

@@ -1,13 +1,6 @@
 use Rattle.std.proofs.Common.{◌≡◌, ap, length, arith, refl}
 use Rattle.age_stream.proofs.SealerLemmas.{sealed_in}
-use Rattle.age_stream.proofs.SizeLemmas.{list_fits}
 use Rattle.age_stream.proofs.sealer.seal_in.Goals as goal
-
-pub push_bytes-requires : goal.push_bytes-requires
-push_bytes-requires g c = (list_fits c.requires.limit, (c.requires.room, c.requires.limit))
-
-pub as_mut_slice-requires : goal.as_mut_slice-requires
-as_mut_slice-requires g c = list_fits c.requires.limit
 
 pub returns : goal.returns
 returns g c =

@@ -1,11 +1,10 @@
-use Rattle.std.proofs.Common.{◌<◌, ◌≡◌, ◌-◌, ◌≤◌, ℕ, length, take, drop, List, ◌++◌, ap, sym, subst, ◌∙◌, arith, rules}
+use Rattle.std.proofs.Common.{◌<◌, ◌≡◌, ◌-◌, ◌≤◌, ℕ, length, take, drop, List, ◌++◌, ap, sym, subst, ◌∙◌, arith}
 use Rattle.std.proofs.lemmas.List.{take_all, length-take, length-drop, length-append, append_assoc}
 use Rattle.age_chunk.specs.ChunkBoxes.{text_length}
 use Rattle.age_chunk.specs.Payload.{last_index, payload}
 use Rattle.age_stream.specs.Sealer.{Holds}
 use Rattle.age_stream.specs.Opener.{chunk_bytes}
 use Rattle.age_stream.proofs.SealerLemmas.{step_len_le, take_on, front_of, fed_on, fed_fits, last_fits}
-use Rattle.age_stream.proofs.SizeLemmas.{sealer_fits}
 use Rattle.age_stream.proofs.whole_text.seal_within.Goals as goal
 
 pub loop-at-preserved : goal.loop-at-preserved
@@ -82,12 +81,3 @@ returns g c =
       refused = tt;
       begun = tt;
     }
-
-pub new-sealer-requires : goal.new-sealer-requires
-new-sealer-requires g c = (sealer_fits c.requires.most, search rules)
-
-pub feed-requires : goal.feed-requires
-feed-requires g c = (sealer_fits c.requires.most, search rules)
-
-pub finish-requires : goal.finish-requires
-finish-requires g c = (sealer_fits c.requires.most, search rules)

@@ -2,12 +2,8 @@ use Rattle.std.proofs.Common.{refl, sym, [], append-nil}
 use Rattle.age_stream.specs.Segment.{with_end}
 use Rattle.age_stream.specs.Replay.{replay_view}
 use Rattle.age_stream.proofs.ReplayLemmas.{held_step}
-use Rattle.age_stream.proofs.SizeLemmas.{opener_fits}
 use Rattle.age_stream.proofs.replay.ReplayState.end_opener.Goals as goal
 use Rattle.age_chunk.specs.ChunkBoxes.{text_length}
-
-pub end-requires : goal.end-requires
-end-requires g c = opener_fits c.args.self.now.sizes.1
 
 pub returns-in-Ok-clause-ended : goal.returns-in-Ok-clause-ended
 returns-in-Ok-clause-ended g c =

@@ -3,7 +3,6 @@ use Rattle.std.proofs.lemmas.List.{length-append}
 use Rattle.age_stream.specs.Replay.{replay_view}
 use Rattle.age_stream.specs.Opener.{chunk_texts, chunk_bytes}
 use Rattle.age_stream.proofs.ReplayLemmas.{room_left, replay_step, lent_flat}
-use Rattle.age_stream.proofs.SizeLemmas.{opener_fits}
 use Rattle.age_stream.proofs.replay.ReplayState.feed_once.Goals as goal
 use Rattle.age_chunk.specs.ChunkBoxes.{text_length}
 
@@ -54,6 +53,3 @@ push_lent-requires g c =
     fits in
     let room = c.requires.room (ok.was_open c.requires.some) in
     omega (arith, room, left)
-
-pub feed-requires : goal.feed-requires
-feed-requires g c = opener_fits c.args.self.now.sizes.1

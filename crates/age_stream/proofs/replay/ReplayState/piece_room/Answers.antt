@@ -1,6 +1,5 @@
 use Rattle.std.proofs.Common.{◌≡◌, ◌≤◌, ◌+◌, ◌*◌, ◌/◌, ℕ, ap, sym, ◌∙◌, length, arith, rules, Fits, w64}
 use Rattle.age_stream.proofs.ReplayLemmas.{open_number, text_below}
-use Rattle.age_stream.proofs.SizeLemmas.{opener_fits}
 use Rattle.age_stream.proofs.replay.ReplayState.piece_room.Goals as goal
 use Rattle.age_chunk.specs.ChunkBoxes.{tag_length, text_length}
 
@@ -20,9 +19,3 @@ returns-in-Open g c =
     ap (λ (k : ℕ). (c.held_len.result + piece) / k * text_length z) block
     ∙ (ap (λ (k : ℕ). (k + piece) / (text_length z + tag_length) * text_length z) c.held_len.ensures.len
     ∙ sym (open_number c.args.self.now.opener.status _ (sym c.status.ensures ∙ c.in-Open.is)))
-
-pub status-requires : goal.status-requires
-status-requires g c = opener_fits c.args.self.now.sizes.1
-
-pub held_len-requires : goal.held_len-requires
-held_len-requires g c = opener_fits c.args.self.now.sizes.1

@@ -1,9 +1,34 @@
-use Rattle.std.proofs.Common.{rules}
-use Rattle.age_stream.proofs.SizeLemmas.{list_fits, sealer_state_fits}
+use Rattle.std.proofs.Common.{refl, ap}
+use Rattle.age_chunk.specs.ChunkBoxes.{text_length}
+use Rattle.age_stream.specs.Sealer.{sealer_view}
+use Rattle.age_stream.proofs.SealerLemmas.{payload_is}
 use Rattle.age_stream.proofs.sealer.Sealer.finish.Goals as goal
 
-pub close_text-requires : goal.close_text-requires
-close_text-requires g c = (sealer_state_fits c.self.inside.state.sizes.1, search rules)
-
-pub as_slice-requires : goal.as_slice-requires
-as_slice-requires g c = list_fits c.self.inside.state.sizes.1
+pub returns : goal.returns
+returns g c =
+    let e = c.in_ok-close.ensures in
+    let old = c.self.inside.state in
+    rw (← c.self.view_is, c.as_slice.ensures.value) (
+      (
+        refl,
+        λ _. tt,
+        record {
+          key = ap (λ k. k.now) e.last.key;
+          finished = e.last.ok.0;
+          unfailed = e.last.after.0;
+          index = e.last.after.1;
+          held = e.last.after.2;
+          refused = tt;
+          unfinished = tt;
+        },
+      ),
+      record {
+        after = tt;
+        finishes = record {
+          chunk = λ text held. payload_is g.B.ChunkBox.sealing (text_length g.row.SEALED) (sealer_view old) text _ held e.block;
+          fits = e.last.ok.1;
+          limit = old.limit;
+          refused = tt;
+        };
+      },
+    )
