@@ -22,11 +22,14 @@ text_le n text positive =
 pub last_chunk_le : (n : ℕ) (text : List ℕ) → 0 < n → length (last_chunk n text) ≤ n
 last_chunk_le n text positive = omega (arith, length-drop (last_index n text * n) text, text_le n text positive)
 
+pub enumerate_from-append : {X : Type 0} (k : ℕ) (xs ys : List X) → enumerate_from k (xs ++ ys) ≡ enumerate_from k xs ++ enumerate_from (k + length xs) ys
+enumerate_from-append k [] ys = let z : k ≡ k + 0 = omega arith in ap (λ (i : ℕ). enumerate_from i ys) z
+enumerate_from-append {X} k (x ∷ xs) ys =
+    let e : k + 1 + length xs ≡ k + suc (length xs) = omega arith in
+    ap (λ (rest : List (ℕ × X)). (k, x) ∷ rest) (enumerate_from-append (k + 1) xs ys ∙ ap (λ (i : ℕ). enumerate_from (k + 1) xs ++ enumerate_from i ys) e)
+
 pub enumerate_from_more : {X : Type 0} (k : ℕ) (xs : List X) (x : X) → enumerate_from k (xs ++ x ∷ []) ≡ enumerate_from k xs ++ (k + length xs, x) ∷ []
-enumerate_from_more k [] x = let z : k ≡ k + 0 = omega arith in ap (λ (i : ℕ). (i, x) ∷ []) z
-enumerate_from_more {X} k (y ∷ ys) x =
-    let e : k + 1 + length ys ≡ k + suc (length ys) = omega arith in
-    ap (λ (rest : List (ℕ × X)). (k, y) ∷ rest) (enumerate_from_more (k + 1) ys x ∙ ap (λ (i : ℕ). enumerate_from (k + 1) ys ++ (i, x) ∷ []) e)
+enumerate_from_more k xs x = enumerate_from-append k xs (x ∷ [])
 
 -- the pairs of a payload, by their numbers
 module _ (sealing : Seals) (n : ℕ) (text : List ℕ) where

@@ -132,7 +132,7 @@ module _ (opening : OpensBlock) where
 pub unended_piece : (s : Segment) (p : List ℕ) → s.ended ≡ false → with_piece s p ≡ record s { bytes = s.bytes ++ p; ended = false }
 unended_piece s p is = cond-false s.ended (record s { ended = true; late = s.late || nat_lt 0 (length p) }) (record s { bytes = s.bytes ++ p; ended = false }) is
 
-pub ended_piece : (s : Segment) (p : List ℕ) → s.ended ≡ true → with_piece s p ≡ record s { ended = true; late = s.late || nat_lt 0 (length p) }
+ended_piece : (s : Segment) (p : List ℕ) → s.ended ≡ true → with_piece s p ≡ record s { ended = true; late = s.late || nat_lt 0 (length p) }
 ended_piece s p is = cond-true s.ended (record s { ended = true; late = s.late || nat_lt 0 (length p) }) (record s { bytes = s.bytes ++ p; ended = false }) is
 
 -- one piece after another

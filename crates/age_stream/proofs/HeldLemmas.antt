@@ -1,10 +1,10 @@
 -- What is held after a list of deliveries, if what opens is the writer's; and when that is so.
-use Rattle.std.proofs.Common.{inl, inr, ◌≡◌, ℕ, ◌<◌, ◌≤◌, ◌+◌, ◌*◌, refl, ap, sym, subst, ◌∙◌, List, [], ◌∷◌, ◌++◌, length, take, drop, Bool, true, false, arith}
-use Rattle.std.specs.Prelude.{Option, Some, None, cond, min, nat_lt, nat_le, map}
+use Rattle.std.proofs.Common.{inl, inr, ◌≡◌, ℕ, ◌<◌, ◌≤◌, ◌+◌, ◌*◌, refl, ap, sym, subst, ◌∙◌, List, [], ◌∷◌, ◌++◌, length, take, drop, true, false, arith}
+use Rattle.std.specs.Prelude.{Option, Some, None, nat_lt, nat_le, map}
 use Rattle.std.specs.Borrow.{Bor}
 use Rattle.std.specs.List.{flat_map, AllByRecursion}
 use Rattle.std.proofs.lemmas.List.{take-append-le, append-nil, append_assoc, take_at, drop_at}
-use Rattle.std.proofs.lemmas.Bool.{ltb-true, leb-true, and_parts}
+use Rattle.std.proofs.lemmas.Bool.{cond-true, ltb-true, leb-true, and_parts}
 use Rattle.age_chunk.specs.ChunkBoxes.{IsChunkBox, OpensBlock, Seals, tag_length, clear_sealing, clear_opening, clear_mark}
 use Rattle.age_chunk.specs.Payload.{nonce_bytes, chunk_limit, chunk_count, payload, last_index, last_chunk}
 use Rattle.age_chunk.specs.inner.ClearLaw.{clear_valid}
@@ -41,14 +41,7 @@ module _ (opening : OpensBlock) (n : ℕ) where
       ∙ ap (λ (bs : List ℕ). record s { segment = open_at k bs }) (append_assoc bytes p.now (flat_map (λ (p : Bor (List ℕ)). p.now) ps))
 
   restart_segment : (s : Standing) (k : ℕ) → accepts opening n s k ≡ true → (after_delivery opening n s (Restart k)).segment ≡ fresh k
-  restart_segment s k sure =
-      ap (λ (b : Bool). (cond {A = Standing} b (record {
-        given_up = s.given_up ++ s.segment ∷ [];
-        base = take (k * n) (text_held opening n s);
-        segment = fresh k;
-        refused = s.refused;
-      })
-      (record { given_up = s.given_up; base = s.base; segment = s.segment; refused = min (s.refused + 1) 18446744073709551615 })).segment) sure
+  restart_segment s k sure = ap (λ (x : Standing). x.segment) (cond-true (accepts opening n s k) _ _ sure)
 
   starts_fresh : (sealing : Seals) (text : List ℕ) (front : List Delivery) (k : ℕ) → IsStart sealing opening n text k front → (standing opening n front).segment ≡ fresh k
   starts_fresh sealing text front k h =

@@ -34,10 +34,10 @@ pub released_grows : ReleasedGrows
 released_grows = growing.released_grows
 
 pub chunks_are_counted : ChunksAreCounted
-chunks_are_counted sealing opening valid n base s len = counting.is_counted sealing opening valid n base s len
+chunks_are_counted = counting.is_counted
 
 pub sealed_grows : SealedGrows
-sealed_grows sealing n text more positive = sealings.payload_begins n positive sealing text more
+sealed_grows = sealings.sealed_grows
 
 pub rest_is_authentic : RestIsAuthentic
 rest_is_authentic = held.rest_is_right
@@ -51,7 +51,7 @@ pub fresh_is_open : FreshIsOpen
 fresh_is_open = fresh_outcome
 
 pub released_is_written : ReleasedIsWritten
-released_is_written sealing opening valid n positive s = segment_right sealing opening valid n positive s
+released_is_written = segment_right
 
 -- ---- closed segments
 

@@ -16,8 +16,9 @@ use Rattle.age_stream.specs.inner.OpenerSteps.{OpenerAdvances, lending, end_of_o
 use Rattle.age_stream.specs.declared.opener.OpenerState.{OpenerState}
 use Rattle.age_stream.specs.declared.step.Status.{Status}
 use Rattle.age_stream.specs.declared.step.Status.TheVariants.{Open, LastSeen, Done, Failed}
-use Rattle.age_stream.proofs.GoingLemmas.{going, going_outcome, going_part, going_whole, going_end, after_piece, after_end, ended_piece, unended_piece}
+use Rattle.age_stream.proofs.GoingLemmas.{going, going_outcome, going_part, going_whole, going_end, after_piece, after_end}
 use Rattle.age_stream.proofs.GoingLemmas.{pieces_join, IsWhole}
+use Rattle.age_stream.proofs.SegmentLemmas.{by_test}
 use Rattle.age_stream.proofs.SegmentRightLemmas.{segment_right}
 use Rattle.age_stream.proofs.TableLemmas.{prepend, fault_after}
 
@@ -33,10 +34,9 @@ tried_last opening old new answer i block tried o closed same is =
 
 -- ---- A piece.
 
-piece_timely : (s : Segment) (ended : Bool) (p : List ℕ) → s.ended ≡ ended → (s.ended ≡ false → s.late ≡ false) → (with_piece s p).ended ≡ false
-    → (with_piece s p).late ≡ false
-piece_timely s false p is t h = ap (λ (x : Segment). x.late) (unended_piece s p is) ∙ t is
-piece_timely s true p is t h = let e = ap (λ (x : Segment). x.ended) (ended_piece s p is) in cc
+piece_timely : (s : Segment) (p : List ℕ) → (s.ended ≡ false → s.late ≡ false) → (with_piece s p).ended ≡ false → (with_piece s p).late ≡ false
+piece_timely s p timely =
+    by_test (λ (x : Segment). x.ended ≡ false → x.late ≡ false) s.ended _ _ (λ _ e. cc) (λ is _. timely is)
 
 failed_shut : (fault : StreamFault) → Failed fault ≡ Open → ⊥
 failed_shut fault e = cc
@@ -178,7 +178,7 @@ module _ {B : Type 0} {n : ℕ} {g : _} (sealing : B → Seals) (opening : B →
         record {
           stands = stands_at (with_piece s piece) (index ∙ (h.index ∙ ap (λ (o : Outcome). o.index) (sym p.same)))
               (status ∙ (h.status ∙ ap (λ (o : Outcome). o.status) (sym p.same)))
-              (λ _. held ∙ (ap (λ (bs : List ℕ). bs ++ piece) rest ∙ sym p.rest)) (piece_timely s s.ended piece refl h.timely);
+              (λ _. held ∙ (ap (λ (bs : List ℕ). bs ++ piece) rest ∙ sym p.rest)) (piece_timely s piece h.timely);
           texts_are = ap (λ (o : Outcome). o.texts) p.same ∙ sym (append-nil (out s).texts);
         })
 
@@ -217,7 +217,7 @@ module _ {B : Type 0} {n : ℕ} {g : _} (sealing : B → Seals) (opening : B →
           let gain = gained s h in
           let f : Follows s (with_piece s front) (chunk ∷ []) = record {
             stands = stands_at (with_piece s front) (t.index ∙ ap (λ (o : Outcome). o.index) (sym gain)) (t.status ∙ ap (λ (o : Outcome). o.status) (sym gain))
-                (λ _. held ∙ sym (whole s h).rest) (piece_timely s s.ended front refl h.timely);
+                (λ _. held ∙ sym (whole s h).rest) (piece_timely s front h.timely);
             texts_are = ap (λ (o : Outcome). o.texts) gain ∙ ap (λ (ts : List (List ℕ)). (out s).texts ++ ts) (t.answered.3 ∙ ap (λ (x : List ℕ). x ∷ []) (sym is));
           } in f in
           record {
@@ -255,12 +255,12 @@ module _ {B : Type 0} {n : ℕ} {g : _} (sealing : B → Seals) (opening : B →
           let gain = gained s h in
           let mid = with_piece s front in
           let failed_mid : (out mid).status ≡ Failed fault = ap (λ (o : Outcome). o.status) gain ∙ (sym t.status ∙ t.answered.0) in
-          let timely = piece_timely s s.ended front refl h.timely in
+          let timely = piece_timely s front h.timely in
           let more = after_piece op m mid behind timely (λ o. cc) in
           let stays = ap (λ (o : Outcome). o.status) more ∙ (ap (status_after (nat_lt 0 (length behind)) (out mid).index) failed_mid ∙ fault_after (nat_lt 0 (length behind)) (out mid).index fault) in
           let f : Follows s (with_piece mid behind) [] = record {
             stands = stands_at (with_piece mid behind) (t.index ∙ (ap (λ (o : Outcome). o.index) (sym gain) ∙ ap (λ (o : Outcome). o.index) (sym more))) (t.answered.0 ∙ sym stays)
-                (λ o. cc) (piece_timely mid mid.ended behind refl timely);
+                (λ o. cc) (piece_timely mid behind timely);
             texts_are = ap (λ (o : Outcome). o.texts) more ∙ (ap (λ (o : Outcome). o.texts) gain ∙ ap (λ (ts : List (List ℕ)). (out s).texts ++ ts) t.answered.1);
           } in
           subst (λ (x : Segment). Follows s x []) (pieces_join s front behind ∙ ap (with_piece s) (take-append-drop room piece)) f)
@@ -276,7 +276,7 @@ module _ {B : Type 0} {n : ℕ} {g : _} (sealing : B → Seals) (opening : B →
           record {
             stands = stands_at (with_piece s piece) (index ∙ (h.index ∙ ap (λ (o : Outcome). o.index) (sym more)))
                 (status ∙ (ap (λ (i : ℕ). status_after some i old.status) h.index ∙ (ap (status_after some (out s).index) h.status ∙ ap (λ (o : Outcome). o.status) (sym more))))
-                (λ o. absurd (still o)) (piece_timely s s.ended piece refl h.timely);
+                (λ o. absurd (still o)) (piece_timely s piece h.timely);
             texts_are = ap (λ (o : Outcome). o.texts) more ∙ sym (append-nil (out s).texts);
           }
 

@@ -1,12 +1,12 @@
 -- A step of a replay: where it leads, and how much room it needs.
-use Rattle.std.proofs.Common.{inl, inr, ◌≡◌, ℕ, ◌<◌, ◌≤◌, ◌+◌, ◌*◌, ◌-◌, ◌/◌, refl, ap, sym, subst, ◌∙◌, List, [], ◌∷◌, ◌++◌, length, take, drop, get_or, Bool}
+use Rattle.std.proofs.Common.{inl, inr, ◌≡◌, ℕ, ◌<◌, ◌≤◌, ◌+◌, ◌*◌, ◌-◌, ◌/◌, refl, ap, sym, subst, ◌∙◌, List, [], ◌∷◌, ◌++◌, length, take, drop, get_or}
 use Rattle.std.proofs.Common.{true, false, arith}
-use Rattle.std.specs.Prelude.{Result, Ok, Err, OnErr, Option, Some, None, IfSome, IfNone, min, nat_lt, nat_le, ◌&&◌, if◌then◌else◌}
+use Rattle.std.specs.Prelude.{Result, Ok, Err, OnErr, Option, Some, None, IfSome, IfNone, min, nat_lt, nat_le, ◌&&◌}
 use Rattle.std.specs.List.{flat_map}
 use Rattle.std.specs.Borrow.{Bor}
 use Rattle.std.proofs.lemmas.Grind.{flat_map-append}
 use Rattle.std.proofs.lemmas.List.{append-nil, append_assoc, length-append, length-drop, take-append-drop, take_more}
-use Rattle.std.proofs.lemmas.Bool.{cases_lt}
+use Rattle.std.proofs.lemmas.Bool.{cases_lt, cond-true, cond-false}
 use Rattle.std.proofs.Math.Nat.{add-mul-div_left, div-mul-le_self}
 use Rattle.age_chunk.specs.ChunkBoxes.{IsChunkBox, OpensBlock, Seals, tag_length, text_length}
 use Rattle.age_chunk.specs.Payload.{chunk_limit}
@@ -68,15 +68,9 @@ module _ {B : Type 0} (opening : B → OpensBlock) (n : ℕ) (old new : ReplayVi
       held_step s (with_piece s.segment piece) (flat_map (λ (t : List ℕ). t) ts) h key okey refused stands
       (ap (flat_map (λ (t : List ℕ). t)) texts ∙ flat_map-append (λ (t : List ℕ). t) (outcome (opening old.opener.key) n s.segment).texts ts) text
 
-  -- a restart, by whether it is accepted
-  restarts : (s : Standing) (k : ℕ) (sure : Bool) → IsReplayAt opening n old s → (nat_lt k chunk_limit && nat_le (k * n) (length old.text)) ≡ sure
-      → after_delivery (opening old.key) n s (Restart k)
-      ≡ (if sure then record s { given_up = s.given_up ++ s.segment ∷ []; base = take (k * n) (text_held (opening old.key) n s); segment = fresh k }
-      else record s { refused = min (s.refused + 1) 18446744073709551615 })
-  restarts s k sure h is =
-      ap (λ (b : Bool). if b then record s { given_up = s.given_up ++ s.segment ∷ []; base = take (k * n) (text_held (opening old.key) n s); segment = fresh k }
-      else record s { refused = min (s.refused + 1) 18446744073709551615 })
-      (ap (λ (t : List ℕ). nat_lt k chunk_limit && nat_le (k * n) (length t)) (sym h.text) ∙ is)
+  -- a restart is accepted if the text that is held reaches it
+  reached : (s : Standing) (k : ℕ) → IsReplayAt opening n old s → accepts (opening old.key) n s k ≡ (nat_lt k chunk_limit && nat_le (k * n) (length old.text))
+  reached s k h = ap (λ (t : List ℕ). nat_lt k chunk_limit && nat_le (k * n) (length t)) (sym h.text)
 
   pub restart_step : (s : Standing) (k : ℕ) → IsReplayAt opening n old s → new.key ≡ old.key
       → (nat_lt k chunk_limit && nat_le (k * n) (length old.text)) ≡ true
@@ -87,7 +81,7 @@ module _ {B : Type 0} (opening : B → OpensBlock) (n : ℕ) (old new : ReplayVi
       let base = take (k * n) (text_held op n s) in
       let next : Standing = record { given_up = s.given_up ++ s.segment ∷ []; base = base; segment = fresh k; refused = s.refused } in
       let held : text_held op n next ≡ base = ap (λ (o : Outcome). base ++ flat_map (λ (t : List ℕ). t) o.texts) (fresh_outcome op n k) ∙ append-nil base in
-      subst (IsReplayAt opening n new) (sym (restarts s k true h sure)) (record {
+      subst (IsReplayAt opening n new) (sym (cond-true (accepts op n s k) _ _ (reached s k h ∙ sure))) (record {
         key = okey ∙ sym key;
         segment = stands;
         text = text ∙ (ap (take (k * n)) h.text ∙ (sym held ∙ ap (λ k. text_held (opening k) n next) (sym key)));
@@ -97,12 +91,13 @@ module _ {B : Type 0} (opening : B → OpensBlock) (n : ℕ) (old new : ReplayVi
   pub refused_step : (s : Standing) (k : ℕ) → IsReplayAt opening n old s → new.key ≡ old.key
       → (nat_lt k chunk_limit && nat_le (k * n) (length old.text)) ≡ false → new.opener ≡ old.opener → new.text ≡ old.text
       → new.refused ≡ min (old.refused + 1) 18446744073709551615 → IsReplayAt opening n new (after_delivery (opening old.key) n s (Restart k))
-  refused_step s k h key sure same text refused = subst (IsReplayAt opening n new) (sym (restarts s k false h sure)) (record {
-    key = ap (λ o. o.key) same ∙ (h.key ∙ sym key);
-    segment = subst (λ o. Stands opening n o s.segment) (sym same) h.segment;
-    text = text ∙ (h.text ∙ ap (λ k. text_held (opening k) n s) (sym key));
-    refused = refused ∙ ap (λ (r : ℕ). min (r + 1) 18446744073709551615) h.refused;
-  })
+  refused_step s k h key sure same text refused = subst (IsReplayAt opening n new)
+      (sym (cond-false (accepts (opening old.key) n s k) _ _ (reached s k h ∙ sure))) (record {
+        key = ap (λ o. o.key) same ∙ (h.key ∙ sym key);
+        segment = subst (λ o. Stands opening n o s.segment) (sym same) h.segment;
+        text = text ∙ (h.text ∙ ap (λ k. text_held (opening k) n s) (sym key));
+        refused = refused ∙ ap (λ (r : ℕ). min (r + 1) 18446744073709551615) h.refused;
+      })
 
   -- one delivery more
   pub replays_more : new.key ≡ old.key → (ds : List Delivery) (d : Delivery) → Replays opening n old ds

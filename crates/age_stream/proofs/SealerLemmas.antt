@@ -4,7 +4,7 @@ use Rattle.std.proofs.Common.{take-append-drop, arith}
 use Rattle.std.specs.Prelude.{Option, Some, None, Result, Ok, Err, IfSome}
 use Rattle.std.specs.Borrow.{Bor}
 use Rattle.std.proofs.lemmas.Bool.Decides.{nat_tests}
-use Rattle.std.proofs.lemmas.List.{append-nil, length-append, length-take, take_rest, take-append-le, take_all}
+use Rattle.std.proofs.lemmas.List.{append-nil, length-append, length-take, take_at, take_rest}
 use Rattle.std.proofs.lemmas.Grind.{flat_map-append}
 use Rattle.age_chunk.specs.ChunkBoxes.{IsChunkBox, OpensBlock, Seals, tag_length, text_length}
 use Rattle.age_chunk.specs.Payload.{nonce_bytes, chunk_count, last_index, last_chunk, sealed_before_last, block_bytes, pair, payload}
@@ -126,22 +126,15 @@ module _ {B : Type 0} {n : ℕ} {g : _} (sealing : B → Seals) (old new : Seale
 
 -- ---- A block that is sealed in place.
 
-first_bytes : (n : ℕ) (xs ys : List ℕ) → length xs ≡ n → take n (xs ++ ys) ≡ xs
-first_bytes n xs ys len =
-    let le : n ≤ length xs = omega (arith, len) in
-    take-append-le n xs ys le ∙ take_all n xs (omega (arith, len))
-
--- a buffer that was filled again with as many bytes has those
-refilled : (n : ℕ) (old new : List ℕ) → length new ≡ n → refill n old new ≡ new
-refilled n old new len = first_bytes n new (drop (length new) old) len
-
 pub sealed_in : (sealing : Seals) (given nonce lent block text tag new : List ℕ) → given ≡ nonce → lent ≡ block → block ≡ text ++ tag
     → length tag ≡ tag_length → length new ≡ length block → new ≡ sealing given (take (text_length (length lent)) lent) → refill (length block) block new ≡ sealing nonce text
 sealed_in sealing given nonce lent block text tag new same is parts tag_len len h =
     let all : lent ≡ text ++ tag = is ∙ parts in
     let size : length text ≡ text_length (length lent) = omega (arith, ap length all, length-append text tag, tag_len) in
-    let is_text : take (text_length (length lent)) lent ≡ text = ap (take (text_length (length lent))) all ∙ first_bytes (text_length (length lent)) text tag size in
-    cc (h, same, is_text, refilled (length block) block new len)
+    let is_text : take (text_length (length lent)) lent ≡ text = ap (take (text_length (length lent))) all ∙ take_at text tag (text_length (length lent)) size in
+    -- a buffer that was filled again with as many bytes has those
+    let refilled : refill (length block) block new ≡ new = take_at new (drop (length new) block) (length block) len in
+    cc (h, same, is_text, refilled)
 
 -- ---- A whole text.
 

@@ -1,6 +1,4 @@
 //! The buffer in which a block is sealed or opened.
-#![tactic(auto, using(crate::proofs::SizeLemmas::list_fits))]
-
 ghost use Rattle.std.specs.Prelude.{◌≡◌, ◌+◌, ◌≤◌, ◌++◌, length};
 ghost use Rattle.age_chunk.specs.Payload.{block_length};
 

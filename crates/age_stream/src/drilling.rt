@@ -1,6 +1,4 @@
 //! Whole lists of deliveries.
-#![tactic(auto, using(crate::proofs::SizeLemmas::replay_fits))]
-
 ghost use Rattle.std.specs.Prelude.{◌<◌, ◌≤◌, length, IfOk, OnErr};
 ghost use Rattle.std.specs.List.{flat_map};
 ghost use Rattle.age_stream.specs.Replay.{IsHeldAfter, bytes_in};

@@ -1,6 +1,4 @@
 //! The reader's side: sealed chunks in, text out.
-#![tactic(auto, using(crate::proofs::SizeLemmas::list_fits, crate::proofs::SizeLemmas::opener_state_fits))]
-
 ghost use Rattle.std.specs.Prelude.{◌≡◌, ◌≢◌, ◌+◌, ◌-◌, ◌<◌, ◌≤◌, [], length, take, IfOk, Some};
 ghost use Rattle.std.specs.Prelude.{None, true, false, if◌then◌else◌, nat_lt, ◌==◌, ◌&&◌};
 ghost use Rattle.std.specs.Bool.{OnTrue, OnFalse};

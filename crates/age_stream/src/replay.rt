@@ -1,6 +1,4 @@
 //! What a reader holds, under any deliveries.
-#![tactic(auto, using(crate::proofs::SizeLemmas::opener_fits, crate::proofs::SizeLemmas::replay_state_fits, crate::proofs::SizeLemmas::replay_fits))]
-
 ghost use Rattle.std.specs.Prelude.{◌≡◌, ◌+◌, ◌*◌, ◌^◌, ◌<◌, ◌≤◌, [], ◌++◌, length};
 ghost use Rattle.std.specs.Prelude.{OnOk, OnErr, vec_len, vec_capacity, nat_lt, nat_le, ◌&&◌};
 ghost use Rattle.std.specs.Bool.{OnTrue};

@@ -1,6 +1,4 @@
 //! The writer's side: text in, sealed chunks out.
-#![tactic(auto, using(crate::proofs::SizeLemmas::list_fits, crate::proofs::SizeLemmas::sealer_state_fits))]
-
 ghost use Rattle.std.specs.Prelude.{◌≡◌, ◌+◌, ◌<◌, ◌≤◌, [], length, OnOk, None, IsNone, true};
 ghost use Rattle.std.specs.Prelude.{false};
 ghost use Rattle.std.specs.Borrow.{sem};

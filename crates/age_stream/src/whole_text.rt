@@ -1,6 +1,4 @@
 //! A caller of the sealer: it feeds a text, and copies out the blocks that are lent.
-#![tactic(auto, using(crate::proofs::SizeLemmas::sealer_fits))]
-
 ghost use Rattle.std.specs.Prelude.{◌≡◌, ◌-◌, ◌≤◌, ◌<◌, ◌+◌, ◌*◌, ◌/◌, ◌^◌, length, IfSome, IfNone};
 ghost use Rattle.std.specs.Prelude.{vec_capacity};
 ghost use Rattle.age_chunk.specs.Payload.{chunk_count, block_length};
