@@ -159,11 +159,6 @@ pub nothing : (start : ℕ) (bytes : List ℕ) (ended late : Bool) → with_piec
 nothing start bytes true late = ap (λ (l : Bool). record { start = start; bytes = bytes; ended = true; late = l }) (or-false late)
 nothing start bytes false late = ap (λ (b : List ℕ). record { start = start; bytes = b; ended = false; late = late }) (append-nil bytes)
 
-waits_if : (whole ended : Bool) → whole ≡ false → ended ≡ false → (not whole && not ended) ≡ true
-waits_if true ended w e = cc
-waits_if false true w e = cc
-waits_if false false w e = refl
-
 whole_if : (whole ended : Bool) → (not whole && not ended) ≡ false → ended ≡ false → whole ≡ true
 whole_if true ended h e = refl
 whole_if false true h e = cc
@@ -266,7 +261,8 @@ module _ (opening : OpensBlock) (n : ℕ) where
   going_outcome s g =
       let b = stop opening n s in
       outcome_is opening n s
-      ∙ line_waiting opening b (waits_if b.whole b.ended (not_whole n s (length b.texts) (g.all ∙ length-whole_blocks n s)) g.unended)
+      ∙ line_waiting opening b
+      (ap (λ (whole : Bool). not whole && not b.ended) (not_whole n s (length b.texts) (g.all ∙ length-whole_blocks n s)) ∙ ap not g.unended)
 
   -- an end of it
   pub going_end : (s : Segment) → IsGoing s → s.late ≡ false

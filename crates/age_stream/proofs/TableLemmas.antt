@@ -3,7 +3,7 @@ use Rattle.std.proofs.Common.{inl, inr, ◌≡◌, ◌≢◌, ℕ, zero, suc, �
 use Rattle.std.proofs.Common.{Bool, true, false, arith}
 use Rattle.std.specs.Prelude.{Option, Some, None, is_some, is_none, cond, nat_lt, not, ◌||◌, ◌&&◌, ◌==◌, slice_get}
 use Rattle.std.proofs.lemmas.List.{append-nil, length-drop, length-take, take_all}
-use Rattle.std.proofs.lemmas.Bool.{cases_lt, cond_both, cond-true, cond-false, both_ways, le-ltb, eq-eqb, ne_eqb, and_left, and_from, not_from_true}
+use Rattle.std.proofs.lemmas.Bool.{cases_lt, cond-true, cond-false, both_ways, le-ltb, eq-eqb, ne_eqb, and_left, and_from, not_from_true}
 use Rattle.std.proofs.lemmas.Option.{slice_get-get_or, slice_get_past}
 use Rattle.std.proofs.Math.Nat.{le-div_iff_mul-le}
 use Rattle.age_chunk.specs.ChunkBoxes.{OpensBlock, tag_length}
@@ -62,30 +62,6 @@ module _ (opening : OpensBlock) where
   lines_are b None = refl
   lines_are b (Some text) = out_of (λ (s : Status). record { texts = b.texts ++ text ∷ []; index = b.index; status = s }) b.followed b.ended _ _ _
 
-  -- what holds at each line holds of the outcome
-  pub by_lines : (P : Outcome → Type 0) (b : Frontier) → (is_waiting b ≡ true → P (stays b Open))
-      → ((kind : StreamKind) → kind ≢ ChunkDamaged → kind ≢ TooManyChunks → P (stays b (failed kind b.index)))
-      → ((text : List ℕ) → b.whole ≡ true → opening (nonce_bytes b.index false) b.block ≡ Some text → P (stays b (failed TooManyChunks b.index)))
-      → (is_tried b ≡ true → (b.whole ≡ true → opening (nonce_bytes b.index false) b.block ≡ None) → opening (nonce_bytes b.index true) b.block ≡ None
-      → P (last_of b None))
-      → ((text : List ℕ) → is_tried b ≡ true → opening (nonce_bytes b.index true) b.block ≡ Some text → P (last_of b (Some text)))
-      → P (verdict opening b)
-  by_lines P b waiting fault many shut opened =
-      cond_both (is_waiting b) _ _ P waiting (λ unwaiting.
-      cond_both (is_missing b) _ _ P (λ _. fault Truncated (λ e. cc) (λ e. cc)) (λ _.
-      cond_both (is_cut b) _ _ P (λ _. fault ChunkCut (λ e. cc) (λ e. cc)) (λ uncut.
-      cond_both (is_empty_last b) _ _ P (λ _. fault EmptyLast (λ e. cc) (λ e. cc)) (λ later.
-      cond_both (is_too_many opening b) _ _ P
-      (λ t. let some = too_many_text b.whole (opening (nonce_bytes b.index false) b.block) t in many some.1.0 some.0 some.1.1) (λ few.
-      subst P (sym (lines_are b (opening (nonce_bytes b.index true) b.block)))
-      (at_last (opening (nonce_bytes b.index true) b.block) (tried_if (is_waiting b) (is_cut b) (is_empty_last b) unwaiting uncut later)
-      (not_too_many b.whole (opening (nonce_bytes b.index false) b.block) few) refl))))))
-    where
-      at_last : (o : Option (List ℕ)) → is_tried b ≡ true → (b.whole ≡ true → opening (nonce_bytes b.index false) b.block ≡ None)
-          → opening (nonce_bytes b.index true) b.block ≡ o → P (last_of b o)
-      at_last None tried before e = shut tried before e
-      at_last (Some text) tried before e = opened text tried e
-
   pub line_waiting : (b : Frontier) → is_waiting b ≡ true → verdict opening b ≡ stays b Open
   line_waiting b e = cond-true (is_waiting b) _ _ e
 
@@ -131,29 +107,46 @@ module _ (opening other : OpensBlock) (b : Frontier) (texts : List (List ℕ)) (
 
   -- a relation that holds between their lines holds between their outcomes
   pub by_both : (R : Outcome → Outcome → Type 0) → is_waiting b ≡ is_waiting beside → (is_waiting b ≡ true → R (stays b Open) (stays beside Open))
-      → ((fault : StreamFault) → R (stays b (Failed fault)) (stays beside (Failed fault)))
+      → ((kind : StreamKind) → kind ≢ ChunkDamaged → kind ≢ TooManyChunks → R (stays b (failed kind b.index)) (stays beside (failed kind b.index)))
+      → ((text : List ℕ) → b.whole ≡ true → opening (nonce_bytes b.index false) b.block ≡ Some text
+      → R (stays b (failed TooManyChunks b.index)) (stays beside (failed TooManyChunks b.index)))
       → (b.whole ≡ true → opening (nonce_bytes b.index false) b.block ≡ other (nonce_bytes b.index false) b.block)
       → (is_tried b ≡ true → opening (nonce_bytes b.index true) b.block ≡ other (nonce_bytes b.index true) b.block)
-      → ((text : List ℕ) → R (last_of b (Some text)) (last_of beside (Some text))) → R (verdict opening b) (verdict other beside)
-  by_both R waits waiting fault before last opened =
+      → (is_tried b ≡ true → (b.whole ≡ true → opening (nonce_bytes b.index false) b.block ≡ None) → there ≡ None → R (last_of b None) (last_of beside None))
+      → ((text : List ℕ) → is_tried b ≡ true → there ≡ Some text → R (last_of b (Some text)) (last_of beside (Some text))) → R (verdict opening b) (verdict other beside)
+  by_both R waits waiting fault many before last shut opened =
       by_step R (is_waiting b) (is_waiting beside) _ _ _ _ waits waiting (λ unwaiting.
-      by_step R (is_missing b) (is_missing b) _ _ _ _ refl (λ _. fault _) (λ _.
-      by_step R (is_cut b) (is_cut b) _ _ _ _ refl (λ _. fault _) (λ uncut.
-      by_step R (is_empty_last b) (is_empty_last b) _ _ _ _ refl (λ _. fault _) (λ later.
-      by_step R (is_too_many opening b) (is_too_many other beside) _ _ _ _ (many b.whole before) (λ _. fault _) (λ _.
+      by_step R (is_missing b) (is_missing b) _ _ _ _ refl (λ _. fault Truncated (λ e. cc) (λ e. cc)) (λ _.
+      by_step R (is_cut b) (is_cut b) _ _ _ _ refl (λ _. fault ChunkCut (λ e. cc) (λ e. cc)) (λ uncut.
+      by_step R (is_empty_last b) (is_empty_last b) _ _ _ _ refl (λ _. fault EmptyLast (λ e. cc) (λ e. cc)) (λ later.
+      by_step R (is_too_many opening b) (is_too_many other beside) _ _ _ _ (same_many b.whole before)
+      (λ t. let some = too_many_text b.whole (opening (nonce_bytes b.index false) b.block) t in many some.1.0 some.0 some.1.1) (λ few.
+      let tried = tried_if (is_waiting b) (is_cut b) (is_empty_last b) unwaiting uncut later in
       subst (λ (o : Outcome). R o (lines_of other beside (other (nonce_bytes b.index true) b.block))) (sym (lines_are opening b there))
       (subst (R (last_of b there)) (sym (lines_are other beside (other (nonce_bytes b.index true) b.block)))
-      (subst (λ (o : Option (List ℕ)). R (last_of b there) (last_of beside o))
-      (last (tried_if (is_waiting b) (is_cut b) (is_empty_last b) unwaiting uncut later)) (at_last there))))))))
+      (subst (λ (o : Option (List ℕ)). R (last_of b there) (last_of beside o)) (last tried)
+      (at_last there tried (not_too_many b.whole (opening (nonce_bytes b.index false) b.block) few) refl))))))))
     where
-      many : (whole : Bool) → (whole ≡ true → opening (nonce_bytes b.index false) b.block ≡ other (nonce_bytes b.index false) b.block)
+      same_many : (whole : Bool) → (whole ≡ true → opening (nonce_bytes b.index false) b.block ≡ other (nonce_bytes b.index false) b.block)
           → (whole && is_some (opening (nonce_bytes b.index false) b.block)) ≡ (whole && is_some (other (nonce_bytes b.index false) b.block))
-      many true h = ap is_some (h refl)
-      many false h = refl
+      same_many true h = ap is_some (h refl)
+      same_many false h = refl
 
-      at_last : (o : Option (List ℕ)) → R (last_of b o) (last_of beside o)
-      at_last None = fault _
-      at_last (Some text) = opened text
+      at_last : (o : Option (List ℕ)) → is_tried b ≡ true → (b.whole ≡ true → opening (nonce_bytes b.index false) b.block ≡ None) → there ≡ o
+          → R (last_of b o) (last_of beside o)
+      at_last None tried before e = shut tried before e
+      at_last (Some text) tried before e = opened text tried e
+
+-- what holds at each line holds of the outcome
+pub by_lines : (opening : OpensBlock) (P : Outcome → Type 0) (b : Frontier) → (is_waiting b ≡ true → P (stays b Open))
+    → ((kind : StreamKind) → kind ≢ ChunkDamaged → kind ≢ TooManyChunks → P (stays b (failed kind b.index)))
+    → ((text : List ℕ) → b.whole ≡ true → opening (nonce_bytes b.index false) b.block ≡ Some text → P (stays b (failed TooManyChunks b.index)))
+    → (is_tried b ≡ true → (b.whole ≡ true → opening (nonce_bytes b.index false) b.block ≡ None) → opening (nonce_bytes b.index true) b.block ≡ None
+    → P (last_of b None))
+    → ((text : List ℕ) → is_tried b ≡ true → opening (nonce_bytes b.index true) b.block ≡ Some text → P (last_of b (Some text)))
+    → P (verdict opening b)
+by_lines opening P b waiting fault many shut opened =
+    by_both opening opening b b.texts b.followed b.ended (λ o _. P o) refl waiting fault many (λ _. refl) (λ _. refl) shut opened
 
 -- the texts before, and then an outcome's
 abbrev pub prepend : List (List ℕ) → Outcome → Outcome
@@ -194,8 +187,9 @@ module _ (opening : OpensBlock) (b : Frontier) where
   verdict-prepend texts none =
       let still : (status : Status) → stays (beside opening opening b texts b.followed b.ended) status ≡ prepend texts (stays b status) =
       λ status. ap (λ (ts : List (List ℕ)). record { texts = ts; index = b.index; status = status }) (sym (append-nil texts) ∙ ap (λ (ts : List (List ℕ)). texts ++ ts) (sym none)) in
-      by_both opening opening b texts b.followed b.ended (λ x y. y ≡ prepend texts x) refl (λ _. still Open) (λ fault. still (Failed fault)) (λ _. refl) (λ _. refl)
-      (λ text. ap (λ (ts : List (List ℕ)). record { texts = texts ++ (ts ++ text ∷ []); index = b.index; status = last_status b.followed b.ended b.index }) (sym none))
+      by_both opening opening b texts b.followed b.ended (λ x y. y ≡ prepend texts x) refl (λ _. still Open) (λ kind _ _. still (failed kind b.index))
+      (λ _ _ _. still (failed TooManyChunks b.index)) (λ _. refl) (λ _. refl) (λ _ _ _. still (failed ChunkDamaged b.index))
+      (λ text _ _. ap (λ (ts : List (List ℕ)). record { texts = texts ++ (ts ++ text ∷ []); index = b.index; status = last_status b.followed b.ended b.index }) (sym none))
 
   -- once more came
   pub verdict-after : (f : ℕ → Status → Status) (followed ended : Bool) → is_waiting b ≡ false → (not b.whole && not ended) ≡ false
@@ -203,9 +197,10 @@ module _ (opening : OpensBlock) (b : Frontier) where
       → ((i : ℕ) → last_status followed ended i ≡ f i (last_status b.followed b.ended i))
       → verdict opening (beside opening opening b b.texts followed ended) ≡ after f (verdict opening b)
   verdict-after f followed ended unwaiting still fault last =
+      let kept = λ (kind : StreamKind). ap (stays b) (sym (fault b.index (record { kind = kind; chunk = b.index }))) in
       by_both opening opening b b.texts followed ended (λ x y. y ≡ after f x) (unwaiting ∙ sym still) (λ waiting. absurd (both_ways (is_waiting b) unwaiting waiting))
-      (λ e. ap (stays b) (sym (fault b.index e))) (λ _. refl) (λ _. refl)
-      (λ text. ap (λ (s : Status). record { texts = b.texts ++ text ∷ []; index = b.index; status = s }) (last b.index))
+      (λ kind _ _. kept kind) (λ _ _ _. kept TooManyChunks) (λ _. refl) (λ _. refl) (λ _ _ _. kept ChunkDamaged)
+      (λ text _ _. ap (λ (s : Status). record { texts = b.texts ++ text ∷ []; index = b.index; status = s }) (last b.index))
 
 -- ---- Where a segment stands.
 
