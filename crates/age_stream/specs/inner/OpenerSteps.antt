@@ -95,7 +95,8 @@ module _ {B : Type 0} {n : ℕ} {g : _} where
         × (outcome.texts ≡ take (text_length n) new.buffer.items ∷ []))
         (λ fault. (new.status ≡ Failed fault) × (outcome.texts ≡ []))
 
-  -- what `take_closed` does with a piece: Ok comes only for an empty one, and only if no call before was refused
+  -- what `take_closed` does with a piece: Ok comes only for an empty one, and only if no call
+  -- before was refused
   pub record TakesNone (old : OpenerState B n g) (piece : List ℕ)
       (answer : Result (ℕ × Bool) StreamFault) (new : OpenerState B n g) : Type 0 where
     pub key : new.key ≡ old.key
