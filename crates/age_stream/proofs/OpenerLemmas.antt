@@ -11,7 +11,8 @@ use Rattle.age_chunk.specs.declared.fault.StreamFault.{StreamFault}
 use Rattle.age_stream.specs.Segment.{Segment, Outcome, outcome, released, rest_bytes, with_piece, with_end, unless_greatest}
 use Rattle.age_stream.specs.Headline.{ReleasesWritten}
 use Rattle.age_stream.specs.Opener.{Stands, IsEnded, Ends, has_failed, held_bytes, opener_view}
-use Rattle.age_stream.specs.inner.OpenerSteps.{one_block, final_block, status_after, status_ended, front_bytes, IsTried, TakesNone, OpenerEndsAs, after_front, at_block, after_last}
+use Rattle.age_stream.specs.inner.OpenerSteps.{one_block, final_block, status_after, status_ended, front_bytes, IsTried, TakesNone, OpenerEndsAs, after_front}
+use Rattle.age_stream.specs.inner.OpenerSteps.{at_block, after_last}
 use Rattle.age_stream.specs.inner.OpenerSteps.{OpenerAdvances, lending, end_of_open, end_of_closed}
 use Rattle.age_stream.specs.declared.opener.OpenerState.{OpenerState}
 use Rattle.age_stream.specs.declared.step.Status.{Status}
@@ -218,7 +219,8 @@ module _ {B : Type 0} {n : ℕ} {g : _} (sealing : B → Seals) (opening : B →
           let f : Follows s (with_piece s front) (chunk ∷ []) = record {
             stands = stands_at (with_piece s front) (t.index ∙ ap (λ (o : Outcome). o.index) (sym gain)) (t.status ∙ ap (λ (o : Outcome). o.status) (sym gain))
                 (λ _. held ∙ sym (whole s h).rest) (piece_timely s front h.timely);
-            texts_are = ap (λ (o : Outcome). o.texts) gain ∙ ap (λ (ts : List (List ℕ)). (out s).texts ++ ts) (t.answered.3 ∙ ap (λ (x : List ℕ). x ∷ []) (sym is));
+            texts_are = ap (λ (o : Outcome). o.texts) gain
+                ∙ ap (λ (ts : List (List ℕ)). (out s).texts ++ ts) (t.answered.3 ∙ ap (λ (x : List ℕ). x ∷ []) (sym is));
           } in f in
           record {
             fed = λ chunk is. record {
@@ -257,10 +259,11 @@ module _ {B : Type 0} {n : ℕ} {g : _} (sealing : B → Seals) (opening : B →
           let failed_mid : (out mid).status ≡ Failed fault = ap (λ (o : Outcome). o.status) gain ∙ (sym t.status ∙ t.answered.0) in
           let timely = piece_timely s front h.timely in
           let more = after_piece op m mid behind timely (λ o. cc) in
-          let stays = ap (λ (o : Outcome). o.status) more ∙ (ap (status_after (nat_lt 0 (length behind)) (out mid).index) failed_mid ∙ fault_after (nat_lt 0 (length behind)) (out mid).index fault) in
+          let some = nat_lt 0 (length behind) in
+          let stays = ap (λ (o : Outcome). o.status) more ∙ (ap (status_after some (out mid).index) failed_mid ∙ fault_after some (out mid).index fault) in
           let f : Follows s (with_piece mid behind) [] = record {
-            stands = stands_at (with_piece mid behind) (t.index ∙ (ap (λ (o : Outcome). o.index) (sym gain) ∙ ap (λ (o : Outcome). o.index) (sym more))) (t.answered.0 ∙ sym stays)
-                (λ o. cc) (piece_timely mid behind timely);
+            stands = stands_at (with_piece mid behind) (t.index ∙ ap (λ (o : Outcome). o.index) (sym gain) ∙ ap (λ (o : Outcome). o.index) (sym more))
+                (t.answered.0 ∙ sym stays) (λ o. cc) (piece_timely mid behind timely);
             texts_are = ap (λ (o : Outcome). o.texts) more ∙ (ap (λ (o : Outcome). o.texts) gain ∙ ap (λ (ts : List (List ℕ)). (out s).texts ++ ts) t.answered.1);
           } in
           subst (λ (x : Segment). Follows s x []) (pieces_join s front behind ∙ ap (with_piece s) (take-append-drop room piece)) f)
@@ -275,7 +278,8 @@ module _ {B : Type 0} {n : ℕ} {g : _} (sealing : B → Seals) (opening : B →
           let more = after_piece (opening old.key.now) (text_length n) s piece h.timely (λ o. shut (h.status ∙ o)) in
           record {
             stands = stands_at (with_piece s piece) (index ∙ (h.index ∙ ap (λ (o : Outcome). o.index) (sym more)))
-                (status ∙ (ap (λ (i : ℕ). status_after some i old.status) h.index ∙ (ap (status_after some (out s).index) h.status ∙ ap (λ (o : Outcome). o.status) (sym more))))
+                (status ∙ (ap (λ (i : ℕ). status_after some i old.status) h.index
+                ∙ (ap (status_after some (out s).index) h.status ∙ ap (λ (o : Outcome). o.status) (sym more))))
                 (λ o. absurd (still o)) (piece_timely s piece h.timely);
             texts_are = ap (λ (o : Outcome). o.texts) more ∙ sym (append-nil (out s).texts);
           }
@@ -283,7 +287,8 @@ module _ {B : Type 0} {n : ℕ} {g : _} (sealing : B → Seals) (opening : B →
       by_answer : (answer : Result (ℕ × Bool) StreamFault) → TakesNone old piece answer new → Advances answer
       by_answer (Ok a) t =
           let none = t.answered.2 in
-          let status : new.status ≡ old.status = t.status ∙ (ap (λ (k : ℕ). status_after (nat_lt 0 k) old.index old.status) none ∙ after_none old.index old.status) in
+          let status : new.status ≡ old.status = t.status
+          ∙ (ap (λ (k : ℕ). status_after (nat_lt 0 k) old.index old.status) none ∙ after_none old.index old.status) in
           let still = λ (o : new.status ≡ Open). shut (sym status ∙ o) in
           let held = old.closed shut in
           subst (λ (f : Bool). Advances (Ok (a.0, f))) (sym t.answered.1)
@@ -293,10 +298,13 @@ module _ {B : Type 0} {n : ℕ} {g : _} (sealing : B → Seals) (opening : B →
       by_answer (Err fault) t =
           let still = λ (o : new.status ≡ Open). let e : Failed fault ≡ Open = sym t.answered ∙ o in absurd (failed_shut fault e) in
           refused_so fault t.answered
-          (λ earlier e. let is = sym t.answered ∙ (t.status ∙ (ap (status_after (nat_lt 0 (length piece)) old.index) e ∙ fault_after (nat_lt 0 (length piece)) old.index earlier)) in cc)
+          (λ earlier e.
+          let some = nat_lt 0 (length piece) in
+          let is = sym t.answered ∙ (t.status ∙ (ap (status_after some old.index) e ∙ fault_after some old.index earlier)) in cc)
           (λ none.
           let held : held_bytes new ≡ held_bytes old = new.closed still ∙ sym (old.closed shut) in
-          let status : new.status ≡ old.status = t.status ∙ (ap (λ (k : ℕ). status_after (nat_lt 0 k) old.index old.status) none ∙ after_none old.index old.status) in
+          let status : new.status ≡ old.status = t.status
+          ∙ (ap (λ (k : ℕ). status_after (nat_lt 0 k) old.index old.status) none ∙ after_none old.index old.status) in
           cc (held, t.key, t.index, status)) (after still t.index t.status)
 
 -- ---- An end.

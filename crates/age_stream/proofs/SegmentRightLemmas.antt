@@ -166,7 +166,8 @@ module _ (sealing : Seals) (opening : OpensBlock) (valid : IsChunkBox sealing op
         (same (nonce_bytes (s.start + j) false) (block_at n s.bytes j) (given.not_last j le (block_full n s j lt)))) in
         outcome_is opening n s
         ∙ (by_both opening other here here.texts here.followed here.ended (λ x y. x ≡ y) refl (λ _. refl) (λ _ _ _. refl) (λ _ _ _. refl)
-        (λ whole. same (nonce_bytes here.index false) here.block (not_last whole)) (λ tried. same (nonce_bytes here.index true) here.block (given.last tried)) (λ _ _ _. refl) (λ _ _ _. refl)
+        (λ whole. same (nonce_bytes here.index false) here.block (not_last whole))
+        (λ tried. same (nonce_bytes here.index true) here.block (given.last tried)) (λ _ _ _. refl) (λ _ _ _. refl)
         ∙ (ap (λ (ts : List (List ℕ)). verdict other (frontier n s ts)) front ∙ sym (outcome_is other n s)))
 
     first_wrong : ((last : Bool) → Sealed here.index last here.block → ⊥) → IsFirstWrong sealing n text s here.index
