@@ -1,103 +1,85 @@
 // Worked rows of a payload, in chunks of four bytes and blocks of twenty, sealed by a box that hides
 // nothing, and under a real key: what is held under cuts, swaps, repeats, restarts, bytes after the
 // end and inverted bits.
+ghost use Rattle.std.specs.Prelude.{◌<◌, ◌≤◌};
+ghost use Rattle.age_chunk.specs.ChunkBoxes.{tag_length};
+ghost use Rattle.age_chunk.specs.Payload.{block_length};
+
+use Delivery::{End, Piece, Restart};
 use age_keys::{FileKey, PayloadKey, payload_key};
 use age_stream::{
     CHUNK_LIMIT, ChunkBox, ClearBox, Delivery, Opener, Sealer, Status, StreamFault, StreamKind,
     drill, seal_all,
 };
-use std::alloc::Global;
+use std::alloc::{AllocError, Global};
 
-const EIGHT: &[u8; 40] =
+pub const EIGHT: &[u8] =
     b"abcd\0\0\0\0\0\0\0\0\0\0\0\0\0\0\0\0efgh\0\0\0\0\0\0\0\0\0\0\x01\x01\0\0\0\0";
 
-const TEN: &[u8; 58] = b"abcd\0\0\0\0\0\0\0\0\0\0\0\0\0\0\0\0efgh\0\0\0\0\0\0\0\0\0\0\x01\0\0\0\0\0\
+const TEN: &[u8] = b"abcd\0\0\0\0\0\0\0\0\0\0\0\0\0\0\0\0efgh\0\0\0\0\0\0\0\0\0\0\x01\0\0\0\0\0\
         ij\0\0\0\0\0\0\0\0\0\0\x02\x01\0\0\0\0";
 
-const NO_TEXT: &[u8; 16] = b"\0\0\0\0\0\0\0\0\0\0\0\x01\0\0\0\0";
+const FIVE: &[u8] = b"abcd\0\0\0\0\0\0\0\0\0\0\0\0\0\0\0\0e\0\0\0\0\0\0\0\0\0\0\x01\x01\0\0\0\0";
 
-const LETTER_A: &[u8; 17] = b"a\0\0\0\0\0\0\0\0\0\0\0\0\0\0\0\0";
+const NO_TEXT: &[u8] = b"\0\0\0\0\0\0\0\0\0\0\0\x01\0\0\0\0";
 
-const LETTER_B: &[u8; 17] = b"b\0\0\0\0\0\0\0\0\0\0\x01\x01\0\0\0\0";
+/// Two letters, at one byte a chunk.
+const LETTERS: &[u8] = b"a\0\0\0\0\0\0\0\0\0\0\0\0\0\0\0\0b\0\0\0\0\0\0\0\0\0\0\x01\x01\0\0\0\0";
 
-const EMPTY_SECOND: &[u8; 16] = b"\0\0\0\0\0\0\0\0\0\0\x01\x01\0\0\0\0";
+const EMPTY_SECOND: &[u8] = b"\0\0\0\0\0\0\0\0\0\0\x01\x01\0\0\0\0";
 
-const FORGED: &[u8; 20] = b"XXXX\0\0\0\0\0\0\0\0\0\0\0\0\0\0\0\0";
+const FORGED: &[u8] = b"XXXX\0\0\0\0\0\0\0\0\0\0\0\0\0\0\0\0";
 
-const LAST_OF_ALL: &[u8; 20] = b"XXXX\0\0\0\0\0\xff\xff\xff\xff\xff\xff\x01\0\0\0\0";
+const LAST_OF_ALL: &[u8] = b"XXXX\0\0\0\0\0\xff\xff\xff\xff\xff\xff\x01\0\0\0\0";
 
-const ONE_TOO_MANY: &[u8; 20] = b"XXXX\0\0\0\0\0\xff\xff\xff\xff\xff\xff\0\0\0\0\0";
+const ONE_TOO_MANY: &[u8] = b"XXXX\0\0\0\0\0\xff\xff\xff\xff\xff\xff\0\0\0\0\0";
 
-const LETTER_E: &[u8; 17] = b"e\0\0\0\0\0\0\0\0\0\0\x01\x01\0\0\0\0";
+const TEXT: &[u8] = b"abcdefgh";
 
-const TEXT: &[u8; 8] = b"abcdefgh";
+const TEN_TEXT: &[u8] = b"abcdefghij";
 
-const TEN_TEXT: &[u8; 10] = b"abcdefghij";
+/// How deliveries end: done, or with this fault.
+type Ending = Option<StreamKind>;
 
-const DAMAGED: StreamKind = StreamKind::ChunkDamaged;
+const DONE: Ending = None;
 
-const TRUNCATED: StreamKind = StreamKind::Truncated;
+const DAMAGED: Ending = Some(StreamKind::ChunkDamaged);
 
-const TRAILING: StreamKind = StreamKind::Trailing;
+const TRUNCATED: Ending = Some(StreamKind::Truncated);
 
-const EMPTY: StreamKind = StreamKind::EmptyLast;
+const TRAILING: Ending = Some(StreamKind::Trailing);
+
+const EMPTY: Ending = Some(StreamKind::EmptyLast);
 
 /// The worked rows of a payload: whole texts, and what is held under swaps, repeats, restarts and
 /// bytes after the end. False also if memory is refused.
 pub fn delivery_rows(alloc: Global) -> bool {
-    sealing_rows(alloc)
-        && are_letters_lent()
-        && are_chunks_lent()
-        && damage_rows(alloc)
-        && restart_rows(alloc)
-        && at_the_greatest_number()
+    sealing_rows(alloc) && damage_rows(alloc) && is_refused(alloc) && at_the_greatest_number()
 }
 
 /// What a drill leaves of hostile bytes: a payload cut at every byte, with its blocks in other
 /// orders, started again at every chunk, and with each of its bits inverted. False also if memory is
 /// refused.
 pub fn hostile_rows(alloc: Global) -> bool {
-    are_cuts_right(alloc)
-        && are_orders_right(alloc)
-        && are_restarts_right(alloc)
-        && are_bits_right(alloc)
+    are_cuts_right(alloc) && are_rows_right(alloc) && are_bits_right(alloc)
 }
 
-/// What is expected of a drill.
-#[derive(Clone, Copy)]
-struct Expected<'a> {
-    text: &'a [u8],
-    status: Status,
-    index: u64,
-    refused: u64,
-}
-
-fn held(text: &[u8], status: Status, index: u64) -> Expected<'_> {
-    Expected {
-        text,
-        status,
-        index,
-        refused: 0,
-    }
-}
-
-fn failed(text: &[u8], kind: StreamKind, chunk: u64) -> Expected<'_> {
-    held(text, Status::Failed(StreamFault { kind, chunk }), chunk)
-}
+/// What is held of a text, the status, the number of the chunk, and how many restarts were refused.
+type Held<'a> = (&'a [u8], Status, u64, u64);
 
 /// Whether these deliveries leave this, with their pieces whole and byte by byte.
 fn leaves<B: ChunkBox>(
     alloc: Global,
     key: &B,
     events: &[Delivery<'_>],
-    expected: Expected<'_>,
+    expected: Held<'_>,
 ) -> bool {
     match by_bytes(alloc, events) {
-        Some(cut) => {
+        Ok(cut) => {
             leaves_at_once(alloc, key, events, expected)
                 && leaves_at_once(alloc, key, cut.as_slice(), expected)
         }
-        None => false,
+        Err(_) => false,
     }
 }
 
@@ -105,152 +87,120 @@ fn leaves_at_once<B: ChunkBox>(
     alloc: Global,
     key: &B,
     events: &[Delivery<'_>],
-    expected: Expected<'_>,
+    expected: Held<'_>,
 ) -> bool {
     match drill::<B, 20>(alloc, key, events) {
-        Ok(left) => {
-            left.text.as_slice() == expected.text
-                && left.index == expected.index
-                && left.status == expected.status
-                && left.refused == expected.refused
-        }
+        Ok(left) => (left.text.as_slice(), left.status, left.index, left.refused) == expected,
         Err(_) => false,
     }
 }
 
-/// These deliveries with each piece cut into single bytes, or nothing if memory is refused.
-fn by_bytes<'a>(alloc: Global, events: &[Delivery<'a>]) -> Option<Vec<Delivery<'a>>> {
+/// These deliveries with each piece cut into single bytes.
+fn by_bytes<'a>(alloc: Global, events: &[Delivery<'a>]) -> Result<Vec<Delivery<'a>>, AllocError> {
     let mut cut = Vec::new(alloc);
     for event in events {
-        if !push_event(&mut cut, event) {
-            return None;
+        match *event {
+            Piece(piece) => {
+                for byte in piece.chunks(1) {
+                    cut.push(Piece(byte))?;
+                }
+            }
+            other => cut.push(other)?,
         }
     }
-    Some(cut)
-}
-
-fn push_event<'a>(cut: &mut Vec<Delivery<'a>>, event: &Delivery<'a>) -> bool {
-    match *event {
-        Delivery::Piece(piece) => push_bytes(cut, piece),
-        other => cut.push(other).is_ok(),
-    }
-}
-
-fn push_bytes<'a>(cut: &mut Vec<Delivery<'a>>, piece: &'a [u8]) -> bool {
-    for byte in piece.chunks(1) {
-        if cut.push(Delivery::Piece(byte)).is_err() {
-            return false;
-        }
-    }
-    true
+    Ok(cut)
 }
 
 /// Whole texts and their payloads.
 fn sealing_rows(alloc: Global) -> bool {
-    is_sealed(alloc, b"abcdefgh", EIGHT)
-        && is_sealed(alloc, b"abcdefghij", TEN)
-        && is_sealed(alloc, b"", NO_TEXT)
-        && two_letters_in_one_piece(alloc)
+    is_sealed::<20>(alloc, TEXT, EIGHT)
+        && is_sealed::<20>(alloc, TEN_TEXT, TEN)
+        && is_sealed::<20>(alloc, b"", NO_TEXT)
+        && is_sealed::<17>(alloc, b"ab", LETTERS)
+        && are_lent::<17>(b"a", b"b", LETTERS)
+        && are_lent::<20>(b"abcd", b"e", FIVE)
 }
 
-/// At one byte a chunk.
-fn two_letters_in_one_piece(alloc: Global) -> bool {
-    match seal_all::<ClearBox, 17>(alloc, &ClearBox, b"ab") {
-        Ok(sealed) => {
-            sealed.len() == 34 && sealed.starts_with(LETTER_A) && sealed.ends_with(LETTER_B)
-        }
-        Err(_) => false,
-    }
-}
-
-fn is_sealed(alloc: Global, text: &[u8], payload: &[u8]) -> bool {
-    match seal_all::<ClearBox, 20>(alloc, &ClearBox, text) {
+fn is_sealed<const SEALED: usize>(alloc: Global, text: &[u8], payload: &[u8]) -> bool
+    requires least { tag_length < SEALED }
+    requires most { SEALED ≤ block_length }
+{
+    match seal_all::<ClearBox, SEALED>(alloc, &ClearBox, text) {
         Ok(sealed) => sealed.as_slice() == payload,
         Err(_) => false,
     }
 }
 
-/// At one byte a chunk: a block is lent with the byte after it, and the last by `finish`.
-fn are_letters_lent() -> bool {
+/// Whether the block of a chunk is lent with the byte after it, and the last by `finish`.
+fn are_lent<const SEALED: usize>(chunk: &[u8], byte: &[u8], payload: &[u8]) -> bool
+    requires least { tag_length < SEALED }
+    requires most { SEALED ≤ block_length }
+{
     let key = ClearBox;
-    let mut sealer = Sealer::<ClearBox, 17>::new(&key);
-    if !matches!(sealer.feed(b"a"), Ok(step) if step.taken == 1 && step.chunk.is_none()) {
-        return false;
-    }
-    if !matches!(sealer.feed(b"b"), Ok(step) if step.taken == 1 && step.chunk == Some(LETTER_A.as_slice()))
+    let mut sealer = Sealer::<ClearBox, SEALED>::new(&key);
+    if !matches!(sealer.feed(chunk), Ok(step) if step.taken == chunk.len() && step.chunk.is_none())
     {
         return false;
     }
-    matches!(sealer.finish(), Ok(block) if block == LETTER_B.as_slice())
-}
-
-/// The same at four bytes a chunk.
-fn are_chunks_lent() -> bool {
-    let key = ClearBox;
-    let mut sealer = Sealer::<ClearBox, 20>::new(&key);
-    if !matches!(sealer.feed(b"abcd"), Ok(step) if step.taken == 4 && step.chunk.is_none()) {
-        return false;
-    }
-    if !matches!(sealer.feed(b"e"), Ok(step) if step.taken == 1 && step.chunk == Some(&EIGHT[..20]))
+    if !matches!(sealer.feed(byte), Ok(step) if step.taken == 1 && step.chunk == payload.get(..SEALED))
     {
         return false;
     }
-    matches!(sealer.finish(), Ok(block) if block == LETTER_E.as_slice())
+    matches!(sealer.finish(), Ok(block) if payload.get(SEALED..) == Some(block))
 }
 
-/// Whether these pieces and the end leave this.
-fn ends<'a>(alloc: Global, a: &'a [u8], b: &'a [u8], c: &'a [u8], expected: Expected<'_>) -> bool {
-    let events = [
-        Delivery::Piece(a),
-        Delivery::Piece(b),
-        Delivery::Piece(c),
-        Delivery::End,
-    ];
-    leaves(alloc, &ClearBox, &events, expected)
+/// A piece, a delivery, a piece and the end; the text that is then held, how that ends, and at which
+/// chunk.
+type Row<'a> = (&'a [u8], Delivery<'a>, &'a [u8], &'a [u8], Ending, u64);
+
+/// Whether these deliveries leave this in the clear.
+fn is_right(alloc: Global, row: Row<'_>) -> bool {
+    let (before, then, after, text, ending, chunk) = row;
+    let status = status_of(ending, chunk);
+    let events = [Piece(before), then, Piece(after), End];
+    leaves(alloc, &ClearBox, &events, (text, status, chunk, 0))
 }
 
-/// Blocks in another order, twice, with a byte more, and an empty last chunk; and a block that the
-/// writer didn't seal, which is released if it opens.
+fn status_of(ending: Ending, chunk: u64) -> Status {
+    match ending {
+        Some(kind) => Status::Failed(StreamFault { kind, chunk }),
+        None => Status::Done,
+    }
+}
+
+/// Blocks in another order, twice, with a byte more, and an empty last chunk; a block that the
+/// writer didn't seal, which is released if it opens; and a transfer that starts again.
 fn damage_rows(alloc: Global) -> bool {
     let (first, second) = EIGHT.split_at(20);
-    ends(alloc, NO_TEXT, b"", b"", held(b"", Status::Done, 0))
-        && ends(alloc, EIGHT, b"", b"", held(TEXT, Status::Done, 1))
-        && ends(alloc, second, first, b"", failed(b"", DAMAGED, 0))
-        && ends(alloc, first, first, b"", failed(b"abcd", DAMAGED, 1))
-        && ends(alloc, EIGHT, b"x", b"", failed(TEXT, TRAILING, 1))
-        && ends(alloc, first, EMPTY_SECOND, b"", failed(b"abcd", EMPTY, 1))
-        && ends(alloc, FORGED, b"", b"", failed(b"XXXX", TRUNCATED, 1))
-}
-
-/// Whether a piece, a restart, a piece and the end leave this.
-fn restarts<'a>(
-    alloc: Global,
-    before: &'a [u8],
-    chunk: u64,
-    after: &'a [u8],
-    expected: Expected<'_>,
-) -> bool {
-    let events = [
-        Delivery::Piece(before),
-        Delivery::Restart(chunk),
-        Delivery::Piece(after),
-        Delivery::End,
+    let rows: [Row<'_>; 10] = [
+        (NO_TEXT, Piece(b""), b"", b"", DONE, 0),
+        (EIGHT, Piece(b""), b"", TEXT, DONE, 1),
+        (second, Piece(first), b"", b"", DAMAGED, 0),
+        (first, Piece(first), b"", b"abcd", DAMAGED, 1),
+        (EIGHT, Piece(b"x"), b"", TEXT, TRAILING, 1),
+        (first, Piece(EMPTY_SECOND), b"", b"abcd", EMPTY, 1),
+        (FORGED, Piece(b""), b"", b"XXXX", TRUNCATED, 1),
+        (first, Restart(0), EIGHT, TEXT, DONE, 1),
+        (&EIGHT[..27], Restart(1), second, TEXT, DONE, 1),
+        (EIGHT, Restart(2), b"", TEXT, TRUNCATED, 2),
     ];
-    leaves(alloc, &ClearBox, &events, expected)
+    rows.iter().all(|row| is_right(alloc, *row))
 }
 
-/// The transfer starts again, at a chunk that is held or beyond it.
-fn restart_rows(alloc: Global) -> bool {
-    let (first, second) = EIGHT.split_at(20);
-    let beyond = [Delivery::Piece(EIGHT), Delivery::Restart(3)];
-    let refused = Expected {
-        refused: 1,
-        ..held(TEXT, Status::LastSeen, 1)
-    };
-    restarts(alloc, first, 0, EIGHT, held(TEXT, Status::Done, 1))
-        && restarts(alloc, &EIGHT[..27], 1, second, held(TEXT, Status::Done, 1))
-        && restarts(alloc, EIGHT, 2, b"", failed(TEXT, TRUNCATED, 2))
-        && leaves(alloc, &ClearBox, &beyond, refused)
+/// A restart beyond what is held changes nothing.
+fn is_refused(alloc: Global) -> bool {
+    let (last, done) = (Status::LastSeen, Status::Done);
+    leaves(
+        alloc,
+        &ClearBox,
+        &[Piece(EIGHT), Restart(3)],
+        (TEXT, last, 1, 1),
+    ) && leaves(
+        alloc,
+        &ClearBox,
+        &[Piece(TEN), Restart(3), Piece(b""), End],
+        (TEN_TEXT, done, 2, 1),
+    )
 }
 
 /// A block at the greatest number is the last one, or one too many.
@@ -273,80 +223,53 @@ fn at_the_greatest_number() -> bool {
             })
 }
 
-/// (A loop takes less to prove than a closure.)
+/// The payload of ten bytes cut after each number of its own.
 fn are_cuts_right(alloc: Global) -> bool {
-    for cut in 0..58 {
-        if !is_cut_right(alloc, cut) {
-            return false;
-        }
-    }
-    true
+    (0..58).all(|cut| is_cut_right(alloc, cut))
 }
 
-/// The payload of ten bytes cut after this many of its own.
 fn is_cut_right(alloc: Global, cut: usize) -> bool {
     let kind = match cut {
         36 | 56 => EMPTY,
         0 | 20 | 40 => TRUNCATED,
-        1..=15 | 21..=35 | 41..=55 => StreamKind::ChunkCut,
+        1..=15 | 21..=35 | 41..=55 => Some(StreamKind::ChunkCut),
         _ => DAMAGED,
     };
-    let text: &[u8] = match cut {
-        0..=19 => b"",
-        20..=39 => b"abcd",
-        _ => TEXT,
-    };
-    match TEN.get(..cut) {
-        Some(front) => ends(alloc, front, b"", b"", failed(text, kind, cut as u64 / 20)),
-        None => false,
+    let chunk = cut / 20;
+    match (TEN.get(..cut), TEXT.get(..4 * chunk)) {
+        (Some(front), Some(text)) => is_right(
+            alloc,
+            (front, Piece(b""), b"", text, kind, chunk as u64),
+        ),
+        _ => false,
     }
 }
 
-/// The three blocks in each order.
-fn are_orders_right(alloc: Global) -> bool {
+/// The three blocks in each order; and the whole payload, then again from each chunk on.
+fn are_rows_right(alloc: Global) -> bool {
     let (first, rest) = TEN.split_at(20);
     let (second, third) = rest.split_at(20);
-    ends(alloc, first, second, third, held(TEN_TEXT, Status::Done, 2))
-        && ends(alloc, first, third, second, failed(b"abcd", DAMAGED, 1))
-        && ends(alloc, second, first, third, failed(b"", DAMAGED, 0))
-        && ends(alloc, second, third, first, failed(b"", DAMAGED, 0))
-        && ends(alloc, third, first, second, failed(b"", DAMAGED, 0))
-        && ends(alloc, third, second, first, failed(b"", DAMAGED, 0))
-}
-
-/// The whole payload, then again from each chunk on; there is no chunk 3, and a restart there
-/// changes nothing.
-fn are_restarts_right(alloc: Global) -> bool {
-    let (_, from_second) = TEN.split_at(20);
-    let (_, from_third) = TEN.split_at(40);
-    let whole = held(TEN_TEXT, Status::Done, 2);
-    restarts(alloc, TEN, 0, TEN, whole)
-        && restarts(alloc, TEN, 1, from_second, whole)
-        && restarts(alloc, TEN, 2, from_third, whole)
-        && restarts(
-            alloc,
-            TEN,
-            3,
-            b"",
-            Expected {
-                refused: 1,
-                ..whole
-            },
-        )
+    let rows: [Row<'_>; 9] = [
+        (first, Piece(second), third, TEN_TEXT, DONE, 2),
+        (first, Piece(third), second, b"abcd", DAMAGED, 1),
+        (second, Piece(first), third, b"", DAMAGED, 0),
+        (second, Piece(third), first, b"", DAMAGED, 0),
+        (third, Piece(first), second, b"", DAMAGED, 0),
+        (third, Piece(second), first, b"", DAMAGED, 0),
+        (TEN, Restart(0), TEN, TEN_TEXT, DONE, 2),
+        (TEN, Restart(1), rest, TEN_TEXT, DONE, 2),
+        (TEN, Restart(2), third, TEN_TEXT, DONE, 2),
+    ];
+    rows.iter().all(|row| is_right(alloc, *row))
 }
 
 /// A text under a real key, with each bit of its payload inverted alone.
 fn are_bits_right(alloc: Global) -> bool {
     let key = payload_key(&FileKey::new([7; 16]), &[9; 16]);
-    let Ok(sealed) = seal_all::<PayloadKey, 20>(alloc, &key, b"abcdefghij") else {
-        return false;
-    };
-    for bit in 0..58 * 8 {
-        if !is_bit_right(alloc, &key, sealed.as_slice(), bit) {
-            return false;
-        }
+    match seal_all::<PayloadKey, 20>(alloc, &key, TEN_TEXT) {
+        Ok(sealed) => (0..58 * 8).all(|bit| is_bit_right(alloc, &key, sealed.as_slice(), bit)),
+        Err(_) => false,
     }
-    true
 }
 
 fn is_bit_right(alloc: Global, key: &PayloadKey, sealed: &[u8], bit: usize) -> bool {
@@ -356,11 +279,13 @@ fn is_bit_right(alloc: Global, key: &PayloadKey, sealed: &[u8], bit: usize) -> b
     if let Some(byte) = bytes.get_mut(bit / 8) {
         *byte ^= 1 << (bit % 8);
     }
-    let expected = match bit / 160 {
-        0 => failed(b"", DAMAGED, 0),
-        1 => failed(b"abcd", DAMAGED, 1),
-        _ => failed(TEXT, DAMAGED, 2),
-    };
-    let events = [Delivery::Piece(bytes.as_slice()), Delivery::End];
-    leaves(alloc, key, &events, expected)
+    let chunk = bit / 160;
+    let text = TEXT.get(..4 * chunk).unwrap_or(TEN_TEXT);
+    let status = status_of(DAMAGED, chunk as u64);
+    leaves(
+        alloc,
+        key,
+        &[Piece(bytes.as_slice()), End],
+        (text, status, chunk as u64, 0),
+    )
 }

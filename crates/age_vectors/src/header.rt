@@ -8,7 +8,7 @@ use age_stanza::{HEAD_MAX, HeadFault, HeadParser, HeadStep, Header, encode_head,
 use std::alloc::{AllocError, Global};
 
 /// A body that is empty, and a MAC of zeros.
-const SMALLEST: &[u8; 76] =
+pub const SMALLEST: &[u8; 76] =
     b"age-encryption.org/v1\n-> x\n\n--- AAAAAAAAAAAAAAAAAAAAAAAAAAAAAAAAAAAAAAAAAAA\n";
 
 /// The smallest header, and a byte of the payload.
@@ -53,8 +53,6 @@ const VERSION: &[u8; 22] = b"age-encryption.org/v1\n";
 
 const END_LINE: &[u8; 48] = b"--- AAAAAAAAAAAAAAAAAAAAAAAAAAAAAAAAAAAAAAAAAAA\n";
 
-const STANZA: &[u8; 6] = b"-> x\n\n";
-
 /// What follows the argument, 50 bytes.
 const ARGUMENT_END: &[u8; 50] = b"\n\n--- AAAAAAAAAAAAAAAAAAAAAAAAAAAAAAAAAAAAAAAAAAA\n";
 
@@ -63,74 +61,71 @@ const BODY_START: &[u8; 27] = b"age-encryption.org/v1\n-> x\n";
 /// A line of a body, of 48 zero bytes.
 const BODY_LINE: &[u8; 65] = b"AAAAAAAAAAAAAAAAAAAAAAAAAAAAAAAAAAAAAAAAAAAAAAAAAAAAAAAAAAAAAAAA\n";
 
+/// Lines with which a header of whole lines of a body has the greatest length, or a byte less.
+const HALF_LINE: &[u8; 34] = b"AAAAAAAAAAAAAAAAAAAAAAAAAAAAAAAAAA";
+
+const SHORTER: &[u8; 33] = b"AAAAAAAAAAAAAAAAAAAAAAAAAAAAAAAAA";
+
 const ARMOR: &[u8; 35] = b"-----BEGIN AGE ENCRYPTED FILE-----\n";
 
 const ARMOR_CR: &[u8; 36] = b"-----BEGIN AGE ENCRYPTED FILE-----\r\n";
 
-/// The header that some bytes begin with and its length, or the fault, if the bytes come in pieces
-/// of `step` bytes and then end.
-pub(crate) fn parsed(alloc: Global, bytes: &[u8], step: usize) -> Result<(usize, Header), HeadFault>
-    requires { 0 < step }
+/// The header that some bytes begin with and its length, or the fault, if the bytes come at once and
+/// then end.
+pub(crate) fn parsed(alloc: Global, bytes: &[u8]) -> Result<(usize, Header), HeadFault>
     ensures ok { IfOk result (λ found. HeadText found.1 (take found.0 bytes.now)) }
     ensures err { IfErr result (λ fault. IsReported bytes.now fault) }
 {
     let mut parser = HeadParser::new(alloc);
-    let mut rest = bytes;
-    while !rest.is_empty() {
-        let (piece, later) = rest.split_at(step.min(rest.len()));
-        match parser.feed(piece)? {
-            HeadStep::More => rest = later,
-            HeadStep::Ready { taken, header } => {
-                return Ok((bytes.len() - rest.len() + taken, header));
+    match parser.feed(bytes)? {
+        HeadStep::More => Err(parser.end()),
+        HeadStep::Ready { taken, header } => Ok((taken, header)),
+    }
+}
+
+/// Whether bytes that come in pieces of `step` bytes, and then end, are parsed so.
+fn comes_to(
+    alloc: Global,
+    bytes: &[u8],
+    step: usize,
+    parsed: &Result<(usize, Header), HeadFault>,
+) -> bool
+    requires { 0 < step }
+{
+    let mut parser = HeadParser::new(alloc);
+    let mut fed: usize = 0;
+    for piece in bytes.chunks(step) {
+        if !parser.is_open() {
+            return false;
+        }
+        match parser.feed(piece) {
+            Ok(HeadStep::More) => fed = fed.saturating_add(piece.len()),
+            Ok(HeadStep::Ready { taken, header }) => {
+                return *parsed == Ok((fed.saturating_add(taken), header));
             }
+            Err(fault) => return *parsed == Err(fault),
         }
     }
-    Err(parser.end())
+    parser.is_open() && *parsed == Err(parser.end())
 }
 
-/// Whether a header of the greatest length stands in front.
-fn accepts_long(alloc: Global, bytes: &[u8]) -> bool {
-    [HEAD_MAX, 1].iter().all(|step| {
-        parsed(alloc, bytes, *step).is_ok_and(|(taken, _header)| taken == HEAD_MAX)
-    })
-}
-
-/// Whether a header has one stanza, of the argument `x` and this many zero bytes.
-fn is_of_zeros(header: &Header, zeros: usize) -> bool {
+/// Whether a header has one stanza, of the argument `x` and this many zero bytes, up to 48, and a
+/// MAC of zeros except for its last byte.
+fn is_of_zeros(header: &Header, zeros: usize, last: u8) -> bool {
     let [stanza] = header.stanzas.as_slice() else {
         return false;
     };
-    let [argument] = stanza.args.as_slice() else {
-        return false;
-    };
-    let body = stanza.body.as_slice();
-    argument.as_slice() == b"x".as_slice()
-        && body.len() == zeros
-        && body.iter().all(|byte| *byte == 0)
+    let mut mac = [0; 32];
+    mac[31] = last;
+    matches!(stanza.args.as_slice(), [argument] if argument.as_slice() == b"x".as_slice())
+        && [0; 48].get(..zeros) == Some(stanza.body.as_slice())
+        && header.mac == mac
 }
 
 /// Whether a header is written as the first `size` of these bytes.
 fn is_written(alloc: Global, header: &Header, bytes: &[u8], size: usize) -> bool {
     is_header(header)
-        && match encode_head(alloc, header) {
-            Ok(text) => text.len() == size && bytes.starts_with(text.as_slice()),
-            Err(_fault) => false,
-        }
-}
-
-fn accepts_in(alloc: Global, bytes: &[u8], step: usize, size: usize, zeros: usize, last: u8) -> bool
-    requires { 0 < step }
-    ensures { IsTrue result → Accepts bytes.now size }
-{
-    let Ok((taken, header)) = parsed(alloc, bytes, step) else {
-        return false;
-    };
-    let mut mac = [0; 32];
-    mac[31] = last;
-    if !is_of_zeros(&header, zeros) || !is_written(alloc, &header, bytes, size) {
-        return false;
-    }
-    taken == size && header.mac == mac
+        && encode_head(alloc, header).is_ok_and(|text| bytes.get(..size) == Some(text.as_slice()))
 }
 
 /// Whether a header of `size` bytes stands in front, with one stanza of the argument `x` and this
@@ -138,28 +133,34 @@ fn accepts_in(alloc: Global, bytes: &[u8], step: usize, size: usize, zeros: usiz
 fn accepts(alloc: Global, bytes: &[u8], size: usize, zeros: usize, last: u8) -> bool
     ensures { IsTrue result → Accepts bytes.now size }
 {
-    accepts_in(alloc, bytes, HEAD_MAX, size, zeros, last)
-        && accepts_in(alloc, bytes, 1, size, zeros, last)
-}
-
-fn refuses_in(alloc: Global, bytes: &[u8], step: usize, number: u8, line: u64) -> bool
-    requires { 0 < step }
-    ensures { IsTrue result → RefusesHeader bytes.now number line }
-{
-    let Err(fault) = parsed(alloc, bytes, step) else {
+    let parsed = parsed(alloc, bytes);
+    if !comes_to(alloc, bytes, 1, &parsed) {
+        return false;
+    }
+    let Ok((taken, header)) = parsed else {
         return false;
     };
-    let Some(at) = fault.place() else {
+    if !is_of_zeros(&header, zeros, last) || !is_written(alloc, &header, bytes, size) {
         return false;
-    };
-    fault.number() == number && at == line
+    }
+    taken == size
 }
 
 /// Whether this is the fault of the bytes and their end.
 fn refuses(alloc: Global, bytes: &[u8], number: u8, line: u64) -> bool
     ensures { IsTrue result → RefusesHeader bytes.now number line }
 {
-    refuses_in(alloc, bytes, HEAD_MAX, number, line) && refuses_in(alloc, bytes, 1, number, line)
+    let parsed = parsed(alloc, bytes);
+    if !comes_to(alloc, bytes, 1, &parsed) {
+        return false;
+    }
+    let Err(fault) = parsed else {
+        return false;
+    };
+    let Some(at) = fault.place() else {
+        return false;
+    };
+    fault.number() == number && at == line
 }
 
 /// Headers that are accepted.
@@ -219,7 +220,8 @@ fn cut_rows(alloc: Global) -> bool {
 
 /// The smallest header and a byte, in pieces of each length: nothing after it is taken.
 fn piece_rows(alloc: Global) -> bool {
-    (1..78).all(|step| accepts_in(alloc, SMALLEST_AND_ONE, step, 76, 0, 0))
+    let parsed = parsed(alloc, SMALLEST_AND_ONE);
+    (1..78).all(|step| comes_to(alloc, SMALLEST_AND_ONE, step, &parsed))
 }
 
 /// A front, a piece again and again, and an end.
@@ -243,40 +245,26 @@ pub(crate) fn around(alloc: Global, stanzas: &[u8]) -> Result<Vec<u8>, AllocErro
     repeated(alloc, VERSION, stanzas, 1, END_LINE)
 }
 
-/// Whether a text of an argument of this many letters stands for a header of the greatest length, or
-/// is refused.
-fn argument_row(alloc: Global, letters: usize, is_accepted: bool) -> bool {
-    match repeated(alloc, ARGUMENT_START, b"x", letters, ARGUMENT_END) {
-        Ok(text) if is_accepted => accepts_long(alloc, text.as_slice()),
-        Ok(text) => refuses(alloc, text.as_slice(), 7, 4),
-        Err(_) => false,
-    }
-}
-
-/// Whether the first `len` bytes of a front and a piece again and again are refused so.
-fn refuses_long(
-    alloc: Global,
-    front: &[u8],
-    piece: &[u8],
-    len: usize,
-    number: u8,
-    line: u64,
-) -> bool {
-    let count = (len / piece.len().max(1)).saturating_add(1);
-    match repeated(alloc, front, piece, count, b"") {
-        Ok(text) => refuses(alloc, &text.as_slice()[..len.min(text.len())], number, line),
-        Err(_) => false,
-    }
-}
+/// A front, a piece so many times, and an end, which are refused so.
+const LIMITS: [(&[u8], &[u8], usize, &[u8], u8, u64); 5] = [
+    (ARGUMENT_START, b"x", 1_048_502, ARGUMENT_END, 7, 4),
+    (b"", b"x", HEAD_MAX, b"", 7, 1),
+    (BODY_START, BODY_LINE, 16_131, HALF_LINE, 7, 16_134),
+    (BODY_START, BODY_LINE, 16_131, SHORTER, 8, 16_134),
+    (VERSION, b"-> x\n\n", 170_000, b"", 8, 340_002),
+];
 
 /// Headers at the limit of their length.
-fn limit_rows(alloc: Global) -> bool {
-    argument_row(alloc, 1_048_501, true)
-        && argument_row(alloc, 1_048_502, false)
-        && refuses_long(alloc, b"", b"x", HEAD_MAX, 7, 1)
-        && refuses_long(alloc, BODY_START, BODY_LINE, HEAD_MAX, 7, 16_134)
-        && refuses_long(alloc, BODY_START, BODY_LINE, HEAD_MAX - 1, 8, 16_134)
-        && refuses_long(alloc, VERSION, STANZA, 1_020_022, 8, 340_002)
+fn limit_rows(alloc: Global) -> Result<bool, AllocError> {
+    for (front, piece, count, end, number, line) in LIMITS {
+        let text = repeated(alloc, front, piece, count, end)?;
+        if !refuses(alloc, text.as_slice(), number, line) {
+            return Ok(false);
+        }
+    }
+    let longest = repeated(alloc, ARGUMENT_START, b"x", 1_048_501, ARGUMENT_END)?;
+    let parsed = parsed(alloc, longest.as_slice());
+    Ok(matches!(&parsed, Ok((HEAD_MAX, _))) && comes_to(alloc, longest.as_slice(), 1, &parsed))
 }
 
 /// The rows of the grammar and of its faults, of cut headers, and of headers at the limit of their
@@ -287,7 +275,7 @@ pub fn header_rows(alloc: Global) -> bool
     ensures arguments { IsTrue result → ArgumentRows }
     ensures lines { IsTrue result → LineRows }
 {
-    if !cut_rows(alloc) || !piece_rows(alloc) || !limit_rows(alloc) {
+    if !cut_rows(alloc) || !piece_rows(alloc) || limit_rows(alloc) != Ok(true) {
         return false;
     }
     if !accepted_rows(alloc) {

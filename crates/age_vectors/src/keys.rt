@@ -8,12 +8,10 @@ ghost use Rattle.age_vectors.specs.Rows.{OpensIn};
 
 use crate::header::{ARGUMENT_START, around, parsed, repeated};
 use age_keys::{FileKey, KnownKey, Passphrase, Steps, Unlock, open_header, scrypt_header};
-use age_stanza::{HEAD_MAX, Header, encode_head, is_header};
+use age_stanza::{Header, encode_head, is_header};
 use std::alloc::{AllocError, Global};
 
-const SALT: [u8; 16] = [
-    16, 17, 18, 19, 20, 21, 22, 23, 24, 25, 26, 27, 28, 29, 30, 31,
-];
+const SALT: [u8; 16] = *b"\x10\x11\x12\x13\x14\x15\x16\x17\x18\x19\x1a\x1b\x1c\x1d\x1e\x1f";
 
 /// The file key of each header here that opens.
 pub const FILE_KEY: [u8; 16] = [0, 1, 2, 3, 4, 5, 6, 7, 8, 9, 10, 11, 12, 13, 14, 15];
@@ -27,16 +25,6 @@ const WRITTEN: [u8; 149] = *b"age-encryption.org/v1\n-> scrypt EBESExQVFhcYGRobH
 const AT_TEN: &[u8; 150] = b"age-encryption.org/v1\n-> scrypt EBESExQVFhcYGRobHB0eHw 10\n\
         Qh59WLlLxJRIkowFnzt99qkc7x6EgdHELDUQmvHY874\n\
         --- 2qY5AgJS48JZMvxeEOs4EKHsGHn1+dq7Rvg3gLXzgBM\n";
-
-/// The header at work factor 1, with the last byte of its MAC inverted.
-const OTHER_MAC: &[u8; 149] = b"age-encryption.org/v1\n-> scrypt EBESExQVFhcYGRobHB0eHw 1\n\
-        1z3f/yTFiUXDwVbiU/TZ2AupEaKH6mWRdiP4zJo1RGw\n\
-        --- j2RWCWPgvXImsyfN390ggNwin5ht9nxij7u+aGwWgjQ\n";
-
-/// The same, with the last byte of its body inverted.
-const OTHER_BODY: &[u8; 149] = b"age-encryption.org/v1\n-> scrypt EBESExQVFhcYGRobHB0eHw 1\n\
-        1z3f/yTFiUXDwVbiU/TZ2AupEaKH6mWRdiP4zJo1RJM\n\
-        --- j2RWCWPgvXImsyfN390ggNwin5ht9nxij7u+aGwWgss\n";
 
 /// A header with a work factor of one more than the greatest limit.
 const AT_23: &[u8; 150] = b"age-encryption.org/v1\n-> scrypt AAAAAAAAAAAAAAAAAAAAAA 23\n\
@@ -61,7 +49,7 @@ fn answer<U: Unlock>(alloc: Global, header: &Header, unlock: &U) -> Result<[u8; 
 pub(crate) fn opened<U: Unlock>(alloc: Global, text: &[u8], unlock: &U) -> Result<[u8; 16], u8>
     ensures { IfOk result (OpensIn (U.allows unlock.now) text.now) }
 {
-    match parsed(alloc, text, HEAD_MAX) {
+    match parsed(alloc, text) {
         Ok((_taken, header)) => answer(alloc, &header, unlock),
         Err(_fault) => Err(0),
     }
@@ -99,13 +87,16 @@ fn writes_python_s_header(alloc: Global) -> bool
     }
 }
 
-/// The right passphrase and others, and limits.
+/// The right passphrase and others, limits, and a MAC and a body whose last byte is inverted.
 fn passphrase_rows(alloc: Global) -> bool {
+    let (mut other_mac, mut other_body) = (WRITTEN, WRITTEN);
+    other_mac[146..148].copy_from_slice(b"jQ");
+    other_body[98..100].copy_from_slice(b"JM");
     by_passphrase(alloc, &WRITTEN, b"kudebafon", 1) == Ok(FILE_KEY)
         && by_passphrase(alloc, &WRITTEN, b"kudebafon", 22) == Ok(FILE_KEY)
         && by_passphrase(alloc, &WRITTEN, b"Kudebafon", 1) == Err(13)
-        && by_passphrase(alloc, OTHER_MAC, b"kudebafon", 1) == Err(14)
-        && by_passphrase(alloc, OTHER_BODY, b"kudebafon", 1) == Err(13)
+        && by_passphrase(alloc, &other_mac, b"kudebafon", 1) == Err(14)
+        && by_passphrase(alloc, &other_body, b"kudebafon", 1) == Err(13)
         && by_passphrase(alloc, AT_TEN, b"kudebafon", 10) == Ok(FILE_KEY)
         && by_passphrase(alloc, AT_TEN, b"kudebafon", 9) == Err(11)
         && by_passphrase(alloc, AT_23, b"kudebafon", 22) == Err(11)
@@ -162,37 +153,23 @@ const OTHERS: [(&[u8], u8); 4] = [
     (b"-> X25519\n\n-> x scrypt\n\n", 12),
 ];
 
-/// Whether the header of a text that was made is refused with this number.
-fn is_refused(alloc: Global, made: &Result<Vec<u8>, AllocError>, number: u8) -> bool {
-    match made {
-        Ok(text) => by_passphrase(alloc, text.as_slice(), b"x", 11) == Err(number),
-        Err(_) => false,
-    }
-}
-
-fn stanza_rows(alloc: Global) -> bool {
+/// These stanzas, and a work factor of 400 digits.
+fn stanza_rows(alloc: Global) -> Result<bool, AllocError> {
     for (arguments, number) in STANZAS {
-        let made = repeated(alloc, ARGUMENT_START, arguments, 1, BODY_AND_MAC);
-        if !is_refused(alloc, &made, number) {
-            return false;
+        let text = repeated(alloc, ARGUMENT_START, arguments, 1, BODY_AND_MAC)?;
+        if by_passphrase(alloc, text.as_slice(), b"x", 11) != Err(number) {
+            return Ok(false);
         }
     }
-    true
-}
-
-fn other_rows(alloc: Global) -> bool {
     for (stanzas, number) in OTHERS {
-        if !is_refused(alloc, &around(alloc, stanzas), number) {
-            return false;
+        let text = around(alloc, stanzas)?;
+        if by_passphrase(alloc, text.as_slice(), b"x", 11) != Err(number) {
+            return Ok(false);
         }
     }
-    true
-}
-
-/// A work factor of 400 digits.
-fn long_row(alloc: Global) -> bool {
     let front = b"age-encryption.org/v1\n-> scrypt AAAAAAAAAAAAAAAAAAAAAA ";
-    is_refused(alloc, &repeated(alloc, front, b"9", 400, BODY_AND_MAC), 11)
+    let text = repeated(alloc, front, b"9", 400, BODY_AND_MAC)?;
+    Ok(by_passphrase(alloc, text.as_slice(), b"x", 11) == Err(11))
 }
 
 /// The rows of passphrases and known keys: a header that Python made, opened and written, and with
@@ -201,10 +178,7 @@ fn long_row(alloc: Global) -> bool {
 pub fn key_rows(alloc: Global) -> bool
     ensures { IsTrue result → HeadText (scrypt_head (codes "kudebafon") 1 SALT FILE_KEY) WRITTEN }
 {
-    if !passphrase_rows(alloc) || !known_key_rows(alloc) {
-        return false;
-    }
-    if !stanza_rows(alloc) || !other_rows(alloc) || !long_row(alloc) {
+    if !passphrase_rows(alloc) || !known_key_rows(alloc) || stanza_rows(alloc) != Ok(true) {
         return false;
     }
     writes_python_s_header(alloc)

@@ -16,8 +16,8 @@ mod shared;
 mod stops;
 
 pub use cipher::{rfc_aead, rfc_chacha, rfc_poly1305};
-pub use delivery::{delivery_rows, hostile_rows};
-pub use header::header_rows;
+pub use delivery::{EIGHT, delivery_rows, hostile_rows};
+pub use header::{SMALLEST, header_rows};
 pub use kdf::{rfc_hkdf, rfc_hmac, rfc_pbkdf2, rfc_scrypt};
 pub use keys::{FILE_KEY, key_rows};
 pub use shared::{X25519_HEADER, X25519_RECIPIENT, X25519_SECRET, shared_rows};

@@ -6,19 +6,13 @@ ghost use Rattle.age_vectors.specs.Rows.{OpensIn};
 use crate::header::around;
 use crate::keys::{FILE_KEY, is_opened, opened};
 use age_keys::SharedSecret;
-use std::alloc::Global;
+use std::alloc::{AllocError, Global};
 
-/// What X25519 gave for both sides.
-pub const X25519_SECRET: [u8; 32] = [
-    64, 65, 66, 67, 68, 69, 70, 71, 72, 73, 74, 75, 76, 77, 78, 79, 80, 81, 82, 83, 84, 85, 86, 87,
-    88, 89, 90, 91, 92, 93, 94, 95,
-];
+/// What X25519 gave for both sides, the bytes 64 to 95.
+pub const X25519_SECRET: [u8; 32] = *b"@ABCDEFGHIJKLMNOPQRSTUVWXYZ[\\]^_";
 
-/// The recipient's public key.
-pub const X25519_RECIPIENT: [u8; 32] = [
-    96, 97, 98, 99, 100, 101, 102, 103, 104, 105, 106, 107, 108, 109, 110, 111, 112, 113, 114, 115,
-    116, 117, 118, 119, 120, 121, 122, 123, 124, 125, 126, 127,
-];
+/// The recipient's public key, the bytes 96 to 127.
+pub const X25519_RECIPIENT: [u8; 32] = *b"`abcdefghijklmnopqrstuvwxyz{|}~\x7f";
 
 /// A header of one X25519 stanza.
 pub const X25519_HEADER: [u8; 168] =
@@ -61,30 +55,27 @@ const SHORT_SECOND: &[u8] = b"-> X25519 AQIDBAUGBwgJCgsMDQ4PEBESExQVFhcYGRobHB0e
         -> X25519 ISIjJCUmJygpKissLS4vMDEyMzQ1Njc4OTo7PD0+Pw\n\
         saYyWtf1wzZgzf9vl9J/7nBFmW0FB4AEmpbiUeNVh+o\n";
 
-/// Whether a shared secret refuses these stanzas with this number.
-fn refuses(alloc: Global, stanzas: &[u8], number: u8) -> bool {
-    match around(alloc, stanzas) {
-        Ok(text) => {
-            opened(
-                alloc,
-                text.as_slice(),
-                &SharedSecret::new(&X25519_SECRET, &X25519_RECIPIENT),
-            ) == Err(number)
-        }
-        Err(_) => false,
-    }
-}
+/// Stanzas that are refused, and with which number.
+const REFUSED: [(&[u8], u8); 4] = [
+    (SHORT_FIRST, 15),
+    (SHORT_SECOND, 15),
+    (b"-> x\n\n", 12),
+    (b"-> X25519\n\n-> scrypt\n\n", 9),
+];
 
 /// Another secret, a zero secret, and stanzas that are refused.
-fn refused_rows(alloc: Global) -> bool {
+fn refused_rows(alloc: Global, shared: &SharedSecret) -> Result<bool, AllocError> {
+    for (stanzas, number) in REFUSED {
+        if opened(alloc, around(alloc, stanzas)?.as_slice(), shared) != Err(number) {
+            return Ok(false);
+        }
+    }
     let other = SharedSecret::new(&X25519_RECIPIENT, &X25519_RECIPIENT);
     let zero = SharedSecret::new(&[0; 32], &X25519_RECIPIENT);
-    opened(alloc, &X25519_HEADER, &other) == Err(13)
-        && opened(alloc, &X25519_HEADER, &zero) == Err(15)
-        && refuses(alloc, SHORT_FIRST, 15)
-        && refuses(alloc, SHORT_SECOND, 15)
-        && refuses(alloc, b"-> x\n\n", 12)
-        && refuses(alloc, b"-> X25519\n\n-> scrypt\n\n", 9)
+    Ok(
+        opened(alloc, &X25519_HEADER, &other) == Err(13)
+            && opened(alloc, &X25519_HEADER, &zero) == Err(15),
+    )
 }
 
 /// The rows of a shared secret: headers of one X25519 stanza and of two, another secret, a zero
@@ -100,14 +91,11 @@ pub fn shared_rows(alloc: Global) -> bool
         BOTH FILE_KEY }
 {
     let shared = SharedSecret::new(&X25519_SECRET, &X25519_RECIPIENT);
-    if !refused_rows(alloc) {
+    if refused_rows(alloc, &shared) != Ok(true) {
         return false;
     }
     if !is_opened(alloc, SECOND, &shared) || !is_opened(alloc, OTHER_BETWEEN, &shared) {
         return false;
     }
-    if !is_opened(alloc, &BOTH, &shared) {
-        return false;
-    }
-    is_opened(alloc, &X25519_HEADER, &shared)
+    is_opened(alloc, &BOTH, &shared) && is_opened(alloc, &X25519_HEADER, &shared)
 }
