@@ -1,8 +1,9 @@
 //! Readers and writers of the machine's kind that fail in one call, alone and under a decryption.
 
-use crate::tests::examples::{FILE, KEY};
+use crate::tests::examples::FILE;
 use age_file::{Failed, Reading, Sink, Source, Writing, decrypt};
 use age_keys::KnownKey;
+use age_vectors::FILE_KEY;
 use std::alloc::Global;
 use std::io::{self, ErrorKind, Read, Write};
 
@@ -81,7 +82,7 @@ fn fault_of(alloc: Global, fail_read: u32, fail_write: u32) -> u8 {
     let mut held = [0u8; 5];
     let mut source = Reading::new(FailsAt::new(FILE.as_slice(), fail_read));
     let mut sink = Writing::new(FailsAt::new(held.as_mut_slice(), fail_write));
-    match decrypt(alloc, &KnownKey::new(KEY), &mut source, &mut sink) {
+    match decrypt(alloc, &KnownKey::new(FILE_KEY), &mut source, &mut sink) {
         Ok(_) => 0,
         Err(stopped) => stopped.fault.number(),
     }

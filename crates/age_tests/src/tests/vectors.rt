@@ -6,49 +6,25 @@ use age_vectors::{
     delivery_rows, header_rows, hostile_rows, key_rows, rfc_aead, rfc_chacha, rfc_hkdf, rfc_hmac,
     rfc_pbkdf2, rfc_poly1305, rfc_scrypt, shared_rows, stop_rows,
 };
-use std::alloc::Global;
+use std::test::Fail;
 
 #[test]
-fn rfc_8439(rt: HostRuntime) {
+fn values_of_standards(rt: HostRuntime) {
     assert!(rt; rfc_chacha());
     assert!(rt; rfc_poly1305());
     assert!(rt; rfc_aead());
-}
-
-#[test]
-fn key_derivation(rt: HostRuntime) {
     assert!(rt; rfc_hmac());
     assert!(rt; rfc_hkdf());
     assert!(rt; rfc_pbkdf2());
-}
-
-#[test]
-fn rfc_7914(rt: HostRuntime) {
     assert!(rt; rfc_scrypt(rt.alloc()));
 }
 
 #[test]
-fn headers(rt: HostRuntime) {
+fn worked_rows(rt: HostRuntime) {
     assert!(rt; header_rows(rt.alloc()));
-}
-
-#[test]
-fn keys(rt: HostRuntime) {
     assert!(rt; key_rows(rt.alloc()));
-}
-
-#[test]
-fn shared_secrets(rt: HostRuntime) {
     assert!(rt; shared_rows(rt.alloc()));
-}
-
-#[test]
-fn deliveries(rt: HostRuntime) {
     assert!(rt; delivery_rows(rt.alloc()));
-}
-
-#[test]
-fn hostile_bytes(rt: HostRuntime) {
     assert!(rt; hostile_rows(rt.alloc()));
 }
 
@@ -57,18 +33,8 @@ fn every_failure_in_turn(rt: HostRuntime) {
     assert!(rt; stop_rows(rt.alloc()));
 }
 
-fn are_shown(alloc: Global, bad_line: &HeadFault, refused: &SealFault) -> bool {
-    match format!(in alloc; "{bad_line}, {refused}, {}", SealFault::Memory) {
-        Ok(text) => {
-            text.as_str()
-                == "bad stanza line at line 3, too many chunks at chunk 281474976710655, out of memory"
-        }
-        Err(_) => false,
-    }
-}
-
 #[test]
-fn texts_of_faults(rt: HostRuntime) {
+fn texts_of_faults(rt: HostRuntime) -> Result<(), Fail> {
     let bad_line = HeadFault {
         kind: HeadKind::BadStanzaLine,
         line: 3,
@@ -77,5 +43,10 @@ fn texts_of_faults(rt: HostRuntime) {
         kind: StreamKind::TooManyChunks,
         chunk: CHUNK_LIMIT - 1,
     });
-    assert!(rt; are_shown(rt.alloc(), &bad_line, &refused));
+    let text = format!(in rt.alloc(); "{bad_line}, {refused}, {}", SealFault::Memory)?;
+    assert!(rt;
+        text.as_str()
+            == "bad stanza line at line 3, too many chunks at chunk 281474976710655, out of memory"
+    );
+    Ok(())
 }
