@@ -1,7 +1,7 @@
 ghost use Rattle.std.specs.Prelude.{◌+◌, ◌*◌, ◌^◌, ◌≤◌};
 
-use age_cipher::{open_in_place, poly1305, seal_in_place, xor_stream};
-use age_kdf::{hmac, pbkdf2_once};
+use age_cipher::{open_in_place, seal_in_place, xor_stream};
+use age_kdf::hmac;
 use age_scrypt::{Memory, Steps, derive};
 use sha2::{Digest, Sha256};
 use std::alloc::Global;
@@ -39,21 +39,6 @@ fn texts_of_every_length(rt: HostRuntime) {
     assert!(rt; digest_of_lengths(4_294_967_291, 320) == up_to_the_end);
 }
 
-/// The product is 2^130 - 2, whose last reduction changes the tag from fe and fifteen ff; and the sum
-/// with the key's second half passes 2^128.
-#[test]
-fn tags_by_hand(rt: HostRuntime) {
-    let mut wanted = [0; 16];
-    wanted[0] = 3;
-    let mut key = [0; 32];
-    key[0] = 2;
-    assert!(rt; poly1305(&key, &[&[0xff; 16]]) == wanted);
-    key[16..].copy_from_slice(&[0xff; 16]);
-    let mut message = [0; 16];
-    message[0] = 2;
-    assert!(rt; poly1305(&key, &[&message]) == wanted);
-}
-
 /// Whether a block with this bit inverted doesn't open, and stays as it was.
 fn is_noticed(block: &[u8; 16], bit: usize) -> bool {
     let mut other = *block;
@@ -85,21 +70,6 @@ fn keys_about_a_block_long(rt: HostRuntime) {
         \x99\x96\x82\x5e\xbd\x04\x20\x5c\x32\x7c\xfc\x04\xec\x81\x0c\x5e";
     assert!(rt; hmac(key, &[b"message"]) == of_65);
     assert!(rt; hmac(&Sha256::digest(key), &[b"message"]) == of_65);
-}
-
-/// The block of number i, from 1, by its formula.
-fn derived_block(i: [u8; 4]) -> [u8; 32] {
-    hmac(b"pleaseletmein", &[b"SodiumChloride", &i])
-}
-
-#[test]
-fn keys_by_blocks(rt: HostRuntime) {
-    let mut one = [1; 32];
-    pbkdf2_once(b"pleaseletmein", b"SodiumChloride", &mut one);
-    assert!(rt; one == derived_block([0, 0, 0, 1]));
-    let mut more = [1; 33];
-    pbkdf2_once(b"pleaseletmein", b"SodiumChloride", &mut more);
-    assert!(rt; more.starts_with(&one) && more[32] == derived_block([0, 0, 0, 2])[0]);
 }
 
 fn derived(alloc: Global) -> Result<[u8; 32], Memory> {
