@@ -1,7 +1,7 @@
 -- What was put of an output, and of the file of a position.
 use Rattle.std.proofs.Common.{◌≡◌, ◌∙◌, ◌⊎◌, ◌++◌, ◌∷◌, [], ℕ, List, inl, inr, refl, ap, sym, subst, Bool, true, false, true≢false, Option, Some, None, Result, Ok, Err, OnOk, OnErr, IfErr}
 use Rattle.std.proofs.Common.{append-nil, length}
-use Rattle.std.specs.Prelude.{IsOkUnless, IsSomeAnd, is_some, ◌==◌, ◌≤◌, ◌*◌}
+use Rattle.std.specs.Prelude.{IsOkUnless, IsSomeAnd, is_some, ◌≤◌, ◌*◌}
 use Rattle.clap.specs.Words.{Text}
 use Rattle.age_chunk.specs.Payload.{chunk_length}
 use Rattle.age_io.specs.Io.{SinkView}
@@ -22,9 +22,6 @@ use Rattle.age_command.specs.declared.ending.Ending.TheVariants.{Fault, Unsaved}
 use Rattle.age_cli.specs.Acts.{IsLost, IsNotDue, IsStored, IsUnsavable, LacksOne}
 use Rattle.age_cli.specs.inner.Endings.{Concludes, IsPut, position_of}
 use Rattle.age_cli.specs.declared.interruption.Interruption.{Interruption}
-
-pub took_bytes : (bytes : List ℕ) (is_empty : Bool) → is_empty ≡ (length bytes == 0) → is_empty ≡ false → bytes ≡ [] → ⊥
-took_bytes bytes is_empty knows some none = true≢false (sym (ap (λ (xs : List ℕ). length xs == 0) none) ∙ (sym knows ∙ some))
 
 -- nothing was put
 pub grows_same : (old new : FilesView) → new.outcomes ≡ old.outcomes ++ [] → PutsOnly [] old new

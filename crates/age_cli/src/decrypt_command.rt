@@ -19,7 +19,6 @@ ghost use Rattle.age_cli.specs.inner.Rereadings.{RunsEngine};
 
 use crate::output::{Content, Output, begin_meter, end_meter, open_both};
 use crate::reread::{Decrypted, can_reread, conclude_decryption, positions_at_first};
-use crate::taking::Taking;
 use age_cli_args::{Decrypting, ProgressOption};
 use age_command::{Announcement, Choice, Ending, Identity, Usage};
 use age_file::{Done, PositionPolicy, Source, Stopped, decrypt_keyed, read_again};
@@ -108,12 +107,12 @@ fn open_text<F: FileSet, P: Meter>(
     positions: PositionPolicy,
     identity: Identity,
     mut source: F::In,
-    out: &mut Taking<F>,
+    out: &mut F::Out,
     progress: &mut P,
 ) -> Opened<F::In>
     ensures opened { DecryptsKeyed positions (allows_by identity) (refuses_by identity)
-        (ports (F.In.view source) (F.Out.view out.old.out))
-        (ports (F.In.view result.source) (F.Out.view out.new.out)) result.end result.key }
+        (ports (F.In.view source) (F.Out.view out.old))
+        (ports (F.In.view result.source) (F.Out.view out.new)) result.end result.key }
     ensures began { (name : List ℕ) → F.In.began source (Named name)
         → F.In.began result.source (Named name) }
     ensures silent { asked.now.progress ≡ Silent → progress.new ≡ progress.old }
@@ -151,7 +150,7 @@ fn decrypt_opened<F: FileSet, E: Sink, P: Meter>(
     asked: &Decrypting<'_>,
     identity: Identity,
     source: F::In,
-    mut out: Taking<F>,
+    mut out: F::Out,
     faults: &mut E,
     announced: &mut Announcement,
     progress: &mut P,
@@ -166,7 +165,7 @@ fn decrypt_opened<F: FileSet, E: Sink, P: Meter>(
         (decrypt_engine (CameSince first (F.view files.new)) asked.now.from.now
         (kept_for (option_text asked.now.save)) identity)
         (paths_of asked.now) asked.now.durability asked.now.progress
-        (ports (F.In.view source) (F.Out.view out.out)) (F.view files.old) (F.view files.new)
+        (ports (F.In.view source) (F.Out.view out)) (F.view files.old) (F.view files.new)
         (progress.new ≡ progress.old) (λ coming left ended. ShowsReadings (F.size source) coming left
         (P.shown progress.old) (P.shown progress.new) ended) result }
 {

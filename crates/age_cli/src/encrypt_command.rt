@@ -25,7 +25,6 @@ ghost use Rattle.age_cli.specs.inner.Openings.{Compares, Judges, IsRandom, IsMat
 
 use crate::interruption::sealing_end;
 use crate::output::{Content, Output, begin_meter, conclude, end_meter, open_both};
-use crate::taking::Taking;
 use age_cli_args::{Encrypting, ProgressOption};
 use age_command::{Announcement, Choice, Ending, Usage, read_first, trimmed};
 use age_file::{FileFault, Secret, Source, Written, encrypt};
@@ -212,16 +211,16 @@ fn seal_text<F: FileSet, P: Meter>(
     asked: &Encrypting<'_>,
     secret: &Secret<'_>,
     mut source: F::In,
-    out: &mut Taking<F>,
+    out: &mut F::Out,
     progress: &mut P,
 ) -> Sealed<F::In>
     ensures done { IfOk result.end (Encrypts secret.now
-        (ports (F.In.view source) (F.Out.view out.old.out))
-        (ports (F.In.view result.source) (F.Out.view out.new.out))) }
+        (ports (F.In.view source) (F.Out.view out.old))
+        (ports (F.In.view result.source) (F.Out.view out.new))) }
     ensures fails { IfErr result.end (EncryptFails secret.now
-        (ports (F.In.view source) (F.Out.view out.old.out))
-        (ports (F.In.view result.source) (F.Out.view out.new.out))) }
-    ensures named { (F.Out.view out.new.out).label ≡ (F.Out.view out.old.out).label }
+        (ports (F.In.view source) (F.Out.view out.old))
+        (ports (F.In.view result.source) (F.Out.view out.new))) }
+    ensures named { (F.Out.view out.new).label ≡ (F.Out.view out.old).label }
     ensures began { (name : List ℕ) → F.In.began source (Named name)
         → F.In.began result.source (Named name) }
     ensures silent { asked.now.progress ≡ Silent → progress.new ≡ progress.old }

@@ -22,7 +22,6 @@ mod print;
 mod program;
 mod reread;
 mod resume_command;
-mod taking;
 
 pub use age_fileset::{FileSet, MemFiles, OpenFault};
 pub use decrypt_command::decrypt_file;

@@ -21,7 +21,6 @@ ghost use Rattle.age_cli.specs.inner.Openings.{OpensFiles, age_file_in};
 ghost use Rattle.age_cli.specs.declared.output.Content.TheVariants.{AgeFile};
 
 use crate::interruption::{Interruption, end_of};
-use crate::taking::Taking;
 use age_cli_args::ClobberOption;
 use age_command::{Announcement, Ending, Usage};
 use age_fileset::{FileSet, OpenFault};
@@ -112,12 +111,12 @@ fn create_out<F: FileSet>(
     alloc: Global,
     files: &mut F,
     asked: &Output<'_>,
-) -> Result<Taking<F>, Ending>
+) -> Result<F::Out, Ending>
     ensures { OpensFiles (creating asked.now.clobber asked.now.to.now ∷ [])
         (making asked.now.clobber (Some asked.now.to.now) asked.now.durability)
         (age_file_in asked.now.content asked.now.to.now) (F.view files.old) (F.view files.new)
-        (λ o. ((F.Out.view o.out).taken.bytes ≡ []) × ((F.Out.view o.out).failed ≡ 0)
-        × ((F.Out.view o.out).label ≡ asked.now.to.now) × (asked.now.clobber ≡ Refused
+        (λ o. ((F.Out.view o).taken.bytes ≡ []) × ((F.Out.view o).failed ≡ 0)
+        × ((F.Out.view o).label ≡ asked.now.to.now) × (asked.now.clobber ≡ Refused
         → CameSince (F.view files.old) (F.view files.new) (Absent asked.now.to.now)))
         result }
 {
@@ -127,7 +126,7 @@ fn create_out<F: FileSet>(
             files.discard(out, asked.durability);
             Err(Ending::Usage(usage))
         }
-        None => Ok(Taking::new(out)),
+        None => Ok(out),
     }
 }
 
@@ -153,15 +152,15 @@ pub(crate) fn open_both<F: FileSet>(
     files: &mut F,
     from: &str,
     asked: &Output<'_>,
-) -> Result<(F::In, Taking<F>), Ending>
+) -> Result<(F::In, F::Out), Ending>
     ensures { OpensFiles
         (Opened from.now ∷ (preparing (option_text asked.now.save)
         ++ creating asked.now.clobber asked.now.to.now ∷ []))
         (Opened from.now ∷ (preparing (option_text asked.now.save)
         ++ making asked.now.clobber (Some asked.now.to.now) asked.now.durability))
         (age_file_in asked.now.content asked.now.to.now) (F.view files.old) (F.view files.new)
-        (λ both. AreNew (ports (F.In.view both.0) (F.Out.view both.1.out))
-        × F.In.began both.0 (Named from.now) × ((F.Out.view both.1.out).label ≡ asked.now.to.now)
+        (λ both. AreNew (ports (F.In.view both.0) (F.Out.view both.1))
+        × F.In.began both.0 (Named from.now) × ((F.Out.view both.1).label ≡ asked.now.to.now)
         × CameSince (F.view files.old) (F.view files.new)
         (Found from.now (F.In.view both.0).supply.left (F.size both.0))
         × (asked.now.clobber ≡ Refused
@@ -190,14 +189,14 @@ pub(crate) fn end_meter<M: Meter>(meter: &mut M)
 }
 
 /// Ends the output of an engine that stopped: with what was written, or as it was, if nothing was.
-pub(crate) fn leave<F: FileSet>(files: &mut F, out: Taking<F>, durability: Durability)
+pub(crate) fn leave<F: FileSet>(files: &mut F, out: F::Out, durability: Durability)
     ensures puts { (puts : List Entry) × PutsOnly puts (F.view files.old) (F.view files.new)
-        × IsPut (F.Out.view out.out) puts }
+        × IsPut (F.Out.view out) puts }
     ensures noted { (F.view files.new).events
         ≡ (F.view files.old).events ++ Closed durability ∷ [] }
-    ensures ended { IsSomeAnd (F.view files.new).ended (LeavesFile (F.Out.view out.out)) }
+    ensures ended { IsSomeAnd (F.view files.new).ended (LeavesFile (F.Out.view out)) }
 {
-    let Taking { out, is_empty } = out;
+    let is_empty = files.is_empty(&out);
     if is_empty {
         files.discard(out, durability);
     } else {
@@ -209,15 +208,15 @@ pub(crate) fn leave<F: FileSet>(files: &mut F, out: Taking<F>, durability: Durab
 /// Ends the output once the engine returned: whole, or as its stop leaves it.
 fn end_out<F: FileSet>(
     files: &mut F,
-    out: Taking<F>,
+    out: F::Out,
     durability: Durability,
     engine: Result<(), Interruption>,
 ) -> Result<(), Interruption>
-    ensures { EndsOut durability (F.Out.view out.out) engine (F.view files.old) (F.view files.new)
+    ensures { EndsOut durability (F.Out.view out) engine (F.view files.old) (F.view files.new)
         result }
 {
     match engine {
-        Ok(()) => Ok(files.close(out.into_out(), durability)?),
+        Ok(()) => Ok(files.close(out, durability)?),
         Err(stop) => {
             leave(files, out, durability);
             Err(stop)
@@ -228,19 +227,19 @@ fn end_out<F: FileSet>(
 /// How many bytes an output holds for certain, if the position of a stop is to be saved.
 fn settle_stop<F: FileSet>(
     files: &mut F,
-    out: &mut Taking<F>,
+    out: &mut F::Out,
     save: Option<&str>,
     durability: Durability,
     engine: &Result<(), Interruption>,
 ) -> u64
     ensures does { Does [] (F.view files.old) (F.view files.new) }
-    ensures same { F.Out.view out.new.out ≡ F.Out.view out.old.out }
+    ensures same { F.Out.view out.new ≡ F.Out.view out.old }
     ensures certain { is_some (option_text save.entry) ≡ true → OnErr engine.now
         (CameSince (F.view files.old) (F.view files.new)
-        (Settled durability (F.Out.view out.old.out).taken.bytes result)) }
+        (Settled durability (F.Out.view out.old).taken.bytes result)) }
 {
     if save.is_some() && engine.is_err() {
-        out.settle(files, durability)
+        files.settle(out, durability)
     } else {
         0
     }
@@ -251,7 +250,7 @@ fn settle_stop<F: FileSet>(
 fn conclude_settled<F: FileSet, E: Sink>(
     alloc: Global,
     files: &mut F,
-    out: Taking<F>,
+    out: F::Out,
     save: Option<&str>,
     settled: u64,
     durability: Durability,
@@ -261,7 +260,7 @@ fn conclude_settled<F: FileSet, E: Sink>(
 ) -> Result<(), Ending>
     ensures announced { Tells announced.new result (E.view faults.old) (E.view faults.new)
         (faults.new ≡ faults.old) }
-    ensures concludes { Concludes (option_text save.entry) durability (F.Out.view out.out) settled
+    ensures concludes { Concludes (option_text save.entry) durability (F.Out.view out) settled
         engine (F.view files.old) (F.view files.new) result }
 {
     match end_out(files, out, durability, engine) {
@@ -276,7 +275,7 @@ fn conclude_settled<F: FileSet, E: Sink>(
 pub(crate) fn conclude<F: FileSet, E: Sink>(
     alloc: Global,
     files: &mut F,
-    mut out: Taking<F>,
+    mut out: F::Out,
     save: Option<&str>,
     durability: Durability,
     faults: &mut E,
@@ -286,10 +285,10 @@ pub(crate) fn conclude<F: FileSet, E: Sink>(
     ensures announced { Tells announced.new result (E.view faults.old) (E.view faults.new)
         (faults.new ≡ faults.old) }
     ensures concludes { (settled : ℕ) × Concludes (option_text save.entry) durability
-        (F.Out.view out.out) settled engine (F.view files.old) (F.view files.new) result
+        (F.Out.view out) settled engine (F.view files.old) (F.view files.new) result
         × (is_some (option_text save.entry) ≡ true → OnErr engine
         (CameSince (F.view files.old) (F.view files.new)
-        (Settled durability (F.Out.view out.out).taken.bytes settled))) }
+        (Settled durability (F.Out.view out).taken.bytes settled))) }
 {
     let settled = settle_stop(files, &mut out, save, durability, &engine);
     conclude_settled(

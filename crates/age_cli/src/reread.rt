@@ -15,7 +15,6 @@ ghost use Rattle.age_cli.specs.inner.Rereadings.{IsFoundIn, ConcludesDecryption,
 
 use crate::interruption::{opening_end, save};
 use crate::output::{begin_meter, conclude, end_meter, leave};
-use crate::taking::Taking;
 use age_cli_args::{Decrypting, ProgressOption};
 use age_command::{Announcement, Ending, announce};
 use age_file::{Done, FileFault, Position, PositionPolicy, Stopped, position_after};
@@ -217,7 +216,7 @@ fn find_again<F: FileSet, P: Meter>(
 fn conclude_found<F: FileSet, E: Sink, P: Meter>(
     alloc: Global,
     files: &mut F,
-    out: Taking<F>,
+    out: F::Out,
     asked: &Decrypting<'_>,
     again: Again<F::In>,
     settled: u64,
@@ -230,7 +229,7 @@ fn conclude_found<F: FileSet, E: Sink, P: Meter>(
     ensures over { CameSince (F.view files.old) (F.view files.new)
         (Gave (reading_of asked.now.from.now (F.In.view again.source))) }
     ensures announced { Announces announced.new result (E.view faults.old) (E.view faults.new) ⊥ }
-    ensures again { ConcludesFound asked.now (F.Out.view out.out) again.from again.stopped again.key
+    ensures again { ConcludesFound asked.now (F.Out.view out) again.from again.stopped again.key
         (F.view files.old) (F.view files.new) result settled }
     ensures silent { asked.now.progress ≡ Silent → progress.new ≡ progress.old }
     ensures shown { (P.shown progress.new ≡ P.shown progress.old)
@@ -262,7 +261,7 @@ fn conclude_found<F: FileSet, E: Sink, P: Meter>(
 fn conclude_again<F: FileSet, E: Sink, P: Meter>(
     alloc: Global,
     files: &mut F,
-    mut out: Taking<F>,
+    mut out: F::Out,
     asked: &Decrypting<'_>,
     again: Again<F::In>,
     faults: &mut E,
@@ -275,8 +274,8 @@ fn conclude_again<F: FileSet, E: Sink, P: Meter>(
         (Gave (reading_of asked.now.from.now (F.In.view again.source))) }
     ensures announced { Announces announced.new result (E.view faults.old) (E.view faults.new) ⊥ }
     ensures again { (settled : ℕ) × CameSince (F.view files.old) (F.view files.new)
-        (Settled asked.now.durability (F.Out.view out.out).taken.bytes settled)
-        × ConcludesFound asked.now (F.Out.view out.out) again.from again.stopped again.key
+        (Settled asked.now.durability (F.Out.view out).taken.bytes settled)
+        × ConcludesFound asked.now (F.Out.view out) again.from again.stopped again.key
         (F.view files.old) (F.view files.new) result settled }
     ensures silent { asked.now.progress ≡ Silent → progress.new ≡ progress.old }
     ensures shown { (P.shown progress.new ≡ P.shown progress.old)
@@ -284,7 +283,7 @@ fn conclude_again<F: FileSet, E: Sink, P: Meter>(
         × ShowsRun size coming left
         (P.shown progress.old) (P.shown progress.new)) }
 {
-    let settled = out.settle(files, asked.durability);
+    let settled = files.settle(&mut out, asked.durability);
     conclude_found(
         alloc, files, out, asked, again, settled, faults, announced, progress,
     )
@@ -295,7 +294,7 @@ fn conclude_again<F: FileSet, E: Sink, P: Meter>(
 pub(crate) fn conclude_decryption<F: FileSet, E: Sink, P: Meter>(
     alloc: Global,
     files: &mut F,
-    out: Taking<F>,
+    out: F::Out,
     asked: &Decrypting<'_>,
     is_reread: bool,
     decrypted: Decrypted<F::In>,
@@ -310,8 +309,8 @@ pub(crate) fn conclude_decryption<F: FileSet, E: Sink, P: Meter>(
     ensures announced { Tells announced.new result (E.view faults.old) (E.view faults.new)
         (faults.new ≡ faults.old) }
     ensures concludes { ConcludesDecryption (λ settled. CameSince (F.view files.old)
-        (F.view files.new) (Settled asked.now.durability (F.Out.view out.out).taken.bytes settled)) asked.now
-        (F.Out.view out.out) decrypted.from decrypted.end
+        (F.view files.new) (Settled asked.now.durability (F.Out.view out).taken.bytes settled)) asked.now
+        (F.Out.view out) decrypted.from decrypted.end
         (again_of is_reread decrypted.end decrypted.key)
         (F.view files.old) (F.view files.new) result }
     ensures silent { asked.now.progress ≡ Silent → progress.new ≡ progress.old }

@@ -24,7 +24,6 @@ ghost use Rattle.age_cli.specs.inner.Rereadings.{RunsEngine, key_of, placed};
 use crate::decrypt_command::{is_given_as, names_a_file_twice, read_secret};
 use crate::output::{Content, Output, begin_meter, end_meter, open_both};
 use crate::reread::{Decrypted, can_reread, conclude_decryption, positions_at_first};
-use crate::taking::Taking;
 use age_cli_args::{Decrypting, ProgressOption, Resuming};
 use age_command::{Announcement, Choice, Ending, Identity, read_file};
 use age_file::{
@@ -186,13 +185,13 @@ fn resume_text<F: FileSet, P: Meter>(
     position: &Position,
     mut source: F::In,
     old: &mut F::In,
-    out: &mut Taking<F>,
+    out: &mut F::Out,
     progress: &mut P,
 ) -> Resumed<F::In>
     ensures resumed { ResumesKeyed positions (allows_by identity) (refuses_by identity)
         position.now
-        (resume_ports (ports (F.In.view source) (F.Out.view out.old.out)) (F.In.view old.old))
-        (resume_ports (ports (F.In.view result.source) (F.Out.view out.new.out)) (F.In.view old.new))
+        (resume_ports (ports (F.In.view source) (F.Out.view out.old)) (F.In.view old.old))
+        (resume_ports (ports (F.In.view result.source) (F.Out.view out.new)) (F.In.view old.new))
         result.end result.standing }
     ensures began { (name : List ℕ) → F.In.began source (Named name)
         → F.In.began result.source (Named name) }
@@ -257,7 +256,7 @@ fn resume_opened<F: FileSet, E: Sink, P: Meter>(
     position: &Position,
     mut old: F::In,
     source: F::In,
-    mut out: Taking<F>,
+    mut out: F::Out,
     faults: &mut E,
     announced: &mut Announcement,
     progress: &mut P,
@@ -277,7 +276,7 @@ fn resume_opened<F: FileSet, E: Sink, P: Meter>(
         asked.now.decrypting.from.now (kept_for (option_text asked.now.decrypting.save)) identity
         position.now asked.now.old.now)
         (paths_of asked.now.decrypting) asked.now.decrypting.durability asked.now.decrypting.progress
-        (ports (F.In.view source) (F.Out.view out.out)) (F.view files.old) (F.view files.new)
+        (ports (F.In.view source) (F.Out.view out)) (F.view files.old) (F.view files.new)
         (progress.new ≡ progress.old) (λ coming left ended. ShowsReadings (F.size source) coming left
         (P.shown progress.old) (P.shown progress.new) ended) result }
 {

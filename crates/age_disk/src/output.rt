@@ -1,6 +1,6 @@
 //! A file of the machine that is written.
 
-ghost use Rattle.std.specs.Prelude.{◌≡◌, ◌≤◌, ◌<◌, [], ◌∷◌, ◌++◌, None, Some, true, false, length, is_ok};
+ghost use Rattle.std.specs.Prelude.{◌≡◌, ◌↔◌, ◌≤◌, ◌<◌, [], ◌∷◌, ◌++◌, None, Some, true, false, length, is_ok};
 ghost use Rattle.std.specs.Prelude.{IfOk, IfSome, OnErr, MatchResult, string_bytes, is_err, ℕ, List};
 ghost use Rattle.std.specs.Prelude.{option_map};
 ghost use Rattle.std.specs.Io.{WritesAtMost};
@@ -602,6 +602,13 @@ impl HostOut {
             Target::Output(output, _) => output.is_terminal(),
             Target::Faults(faults, _) => faults.is_terminal(),
         }
+    }
+
+    /// Whether it took no byte so far.
+    pub fn is_empty(&self) -> bool
+        ensures { result ≡ true ↔ (self.now.took ≡ []) }
+    {
+        self.pace.taken == 0
     }
 
     /// How many of the bytes that it took are there for certain: on the disk, if they are to be and

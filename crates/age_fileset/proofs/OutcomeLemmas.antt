@@ -206,9 +206,9 @@ pub gave_puts : (r : Reading) → puts_in (Gave r ∷ []) ≡ []
 unfolding puts_in
 gave_puts r = refl
 
-pub settled_puts : (durability : Durability) (took : List ℕ) (size : ℕ) → puts_in (Settled durability took size ∷ []) ≡ []
+pub settled_does : (durability : Durability) (took : List ℕ) (size : ℕ) (old new : FilesView) → new ≡ with_outcomes (Settled durability took size ∷ []) old → Does [] old new
 unfolding puts_in
-settled_puts durability took size = refl
+settled_does durability took size old new is = does_only old new (Settled durability took size ∷ []) is refl
 
 -- ---- What was read.
 

@@ -1,6 +1,6 @@
 //! Files by their names.
 
-ghost use Rattle.std.specs.Prelude.{◌≡◌, ℕ, true, false, List, [], ◌∷◌, Option, Some};
+ghost use Rattle.std.specs.Prelude.{◌≡◌, ◌↔◌, ℕ, true, false, List, [], ◌∷◌, Option, Some};
 ghost use Rattle.std.specs.Prelude.{IfOk, IfErr, IsOkUnless, OnOk, IfSome, ◌≤◌, length, IsSomeAnd};
 ghost use Rattle.age_fileset.specs.FileSet.{FilesView, IsMemoryOr, OpenFails, Opened, Prepared, Created};
 ghost use Rattle.age_fileset.specs.FileSet.{Made, Replaced, EndsOne, Found, FoundOrEmpty, Absent, Gave};
@@ -171,6 +171,10 @@ pub trait FileSet {
     fn is_terminal(&mut self, out: &Self::Out) -> bool
         ensures { view self.new ≡ with_outcomes
             (noted_if result (Terminal (Self.Out.view out.now).label)) (view self.old) };
+
+    /// Whether a file that was created took no byte so far.
+    fn is_empty(&self, out: &Self::Out) -> bool
+        ensures { result ≡ true ↔ ((Self.Out.view out.now).taken.bytes ≡ []) };
 
     /// How many bytes of those that a sink took its file holds for certain: on the disk, if that is
     /// asked for and the machine can wait. Never more than the sink took.

@@ -525,6 +525,10 @@ impl FileSet for MemFiles {
         false
     }
 
+    fn is_empty(&self, out: &MemOut) -> bool {
+        out.sink.bytes().is_empty()
+    }
+
     /// All that the sink took.
     fn settle(&mut self, out: &mut MemOut, durability: Durability) -> u64
         ensures kept { self.new ≡ record self.old {

@@ -651,6 +651,10 @@ impl<'r, 'w> FileSet for HostFiles<'r, 'w> {
         is_terminal
     }
 
+    fn is_empty(&self, out: &WatchedOut<'r, 'w>) -> bool {
+        out.is_empty()
+    }
+
     fn settle(&mut self, out: &mut WatchedOut<'r, 'w>, durability: Durability) -> u64 {
         let size = out.settle(self.rt, durability);
         self.log.settled(durability, out.took(), size);

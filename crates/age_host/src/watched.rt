@@ -1,6 +1,6 @@
 //! Files and streams whose failures are kept.
 
-ghost use Rattle.std.specs.Prelude.{◌≡◌, ◌≤◌, ◌<◌, [], ◌∷◌, ◌++◌, length, true, IfOk, OnOk, OnErr};
+ghost use Rattle.std.specs.Prelude.{◌≡◌, ◌↔◌, ◌≤◌, ◌<◌, [], ◌∷◌, ◌++◌, length, true, IfOk, OnOk, OnErr};
 ghost use Rattle.std.specs.Prelude.{IfSome, MatchResult, is_err, false};
 ghost use Rattle.age_io.specs.Io.{one_more, IsNamed};
 ghost use Rattle.age_io.specs.Taken.{WriteAppends, Keeps};
@@ -205,6 +205,13 @@ impl<'r, 'w> WatchedOut<'r, 'w> {
     /// Whether it is a terminal.
     pub(crate) fn is_terminal(&self) -> bool {
         self.sink.is_terminal()
+    }
+
+    /// Whether nothing was written so far.
+    pub(crate) fn is_empty(&self) -> bool
+        ensures { result ≡ true ↔ (self.now.sink.took ≡ []) }
+    {
+        self.sink.is_empty()
     }
 
     /// How many of the bytes that were written it holds for certain.

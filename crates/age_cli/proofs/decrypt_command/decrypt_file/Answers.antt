@@ -70,7 +70,7 @@ returns-clause-acts g c =
     let xs = identity_order (option_text d.identity.pass) (option_text d.identity.shared) in
     let ys : List Event = Opened d.from.now ∷ preparing (option_text d.save) in
     let source = c.in_ok-source.source in
-    let before = ports (g.F.In.Source.view source) (g.F.Out.Sink.view c.in_ok-source.out.out) in
+    let before = ports (g.F.In.Source.view source) (g.F.Out.Sink.view c.in_ok-source.out) in
     let did = does_then xs (ys ++ creating d.clobber d.to.now ∷ []) old next mid judged.noted both.noted in
     let run = c.decrypt_opened.ensures.opened old (then_came [] old mid new (grows_by (xs ++ (ys ++ creating d.clobber d.to.now ∷ [])) old mid did)) in
     let grows = concluded_grows (option_text d.save) d.durability run.after run.settled run.end mid new c.decrypt_opened.result run.concludes in
@@ -79,7 +79,7 @@ returns-clause-acts g c =
     let given : (o : Outcome) → CameSince first next o → CameSince old new o =
     λ o came. came_then grows.0 old mid new grows.1 o (came_then [] old next mid both.none o (then_came [] old first next (grows_by [] old first twice.does) o came)) in
     acts_engine _ (Decrypt d) old mid new _ _ _ _ (paths_of d) before c.decrypt_opened.result xs ys (g.F.FileSet.size source)
-    (record { source = source; sink = c.in_ok-source.out.out; is = refl }) both.begun.0 (opened _ both.begun.3) (λ refused. opened _ (both.begun.4 refused)) both.begun.2 run did
+    (record { source = source; sink = c.in_ok-source.out; is = refl }) both.begun.0 (opened _ both.begun.3) (λ refused. opened _ (both.begun.4 refused)) both.begun.2 run did
     refl refl (λ P holds. (
       c.in_ok-identity.identity,
       opens_by (CameSince first next) (CameSince old new) given d c.in_ok-choice.choice _ c.in_ok-identity.identity chooses c.in_ok-identity.ensures.makes c.in_ok-secret.ensures.given,

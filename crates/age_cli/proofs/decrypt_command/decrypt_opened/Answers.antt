@@ -17,9 +17,9 @@ returns-clause-opened g c = λ first later.
     let was = c.args.progress.now in
     let now = ended.new.progress in
     let size = g.F.FileSet.size c.args.source in
-    runs_opened (PortsOf In Out) (CameSince first (view ended.new.files)) c.args.asked.now c.args.identity (ports (In c.args.source) (Out c.args.out.out))
-    (ports (In once.result.source) (Out once.new.out.out))
-    (record { source = once.result.source; sink = once.new.out.out; is = refl }) (view c.args.files.now) (view ended.new.files) later ended.ensures.over
+    runs_opened (PortsOf In Out) (CameSince first (view ended.new.files)) c.args.asked.now c.args.identity (ports (In c.args.source) (Out c.args.out))
+    (ports (In once.result.source) (Out once.new.out))
+    (record { source = once.result.source; sink = once.new.out; is = refl }) (view c.args.files.now) (view ended.new.files) later ended.ensures.over
     (now ≡ was)
     (λ coming left r. ShowsReadings size coming left (shown was) (shown now) r)
     (λ silent. ended.ensures.silent silent ∙ once.ensures.silent silent) c.can_reread-is_reread.result

@@ -51,8 +51,8 @@ returns-clause-acts g c =
     let both = c.in_ok-source.ensures in
     let run = c.seal_text-end in
     let source = c.in_ok-source.source in
-    let before = ports (In source) (Out c.in_ok-source.out.out) in
-    let after = ports (In run.result.source) (Out run.new.out.out) in
+    let before = ports (In source) (Out c.in_ok-source.out) in
+    let after = ports (In run.result.source) (Out run.new.out) in
     let did = c.conclude.ensures.concludes in
     let xs : List Event = Opened a.pass.now ∷ Opened (random_name (option_text a.random)) ∷ [] in
     let ys : List Event = Opened a.from.now ∷ [] in
@@ -71,9 +71,9 @@ returns-clause-acts g c =
     let size = g.F.FileSet.size source in
     acts_engine _ (Encrypt a) old opened new _ _ _ (encrypt_engine c.in_ok-secret.secret)
     (record { from = a.from.now; to = a.to.now; save = None; clobber = a.clobber }) before c.conclude.result xs ys size
-    (record { source = source; sink = c.in_ok-source.out.out; is = refl }) both.begun.0 (early _ both.begun.3) (λ refused. early _ (both.begun.4 refused)) both.begun.2
+    (record { source = source; sink = c.in_ok-source.out; is = refl }) both.begun.0 (early _ both.begun.3) (λ refused. early _ (both.begun.4 refused)) both.begun.2
     (runs_sealed _ (CameSince old new) a c.in_ok-secret.secret before after opened mid new _ _ _ size did.0 run.result.end c.conclude.result
-    (record { source = run.result.source; sink = run.new.out.out; is = refl }) (since gave (came_one opened mid gave (ap (λ v. v.outcomes) over))) ended
+    (record { source = run.result.source; sink = run.new.out; is = refl }) (since gave (came_one opened mid gave (ap (λ v. v.outcomes) over))) ended
     run.ensures.done run.ensures.fails run.ensures.named concludes run.ensures.silent run.ensures.shown) all refl refl (λ P holds. (
       c.in_ok-secret.secret,
       record {

@@ -4,7 +4,7 @@ use Rattle.age_cli.proofs.output.conclude.Goals as goal
 
 pub returns-clause-concludes : goal.returns-clause-concludes
 returns-clause-concludes g c =
-    let sink = g.F.Out.Sink.view c.args.out.out in
+    let sink = g.F.Out.Sink.view c.args.out in
     let view = g.F.FileSet.view in
     let settle = c.settle_stop-settled in
     let did = rw settle.ensures.same at c.conclude_settled.ensures.concludes in (

@@ -31,7 +31,7 @@ returns-in-Err-clause-concludes g c =
     let out = c.in-Err.ensures in
     let ended = c.end_of.ensures in
     let stop = c.in-Err.stop in
-    let sink = g.F.Out.Sink.view c.args.out.out in
+    let sink = g.F.Out.Sink.view c.args.out in
     record {
       done = tt;
       fault = ended.fault;

@@ -55,9 +55,9 @@ returns-in-None g c =
     let mid = view c.make_out.new.files in
     let new = view c.refusal_of.new.files in
     let did = does_then (creating a.clobber a.to.now ∷ []) [] old mid new made.does c.refusal_of.ensures.does in
-    opens_all _ _ _ old new _ c.new.result (rw c.new.ensures (
+    opens_all _ _ _ old new _ c.in_ok-out.out (
       made.begun.0,
       made.begun.1,
       made.begun.2,
       λ refused. came_then [] old mid new (grows_by _ _ _ c.refusal_of.ensures.does) _ (made.fresh refused),
-    )) did
+    ) did

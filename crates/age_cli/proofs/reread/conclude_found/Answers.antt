@@ -19,7 +19,7 @@ returns-in-Ok-save-clause-again g c =
     let new = view c.save.new.files in
     let p = c.in-Ok.found in
     let saved = c.in-Ok-save.ensures in
-    found_at d (g.F.Out.Sink.view c.args.out.out) again.from again.stopped again.key c.args.settled (view c.args.files.now) (view c.leave.new.files)
+    found_at d (g.F.Out.Sink.view c.args.out) again.from again.stopped again.key c.args.settled (view c.args.files.now) (view c.leave.new.files)
     mid new
     (record { puts = left.puts; noted = left.noted; ended = left.ended }) c.find_again.ensures.does (Fault again.stopped.fault) saved.unended refl
     refl saved.noted p
@@ -36,7 +36,7 @@ returns-in-Err-save-clause-again g c =
     let p = c.in-Ok.found in
     let second = c.in-Err-save.second in
     let saved = c.in-Err-save.ensures in
-    found_at d (g.F.Out.Sink.view c.args.out.out) again.from again.stopped again.key c.args.settled (view c.args.files.now) (view c.leave.new.files)
+    found_at d (g.F.Out.Sink.view c.args.out) again.from again.stopped again.key c.args.settled (view c.args.files.now) (view c.leave.new.files)
     mid new
     (record { puts = left.puts; noted = left.noted; ended = left.ended }) c.find_again.ensures.does (Unsaved again.stopped.fault second) saved.unended
     refl refl saved.noted
@@ -51,7 +51,7 @@ returns-in-Err-clause-again g c =
     let left = c.leave.ensures in
     let mid = view c.find_again.new.files in
     let second = c.in-Err.second in
-    not_found d (g.F.Out.Sink.view c.args.out.out) again.from again.stopped again.key c.args.settled (view c.args.files.now) (view c.leave.new.files)
+    not_found d (g.F.Out.Sink.view c.args.out) again.from again.stopped again.key c.args.settled (view c.args.files.now) (view c.leave.new.files)
     mid mid
     (record { puts = left.puts; noted = left.noted; ended = left.ended }) c.find_again.ensures.does (Unsaved again.stopped.fault second) refl refl
     refl (none_done (replacing (option_text d.save) d.durability) mid.events)

@@ -111,7 +111,7 @@ returns-clause-acts g c =
     let both = c.in_ok-source.ensures in
     let source = c.in_ok-source.source in
     let earlier_source = c.in_ok-position.old in
-    let before = ports (In source) (Out c.in_ok-source.out.out) in
+    let before = ports (In source) (Out c.in_ok-source.out) in
     let xs = identity_order (option_text d.identity.pass) (option_text d.identity.shared) in
     let two : List Event = Opened r.position.now ∷ Opened r.old.now ∷ [] in
     let ys : List Event = two ++ (Opened d.from.now ∷ preparing (option_text d.save)) in
@@ -131,7 +131,7 @@ returns-clause-acts g c =
     λ o came. last o (came_then [] old then mid both.none o (came_then [] old next then (grows_by two next then earlier.does) o
     (then_came [] old first next (grows_by [] old first twice.does) o came))) in
     acts_engine _ (Resume r) old mid new _ _ _ _ (paths_of d) before c.resume_opened.result xs ys (g.F.FileSet.size source)
-    (record { source = source; sink = c.in_ok-source.out.out; is = refl }) both.begun.0 (last _ (opened _ both.begun.3)) (λ refused. last _ (opened _ (both.begun.4 refused)))
+    (record { source = source; sink = c.in_ok-source.out; is = refl }) both.begun.0 (last _ (opened _ both.begun.3)) (λ refused. last _ (opened _ (both.begun.4 refused)))
     both.begun.2 run did refl refl (λ P holds. (
       c.in_ok-identity.identity,
       opens_by (CameSince first next) (CameSince old new) given d c.in_ok-choice.choice _ c.in_ok-identity.identity chooses c.in_ok-identity.ensures.makes c.in_ok-secret.ensures.given,

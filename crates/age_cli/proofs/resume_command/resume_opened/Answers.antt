@@ -52,10 +52,10 @@ returns-clause-opened g c = λ begin later unread found.
     let came = came_then (puts_in more) first mid last (grows_so mid last more over.is) (Gave gave)
     (came_one first mid (Gave gave) (outcomes_of first mid (Gave gave ∷ []) is)) in
     resumed_by (PortsOf In Out) (CameSince begin last) d r.old.now c.args.identity c.args.position.now (In c.args.old) (In once.new.old)
-    (ports (In c.args.source) (Out c.args.out.out))
-    (ports (In once.result.source) (Out once.new.out.out)) (record { source = once.result.source; sink = once.new.out.out; is = refl })
-    (record { source = c.args.old; sink = c.args.out.out; is = refl })
-    (record { source = once.new.old; sink = once.new.out.out; is = refl }) first last later (did_came [] first mid last did read over)
+    (ports (In c.args.source) (Out c.args.out))
+    (ports (In once.result.source) (Out once.new.out)) (record { source = once.result.source; sink = once.new.out; is = refl })
+    (record { source = c.args.old; sink = c.args.out; is = refl })
+    (record { source = once.new.old; sink = once.new.out; is = refl }) first last later (did_came [] first mid last did read over)
     (record { unread = unread; size = g.F.FileSet.size c.args.old; found = found; over = later (Gave gave) came })
     (now ≡ was) (λ coming left r. ShowsReadings size coming left (shown was) (shown now) r)
     (λ silent. ended.ensures.silent silent ∙ once.ensures.silent silent) c.can_reread-is_reread.result
@@ -65,5 +65,5 @@ returns-clause-opened g c = λ begin later unread found.
     (λ asked whole. shown_with size (In c.args.source).supply (In once.result.source).supply (shown was) (shown once.new.progress) (shown now) ended.result
     (once.ensures.shown asked) ended.ensures.whole ended.ensures.shown whole)
     c.placed.result c.key_of.result c.placed.ensures c.key_of.ensures
-    (decryption_since d (Out once.new.out.out) from first mid last did (Out once.new.out.out).taken.bytes c.placed.result again ended.result
+    (decryption_since d (Out once.new.out) from first mid last did (Out once.new.out).taken.bytes c.placed.result again ended.result
     ended.ensures.concludes)
