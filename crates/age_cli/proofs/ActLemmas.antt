@@ -4,8 +4,8 @@ use Rattle.std.specs.Prelude.{IsErr, IsErrAnd}
 use Rattle.clap.specs.Words.{Text}
 use Rattle.age_io.specs.declared.durability.Durability.{Durability}
 use Rattle.age_file.specs.Runs.{Ports}
-use Rattle.age_fileset.specs.FileSet.{Event, Closed, FilesView, CameSince, Does}
-use Rattle.age_fileset.proofs.OutcomeLemmas.{did_ended, did_events, grows_by, grows_then, then_came}
+use Rattle.age_fileset.specs.FileSet.{Event, Closed, FilesView, Outcome, PutsOnly, CameSince, Does}
+use Rattle.age_fileset.proofs.OutcomeLemmas.{did_ended, did_events, grows_by, grows_then}
 use Rattle.age_cli_args.specs.Requests.{option_text}
 use Rattle.age_cli_args.specs.declared.request.ClobberOption.{ClobberOption}
 use Rattle.age_cli_args.specs.declared.request.Request.{Request}
@@ -18,10 +18,10 @@ use Rattle.age_command.specs.declared.ending.Ending.TheVariants.{Usage}
 use Rattle.age_command.specs.declared.ending.Usage.{Usage as Why}
 use Rattle.age_command.proofs.EventLemmas.{follows_by, longer, then_did, then_follows}
 use Rattle.age_command.proofs.ResultLemmas.{not_well, this_error, just_error}
-use Rattle.age_cli.specs.Acts.{Acts, EndsBefore, GivesNone, HasNotBegun, IsBlamed, IsUnusable, IsUsage, age_file_of}
+use Rattle.age_cli.specs.Acts.{Acts, EndsBefore, GivesNone, HasNotBegun, IsBlamed, IsUnusable, IsUsage, SparesOut, age_file_of}
 use Rattle.age_cli.specs.inner.Openings.{Judges, OpensFiles}
 use Rattle.age_cli.proofs.FileLemmas.{spared_then}
-use Rattle.age_cli.proofs.OpeningLemmas.{reason_as, taken_any, taken_as}
+use Rattle.age_cli.proofs.OpeningLemmas.{did_came, reason_as, taken_any, taken_as}
 
 -- ---- The events of a command, in order.
 
@@ -78,72 +78,69 @@ module _ (IsPorts : Ports → Type 0) (asked : Request) (before after : FilesVie
     shown = not_well r e is _;
   }
 
+  -- it ended where files are opened, once this was done
+  ends_opening : (done whole : List Event) (mid : FilesView) (e : Ending) → IsErr r × IsErrAnd r (λ x. x ≡ e) → (order_asked asked).done ≡ done ++ whole → Does done before mid
+      → EndsBefore (CameSince before after) asked e → HasReason (CameSince mid after) e → SparesOut mid.ended after.ended → PutsOnly [] mid after
+      → Follows whole mid.events after.events → (IsUsage e → IsUnusable (CameSince mid after) (age_file_of asked) e) → (NamesTwice (order_asked asked).apart → ⊥) → Unshown → Acted
+  ends_opening done whole mid e is done_is did early reason spared none follows fault apart silent =
+      let later : (o : Outcome) → CameSince mid after o → CameSince before after o = did_came done before mid after did in
+      let taken : IsUsage e → IsUnusable (CameSince before after) (age_file_of asked) e =
+      λ usage. taken_as (CameSince mid after) (CameSince before after) later (age_file_of asked) e (fault usage) in
+      acts_before e is (record {
+        early = early;
+        reason = reason_as (CameSince mid after) (CameSince before after) later e reason;
+        spared = spared_then before.ended mid.ended after.ended (did_ended done before mid did) spared;
+        none = grows_then [] [] before mid after (grows_by done before mid did) none;
+        order = subst (λ (o : List Event). Follows o before.events after.events) (sym done_is)
+            (then_follows before.events mid.events after.events done whole (did_events done before mid did) follows);
+      })
+      (λ usage. inr (taken usage)) (λ twice. absurd (apart twice)) (λ usage. inr (inr (taken usage))) silent
+
   module _ (early : (e : Ending) → EndsEarly e → EndsBefore (CameSince before after) asked e) where
+    -- it ended where it is judged
+    ends_judged : (e : Ending) → IsErr r × IsErrAnd r (λ x. x ≡ e) → EndsEarly e → HasReason (CameSince before after) e
+        → Begins (order_asked asked).judged before after → Follows (order_asked asked).done before.events after.events
+        → (NamesTwice (order_asked asked).apart → (after.events ≡ before.events) × IsUsage e) → (IsUsage e → IsBlamed (CameSince before after) asked e) → Unshown → Acted
+    ends_judged e is ends reason begins order apart blamed silent =
+        acts_before e is (record {
+          early = early e ends;
+          reason = reason;
+          spared = inl (did_ended begins.done before after begins.did);
+          none = grows_by begins.done before after begins.did;
+          order = order;
+        }) (λ usage. inl (follows_by (order_asked asked).judged before after begins)) apart blamed silent
+
     module _ (more : List Event) (done_is : (order_asked asked).done ≡ (order_asked asked).judged ++ more) where
-      done_so : Follows (order_asked asked).judged before.events after.events → Follows (order_asked asked).done before.events after.events
-      done_so f = subst (λ (order : List Event). Follows order before.events after.events) (sym done_is)
-          (longer (order_asked asked).judged more before.events after.events f)
+      done_so : Begins (order_asked asked).judged before after → Follows (order_asked asked).done before.events after.events
+      done_so begins = subst (λ (order : List Event). Follows order before.events after.events) (sym done_is)
+          (longer (order_asked asked).judged more before.events after.events (follows_by (order_asked asked).judged before after begins))
 
       -- the files by which it is judged can't be read, or it is refused for its names
       pub acts_judged : {A : Type 0} (e : Ending) → IsErr r × IsErrAnd r (λ x. x ≡ e)
           → Judges {A = A} (order_asked asked).judged before after (NamesTwice (order_asked asked).apart) (IsBlamed (CameSince before after) asked) (Err e)
           → Unshown → Acted
-      acts_judged e is j silent =
-          acts_before e is (record {
-            early = early e j.early;
-            reason = j.reason;
-            spared = inl (did_ended j.followed.done before after j.followed.did);
-            none = grows_by j.followed.done before after j.followed.did;
-            order = done_so (follows_by (order_asked asked).judged before after j.followed);
-          })
-          (λ usage. inl (follows_by (order_asked asked).judged before after j.followed)) j.apart
+      acts_judged e is j silent = ends_judged e is j.early j.reason j.followed (done_so j.followed) j.apart
           (λ usage. ⊎_elim (λ blamed. blamed) (λ taken. inr (inr (taken_any (CameSince before after) (age_file_of asked) e taken))) (j.blamed usage)) silent
 
       -- or for what these hold
       pub acts_refused : {A : Type 0} (x : A) (why : Why) → IsErr r × IsErrAnd r (λ y. y ≡ Usage why)
           → Judges (order_asked asked).judged before after (NamesTwice (order_asked asked).apart) (IsBlamed (CameSince before after) asked) (Ok x)
           → GivesNone (CameSince before after) asked (Usage why) → Unshown → Acted
-      acts_refused x why is j none silent =
-          acts_before (Usage why) is (record {
-            early = early (Usage why) tt;
-            reason = tt;
-            spared = inl (did_ended j.followed.done before after j.followed.did);
-            none = grows_by j.followed.done before after j.followed.did;
-            order = done_so (follows_by (order_asked asked).judged before after j.followed);
-          })
-          (λ usage. inl (follows_by (order_asked asked).judged before after j.followed)) (λ twice. absurd (j.apart twice).1)
-          (λ usage. inr (inl none)) silent
+      acts_refused x why is j none silent = ends_judged (Usage why) is tt tt j.followed (done_so j.followed) (λ twice. absurd (j.apart twice).1) (λ usage. inr (inl none)) silent
 
     -- it names nothing that opens its input
     pub acts_unchosen : (why : Why) → IsErr r × IsErrAnd r (λ y. y ≡ Usage why) → Does [] before after → GivesNone (CameSince before after) asked (Usage why) → Unshown → Acted
     acts_unchosen why is did none silent =
-        let noted = did_events [] before after did in
-        let begins : (order : List Event) → Follows order before.events after.events = λ order. record { done = []; rest = order; did = noted; front = refl } in
-        acts_before (Usage why) is (record {
-          early = early (Usage why) tt;
-          reason = tt;
-          spared = inl (did_ended [] before after did);
-          none = grows_by [] before after did;
-          order = begins (order_asked asked).done;
-        }) (λ usage. inl (begins (order_asked asked).judged)) (λ twice. (noted ∙ append-nil before.events, refl)) (λ usage. inr (inl none)) silent
+        let begins : (order : List Event) → Begins order before after = λ order. record { done = []; rest = order; did = did; front = refl } in
+        ends_judged (Usage why) is tt tt (begins (order_asked asked).judged) (follows_by (order_asked asked).done before after (begins (order_asked asked).done))
+        (λ twice. (did_events [] before after did ∙ append-nil before.events, refl)) (λ usage. inr (inl none)) silent
 
     -- its input or what it writes can't be opened
     pub acts_unopened : {A : Type 0} (done order whole : List Event) (mid : FilesView) (IsNew : A → Type 0) (e : Ending) → IsErr r × IsErrAnd r (λ x. x ≡ e)
         → (order_asked asked).done ≡ done ++ whole → Does done before mid → OpensFiles order whole (age_file_of asked) mid after IsNew (Err e)
         → (NamesTwice (order_asked asked).apart → ⊥) → Unshown → Acted
     acts_unopened done order whole mid IsNew e is done_is did opens apart silent =
-        let taken : IsUsage e → IsUnusable (CameSince before after) (age_file_of asked) e =
-        λ usage. taken_as (CameSince mid after) (CameSince before after) (then_came [] before mid after (grows_by done before mid did)) (age_file_of asked) e
-        (opens.fault usage) in
-        acts_before e is (record {
-          early = early e opens.early;
-          reason = reason_as (CameSince mid after) (CameSince before after) (then_came [] before mid after (grows_by done before mid did)) e opens.reason;
-          spared = spared_then before.ended mid.ended after.ended (did_ended done before mid did) opens.spared;
-          none = grows_then [] [] before mid after (grows_by done before mid did) opens.none;
-          order = subst (λ (o : List Event). Follows o before.events after.events) (sym done_is)
-              (then_follows before.events mid.events after.events done whole (did_events done before mid did) opens.followed);
-        })
-        (λ usage. inr (taken usage)) (λ twice. absurd (apart twice)) (λ usage. inr (inr (taken usage))) silent
+        ends_opening done whole mid e is done_is did (early e opens.early) opens.reason opens.spared opens.none opens.followed opens.fault apart silent
 
   -- another file that it reads can't be opened, or doesn't hold what it has to
   pub acts_unread : (done order more : List Event) (mid : FilesView) (e : Ending) → IsErr r × IsErrAnd r (λ x. x ≡ e)
@@ -151,17 +148,5 @@ module _ (IsPorts : Ports → Type 0) (asked : Request) (before after : FilesVie
       → HasReason (CameSince mid after) e → (IsUsage e → IsUnusable (CameSince mid after) None e)
       → (NamesTwice (order_asked asked).apart → ⊥) → Unshown → Acted
   acts_unread done order more mid e is done_is did begins early reason taken apart silent =
-      let opened = grows_by done before mid did in
-      let later : IsUsage e → IsUnusable (CameSince before after) (age_file_of asked) e =
-      λ usage. taken_any (CameSince before after) (age_file_of asked) e
-      (taken_as (CameSince mid after) (CameSince before after) (then_came [] before mid after opened) None e (taken usage)) in
-      acts_before e is (record {
-        early = early;
-        reason = reason_as (CameSince mid after) (CameSince before after) (then_came [] before mid after opened) e reason;
-        spared = inl (did_ended begins.done mid after begins.did ∙ did_ended done before mid did);
-        none = grows_then [] [] before mid after opened (grows_by begins.done mid after begins.did);
-        order = subst (λ (o : List Event). Follows o before.events after.events) (sym done_is)
-            (then_follows before.events mid.events after.events done (order ++ more) (did_events done before mid did)
-            (longer order more mid.events after.events (follows_by order mid after begins)));
-      })
-      (λ usage. inr (later usage)) (λ twice. absurd (apart twice)) (λ usage. inr (inr (later usage))) silent
+      ends_opening done (order ++ more) mid e is done_is did early reason (inl (did_ended begins.done mid after begins.did)) (grows_by begins.done mid after begins.did)
+      (longer order more mid.events after.events (follows_by order mid after begins)) (λ usage. taken_any (CameSince mid after) (age_file_of asked) e (taken usage)) apart silent

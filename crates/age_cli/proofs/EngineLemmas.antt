@@ -1,7 +1,7 @@
 -- What becomes of OUT, from what an engine promises and how OUT was ended.
 use Rattle.std.proofs.Common.{◌≡◌, ◌∙◌, ◌⊎◌, ◌++◌, ◌∷◌, ℕ, ap, sym, subst, refl, inl, inr, true, true≢false, List, [], Option, Some, None, Result, Ok, Err, OnOk}
 use Rattle.std.proofs.Common.{IfOk, IfErr}
-use Rattle.std.specs.Prelude.{IsOk, IsErr, IsSomeAnd, is_some, ◌≢◌}
+use Rattle.std.specs.Prelude.{IsOk, IsErr, IsSomeAnd, is_err, is_some, ◌≢◌}
 use Rattle.clap.specs.Words.{Text}
 use Rattle.age_io.specs.Io.{SourceView}
 use Rattle.age_io.specs.declared.durability.Durability.{Durability}
@@ -37,10 +37,10 @@ the_run None h = absurd h
 the_run (Some r) h = (r, h)
 
 -- a decryption ended, resumed or not
-pub opening_ends : (Ends : Done → Run → Type 0) (P Q : Type 0) → ((d : Done) (r : Run) → Ends d r → P × Q) → (run : Option Run) (end : Result Done Stopped)
-    → IfOk end (λ done. IsSomeAnd run (Ends done)) → OnOk (opening_end end) (P × Q)
-opening_ends Ends P Q so run (Ok done) ends = let of = the_run run ends in so done of.0 of.1
-opening_ends Ends P Q so run (Err s) ends = tt
+pub opening_ends : (Ends : Done → Run → Type 0) (P : Type 0) → ((d : Done) (r : Run) → Ends d r → P) → (run : Option Run) (end : Result Done Stopped)
+    → IfOk end (λ done. IsSomeAnd run (Ends done)) → OnOk (opening_end end) P
+opening_ends Ends P so run (Ok done) ends = let of = the_run run ends in so done of.0 of.1
+opening_ends Ends P so run (Err s) ends = tt
 
 -- or it stopped
 pub opening_stops : (P : FileFault → Option Position → Type 0) (end : Result Done Stopped) → IfErr end (λ s. P s.fault s.position) → IfErr (opening_end end) (λ s. P s.fault s.position)
@@ -88,16 +88,16 @@ module _ (IsPorts : Ports → Type 0) (Came : Outcome → Type 0) (engine : Engi
   module _ (old mid now : FilesView) (opened : PutsOnly [] old mid) (late : (o : Outcome) → CameSince mid now o → Came o) (settled : ℕ)
       (end : Result (Unit {0}) Interruption) (ends : OnOk end (engine.ends before after × (after.sink.failed ≡ before.sink.failed))) where
     ended_file : IsOk end → engine.ends before after × (after.sink.failed ≡ before.sink.failed) → (r : Result (Unit {0}) Ending) → (o : Option EndedFile) → now.ended ≡ o
-        → IsSomeAnd o (EndsFile durability after.sink end r) → OnOk r (PutsOnly (entry after.sink.label after.sink.taken.bytes ∷ []) mid now)
+        → IsSomeAnd o (EndsFile durability after.sink (is_err end) (is_err r)) → OnOk r (PutsOnly (entry after.sink.label after.sink.taken.bytes ∷ []) mid now)
         → OnOk r (HasEngineEnded IsPorts Came engine p durability old now)
     ended_file ok did (Err e) o is file grows = tt
     ended_file ok did (Ok x) None is file grows = absurd file
     ended_file ok did (Ok x) (Some out) is file grows = record {
       run = returned now.ended out is file.took file.within;
       promise = did.0;
-      closed = file.closed;
-      there = file.there (did.1 ∙ new.failed);
-      safe = λ synced. file.safe synced (did.1 ∙ new.failed);
+      closed = file.closed refl;
+      there = file.there refl (did.1 ∙ new.failed);
+      safe = λ synced. file.safe refl synced (did.1 ∙ new.failed);
       puts = subst (λ (x : Entry). PutsOnly (x ∷ []) old now) (same_entry out file.took)
           (grows_then [] (entry after.sink.label after.sink.taken.bytes ∷ []) old mid now opened grows);
     }
@@ -124,7 +124,7 @@ module _ (IsPorts : Ports → Type 0) (Came : Outcome → Type 0) (engine : Engi
 
       stopped_file : (x : Result (Unit {0}) Interruption) → OnOk x (engine.ends before after × (after.sink.failed ≡ before.sink.failed))
           → IfErr x (λ s. engine.stops settled s.fault s.position before after) → (IsErr x → is_some p.save ≡ true → Came (Settled durability after.sink.taken.bytes settled))
-          → (o : Option EndedFile) → now.ended ≡ o → IsSomeAnd o (EndsFile durability after.sink x (Err e)) → (fault : FileFault) → IsFaultOf x fault → IsEndingOf fault e
+          → (o : Option EndedFile) → now.ended ≡ o → IsSomeAnd o (EndsFile durability after.sink (is_err x) true) → (fault : FileFault) → IsFaultOf x fault → IsEndingOf fault e
           → OnOk x (CameSince mid now (Unwritten after.sink.label)) → (puts rest : List Entry) → PutsOnly (puts ++ rest) mid now → IsPut after.sink puts
           → ((now.events ≡ mid.events ++ Closed durability ∷ []) × (rest ≡ []) × IsNotDue settled e p.save (position_of x))
           ⊎ IsStored (CameSince mid now) durability p.save settled (position_of x) e rest now.saved
@@ -140,7 +140,7 @@ module _ (IsPorts : Ports → Type 0) (Came : Outcome → Type 0) (engine : Engi
           promise = did.0;
           is = (of, refl);
           said = subst (λ (n : Text). Came (Unwritten n)) named (late (Unwritten after.sink.label) refused);
-          caused = file.caused;
+          caused = file.caused refl refl;
         });
         outs = puts;
         rest = rest;
@@ -156,8 +156,8 @@ module _ (IsPorts : Ports → Type 0) (Came : Outcome → Type 0) (engine : Engi
         settled = settled;
         cause = inl (record {
           promise = subst (λ (f : FileFault). engine.stops settled f s.position before after) (sym of) stops;
-          untouched = λ none. file.untouched (sym file.took ∙ none);
-          kept = λ some. file.kept (λ none. some (file.took ∙ none));
+          untouched = λ none. file.untouched refl (sym file.took ∙ none);
+          kept = λ some. file.kept refl (λ none. some (file.took ∙ none));
           certain = λ there. subst (λ (b : List ℕ). Came (Settled durability b settled)) (sym file.took) (certain refl there);
         });
         outs = puts;

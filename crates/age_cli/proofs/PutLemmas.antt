@@ -1,6 +1,6 @@
 -- What was put of an output, and of the file of a position.
-use Rattle.std.proofs.Common.{◌≡◌, ◌∙◌, ◌⊎◌, ◌++◌, ◌∷◌, [], ℕ, List, inl, inr, refl, ap, sym, subst, Bool, true, false, true≢false, Option, Some, None, Result, Ok, Err, OnOk, OnErr, IfErr}
-use Rattle.std.proofs.Common.{append-nil, length}
+use Rattle.std.proofs.Common.{◌≡◌, ◌∙◌, ◌⊎◌, ◌++◌, ◌∷◌, [], ℕ, List, inl, inr, refl, ap, sym, subst, true, false, true≢false, Option, Some, None, Result, Ok, Err, OnOk, OnErr, IfErr}
+use Rattle.std.proofs.Common.{append-nil}
 use Rattle.std.specs.Prelude.{IsOkUnless, IsSomeAnd, is_some, ◌≤◌, ◌*◌}
 use Rattle.clap.specs.Words.{Text}
 use Rattle.age_chunk.specs.Payload.{chunk_length}

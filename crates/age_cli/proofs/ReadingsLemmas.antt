@@ -1,21 +1,13 @@
 -- What progress shows of one reading of the input, or of two.
 use base.Fml.{GName}
-use Rattle.std.proofs.Common.{◌≡◌, ◌⊎◌, ℕ, List, Option, Some, None, true≢false, sym, Result, Ok, Err, OnOk, IfOk, refl, length, subst}
-use Rattle.std.specs.Prelude.{IfSome, IsOk, IsSomeAnd}
+use Rattle.std.proofs.Common.{◌≡◌, ◌⊎◌, ℕ, List, Option, Some, true≢false, sym, Result, Ok, Err, OnOk, refl, length, subst}
+use Rattle.std.specs.Prelude.{IfSome, IsOk}
 use Rattle.age_io.specs.Supply.{Supply, IsAtEnd}
 use Rattle.age_io.specs.Io.{Shown, Adds, Begins, Ends, Lending, CountsSince}
 use Rattle.age_io.proofs.MeterLemmas.{begins_since, reading_of}
-use Rattle.age_file.specs.Runs.{Ports, Run}
-use Rattle.age_file.specs.Decrypts.{DecryptEnds}
-use Rattle.age_file.specs.Resumes.{ResumePorts, ResumeEnds}
-use Rattle.age_file.specs.declared.position.Position.{Position}
-use Rattle.age_file.specs.declared.decryption.Done.{Done}
-use Rattle.age_file.specs.declared.decryption.Stopped.{Stopped}
-use Rattle.age_stanza.specs.declared.header.Header.{Header}
 use Rattle.age_command.specs.declared.ending.Ending.{Ending}
 use Rattle.age_cli.specs.Acts.{ShowsRun, ShowsReadings}
 use Rattle.age_cli.specs.declared.interruption.Interruption.{Interruption}
-use Rattle.age_cli.specs.inner.Endings.{opening_end}
 
 -- one reading, and then perhaps another, of what stopped
 pub shown_with : (size : Option ℕ) (coming left : Supply) (old middle new : Option (List Shown)) (r : Result (Unit {0}) Ending) → ShowsRun size coming left old middle
@@ -24,20 +16,7 @@ pub shown_with : (size : Option ℕ) (coming left : Supply) (old middle new : Op
 shown_with size coming left old middle new (Ok x) run same again ended = record { middle = middle; first = run; whole = (ended, same); again = again }
 shown_with size coming left old middle new (Err e) run same again ended = record { middle = middle; first = run; whole = tt; again = again }
 
--- an engine that ended has read its source to the end
-pub opening_whole : (A : Header → List ℕ → Type 0) (before after : Ports) (run : Option Run) (r : Result Done Stopped)
-    → IfOk r (λ done. IsSomeAnd run (DecryptEnds A before after done)) → OnOk (opening_end r) (IsAtEnd after.source.supply)
-opening_whole A before after run (Err s) ends = tt
-opening_whole A before after None (Ok done) ends = absurd ends
-opening_whole A before after (Some r) (Ok done) ends = ends.1.is.at_end ends.1.ended
-
-pub resuming_whole : (A : Header → List ℕ → Type 0) (p : Position) (before after : ResumePorts) (run : Option Run) (r : Result Done Stopped)
-    → IfOk r (λ done. IsSomeAnd run (ResumeEnds A p before after done)) → OnOk (opening_end r) (IsAtEnd after.main.source.supply)
-resuming_whole A p before after run (Err s) ends = tt
-resuming_whole A p before after None (Ok done) ends = absurd ends
-resuming_whole A p before after (Some r) (Ok done) ends = ends.2.is.at_end ends.2.ended
-
--- and so has its command
+-- an engine that ended has read its source to the end, and so has its command
 pub ended_with : (P : Type 0) (end : Result (Unit {0}) Interruption) (r : Result (Unit {0}) Ending) (Q : Type 0) → OnOk end P → OnOk r (IsOk end × Q)
     → OnOk r P
 ended_with P (Ok x) (Ok y) Q p q = p

@@ -25,9 +25,8 @@ use Rattle.age_command.proofs.EventLemmas.{then_follows}
 use Rattle.age_cli.specs.Acts.{IsEndingOf, IsUnsavable, start_of, Finds}
 use Rattle.age_cli.specs.Commands.{WasRead}
 use Rattle.age_cli.specs.declared.interruption.Interruption.{Interruption}
-use Rattle.age_cli.specs.inner.Endings.{Concludes, IsPut, opening_end, LeavesFile, EndsFile}
+use Rattle.age_cli.specs.inner.Endings.{Concludes, IsPut, opening_end, EndsFile}
 use Rattle.age_cli.specs.inner.Rereadings.{ConcludesDecryption, ConcludesFound, IsFoundIn, stopped_at}
-use Rattle.age_cli.proofs.FileLemmas.{left_file, some_and}
 use Rattle.age_cli.proofs.OpeningLemmas.{did_came, same_events}
 use Rattle.age_cli.proofs.PutLemmas.{PutsRest, concludes_from, rest_of}
 
@@ -137,7 +136,7 @@ module _ (d : Decrypting) (sink : SinkView) (from : Option Position) (old mid ne
 pub record LeftBy (sink : SinkView) (durability : Durability) (old mid : FilesView) : Type 0 where
   pub puts : (puts : List Entry) × PutsOnly puts old mid × IsPut sink puts
   pub noted : mid.events ≡ old.events ++ Closed durability ∷ []
-  pub ended : IsSomeAnd mid.ended (LeavesFile sink)
+  pub ended : IsSomeAnd mid.ended (EndsFile durability sink true true)
 
 no_more : (puts : List Entry) (old mid : FilesView) → PutsOnly (puts ++ []) old mid → PutsOnly puts old mid
 no_more puts old mid more = subst (λ l. PutsOnly l old mid) (append-nil puts) more
@@ -147,7 +146,7 @@ left_then : (sink : SinkView) (durability : Durability) (old first mid : FilesVi
 left_then sink durability old first mid left did = record {
   puts = (left.puts.0, no_more left.puts.0 old mid (grows_then left.puts.0 [] old first mid left.puts.1 (grows_by [] first mid did)), left.puts.2);
   noted = same_events first mid did ∙ left.noted;
-  ended = subst (λ (o : Option EndedFile). IsSomeAnd o (LeavesFile sink)) (sym (did_ended [] first mid did)) left.ended;
+  ended = subst (λ (o : Option EndedFile). IsSomeAnd o (EndsFile durability sink true true)) (sym (did_ended [] first mid did)) left.ended;
 }
 
 -- why a position isn't saved that wasn't found
@@ -172,8 +171,7 @@ concludes_left save durability sink settled cause old mid new ending left unende
   fault = told;
   order = then_follows old.events mid.events new.events (Closed durability ∷ []) (replacing save durability) left.noted order;
   order_done = tt;
-  ended = subst (λ (o : Option EndedFile). IsSomeAnd o (EndsFile durability sink (Err cause) (Err ending))) (sym unended)
-      (some_and mid.ended (λ out so. left_file durability sink cause ending out so) left.ended);
+  ended = subst (λ (o : Option EndedFile). IsSomeAnd o (EndsFile durability sink true true)) (sym unended) left.ended;
   reported = (cause.fault, refl, reported);
   refused = tt;
   saved = rest_of durability save sink settled cause.position cause.position old mid new ending left.puts.0 refl left.puts.1 left.puts.2 left.noted rest;

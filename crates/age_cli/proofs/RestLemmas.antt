@@ -7,6 +7,7 @@ use Rattle.std.proofs.lemmas.Result.{IfErr-weaker}
 use Rattle.clap.specs.Words.{Text}
 use Rattle.age_io.specs.Io.{SinkView, SourceView}
 use Rattle.age_io.specs.Supply.{Supply, IsAtEnd}
+use Rattle.age_fault.specs.declared.fault.FileFault.{FileFault}
 use Rattle.age_file.proofs.AgainLawLemmas.{rest_kept, stops_kept}
 use Rattle.age_file.specs.Decrypts.{DecryptEnds, DecryptStops, DecryptsKeyed, FindsKey}
 use Rattle.age_file.specs.Resumes.{ResumePorts, resume_ports, ResumesKeyed, ResumeStops, StandsAt, StopsInSkipped, ResumeEnds}
@@ -30,7 +31,7 @@ use Rattle.age_cli.specs.Commands.{WasRead, old_found}
 use Rattle.age_cli.specs.inner.Endings.{Concludes, opening_end}
 use Rattle.age_cli.specs.inner.Rereadings.{again_of, key_of, placed, ConcludesDecryption, ConcludesFound, IsFoundIn, RunsEngine, stopped_at}
 use Rattle.age_cli.proofs.EngineLemmas.{opening_ends, opening_stops, read_as, stopped_so}
-use Rattle.age_cli.proofs.ReadingsLemmas.{ended_with, opening_whole, resuming_whole}
+use Rattle.age_cli.proofs.ReadingsLemmas.{ended_with}
 
 kept_some : (save : Option Text) → is_some save ≡ true → Kept ≡ kept_for save
 kept_some None there = absurd (true≢false (sym there))
@@ -112,6 +113,61 @@ module _ (Later : Outcome → Type 0) (Stops : PositionPolicy → Option Run →
       ) (all came.3),
     )
 
+-- ---- It ran, and OUT was ended.
+
+record Ran (IsPorts : Ports → Type 0) (Later : Outcome → Type 0) (d : Decrypting) (engine : Engine) (from : Option Position) (before after : Ports)
+    (Ends : Done → Run → Type 0) (Stops : PositionPolicy → Option Run → Stopped → Type 0) (old new : FilesView) (Unshown : Type 0) : Type 0 where
+  pub after_is : IsPorts after
+  pub later : (o : Outcome) → CameSince old new o → Later o
+  pub over : CameSince old new (Gave (reading_of d.from.now after.source))
+  pub silent : d.progress ≡ Silent → Unshown
+  pub ends : (x : Done) (y : Run) → Ends x y → (engine.ends before after × (after.sink.failed ≡ before.sink.failed)) × IsAtEnd after.source.supply
+  pub halts : (settled : ℕ) (f : FileFault) (position : Option Position) → StopsText Later d.from.now (kept_for (option_text d.save)) from Stops settled f position
+      → engine.stops settled f position before after
+  pub run : Option Run
+  pub named : after.sink.label ≡ before.sink.label
+
+module _ {IsPorts : Ports → Type 0} {Later : Outcome → Type 0} {d : Decrypting} {engine : Engine} {from : Option Position} {before after : Ports} {Ends : Done → Run → Type 0}
+    {Stops : PositionPolicy → Option Run → Stopped → Type 0} {old new : FilesView} {Unshown : Type 0} (Progress : Supply → Supply → Result (Unit {0}) Ending → Type 0)
+    (x : Ran IsPorts Later d engine from before after Ends Stops old new Unshown) where
+  abbrev Shows : Result (Unit {0}) Ending → Type 0
+  Shows r = d.progress ≡ Shown → OnOk r (IsAtEnd after.source.supply) → Progress before.source.supply after.source.supply r
+
+  abbrev Runs : Result (Unit {0}) Ending → Type 0
+  Runs r = RunsEngine IsPorts Later engine (paths_of d) d.durability d.progress before old new Unshown Progress r
+
+  abbrev Concluded : Result (Unit {0}) Ending → Result Done Stopped → Option (Stopped × List ℕ) → Type 0
+  Concluded r end again = ConcludesDecryption (λ n. CameSince old new (Settled d.durability after.sink.taken.bytes n)) d after.sink from end again old new r
+
+  runs_so : (end : Result Done Stopped) (r : Result (Unit {0}) Ending) → IfOk end (λ done. IsSomeAnd x.run (Ends done)) → Shows r
+      → EndsSo Later Stops d after.sink from old new end r → Runs r
+  runs_so end r done shown so = record {
+    after = after;
+    after_is = x.after_is;
+    over = x.later (Gave (reading_of d.from.now after.source)) x.over;
+    end = opening_end end;
+    settled = so.settled;
+    ends = opening_ends Ends (engine.ends before after × (after.sink.failed ≡ before.sink.failed)) (λ d r did. (x.ends d r did).0) x.run end done;
+    stops = opening_stops (λ fault position. engine.stops so.settled fault position before after) end
+        (IfErr-weaker end _ _ (λ s stops. x.halts so.settled s.fault s.position stops) so.stops);
+    named = x.named;
+    certain = λ failed there. so.certain (stopped_so end failed) there;
+    concludes = so.concludes;
+    silent = x.silent;
+    shown = λ asked. shown asked (ended_with _ (opening_end end) r _ (opening_ends Ends (IsAtEnd after.source.supply) (λ d r did. (x.ends d r did).1) x.run end done) so.concludes.done);
+  }
+
+  once : (end : Result Done Stopped) (r : Result (Unit {0}) Ending) → IfOk end (λ done. IsSomeAnd x.run (Ends done))
+      → IfErr end (Stops (kept_for (option_text d.save)) x.run) → Shows r → Concluded r end None → Runs r
+  once end r done stops shown concludes = runs_so end r done shown (ends_once Later Stops d after.sink from old new x.later x.run end r stops concludes)
+
+  again : (s : Stopped) (key : List ℕ) (ending : Ending) → is_some (option_text d.save) ≡ true → Stops Dropped x.run s
+      → (r : Run) × (x.run ≡ Some r) × (key ≡ r.file.key) × (p : Position) × Stops Kept x.run (stopped_at s p) → Shows (Err ending)
+      → Concluded (Err ending) (Err s) (Some (s, key)) → Runs (Err ending)
+  again s key ending saves stops came shown (settled, certain, found) =
+      let so = ends_again Later Stops d after.sink from old new x.later x.run s key saves ending stops came settled certain found in
+      runs_so (Err (stopped_at s so.0)) (Err ending) tt shown so.1
+
 -- ---- A decryption.
 
 -- a stop before the payload has no position, kept or not
@@ -123,47 +179,24 @@ unread keep other i before after (Some r) s none stops = absurd (none-some r.fil
 module _ (IsPorts : Ports → Type 0) (Later : Outcome → Type 0) (d : Decrypting) (i : Identity) (before after : Ports) (after_is : IsPorts after) (old new : FilesView)
     (later : (o : Outcome) → CameSince old new o → Later o) (over : CameSince old new (Gave (reading_of d.from.now after.source)))
     (Unshown : Type 0) (Progress : Supply → Supply → Result (Unit {0}) Ending → Type 0) (silent : d.progress ≡ Silent → Unshown) where
-  abbrev Shows : Result (Unit {0}) Ending → Type 0
-  Shows r = d.progress ≡ Shown → OnOk r (IsAtEnd after.source.supply) → Progress before.source.supply after.source.supply r
-
-  abbrev engine : Engine
-  engine = decrypt_engine Later d.from.now (kept_for (option_text d.save)) i
-
-  abbrev Runs : Result (Unit {0}) Ending → Type 0
-  Runs r = RunsEngine IsPorts Later engine (paths_of d) d.durability d.progress before old new Unshown Progress r
-
   abbrev Stopping : PositionPolicy → Option Run → Stopped → Type 0
   Stopping keep run s = DecryptStops keep (allows_by i) (refuses_by i) before after run s
 
   abbrev Did : PositionPolicy → Result Done Stopped → Option (List ℕ) → Type 0
   Did keep end key = DecryptsKeyed keep (allows_by i) (refuses_by i) before after end key
 
-  abbrev Concluded : Result (Unit {0}) Ending → Result Done Stopped → Option (Stopped × List ℕ) → Type 0
-  Concluded r end again = ConcludesDecryption (λ n. CameSince old new (Settled d.durability after.sink.taken.bytes n)) d after.sink None end again old new r
-
-  runs_so : (end : Result Done Stopped) (run : Option Run) (r : Result (Unit {0}) Ending) → after.sink.label ≡ before.sink.label
-      → IfOk end (λ done. IsSomeAnd run (DecryptEnds (allows_by i) before after done)) → Shows r
-      → EndsSo Later Stopping d after.sink None old new end r → Runs r
-  runs_so end run r named done shown so = record {
-    after = after;
+  abbrev ran : {keep : PositionPolicy} {end : Result Done Stopped} {key : Option (List ℕ)} → DecryptsKeyed keep (allows_by i) (refuses_by i) before after end key
+      → Ran IsPorts Later d (decrypt_engine Later d.from.now (kept_for (option_text d.save)) i) None before after (DecryptEnds (allows_by i) before after) Stopping old new Unshown
+  ran did = record {
     after_is = after_is;
-    over = later (Gave (reading_of d.from.now after.source)) over;
-    end = opening_end end;
-    settled = so.settled;
-    ends = opening_ends (λ x y. DecryptEnds (allows_by i) before after x y) (engine.ends before after) (after.sink.failed ≡ before.sink.failed)
-        (λ x y did. ((x, y, did), did.2.1)) run end done;
-    stops = opening_stops (λ fault position. engine.stops so.settled fault position before after) end so.stops;
-    named = named;
-    certain = λ failed there. so.certain (stopped_so end failed) there;
-    concludes = so.concludes;
+    later = later;
+    over = over;
     silent = silent;
-    shown = λ asked. shown asked (ended_with _ (opening_end end) r _ (opening_whole (allows_by i) before after run end done) so.concludes.done);
+    ends = λ x y did. (((x, y, did), did.2.1), did.1.is.at_end did.1.ended);
+    halts = λ settled f position stops. stops;
+    run = did.is.run;
+    named = did.is.named;
   }
-
-  once : (end : Result Done Stopped) (key : Option (List ℕ)) (keep : PositionPolicy) (r : Result (Unit {0}) Ending) → (did : Did keep end key)
-      → IfErr end (Stopping (kept_for (option_text d.save)) did.is.run) → Shows r → Concluded r end None → Runs r
-  once end key keep r did stops shown concludes = runs_so end did.is.run r did.is.named did.is.done shown
-      (ends_once Later Stopping d after.sink None old new later did.is.run end r stops concludes)
 
   came_so : (run : Option Run) (s : Stopped) (key : List ℕ) → FindsKey run (Some key) → IfSome run (λ r. (p : Position) × IsPositionOf r p) → Stopping Dropped run s
       → (r : Run) × (run ≡ Some r) × (key ≡ r.file.key) × (p : Position) × Stopping Kept run (stopped_at s p)
@@ -172,25 +205,19 @@ module _ (IsPorts : Ports → Type 0) (Later : Outcome → Type 0) (d : Decrypti
       let same : key ≡ r.file.key = cc in
       (r, refl, same, due.0, stops_kept (allows_by i) (refuses_by i) before after r s due.0 stops due.1)
 
-  again : (s : Stopped) (key : List ℕ) (ending : Ending) → is_some (option_text d.save) ≡ true → Did Dropped (Err s) (Some key) → Shows (Err ending)
-      → Concluded (Err ending) (Err s) (Some (s, key)) → Runs (Err ending)
-  again s key ending saves did shown (settled, certain, found) =
-      let so = ends_again Later Stopping d after.sink None old new later did.is.run s key saves ending did.is.stopped
-      (came_so did.is.run s key did.found did.due did.is.stopped) settled certain found in
-      runs_so (Err (stopped_at s so.0)) did.is.run (Err ending) did.is.named tt shown so.1
-
   pub runs_opened : (reread : Bool) (end : Result Done Stopped) (key : Option (List ℕ)) (keep : PositionPolicy)
       (r : Result (Unit {0}) Ending) → (reread ≡ true → is_some (option_text d.save) ≡ true) → (reread ≡ true → keep ≡ Dropped)
-      → (reread ≡ false → keep ≡ kept_for (option_text d.save)) → Did keep end key → Shows r
-      → Concluded r end (again_of reread end key) → Runs r
-  runs_opened reread (Ok done) key keep r saves dropped kept did shown concludes = once (Ok done) key keep r did tt shown concludes
+      → (reread ≡ false → keep ≡ kept_for (option_text d.save)) → (did : Did keep end key) → Shows Progress (ran did) r
+      → Concluded Progress (ran did) r end (again_of reread end key) → Runs Progress (ran did) r
+  runs_opened reread (Ok done) key keep r saves dropped kept did shown concludes = once Progress (ran did) (Ok done) r did.is.done tt shown concludes
   runs_opened reread (Err s) None keep r saves dropped kept did shown concludes =
-      once (Err s) None keep r did (unread keep (kept_for (option_text d.save)) i before after did.is.run s did.found did.is.stopped) shown concludes
+      once Progress (ran did) (Err s) r tt (unread keep (kept_for (option_text d.save)) i before after did.is.run s did.found did.is.stopped) shown concludes
   runs_opened false (Err s) (Some key) keep r saves dropped kept did shown concludes =
-      once (Err s) (Some key) keep r did (subst (λ (x : PositionPolicy). Stopping x did.is.run s) (kept refl) did.is.stopped) shown concludes
+      once Progress (ran did) (Err s) r tt (subst (λ (x : PositionPolicy). Stopping x did.is.run s) (kept refl) did.is.stopped) shown concludes
   runs_opened true (Err s) (Some key) keep (Ok x) saves dropped kept did shown concludes = absurd concludes
   runs_opened true (Err s) (Some key) keep (Err e) saves dropped kept did shown concludes =
-      again s key e (saves refl) (subst (λ (x : PositionPolicy). Did x (Err s) (Some key)) (dropped refl) did) shown concludes
+      let stops = subst (λ (x : PositionPolicy). Stopping x did.is.run s) (dropped refl) did.is.stopped in
+      again Progress (ran did) s key e (saves refl) stops (came_so did.is.run s key did.found did.due stops) shown concludes
 
 -- ---- A decryption that is resumed.
 
@@ -235,40 +262,22 @@ module _ (IsPorts : Ports → Type 0) (Later : Outcome → Type 0) (d : Decrypti
   abbrev ResumedDid : PositionPolicy → Result Done Stopped → Standing → Type 0
   ResumedDid keep end standing = ResumesKeyed keep (allows_by i) (refuses_by i) from (resume_ports before first) (resume_ports after last) end standing
 
-  abbrev ResumedShows : Result (Unit {0}) Ending → Type 0
-  ResumedShows r = d.progress ≡ Shown → OnOk r (IsAtEnd after.source.supply) → Progress before.source.supply after.source.supply r
-
-  abbrev resumption : Engine
-  resumption = resume_engine IsPorts Later d.from.now (kept_for (option_text d.save)) i from old_name
-
-  abbrev Resumes : Result (Unit {0}) Ending → Type 0
-  Resumes r = RunsEngine IsPorts Later resumption (paths_of d) d.durability d.progress before old new Unshown Progress r
-
-  abbrev ResumedSo : Result (Unit {0}) Ending → Result Done Stopped → Option (Stopped × List ℕ) → Type 0
-  ResumedSo r end again = ConcludesDecryption (λ n. CameSince old new (Settled d.durability after.sink.taken.bytes n)) d after.sink (Some from) end again old new r
-
   abbrev Halting : PositionPolicy → Option Run → Stopped → Type 0
   Halting keep run s = Stops i from (resume_ports before first) (resume_ports after last) keep run s
 
-  resumes_so : (end : Result Done Stopped) (run : Option Run) (r : Result (Unit {0}) Ending) → after.sink.label ≡ before.sink.label
-      → IfOk end (λ done. IsSomeAnd run (ResumeEnds (allows_by i) from (resume_ports before first) (resume_ports after last) done)) → ResumedShows r
-      → EndsSo Later Halting d after.sink (Some from) old new end r → Resumes r
-  resumes_so end run r named done shown so = record {
-    after = after;
+  abbrev ran_on : {keep : PositionPolicy} {end : Result Done Stopped} {standing : Standing}
+      → ResumesKeyed keep (allows_by i) (refuses_by i) from (resume_ports before first) (resume_ports after last) end standing
+      → Ran IsPorts Later d (resume_engine IsPorts Later d.from.now (kept_for (option_text d.save)) i from old_name) (Some from) before after
+      (ResumeEnds (allows_by i) from (resume_ports before first) (resume_ports after last)) Halting old new Unshown
+  ran_on did = record {
     after_is = after_is;
-    over = later (Gave (reading_of d.from.now after.source)) over;
-    end = opening_end end;
-    settled = so.settled;
-    ends = opening_ends (λ x y. ResumeEnds (allows_by i) from (resume_ports before first) (resume_ports after last) x y) (resumption.ends before after)
-        (after.sink.failed ≡ before.sink.failed) (λ x y did. ((first, last, first_is, last_is, read, (x, y, did)), did.3.1)) run end done;
-    stops = opening_stops (λ fault position. resumption.stops so.settled fault position before after) end
-        (IfErr-weaker end _ _ (λ s stops. (first, last, first_is, last_is, read, stops)) so.stops);
-    named = named;
-    certain = λ failed there. so.certain (stopped_so end failed) there;
-    concludes = so.concludes;
+    later = later;
+    over = over;
     silent = silent;
-    shown = λ asked. shown asked (ended_with _ (opening_end end) r _
-        (resuming_whole (allows_by i) from (resume_ports before first) (resume_ports after last) run end done) so.concludes.done);
+    ends = λ x y did. (((first, last, first_is, last_is, read, (x, y, did)), did.3.1), did.2.is.at_end did.2.ended);
+    halts = λ settled f position stops. (first, last, first_is, last_is, read, stops);
+    run = did.is.run;
+    named = did.is.named;
   }
 
   came_there : (run : Option Run) (s : Stopped) (key : List ℕ)
@@ -279,59 +288,44 @@ module _ (IsPorts : Ports → Type 0) (Later : Outcome → Type 0) (d : Decrypti
   came_there (Some r) s key stands due stops =
       (r, refl, stands, due.0, rest_kept (allows_by i) (refuses_by i) from (resume_ports before first) (resume_ports after last) r s due.0 stops due.1)
 
-  resumed_done : (x : Done) (standing : Standing) (keep : PositionPolicy) (r : Result (Unit {0}) Ending) → ResumedDid keep (Ok x) standing → ResumedShows r
-      → ResumedSo r (Ok x) None → Resumes r
-  resumed_done x standing keep r did shown concludes = resumes_so (Ok x) did.is.run r did.is.named did.is.done shown
-      (ends_once Later Halting d after.sink (Some from) old new later did.is.run (Ok x) r tt concludes)
-
-  -- one that stopped so, or where it began
-  resumed_stop : (s : Stopped) (standing : Standing) (keep : PositionPolicy) (r : Result (Unit {0}) Ending) (did : ResumedDid keep (Err s) standing) (t : Stopped)
-      → Halting (kept_for (option_text d.save)) did.is.run t → ResumedShows r → ResumedSo r (Err t) None → Resumes r
-  resumed_stop s standing keep r did t stops shown concludes = resumes_so (Err t) did.is.run r did.is.named tt shown
-      (ends_once Later Halting d after.sink (Some from) old new later did.is.run (Err t) r stops concludes)
-
   as_kept : (s : Stopped) (standing : Standing) (keep : PositionPolicy) (r : Result (Unit {0}) Ending) → keep ≡ kept_for (option_text d.save)
-      → ResumedDid keep (Err s) standing → ResumedShows r → ResumedSo r (Err s) None → Resumes r
+      → (did : ResumedDid keep (Err s) standing) → Shows Progress (ran_on did) r → Concluded Progress (ran_on did) r (Err s) None → Runs Progress (ran_on did) r
   as_kept s standing keep r kept did shown concludes =
-      resumed_stop s standing keep r did s (subst (λ (x : PositionPolicy). Halting x did.is.run s) kept did.is.stopped) shown concludes
-
-  resumed_again : (s : Stopped) (key : List ℕ) (ending : Ending) → is_some (option_text d.save) ≡ true → ResumedDid Dropped (Err s) (InPayload key) → ResumedShows (Err ending)
-      → ResumedSo (Err ending) (Err s) (Some (s, key)) → Resumes (Err ending)
-  resumed_again s key ending saves did shown (settled, certain, found) =
-      let so = ends_again Later Halting d after.sink (Some from) old new later did.is.run s key saves ending did.is.stopped
-      (came_there did.is.run s key did.stands did.due did.is.stopped) settled certain found in
-      resumes_so (Err (stopped_at s so.0)) did.is.run (Err ending) did.is.named tt shown so.1
+      once Progress (ran_on did) (Err s) r tt (subst (λ (x : PositionPolicy). Halting x did.is.run s) kept did.is.stopped) shown concludes
 
   by : (reread : Bool) (end : Result Done Stopped) (standing : Standing) (keep : PositionPolicy)
       (r : Result (Unit {0}) Ending) → (reread ≡ true → is_some (option_text d.save) ≡ true) → (reread ≡ true → keep ≡ Dropped)
-      → (reread ≡ false → keep ≡ kept_for (option_text d.save)) → ResumedDid keep end standing → ResumedShows r
-      → ResumedSo r (placed reread standing from end) (again_of reread (placed reread standing from end) (key_of standing)) → Resumes r
-  by false (Ok x) standing keep r saves dropped kept did shown concludes = resumed_done x standing keep r did shown concludes
-  by true (Ok x) Before keep r saves dropped kept did shown concludes = resumed_done x Before keep r did shown concludes
-  by true (Ok x) Skipping keep r saves dropped kept did shown concludes = resumed_done x Skipping keep r did shown concludes
-  by true (Ok x) (InPayload k) keep r saves dropped kept did shown concludes = resumed_done x (InPayload k) keep r did shown concludes
+      → (reread ≡ false → keep ≡ kept_for (option_text d.save)) → (did : ResumedDid keep end standing) → Shows Progress (ran_on did) r
+      → Concluded Progress (ran_on did) r (placed reread standing from end) (again_of reread (placed reread standing from end) (key_of standing)) → Runs Progress (ran_on did) r
+  by false (Ok x) standing keep r saves dropped kept did shown concludes = once Progress (ran_on did) (Ok x) r did.is.done tt shown concludes
+  by true (Ok x) Before keep r saves dropped kept did shown concludes = once Progress (ran_on did) (Ok x) r did.is.done tt shown concludes
+  by true (Ok x) Skipping keep r saves dropped kept did shown concludes = once Progress (ran_on did) (Ok x) r did.is.done tt shown concludes
+  by true (Ok x) (InPayload k) keep r saves dropped kept did shown concludes = once Progress (ran_on did) (Ok x) r did.is.done tt shown concludes
   by false (Err s) Before keep r saves dropped kept did shown concludes = as_kept s Before keep r (kept refl) did shown concludes
   by false (Err s) Skipping keep r saves dropped kept did shown concludes = as_kept s Skipping keep r (kept refl) did shown concludes
   by false (Err s) (InPayload k) keep r saves dropped kept did shown concludes = as_kept s (InPayload k) keep r (kept refl) did shown concludes
   by true (Err s) Before keep r saves dropped kept did shown concludes =
-      resumed_stop s Before keep r did s
+      once Progress (ran_on did) (Err s) r tt
       (before_as i from (resume_ports before first) (resume_ports after last) keep (kept_for (option_text d.save)) did.is.run s did.stands) shown concludes
   by true (Err s) Skipping keep r saves dropped kept did shown concludes =
-      resumed_stop s Skipping keep r did (stopped_at s from)
+      once Progress (ran_on did) (Err (stopped_at s from)) r tt
       (subst (λ (x : PositionPolicy). Halting x did.is.run (stopped_at s from)) (kept_some (option_text d.save) (saves refl))
       (skipping_as i from (resume_ports before first) (resume_ports after last) did.is.run s
       (subst (λ (x : PositionPolicy). Placed i from (resume_ports before first) (resume_ports after last) x did.is.run (Err s) Skipping) (dropped refl) did.stands)))
       shown concludes
   by true (Err s) (InPayload k) keep (Ok x) saves dropped kept did shown concludes = absurd concludes
   by true (Err s) (InPayload k) keep (Err e) saves dropped kept did shown concludes =
-      resumed_again s k e (saves refl) (subst (λ (x : PositionPolicy). ResumedDid x (Err s) (InPayload k)) (dropped refl) did) shown concludes
+      let stops = subst (λ (x : PositionPolicy). Halting x did.is.run s) (dropped refl) did.is.stopped in
+      again Progress (ran_on did) s k e (saves refl) stops (came_there did.is.run s k
+      (subst (λ (x : PositionPolicy). Placed i from (resume_ports before first) (resume_ports after last) x did.is.run (Err s) (InPayload k)) (dropped refl) did.stands) did.due stops)
+      shown concludes
 
   pub resumed_by : (reread : Bool) (end : Result Done Stopped) (standing : Standing) (keep : PositionPolicy)
       (r : Result (Unit {0}) Ending) → (reread ≡ true → is_some (option_text d.save) ≡ true) → (reread ≡ true → keep ≡ Dropped)
-      → (reread ≡ false → keep ≡ kept_for (option_text d.save)) → ResumedDid keep end standing → ResumedShows r
+      → (reread ≡ false → keep ≡ kept_for (option_text d.save)) → (did : ResumedDid keep end standing) → Shows Progress (ran_on did) r
       → (end' : Result Done Stopped) (key : Option (List ℕ)) → end' ≡ placed reread standing from end → key ≡ key_of standing
-      → ResumedSo r end' (again_of reread end' key) → Resumes r
+      → Concluded Progress (ran_on did) r end' (again_of reread end' key) → Runs Progress (ran_on did) r
   resumed_by reread end standing keep r saves dropped kept did shown end' key at is concludes =
       by reread end standing keep r saves dropped kept did shown
-      (subst (λ (e : Result Done Stopped). ResumedSo r e (again_of reread e (key_of standing))) at
-      (subst (λ (k : Option (List ℕ)). ResumedSo r end' (again_of reread end' k)) is concludes))
+      (subst (λ (e : Result Done Stopped). Concluded Progress (ran_on did) r e (again_of reread e (key_of standing))) at
+      (subst (λ (k : Option (List ℕ)). Concluded Progress (ran_on did) r end' (again_of reread end' k)) is concludes))

@@ -16,7 +16,7 @@ ghost use Rattle.age_command.specs.declared.ending.Ending.TheVariants.{Usage as 
 ghost use Rattle.age_command.specs.Orders.{creating, preparing, making};
 ghost use Rattle.age_file.specs.Runs.{ports};
 ghost use Rattle.age_cli.specs.Acts.{AreNew, IsUnusable};
-ghost use Rattle.age_cli.specs.inner.Endings.{Concludes, EndsOut, IsPut, LeavesFile};
+ghost use Rattle.age_cli.specs.inner.Endings.{Concludes, EndsOut, IsPut, EndsFile};
 ghost use Rattle.age_cli.specs.inner.Openings.{OpensFiles, age_file_in};
 ghost use Rattle.age_cli.specs.declared.output.Content.TheVariants.{AgeFile};
 
@@ -194,7 +194,8 @@ pub(crate) fn leave<F: FileSet>(files: &mut F, out: F::Out, durability: Durabili
         × IsPut (F.Out.view out) puts }
     ensures noted { (F.view files.new).events
         ≡ (F.view files.old).events ++ Closed durability ∷ [] }
-    ensures ended { IsSomeAnd (F.view files.new).ended (LeavesFile (F.Out.view out)) }
+    ensures ended { IsSomeAnd (F.view files.new).ended
+        (EndsFile durability (F.Out.view out) true true) }
 {
     let is_empty = files.is_empty(&out);
     if is_empty {

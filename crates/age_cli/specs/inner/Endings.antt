@@ -1,5 +1,5 @@
 -- How a part of the program ended. What only private code cites.
-use Rattle.std.specs.Prelude.{◌≡◌, ◌≢◌, ◌⊎◌, ℕ, ◌++◌, ◌∷◌, [], true, false, List, Option, None}
+use Rattle.std.specs.Prelude.{◌≡◌, ◌≢◌, ◌⊎◌, ℕ, ◌++◌, ◌∷◌, [], Bool, true, false, List, Option, None, is_err}
 use Rattle.std.specs.Prelude.{Result, Ok, Err, IsOk, OnOk, OnErr, IfErr, IsErrAnd, IsSomeAnd, IfSome, ◌<◌}
 use Rattle.clap.specs.Words.{Text}
 use Rattle.clap.specs.declared.error.kind.ErrorKind.{ErrorKind}
@@ -44,33 +44,23 @@ abbrev pub IsFaultOf : Result (Unit {0}) Interruption → FileFault → Type 0
 IsFaultOf (Ok done) fault = fault ≡ Write
 IsFaultOf (Err stop) fault = fault ≡ stop.fault
 
--- how an engine's stop leaves the file of OUT, whose sink is this: untouched, if nothing was taken, and
--- otherwise closed
-pub record LeavesFile (sink : SinkView) (out : EndedFile) : Type 0 where
-  pub took : out.took ≡ sink.taken.bytes
-  pub within : TouchesItself out
-  pub untouched : sink.taken.bytes ≡ [] → IsUntouched sink.failed out
-  -- Otherwise it was closed with that.
-  pub kept : (sink.taken.bytes ≡ [] → ⊥) → out.is_closed ≡ true
-
--- what was done to the file of OUT, whose sink is this, once the engine returned so
-pub record EndsFile {E : Type 0} (durability : Durability) (sink : SinkView)
-    (engine : Result (Unit {0}) Interruption) (result : Result (Unit {0}) E) (out : EndedFile)
+-- what was done to the file of OUT, whose sink is this, once the engine returned: whether it had stopped,
+-- and whether it or the end of OUT has failed
+pub record EndsFile (durability : Durability) (sink : SinkView) (stopped failed : Bool) (out : EndedFile)
     : Type 0 where
   pub took : out.took ≡ sink.taken.bytes
   pub within : TouchesItself out
-  -- Ok says that it was closed.
-  pub closed : OnOk result (out.is_closed ≡ true)
+  pub closed : failed ≡ false → out.is_closed ≡ true
   -- It is there, if no put has failed.
-  pub there : sink.failed ≡ 0 → OnOk result (IsThere out)
+  pub there : failed ≡ false → sink.failed ≡ 0 → IsThere out
   -- It is on the disk, if that was waited for and no put has failed.
-  pub safe : durability ≡ Synced → sink.failed ≡ 0 → OnOk result (IsOnDisk out)
+  pub safe : failed ≡ false → durability ≡ Synced → sink.failed ≡ 0 → IsOnDisk out
   -- After a stop it is untouched, if nothing was taken.
-  pub untouched : IfErr engine (λ stop. sink.taken.bytes ≡ [] → IsUntouched sink.failed out)
+  pub untouched : stopped ≡ true → sink.taken.bytes ≡ [] → IsUntouched sink.failed out
   -- Otherwise it was closed with what was taken.
-  pub kept : IfErr engine (λ stop. (sink.taken.bytes ≡ [] → ⊥) → out.is_closed ≡ true)
+  pub kept : stopped ≡ true → (sink.taken.bytes ≡ [] → ⊥) → out.is_closed ≡ true
   -- If it couldn't be ended, a call has failed.
-  pub caused : OnOk engine (OnErr result (IfSome out.file (λ f. 0 < out.failed)))
+  pub caused : stopped ≡ false → failed ≡ true → IfSome out.file (λ f. 0 < out.failed)
 
 -- what was put of an output, whose sink is this: nothing, or all that it took
 abbrev pub IsPut : SinkView → List Entry → Type 0
@@ -90,7 +80,7 @@ pub record EndsOut (durability : Durability) (sink : SinkView) (engine : Result 
   -- It is ended once.
   pub noted : new.events ≡ old.events ++ Closed durability ∷ []
   -- What was done to its file, and with which fault that stopped.
-  pub ended : IsSomeAnd new.ended (EndsFile durability sink engine result)
+  pub ended : IsSomeAnd new.ended (EndsFile durability sink (is_err engine) (is_err result))
   pub fault : IfErr result (λ stop. IsFaultOf engine stop.fault)
   pub position : IfErr result (λ stop. stop.position ≡ position_of engine)
   -- If the engine ended, but OUT couldn't be, the set of files says so.
@@ -109,7 +99,7 @@ pub record Concludes (save : Option Text) (durability : Durability) (sink : Sink
   -- If all is done, OUT is closed and nothing more.
   pub order_done : OnOk result (new.events ≡ old.events ++ Closed durability ∷ [])
   -- What was done to its file, and with which fault that stopped, which is reported.
-  pub ended : IsSomeAnd new.ended (EndsFile durability sink engine result)
+  pub ended : IsSomeAnd new.ended (EndsFile durability sink (is_err engine) (is_err result))
   pub reported : IfErr result
       (λ ending. (fault : FileFault) × IsFaultOf engine fault × IsEndingOf fault ending)
   -- If the engine ended, but OUT couldn't be, the set of files says so.

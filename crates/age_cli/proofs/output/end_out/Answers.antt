@@ -1,10 +1,10 @@
-use Rattle.std.proofs.Common.{◌≡◌, [], refl, sym, subst, None, List, Result, Ok, Err, IfErr, inl, OnOk, OnErr}
-use Rattle.std.specs.Prelude.{IsOk, IsSomeAnd}
+use Rattle.std.proofs.Common.{◌≡◌, [], refl, sym, subst, None, List, Result, Ok, Err, IfErr, true, false, inl, OnOk, OnErr}
+use Rattle.std.specs.Prelude.{IsOk, IsSomeAnd, is_err}
 use Rattle.age_fileset.specs.FileSet.{Entry, CameSince, Unwritten}
 use Rattle.age_command.proofs.ResultLemmas.{not_well, this_error, an_error}
 use Rattle.age_cli.specs.declared.interruption.Interruption.{Interruption}
 use Rattle.age_cli.specs.inner.Endings.{EndsFile, IsFaultOf, position_of}
-use Rattle.age_cli.proofs.FileLemmas.{some_and, closed_well, closed_badly, left_file}
+use Rattle.age_cli.proofs.FileLemmas.{some_and, closes_file}
 use Rattle.age_cli.proofs.PutLemmas.{grows_lost, lost_came, grows_put, no_stop, same_stop}
 use Rattle.age_cli.proofs.output.end_out.Goals as goal
 
@@ -17,8 +17,8 @@ returns-in_ok-close-in-Ok g c =
       left = tt;
       same = no_stop c.args.engine _ _ c.in-Ok.is;
       noted = closed.noted.events;
-      ended = subst (λ (x : Result (Unit {0}) Interruption). IsSomeAnd (g.F.FileSet.view c.close.new.self).ended (EndsFile c.args.durability sink x (Ok tt)))
-          (sym c.in-Ok.is) (some_and _ (λ out so. closed_well _ _ _ out so) closed.closed);
+      ended = subst (λ (x : Result (Unit {0}) Interruption). IsSomeAnd (g.F.FileSet.view c.close.new.self).ended (EndsFile c.args.durability sink (is_err x) false))
+          (sym c.in-Ok.is) (some_and _ (λ out so. closes_file _ _ _ (Ok tt) out so) closed.closed);
       fault = tt;
       position = tt;
       refused = subst (λ (x : Result (Unit {0}) Interruption). OnOk x (Unit {0})) (sym c.in-Ok.is) tt;
@@ -38,8 +38,8 @@ returns-in_err-close-in-Ok g c =
       left = an_error r _ ([], lost, inl refl, subst (λ (x : Result (Unit {0}) Interruption). OnOk x (◌≡◌ {A = List Entry} [] [])) (sym c.in-Ok.is) refl);
       same = no_stop c.args.engine _ _ c.in-Ok.is;
       noted = closed.noted.events;
-      ended = subst (λ (x : Result (Unit {0}) Interruption). IsSomeAnd (view c.close.new.self).ended (EndsFile c.args.durability sink x r))
-          (sym c.in-Ok.is) (some_and _ (λ out so. closed_badly _ _ _ _ r out (not_well r e is) so) closed.closed);
+      ended = subst (λ (x : Result (Unit {0}) Interruption). IsSomeAnd (view c.close.new.self).ended (EndsFile c.args.durability sink (is_err x) (is_err r)))
+          (sym c.in-Ok.is) (rw is.0 (some_and _ (λ out so. closes_file _ _ _ (Err e.fault) out so) closed.closed));
       fault = subst (λ (x : Result (Unit {0}) Interruption). IfErr r (λ stop. IsFaultOf x stop.fault)) (sym c.in-Ok.is) (this_error r e is _ closed.faults);
       position = subst (λ (x : Result (Unit {0}) Interruption). IfErr r (λ stop. stop.position ≡ position_of x)) (sym c.in-Ok.is) (this_error r e is _ refl);
       refused = subst (λ (x : Result (Unit {0}) Interruption). OnOk x (OnErr r (CameSince (view c.args.files.now) (view c.close.new.self) (Unwritten sink.label)))) (sym c.in-Ok.is)
@@ -57,8 +57,8 @@ returns-in-Err g c =
       left = (left.puts.0, left.puts.1, left.puts.2, subst (λ (x : Result (Unit {0}) Interruption). OnOk x (left.puts.0 ≡ [])) (sym c.in-Err.is) tt);
       same = same_stop c.args.engine stop c.in-Err.is;
       noted = left.noted;
-      ended = subst (λ (x : Result (Unit {0}) Interruption). IsSomeAnd (view c.leave.new.files).ended (EndsFile c.args.durability sink x (Err stop))) (sym c.in-Err.is)
-          (some_and _ (λ out so. left_file c.args.durability sink stop stop out so) left.ended);
+      ended = subst (λ (x : Result (Unit {0}) Interruption). IsSomeAnd (view c.leave.new.files).ended (EndsFile c.args.durability sink (is_err x) true)) (sym c.in-Err.is)
+          left.ended;
       fault = subst (λ (x : Result (Unit {0}) Interruption). IsFaultOf x stop.fault) (sym c.in-Err.is) refl;
       position = subst (λ (x : Result (Unit {0}) Interruption). stop.position ≡ position_of x) (sym c.in-Err.is) refl;
       refused = subst (λ (x : Result (Unit {0}) Interruption). OnOk x (CameSince (view c.args.files.now) (view c.leave.new.files) (Unwritten sink.label))) (sym c.in-Err.is) tt;
