@@ -20,7 +20,7 @@ IsTaking (Some out) failed took = (text_of out.calls ≡ took)
     × ((failed ≡ 0 → out.is_lost ≡ false → out.failed ≡ 0)
     × (failed ≡ 0 → took ≡ [] → out.failed ≡ 0))
 
--- no more was waited for than was written, nor written than a sink took; none was only if it took none
+-- no more was waited for than was written, nor written than a sink took; and something, if it took any
 abbrev pub IsPaced : Pace → List ℕ → Type 0
 IsPaced pace took = (pace.settled ≤ pace.taken)
     × ((pace.taken ≤ length took) × (pace.taken ≡ 0 → took ≡ []))

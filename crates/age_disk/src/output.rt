@@ -1,7 +1,7 @@
 //! A file of the machine that is written.
 
-ghost use Rattle.std.specs.Prelude.{◌≡◌, ◌↔◌, ◌≤◌, ◌<◌, [], ◌∷◌, ◌++◌, None, Some, true, false, length, is_ok};
-ghost use Rattle.std.specs.Prelude.{IfOk, IfSome, OnErr, MatchResult, string_bytes, is_err, ℕ, List};
+ghost use Rattle.std.specs.Prelude.{◌≡◌, ◌↔◌, ◌≤◌, ◌<◌, [], ◌∷◌, ◌++◌, None, Some, true, false, length};
+ghost use Rattle.std.specs.Prelude.{is_ok, IfOk, IfSome, OnErr, MatchResult, string_bytes, is_err, ℕ, List};
 ghost use Rattle.std.specs.Prelude.{option_map};
 ghost use Rattle.std.specs.Io.{WritesAtMost};
 ghost use Rattle.age_io.specs.Io.{one_more};
