@@ -448,7 +448,7 @@ module _ (IsPorts : Ports → Type 0) (asked : Request) (before after : FilesVie
     pub stopped : IfErr ended (λ ending. HasNotBegun asked ending before after
         ⊎ OfIts (λ engine paths. HasEngineStopped IsPorts (CameSince before after) engine paths
         (durability_of asked) (order_asked asked).done ending before after))
-    -- The command line is refused for this alone, and the ending says for what.
+    -- The command line is refused for this alone, and the ending says for what; a drill's for anything.
     pub blamed : IfErr ended (λ e. IsUsage e → IsBlamed (CameSince before after) asked e)
     -- What is opened and made is a beginning of the command's order.
     pub order : Follows (order_asked asked).whole before.events after.events

@@ -133,7 +133,8 @@ fn create_out<F: FileSet>(
 /// Prepares the file of `save`, if there is one, unless it turns out to be a file that is read,
 /// other than the file of the position.
 fn prepare_save<F: FileSet>(alloc: Global, files: &mut F, asked: &Output<'_>) -> Result<(), Ending>
-    ensures does { Does (preparing (option_text asked.now.save)) (F.view files.old) (F.view files.new) }
+    ensures does { Does (preparing (option_text asked.now.save) (option_text asked.now.position))
+        (F.view files.old) (F.view files.new) }
     ensures early { IfErr result EndsEarly }
     ensures reason { IfErr result (HasReason (CameSince (F.view files.old) (F.view files.new))) }
     ensures fault { IfErr result (λ e. is_usage e ≡ true
@@ -154,9 +155,9 @@ pub(crate) fn open_both<F: FileSet>(
     asked: &Output<'_>,
 ) -> Result<(F::In, F::Out), Ending>
     ensures { OpensFiles
-        (Opened from.now ∷ (preparing (option_text asked.now.save)
+        (Opened from.now ∷ (preparing (option_text asked.now.save) (option_text asked.now.position)
         ++ creating asked.now.clobber asked.now.to.now ∷ []))
-        (Opened from.now ∷ (preparing (option_text asked.now.save)
+        (Opened from.now ∷ (preparing (option_text asked.now.save) (option_text asked.now.position)
         ++ making asked.now.clobber (Some asked.now.to.now) asked.now.durability))
         (age_file_in asked.now.content asked.now.to.now) (F.view files.old) (F.view files.new)
         (λ both. AreNew (ports (F.In.view both.0) (F.Out.view both.1))

@@ -26,15 +26,16 @@ pub record Begins (order : List Event) (old new : FilesView) : Type 0 where
   pub did : Does done old new
   pub front : order ≡ done ++ rest
 
--- a file is opened, if one is named; one is prepared to be replaced; one is created, or made if none
--- may be there, and ended; one is replaced; and what was written reaches the disk then or later
+-- a file is opened, if one is named; one is prepared to be replaced, though it may be in use under
+-- another name; one is created, or made if none may be there, and ended; one is replaced; and what was
+-- written reaches the disk then or later
 abbrev pub opening_event : Option Text → List Event
 opening_event (Some name) = Opened name ∷ []
 opening_event None = []
 
-abbrev pub preparing : Option Text → List Event
-preparing (Some name) = Prepared name ∷ []
-preparing None = []
+abbrev pub preparing : Option Text → (spared : Option Text) → List Event
+preparing (Some name) spared = Prepared name spared ∷ []
+preparing None spared = []
 
 abbrev pub creating : ClobberOption → Text → Event
 creating Allowed name = Created name
@@ -111,7 +112,7 @@ abbrev pub writing_order : Option Text → Option Text → Option Text → Optio
 writing_order first second position old from clobber to save durability =
     let judged = opening_event first ++ opening_event second in
     let done = judged ++ ((opening_event position ++ (opening_event old ++ opening_event from))
-    ++ (preparing save ++ making clobber to durability)) in
+    ++ (preparing save position ++ making clobber to durability)) in
     let read = from ∷ first ∷ second ∷ old ∷ [] in
     record {
       apart = apart_from to (position ∷ read) ∷ apart_from save (to ∷ read)

@@ -595,7 +595,9 @@ impl HostOut {
     }
 
     /// Whether it is a terminal.
-    pub fn is_terminal(&self) -> bool {
+    pub fn is_terminal(&self) -> bool
+        ensures { result ≡ true → self.now.file ≡ None }
+    {
         match &self.target {
             Target::File(_) => false,
             Target::Device(device) => device.file.is_terminal(),

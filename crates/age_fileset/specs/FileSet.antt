@@ -18,11 +18,12 @@ use Rattle.age_fileset.specs.declared.mem_entry.MemEntry.{MemEntry}
 -- ---- What was to be done with a set of files.
 
 -- a file was to be opened, prepared to be replaced later, created, made where none is, or replaced
--- under this name, whether that succeeded or not; the file that was created or made last was ended;
--- what was written or replaced was to reach the disk now or later
+-- under this name, whether that succeeded or not; one that is prepared may be in use under the second
+-- name, if there is one; the file that was created or made last was ended; what was written or
+-- replaced was to reach the disk now or later
 pub data Event : Type 0 where
   Opened : List ℕ → Event
-  Prepared : List ℕ → Event
+  Prepared : List ℕ → (spared : Option (List ℕ)) → Event
   Created : List ℕ → Event
   Made : List ℕ → Event
   Replaced : List ℕ → Durability → Event
@@ -64,13 +65,12 @@ pub data Outcome : Type 0 where
   -- A close or a replacing with these bytes succeeded. What a disk holds then is said by its calls: if
   -- a put failed not all of the bytes need be there, and what failed may have left some.
   Put : List ℕ → List ℕ → Outcome
-  -- what no name shows: two names that differ lead to one file
+  -- what no name shows, as the set says: two names that differ lead to one file; two of these names
+  -- to one stream; this one to what was opened, prepared or created before, or takes the lines of
+  -- faults; the output of this name is a terminal
   Alike : (one other : List ℕ) → Outcome
-  -- two of these names lead to one stream
   OneStream : List (List ℕ) → Outcome
-  -- what this name leads to was opened, prepared or created before, or takes the lines of faults
   InUse : List ℕ → Outcome
-  -- the output of this name is a terminal
   Terminal : List ℕ → Outcome
 
 -- an outcome, if the answer is yes

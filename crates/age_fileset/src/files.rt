@@ -1,6 +1,6 @@
 //! Files by their names.
 
-ghost use Rattle.std.specs.Prelude.{◌≡◌, ◌↔◌, ℕ, true, false, List, [], ◌∷◌, Option, Some};
+ghost use Rattle.std.specs.Prelude.{◌≡◌, ◌↔◌, ℕ, true, false, List, [], ◌∷◌, Option, Some, None, option_map};
 ghost use Rattle.std.specs.Prelude.{IfOk, IfErr, IsOkUnless, OnOk, IfSome, ◌≤◌, length, IsSomeAnd};
 ghost use Rattle.age_fileset.specs.FileSet.{FilesView, IsMemoryOr, OpenFails, Opened, Prepared, Created};
 ghost use Rattle.age_fileset.specs.FileSet.{Made, Replaced, EndsOne, Found, FoundOrEmpty, Absent, Gave};
@@ -48,7 +48,8 @@ impl From<FileFault> for OpenFault {
 ///   `check_streams` refuses two names of one stream before the first is opened; or else `open`
 ///   refuses the second, before it opens what could wait forever;
 /// - two names that are one file are refused as such, by `is_same` before the second is opened, or
-///   else by `prepare` and `create`; and `replace` writes over none that was opened or created.
+///   else by `prepare` and `create`; and `replace` writes over none that was opened or created;
+/// - that names lead to one file or stream, or that a file is in use, is said only if it is so.
 pub trait FileSet {
     /// A file that is read. Its `began` says under which name it was opened: of one name alone.
     type In: Source + Drop;
@@ -135,8 +136,9 @@ pub trait FileSet {
     /// it is the file of `spared`. A file that is created after this is refused if it is the prepared
     /// one.
     fn prepare(&mut self, alloc: Global, name: &str, spared: Option<&str>) -> Result<(), OpenFault>
-        ensures noted { view self.new ≡ with_event (Prepared name.now) (made_as [] name.now result)
-            (view self.old) }
+        ensures noted { view self.new
+            ≡ with_event (Prepared name.now (option_map (λ s. s.now) spared.entry))
+            (made_as [] name.now result) (view self.old) }
         ensures faults { IfErr result (OpenFails FileFault.Write) };
 
     /// Opens a file to be written, and makes it if there is none. Refuses with `Write` (27) if it can't
@@ -167,10 +169,11 @@ pub trait FileSet {
         ensures { view self.new ≡ with_outcomes
             (noted_if result (InUse (Self.Out.view out.now).label)) (view self.old) };
 
-    /// Whether a file that was created is a terminal.
+    /// Whether a file that was created is a terminal. No regular file of a disk is one.
     fn is_terminal(&mut self, out: &Self::Out) -> bool
-        ensures { view self.new ≡ with_outcomes
-            (noted_if result (Terminal (Self.Out.view out.now).label)) (view self.old) };
+        ensures noted { view self.new ≡ with_outcomes
+            (noted_if result (Terminal (Self.Out.view out.now).label)) (view self.old) }
+        ensures device { result ≡ true → file out.now ≡ None };
 
     /// Whether a file that was created took no byte so far.
     fn is_empty(&self, out: &Self::Out) -> bool

@@ -15,7 +15,7 @@ use std::marker::Model;
 #[derive(Clone, Copy)]
 enum Action<'a> {
     Opened(&'a str),
-    Prepared(&'a str),
+    Prepared(&'a str, Option<&'a str>),
     Created(&'a str),
     Made(&'a str),
     Replaced(&'a str, Durability),
@@ -88,11 +88,14 @@ impl Log {
         self.cell.note(&Action::Opened(name));
     }
 
-    /// A file was to be prepared.
-    pub fn prepared(&mut self, name: &str)
-        ensures { self.new ≡ record self.old { events = self.old.events ++ Prepared name.now ∷ [] } }
+    /// A file was to be prepared, which may be in use under the second name.
+    pub fn prepared(&mut self, name: &str, spared: Option<&str>)
+        ensures { self.new ≡ record self.old {
+          events = self.old.events
+              ++ Prepared name.now (option_map (λ s. s.now) spared.entry) ∷ [];
+        } }
     {
-        self.cell.note(&Action::Prepared(name));
+        self.cell.note(&Action::Prepared(name, spared));
     }
 
     /// A file was to be created.

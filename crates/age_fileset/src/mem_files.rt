@@ -449,17 +449,14 @@ impl FileSet for MemFiles {
     }
 
     /// Tries nothing: a name that can't be written is refused when it is replaced.
-    fn prepare(
-        &mut self,
-        _alloc: Global,
-        name: &str,
-        _spared: Option<&str>,
-    ) -> Result<(), OpenFault>
+    fn prepare(&mut self, _alloc: Global, name: &str, spared: Option<&str>) -> Result<(), OpenFault>
         ensures ok { IsOk result }
-        ensures kept { self.new
-            ≡ record self.old { events = self.old.events ++ Prepared name.now ∷ [] } }
+        ensures kept { self.new ≡ record self.old {
+          events = self.old.events
+              ++ Prepared name.now (option_map (λ s. s.now) spared.entry) ∷ [];
+        } }
     {
-        self.log.prepared(name);
+        self.log.prepared(name, spared);
         Ok(())
     }
 

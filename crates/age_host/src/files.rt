@@ -1,7 +1,7 @@
 //! The machine's files.
 
 ghost use Rattle.std.specs.Prelude.{◌≡◌, ◌∷◌, ◌++◌, [], true, None, Some, Err, IfOk, IfErr, IsErr};
-ghost use Rattle.std.specs.Prelude.{Contains, OnOk, IfSome};
+ghost use Rattle.std.specs.Prelude.{Contains, OnOk, IfSome, IsSomeAnd, ◌≢◌};
 ghost use Rattle.age_fault.specs.declared.fault.FileFault.TheVariants.{Read, Write, Memory};
 ghost use Rattle.age_fileset.specs.FileSet.{IsMemoryOr, OpenFails, Opened, Created, Made, Found};
 ghost use Rattle.age_fileset.specs.FileSet.{FoundOrEmpty, Absent, Put, opened_as, made_as};
@@ -272,7 +272,8 @@ fn is_one_file(rt: &HostRuntime, one: &str, other: &str) -> bool {
 
 /// Keeps a stream, if it is none of those that were kept before.
 fn keep_stream(kept: &mut Vec<StreamId>, stream: StreamId) -> Result<(), OpenFault>
-    ensures { IfErr result (OpenFails Read) }
+    ensures faults { IfErr result (OpenFails Read) }
+    ensures only { result ≡ Err SameFile → kept.old.items ≢ [] }
 {
     if kept.iter().any(|other| other.is_same(stream)) {
         return Err(OpenFault::SameFile);
@@ -322,7 +323,8 @@ fn find_prepared<'p>(
 
 /// Whether this is a file that was opened.
 fn is_known(opened: &[FileId], id: Option<FileId>) -> bool
-    ensures { (one : FileId) → id ≡ Some one → Contains opened.now one → result ≡ true }
+    ensures known { (one : FileId) → id ≡ Some one → Contains opened.now one → result ≡ true }
+    ensures only { result ≡ true → IsSomeAnd id (Contains opened.now) }
 {
     match id {
         Some(id) => opened.contains(&id),
@@ -345,6 +347,7 @@ fn keep(opened: &mut Vec<FileId>, id: Option<FileId>) -> Result<(), AllocError>
 fn admit(opened: &mut Vec<FileId>, id: Option<FileId>) -> Result<(), OpenFault>
     ensures apart { (one : FileId) → id ≡ Some one → Contains opened.old.items one
         → result ≡ Err SameFile }
+    ensures only { result ≡ Err SameFile → IsSomeAnd id (Contains opened.old.items) }
     ensures faults { IfErr result (OpenFails Write) }
 {
     if is_known(opened.as_slice(), id) {
@@ -575,7 +578,7 @@ impl<'r, 'w> FileSet for HostFiles<'r, 'w> {
         name: &str,
         spared: Option<&str>,
     ) -> Result<(), OpenFault> {
-        self.log.prepared(name);
+        self.log.prepared(name, spared);
         let spared = match spared {
             Some(spared) => FileId::at(self.rt, spared),
             None => None,

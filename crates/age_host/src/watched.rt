@@ -203,7 +203,9 @@ impl<'r, 'w> WatchedOut<'r, 'w> {
     }
 
     /// Whether it is a terminal.
-    pub(crate) fn is_terminal(&self) -> bool {
+    pub(crate) fn is_terminal(&self) -> bool
+        ensures { result ≡ true → self.now.sink.file ≡ None }
+    {
         self.sink.is_terminal()
     }
 

@@ -20,7 +20,8 @@ came more old = record old { outcomes = old.outcomes ++ more }
 -- what was done by then, and came of it, once an action is
 abbrev pub once_done : Action → Doings → Doings
 once_done (action.Opened name) old = did (Opened name.now) old
-once_done (action.Prepared name) old = did (Prepared name.now) old
+once_done (action.Prepared name spared) old =
+    did (Prepared name.now (option_map (λ s. s.now) spared)) old
 once_done (action.Created name) old = did (Created name.now) old
 once_done (action.Made name) old = did (Made name.now) old
 once_done (action.Replaced name durability) old = did (Replaced name.now durability) old
@@ -49,11 +50,12 @@ once_done (action.Terminal name) old = came (Terminal name.now ∷ []) old
 
 -- an event as a choice among sums, the form in which ghost state is kept
 abbrev Parts : Type 0
-Parts = List ℕ ⊎ (List ℕ ⊎ (List ℕ ⊎ (List ℕ ⊎ (List ℕ ⊎ (List ℕ ⊎ (Unit {0} ⊎ Unit {0}))))))
+Parts = List ℕ ⊎ ((List ℕ × Option (List ℕ)) ⊎ (List ℕ ⊎ (List ℕ ⊎ (List ℕ ⊎ (List ℕ
+    ⊎ (Unit {0} ⊎ Unit {0}))))))
 
 abbrev split : Event → Parts
 split (Opened name) = inl name
-split (Prepared name) = inr (inl name)
+split (Prepared name spared) = inr (inl (name, spared))
 split (Created name) = inr (inr (inl name))
 split (Made name) = inr (inr (inr (inl name)))
 split (Replaced name Synced) = inr (inr (inr (inr (inl name))))
@@ -63,7 +65,7 @@ split (Closed Buffered) = inr (inr (inr (inr (inr (inr (inr tt))))))
 
 abbrev join : Parts → Event
 join (inl name) = Opened name
-join (inr (inl name)) = Prepared name
+join (inr (inl t)) = Prepared t.0 t.1
 join (inr (inr (inl name))) = Created name
 join (inr (inr (inr (inl name)))) = Made name
 join (inr (inr (inr (inr (inl name))))) = Replaced name Synced
@@ -73,7 +75,7 @@ join (inr (inr (inr (inr (inr (inr (inr _))))))) = Closed Buffered
 
 pub join-split : (e : Event) → join (split e) ≡ e
 join-split (Opened name) = refl
-join-split (Prepared name) = refl
+join-split (Prepared name spared) = refl
 join-split (Created name) = refl
 join-split (Made name) = refl
 join-split (Replaced name Synced) = refl
@@ -85,7 +87,8 @@ abbrev coded_named : Coded (List ℕ)
 coded_named = coded_list coded_ℕ
 
 abbrev coded_event : Coded Event
-coded_event = code_by Parts (coded⊎ coded_named (coded⊎ coded_named (coded⊎ coded_named
+coded_event = code_by Parts (coded⊎ coded_named
+    (coded⊎ (coded× coded_named (coded_option coded_named)) (coded⊎ coded_named
     (coded⊎ coded_named (coded⊎ coded_named (coded⊎ coded_named (coded⊎ coded_unit coded_unit)))))))
     split join join-split
 

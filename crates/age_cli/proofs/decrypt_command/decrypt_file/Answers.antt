@@ -1,4 +1,4 @@
-use Rattle.std.proofs.Common.{◌∙◌, ◌++◌, ◌∷◌, [], List, ap, inl, refl, Some}
+use Rattle.std.proofs.Common.{◌∙◌, ◌++◌, ◌∷◌, [], List, ap, inl, refl, None, Some}
 use Rattle.age_file.specs.Runs.{ports}
 use Rattle.age_fileset.specs.FileSet.{Event, Opened, Outcome, CameSince}
 use Rattle.age_fileset.proofs.OutcomeLemmas.{came_then, does_then, grows_by, then_came}
@@ -25,7 +25,7 @@ returns-in_err-secret-clause-acts g c =
     let view = g.F.FileSet.view in
     let e = c.in_err-secret.field-0.0 in
     let judged = judges_from (Decrypt d) _ _ (view c.args.files.now) _ _ _ _ c.in_ok-choice.ensures.chooses.order c.names_a_file_twice-is_file_named_twice.ensures c.in_err-secret.ensures.judges in
-    acts_judged _ (Decrypt d) _ _ _ _ _ (λ e early. early) (Opened d.from.now ∷ (preparing (option_text d.save) ++ making d.clobber (Some d.to.now) d.durability)) refl
+    acts_judged _ (Decrypt d) _ _ _ _ _ (λ e early. early) (Opened d.from.now ∷ (preparing (option_text d.save) None ++ making d.clobber (Some d.to.now) d.durability)) refl
     e c.from_residual-in_err-secret.ensures judged refl
 
 pub returns-in_err-identity-clause-acts : goal.returns-in_err-identity-clause-acts
@@ -38,7 +38,7 @@ returns-in_err-identity-clause-acts g c =
     let twice = c.names_a_file_twice-is_file_named_twice.ensures in
     let chooses = c.in_ok-choice.ensures.chooses in
     let judged = judges_from (Decrypt d) _ _ old mid new _ _ chooses.order twice c.in_ok-secret.ensures.judges in
-    acts_refused _ (Decrypt d) _ _ _ _ _ (λ e early. early) (Opened d.from.now ∷ (preparing (option_text d.save) ++ making d.clobber (Some d.to.now) d.durability)) refl
+    acts_refused _ (Decrypt d) _ _ _ _ _ (λ e early. early) (Opened d.from.now ∷ (preparing (option_text d.save) None ++ making d.clobber (Some d.to.now) d.durability)) refl
     _ c.in_err-identity.field-0.0 c.from_residual-in_err-identity.ensures judged (
       ap Usage (c.in_err-identity.ensures.blame ∙ chooses.blame),
       makes_none (CameSince mid new) (CameSince old new) (then_came [] old mid new (grows_by [] old mid twice.does)) d.identity c.in_ok-choice.choice _ chooses
@@ -68,7 +68,7 @@ returns-clause-acts g c =
     let judged = judges_from (Decrypt d) _ _ old first next _ _ chooses.order twice c.in_ok-secret.ensures.judges in
     let both = c.in_ok-source.ensures in
     let xs = identity_order (option_text d.identity.pass) (option_text d.identity.shared) in
-    let ys : List Event = Opened d.from.now ∷ preparing (option_text d.save) in
+    let ys : List Event = Opened d.from.now ∷ preparing (option_text d.save) None in
     let source = c.in_ok-source.source in
     let before = ports (g.F.In.Source.view source) (g.F.Out.Sink.view c.in_ok-source.out) in
     let did = does_then xs (ys ++ creating d.clobber d.to.now ∷ []) old next mid judged.noted both.noted in

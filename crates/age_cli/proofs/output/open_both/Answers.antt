@@ -22,7 +22,7 @@ returns-in_err-source g c =
     (λ read. inl (from, opened_unread In g.F.FileSet.size from (Found from) (found_plain from) _ _ (Err f) noted read)))
     (λ usage. taken_any (CameSince old new) _ (ending_of f) (open_blame (CameSince old new) f
     (λ same. (from, opened_in_use In g.F.FileSet.size from (Found from) (found_plain from) _ _ (Err f) noted same)) usage))
-    (Opened from ∷ []) (preparing (option_text a.save) ++ making a.clobber (Some a.to.now) a.durability)
+    (Opened from ∷ []) (preparing (option_text a.save) (option_text a.position) ++ making a.clobber (Some a.to.now) a.durability)
     (opened_does In g.F.FileSet.size from (Found from) (found_plain from) old new c.open.result c.open.ensures.noted c.open.ensures.faults)
 
 pub returns-in_err-prepare_save : goal.returns-in_err-prepare_save
@@ -37,7 +37,7 @@ returns-in_err-prepare_save g c =
     opens_none _ (Opened from ∷ []) _ old mid (view c.prepare_save.new.files) _ c.from_residual-in_err-prepare_save.result
     c.in_err-prepare_save.field-0.0 c.from_residual-in_err-prepare_save.ensures
     (opened_does In g.F.FileSet.size from (Found from) (found_plain from) old mid c.open.result c.open.ensures.noted c.open.ensures.faults) prepared.early prepared.reason
-    (λ usage. taken_any (CameSince mid (view c.prepare_save.new.files)) _ _ (prepared.fault usage)) (preparing (option_text a.save)) (making a.clobber (Some a.to.now) a.durability) prepared.does
+    (λ usage. taken_any (CameSince mid (view c.prepare_save.new.files)) _ _ (prepared.fault usage)) (preparing (option_text a.save) (option_text a.position)) (making a.clobber (Some a.to.now) a.durability) prepared.does
 
 pub returns-in_err-out : goal.returns-in_err-out
 returns-in_err-out g c =
@@ -50,9 +50,9 @@ returns-in_err-out g c =
     let mid = view c.prepare_save.new.files in
     let opened = opened_does In g.F.FileSet.size from (Found from) (found_plain from) old first c.open.result c.open.ensures.noted c.open.ensures.faults in
     let out = c.in_err-out.ensures in
-    opens_not _ (Opened from ∷ preparing (option_text a.save)) _ old mid (view c.create_out.new.files) _ c.from_residual-in_err-out.result
+    opens_not _ (Opened from ∷ preparing (option_text a.save) (option_text a.position)) _ old mid (view c.create_out.new.files) _ c.from_residual-in_err-out.result
     c.in_err-out.field-0.0 c.from_residual-in_err-out.ensures
-    (does_then (Opened from ∷ []) (preparing (option_text a.save)) old first mid opened c.in_ok-prepare_save.ensures.does) out.early out.reason out.fault
+    (does_then (Opened from ∷ []) (preparing (option_text a.save) (option_text a.position)) old first mid opened c.in_ok-prepare_save.ensures.does) out.early out.reason out.fault
     (making a.clobber (Some a.to.now) a.durability) out.none out.spared out.followed
 
 pub returns : goal.returns
@@ -67,9 +67,9 @@ returns g c =
     let new = view c.create_out.new.files in
     let opened = opened_does In g.F.FileSet.size from (Found from) (found_plain from) old first c.open.result c.open.ensures.noted c.open.ensures.faults in
     let prepared = c.in_ok-prepare_save.ensures.does in
-    let did = does_then (Opened from ∷ []) (preparing (option_text a.save)) old first mid opened prepared in
+    let did = does_then (Opened from ∷ []) (preparing (option_text a.save) (option_text a.position)) old first mid opened prepared in
     let out = c.in_ok-out.ensures in
-    let whole = does_then (Opened from ∷ preparing (option_text a.save)) (creating a.clobber a.to.now ∷ []) old mid new did out.noted in
+    let whole = does_then (Opened from ∷ preparing (option_text a.save) (option_text a.position)) (creating a.clobber a.to.now ∷ []) old mid new did out.noted in
     let found = opened_came In g.F.FileSet.size from (Found from) (found_plain from) old first (Ok c.in_ok-source.source) c.in_ok-source.ensures.noted in
     opens_all _ _ _ old new _ (c.in_ok-source.source, c.in_ok-out.out) (
       record { given = c.in_ok-source.ensures.begun; taken = out.begun.0; failed = out.begun.1 },

@@ -31,7 +31,7 @@ returns-in_err-secret-clause-acts g c =
     let view = g.F.FileSet.view in
     let judged = judges_from (Resume r) _ _ (view c.args.files.now) _ _ _ _ c.in_ok-choice.ensures.chooses.order c.names_one_twice-is_file_named_twice.ensures c.in_err-secret.ensures.judges in
     acts_judged _ (Resume r) _ _ _ _ _ (λ e early. inl early)
-    (Opened r.position.now ∷ Opened r.old.now ∷ Opened d.from.now ∷ (preparing (option_text d.save) ++ making d.clobber (Some d.to.now) d.durability)) refl
+    (Opened r.position.now ∷ Opened r.old.now ∷ Opened d.from.now ∷ (preparing (option_text d.save) (Some r.position.now) ++ making d.clobber (Some d.to.now) d.durability)) refl
     c.in_err-secret.field-0.0 c.from_residual-in_err-secret.ensures judged refl
 
 pub returns-in_err-identity-clause-acts : goal.returns-in_err-identity-clause-acts
@@ -46,7 +46,7 @@ returns-in_err-identity-clause-acts g c =
     let chooses = c.in_ok-choice.ensures.chooses in
     let judged = judges_from (Resume r) _ _ old mid new _ _ chooses.order twice c.in_ok-secret.ensures.judges in
     acts_refused _ (Resume r) _ _ _ _ _ (λ e early. inl early)
-    (Opened r.position.now ∷ Opened r.old.now ∷ Opened d.from.now ∷ (preparing (option_text d.save) ++ making d.clobber (Some d.to.now) d.durability)) refl
+    (Opened r.position.now ∷ Opened r.old.now ∷ Opened d.from.now ∷ (preparing (option_text d.save) (Some r.position.now) ++ making d.clobber (Some d.to.now) d.durability)) refl
     _ c.in_err-identity.field-0.0 c.from_residual-in_err-identity.ensures judged (
       ap Usage (c.in_err-identity.ensures.blame ∙ chooses.blame),
       makes_none (CameSince mid new) (CameSince old new) (then_came [] old mid new (grows_by [] old mid twice.does)) d.identity c.in_ok-choice.choice _ chooses
@@ -67,7 +67,7 @@ returns-in_err-position-clause-acts g c =
     let judged = judges_from (Resume r) _ _ old _ mid _ _ c.in_ok-choice.ensures.chooses.order c.names_one_twice-is_file_named_twice.ensures c.in_ok-secret.ensures.judges in
     let later : (o : Outcome) → CameSince mid new o → CameSince old new o = then_came [] old mid new (grows_by xs old mid judged.noted) in
     acts_unread _ (Resume r) old new _ _ _ xs (Opened r.position.now ∷ Opened r.old.now ∷ [])
-    (Opened d.from.now ∷ (preparing (option_text d.save) ++ making d.clobber (Some d.to.now) d.durability)) mid (ending_of f) c.from_residual-in_err-position.ensures refl
+    (Opened d.from.now ∷ (preparing (option_text d.save) (Some r.position.now) ++ making d.clobber (Some d.to.now) d.durability)) mid (ending_of f) c.from_residual-in_err-position.ensures refl
     judged.noted earlier.begins
     (position_early (HoldsOnly (CameSince old new) r.position.now HoldsNoPosition) f earlier.faults
     (λ bad. holds_as (CameSince mid new) (CameSince old new) later r.position.now HoldsNoPosition HoldsNoPosition (λ bytes none. none) (earlier.bad bad)))
@@ -86,9 +86,9 @@ returns-in_err-source-clause-acts g c =
     let judged = judges_from (Resume r) _ _ old _ next _ _ c.in_ok-choice.ensures.chooses.order c.names_one_twice-is_file_named_twice.ensures c.in_ok-secret.ensures.judges in
     let two : List Event = Opened r.position.now ∷ Opened r.old.now ∷ [] in
     acts_unopened _ (Resume r) _ _ _ _ _ (λ e early. inl early) (xs ++ two) _
-    (Opened d.from.now ∷ (preparing (option_text d.save) ++ making d.clobber (Some d.to.now) d.durability)) mid _
+    (Opened d.from.now ∷ (preparing (option_text d.save) (Some r.position.now) ++ making d.clobber (Some d.to.now) d.durability)) mid _
     c.in_err-source.field-0.0 c.from_residual-in_err-source.ensures
-    (sym (append_assoc xs two (Opened d.from.now ∷ (preparing (option_text d.save) ++ making d.clobber (Some d.to.now) d.durability))))
+    (sym (append_assoc xs two (Opened d.from.now ∷ (preparing (option_text d.save) (Some r.position.now) ++ making d.clobber (Some d.to.now) d.durability))))
     (does_then xs two old next mid judged.noted c.in_ok-position.ensures.does) c.in_err-source.ensures (λ same. absurd (judged.apart same).1) refl
 
 pub returns-clause-acts : goal.returns-clause-acts
@@ -114,8 +114,8 @@ returns-clause-acts g c =
     let before = ports (In source) (Out c.in_ok-source.out) in
     let xs = identity_order (option_text d.identity.pass) (option_text d.identity.shared) in
     let two : List Event = Opened r.position.now ∷ Opened r.old.now ∷ [] in
-    let ys : List Event = two ++ (Opened d.from.now ∷ preparing (option_text d.save)) in
-    let rest : List Event = Opened d.from.now ∷ (preparing (option_text d.save) ++ creating d.clobber d.to.now ∷ []) in
+    let ys : List Event = two ++ (Opened d.from.now ∷ preparing (option_text d.save) (Some r.position.now)) in
+    let rest : List Event = Opened d.from.now ∷ (preparing (option_text d.save) (Some r.position.now) ++ creating d.clobber d.to.now ∷ []) in
     let did = does_then xs (two ++ rest) old next mid judged.noted (does_then two rest next then mid earlier.does both.noted) in
     let late : (o : Outcome) → CameSince mid new o → CameSince old new o = then_came [] old mid new (grows_by (xs ++ (two ++ rest)) old mid did) in
     let did_two : Does (xs ++ two) old then = does_then xs two old next then judged.noted earlier.does in
