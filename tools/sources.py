@@ -28,6 +28,8 @@ VALUE = re.compile(rf"^( *){KEYWORDS}({NAME}) :(?: |$)")
 # A type of the code: specs import it from `declared`, its file and its name, and its variants from below that.
 TYPE = re.compile(r"^pub(?:\([^)]*\))? (?:struct|enum) (\w+)[^;{]*(?:\{.*?^\}|\{[^\n]*\}|;)", re.M | re.S)
 DECLARED = re.compile(r"(Rattle\.\w+\.specs\.declared\..*?\.(\w+?))(?:\.TheVariants)?")
+# What a file passes on: a crate's definitions are imported from their folder, whose Lib.antt or inner.antt does so.
+PASSED = re.compile(r"^(?:unfoldable )?pub use ([\w.]+)\.(\{.*\}|\*)$", re.M)
 FUNCTION = re.compile(r'^ *(pub )?(?:const )?(?:unsafe )?(?:extern "C" )?fn (\w+)')
 # Members of an impl that no contract shows.
 HIDDEN = {"coded", "inverse", "also_owns", "valid", "from_gives"}
@@ -86,6 +88,10 @@ class Source:
         for alias, word in QUALIFIED.findall(text):
             if alias in self.aliases:
                 yield definition(self.aliases[alias], word)
+        yield from (definition(*it) for it in self.named_in(text))
+
+    def named_in(self, text):
+        """What a part of a source names by a path, such as `crate::proofs::File::name`."""
         for crate, path, word in PATH.findall(text) if self.is_code else ():
             yield ".".join(["Rattle", self.crate if crate == "crate" else crate, *re.findall(r"\w+", path)]), word
 
@@ -141,8 +147,27 @@ def kit_specs():
     return [Source(it, folder) for it in sorted(folder.glob("*/specs/**/*.antt"))]
 
 
+@functools.cache
+def passed_on(module):
+    """What a module passes on from others, or a crate's folder of specs, of inner ones or of lemmas from its files: each name's definition."""
+    _, crate, *within = module.split(".")
+    folder = CRATES.joinpath(crate, *within)
+    file = next((it for it in (folder / "Lib.antt", folder.with_suffix(".antt")) if it.exists()), None)
+    names = {}
+    for home, several in PASSED.findall(file.read_text()) if file else ():
+        home = home if home.startswith("Rattle.") else f"{module}.{home}"
+        if several == "*":
+            defined = source(CRATES.joinpath(*home.split(".")[1:]).with_suffix(".antt")).definitions
+            names |= {name: (home, name) for name, lines in defined.items() if "pub " in lines[0]}
+        else:
+            names |= {it.split(" as ")[-1]: (home, it.split(" as ")[0]) for it in several[1:-1].split(", ")}
+    return names
+
+
 def definition(module, name):
-    """A definition by its module and name; of a type of the code, whichever of its names is used."""
+    """A definition by its module and name, wherever it is imported from; of a type of the code, whichever of its names is used."""
+    if re.match(r"Rattle\.age_", module):
+        module, name = passed_on(module).get(name, (module, name))
     declared = DECLARED.fullmatch(module)
     return (declared[1], declared[2]) if declared else (module, name)
 
