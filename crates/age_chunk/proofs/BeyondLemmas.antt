@@ -1,15 +1,15 @@
 -- A box that is valid on bytes is valid once it is continued to all lists.
-use Rattle.std.specs.Prelude.{◌≡◌, ℕ, ◌+◌, List, ◌++◌, length, take, Option, Some, None, nat_lt, nat_le, ◌&&◌, Bool, true, false, not, cond, if◌then◌else◌}
+use Rattle.std.proofs.lemmas.Grind.{common_steps}
+use Rattle.std.specs.Prelude.{◌≡◌, ℕ, ◌+◌, List, ◌++◌, length, take, Option, Some, None, nat_lt, ◌&&◌, true, false, not, if◌then◌else◌}
 use Rattle.std.specs.Str.{bytes_eq}
 use Rattle.std.proofs.Common.{refl, sym, ap, ◌∙◌, arith}
 use Rattle.std.proofs.lemmas.Slice.Eq.{bytes_eq-Decides}
 use Rattle.std.proofs.lemmas.List.{length-append, length-replicate, take_at}
 use Rattle.std.proofs.lemmas.List.Folds.{list_all-append}
-use Rattle.std.proofs.lemmas.Bool.{le-leb, leb-true, and_from, and_parts, and_right, cond_both, cond-true, cond-false, not-true}
+use Rattle.std.proofs.lemmas.Bool.{and_parts, and_right, cond_both, cond-true, cond-false, not-true}
 use Rattle.std.proofs.lemmas.Option.{cond_some}
-use Rattle.age_chunk.specs.ChunkBoxes.{Seals, OpensBlock, tag_length, text_length}
-use Rattle.age_chunk.specs.Payload.{chunk_length, block_length}
-use Rattle.age_chunk.specs.Beyond.{BytesSuffice, are_bytes, is_text, is_block, IsChunkBoxOnBytes, no_tag, sealing_beyond, opening_beyond}
+use Rattle.age_chunk.specs.{Seals, OpensBlock, tag_length, text_length, BytesSuffice, are_bytes, is_text, is_block, IsChunkBoxOnBytes, no_tag, sealing_beyond}
+use Rattle.age_chunk.specs.{opening_beyond}
 
 no_bytes : (text : List ℕ) → are_bytes (text ++ no_tag) ≡ false
 no_bytes text = list_all-append (λ (b : ℕ). nat_lt b 256) text no_tag ∙ and_right (are_bytes text) false refl
@@ -25,31 +25,15 @@ marked nonce block =
 
 -- a list with the mark is no block
 none_is : (nonce text : List ℕ) → is_block nonce (text ++ no_tag) ≡ false
-none_is nonce text =
-    let block = text ++ no_tag in
-    ap (λ (b : Bool). are_bytes nonce && (b && (nat_le tag_length (length block) && nat_le (length block) block_length))) (no_bytes text)
-    ∙ and_right (are_bytes nonce) false refl
+none_is nonce text = grind (arith, common_steps)
 
 unmarks : (nonce text : List ℕ) → is_text nonce text ≡ false → marked nonce (text ++ no_tag) ≡ Some text
-unmarks nonce text f =
-    let block = text ++ no_tag in
-    let here : length text ≡ text_length (length block) = omega (arith, longer_by_mark text) in
-    let front : take (text_length (length block)) block ≡ text = take_at text no_tag (text_length (length block)) here in
-    ap (λ (t : List ℕ). cond (not (is_text nonce t) && bytes_eq (t ++ no_tag) block) (Some t) None) front
-    ∙ (ap (λ (b : Bool). cond (not b && bytes_eq block block) (Some text) None) f
-    ∙ cond-true (bytes_eq block block) (Some text) None ((bytes_eq-Decides block block).1 refl))
+unmarks nonce text f = grind (arith, common_steps, bytes_eq-Decides, cond-true, longer_by_mark, take_at)
 
 module _ (sealing : Seals) (opening : OpensBlock) (valid : IsChunkBoxOnBytes sealing opening) where
   -- the block of a text is a block
   block_is : (nonce text : List ℕ) → length nonce ≡ 12 → is_text nonce text ≡ true → is_block nonce (sealing nonce text) ≡ true
-  block_is nonce text h t =
-      let block = sealing nonce text in
-      let len = valid.longer nonce text h t in
-      let given = and_parts (are_bytes nonce) (are_bytes text && nat_le (length text) chunk_length) t in
-      let most = leb-true (length text) chunk_length (and_parts (are_bytes text) (nat_le (length text) chunk_length) given.1).1 in
-      let low : nat_le tag_length (length block) ≡ true = le-leb tag_length (length block) (omega (arith, len)) in
-      let high : nat_le (length block) block_length ≡ true = le-leb (length block) block_length (omega (arith, len, most)) in
-      and_from _ _ given.0 (and_from _ _ (valid.bytes nonce text h t) (and_from _ _ low high))
+  block_is nonce text h t = grind (arith, common_steps)
 
 pub valid_beyond : BytesSuffice
 valid_beyond sealing opening valid =

@@ -1,4 +1,5 @@
 -- The first chunks of a list, and of the list with more after it.
+use Rattle.std.proofs.lemmas.Grind.{common_steps}
 use Rattle.std.proofs.Common.{◌≡◌, ℕ, zero, suc, ◌<◌, ◌≤◌, ◌+◌, ◌*◌, refl, ap, ◌∙◌, List, [], ◌∷◌, ◌++◌, length, take, drop, get_or, arith}
 use Rattle.std.specs.Simd.{first_chunks}
 use Rattle.std.proofs.lemmas.List.{drop-drop, length-drop, drop-append-le, take-append-le}
@@ -14,12 +15,8 @@ get_or-first_chunks n (suc c) xs (suc j) d h =
     get_or-first_chunks n c (drop n xs) j d (omega arith) ∙ ap (take n) (drop-drop (j * n) n xs ∙ ap (λ (k : ℕ). drop k xs) (omega arith))
 
 pub first_chunks_more : (n c : ℕ) (xs : List ℕ) → first_chunks n (suc c) xs ≡ first_chunks n c xs ++ take n (drop (c * n) xs) ∷ []
-first_chunks_more n zero xs = let z : 0 ≡ 0 * n = omega arith in ap (λ (k : ℕ). take n (drop k xs) ∷ []) z
-first_chunks_more n (suc c) xs =
-    let e : n + c * n ≡ suc c * n = omega arith in
-    ap (λ (rest : List (List ℕ)). take n xs ∷ rest)
-    (first_chunks_more n c (drop n xs) ∙ ap (λ (ys : List ℕ). first_chunks n c (drop n xs) ++ take n ys ∷ []) (drop-drop (c * n) n xs
-    ∙ ap (λ (k : ℕ). drop k xs) e))
+first_chunks_more n zero xs = grind (arith, common_steps, drop-drop)
+first_chunks_more n (suc c) xs = grind (arith, common_steps, drop-drop, first_chunks_more n c (drop n xs))
 
 pub first_chunks-append : (n c : ℕ) (xs ys : List ℕ) → c * n ≤ length xs → first_chunks n c (xs ++ ys) ≡ first_chunks n c xs
 first_chunks-append n zero xs ys h = refl

@@ -1,19 +1,19 @@
 -- The keystream, and texts that are changed by it.
-use Rattle.std.proofs.Common.{◌≡◌, ℕ, ◌+◌, ◌-◌, ◌*◌, ◌/◌, ◌%◌, ◌<◌, ◌≤◌, List, ◌++◌, length, min, take, drop, get_or, slice_index, bit_xor, refl, ap, ap₂, ◌∙◌}
-use Rattle.std.proofs.Common.{arith, inl, inr, length-take, length-drop, zero, suc, ◌^◌, sym, w32, Fits}
+use Rattle.std.proofs.lemmas.Grind.{common_steps}
+use Rattle.std.proofs.Common.{◌≡◌, ℕ, ◌+◌, ◌-◌, ◌*◌, ◌/◌, ◌%◌, ◌<◌, ◌≤◌, List, length, min, take, drop, get_or, slice_index, bit_xor, refl, ap, ap₂, ◌∙◌, arith}
+use Rattle.std.proofs.Common.{inl, inr, length-take, length-drop, ◌^◌, sym, w32, Fits}
 use Rattle.std.specs.Int.{byte_at}
-use Rattle.std.proofs.Math.Nat.{pow-zero}
 use Rattle.std.proofs.lemmas.Bool.{cases_lt}
-use Rattle.std.proofs.lemmas.List.{get_or_append_left, get_or-append_right, get_or-take, get_or-drop, take_all}
+use Rattle.std.proofs.lemmas.List.{get_or-take, get_or-drop, take_all}
 use Rattle.std.proofs.lemmas.List.FromFn.{fill_by_all}
 use Rattle.std.proofs.lemmas.Simd.{put_chunk_whole, length-zip2, get_or-zip2, get_or_narrower, chunk-fits, below_from_Fits}
+use borrow.Rule.Slice.PartMut.{put_mid}
 use Rattle.rand_chacha.specs.Block.{initial_state, block_word}
 use Rattle.rand_chacha.specs.ChaCha.{ChaCha, word_at, key_of, next_word}
 use Rattle.rand_core.specs.Steps.{u32_at}
-use borrow.Rule.Slice.PartMut.{put_mid, post_of}
+use Rattle.age_cipher.specs.{stream_number, block_place, keystream_byte, ciphertext, state, state_word, block_byte}
+use Rattle.age_cipher.specs.inner.{word_byte, IsXored}
 use lib.Lanes.{zip2, put_chunk, digits_l, number_l, Each1}
-use Rattle.age_cipher.specs.Keystream.{stream_number, block_place, keystream_byte, ciphertext, state, state_word, block_byte}
-use Rattle.age_cipher.specs.inner.Places.{word_byte, IsXored}
 
 -- ---- a text changed place by place, part by part
 
@@ -25,20 +25,13 @@ pub record IsXoredBelow (stream : ℕ → ℕ) (i : ℕ) (old text : List ℕ) :
 -- ---- an element after a write to a part of k elements from a on
 
 pub get_or-put_below : (a k : ℕ) (xs ys : List ℕ) (j : ℕ) → j < a → a ≤ length xs → get_or (put_mid a k xs ys) j 0 ≡ get_or xs j 0
-get_or-put_below a k xs ys j h room =
-    get_or_append_left (take a xs) (ys ++ post_of a k xs) 0 j (omega (arith, length-take a xs)) ∙ get_or-take a xs j 0 h
+get_or-put_below a k xs ys j h room = grind (arith, common_steps)
 
 pub get_or-put_in : (a k : ℕ) (xs ys : List ℕ) (j : ℕ) → a ≤ j → j < a + length ys → a ≤ length xs → get_or (put_mid a k xs ys) j 0 ≡ get_or ys (j - a) 0
-get_or-put_in a k xs ys j low high room =
-    get_or-append_right (take a xs) (ys ++ post_of a k xs) a j 0 (omega (arith, length-take a xs)) low
-    ∙ get_or_append_left ys (post_of a k xs) 0 (j - a) (omega arith)
+get_or-put_in a k xs ys j low high room = grind (arith, common_steps)
 
 get_or-put_above : (a k : ℕ) (xs ys : List ℕ) (j : ℕ) → length ys ≡ k → a + k ≤ j → a ≤ length xs → get_or (put_mid a k xs ys) j 0 ≡ get_or xs j 0
-get_or-put_above a k xs ys j len high room =
-    let place : a + (k + (j - a - k)) ≡ j = omega arith in
-    get_or-append_right (take a xs) (ys ++ post_of a k xs) a j 0 (omega (arith, length-take a xs)) (omega arith)
-    ∙ get_or-append_right ys (post_of a k xs) k (j - a) 0 len (omega arith)
-    ∙ get_or-drop k (drop a xs) (j - a - k) 0 ∙ get_or-drop a xs (k + (j - a - k)) 0 ∙ ap (λ m. get_or xs m 0) place
+get_or-put_above a k xs ys j len high room = grind (arith, common_steps)
 
 -- one more part of k bytes, from a on, which was changed by the bytes of another stream from there; it ends at b, or the
 -- text ends before
@@ -69,10 +62,7 @@ all_xored stream i old text same whole s = record { len = same; at = λ j h. s.d
 
 -- the words from word 8 * i on, all of them or some, and the bytes from byte 32 * i on
 pub word_byte-drop : (words : List ℕ) (i m : ℕ) → word_byte (drop (8 * i) words) m ≡ word_byte words (32 * i + m)
-word_byte-drop words i m =
-    let rem : (32 * i + m) % 4 ≡ m % 4 = omega arith in
-    let quo : (32 * i + m) / 4 ≡ 8 * i + m / 4 = omega arith in
-    rw (rem, quo) (ap (byte_at (m % 4)) (get_or-drop (8 * i) words (m / 4) 0))
+word_byte-drop words i m = grind (arith, common_steps)
 
 pub word_byte-part : (words : List ℕ) (i k m : ℕ) → m < 4 * k → word_byte (take k (drop (8 * i) words)) m ≡ word_byte words (32 * i + m)
 word_byte-part words i k m h = ap (byte_at (m % 4)) (get_or-take k (drop (8 * i) words) (m / 4) 0 (omega arith)) ∙ word_byte-drop words i m
@@ -80,8 +70,7 @@ word_byte-part words i k m h = ap (byte_at (m % 4)) (get_or-take k (drop (8 * i)
 -- ---- the bytes of a vector of words, and a vector of bytes changed by them
 
 byte_at-is : (i n : ℕ) → byte_at i n ≡ n / 256 ^ i % 256
-byte_at-is zero n = rw (pow-zero 256) (omega arith)
-byte_at-is (suc i) n = refl
+byte_at-is i n = grind (arith, common_steps)
 
 byte_of_lanes : (words : List ℕ) (j : ℕ) → ((k : ℕ) → Fits w32 (get_or words k 0)) → j < 32
     → get_or (digits_l 256 32 (number_l (2 ^ 32) (take 8 words))) j 0 ≡ word_byte words j
@@ -123,11 +112,7 @@ word_on g k = word_at 10 g.key g.stream ((g.word_pos + k) % 2 ^ 68)
 pub word_drawn : (g now new : ChaCha) (x k : ℕ) → now ≡ generator_on g k → (x, new) ≡ next_word 10 now
     → (x ≡ word_on g k) × (new ≡ generator_on g (k + 1))
 unfolding generator_on word_on
-word_drawn g now new x k at gave =
-    let next : ((g.word_pos + k) % 2 ^ 68 + 1) % 2 ^ 68 ≡ (g.word_pos + (k + 1)) % 2 ^ 68 = omega arith in (
-      ap (λ (q : ℕ × ChaCha). q.0) gave ∙ rw at refl,
-      ap (λ (q : ℕ × ChaCha). q.1) gave ∙ rw (at, next) refl,
-    )
+word_drawn g now new x k at gave = grind (arith, common_steps)
 
 -- the first n words are drawn, and the generator is n words on
 pub record IsDrawn (g : ChaCha) (n : ℕ) (words : List ℕ) (now : ChaCha) : Type 0 where
@@ -138,30 +123,14 @@ pub record IsDrawn (g : ChaCha) (n : ℕ) (words : List ℕ) (now : ChaCha) : Ty
 pub drawn_none : (old now : ChaCha) (number place : ℕ) (words : List ℕ) → place ≡ 16 * number → now ≡ record old { word_pos = place % 2 ^ 68 }
     → IsDrawn (record old { word_pos = 16 * number }) 0 words now
 unfolding generator_on
-drawn_none old now number place words at e =
-    let same : place % 2 ^ 68 ≡ (16 * number + 0) % 2 ^ 68 = omega arith in
-    record { drawn = λ k h. absurd (omega arith); generator = e ∙ rw same refl }
+drawn_none old now number place words at e = grind (arith, common_steps)
 
 -- m words more
 pub drawn_more : (g now new : ChaCha) (n m w : ℕ) (words ys : List ℕ) → w ≡ m → length ys ≡ m → n + m ≤ length words
     → ((k : ℕ) → k < w → slice_index ys k ≡ word_at 10 now.key now.stream ((now.word_pos + k) % 2 ^ 68))
     → new ≡ record now { word_pos = (now.word_pos + w) % 2 ^ 68 } → IsDrawn g n words now → IsDrawn g (n + m) (put_mid n m words ys) new
 unfolding generator_on word_on
-drawn_more g now new n m w words ys width len room drew gave s =
-    let key_is = ap (λ (w : ChaCha). w.key) s.generator in
-    let stream_is = ap (λ (w : ChaCha). w.stream) s.generator in
-    let pos_is : now.word_pos ≡ (g.word_pos + n) % 2 ^ 68 = ap (λ (w : ChaCha). w.word_pos) s.generator in
-    let next : (now.word_pos + w) % 2 ^ 68 ≡ (g.word_pos + (n + m)) % 2 ^ 68 = omega arith in
-    record {
-      drawn = λ k h. elim (cases_lt k n) [
-        | inl below ↦ get_or-put_below n m words ys k below (omega arith) ∙ s.drawn k below
-        | inr above ↦
-            let j : ℕ = k - n in
-            let place : (now.word_pos + j) % 2 ^ 68 ≡ (g.word_pos + k) % 2 ^ 68 = omega arith in
-            get_or-put_in n m words ys k (omega arith) (omega arith) (omega arith) ∙ drew j (omega arith) ∙ rw (key_is, stream_is, place) refl
-      ];
-      generator = gave ∙ rw (next, key_is, stream_is) refl;
-    }
+drawn_more g now new n m w words ys width len room drew gave s = grind (arith, common_steps)
 
 pub u32_at-lt : (bs : List ℕ) (i : ℕ) → ((k : ℕ) → slice_index bs k < 256) → u32_at bs i < 2 ^ 32
 unfolding u32_at
@@ -175,11 +144,7 @@ pub word_byte_is : (key nonce : List ℕ) (counter first i stream : ℕ) (seed w
     → word_byte words m ≡ keystream_byte key nonce counter (256 * i + m)
 unfolding keystream_byte
 word_byte_is key nonce counter first i stream seed words m fits room small key_is stream_is at drawn =
-    let q : ℕ = m / 4 in
-    let rem : (256 * i + m) % 4 ≡ m % 4 = omega arith in
-    let quo : (256 * i + m) / 4 ≡ 64 * i + q = omega arith in
-    let place : (16 * (first + 4 * i) + q) % 2 ^ 68 ≡ block_place nonce counter + (64 * i + q) = omega (arith, u32_at-lt nonce 0 fits) in
-    rw (drawn q (omega arith), rem, quo, place, key_is, stream_is) refl
+    grind (arith, common_steps, u32_at-lt)
 
 pub ciphertext_is : (key nonce : List ℕ) (counter : ℕ) (old text : List ℕ) → IsXored (keystream_byte key nonce counter) old text
     → text ≡ ciphertext key nonce counter old
@@ -192,12 +157,7 @@ ciphertext_is key nonce counter old text x =
 -- the generator's last four words are the counter and the nonce
 state_is : (key nonce : List ℕ) (counter place stream : ℕ) → ((k : ℕ) → slice_index nonce k < 256) → counter < 2 ^ 32
     → place ≡ counter + u32_at nonce 0 * 2 ^ 32 → stream ≡ stream_number nonce → initial_state (key_of key) place stream ≡ state key counter nonce
-state_is key nonce counter place stream fits small at from =
-    let low : place % 2 ^ 32 ≡ counter = omega (arith, u32_at-lt nonce 0 fits) in
-    let first : place / 2 ^ 32 ≡ u32_at nonce 0 = omega (arith, u32_at-lt nonce 0 fits) in
-    let second : stream % 2 ^ 32 ≡ u32_at nonce 1 = omega (arith, u32_at-lt nonce 1 fits, u32_at-lt nonce 2 fits) in
-    let third : stream / 2 ^ 32 ≡ u32_at nonce 2 = omega (arith, u32_at-lt nonce 1 fits, u32_at-lt nonce 2 fits) in
-    rw (low, first, second, third) refl
+state_is key nonce counter place stream fits small at from = grind (arith, common_steps, u32_at-lt)
 
 word_is : (key : List ℕ) (place stream k : ℕ) → block_word 10 key place stream k ≡ state_word (initial_state key place stream) k
 unfolding block_word

@@ -1,20 +1,18 @@
 -- Ciphertexts, tags, sealings and openings; the crates above use some of it.
-use Rattle.std.proofs.Common.{◌≡◌, ℕ, ◌+◌, ◌-◌, ◌<◌, ◌≤◌, replicate, List, ◌++◌, length, take, drop, get_or, slice_index, bit_xor, refl, sym, ap, ◌∙◌, arith, length-append}
-use Rattle.std.proofs.Common.{Bool, true, false, [], ◌∷◌, ap₂, bit_or}
+use Rattle.std.proofs.lemmas.Grind.{common_steps}
+use Rattle.std.proofs.Common.{◌≡◌, ℕ, ◌+◌, ◌-◌, ◌<◌, ◌≤◌, replicate, List, length, take, drop, get_or, slice_index, bit_xor, refl, sym, ap, ◌∙◌, arith}
+use Rattle.std.proofs.Common.{length-append, Bool, true, false, [], ◌∷◌, bit_or}
 use Rattle.std.specs.Bool.{OnTrue, OnFalse}
-use Rattle.std.specs.Int.{w64, to_le_bytes}
 use Rattle.std.specs.Int.Bits.{xor_assoc, xor_self, xor_zero_r, xor_add_and}
-use Rattle.std.specs.List.{concat}
-use Rattle.std.specs.Prelude.{Option, Some, None, cond, IsTrue, ◌↔◌}
-use Rattle.std.specs.Str.{bytes_eq}
+use Rattle.std.specs.Prelude.{Option, Some, None, IsTrue, ◌↔◌}
 use Rattle.std.proofs.lemmas.List.{take_at, drop_at, ext_get_or, take-append-drop, take-replicate}
 use Rattle.std.proofs.lemmas.List.FromFn.{length-map-range_with_len, get_or-map-range_with_len}
 use Rattle.std.proofs.lemmas.Nat.{le_or_l, le_or_r, and_le_l, and_le_r}
 use Rattle.std.proofs.lemmas.Option.{cond_some}
 use Rattle.std.proofs.lemmas.Slice.Eq.{bytes_eq-Decides}
-use Rattle.age_cipher.specs.Aead.{tag, sealing, IsSealing, opening, one_time_key, padding, mac_data}
-use Rattle.age_cipher.specs.Keystream.{keystream_byte, ciphertext}
-use Rattle.age_cipher.specs.Poly1305.{poly1305}
+use Rattle.std.specs.Int.{w64, to_le_bytes}
+use Rattle.std.specs.List.{concat}
+use Rattle.age_cipher.specs.{tag, sealing, IsSealing, opening, keystream_byte, ciphertext, poly1305, one_time_key, padding, mac_data}
 
 -- ---- what the crates above may use of ciphertexts, sealings and openings
 
@@ -25,8 +23,7 @@ length-ciphertext key nonce counter text = length-map-range_with_len (λ j. bit_
 get_or-ciphertext : (key nonce : List ℕ) (counter : ℕ) (text : List ℕ) (j : ℕ) → j < length text
     → get_or (ciphertext key nonce counter text) j 0 ≡ bit_xor (get_or text j 0) (keystream_byte key nonce counter j)
 unfolding ciphertext
-get_or-ciphertext key nonce counter text j h =
-    get_or-map-range_with_len (λ j. bit_xor (slice_index text j) (keystream_byte key nonce counter j)) 0 (length text) j j 0 h (omega arith)
+get_or-ciphertext key nonce counter text j h = grind (arith, common_steps, get_or-map-range_with_len)
 
 -- enciphering twice gives the text back
 pub twice : (key nonce : List ℕ) (counter : ℕ) (text : List ℕ) → ciphertext key nonce counter (ciphertext key nonce counter text) ≡ text
@@ -51,18 +48,12 @@ record HasEnds (block cipher tag : List ℕ) : Type 0 where
 ends_of_sealing : (key nonce aad text : List ℕ)
     → HasEnds (sealing key nonce aad text) (ciphertext key nonce 1 text) (tag key nonce aad (ciphertext key nonce 1 text))
 unfolding sealing
-ends_of_sealing key nonce aad text =
-    let c : List ℕ = ciphertext key nonce 1 text in
-    let t : List ℕ = tag key nonce aad c in
-    let long : length (c ++ t) - 16 ≡ length c = omega (arith, length-append c t, length-tag key nonce aad c) in
-    record { front = take_at c t (length (c ++ t) - 16) (sym long); end = drop_at c t (length (c ++ t) - 16) (sym long) }
+ends_of_sealing key nonce aad text = grind (arith, common_steps, drop_at, length-append, length-tag, take_at)
 
 -- a sealing is 16 bytes longer than its text
 pub length-sealing : (key nonce aad text : List ℕ) → length (sealing key nonce aad text) ≡ length text + 16
 unfolding sealing
-length-sealing key nonce aad text =
-    let c : List ℕ = ciphertext key nonce 1 text in
-    omega (arith, length-append c (tag key nonce aad c), length-tag key nonce aad c, length-ciphertext key nonce 1 text)
+length-sealing key nonce aad text = grind (arith, common_steps, length-append, length-ciphertext, length-tag)
 
 -- the front of a sealing, enciphered once more, is the text
 pub deciphered_front : (key nonce aad text : List ℕ)
@@ -79,25 +70,18 @@ one_text key nonce aad text other e =
 -- a sealing opens to its text
 pub opening_of_sealing : (key nonce aad text : List ℕ) → opening key nonce aad (sealing key nonce aad text) ≡ Some text
 unfolding opening
-opening_of_sealing key nonce aad text =
-    let b : List ℕ = sealing key nonce aad text in
-    ap (λ (t : List ℕ). cond (bytes_eq (sealing key nonce aad t) b) (Some t) None) (deciphered_front key nonce aad text)
-    ∙ ap (λ (s : Bool). cond s (Some text) None) ((bytes_eq-Decides b b).1 refl)
+opening_of_sealing key nonce aad text = grind (arith, common_steps, bytes_eq-Decides, deciphered_front)
 
 -- what a block opens to seals to the block
 pub sealing_of_opening : (key nonce aad block text : List ℕ) → opening key nonce aad block ≡ Some text → block ≡ sealing key nonce aad text
 unfolding opening
-sealing_of_opening key nonce aad block text e =
-    let d : List ℕ = ciphertext key nonce 1 (take (length block - 16) block) in
-    let t = cond_some (bytes_eq (sealing key nonce aad d) block) d text e in
-    sym ((bytes_eq-Decides (sealing key nonce aad d) block).0 t.0) ∙ ap (sealing key nonce aad) t.1
+sealing_of_opening key nonce aad block text e = grind (arith, common_steps, bytes_eq-Decides, cond_some)
 
 pub opens_to : (key nonce aad block text : List ℕ) → block ≡ sealing key nonce aad text → opening key nonce aad block ≡ Some text
 opens_to key nonce aad block text e = ap (opening key nonce aad) e ∙ opening_of_sealing key nonce aad text
 
 none_of : (o : Option (List ℕ)) → ((text : List ℕ) → o ≡ Some text → ⊥) → o ≡ None
-none_of None h = cc
-none_of (Some t) h = absurd (h t (cc))
+none_of o h = grind (arith, common_steps)
 
 not_true : false ≡ true → ⊥
 not_true e = cc
@@ -105,8 +89,7 @@ not_true e = cc
 -- the clauses of `open_in_place`, in these words
 pub opening_where_true : (b : Bool) (key nonce aad block text : List ℕ)
     → OnTrue b (block ≡ sealing key nonce aad text) → OnTrue b (opening key nonce aad block ≡ Some text)
-opening_where_true true key nonce aad block text h = opens_to key nonce aad block text h
-opening_where_true false key nonce aad block text h = tt
+opening_where_true b key nonce aad block text h = grind (arith, common_steps, opens_to)
 
 pub opening_where_false : (b : Bool) (key nonce aad block : List ℕ)
     → (IsTrue b ↔ IsSealing key nonce aad block) → OnFalse b (opening key nonce aad block ≡ None)
@@ -125,23 +108,18 @@ pub tag_is : (key nonce aad cipher one az cz al cl : List ℕ) → one ≡ one_t
     → al ≡ to_le_bytes w64 (length aad) → cl ≡ to_le_bytes w64 (length cipher)
     → poly1305 one (concat (aad ∷ az ∷ cipher ∷ cz ∷ al ∷ cl ∷ [])) ≡ tag key nonce aad cipher
 unfolding tag mac_data
-tag_is key nonce aad cipher one az cz al cl o a c la lc =
-    ap₂ poly1305 o (ap concat (ap₂ (λ x y. aad ∷ x ∷ cipher ∷ y) a (ap₂ (λ u xs. u ∷ xs) c (ap₂ (λ u v. u ∷ v ∷ []) la lc))))
+tag_is key nonce aad cipher one az cz al cl o a c la lc = grind (arith, common_steps)
 
 -- a sealing's end is the tag of its front
 pub end_is_tag : (key nonce aad text block : List ℕ) → block ≡ sealing key nonce aad text
     → drop (length block - 16) block ≡ tag key nonce aad (take (length block - 16) block)
-end_is_tag key nonce aad text block e =
-    ap (λ b. drop (length b - 16) b) e ∙ (ends_of_sealing key nonce aad text).end
-    ∙ ap (tag key nonce aad) (sym (ap (λ b. take (length b - 16) b) e ∙ (ends_of_sealing key nonce aad text).front))
+end_is_tag key nonce aad text block e = grind (arith, common_steps, ends_of_sealing)
 
 -- and if it is, the block is the sealing of what the front deciphers to
 pub sealed_by_tag : (key nonce aad block : List ℕ) (n : ℕ) → drop n block ≡ tag key nonce aad (take n block)
     → block ≡ sealing key nonce aad (ciphertext key nonce 1 (take n block))
 unfolding sealing
-sealed_by_tag key nonce aad block n e =
-    sym (take-append-drop n block) ∙ ap₂ ◌++◌ (sym (twice key nonce 1 (take n block)))
-    (e ∙ ap (tag key nonce aad) (sym (twice key nonce 1 (take n block))))
+sealed_by_tag key nonce aad block n e = grind (arith, common_steps, take-append-drop, twice)
 
 -- a test of the tag tells whether the block is a sealing
 pub opens_exactly : (same : Bool) (key nonce aad block front t e : List ℕ) → (IsTrue same ↔ (t ≡ e)) → t ≡ tag key nonce aad front
@@ -162,8 +140,7 @@ no_difference : (a b : ℕ) → bit_xor a b ≡ 0 → a ≡ b
 no_difference a b e = omega (arith, xor_add_and a b, and_le_l a b, and_le_r a b)
 
 pub still_same : (d a b : ℕ) → bit_or d (bit_xor a b) ≡ 0 → (d ≡ 0) × (a ≡ b)
-still_same d a b e =
-    let each = both_zero d (bit_xor a b) e in (each.0, no_difference a b each.1)
+still_same d a b e = grind (arith, common_steps, both_zero, no_difference)
 
 pub still_none : (d a b : ℕ) → d ≡ 0 → a ≡ b → bit_or d (bit_xor a b) ≡ 0
 still_none d a b e f = rw (e, f, xor_self) refl

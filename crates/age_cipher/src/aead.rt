@@ -3,8 +3,7 @@
 ghost use Rattle.std.specs.Prelude.{◌≡◌, ◌-◌, ◌≤◌, ◌↔◌, [], ◌∷◌, length, take, drop, IsTrue};
 ghost use Rattle.std.specs.List.{concat};
 ghost use Rattle.std.specs.Bool.{OnTrue, OnFalse};
-ghost use Rattle.age_cipher.specs.Poly1305.{poly1305};
-ghost use Rattle.age_cipher.specs.Aead.{block_limit, one_time_key, padding, tag, sealing, IsSealing};
+ghost use Rattle.age_cipher.specs.{poly1305, block_limit, one_time_key, padding, tag, sealing, IsSealing};
 
 use crate::authenticator::poly1305;
 use crate::keystream::xor_stream;
@@ -62,7 +61,7 @@ fn tag_of_parts<'a>(
 }
 
 /// The tag over the associated data and the ciphertext.
-#[tactic(auto, using(crate::proofs::SealingLemmas::tag_is))]
+#[tactic(auto, using(crate::proofs::tag_is))]
 fn tag(key: &[u8; 32], nonce: &[u8; 12], aad: &[u8], cipher: &[u8]) -> [u8; 16]
     ensures { result ≡ tag key.now nonce.now aad.now cipher.now }
 {

@@ -2,7 +2,7 @@
 
 ghost use Rattle.std.specs.Prelude.{◌≡◌, ℕ, ◌+◌, ◌*◌, ◌%◌, ◌^◌, ◌<◌, ◌≤◌, length, slice_index};
 ghost use Rattle.rand_chacha.specs.ChaCha.{word_at, key_of};
-ghost use Rattle.age_cipher.specs.Keystream.{stream_number, block_place, ciphertext};
+ghost use Rattle.age_cipher.specs.{stream_number, block_place, ciphertext};
 
 use crate::lanes::xor_words;
 use rand_chacha::ChaCha20Rng;
@@ -30,7 +30,7 @@ fn block_number(nonce: &[u8; 12], counter: u32) -> u64
 
 /// Draws the next words.
 #[inline(always)]
-#[tactic(auto, unfolding(crate::proofs::KeystreamLemmas::generator_on, crate::proofs::KeystreamLemmas::word_on))]
+#[tactic(auto, unfolding(crate::proofs::generator_on, crate::proofs::word_on))]
 fn draw(generator: &mut ChaCha20Rng, words: &mut [u32])
     requires { generator.old.word_pos < 2 ^ 68 }
     ensures words { (k : ℕ) → k < length words.old

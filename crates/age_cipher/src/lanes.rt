@@ -1,7 +1,7 @@
 //! A text changed by words, through vectors of 32 bytes.
 
 ghost use Rattle.std.specs.Prelude.{◌≡◌, ◌*◌, ◌≤◌, length};
-ghost use Rattle.age_cipher.specs.inner.Places.{word_byte, IsXored};
+ghost use Rattle.age_cipher.specs.inner.{word_byte, IsXored};
 
 use std::simd::{u8x32, u32x8};
 

@@ -1,7 +1,6 @@
 //! Laws of the definitions.
 
-ghost use Rattle.age_cipher.specs.Keystream.{KeystreamIsBlocks};
-ghost use Rattle.age_cipher.specs.Aead.{DistinctSealings, OpensSealings};
+ghost use Rattle.age_cipher.specs.{KeystreamIsBlocks, DistinctSealings, OpensSealings};
 
 /// Under one key, nonce and associated data different texts seal to different blocks. This is a law
 /// over the definitions: the call does nothing.
@@ -19,7 +18,7 @@ pub fn keystream_is_blocks()
 
 /// A block opens to a text exactly if it is that text's sealing. This is a law over the
 /// definitions: the call does nothing.
-#[tactic(auto, using(crate::proofs::SealingLemmas::sealing_of_opening, crate::proofs::SealingLemmas::opens_to))]
+#[tactic(auto, using(crate::proofs::sealing_of_opening, crate::proofs::opens_to))]
 pub fn opens_sealings()
     ensures { OpensSealings }
 {}

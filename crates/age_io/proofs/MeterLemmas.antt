@@ -5,8 +5,8 @@ use Rattle.std.proofs.lemmas.List.{map-append, append_assoc, append-nil, length-
 use Rattle.std.proofs.lemmas.List.Sums.{sum_by-append}
 use Rattle.age_io.proofs.SupplyLemmas.{Consumes-trans, Consumes-nil}
 use Rattle.std.specs.List.{sum}
-use Rattle.age_io.specs.Supply.{Supply, Consumes}
-use Rattle.age_io.specs.Io.{Adds, Shown, Advances, Begins, Ends, Lending, CountsSince, ShowsReading}
+use Rattle.age_io.specs.Supply.{Supply}
+use Rattle.age_io.specs.{Consumes, Adds, Shown, Advances, Begins, Ends, Lending, CountsSince, ShowsReading}
 
 -- it is shown one count more
 shown_more : (before : List Shown) (counts : List ℕ) (n : ℕ) → before ++ map Advances counts ++ Advances n ∷ []

@@ -1,7 +1,8 @@
 -- Two calls of a source, one after the other.
 use Rattle.std.proofs.Common.{◌≡◌, List, ℕ, [], ◌++◌, sym, ap, ◌∙◌, append_assoc, append-nil}
 use Rattle.std.proofs.KnownBytes as known
-use Rattle.age_io.specs.Supply.{Supply, Consumes, Keeps}
+use Rattle.age_io.specs.Supply.{Supply}
+use Rattle.age_io.specs.{Consumes, Keeps}
 
 pub Consumes-nil : (a : Supply) → Consumes a a []
 Consumes-nil a = record { given = sym (append-nil a.given); left = known.Consumes-nil a.left }

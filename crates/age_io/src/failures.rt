@@ -1,7 +1,7 @@
 //! How many calls of a source or a sink failed.
 
 ghost use Rattle.std.specs.Prelude.{◌≡◌, false, MatchResult, is_err};
-ghost use Rattle.age_io.specs.Io.{one_more};
+ghost use Rattle.age_io.specs.{one_more};
 
 use crate::failed::Failed;
 

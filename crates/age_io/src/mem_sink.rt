@@ -2,7 +2,7 @@
 
 ghost use Rattle.std.specs.Prelude.{◌≡◌, ◌<◌, ◌≤◌, [], true, false, length, IfOk, OnOk, vec_capacity};
 ghost use Rattle.age_io.specs.Taken.{WriteAppends, Keeps};
-ghost use Rattle.age_io.specs.Io.{Holding, Puts, Flushes, holds};
+ghost use Rattle.age_io.specs.{Holding, Puts, Flushes, holds};
 
 use crate::failed::{Failed, Memory};
 use crate::failures::Failures;

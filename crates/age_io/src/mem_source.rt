@@ -1,8 +1,7 @@
 //! A source over memory, with a plan of failures.
 
 ghost use Rattle.std.specs.Prelude.{◌≡◌, ◌<◌, ◌≤◌, [], length, take, IfOk, MatchResult, drop, false};
-ghost use Rattle.age_io.specs.Supply.{ReadConsumes};
-ghost use Rattle.age_io.specs.Io.{Feeding, Pulls, memory_supply};
+ghost use Rattle.age_io.specs.{ReadConsumes, Feeding, Pulls, memory_supply};
 
 use crate::failed::Failed;
 use crate::failures::Failures;

@@ -1,7 +1,7 @@
 //! What counts how far a run is.
 
 ghost use Rattle.std.specs.Prelude.{◌≡◌, ℕ, List, Option, None, option_and_then};
-ghost use Rattle.age_io.specs.Io.{begun, counted, Adds, Advances, Begins, Ends, Shown};
+ghost use Rattle.age_io.specs.{begun, counted, Adds, Advances, Begins, Ends, Shown};
 
 /// Counts how far a run is, in bytes. No method returns anything, so code that is generic over a
 /// meter can report to it, but never depend on it.

@@ -1,8 +1,7 @@
 //! A source that reports to a meter how many bytes it gives.
 
 ghost use Rattle.std.specs.Prelude.{◌≡◌, ◌≤◌, length, IfOk, MatchResult, is_err};
-ghost use Rattle.age_io.specs.Supply.{ReadConsumes};
-ghost use Rattle.age_io.specs.Io.{one_more, pulled, AddsPull, BeganWith, Origin};
+ghost use Rattle.age_io.specs.{ReadConsumes, one_more, pulled, AddsPull, BeganWith, Origin};
 
 use crate::failed::Failed;
 use crate::meter::Meter;

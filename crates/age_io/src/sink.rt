@@ -1,9 +1,9 @@
 //! Where bytes go.
 
-ghost use Rattle.std.specs.Prelude.{◌≡◌, ◌<◌, ◌≤◌, ℕ, [], length, true, IfOk, OnOk};
-ghost use Rattle.std.specs.Prelude.{MatchResult, Bool, List, false, is_err};
+ghost use Rattle.std.specs.Prelude.{◌≡◌, ◌<◌, ◌≤◌, ℕ, [], length, true, IfOk, OnOk, MatchResult, Bool, List};
+ghost use Rattle.std.specs.Prelude.{false, is_err};
 ghost use Rattle.age_io.specs.Taken.{WriteAppends, Keeps};
-ghost use Rattle.age_io.specs.Io.{one_more, SinkView};
+ghost use Rattle.age_io.specs.{one_more, SinkView};
 ghost use Rattle.std.specs.Coded.{coded_ℕ, coded×, coded_bool, coded_list};
 
 use crate::failed::Failed;

@@ -1,8 +1,7 @@
 //! Where bytes come from.
 
 ghost use Rattle.std.specs.Prelude.{◌≡◌, ◌≤◌, ℕ, Bool, false, [], length, IfOk, MatchResult, is_err, List};
-ghost use Rattle.age_io.specs.Supply.{ReadConsumes};
-ghost use Rattle.age_io.specs.Io.{one_more, Origin, SourceView};
+ghost use Rattle.age_io.specs.{ReadConsumes, one_more, Origin, SourceView};
 ghost use Rattle.std.specs.Coded.{coded_ℕ, coded×, coded_bool, coded_list};
 
 use crate::failed::Failed;

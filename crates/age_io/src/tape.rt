@@ -1,18 +1,19 @@
 //! The bytes that a source gave, or that a sink took, for contracts alone.
 
-ghost use Rattle.std.specs.Prelude.{◌≡◌, [], ◌++◌, List, ℕ};
+ghost use Rattle.std.specs.Prelude.{◌≡◌, [], ◌++◌, List, ℕ, option_map, unwrap_or};
 ghost use Rattle.std.specs.Borrow.{ftrue};
 ghost use Rattle.std.specs.Coded.{coded_list, coded_ℕ};
 
 use std::marker::Model;
 
-/// Some bytes.
+/// What went by, if anything, and some bytes more.
 #[derive(Clone, Copy)]
-struct Piece<'a> {
-    bytes: &'a [u8],
+struct Piece<'a, 'b> {
+    before: Option<&'a Cell>,
+    bytes: &'b [u8],
 }
 
-// Bytes that no code holds: the proof of `note` adds some.
+// Bytes that no code holds: the proof of `of` sets them.
 #[derive(Debug, Drop)]
 struct Cell {
     pub ghost bytes: { List ℕ } by { coded_list coded_ℕ },
@@ -23,15 +24,12 @@ impl Model for Cell {
 }
 
 impl Cell {
-    fn empty() -> Cell
-        ensures { result.bytes ≡ [] }
+    fn of(_piece: &Piece<'_, '_>) -> Cell
+        ensures { result.bytes
+            ≡ unwrap_or (option_map (λ b. b.now.bytes) _piece.now.before) [] ++ _piece.now.bytes.now }
     {
         Cell {}
     }
-
-    fn note(&mut self, _piece: &Piece<'_>)
-        ensures { self.new.bytes ≡ self.old.bytes ++ _piece.now.bytes.now }
-    {}
 }
 
 /// The bytes that went by, in order, for contracts alone. It has no bytes at run time.
@@ -53,8 +51,12 @@ impl Tape {
     pub fn new() -> Tape
         ensures { result ≡ [] }
     {
+        let piece = Piece {
+            before: None,
+            bytes: &[],
+        };
         Tape {
-            cell: Cell::empty(),
+            cell: Cell::of(&piece),
         }
     }
 
@@ -62,6 +64,7 @@ impl Tape {
     pub fn note(&mut self, bytes: &[u8])
         ensures { self.new ≡ self.old ++ bytes.now }
     {
-        self.cell.note(&Piece { bytes });
+        let before = Some(&self.cell);
+        self.cell = Cell::of(&Piece { before, bytes });
     }
 }

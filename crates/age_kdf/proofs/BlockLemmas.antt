@@ -1,18 +1,18 @@
 -- Keys as blocks, blocks of 32 bytes that are joined, and an array's map.
-use Rattle.std.proofs.Common.{◌≡◌, ℕ, zero, suc, ◌+◌, ◌-◌, ◌*◌, ◌≤◌, List, [], ◌++◌, length, take, drop, refl, sym, ap, ◌∙◌, arith, ◌⊎◌, inl, inr, ◌<◌}
-use Rattle.std.proofs.Common.{map, get_or, subst, ap₂, ◌∷◌}
+use Rattle.std.proofs.lemmas.Grind.{common_steps, flat_map-append}
+use Rattle.std.proofs.lemmas.Bool.Decides.{leb_tells}
+use Rattle.std.proofs.Common.{◌≡◌, ℕ, zero, suc, ◌+◌, ◌*◌, ◌≤◌, List, [], ◌++◌, length, take, drop, refl, sym, ap, ◌∙◌, arith, ◌⊎◌, ◌<◌, map, get_or, subst}
+use Rattle.std.proofs.Common.{ap₂, ◌∷◌}
 use Rattle.std.specs.Array.{MapsFrom, IsMapOf}
 use Rattle.std.specs.Fn.{Called, Mut}
 use Rattle.std.specs.List.{range_with_len, flat_map}
 use Rattle.std.proofs.Math.Seq.{take-append-add}
-use Rattle.std.proofs.lemmas.Bool.Decides.{leb_tells}
 use Rattle.std.proofs.lemmas.List.{append-nil, append_assoc, length-append, length-take, take_all, take_at, drop_all, length-drop, ext_get_or, length-map}
-use Rattle.std.proofs.lemmas.Grind.{flat_map-append}
 use Rattle.std.proofs.lemmas.List.{get_or-map}
 use Rattle.std.proofs.lemmas.List.Folds.{flat_map-map}
 use Rattle.std.proofs.lemmas.List.FromFn.{map-range_with_len_more}
+use Rattle.age_kdf.specs.{hmac, pbkdf2_block}
 use Rattle.sha2.proofs.Facts256.{length-sha256}
-use Rattle.age_kdf.specs.Derivation.{hmac, pbkdf2_block}
 
 -- ---- what decides whether a key fits into a block
 
@@ -58,33 +58,16 @@ pub chunk_written : (front block out written : List ℕ) (a k n : ℕ) → lengt
     → a + k ≤ n → k ≤ 32 → (k ≡ 32) ⊎ (a + k ≡ n) → written ≡ take k block → take a out ≡ front
     → take (a + 32) (take a out ++ (written ++ drop k (drop a out))) ≡ take n (front ++ block)
 chunk_written front block out written a k n len_front len_block len_out fits small reach is before =
-    let kept : length (take k block) ≡ k = omega (arith, length-take k block) in
-    let room : n ≡ length front + (n - a) = omega arith in
-    let cut : take n (front ++ block) ≡ front ++ take (n - a) block = ap (λ m. take m (front ++ block)) room ∙ take-append-add front block (n - a) in
-    elim reach [
-      | inl whole ↦
-          let all : take k block ≡ block = take_all k block (omega arith) in
-          let all_too : take (n - a) block ≡ block = take_all (n - a) block (omega arith) in
-          rw (before, is, all, cut, all_too, ← append_assoc)
-          (take_at (front ++ block) (drop k (drop a out)) (a + 32) (omega (arith, length-append front block)))
-      | inr last ↦
-          let nothing : drop k (drop a out) ≡ [] = drop_all k (drop a out) (omega (arith, length-drop a out)) in
-          let same : n - a ≡ k = omega arith in
-          rw (before, is, nothing, append-nil, cut, same)
-          (take_all (a + 32) (front ++ take k block) (omega (arith, length-append front (take k block))))
-    ]
+    grind (arith, common_steps, append-nil, append_assoc, drop_all, length-append, length-drop, length-take, take-append-add, take_all, take_at)
 
 -- ---- an array's `map` by a closure that keeps what it captured
 
 module _ {F : Type 0} (g : Mut F (ℕ × Unit {0}) ℕ) (h : ℕ → ℕ) (f : F) (same : (x y : ℕ) (q : F) → Called g f (x, tt) y q → (y ≡ h x) × (q ≡ f)) where
   get_or_mapped : (xs ys : List ℕ) (i n : ℕ) → MapsFrom g f xs ys i n → (j : ℕ) → j < n → get_or ys (i + j) 0 ≡ h (get_or xs (i + j) 0)
-  get_or_mapped xs ys i zero m j l = absurd (omega arith)
-  get_or_mapped xs ys i (suc n) m zero l =
-      let at : i + 0 ≡ i = omega arith in
-      rw at (m.4.1 0 ∙ (same m.1 m.2 m.0 m.5).0 ∙ ap h (sym (m.3.1 0)))
+  get_or_mapped xs ys i zero m j l = grind (arith, common_steps)
+  get_or_mapped xs ys i (suc n) m zero l = grind (arith, common_steps)
   get_or_mapped xs ys i (suc n) m (suc j) l =
-      let at : i + suc j ≡ i + 1 + j = omega arith in
-      rw at (get_or_mapped xs ys (i + 1) n (subst (λ q. MapsFrom g q xs ys (i + 1) n) (same m.1 m.2 m.0 m.5).1 m.6) j (omega arith))
+      grind (arith, common_steps, get_or_mapped xs ys (i + 1) n (subst (λ q. MapsFrom g q xs ys (i + 1) n) (same m.1 m.2 m.0 m.5).1 m.6) j (omega arith))
 
   pub mapped_is : (xs ys : List ℕ) (n : ℕ) → length xs ≡ n → IsMapOf g f xs ys n → ys ≡ map h xs
   mapped_is xs ys n len m =

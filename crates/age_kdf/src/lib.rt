@@ -11,8 +11,8 @@
 
 ghost use Rattle.std.specs.Prelude.{◌≡◌, ℕ, map, length, ◌≤◌, List};
 ghost use Rattle.std.specs.List.{concat};
-ghost use Rattle.age_kdf.specs.Derivation.{key_with_zeros, key_block, xor_pad, hmac, hkdf32};
-ghost use Rattle.age_kdf.specs.Derivation.{derived_key_limit, pbkdf2_block, pbkdf2_once};
+ghost use Rattle.age_kdf.specs.{key_with_zeros, key_block, xor_pad, hmac, hkdf32, derived_key_limit};
+ghost use Rattle.age_kdf.specs.{pbkdf2_block, pbkdf2_once};
 
 use sha2::{Digest, Sha256};
 
@@ -32,7 +32,7 @@ fn key_with_zeros(key: &[u8]) -> [u8; 64]
 }
 
 /// The key as a block. A key longer than a block stands as its digest first.
-#[tactic(auto, unfolding(crate::specs::Derivation::key_block), using(crate::proofs::BlockLemmas::length_tests))]
+#[tactic(auto, unfolding(crate::specs::key_block), using(crate::proofs::BlockLemmas::length_tests))]
 fn key_block(key: &[u8]) -> [u8; 64]
     ensures { result ≡ key_block key.now }
 {
@@ -78,6 +78,7 @@ pub fn hmac(key: &[u8], parts: &[&[u8]]) -> [u8; 32]
 /// The 32 bytes that HKDF-SHA-256 derives from input keying material (RFC 5869), by its extract
 /// step and the first block of its expand step. An empty salt means no salt, for which 32 zero
 /// bytes stand (RFC 5869, section 2.2).
+#[tactic(auto, unfolding(crate::specs::hkdf32, crate::specs::extracted_key, crate::specs::expanded_key))]
 pub fn hkdf32(ikm: &[u8], salt: &[u8], info: &[u8]) -> [u8; 32]
     ensures { result ≡ hkdf32 ikm.now salt.now info.now }
 {

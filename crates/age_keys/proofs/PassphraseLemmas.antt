@@ -1,22 +1,19 @@
 -- What the passphrase that a header was made for finds in it.
+use Rattle.std.proofs.lemmas.Grind.{common_steps}
 use Rattle.std.proofs.Common.{◌≡◌, ℕ, ◌+◌, ◌≤◌, Option, Some, None, Result, List, ◌≢◌, true, [], ◌∷◌, length, get_or, replicate, refl, sym, ap, ap₂, ◌∙◌, arith}
 use Rattle.std.specs.Fmt.{decimal}
 use Rattle.std.specs.Option.{ok_or}
-use Rattle.std.specs.Prelude.{codes, IfSome, IfNone, MatchResult}
-use Rattle.std.specs.Str.Parse.{digits_value}
+use Rattle.std.specs.Prelude.{IfSome, IfNone, MatchResult}
 use Rattle.std.proofs.lemmas.Bool.{false≢true}
 use Rattle.std.proofs.lemmas.Fmt.{decimal_is_IsNumeral, first_decimal}
 use Rattle.age_cipher.proofs.SealingLemmas.{length-sealing, one_text as one_sealed}
 use Rattle.age_stanza.proofs.Base64Lemmas.{one_text}
-use Rattle.age_stanza.specs.Text.{base64_text}
 use Rattle.age_stanza.specs.declared.header.Header.{Header}
 use Rattle.age_stanza.specs.declared.header.Stanza.{Stanza}
 use Rattle.base64.specs.GeneralPurpose.{IsBytes}
-use Rattle.age_keys.specs.declared.fault.KeyFault.{KeyFault}
-use Rattle.age_keys.specs.declared.fault.KeyFault.TheVariants.{WrongKey, ScryptNotAlone, BadScrypt, WorkTooHigh, NoMatch, Memory}
-use Rattle.age_keys.specs.Keys.{Counts, header_mac, wrapped_key, has_scrypt, IsMacOf, AllowsAlone}
-use Rattle.age_keys.specs.Scrypt.{PassphraseIdentity, IsPassphraseKey, PassphraseRefuses, wrap_key, IsWorkFactor, IsScryptStanza, OnlyScrypt, scrypt_stanza}
-use Rattle.age_keys.specs.Scrypt.{scrypt_head}
+use Rattle.age_keys.specs.{KeyFault, WrongKey, ScryptNotAlone, BadScrypt, WorkTooHigh, NoMatch, Memory, Counts, header_mac, wrapped_key, has_scrypt, IsMacOf}
+use Rattle.age_keys.specs.{AllowsAlone, PassphraseIdentity, IsPassphraseKey, PassphraseRefuses, wrap_key, IsWorkFactor, IsScryptStanza, OnlyScrypt}
+use Rattle.age_keys.specs.{scrypt_stanza, scrypt_head}
 use Rattle.age_keys.proofs.StanzaLemmas.{not_beside}
 use Rattle.age_keys.proofs.WorkFactorLemmas.{zero_first}
 
@@ -80,15 +77,7 @@ pub record SameParts (salt other : List ℕ) (log more : ℕ) (body rest : List 
   pub bodies : body ≡ rest
 
 same_parts : (h : Header) (a b : OnlyScrypt h) → SameParts a.salt b.salt a.log b.log a.body b.body
-same_parts h a b =
-    let stanzas : a.stanza ≡ b.stanza = cc (a.alone, b.alone) in
-    let args : codes "scrypt" ∷ base64_text a.salt ∷ a.valid.characters ∷ [] ≡ codes "scrypt" ∷ base64_text b.salt ∷ b.valid.characters ∷ [] =
-    sym a.valid.args ∙ ap (λ (s : Stanza). s.args) stanzas ∙ b.valid.args in
-    record {
-      salts = one_text a.salt b.salt a.valid.salt_bytes b.valid.salt_bytes (ap (λ (xs : List (List ℕ)). get_or xs 1 []) args);
-      logs = sym a.valid.log_is ∙ ap (λ (xs : List (List ℕ)). digits_value 10 (get_or xs 2 [])) args ∙ b.valid.log_is;
-      bodies = sym a.valid.body_is ∙ ap (λ (s : Stanza). s.body) stanzas ∙ b.valid.body_is;
-    }
+same_parts h a b = grind (arith, common_steps, one_text)
 
 -- ---- the law
 

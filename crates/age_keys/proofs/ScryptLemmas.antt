@@ -1,24 +1,20 @@
 -- The header of a scrypt stanza has a text.
+use Rattle.std.proofs.lemmas.Grind.{common_steps}
 use Rattle.std.proofs.Common.{◌≡◌, ℕ, zero, suc, ◌+◌, ◌<◌, ◌≤◌, List, [], ◌∷◌, ◌++◌, length, get_or, refl, ap, ap₂, ◌∙◌, arith}
 use Rattle.std.specs.Prelude.{codes}
 use Rattle.std.specs.Fmt.{decimal}
-use Rattle.std.specs.List.{flat_map, AllByRecursion}
+use Rattle.std.specs.List.{AllByRecursion}
 use Rattle.std.specs.Str.Parse.{AllDigits}
 use Rattle.std.proofs.lemmas.Fmt.{decimal_is_IsNumeral, length-decimal-le}
 use Rattle.std.proofs.lemmas.List.{length-append}
 use Rattle.std.proofs.lemmas.Str.Parse.{digit_from_value}
 use Rattle.base64.specs.GeneralPurpose.{IsBytes}
 use Rattle.base64.specs.Rfc4648.{encode_symbols}
+use Rattle.age_stanza.specs.{base64_text, in_lines, stanza_text, head_text, IsStanza, HasText}
 use Rattle.age_stanza.specs.declared.header.Header.{Header}
 use Rattle.age_stanza.specs.declared.header.Stanza.{Stanza}
-use Rattle.age_stanza.specs.Text.{base64_text}
-use Rattle.age_stanza.specs.Grammar.{line, in_lines, stanza_text, head_text, IsStanza, HasText}
-use Rattle.age_stanza.proofs.LineLemmas.{IsVisible}
-use Rattle.age_stanza.proofs.ElementLemmas.{visible_from_test}
-use Rattle.age_stanza.proofs.TextLengthLemmas.{length-body, length-head}
-use Rattle.age_stanza.proofs.TextLemmas.{the_symbols, text-symbols, length-text}
-use Rattle.age_keys.specs.Keys.{header_mac, wrapped_key}
-use Rattle.age_keys.specs.Scrypt.{wrap_key, scrypt_stanza, scrypt_head}
+use Rattle.age_stanza.proofs.{IsVisible, visible_from_test, length-body, length-head, the_symbols, text-symbols, length-text}
+use Rattle.age_keys.specs.{header_mac, wrapped_key, wrap_key, scrypt_stanza, scrypt_head}
 
 visible_at : (xs : List ℕ) (i : ℕ) → AllByRecursion IsVisible xs → i < length xs → IsVisible (get_or xs i 0)
 visible_at [] i h lt = absurd (omega arith)
@@ -73,27 +69,12 @@ scrypt_valid salt body log size fits body_fits few =
 
 three_arguments : (a b c body : List ℕ) → length (stanza_text (record { args = a ∷ b ∷ c ∷ []; body = body }))
     ≡ length a + length b + length c + length (in_lines (base64_text body)) + 6
-three_arguments a b c body =
-    let lines : List ℕ = in_lines (base64_text body) in
-    let args : List ℕ = flat_map (λ x. 32 ∷ x) (a ∷ b ∷ c ∷ []) in
-    let whole = length-append (line (codes "->" ++ args)) lines in
-    let ended = length-append (codes "->" ++ args) (10 ∷ []) in
-    let first = length-append a ((32 ∷ b) ++ ((32 ∷ c) ++ [])) in
-    let second = length-append b ((32 ∷ c) ++ []) in
-    let third = length-append c [] in
-    omega arith
+three_arguments a b c body = grind (arith, common_steps, length-append)
 
 pub scrypt_size : (salt body : List ℕ) (log : ℕ) → length salt ≡ 16 → length body ≡ 32 → log ≤ 22
     → length (stanza_text (scrypt_stanza salt log body)) ≤ 100
 unfolding scrypt_stanza
-scrypt_size salt body log size body_size few =
-    omega (
-      arith,
-      factor_size log few,
-      length-body body,
-      length-text salt,
-      three_arguments (codes "scrypt") (base64_text salt) (decimal log) body,
-    )
+scrypt_size salt body log size body_size few = grind (arith, common_steps, factor_size, length-body, length-text, three_arguments)
 
 -- a MAC of 32 bytes doesn't change the length
 pub size_of_one : (s : Stanza) (mac : List ℕ) → length mac ≡ 32
@@ -145,8 +126,4 @@ other_mac h mac has mac_size mac_fits =
 pub scrypt_head_is : (pass salt key wrap body mac : List ℕ) (log : ℕ) (h : Header) → wrap ≡ wrap_key pass salt log → body ≡ wrapped_key wrap key
     → h.stanzas ≡ scrypt_stanza salt log body ∷ [] → mac ≡ header_mac key h → record { stanzas = h.stanzas; mac = mac } ≡ scrypt_head pass log salt key
 unfolding scrypt_head header_mac
-scrypt_head_is pass salt key wrap body mac log h wrap_is body_is stanzas_are mac_is =
-    let same : h.stanzas ≡ scrypt_stanza salt log (wrapped_key (wrap_key pass salt log) key) ∷ [] = cc in
-    let over_none : header_mac key h ≡ header_mac key (record { stanzas = h.stanzas; mac = [] }) = refl in
-    ap₂ (λ (ss : List Stanza) (m : List ℕ). let made : Header = record { stanzas = ss; mac = m } in made) same
-    (mac_is ∙ over_none ∙ ap (λ (ss : List Stanza). header_mac key (record { stanzas = ss; mac = [] })) same)
+scrypt_head_is pass salt key wrap body mac log h wrap_is body_is stanzas_are mac_is = grind (arith, common_steps)

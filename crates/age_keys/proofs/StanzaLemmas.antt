@@ -1,18 +1,18 @@
 -- Stanzas: their arguments, which of them a shared secret opens, and bytes that stand after others.
+use Rattle.std.proofs.lemmas.Grind.{common_steps}
 use Rattle.std.proofs.Common.{◌≡◌, ℕ, ◌<◌, ◌≤◌, true, List, [], ◌∷◌, length, get_or, sym, ap, ap₂, ◌∙◌, arith, ◌≢◌, ◌+◌, ◌++◌, take, drop, Option, Some, None}
 use Rattle.std.proofs.Common.{subst, ◌-◌}
 use Rattle.std.specs.List.{AllByRecursion}
-use Rattle.std.specs.Prelude.{nat_lt, ◌&&◌, IfNone}
+use Rattle.std.specs.Prelude.{IfNone}
 use Rattle.std.proofs.lemmas.Bool.{false≢true}
 use Rattle.std.proofs.lemmas.List.{take_more, drop_more, take-append-drop, length-append, length-drop, append-nil, take_at, drop_all}
 use Rattle.std.proofs.lemmas.Slice.Eq.{bytes_eq-Decides}
 use Rattle.age_stanza.proofs.Base64Lemmas.{one_text}
-use Rattle.age_stanza.proofs.LineLemmas.{All-append}
+use Rattle.age_stanza.proofs.{All-append}
 use Rattle.age_stanza.specs.declared.header.Header.{Header}
 use Rattle.age_stanza.specs.declared.header.Stanza.{Stanza}
 use borrow.Rule.Slice.PartMut.{put_mid}
-use Rattle.age_keys.specs.Keys.{has_type, has_scrypt, IsScryptNotAlone, wrapped_key}
-use Rattle.age_keys.specs.X25519.{IsX25519Stanza, Shared, shared_wrap_key, StaysShut}
+use Rattle.age_keys.specs.{has_type, IsScryptNotAlone, wrapped_key, IsX25519Stanza, Shared, shared_wrap_key, StaysShut}
 
 -- ---- the arguments of a stanza of a type, and the only stanza of a header
 
@@ -25,9 +25,7 @@ two_arguments kind t args typed least most e = absurd (omega arith)
 -- three arguments; the first is the type
 pub three_arguments : (kind t u : List ℕ) (args : List (List ℕ)) → has_type kind args ≡ true → 3 ≤ length args → length args < 4
     → t ≡ get_or args 1 t → u ≡ get_or args 2 u → args ≡ kind ∷ t ∷ u ∷ []
-three_arguments kind t u (a ∷ b ∷ c ∷ []) typed least most e f =
-    ap₂ (λ (x : List ℕ) (y : List (List ℕ)). x ∷ y) ((bytes_eq-Decides a kind).0 typed) (ap₂ (λ x y. x ∷ y ∷ []) (sym e) (sym f))
-three_arguments kind t u args typed least most e f = absurd (omega arith)
+three_arguments kind t u args h0 h1 h2 h3 h4 = grind (arith, common_steps, bytes_eq-Decides)
 
 -- a list of one
 pub only_one : (ss : List Stanza) (s : Stanza) → 1 ≤ length ss → length ss < 2 → s ≡ get_or ss 0 s → ss ≡ s ∷ []
@@ -40,9 +38,7 @@ only_one_of ss items s same least most e = sym same ∙ only_one items s least m
 
 -- nothing stands beside a stanza that is the only one
 pub not_beside : (h : Header) (s : Stanza) → h.stanzas ≡ s ∷ [] → ¬ IsScryptNotAlone h
-not_beside h s one beside =
-    let size = ap (λ (ss : List Stanza). nat_lt 1 (length ss) && has_scrypt h) one in
-    false≢true (sym size ∙ beside)
+not_beside h s one beside = grind (arith, common_steps, false≢true)
 
 -- ---- stanzas in the order of a header, and which of them a shared secret opens
 
@@ -53,9 +49,7 @@ all_more P ss i s lt is all here = rw (take_more ss i s lt) (All-append P (take 
 
 -- those before a stanza, it, and those after it
 pub around : (ss : List Stanza) (i : ℕ) (s : Stanza) → i < length ss → s ≡ get_or ss i s → ss ≡ take i ss ++ s ∷ drop (i + 1) ss
-around ss i s lt is =
-    sym (take-append-drop i ss)
-    ∙ ap (λ (rest : List Stanza). take i ss ++ rest) (drop_more ss i s lt ∙ ap (λ (x : Stanza). x ∷ drop (i + 1) ss) (sym is))
+around ss i s lt is = grind (arith, common_steps, drop_more, take-append-drop)
 
 -- a stanza has one share
 one_share : (s : Stanza) (share other body rest : List ℕ) → IsX25519Stanza s share body → IsX25519Stanza s other rest → share ≡ other
@@ -78,9 +72,7 @@ if_none (Some x) f h = tt
 
 -- over the second part of an array
 pub over_the_end : (n k : ℕ) (a z s : List ℕ) → length a ≡ n → length z ≡ k → put_mid n k (a ++ z) s ≡ a ++ s
-over_the_end n k a z s first second =
-    ap₂ (λ (f e : List ℕ). f ++ (s ++ e)) (take_at a z n (omega arith))
-    (drop_all k (drop n (a ++ z)) (omega (arith, length-drop n (a ++ z), length-append a z))) ∙ ap (λ (t : List ℕ). a ++ t) (append-nil s)
+over_the_end n k a z s first second = grind (arith, common_steps, append-nil, drop_all, length-append, length-drop, take_at)
 
 -- all but the last 16 bytes
 pub front_of : (a z : List ℕ) → length z ≡ 16 → take (length (a ++ z) - 16) (a ++ z) ≡ a

@@ -1,13 +1,14 @@
 -- The characters of a work factor, and their number.
+use Rattle.std.proofs.lemmas.Grind.{common_steps}
+use Rattle.std.proofs.lemmas.Bool.Decides.{nat_tests}
 use Rattle.std.proofs.Common.{◌≡◌, ℕ, ◌+◌, ◌-◌, ◌*◌, ◌<◌, ◌≤◌, true, List, [], ◌∷◌, length, get_or, take, min, ap, arith, rules}
 use Rattle.std.specs.Char.{is_ascii_digit, digit_value}
 use Rattle.std.specs.Int.{IsInRange}
 use Rattle.std.specs.List.{list_all}
 use Rattle.std.specs.Str.Parse.{AllDigits, digits_value, digits_value_after}
-use Rattle.std.proofs.lemmas.Bool.Decides.{nat_tests}
 use Rattle.std.proofs.lemmas.Int.Digits.{digits_value_more}
 use Rattle.std.proofs.lemmas.Str.Parse.{IsDigitsTest, IsNumeralModel, numerals_by_value, digit_at, digit_from_value}
-use Rattle.age_keys.specs.Scrypt.{IsWorkFactor}
+use Rattle.age_keys.specs.{IsWorkFactor}
 
 digits_test : IsDigitsTest (λ ds. list_all is_ascii_digit ds ≡ true)
 digits_test = search rules
@@ -41,11 +42,7 @@ zero_first (d ∷ ds) e = cc
 
 -- a work factor is above zero
 pub work_factor_some : (ds : List ℕ) → IsWorkFactor ds → 1 ≤ digits_value 10 ds
-work_factor_some [] h = absurd (omega (arith, h.digits.0))
-work_factor_some (c ∷ cs) h =
-    let range = digit_from_value c h.digits.1.0 in
-    let other : c ≡ 48 → ⊥ = λ e. h.no_leading_zero (ap (λ (d : ℕ). d ∷ []) e) in
-    omega (arith, range.0, other, value_of_digit c range, not_less (0 * 10 + digit_value c) cs)
+work_factor_some ds h0 = grind (arith, common_steps, digit_from_value, not_less, value_of_digit)
 
 -- what is known of characters that are tested, and of those that are read as a number
 pub ruleset digit_tests = (digits_from_test, test_from_digits, zero_first)

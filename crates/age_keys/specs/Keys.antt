@@ -6,16 +6,16 @@ use Rattle.std.specs.List.{list_any}
 use Rattle.std.specs.Str.{bytes_eq}
 use Rattle.std.specs.Bool.{OnTrue}
 use Rattle.hex.specs.Hex.{decode_sized}
-use Rattle.age_stanza.specs.Grammar.{mac_text, HeadText}
+use Rattle.age_stanza.specs.{mac_text, HeadText}
 use Rattle.age_stanza.specs.declared.header.Header.{Header}
 use Rattle.age_stanza.specs.declared.header.Stanza.{Stanza}
-use Rattle.age_kdf.specs.Derivation.{hmac, hkdf32}
-use Rattle.age_cipher.specs.Aead.{sealing, opening}
+use Rattle.age_kdf.specs.{hmac, hkdf32}
+use Rattle.age_cipher.specs.{sealing, opening}
 use Rattle.age_keys.specs.declared.fault.KeyFault.{KeyFault}
 use Rattle.age_keys.specs.declared.fault.KeyFault.TheVariants.{ScryptNotAlone, BadScrypt, WorkTooHigh}
 use Rattle.age_keys.specs.declared.fault.KeyFault.TheVariants.{NoMatch, WrongKey, MacMismatch, BadX25519}
 use Rattle.age_keys.specs.declared.fault.KeyFault.TheVariants.{Memory}
-use Rattle.age_chunk.specs.Payload.{payload, chunk_length}
+use Rattle.age_chunk.specs.{payload, chunk_length}
 
 -- ---- The keys of an age file (C2SP age.md, "File key", "Header MAC", "Payload", "Recipient
 -- stanza").

@@ -4,10 +4,10 @@ use Rattle.std.specs.Prelude.{false}
 use Rattle.std.specs.Fmt.{decimal}
 use Rattle.std.specs.Str.Parse.{IsNumeral, digits_value}
 use Rattle.base64.specs.GeneralPurpose.{IsBytes}
-use Rattle.age_stanza.specs.Text.{base64_text}
+use Rattle.age_stanza.specs.{base64_text}
 use Rattle.age_stanza.specs.declared.header.Header.{Header}
 use Rattle.age_stanza.specs.declared.header.Stanza.{Stanza}
-use Rattle.age_scrypt.specs.Scrypt.{scrypt, work_factor_limit}
+use Rattle.age_scrypt.specs.{scrypt, work_factor_limit}
 use Rattle.age_keys.specs.Keys.{header_mac, wrapped_key, IsScryptNotAlone, has_scrypt, AllowsAlone}
 use Rattle.age_keys.specs.declared.fault.KeyFault.{KeyFault}
 use Rattle.age_keys.specs.declared.fault.KeyFault.TheVariants.{ScryptNotAlone, BadScrypt, WorkTooHigh}

@@ -3,10 +3,10 @@ use Rattle.std.specs.Prelude.{◌≡◌, ℕ, Bool, true, false, List, [], ◌�
 use Rattle.std.specs.Prelude.{replicate}
 use Rattle.std.specs.List.{list_any, AllByRecursion}
 use Rattle.base64.specs.GeneralPurpose.{IsBytes}
-use Rattle.age_stanza.specs.Text.{base64_text}
+use Rattle.age_stanza.specs.{base64_text}
 use Rattle.age_stanza.specs.declared.header.Header.{Header}
 use Rattle.age_stanza.specs.declared.header.Stanza.{Stanza}
-use Rattle.age_kdf.specs.Derivation.{hkdf32}
+use Rattle.age_kdf.specs.{hkdf32}
 use Rattle.age_keys.specs.Keys.{has_type, wrapped_key}
 use Rattle.age_keys.specs.declared.fault.KeyFault.{KeyFault}
 use Rattle.age_keys.specs.declared.fault.KeyFault.TheVariants.{NoMatch, BadX25519, WrongKey}

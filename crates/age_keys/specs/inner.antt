@@ -1,1 +1,17 @@
-pub mod PayloadBox
+-- The sealing of chunks under a payload key is valid, by the laws of the cipher. The code cites this
+-- proof, so it can't stand in `proofs/`.
+use Rattle.std.specs.Prelude.{ℕ, List, []}
+use Rattle.std.proofs.Common.{sym}
+use Rattle.age_cipher.specs.{sealing, opening}
+use Rattle.age_cipher.proofs.SealingLemmas.{length-sealing, opening_of_sealing, sealing_of_opening}
+use Rattle.age_chunk.specs.{IsChunkBox}
+
+pub box_valid : (key : List ℕ)
+    → IsChunkBox (λ nonce text. sealing key nonce [] text)
+    (λ nonce block. opening key nonce [] block)
+box_valid key =
+    record {
+      longer = λ nonce text h. length-sealing key nonce [] text;
+      opens = λ nonce text h. opening_of_sealing key nonce [] text;
+      only = λ nonce text block h e. sym (sealing_of_opening key nonce [] block text e);
+    }

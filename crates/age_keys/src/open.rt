@@ -3,9 +3,8 @@
 ghost use Rattle.std.specs.Prelude.{◌≡◌, IfOk, IfErr};
 ghost use Rattle.std.specs.List.{list_any};
 ghost use Rattle.base64.specs.GeneralPurpose.{IsBytes};
-ghost use Rattle.age_stanza.specs.Grammar.{HasText};
-ghost use Rattle.age_keys.specs.Keys.{Counts, has_type, is_scrypt, scrypt_not_alone, header_mac, Opens};
-ghost use Rattle.age_keys.specs.Keys.{Refuses};
+ghost use Rattle.age_stanza.specs.{HasText};
+ghost use Rattle.age_keys.specs.{Counts, has_type, is_scrypt, scrypt_not_alone, header_mac, Opens, Refuses};
 ghost use Rattle.age_keys.specs.declared.fault.KeyFault.TheVariants.{Memory};
 
 use crate::fault::KeyFault;

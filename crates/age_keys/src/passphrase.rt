@@ -1,7 +1,7 @@
 //! A passphrase, which finds the file key in a scrypt stanza.
 
 ghost use Rattle.std.specs.Option.{SomeIff};
-ghost use Rattle.age_keys.specs.Scrypt.{IsAllowed, IsPassphraseKey, PassphraseRefuses, passphrase_steps};
+ghost use Rattle.age_keys.specs.{IsAllowed, IsPassphraseKey, PassphraseRefuses, passphrase_steps};
 
 use crate::fault::KeyFault;
 use crate::key::FileKey;
@@ -35,7 +35,7 @@ pub struct Passphrase<'a> {
 }
 
 impl<'a> Model for Passphrase<'a> {
-    ghost use Rattle.age_keys.specs.Scrypt.{PassphraseIdentity, IsAllowed};
+    ghost use Rattle.age_keys.specs.{PassphraseIdentity, IsAllowed};
 
     ghost Value = { PassphraseIdentity };
 

@@ -1,9 +1,9 @@
 //! The keys of what follows a header: the payload's, and the key of positions in it.
 
 ghost use Rattle.std.specs.Prelude.{◌≡◌, []};
-ghost use Rattle.age_cipher.specs.Aead.{sealing as sealing_with, opening as opening_with};
-ghost use Rattle.age_keys.specs.Keys.{payload_key, position_key};
-ghost use Rattle.age_keys.specs.inner.PayloadBox.{box_valid};
+ghost use Rattle.age_cipher.specs.{sealing as sealing_with, opening as opening_with};
+ghost use Rattle.age_keys.specs.{payload_key, position_key};
+ghost use Rattle.age_keys.specs.inner.{box_valid};
 
 use crate::key::FileKey;
 use age_chunk::{ChunkBox, PAYLOAD_NONCE_LEN};

@@ -6,11 +6,10 @@ ghost use Rattle.std.specs.Char.{is_ascii_digit};
 ghost use Rattle.std.specs.Fmt.{decimal};
 ghost use Rattle.std.specs.List.{list_all};
 ghost use Rattle.std.specs.Str.Parse.{digits_value};
-ghost use Rattle.age_stanza.specs.Grammar.{HasText};
-ghost use Rattle.age_stanza.specs.Text.{base64_text};
-ghost use Rattle.age_scrypt.specs.Scrypt.{work_factor_limit};
-ghost use Rattle.age_keys.specs.Scrypt.{IsAllowed, IsWorkFactor, IsScryptStanza, wrap_key, scrypt_stanza};
-ghost use Rattle.age_keys.specs.Scrypt.{scrypt_head};
+ghost use Rattle.age_stanza.specs.{HasText, base64_text};
+ghost use Rattle.age_scrypt.specs.{work_factor_limit};
+ghost use Rattle.age_keys.specs.{IsAllowed, IsWorkFactor, IsScryptStanza, wrap_key, scrypt_stanza};
+ghost use Rattle.age_keys.specs.{scrypt_head};
 ghost use Rattle.age_keys.specs.declared.fault.KeyFault.TheVariants.{Memory};
 
 use crate::fault::KeyFault;

@@ -3,8 +3,8 @@
 ghost use Rattle.std.specs.Prelude.{◌≡◌, ◌++◌, Any, IfSome, IfNone};
 ghost use Rattle.std.specs.Bool.{OnTrue, OnFalse};
 ghost use Rattle.std.specs.List.{list_any, AllByRecursion};
-ghost use Rattle.age_keys.specs.X25519.{is_x25519, shared_wrap_key, OpensTo, StaysShut};
-ghost use Rattle.age_keys.specs.X25519.{IsBadStanza, IsFirstKey, IsSharedKey, SharedRefuses};
+ghost use Rattle.age_keys.specs.{is_x25519, shared_wrap_key, OpensTo, StaysShut, IsBadStanza, IsFirstKey};
+ghost use Rattle.age_keys.specs.{IsSharedKey, SharedRefuses};
 
 use crate::fault::KeyFault;
 use crate::key::FileKey;
@@ -75,7 +75,7 @@ pub struct SharedSecret {
 }
 
 impl Model for SharedSecret {
-    ghost use Rattle.age_keys.specs.X25519.{Shared};
+    ghost use Rattle.age_keys.specs.{Shared};
 
     ghost Value = { Shared };
 

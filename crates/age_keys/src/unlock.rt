@@ -3,7 +3,7 @@
 ghost use Rattle.std.specs.Prelude.{◌≡◌, ℕ, List, MatchResult, IfSome, IfNone};
 ghost use Rattle.age_stanza.specs.declared.header.Header.{Header as HeaderValue};
 ghost use Rattle.age_keys.specs.declared.fault.KeyFault.{KeyFault as Fault};
-ghost use Rattle.age_keys.specs.Keys.{Counts, SpellsKey};
+ghost use Rattle.age_keys.specs.{Counts, SpellsKey};
 
 use crate::fault::KeyFault;
 use crate::key::FileKey;

@@ -3,7 +3,7 @@
 //! stanza's own, and so seals one file key.
 
 ghost use Rattle.std.specs.Prelude.{◌≡◌, ◌≢◌, ℕ, List, IfSome, IfNone};
-ghost use Rattle.age_keys.specs.Keys.{wrapped_key};
+ghost use Rattle.age_keys.specs.{wrapped_key};
 
 use crate::key::FileKey;
 use age_cipher::{open_in_place, seal_in_place};

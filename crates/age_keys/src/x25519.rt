@@ -1,7 +1,7 @@
 //! The X25519 stanza.
 
 ghost use Rattle.std.specs.Prelude.{◌≡◌, IfOk, IfErr};
-ghost use Rattle.age_keys.specs.X25519.{is_x25519, IsX25519Stanza, ReadRefuses};
+ghost use Rattle.age_keys.specs.{is_x25519, IsX25519Stanza, ReadRefuses};
 
 use crate::fault::KeyFault;
 use crate::open::has_type;

@@ -1,22 +1,18 @@
 -- A block in its parts, each kept as its rows or turned into its diagonals.
-use Rattle.std.proofs.Common.{◌≡◌, ◌≢◌, ◌++◌, ◌+◌, ◌-◌, ◌*◌, ◌<◌, ◌≤◌, ℕ, zero, suc, List, [], ◌∷◌, bit_xor, refl, sym, ap, ap₂, ◌∙◌, arith, length, take, drop}
+use Rattle.std.proofs.lemmas.Grind.{common_steps}
+use Rattle.std.proofs.Common.{◌≡◌, ◌≢◌, ◌++◌, ◌+◌, ◌*◌, ◌<◌, ◌≤◌, ℕ, zero, suc, List, [], ◌∷◌, bit_xor, refl, sym, ap, ◌∙◌, arith, length, take, drop}
 use Rattle.std.proofs.Common.{length-take, length-drop, inl, inr, ◌/◌, ◌%◌, get_or}
 use Rattle.std.specs.List.{flat_map}
 use Rattle.std.specs.Simd.Lanes.{zip2}
 use Rattle.std.proofs.Math.Nat.{mul-le-mul_left}
 use Rattle.std.proofs.Math.Seq.{take-add, drop-append-add}
-use Rattle.std.specs.Prelude.{nat_lt, if◌then◌else◌}
 use Rattle.std.proofs.lemmas.Bool.{cases_lt}
-use Rattle.std.proofs.lemmas.Bool.Decides.{nat_tests}
-use Rattle.std.proofs.lemmas.List.FromFn.{get_or-map-range_with_len}
-use Rattle.std.proofs.lemmas.List.{drop-take, drop-drop, take-append-drop, take_at, drop_at, append_assoc, length-append, drop-append-le}
-use Rattle.std.proofs.lemmas.List.{take-append-le, take_all, get_or-drop, get_or-take, ext_get_or}
+use Rattle.std.proofs.lemmas.List.{drop-take, drop-drop, take_at, drop_at, length-append, take_all, get_or-drop, get_or-take, ext_get_or}
 use Rattle.std.proofs.lemmas.Simd.{length-zip2}
-use Rattle.std.proofs.lemmas.Slice.{take-put_mid_below, drop-put_mid, between-put_mid}
+use Rattle.std.proofs.lemmas.Slice.{take-put_mid_below, drop-put_mid}
 use borrow.Rule.Slice.PartMut.{put_mid}
-use Rattle.age_scrypt.specs.declared.part.Part.{Part}
-use Rattle.age_scrypt.specs.Scrypt.{part, xor_words, add32, salsa20_8, double_rounds, x_part, block_mix}
-use Rattle.age_scrypt.specs.inner.Workspace.{words, at_places, IsDiagonals, turned, IsTurned}
+use Rattle.age_scrypt.specs.{Part, part, xor_words, salsa20_8, x_part, block_mix}
+use Rattle.age_scrypt.specs.inner.{words, at_places, IsDiagonals, turned, IsTurned}
 use Rattle.age_scrypt.proofs.SalsaLemmas.{length-double_rounds, rows_of_words}
 
 -- ---- a list cut into parts of k: what a write to one part leaves, and the list as its parts joined
@@ -28,9 +24,7 @@ next_part k i j h = omega (arith, mul-le-mul_left {m = i + 1} {n = j} k (omega a
 -- w is the width as the goal writes it
 pub part-put_here : (k w : ℕ) (xs ys : List ℕ) (i : ℕ) → w ≡ k → k * i + k ≤ length xs → length ys ≡ k → part k (put_mid (k * i) w xs ys) i ≡ ys
 unfolding part
-part-put_here k w xs ys i e room len =
-    let width : k * i + k - k * i ≡ k = omega arith in
-    rw width at (between-put_mid (k * i) w xs ys (k * i + k) (omega arith) (omega arith))
+part-put_here k w xs ys i e room len = grind (arith, common_steps)
 
 pub part-put_other : (k w : ℕ) (xs ys : List ℕ) (i j : ℕ) → w ≡ k → k * i + k ≤ length xs → length ys ≡ k → j ≢ i → part k (put_mid (k * i) w xs ys) j
     ≡ part k xs j
@@ -62,30 +56,14 @@ rows_read block at =
     ∙ ap (λ front. front ++ take 4 (drop 8 rest)) (take-add 4 4 rest)))
     )
 
--- a list that ends as `old` does from n on takes four words there, after what stands in front
-pub row_written : (old now next front row : List ℕ) (n m : ℕ) → length front ≡ n → n + 4 ≡ m → now ≡ front ++ drop n old
-    → next ≡ take n now ++ row ++ drop (n + 4) now → next ≡ (front ++ row) ++ drop m old
-row_written old now next front row n m len end e f =
-    let kept : take n (front ++ drop n old) ≡ front = take_at front (drop n old) n len in
-    let rest : drop (n + 4) (front ++ drop n old) ≡ drop m old =
-    sym (drop-drop 4 n (front ++ drop n old)) ∙ ap (drop 4) (drop_at front (drop n old) n len) ∙ drop-drop 4 n old ∙ ap (λ k. drop k old) end in
-    f ∙ ap₂ (λ t d. t ++ row ++ d) (ap (take n) e ∙ kept) (ap (drop (n + 4)) e ∙ rest)
-
--- four rows that were written one after the other are one write of sixteen words
-pub rows_written : (old b1 b2 b3 b4 p q r s : List ℕ) (at : ℕ) → at + 16 ≤ length old → length p ≡ 4 → length q ≡ 4 → length r ≡ 4
-    → b1 ≡ take at old ++ p ++ drop (at + 4) old → b2 ≡ take (at + 4) b1 ++ q ++ drop (at + 4 + 4) b1
-    → b3 ≡ take (at + 8) b2 ++ r ++ drop (at + 8 + 4) b2 → b4 ≡ take (at + 12) b3 ++ s ++ drop (at + 12 + 4) b3
-    → b4 ≡ put_mid at 16 old (p ++ q ++ r ++ s)
-rows_written old b1 b2 b3 b4 p q r s at room p_len q_len r_len e1 e2 e3 e4 =
-    let t : List ℕ = take at old in
-    let t_len : length t ≡ at = omega (arith, length-take at old) in
-    let tp_len : length (t ++ p) ≡ at + 4 = omega (arith, length-append t p) in
-    let tpq_len : length (t ++ p ++ q) ≡ at + 8 = omega (arith, length-append (t ++ p) q) in
-    let tpqr_len : length (t ++ p ++ q ++ r) ≡ at + 12 = omega (arith, length-append (t ++ p ++ q) r) in
-    let f1 = row_written old old b1 t p at (at + 4) t_len (omega arith) (sym (take-append-drop at old)) e1 in
-    let f2 = row_written old b1 b2 (t ++ p) q (at + 4) (at + 8) tp_len (omega arith) f1 e2 in
-    let f3 = row_written old b2 b3 (t ++ p ++ q) r (at + 8) (at + 12) tpq_len (omega arith) f2 e3 in
-    row_written old b3 b4 (t ++ p ++ q ++ r) s (at + 12) (at + 16) tpqr_len (omega arith) f3 e4 ∙ simp (append_assoc, drop-drop)
+-- four rows that were written one after the other over sixteen words
+pub rows_written : (o b1 b2 b3 b4 p q r s : List ℕ) → length o ≡ 16 → length p ≡ 4 → length q ≡ 4 → length r ≡ 4 → length s ≡ 4
+    → b1 ≡ take 0 o ++ p ++ drop 4 o → b2 ≡ take 4 b1 ++ q ++ drop 8 b1 → b3 ≡ take 8 b2 ++ r ++ drop 12 b2 → b4 ≡ take 12 b3 ++ s ++ drop 16 b3
+    → b4 ≡ p ++ q ++ r ++ s
+rows_written (o0 ∷ o1 ∷ o2 ∷ o3 ∷ o4 ∷ o5 ∷ o6 ∷ o7 ∷ o8 ∷ o9 ∷ o10 ∷ o11 ∷ o12 ∷ o13 ∷ o14 ∷ o15 ∷ []) b1 b2 b3 b4
+    (p0 ∷ p1 ∷ p2 ∷ p3 ∷ []) (q0 ∷ q1 ∷ q2 ∷ q3 ∷ []) (r0 ∷ r1 ∷ r2 ∷ r3 ∷ []) (s0 ∷ s1 ∷ s2 ∷ s3 ∷ []) _ _ _ _ _ e1 e2 e3 e4 =
+    rw (e4, e3, e2, e1) refl
+rows_written o b1 b2 b3 b4 p q r s o_len p_len q_len r_len s_len e1 e2 e3 e4 = absurd (omega arith)
 
 take-zip2 : (f : ℕ → ℕ → ℕ) (n : ℕ) (xs ys : List ℕ) → take n (zip2 f xs ys) ≡ zip2 f (take n xs) (take n ys)
 take-zip2 f zero xs ys = refl
@@ -111,14 +89,11 @@ same_parts x y x_len y_len h = ext_get_or 0 x y (x_len ∙ sym y_len) (λ k belo
 -- a block is the exclusive or of two others if each of its parts is
 pub xored_parts : (x y to : List ℕ) → length x ≡ 256 → length y ≡ 256 → length to ≡ 256
     → ((j : ℕ) → j < 16 → part 16 to j ≡ xor_words (part 16 x j) (part 16 y j)) → to ≡ xor_words x y
-xored_parts x y to x_len y_len to_len h =
-    let same_len : length x ≡ length y = omega arith in
-    same_parts to (xor_words x y) to_len (length-zip2 bit_xor x y same_len ∙ x_len) (λ j below. h j below ∙ sym (part-xor x y same_len j))
+xored_parts x y to x_len y_len to_len h = grind (arith, common_steps, length-zip2, part-xor, same_parts)
 
 pub part-append_left : (k : ℕ) (xs ys : List ℕ) (j : ℕ) → k * j + k ≤ length xs → part k (xs ++ ys) j ≡ part k xs j
 unfolding part
-part-append_left k xs ys j room =
-    ap (take k) (drop-append-le (k * j) xs ys (omega arith)) ∙ take-append-le k (drop (k * j) xs) ys (omega (arith, length-drop (k * j) xs))
+part-append_left k xs ys j room = grind (arith, common_steps)
 
 pub part-append_right : (k : ℕ) (xs ys : List ℕ) (i : ℕ) → length xs ≡ k * i → length ys ≡ k → part k (xs ++ ys) i ≡ ys
 unfolding part
@@ -153,9 +128,7 @@ length-part b i len below = omega (arith, length-take 16 (drop (16 * i) b), leng
 
 length-salsa20_8 : (x : List ℕ) → length x ≡ 16 → length (salsa20_8 x) ≡ 16
 unfolding salsa20_8
-length-salsa20_8 x len =
-    let mixed = length-double_rounds 4 x len in
-    length-zip2 add32 (double_rounds 4 x) x (mixed ∙ sym len) ∙ mixed
+length-salsa20_8 x len = grind (arith, common_steps, length-double_rounds, length-zip2)
 
 pub length-chained : (b : List ℕ) (i : ℕ) → length b ≡ 256 → i ≤ 16 → length (x_part b i) ≡ 16
 unfolding x_part
@@ -168,9 +141,7 @@ length-chained b (suc i) len below =
 -- pieces of sixteen, joined
 part_after : (xs ys : List ℕ) (i : ℕ) → length xs ≡ 16 → part 16 (xs ++ ys) (suc i) ≡ part 16 ys i
 unfolding part
-part_after xs ys i len =
-    let at : 16 * suc i ≡ length xs + 16 * i = omega arith in
-    ap (λ n. take 16 (drop n (xs ++ ys))) at ∙ ap (take 16) (drop-append-add xs ys (16 * i))
+part_after xs ys i len = grind (arith, common_steps, drop-append-add)
 
 part-pieces : (f : ℕ → List ℕ) (xs : List ℕ) → ((m : ℕ) → m < length xs → length (f (get_or xs m 0)) ≡ 16) → (i : ℕ) → i < length xs
     → part 16 (flat_map f xs) i ≡ f (get_or xs i 0)
@@ -191,15 +162,10 @@ order = 0 ∷ 2 ∷ 4 ∷ 6 ∷ 8 ∷ 10 ∷ 12 ∷ 14 ∷ 1 ∷ 3 ∷ 5 ∷ 7 �
 
 -- which output stands at place i, and that its place is i
 in_order : (i : ℕ) → i < 16 → (get_or order i 0 < 16) × (get_or order i 0 / 2 + get_or order i 0 % 2 * 8 ≡ i)
-in_order i below =
-    let at : get_or order i 0 ≡ (if nat_lt i 8 then 2 * i else 2 * i - 15) =
-    get_or-map-range_with_len (λ k. if nat_lt k 8 then 2 * k else 2 * k - 15) 0 16 i i 0 below (omega arith) in
-    (grind (arith, nat_tests), grind (arith, nat_tests))
+in_order i below = grind (arith, common_steps)
 
 lengths_of_outputs : (b : List ℕ) → length b ≡ 256 → (m : ℕ) → m < 16 → length (x_part b (get_or order m 0 + 1)) ≡ 16
-lengths_of_outputs b len m below =
-    let few = (in_order m below).0 in
-    length-chained b (get_or order m 0 + 1) len (omega arith)
+lengths_of_outputs b len m below = grind (arith, common_steps, in_order, length-chained)
 
 -- outputs that are turned, each at its place, are the turned block
 pub mixed_turned : (b to : List ℕ) → length b ≡ 256 → ((j : ℕ) → j < 16 → part 16 to (j / 2 + j % 2 * 8) ≡ turned (x_part b (j + 1)))
@@ -215,17 +181,12 @@ mixed_turned b to len h =
     }
 
 pub xor_turned : (a b x y : List ℕ) → IsTurned a x → IsTurned b y → length x ≡ 256 → length y ≡ 256 → IsTurned (xor_words a b) (xor_words x y)
-xor_turned a b x y s t x_len y_len =
-    let same : length a ≡ length b = s.len ∙ sym t.len in
-    record {
-      len = length-zip2 bit_xor a b same ∙ s.len;
-      at = λ i below.
-          part-xor x y (x_len ∙ sym y_len) i ∙ ap₂ xor_words (s.at i below) (t.at i below)
-          ∙ zip2-turned bit_xor (part 16 a i) (part 16 b i) (length-part a i s.len below)
-          (length-part b i t.len below) ∙ ap turned (sym (part-xor a b same i));
-    }
+xor_turned a b x y s t x_len y_len = grind (arith, common_steps, length-part, length-zip2, part-xor, zip2-turned)
 
 -- the first word of the last part stays in its place
 pub word_240 : (b y : List ℕ) → IsTurned b y → get_or y 240 0 ≡ get_or b 240 0
 unfolding turned
 word_240 b y t = get_or-part y 240 ∙ ap (λ x. get_or x 0 0) (t.at 15 (omega arith)) ∙ sym (get_or-part b 240)
+
+-- what a write to one part leaves
+pub ruleset parts_put = (part-put_here, part-put_other)

@@ -1,15 +1,14 @@
 -- The two loops of ROMix, and the words of its bytes.
-use Rattle.std.proofs.Common.{◌≡◌, ◌++◌, ◌+◌, ◌-◌, ◌*◌, ◌/◌, ◌%◌, ◌^◌, ◌<◌, ◌≤◌, ℕ, List, length, take, drop, get_or, sym, ap, ◌∙◌, subst}
-use Rattle.std.proofs.Common.{arith, below_more}
+use Rattle.std.proofs.lemmas.Grind.{common_steps}
+use Rattle.std.proofs.Common.{◌≡◌, ◌++◌, ◌+◌, ◌-◌, ◌*◌, ◌/◌, ◌%◌, ◌^◌, ◌<◌, ◌≤◌, ℕ, List, length, take, drop, get_or, sym, ap, ◌∙◌, arith}
 use Rattle.std.specs.Int.{w32, from_le_bytes}
-use Rattle.std.proofs.Math.Nat.{add-mul-mod_self_left, mul_assoc, div-add-mod, mod-lt, mul-mod_left, pow-le-pow_right}
+use Rattle.std.proofs.Math.Nat.{add-mul-mod_self_left, mul_assoc, div-add-mod, mul-mod_left, pow-le-pow_right}
 use Rattle.std.proofs.Math.Seq.{drop-cons}
-use Rattle.std.proofs.lemmas.List.{get_or-take}
 use Rattle.std.proofs.lemmas.List.FromFn.{fill_by_all}
 use Rattle.std.proofs.lemmas.Nat.{pow-add}
 use Rattle.byteorder.specs.Endian.{little_number, IsRead}
-use Rattle.age_scrypt.specs.Scrypt.{part, v_block, number, integerify, word_at, words_of}
-use Rattle.age_scrypt.specs.inner.Workspace.{IsTable, IsTurned}
+use Rattle.age_scrypt.specs.{part, v_block, number, integerify, word_at, words_of}
+use Rattle.age_scrypt.specs.inner.{IsTable, IsTurned}
 use Rattle.age_scrypt.proofs.PartLemmas.{part-append_left, part-append_right}
 
 -- ---- steps of ROMix's two loops
@@ -38,31 +37,18 @@ power_divides log h =
 -- one more block of the table
 pub table_more : (b : List ℕ) (i : ℕ) (table x : List ℕ) → length table ≡ 256 * i → length x ≡ 256 → IsTable b i table
     → IsTurned (v_block b i) x → IsTable b (i + 1) (table ++ x)
-table_more b i table x len x_len t e = record {
-  at = below_more _ _
-      (λ j below.
-      subst (IsTurned (v_block b j)) (sym (part-append_left 256 table x j (omega arith)))
-      (t.at j below))
-      (subst (IsTurned (v_block b i)) (sym (part-append_right 256 table x i len x_len)) e);
-}
+table_more b i table x len x_len t e = grind (arith, common_steps, part-append_left, part-append_right)
 
 -- the block of the table that a turned block asks for
 pub table_at : (n : ℕ) (b table x : List ℕ) (at : ℕ) → IsTable b n table → 0 < n → at ≡ integerify x % n
     → IsTurned (v_block b (integerify x % n)) (part 256 table at)
-table_at n b table x at t some place =
-    let within : at < n = omega (arith, place, mod-lt (integerify x) some) in
-    subst (λ k. IsTurned (v_block b k) (part 256 table at)) place (t.at at within)
+table_at n b table x at t some place = grind (arith, common_steps)
 
 -- ---- words read from bytes
 
 -- the number that the first four bytes spell
 number_is : (xs : List ℕ) → little_number 4 xs ≡ from_le_bytes w32 (take 4 xs)
-number_is xs = rw (
-  get_or-take 4 xs 0 0 (omega arith),
-  get_or-take 4 xs 1 0 (omega arith),
-  get_or-take 4 xs 2 0 (omega arith),
-  get_or-take 4 xs 3 0 (omega arith),
-) (omega arith)
+number_is xs = grind (arith, common_steps)
 
 pub words_all : (bytes words : List ℕ) → length bytes ≡ 1024 → length words ≡ 256 → IsRead little_number 4 bytes words → words ≡ words_of bytes
 unfolding word_at words_of part

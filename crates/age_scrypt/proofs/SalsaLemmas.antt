@@ -1,13 +1,12 @@
 -- Salsa20/8 on vectors of four words, which are the diagonals of sixteen.
-use Rattle.std.proofs.Common.{◌≡◌, ℕ, ◌-◌, ◌*◌, ◌/◌, ◌%◌, ◌^◌, ◌<◌, List, [], ◌∷◌, ◌++◌, length, map, bit_or, bit_xor, refl, ap, ◌∙◌, zero}
-use Rattle.std.proofs.Common.{suc, arith, sym}
+use Rattle.std.proofs.lemmas.Grind.{common_steps}
+use Rattle.std.proofs.Common.{◌≡◌, ℕ, ◌-◌, ◌*◌, ◌/◌, ◌%◌, ◌^◌, ◌<◌, List, [], ◌∷◌, ◌++◌, length, map, bit_or, bit_xor, refl, ap, zero, suc, arith}
 use Rattle.std.specs.Int.{w32, rotate_left}
 use Rattle.std.specs.Simd.Lanes.{zip2}
 use Rattle.std.proofs.lemmas.Simd.{length-zip2}
 use Rattle.std.proofs.lemmas.List.{length-append}
-use Rattle.age_scrypt.specs.declared.part.Part.{Part}
-use Rattle.age_scrypt.specs.Scrypt.{add32, quarter, columns, rows, double_rounds}
-use Rattle.age_scrypt.specs.inner.Workspace.{quarters, transpose, words, at_places, IsRows, IsDiagonals}
+use Rattle.age_scrypt.specs.{Part, add32, quarter, columns, rows, double_rounds}
+use Rattle.age_scrypt.specs.inner.{quarters, transpose, words, at_places, IsRows, IsDiagonals}
 
 -- ---- vectors of four words
 
@@ -43,13 +42,11 @@ transpose-columns_of-transpose x len = absurd (omega arith)
 
 pub length-columns : (x : List ℕ) → length x ≡ 16 → length (columns x) ≡ 16
 unfolding columns
-length-columns (x0 ∷ x1 ∷ x2 ∷ x3 ∷ x4 ∷ x5 ∷ x6 ∷ x7 ∷ x8 ∷ x9 ∷ x10 ∷ x11 ∷ x12 ∷ x13 ∷ x14 ∷ x15 ∷ []) len = refl
-length-columns x len = absurd (omega arith)
+length-columns x h = grind (arith, common_steps)
 
 pub length-rows : (x : List ℕ) → length x ≡ 16 → length (rows x) ≡ 16
 unfolding rows
-length-rows (x0 ∷ x1 ∷ x2 ∷ x3 ∷ x4 ∷ x5 ∷ x6 ∷ x7 ∷ x8 ∷ x9 ∷ x10 ∷ x11 ∷ x12 ∷ x13 ∷ x14 ∷ x15 ∷ []) len = refl
-length-rows x len = absurd (omega arith)
+length-rows x h = grind (arith, common_steps)
 
 pub length-double_rounds : (n : ℕ) (x : List ℕ) → length x ≡ 16 → length (double_rounds n x) ≡ 16
 unfolding double_rounds
@@ -75,9 +72,6 @@ columns_on_diagonals (x0 ∷ x1 ∷ x2 ∷ x3 ∷ x4 ∷ x5 ∷ x6 ∷ x7 ∷ x8
 }
 columns_on_diagonals x p q len h a b c d = absurd (omega arith)
 
-pub length-words : (p : Part) → length (words p) ≡ 16
-length-words p = omega (arith, length-append {A = ℕ}, p.a_len, p.b_len, p.c_len, p.d_len)
-
 -- an operation on two parts is one on each pair of their vectors
 zip2-append : (f : ℕ → ℕ → ℕ) (xs ys us vs : List ℕ) → length xs ≡ length us → zip2 f (xs ++ ys) (us ++ vs) ≡ zip2 f xs us ++ zip2 f ys vs
 zip2-append f [] ys [] vs len = refl
@@ -86,11 +80,7 @@ zip2-append f (x ∷ xs) ys [] vs len = absurd (omega arith)
 zip2-append f (x ∷ xs) ys (u ∷ us) vs len = ap (λ rest. f x u ∷ rest) (zip2-append f xs ys us vs (omega arith))
 
 pub zip2_words : (f : ℕ → ℕ → ℕ) (p q : Part) → zip2 f (words p) (words q) ≡ zip2 f p.a q.a ++ zip2 f p.b q.b ++ zip2 f p.c q.c ++ zip2 f p.d q.d
-zip2_words f p q =
-    let a : length p.a ≡ length q.a = p.a_len ∙ sym q.a_len in
-    let ab : length (p.a ++ p.b) ≡ length (q.a ++ q.b) = omega (arith, length-append {A = ℕ}, a, p.b_len, q.b_len) in
-    let abc : length (p.a ++ p.b ++ p.c) ≡ length (q.a ++ q.b ++ q.c) = omega (arith, length-append {A = ℕ}, ab, p.c_len, q.c_len) in
-    rw (zip2-append, zip2-append, zip2-append) refl
+zip2_words f p q = grind (arith, common_steps, length-append, zip2-append)
 
 -- an operation on two vectors keeps their length
 pub ruleset vector_lengths = (length-zip2)

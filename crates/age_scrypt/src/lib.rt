@@ -16,8 +16,8 @@
 #![tactic(auto)]
 
 ghost use Rattle.std.specs.Prelude.{◌≡◌, ◌+◌, ◌*◌, ◌^◌, ◌≤◌, IfOk, OnOk, OnErr};
-ghost use Rattle.age_scrypt.specs.Scrypt.{work_factor_limit, scrypt};
-ghost use Rattle.age_scrypt.specs.inner.Workspace.{IsWorkspace};
+ghost use Rattle.age_scrypt.specs.{work_factor_limit, scrypt};
+ghost use Rattle.age_scrypt.specs.inner.{IsWorkspace};
 
 mod fault;
 mod part;

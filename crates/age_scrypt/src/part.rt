@@ -38,7 +38,7 @@ fn write_row(words: &mut [u32], at: usize, row: u32x4)
 }
 
 impl Part {
-    ghost use Rattle.age_scrypt.specs.inner.Workspace.{words};
+    ghost use Rattle.age_scrypt.specs.inner.{words};
 
     /// Part `i` of a block of 256 words, row by row.
     #[inline(always)]
@@ -57,19 +57,28 @@ impl Part {
         }
     }
 
+    /// Writes the rows over sixteen words.
+    #[inline(always)]
+    fn write_over(self, to: &mut [u32])
+        requires { length to.old ≡ 16 }
+        ensures { to.new ≡ words self }
+    {
+        write_row(to, 0, self.a);
+        write_row(to, 4, self.b);
+        write_row(to, 8, self.c);
+        write_row(to, 12, self.d);
+    }
+
     /// Writes the rows over part `i` of a block of 256 words.
     #[inline(always)]
+    #[tactic(auto, using(crate::proofs::PartLemmas::parts_put))]
     pub fn write(self, block: &mut [u32], i: usize)
         requires block { length block.old ≡ 256 }
         requires i { i < 16 }
         ensures here { part 16 block.new i ≡ words self }
         ensures others { (j : ℕ) → j < 16 → j ≢ i → part 16 block.new j ≡ part 16 block.old j }
     {
-        let at = 16 * i;
-        write_row(block, at, self.a);
-        write_row(block, at + 4, self.b);
-        write_row(block, at + 8, self.c);
-        write_row(block, at + 12, self.d);
+        self.write_over(&mut block[16 * i..16 * i + 16]);
     }
 
     /// The exclusive or, word by word.

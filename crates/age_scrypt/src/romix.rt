@@ -1,9 +1,9 @@
 //! ROMix with r = 8 (RFC 7914, section 5), over one flat table of words.
 
 ghost use Rattle.std.specs.Prelude.{◌≡◌, ℕ, ◌+◌, ◌*◌, ◌%◌, ◌^◌, ◌<◌, ◌≤◌, List, length};
-ghost use Rattle.age_scrypt.specs.Scrypt.{xor_words, v_block, integerify, romix, work_factor_limit};
-ghost use Rattle.age_scrypt.specs.inner.Workspace.{IsTable, IsTurned, IsCount, HasTableRoom, AreBlocks};
-ghost use Rattle.age_scrypt.specs.inner.Workspace.{IsWorkspace, IsFilled};
+ghost use Rattle.age_scrypt.specs.{xor_words, v_block, integerify, romix, work_factor_limit};
+ghost use Rattle.age_scrypt.specs.inner.{IsTable, IsTurned, IsCount, HasTableRoom, AreBlocks, IsWorkspace};
+ghost use Rattle.age_scrypt.specs.inner.{IsFilled};
 
 use crate::part::Part;
 use crate::steps::{Steps, block_mix};

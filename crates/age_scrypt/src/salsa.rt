@@ -7,8 +7,8 @@
 ghost use Rattle.std.specs.Prelude.{◌≡◌, ℕ, ◌<◌, List, [], ◌∷◌, length, map, bit_xor, slice_index};
 ghost use Rattle.std.specs.Int.{w32, rotate_left};
 ghost use Rattle.std.specs.Simd.Lanes.{zip2};
-ghost use Rattle.age_scrypt.specs.Scrypt.{add32, rows, columns, salsa20_8};
-ghost use Rattle.age_scrypt.specs.inner.Workspace.{words, IsRows, IsDiagonals, transpose, quarters, turned};
+ghost use Rattle.age_scrypt.specs.{add32, rows, columns, salsa20_8};
+ghost use Rattle.age_scrypt.specs.inner.{words, IsRows, IsDiagonals, transpose, quarters, turned};
 
 use crate::part::Part;
 use std::simd::u32x4;
@@ -42,7 +42,7 @@ fn quarter(p: Part) -> Part
 
 /// The diagonals of the transpose.
 #[inline(always)]
-#[tactic(auto, unfolding(crate::specs::inner::Workspace::transpose))]
+#[tactic(auto, unfolding(crate::specs::inner::transpose))]
 fn transposed(p: Part) -> Part
     ensures { (x : List ℕ) → IsDiagonals x p → IsDiagonals (transpose x) result }
 {

@@ -2,48 +2,27 @@
 //! so that no other code can raise a count.
 
 ghost use Rattle.std.specs.Prelude.{◌≡◌, ℕ, ◌+◌, List, length};
-ghost use Rattle.std.specs.Borrow.{ftrue};
-ghost use Rattle.age_scrypt.specs.Scrypt.{block_mix};
-ghost use Rattle.age_scrypt.specs.inner.Workspace.{IsTurned};
+ghost use Rattle.age_scrypt.specs.{block_mix};
+ghost use Rattle.age_scrypt.specs.inner.{IsTurned};
 
 use crate::part::Part;
 use crate::salsa::salsa20_8;
+use age_io::Tape;
 use std::marker::Model;
-
-/// A number that no code holds: the proofs of `zero` and `raise` set it.
-#[derive(Drop)]
-struct Count {
-    pub ghost number: { ℕ },
-}
-
-impl Model for Count {
-    ghost also_owns = { λ _. ftrue };
-}
-
-impl Count {
-    fn zero() -> Count
-        ensures { result.number ≡ 0 }
-    {
-        Count {}
-    }
-
-    fn raise(&mut self)
-        ensures { self.new.number ≡ self.old.number + 1 }
-    {}
-}
 
 /// A count of steps for contracts alone, which see it as a whole number without a greatest value.
 /// It has no bytes at run time. A step is one BlockMix (RFC 7914, section 4), and nothing else
 /// raises the count.
 #[derive(Drop)]
 pub struct Steps {
-    count: Count,
+    // a byte for each
+    tape: Tape,
 }
 
 impl Model for Steps {
     ghost Value = { ℕ };
 
-    ghost view = { λ steps. steps.count.number };
+    ghost view = { λ steps. length steps.tape };
 }
 
 impl Steps {
@@ -51,16 +30,14 @@ impl Steps {
     pub fn new() -> Steps
         ensures { result ≡ 0 }
     {
-        Steps {
-            count: Count::zero(),
-        }
+        Steps { tape: Tape::new() }
     }
 
     /// One more step.
     fn tick(&mut self)
         ensures { self.new ≡ self.old + 1 }
     {
-        self.count.raise();
+        self.tape.note(&[0]);
     }
 }
 

@@ -2,7 +2,7 @@
 //! turns its block once at its entry, and back at its exit.
 
 ghost use Rattle.std.specs.Prelude.{◌≡◌, List, ℕ, length};
-ghost use Rattle.age_scrypt.specs.inner.Workspace.{IsTurned};
+ghost use Rattle.age_scrypt.specs.inner.{IsTurned};
 
 use crate::part::Part;
 use crate::salsa::{diagonals, rows};

@@ -1,7 +1,7 @@
 //! A block as 1,024 bytes, and as 256 words.
 
 ghost use Rattle.std.specs.Prelude.{◌≡◌, length};
-ghost use Rattle.age_scrypt.specs.Scrypt.{words_of, bytes_of};
+ghost use Rattle.age_scrypt.specs.{words_of, bytes_of};
 
 use byteorder::{ByteOrder, LittleEndian};
 

@@ -1,18 +1,15 @@
 -- It doesn't matter how bytes were cut into pieces.
+use Rattle.std.proofs.lemmas.Grind.{common_steps}
 use Rattle.std.proofs.Common.{◌≡◌, ℕ, ◌<◌, ◌≤◌, ◌+◌, ◌-◌, List, [], ◌∷◌, ◌++◌, length, take, drop, Result, Ok, Err, refl, sym, ap, subst, ◌∙◌, arith, inl, inr}
 use Rattle.std.specs.Prelude.{◌⊎◌}
 use Rattle.std.specs.List.{concat}
 use Rattle.std.proofs.lemmas.Bool.{cases_lt}
 use Rattle.std.proofs.lemmas.List.{append-nil, append_assoc, length-take, take-append-drop, take-append-le, take_all}
 use Rattle.std.proofs.Math.Seq.{take-append-add}
-use Rattle.age_stanza.specs.declared.header.Header.{Header}
-use Rattle.age_stanza.specs.declared.head_step.HeadStep.{HeadStep}
-use Rattle.age_stanza.specs.declared.head_step.HeadStep.TheVariants.{More, Ready}
-use Rattle.age_stanza.specs.declared.fault.HeadFault.{HeadFault}
-use Rattle.age_stanza.specs.Parsing.{memory_fault, Begins, FirstFault, HasHeader, IsLineFault, IsFault, Parsing, reading, complete, refused, IsOpen, FeedsParser}
-use Rattle.age_stanza.specs.Grammar.{line, Spells, HeadText}
-use Rattle.age_stanza.specs.Laws.{Fed, none, more, StandsFor}
-use Rattle.age_stanza.specs.inner.LineMachine.{Fails}
+use Rattle.age_stanza.specs.{Header, HeadStep, More, Ready, HeadFault, memory_fault, Begins, FirstFault, HasHeader, IsLineFault, IsFault, reading, complete}
+use Rattle.age_stanza.specs.{refused, IsOpen, FeedsParser, line, Spells, HeadText, Fed, none, more, StandsFor}
+use Rattle.age_stanza.specs.Parsing.{Parsing}
+use Rattle.age_stanza.specs.inner.{Fails}
 use Rattle.age_stanza.proofs.FaultLemmas.{begins_front, prefix_of}
 
 -- ---- what more bytes leave as it was
@@ -31,15 +28,7 @@ take_more_bytes n bytes piece = elim (cases_lt (length bytes) n) [
 ]
 
 more_first : (bytes rest before l : List ℕ) → FirstFault bytes before l → FirstFault (bytes ++ rest) before l
-more_first bytes rest before l f = record {
-  rest = f.rest ++ rest;
-  parts = ap (λ (t : List ℕ). t ++ rest) f.parts ∙ append_assoc before (line l ++ f.rest) rest
-      ∙ ap (λ (t : List ℕ). before ++ t) (append_assoc (line l) f.rest rest);
-  whole = f.whole;
-  one_line = f.one_line;
-  valid_before = f.valid_before;
-  faulty = f.faulty;
-}
+more_first bytes rest before l f = grind (arith, common_steps, append_assoc)
 
 more_line_fault : (bytes piece : List ℕ) (fault : HeadFault) → IsLineFault (take 1048576 bytes) fault → IsLineFault (take 1048576 (bytes ++ piece)) fault
 more_line_fault bytes piece fault f =

@@ -1,4 +1,5 @@
 -- The bytes of a text in base64.
+use Rattle.std.proofs.lemmas.Grind.{common_steps}
 use Rattle.std.proofs.Common.{◌≡◌, ℕ, ◌+◌, ◌*◌, ◌/◌, ◌≤◌, List, [], length, take, Ok, Err, refl, sym, ap, ◌∙◌, arith, length-take}
 use Rattle.std.specs.Result.{result_unwrap_or}
 use Rattle.base64.specs.declared.decode.DecodeError.{DecodeError}
@@ -6,7 +7,7 @@ use Rattle.age_stanza.proofs.TextLemmas.{length-text}
 use Rattle.base64.specs.GeneralPurpose.{IsBytes, decode_of}
 use Rattle.base64.specs.Engines.{standard_no_pad}
 use Rattle.base64.proofs.EngineFacts.{decode_of-encode_of, decode_of_strict}
-use Rattle.age_stanza.specs.Text.{base64_text}
+use Rattle.age_stanza.specs.{base64_text}
 
 -- what decodes is the text of its bytes
 pub text_of_decoded : (s b : List ℕ) → IsBytes s → decode_of standard_no_pad s ≡ Ok b → s ≡ base64_text b
@@ -27,10 +28,7 @@ same_bytes s a b x y = ap (λ r. result_unwrap_or r []) (sym x ∙ y)
 
 -- what decodes to the front of a longer list is the text of no more bytes than that front has
 pub decoded_size : (s b out : List ℕ) (n : ℕ) → n ≤ length out → decode_of standard_no_pad s ≡ Ok (take n out) → IsBytes b → s ≡ base64_text b → n ≡ length b
-decoded_size s b out n room e fits is =
-    let same : take n out ≡ b = same_bytes s (take n out) b e (decoded_of_text s b fits is) in
-    let l : length (take n out) ≡ length b = ap length same in
-    omega (arith, l, length-take n out)
+decoded_size s b out n room e fits is = grind (arith, common_steps, decoded_of_text, length-take, same_bytes)
 
 pub never_decodes : (s b : List ℕ) (error : DecodeError) → decode_of standard_no_pad s ≡ Err error → IsBytes b → s ≡ base64_text b → ⊥
 never_decodes s b error e fits is = cc (sym e ∙ decoded_of_text s b fits is)

@@ -1,25 +1,20 @@
 -- A line that is refused is the first faulty one, finished lines and a begun one have none, and no bytes have two first faults.
-use Rattle.std.proofs.Common.{◌≡◌, ℕ, ◌<◌, ◌≤◌, ◌+◌, eqb, nat_eq, cond, List, [], ◌∷◌, ◌++◌, length, take, drop, Some, None, Ok, Err, refl, sym, ap, ap₂, subst, ◌∙◌, arith, inl, inr}
-use Rattle.std.specs.Prelude.{codes, count_by, if◌then◌else◌}
-use Rattle.std.specs.List.{flat_map, AllByRecursion, starts_with}
+use Rattle.std.proofs.lemmas.Grind.{common_steps}
+use Rattle.std.proofs.lemmas.Bool.Decides.{eqb_tells}
+use Rattle.std.proofs.Common.{◌≡◌, ℕ, ◌<◌, ◌≤◌, ◌+◌, eqb, nat_eq, cond, List, [], ◌∷◌, ◌++◌, length, take, drop, Some, None, Ok, Err, refl, sym, ap, ap₂, subst}
+use Rattle.std.proofs.Common.{◌∙◌, arith, inl, inr}
+use Rattle.std.specs.Prelude.{count_by, if◌then◌else◌}
+use Rattle.std.specs.List.{flat_map, AllByRecursion}
 use Rattle.std.proofs.lemmas.Bool.{ne_eqb, cases_lt}
 use Rattle.std.proofs.lemmas.Option.{none-some}
-use Rattle.std.proofs.lemmas.Bool.Decides.{eqb_tells}
-use Rattle.std.proofs.lemmas.List.{append-nil, append_assoc, append_cancel_left, length-append, same_from_push, take_all, take_at, take-append-drop, take-append-le}
+use Rattle.std.proofs.lemmas.List.{append-nil, append_assoc, append_cancel_left, length-append, same_from_push, take_all, take_at, take-append-drop}
+use Rattle.std.proofs.lemmas.List.{take-append-le}
 use Rattle.std.proofs.lemmas.List.Sums.{sum_by-append, sum_by-cons}
 use Rattle.base64.specs.GeneralPurpose.{IsBytes}
-use Rattle.age_stanza.specs.declared.header.Stanza.{Stanza}
-use Rattle.age_stanza.specs.declared.fault.HeadKind.{HeadKind}
-use Rattle.age_stanza.specs.declared.fault.HeadKind.TheVariants.{NotAge, Armored, BadStanzaLine, BadBody, BadEndLine, NoStanza, HeadTooLong, HeadCut, Memory}
-use Rattle.age_stanza.specs.declared.fault.HeadFault.{HeadFault}
-use Rattle.age_stanza.specs.declared.place.Place.{Place}
-use Rattle.age_stanza.specs.declared.place.Place.TheVariants.{Start, Between, InBody}
-use Rattle.age_stanza.specs.declared.place.Next.TheVariants.{Go}
-use Rattle.age_stanza.specs.Grammar.{line, version, stanza_text, end_line, head_text, IsStanza, IsHeader, Spells}
-use Rattle.age_stanza.specs.Parsing.{Begins, IsLine, AreLines, FirstFault, stanzas_text, IsEndLine, RefusesBetween, RefusesLine, line_after, NoFault, HasHeader}
-use Rattle.age_stanza.specs.Parsing.{IsLineFault, IsFault, head_fault_number}
-use Rattle.age_stanza.specs.inner.LineMachine.{base64_bytes, walk, step, arguments_of, fault_at, bytes_before}
-use Rattle.age_stanza.specs.inner.LineMachine.{IsPlace, LeadTo, UnderWay, Fails}
+use Rattle.age_stanza.specs.{Stanza, HeadKind, NotAge, Armored, BadStanzaLine, BadBody, BadEndLine, NoStanza, HeadTooLong, HeadCut, Memory, HeadFault, Place}
+use Rattle.age_stanza.specs.{Start, Between, InBody, Go, line, version, stanza_text, end_line, head_text, IsStanza, IsHeader, Spells, Begins, IsLine, AreLines}
+use Rattle.age_stanza.specs.{FirstFault, stanzas_text, RefusesBetween, RefusesLine, line_after, NoFault, HasHeader, IsLineFault, IsFault, head_fault_number}
+use Rattle.age_stanza.specs.inner.{base64_bytes, walk, step, arguments_of, fault_at, bytes_before, IsPlace, LeadTo, UnderWay, Fails}
 use Rattle.age_stanza.proofs.TextLemmas.{bytes_from_pass, no_bytes, IsBytes-append, decoded-text, text-none}
 use Rattle.age_stanza.proofs.LineLemmas.{tested, All-append, All-front, All-back}
 use Rattle.age_stanza.proofs.PlaceLemmas.{stanzas_pushed, Reports, Leads, leads, walk_line, step_last, stanzas_walk, end_walk, text_walk}
@@ -36,16 +31,10 @@ count_none (c ∷ l) lined =
     sum_by-cons ends_line c l ∙ rw other (rw (count_none l lined.1) refl)
 
 pub line_after-begun : (front l : List ℕ) → IsLine l → line_after (front ++ l) ≡ line_after front
-line_after-begun front l lined =
-    let both : count_by (λ c. eqb c 10) (front ++ l) ≡ count_by (λ c. eqb c 10) front + count_by (λ c. eqb c 10) l = sum_by-append ends_line front l in
-    let none = count_none l lined in
-    omega (arith, both, none)
+line_after-begun front l lined = grind (arith, common_steps, count_none, sum_by-append)
 
 pub line_after-line : (front l : List ℕ) → IsLine l → line_after (front ++ line l) ≡ line_after front + 1
-line_after-line front l lined =
-    let both : count_by (λ c. eqb c 10) ((front ++ l) ++ 10 ∷ []) ≡ count_by (λ c. eqb c 10) (front ++ l) + 1 = sum_by-append ends_line (front ++ l) (10 ∷ []) in
-    let begun = line_after-begun front l lined in
-    ap line_after (sym (append_assoc front l (10 ∷ []))) ∙ omega (arith, both, begun)
+line_after-line front l lined = grind (arith, common_steps, append_assoc, line_after-begun, sum_by-append)
 
 -- ---- where finished lines lead
 
@@ -320,37 +309,17 @@ kind_of n =
     else if eqb n 6 then NoStanza else if eqb n 7 then HeadTooLong else if eqb n 8 then HeadCut else Memory
 
 numbered : (k : HeadKind) → kind_of (head_fault_number k) ≡ k
-numbered NotAge = refl
-numbered Armored = refl
-numbered BadStanzaLine = refl
-numbered BadBody = refl
-numbered BadEndLine = refl
-numbered NoStanza = refl
-numbered HeadTooLong = refl
-numbered HeadCut = refl
-numbered Memory = refl
+numbered k = grind (arith, common_steps)
 
 -- kinds that can't differ are equal
 same_unless : (k k' : HeadKind) → ((k ≡ k' → ⊥) → ⊥) → k ≡ k'
-same_unless k k' never = elim (eqb_tells (head_fault_number k) (head_fault_number k')) [
-  | inl same ↦ sym (numbered k) ∙ ap kind_of same.1 ∙ numbered k'
-  | inr other ↦ absurd (never (λ e. other.1 (ap head_fault_number e)))
-]
+same_unless k k' never = grind (arith, common_steps, eqb_tells, numbered)
 
 same_between : (l : List ℕ) (k k' : HeadKind) → RefusesBetween l k → RefusesBetween l k' → k ≡ k'
-same_between l k k' r r' = same_unless k k' (λ other. elim (tested (starts_with nat_eq l (codes "---"))) [
-  | inl starts ↦
-      let no_end : IsEndLine l → ⊥ = λ ends. other (r.no_stanza ends ∙ sym (r'.no_stanza ends)) in
-      other (r.bad_end starts no_end ∙ sym (r'.bad_end starts no_end))
-  | inr starts ↦ other (r.bad_stanza starts ∙ sym (r'.bad_stanza starts))
-])
+same_between l k k' r r' = grind (arith, common_steps, same_unless, tested)
 
 same_kind : (before l : List ℕ) (k k' : HeadKind) → RefusesLine before l k → RefusesLine before l k' → k ≡ k'
-same_kind before l k k' r r' = same_unless k k' (λ other.
-    let some : before ≡ [] → ⊥ = λ none. other (r.first none ∙ sym (r'.first none)) in
-    let elsewhere : (ss : List Stanza) → AllByRecursion IsStanza ss → before ≡ stanzas_text ss → ⊥ =
-    λ ss valid is. other (same_between l k k' (r.between ss valid is) (r'.between ss valid is)) in
-    other (r.in_body some elsewhere ∙ sym (r'.in_body some elsewhere)))
+same_kind before l k k' r r' = grind (arith, common_steps, same_between, same_unless)
 
 abbrev made : HeadKind → ℕ → HeadFault
 made k n = record { kind = k; line = n }

@@ -1,18 +1,12 @@
 -- Finished lines, and the line that is begun after them.
+use Rattle.std.proofs.lemmas.Grind.{common_steps}
 use Rattle.std.proofs.Common.{◌≡◌, ℕ, ◌+◌, ◌<◌, List, [], ◌∷◌, ◌++◌, length, take, Ok, Err, refl, sym, ap, subst, ◌∙◌, arith, inl, inr}
 use Rattle.std.specs.Prelude.{◌⊎◌}
 use Rattle.std.proofs.lemmas.List.{append-nil, append_assoc, length-append, take_all, take_at}
 use Rattle.base64.specs.GeneralPurpose.{IsBytes}
-use Rattle.age_stanza.specs.declared.header.Header.{Header}
-use Rattle.age_stanza.specs.declared.fault.HeadFault.{HeadFault}
-use Rattle.age_stanza.specs.declared.fault.HeadKind.{HeadKind}
-use Rattle.age_stanza.specs.declared.fault.HeadKind.TheVariants.{HeadCut, HeadTooLong, Memory}
-use Rattle.age_stanza.specs.declared.place.Place.{Place}
-use Rattle.age_stanza.specs.declared.place.Place.TheVariants.{Start}
-use Rattle.age_stanza.specs.declared.place.Next.TheVariants.{Go, Done}
-use Rattle.age_stanza.specs.Grammar.{line, Spells}
-use Rattle.age_stanza.specs.Parsing.{IsLine, AreLines, line_after}
-use Rattle.age_stanza.specs.inner.LineMachine.{step, fault_at, bytes_before, Fails, IsPartial, IsUnfinished, LeadTo}
+use Rattle.age_stanza.specs.{Header, HeadFault, HeadKind, HeadCut, HeadTooLong, Memory, Place, Go, line, Spells, IsLine, AreLines, line_after}
+use Rattle.age_stanza.specs.declared.place.Next.TheVariants.{Done}
+use Rattle.age_stanza.specs.inner.{step, fault_at, bytes_before, Fails, IsPartial, IsUnfinished, LeadTo}
 use Rattle.age_stanza.proofs.TextLemmas.{no_bytes, IsBytes-append, IsLine-append}
 use Rattle.age_stanza.proofs.LineLemmas.{All-front}
 use Rattle.age_stanza.proofs.PlaceLemmas.{Leads, leads}
@@ -22,17 +16,11 @@ use Rattle.age_stanza.proofs.FaultLemmas.{line_after-begun, line_after-line, at_
 
 -- finished lines and a begun one hold no header and no fault
 pub under_way : (place : Place) (bytes lines : ℕ) (l held : List ℕ) → IsPartial place l bytes lines → bytes_before place ++ l ≡ held → IsUnfinished held
-under_way place bytes lines l held known is = record {
-  goes_on = record { place = place; n = lines + 1; l = l; led = known.lead_to; one_line = known.one_line; parts = sym is };
-  are_bytes = subst IsBytes is (IsBytes-append (bytes_before place) l known.lead_to.are_bytes known.line_bytes);
-}
+under_way place bytes lines l held known is = grind (arith, common_steps, IsBytes-append)
 
 -- nothing came yet
 pub nothing_under_way : IsUnfinished []
-nothing_under_way = record {
-  goes_on = record { place = Start; n = 1; l = []; led = at_start; one_line = tt; parts = refl };
-  are_bytes = no_bytes;
-}
+nothing_under_way = grind (arith, common_steps, at_start, no_bytes)
 
 -- ---- the number of the line
 
@@ -48,22 +36,11 @@ cut_here place bytes lines l held known is =
 
 -- the line of the last byte, if that is the LF of a finished line
 last_finished : (held : List ℕ) (lines n : ℕ) → AreLines held → length held ≡ n + 1 → lines + 1 ≡ line_after held → lines ≡ line_after (take n held)
-last_finished held lines n (inl none) size line_count =
-    let nothing = ap length none in
-    absurd (omega (arith, nothing))
-last_finished held lines n (inr (front, is)) size line_count =
-    let long : length front ≡ n = omega (arith, ap length is, length-append front (10 ∷ [])) in
-    let cut : take n held ≡ front = ap (take n) is ∙ take_at front (10 ∷ []) n long in
-    let more : line_after held ≡ line_after front + 1 = ap line_after is ∙ line_after-line front [] tt in
-    let here : lines ≡ line_after front = omega arith in
-    here ∙ ap line_after (sym cut)
+last_finished held lines n h0 h1 h2 = grind (arith, common_steps, length-append, line_after-line, take_at)
 
 pub finished_number : (place : Place) (lines n : ℕ) (l held : List ℕ) → LeadTo place (lines + 1) → length l ≡ 0 → bytes_before place ++ l ≡ held
     → length held ≡ n + 1 → lines ≡ line_after (take n held)
-finished_number place lines n [] held led none is size =
-    let all : bytes_before place ≡ held = sym (append-nil (bytes_before place)) ∙ is in
-    last_finished held lines n (subst AreLines all led.are_lines) size (led.line_is ∙ ap line_after all)
-finished_number place lines n (x ∷ l) held led none is size = absurd (omega arith)
+finished_number place lines n l held h0 h1 h2 h3 = grind (arith, common_steps, append-nil, last_finished)
 
 -- the line of the last byte, if that is a character of the begun line
 pub begun_number_of_last : (place : Place) (k n : ℕ) (l held : List ℕ) → LeadTo place k → IsLine l → (length l ≡ 0 → ⊥) → bytes_before place ++ l ≡ held
@@ -126,9 +103,7 @@ module _ (place : Place) (bytes lines : ℕ) (l more held : List ℕ) (known : I
       )
 
   pub ended_whole : (h : Header) → step place (l ++ more) ≡ Ok (Done h) → Spells h (held ++ line more)
-  ended_whole h e =
-      let done = subst (Leads place (l ++ more)) e to in
-      record { valid = done.1; bytes_are = sym (done.0 ∙ joined) }
+  ended_whole h e = grind (arith, common_steps, joined, to)
 
   pub ended_faulty : (kind : HeadKind) → (kind ≡ Memory) ⊎ (step place (l ++ more) ≡ Err kind) → Fails (fault_at kind (lines + 1)) (held ++ line more)
   ended_faulty kind (inl memory) = record { why = inl (rw memory refl) }

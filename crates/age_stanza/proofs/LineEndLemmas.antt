@@ -1,14 +1,13 @@
 -- Where the first line of some bytes ends, and the first argument of a line.
-use Rattle.std.proofs.Common.{◌≡◌, ℕ, zero, suc, ◌<◌, ◌≤◌, ◌+◌, ◌-◌, false, eqb, List, [], ◌∷◌, ◌++◌, length, get_or, take, drop, Some, None, refl, sym, ap, ◌∙◌}
-use Rattle.std.proofs.Common.{arith, inl, inr}
+use Rattle.std.proofs.Common.{◌≡◌, ℕ, zero, suc, ◌<◌, ◌≤◌, ◌+◌, ◌-◌, false, eqb, List, [], ◌∷◌, ◌++◌, length, get_or, take, drop, Some, None, refl, sym, ap}
+use Rattle.std.proofs.Common.{◌∙◌, arith, inl, inr}
 use Rattle.std.specs.List.{AllByRecursion, position, position_from}
 use Rattle.std.proofs.lemmas.Bool.{eqb-true, eqb-false}
 use Rattle.std.proofs.lemmas.Iterator.Adapters.{position_from-zero}
 use Rattle.std.proofs.lemmas.List.{append_assoc, length-append, length-drop, length-take, take-append-drop, drop_more, take_more, take_rest}
 use Rattle.std.proofs.lemmas.List.Quantifiers.{position-Some}
 use Rattle.std.proofs.Math.Seq.{take-add}
-use Rattle.age_stanza.specs.Grammar.{line}
-use Rattle.age_stanza.specs.Parsing.{IsLine}
+use Rattle.age_stanza.specs.{line, IsLine}
 use Rattle.age_stanza.proofs.LineLemmas.{chosen}
 
 part_of_front : (mark i : ℕ) (xs : List ℕ) → ((k : ℕ) → k < i → eqb (get_or xs k 0) mark ≡ false) → AllByRecursion (λ c. c ≡ mark → ⊥) (take i xs)

@@ -1,10 +1,11 @@
 -- The lines of a header: a body's, an argument line, an end line.
-use Rattle.std.proofs.Common.{◌≡◌, ℕ, zero, suc, ◌<◌, ◌≤◌, ◌+◌, ◌*◌, ◌/◌, ◌%◌, Bool, true, false, cond, ltb, eqb, nat_eq, List, [], ◌∷◌, ◌++◌, length}
-use Rattle.std.proofs.Common.{take, drop, Option, Some, None, refl, sym, ap, ◌∙◌, arith, inl, inr}
+use Rattle.std.proofs.lemmas.Grind.{common_steps}
+use Rattle.std.proofs.lemmas.Bool.Decides.{Decides-eqb}
+use Rattle.std.proofs.Common.{◌≡◌, ℕ, zero, suc, ◌<◌, ◌≤◌, ◌+◌, ◌*◌, ◌/◌, ◌%◌, Bool, true, false, cond, ltb, eqb, nat_eq, List, [], ◌∷◌, ◌++◌, length, take}
+use Rattle.std.proofs.Common.{drop, Option, Some, None, refl, sym, ap, ◌∙◌, arith, inl, inr}
 use Rattle.std.specs.Prelude.{codes, ◌⊎◌}
 use Rattle.std.specs.List.{All, flat_map, list_all, join_with_byte, AllByRecursion, starts_with}
 use Rattle.std.proofs.lemmas.Bool.{eqb-true, eq-eqb, ne_eqb, ltb-true, lt-ltb, and_parts, and_from}
-use Rattle.std.proofs.lemmas.Bool.Decides.{Decides-eqb}
 use Rattle.std.specs.Simd.{first_chunks}
 use Rattle.std.proofs.lemmas.List.{append-nil, append_assoc, length-append, length-take, length-drop, take_at, drop_at, drop-drop, take-append-drop}
 use Rattle.std.proofs.lemmas.List.Elements.{All-from_recursion}
@@ -12,9 +13,8 @@ use Rattle.std.proofs.lemmas.List.Splits.{join_with_byte-slice_split, length-sli
 use Rattle.std.proofs.lemmas.Slice.Eq.{starts_is}
 use Rattle.std.proofs.lemmas.Option.{cond_some}
 use Rattle.base64.specs.GeneralPurpose.{IsBytes}
-use Rattle.age_stanza.specs.inner.LineMachine.{whole_lines, base64_bytes, at_spaces, tests_argument, arguments_from, arguments_of, mac_of, whole_mac}
-use Rattle.age_stanza.specs.Text.{base64_text}
-use Rattle.age_stanza.specs.Grammar.{line, IsArgument, argument_line, in_lines, end_line}
+use Rattle.age_stanza.specs.inner.{whole_lines, base64_bytes, at_spaces, tests_argument, arguments_from, arguments_of, mac_of, whole_mac}
+use Rattle.age_stanza.specs.{base64_text, line, IsArgument, argument_line, in_lines, end_line}
 use Rattle.age_stanza.proofs.ElementLemmas.{all_from_test, all_map, test_from_all, visible_from_test, test_from_visible}
 use Rattle.age_stanza.proofs.TextLemmas.{text_of_decoded, decoded-text, IsBytes-drop, text-append, length-text}
 
@@ -57,9 +57,7 @@ whole_lines-full l rest len =
 
 pub in_lines-short : (l : List ℕ) → length l < 64 → in_lines l ≡ line l
 unfolding in_lines
-in_lines-short l lt =
-    let none : length l / 64 ≡ 0 = omega arith in
-    ap (λ (n : ℕ). flat_map line (first_chunks 64 n l) ++ line (drop (n * 64) l)) none
+in_lines-short l lt = grind (arith, common_steps)
 
 pub in_lines-full : (l rest : List ℕ) → length l ≡ 64 → in_lines (l ++ rest) ≡ line l ++ in_lines rest
 unfolding in_lines whole_lines
@@ -86,15 +84,7 @@ length-first_lines (suc n) cs le = omega (
 
 pub length-in_lines : (cs : List ℕ) → length (in_lines cs) ≡ length cs + length cs / 64 + 1
 unfolding in_lines
-length-in_lines cs =
-    let n = length cs / 64 in
-    omega (
-      arith,
-      length-append (flat_map line (first_chunks 64 n cs)) (line (drop (n * 64) cs)),
-      length-first_lines n cs (omega arith),
-      length-append (drop (n * 64) cs) (10 ∷ []),
-      length-drop (n * 64) cs,
-    )
+length-in_lines cs = grind (arith, common_steps, length-append, length-drop, length-first_lines)
 
 -- ---- a body in lines: each but the last spells 48 bytes
 
@@ -113,10 +103,7 @@ last_line body lt = in_lines-short (base64_text body) (omega (arith, length-text
 -- a line more is written
 pub line_written : (out next all rest : List ℕ) → 48 ≤ length rest → next ≡ out ++ line (base64_text (take 48 rest))
     → out ++ in_lines (base64_text rest) ≡ all → next ++ in_lines (base64_text (drop 48 rest)) ≡ all
-line_written out next all rest le puts same =
-    let after = in_lines (base64_text (drop 48 rest)) in
-    ap (λ (t : List ℕ). t ++ after) puts ∙ append_assoc out (line (base64_text (take 48 rest))) after
-    ∙ ap (λ (t : List ℕ). out ++ t) (sym (full_line rest le)) ∙ same
+line_written out next all rest le puts same = grind (arith, common_steps, append_assoc, full_line)
 
 -- the last line is written
 pub last_written : (out next all rest : List ℕ) → length rest < 48 → next ≡ out ++ line (base64_text rest) → out ++ in_lines (base64_text rest) ≡ all
@@ -175,9 +162,7 @@ words_spaced w (v ∷ vs) valid all =
     words_next w (v ++ spaced vs) (visible_other 32 w (omega arith) valid.1) ∙ ap (λ (ws : List (List ℕ)). w ∷ ws) (words_spaced v vs all.0 all.1)
 
 argument_from_test : (w : List ℕ) → tests_argument w ≡ true → IsArgument w
-argument_from_test w e =
-    let parts = and_parts (ltb 0 (length w)) _ e in
-    (ltb-true 0 (length w) parts.0, visible_from_test w parts.1)
+argument_from_test w e = grind (arith, common_steps, and_parts, ltb-true, visible_from_test)
 
 test_from_argument : (w : List ℕ) → IsArgument w → tests_argument w ≡ true
 test_from_argument w valid = and_from (ltb 0 (length w)) _ (lt-ltb 0 (length w) valid.0) (test_from_visible w valid.1)
@@ -189,10 +174,7 @@ next_argument done w ws valid = rw (test_from_argument w valid, append_assoc) re
 
 pub bad_argument : (done : List (List ℕ)) (w : List ℕ) (ws : List (List ℕ)) → (IsArgument w → ⊥) → arguments_from done (w ∷ ws) ≡ None
 unfolding arguments_from
-bad_argument done w ws bad = elim (tested (tests_argument w)) [
-  | inl is ↦ absurd (bad (argument_from_test w is))
-  | inr other ↦ rw other refl
-]
+bad_argument done w ws bad = grind (arith, common_steps, argument_from_test, tested)
 
 pub none_left : (done : List (List ℕ)) → arguments_from done [] ≡ Some done
 unfolding arguments_from
@@ -218,10 +200,7 @@ read_argument_line (a ∷ as') some valid =
 -- ---- an end line
 
 whole_is : (o : Option (List ℕ)) (mac : List ℕ) → whole_mac o ≡ Some mac → (o ≡ Some mac) × (length mac ≡ 32)
-whole_is None mac e = absurd cc
-whole_is (Some m) mac e =
-    let parts = cond_some (eqb (length m) 32) m mac e in
-    (rw parts.1 refl, rw (← parts.1) (eqb-true (length m) 32 parts.0))
+whole_is o mac h0 = grind (arith, common_steps, cond_some, eqb-true)
 
 pub end_line_read : (l mac : List ℕ) → IsBytes l → mac_of l ≡ Some mac → (l ≡ end_line mac) × (length mac ≡ 32) × IsBytes mac
 unfolding mac_of
@@ -245,9 +224,7 @@ unfolding mac_of
 no_end_line l e = rw e refl
 
 pub mac_is : (l mac : List ℕ) → starts_with nat_eq l (codes "--- ") ≡ true → drop 4 l ≡ base64_text mac → length mac ≡ 32 → IsBytes mac → Some mac ≡ mac_of l
-mac_is l mac starts is long fits =
-    let whole : l ≡ end_line mac = starts_at l (codes "--- ") starts ∙ ap (λ (xs : List ℕ). codes "--- " ++ xs) is in
-    sym (ap mac_of whole ∙ read_end_line mac long fits)
+mac_is l mac starts is long fits = grind (arith, common_steps, read_end_line, starts_at)
 
 none_unless : (o : Option (List ℕ)) → ((mac : List ℕ) → o ≡ Some mac → ⊥) → None ≡ o
 none_unless None never = refl

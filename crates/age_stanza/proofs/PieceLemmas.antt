@@ -1,17 +1,11 @@
 -- A header that comes in pieces.
+use Rattle.std.proofs.lemmas.Grind.{common_steps}
 use Rattle.std.proofs.Common.{◌≡◌, ℕ, ◌<◌, ◌≤◌, ◌-◌, List, ◌++◌, length, take, drop, Some, None, Result, Ok, Err, refl, ap, subst, ◌∙◌, arith}
 use Rattle.std.proofs.lemmas.List.{append_assoc, length-append, length-take, take-append-drop, take-take}
-use Rattle.age_stanza.specs.declared.header.Header.{Header}
-use Rattle.age_stanza.specs.declared.fault.HeadFault.{HeadFault}
-use Rattle.age_stanza.specs.declared.head_step.HeadStep.{HeadStep}
-use Rattle.age_stanza.specs.declared.head_step.HeadStep.TheVariants.{More, Ready}
+use Rattle.age_stanza.specs.{Header, HeadFault, HeadStep, More, Ready, Failed, HeadText, Spells, HasHeader, FeedsParser, IsParsing, reading, parsing_of}
 use Rattle.age_stanza.specs.declared.parser.State.{State}
-use Rattle.age_stanza.specs.declared.parser.State.TheVariants.{Done, Failed}
-use Rattle.age_stanza.specs.Grammar.{HeadText, Spells}
-use Rattle.age_stanza.specs.inner.LineMachine.{Fails, TakesPiece, UnderWay}
-use Rattle.age_stanza.specs.inner.Closing.{closed_by}
-use Rattle.age_stanza.specs.Parsing.{HasHeader, FeedsParser, IsParsing, reading}
-use Rattle.age_stanza.specs.Laws.{parsing_of}
+use Rattle.age_stanza.specs.declared.parser.State.TheVariants.{Done}
+use Rattle.age_stanza.specs.inner.{Fails, TakesPiece, UnderWay, closed_by}
 use Rattle.age_stanza.proofs.AnyPiecesLemmas.{fails_more}
 use Rattle.age_stanza.proofs.FaultLemmas.{no_fault, none_begun}
 
@@ -24,12 +18,7 @@ none_held held _ h = none_begun held h
 -- a header that ends inside it
 pub found_in : (held piece : List ℕ) (room taken : ℕ) (h : Header) → room ≡ 1048576 - length held → length held < 1048576
     → taken ≤ length (take room piece) → Spells h (held ++ take taken (take room piece)) → (taken ≤ length piece) × HeadText h (held ++ take taken piece)
-found_in held piece room taken h room-is lt le spells =
-    let size = length-take room piece in
-    let cut : take taken (take room piece) ≡ take taken piece = take-take taken room piece (omega arith) in (
-      omega arith,
-      record { spells = rw cut at spells; within = omega (arith, length-append held (take taken piece), length-take taken piece) },
-    )
+found_in held piece room taken h room-is lt le spells = grind (arith, common_steps, length-append, length-take, take-take)
 
 -- a fault
 pub fails_in : (held piece : List ℕ) (room : ℕ) (fault : HeadFault) → Fails fault (held ++ take room piece) → Fails fault (held ++ piece)

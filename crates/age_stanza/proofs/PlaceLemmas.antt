@@ -1,4 +1,5 @@
 -- Where the lines of a header lead: each to a place that says of the bytes before it what they are, and those of a header's text to the header.
+use Rattle.std.proofs.lemmas.Grind.{common_steps}
 use Rattle.std.proofs.Common.{◌≡◌, ℕ, zero, suc, ◌<◌, ◌≤◌, ◌+◌, ◌*◌, ◌/◌, ◌%◌, Bool, true, false, cond, ltb, eqb, nat_eq, ◌||◌, List, [], ◌∷◌, ◌++◌, length}
 use Rattle.std.proofs.Common.{take, drop, Option, Some, None, Result, Ok, Err, refl, sym, ap, ◌∙◌, arith, inl, inr}
 use Rattle.std.specs.Prelude.{codes}
@@ -10,24 +11,17 @@ use Rattle.std.proofs.lemmas.List.Concat.{flat_map-append}
 use Rattle.std.proofs.lemmas.Option.{none-some, same_Some}
 use Rattle.std.proofs.lemmas.Slice.Eq.{bytes_eq-Decides}
 use Rattle.base64.specs.GeneralPurpose.{IsBytes}
-use Rattle.age_stanza.specs.declared.header.Stanza.{Stanza}
-use Rattle.age_stanza.specs.declared.header.Header.{Header}
-use Rattle.age_stanza.specs.declared.fault.HeadKind.{HeadKind}
-use Rattle.age_stanza.specs.declared.fault.HeadKind.TheVariants.{NotAge, Armored, BadBody, Memory}
-use Rattle.age_stanza.specs.declared.place.Place.{Place}
-use Rattle.age_stanza.specs.declared.place.Place.TheVariants.{Start, Between, InBody}
+use Rattle.age_stanza.specs.{Stanza, Header, HeadKind, NotAge, Armored, BadBody, Memory, Place, Start, Between, InBody, Go, base64_text, line, version}
+use Rattle.age_stanza.specs.{IsArgument, argument_line, in_lines, stanza_text, end_line, head_text, IsStanza, IsHeader, Spells, HeadText, mac_text, IsLine}
+use Rattle.age_stanza.specs.{stanzas_text, armor, IsEndLine, RefusesBetween}
 use Rattle.age_stanza.specs.declared.place.Next.{Next}
-use Rattle.age_stanza.specs.declared.place.Next.TheVariants.{Go, Done}
-use Rattle.age_stanza.specs.Text.{base64_text}
-use Rattle.age_stanza.specs.Grammar.{line, version, IsArgument, argument_line, in_lines, stanza_text, end_line, head_text, IsStanza, IsHeader, Spells, HeadText}
-use Rattle.age_stanza.specs.Grammar.{mac_text}
-use Rattle.age_stanza.specs.Parsing.{IsLine, stanzas_text, armor, IsEndLine, RefusesBetween}
-use Rattle.age_stanza.specs.inner.LineMachine.{base64_bytes, walk, after, step, end_line_result, argument_line_result, body_line_result, arguments_of}
-use Rattle.age_stanza.specs.inner.LineMachine.{mac_of, whole_lines, bytes_before, IsPlace}
+use Rattle.age_stanza.specs.declared.place.Next.TheVariants.{Done}
+use Rattle.age_stanza.specs.inner.{base64_bytes, walk, after, step, end_line_result, argument_line_result, body_line_result, arguments_of, mac_of, whole_lines}
+use Rattle.age_stanza.specs.inner.{bytes_before, IsPlace}
 use Rattle.age_stanza.proofs.TextLemmas.{text-append, text-none, length-text, text_of_decoded, decoded-text, no_bytes, IsBytes-append, IsBytes-take}
 use Rattle.age_stanza.proofs.TextLemmas.{IsBytes-drop, IsLine-append, text_line, line_from_test}
-use Rattle.age_stanza.proofs.LineLemmas.{visible_other, by_test, starts_from, All-append, whole_lines-full, in_lines-full, in_lines-short, full_line}
-use Rattle.age_stanza.proofs.LineLemmas.{last_line, argument_line_read, read_argument_line, end_line_read, read_end_line}
+use Rattle.age_stanza.proofs.LineLemmas.{visible_other, by_test, starts_from, All-append, whole_lines-full, in_lines-full, in_lines-short, full_line, last_line}
+use Rattle.age_stanza.proofs.LineLemmas.{argument_line_read, read_argument_line, end_line_read, read_end_line}
 
 regrouped : (a b c d : List ℕ) → a ++ (b ++ (c ++ d)) ≡ (a ++ (b ++ c)) ++ d
 regrouped a b c d = simp append_assoc
@@ -66,10 +60,7 @@ body_lines f full body more l whole is one =
     ∙ whole_before f full (length body / 48) (base64_text body) l lines ∙ ap (λ (t : List ℕ). whole_lines (base64_text body) ++ t) one
 
 pub stanzas_pushed : (ss : List Stanza) (s : Stanza) → stanzas_text (ss ++ s ∷ []) ≡ stanzas_text ss ++ stanza_text s
-stanzas_pushed ss s =
-    ap (λ (t : List ℕ). line version ++ t)
-    (flat_map-append stanza_text ss (s ∷ []) ∙ ap (λ (t : List ℕ). flat_map stanza_text ss ++ t) (append-nil (stanza_text s)))
-    ∙ sym (append_assoc (line version) (flat_map stanza_text ss) (stanza_text s))
+stanzas_pushed ss s = grind (arith, common_steps, append-nil, append_assoc, flat_map-append)
 
 -- ---- what a line leads to
 
@@ -114,15 +105,7 @@ leads_ended (s ∷ ss) l (Some mac) known fits starts is =
 leads_begun : (ss : List Stanza) (l : List ℕ) (o : Option (List (List ℕ))) → AllByRecursion IsStanza ss → starts_with nat_eq l (codes "---") ≡ false
     → arguments_of l ≡ o → Leads (Between ss) l (argument_line_result ss o)
 unfolding whole_lines
-leads_begun ss l None known other is = (
-  record { no_stanza = λ has. absurd (true_false _ (end_starts l has) other); bad_end = λ t _. absurd (true_false _ t other); bad_stanza = λ _. refl },
-  λ e. cc,
-)
-leads_begun ss l (Some args) known other is =
-    let read = argument_line_read l args is in (
-      rw (text-none, read.0) (ap (λ (t : List ℕ). stanzas_text ss ++ t) (append-nil (line (argument_line args)))),
-      (known, read.1, read.2, no_bytes, refl),
-    )
+leads_begun ss l o h0 h1 h2 = grind (arith, common_steps, append-nil, argument_line_read, end_starts, no_bytes, text-none, true_false)
 
 leads_body : (ss : List Stanza) (args : List (List ℕ)) (body l : List ℕ) (full : Bool) (o : Option (List ℕ)) → IsPlace (InBody ss args body) → IsBytes l
     → length l ≤ 64 → eqb (length l) 64 ≡ full → base64_bytes l ≡ o → Leads (InBody ss args body) l (body_line_result ss args body full o)
@@ -151,17 +134,7 @@ leads_body ss args body l false (Some more) known fits le long is =
 
 pub leads : (place : Place) (l : List ℕ) → IsPlace place → IsBytes l → Leads place l (step place l)
 unfolding step
-leads Start l known fits =
-    by_test (Leads Start l) (bytes_eq l version) _ _ (λ h. (rw ((bytes_eq-Decides l version).0 h) (append-nil (line version)), tt))
-    (λ h. by_test (λ (r : Result Next HeadKind). Leads Start l r) (bytes_eq l armor || bytes_eq l (armor ++ 13 ∷ [])) (Err Armored) (Err NotAge)
-    (λ g. (rw g refl, λ e. cc)) (λ g. (rw g refl, λ e. cc)))
-leads (Between ss) l known fits =
-    by_test (Leads (Between ss) l) (starts_with nat_eq l (codes "---")) (end_line_result ss (mac_of l)) (argument_line_result ss (arguments_of l))
-    (λ h. leads_ended ss l (mac_of l) known fits h refl) (λ h. leads_begun ss l (arguments_of l) known h refl)
-leads (InBody ss args body) l known fits =
-    by_test (Leads (InBody ss args body) l) (ltb 64 (length l)) (Err BadBody) (body_line_result ss args body (eqb (length l) 64) (base64_bytes l))
-    (λ h. (refl, λ e. cc))
-    (λ h. leads_body ss args body l (eqb (length l) 64) (base64_bytes l) known fits (ltb-false 64 (length l) h) refl refl)
+leads place l h0 h1 = grind (arith, common_steps, append-nil, by_test, bytes_eq-Decides, leads_begun, leads_body, leads_ended, ltb-false)
 
 -- ---- lines hold no end of line
 
@@ -223,10 +196,7 @@ PassesBody ss args body rest cs = walk (InBody ss args body) [] (in_lines (base6
     ≡ walk (Between (ss ++ (record { args = args; body = body ++ rest }) ∷ [])) [] cs
 
 last_body : (ss : List Stanza) (args : List (List ℕ)) (body rest cs : List ℕ) → length rest < 48 → IsBytes rest → PassesBody ss args body rest cs
-last_body ss args body rest cs lt fits =
-    let short : length (base64_text rest) < 64 = omega (arith, length-text rest) in
-    rw (last_line rest lt) (walk_line (InBody ss args body) (base64_text rest) cs _ (text_line rest)
-    (step_last ss args body (base64_text rest) rest short (decoded-text rest fits)))
+last_body ss args body rest cs lt fits = grind (arith, common_steps, decoded-text, last_line, length-text, step_last, text_line, walk_line)
 
 body_walk : (fuel : ℕ) (ss : List Stanza) (args : List (List ℕ)) (body rest cs : List ℕ) → length rest ≤ fuel → IsBytes rest → PassesBody ss args body rest cs
 body_walk zero ss args body rest cs le fits = last_body ss args body rest cs (omega arith) fits

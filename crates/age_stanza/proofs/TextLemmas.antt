@@ -1,4 +1,5 @@
 -- The text of bytes, and the bytes of a text.
+use Rattle.std.proofs.lemmas.Grind.{common_steps}
 use Rattle.std.proofs.Common.{◌≡◌, ℕ, zero, suc, ◌+◌, ◌≤◌, ◌*◌, ◌/◌, ◌%◌, true, not, ltb, eqb, List, [], ◌∷◌, ◌++◌, length, get_or, take, drop, Option, Some}
 use Rattle.std.proofs.Common.{None, Result, Ok, Err, refl, sym, ap, subst, ◌∙◌, arith}
 use Rattle.std.specs.List.{list_all}
@@ -13,11 +14,9 @@ use Rattle.base64.specs.Rfc4648.{encode_symbols}
 use Rattle.base64.specs.declared.decode.DecodeError.{DecodeError}
 use Rattle.base64.proofs.EngineFacts.{decode_of-encode_of, decode_of_strict, encode_of-append, front_bytes}
 use Rattle.base64.proofs.RoundTrip.{length-encode_symbols}
-use Rattle.age_stanza.specs.Text.{base64_text}
+use Rattle.age_stanza.specs.{base64_text, IsLine, character, IsBase64}
 use Rattle.age_stanza.proofs.ElementLemmas.{all_from_test}
-use Rattle.age_stanza.specs.Parsing.{IsLine}
-use Rattle.age_stanza.specs.Laws.{character, IsBase64}
-use Rattle.age_stanza.specs.inner.LineMachine.{base64_bytes, only_bytes}
+use Rattle.age_stanza.specs.inner.{base64_bytes, only_bytes}
 
 pub bytes_pass : (b : List ℕ) → IsBytes b → list_all (λ x. ltb x 256) b ≡ true
 bytes_pass [] h = refl
@@ -90,10 +89,7 @@ pub text-three : (a b c : ℕ) (rest : List ℕ)
     → base64_text (a ∷ b ∷ c ∷ rest) ≡ character (a / 4) ∷ character (a % 4 * 16 + b / 16) ∷ character (b % 16 * 4 + c / 64) ∷ character (c % 64) ∷
     base64_text rest
 unfolding encode_symbols
-text-three a b c rest =
-    text-symbols (a ∷ b ∷ c ∷ rest)
-    ∙ ap (λ (more : List ℕ). character (a / 4) ∷ character (a % 4 * 16 + b / 16) ∷ character (b % 16 * 4 + c / 64) ∷ character (c % 64) ∷ more)
-    (sym (text-symbols rest))
+text-three a b c rest = grind (arith, common_steps, text-symbols)
 
 pub text_is_base64 : IsBase64
 text_is_base64 = record { none = text-none; one = text-one; two = text-two; three = text-three }
@@ -106,10 +102,7 @@ unfolding base64_text
 text-append a b whole = encode_of-append standard_no_pad a b whole
 
 some_if_bytes : (o : Option (List ℕ)) (b : List ℕ) → only_bytes o ≡ Some b → (o ≡ Some b) × IsBytes b
-some_if_bytes None b e = absurd cc
-some_if_bytes (Some xs) b e =
-    let parts = cond_some (list_all (λ x. ltb x 256) xs) xs b e in
-    (rw parts.1 refl, rw (← parts.1) (bytes_from_pass xs parts.0))
+some_if_bytes o b h0 = grind (arith, common_steps, bytes_from_pass, cond_some)
 
 ok_if_some : (r : Result (List ℕ) DecodeError) (b : List ℕ) → result_ok r ≡ Some b → r ≡ Ok b
 ok_if_some (Ok x) b e = cc

@@ -2,8 +2,8 @@
 
 ghost use Rattle.std.specs.Prelude.{◌≡◌, ◌==◌, ◌≤◌, ◌++◌, ◌∷◌, [], length, true, false, IfOk, Some, None};
 ghost use Rattle.std.specs.List.{position};
-ghost use Rattle.age_stanza.specs.Grammar.{IsArgument};
-ghost use Rattle.age_stanza.specs.inner.LineMachine.{arguments_from, arguments_of as spec_arguments_of, at_spaces};
+ghost use Rattle.age_stanza.specs.{IsArgument};
+ghost use Rattle.age_stanza.specs.inner.{arguments_from, arguments_of as spec_arguments_of, at_spaces};
 
 use crate::argument::{Argument, Arguments};
 use crate::valid::is_argument;

@@ -2,10 +2,8 @@
 
 ghost use Rattle.std.specs.Prelude.{◌≡◌, ◌++◌, ◌∷◌, ◌≤◌, length, IfOk, IfErr, OnOk};
 ghost use Rattle.std.specs.List.{flat_map};
-ghost use Rattle.age_stanza.specs.Text.{base64_text};
-ghost use Rattle.age_stanza.specs.Grammar.{line, in_lines, stanza_text, head_text, HeadText, HasText};
-ghost use Rattle.age_stanza.specs.Grammar.{mac_text};
-ghost use Rattle.age_stanza.specs.Parsing.{memory_fault};
+ghost use Rattle.age_stanza.specs.{base64_text, line, in_lines, stanza_text, head_text, HeadText, HasText};
+ghost use Rattle.age_stanza.specs.{mac_text, memory_fault};
 
 use crate::argument::Argument;
 use crate::fault::HeadFault;

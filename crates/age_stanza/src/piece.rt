@@ -2,8 +2,8 @@
 
 ghost use Rattle.std.specs.Prelude.{◌≡◌, ◌==◌, ◌+◌, ◌<◌, ◌≤◌, length, take};
 ghost use Rattle.std.specs.List.{position};
-ghost use Rattle.age_stanza.specs.Grammar.{header_limit};
-ghost use Rattle.age_stanza.specs.inner.LineMachine.{ReadsLines, TakesPiece};
+ghost use Rattle.age_stanza.specs.{header_limit};
+ghost use Rattle.age_stanza.specs.inner.{ReadsLines, TakesPiece};
 
 use crate::HEAD_MAX;
 use crate::fault::HeadFault;

@@ -4,8 +4,8 @@
 ghost use Rattle.std.specs.Prelude.{◌≡◌, ◌≢◌, ◌≤◌, ℕ, List, length, take, Some, None, IfSome, IfNone};
 ghost use Rattle.std.specs.Bool.{OnTrue, OnFalse};
 ghost use Rattle.base64.specs.GeneralPurpose.{IsBytes};
-ghost use Rattle.age_stanza.specs.inner.LineMachine.{base64_bytes, mac_of as spec_mac_of};
-ghost use Rattle.age_stanza.specs.Text.{base64_text};
+ghost use Rattle.age_stanza.specs.inner.{base64_bytes, mac_of as spec_mac_of};
+ghost use Rattle.age_stanza.specs.{base64_text};
 
 use base64::engine::general_purpose::STANDARD_NO_PAD;
 

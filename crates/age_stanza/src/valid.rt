@@ -3,9 +3,8 @@
 ghost use Rattle.std.specs.Prelude.{◌≡◌, ◌↔◌, ◌≤◌, ◌+◌, ◌*◌, ◌/◌, ◌∷◌, ◌&&◌, IsTrue, length, nat_le};
 ghost use Rattle.std.specs.List.{flat_map, list_all};
 ghost use Rattle.base64.specs.GeneralPurpose.{IsBytes};
-ghost use Rattle.age_stanza.specs.Text.{base64_text};
-ghost use Rattle.age_stanza.specs.Grammar.{IsArgument, HasText, in_lines, header_limit};
-ghost use Rattle.age_stanza.specs.inner.Lengths.{HasArguments, Leaves, LeavesAfterStanza, IsHeaderLength};
+ghost use Rattle.age_stanza.specs.{base64_text, IsArgument, HasText, in_lines, header_limit};
+ghost use Rattle.age_stanza.specs.inner.{HasArguments, Leaves, LeavesAfterStanza, IsHeaderLength};
 
 use crate::HEAD_MAX;
 use crate::argument::Argument;

@@ -1,7 +1,7 @@
 use Rattle.std.proofs.Common.{map, take, ◌++◌}
 use Rattle.std.specs.List.{concat}
 use Rattle.sha2.specs.Hashers.{Holds256}
-use Rattle.age_kdf.specs.Derivation.{xor_pad}
+use Rattle.age_kdf.specs.{xor_pad}
 use Rattle.age_kdf.proofs.hmac_of_block.Given as goal
 
 -- the inner hasher holds the xor_pad key and the parts so far

@@ -1,6 +1,6 @@
 use Rattle.std.proofs.Common.{◌++◌, length, ap₂}
 use Rattle.std.proofs.lemmas.List.{drop-replicate}
-use Rattle.age_kdf.specs.Derivation.{key_with_zeros}
+use Rattle.age_kdf.specs.{key_with_zeros}
 use Rattle.age_kdf.proofs.key_with_zeros.Goals as goal
 
 pub returns : goal.returns

@@ -1,5 +1,5 @@
 use Rattle.std.proofs.Common.{◌≡◌, ◌*◌, length, take}
-use Rattle.age_kdf.proofs.BlockLemmas.{joined}
+use Rattle.age_kdf.proofs.{joined}
 use Rattle.age_kdf.proofs.pbkdf2_once.Given as goal
 
 -- the blocks so far stand in front, the last of them as far as there is room

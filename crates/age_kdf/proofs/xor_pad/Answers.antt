@@ -1,7 +1,7 @@
 use Rattle.std.proofs.Common.{rules}
 use Rattle.std.specs.Prelude.{bit_xor}
-use Rattle.age_kdf.specs.Derivation.{xor_pad}
-use Rattle.age_kdf.proofs.BlockLemmas.{mapped_is}
+use Rattle.age_kdf.specs.{xor_pad}
+use Rattle.age_kdf.proofs.{mapped_is}
 use Rattle.age_kdf.proofs.xor_pad.Goals as goal
 
 pub returns : goal.returns

@@ -1,8 +1,7 @@
 //! Where a line leads, by its place.
 
-ghost use Rattle.age_stanza.specs.inner.LineMachine.{Gives, step as step_of, end_line_result};
-ghost use Rattle.age_stanza.specs.inner.LineMachine.{argument_line_result, mac_of as spec_mac_of};
-ghost use Rattle.age_stanza.specs.inner.LineMachine.{AddsLine, arguments_of as spec_arguments_of};
+ghost use Rattle.age_stanza.specs.inner.{Gives, step as step_of, end_line_result, argument_line_result};
+ghost use Rattle.age_stanza.specs.inner.{mac_of as spec_mac_of, AddsLine, arguments_of as spec_arguments_of};
 
 use super::{ARMOR, ARMOR_CR, Next, Place};
 use crate::argument::Arguments;

@@ -1,5 +1,5 @@
 use Rattle.std.proofs.Common.{◌≢◌, ◌<◌, ℕ, length, arith, below_more, get_or-set_other, get_or-set_same}
-use Rattle.age_cipher.proofs.KeystreamLemmas.{word_drawn}
+use Rattle.age_cipher.proofs.{word_drawn}
 use Rattle.age_cipher.proofs.keystream.draw.Goals as goal
 
 pub loop-k-preserved : goal.loop-k-preserved

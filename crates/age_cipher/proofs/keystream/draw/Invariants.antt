@@ -1,5 +1,5 @@
 use Rattle.std.proofs.Common.{◌≡◌, ◌<◌, ℕ, slice_index}
-use Rattle.age_cipher.proofs.KeystreamLemmas.{generator_on, word_on}
+use Rattle.age_cipher.proofs.{generator_on, word_on}
 use Rattle.age_cipher.proofs.keystream.draw.Given as goal
 
 abbrev pub invariant-loop-k : goal.invariant-loop-k

@@ -1,6 +1,6 @@
 use Rattle.std.proofs.Common.{◌*◌, ap, arith}
 use Rattle.rand_chacha.specs.ChaCha.{ChaCha}
-use Rattle.age_cipher.proofs.KeystreamLemmas.{generator_on, word_on, drawn_none, drawn_more}
+use Rattle.age_cipher.proofs.{generator_on, word_on, drawn_none, drawn_more}
 use Rattle.age_cipher.proofs.keystream.draw_blocks.Goals as goal
 
 pub returns : goal.returns

@@ -1,6 +1,6 @@
 use Rattle.std.proofs.Common.{◌^◌, take, refl}
 use lib.Lanes.{digits_l, number_l}
-use Rattle.age_cipher.proofs.KeystreamLemmas.{lanes_xored}
+use Rattle.age_cipher.proofs.{lanes_xored}
 use Rattle.age_cipher.proofs.lanes.xor_lanes.Goals as goal
 
 pub returns : goal.returns

@@ -1,5 +1,5 @@
-use Rattle.age_cipher.specs.inner.Places.{word_byte}
-use Rattle.age_cipher.proofs.KeystreamLemmas.{IsXoredBelow}
+use Rattle.age_cipher.specs.inner.{word_byte}
+use Rattle.age_cipher.proofs.{IsXoredBelow}
 use Rattle.age_cipher.proofs.lanes.xor_rest.Given as goal
 
 abbrev pub invariant-loop-k : goal.invariant-loop-k

@@ -1,6 +1,6 @@
 use Rattle.std.proofs.Common.{◌≡◌, ◌-◌, ◌*◌, ◌/◌, ℕ, List, length, take, drop, arith}
-use Rattle.age_cipher.specs.inner.Places.{word_byte}
-use Rattle.age_cipher.proofs.KeystreamLemmas.{part_xored, word_byte-part, all_xored}
+use Rattle.age_cipher.specs.inner.{word_byte}
+use Rattle.age_cipher.proofs.{part_xored, word_byte-part, all_xored}
 use Rattle.age_cipher.proofs.lanes.xor_words.Goals as goal
 
 pub returns : goal.returns

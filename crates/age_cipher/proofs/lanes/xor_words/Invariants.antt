@@ -1,6 +1,6 @@
 use Rattle.std.proofs.Common.{◌*◌}
-use Rattle.age_cipher.specs.inner.Places.{word_byte}
-use Rattle.age_cipher.proofs.KeystreamLemmas.{IsXoredBelow}
+use Rattle.age_cipher.specs.inner.{word_byte}
+use Rattle.age_cipher.proofs.{IsXoredBelow}
 use Rattle.age_cipher.proofs.lanes.xor_words.Given as goal
 
 abbrev pub invariant-loop-i : goal.invariant-loop-i

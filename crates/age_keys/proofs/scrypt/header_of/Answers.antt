@@ -1,7 +1,7 @@
 use Rattle.std.proofs.Common.{refl, arith}
 use Rattle.std.specs.Prelude.{replicate}
-use Rattle.age_stanza.proofs.TextLemmas.{bytes_from_pass}
-use Rattle.age_keys.proofs.ScryptLemmas.{scrypt_has_text}
+use Rattle.age_stanza.proofs.{bytes_from_pass}
+use Rattle.age_keys.proofs.{scrypt_has_text}
 use Rattle.age_keys.proofs.scrypt.header_of.Goals as goal
 
 pub returns-clause-text : goal.returns-clause-text

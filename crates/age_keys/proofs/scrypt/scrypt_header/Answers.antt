@@ -1,5 +1,5 @@
 use Rattle.std.proofs.Common.{arith}
-use Rattle.age_keys.proofs.ScryptLemmas.{scrypt_head_is, other_mac}
+use Rattle.age_keys.proofs.{scrypt_head_is, other_mac}
 use Rattle.age_keys.proofs.scrypt.scrypt_header.Goals as goal
 
 pub returns-clause-head : goal.returns-clause-head

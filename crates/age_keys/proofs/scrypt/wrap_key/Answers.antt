@@ -1,8 +1,8 @@
 use Rattle.std.proofs.Common.{◌≡◌, List, ℕ, ap, ap₂, ◌++◌, ◌∙◌, length, refl}
 use Rattle.std.specs.Prelude.{codes}
-use Rattle.age_scrypt.specs.Scrypt.{scrypt}
-use Rattle.age_keys.specs.Scrypt.{wrap_key}
-use Rattle.age_keys.proofs.StanzaLemmas.{over_the_end}
+use Rattle.age_scrypt.specs.{scrypt}
+use Rattle.age_keys.specs.{wrap_key}
+use Rattle.age_keys.proofs.{over_the_end}
 use Rattle.age_keys.proofs.scrypt.wrap_key.Goals as goal
 
 pub returns-clause-key : goal.returns-clause-key

@@ -1,6 +1,6 @@
 use Rattle.std.proofs.Common.{take}
 use Rattle.std.specs.List.{AllByRecursion}
-use Rattle.age_keys.specs.X25519.{IsBadStanza}
+use Rattle.age_keys.specs.{IsBadStanza}
 use Rattle.age_keys.proofs.shared_secret.has_bad.Given as goal
 
 abbrev pub invariant-loop-stanza : goal.invariant-loop-stanza

@@ -1,5 +1,5 @@
 use Rattle.std.proofs.Common.{◌++◌, ◌∙◌, List, ℕ, refl, ap₂}
-use Rattle.age_keys.proofs.StanzaLemmas.{over_the_end}
+use Rattle.age_keys.proofs.{over_the_end}
 use Rattle.age_keys.proofs.shared_secret.hkdf_salt.Goals as goal
 
 pub returns : goal.returns

@@ -1,9 +1,8 @@
 use Rattle.std.proofs.Common.{◌≡◌, ◌+◌, ◌-◌, ◌*◌, ◌++◌, ℕ, List, length, take, drop, refl, ap, arith, add-one}
 use Rattle.std.proofs.lemmas.List.{length-append}
 use Rattle.std.proofs.lemmas.Slice.{pushed}
-use Rattle.age_scrypt.specs.Scrypt.{part, v_block}
-use Rattle.age_scrypt.proofs.PartLemmas.{part-append_right}
-use Rattle.age_scrypt.proofs.RomixLemmas.{table_more}
+use Rattle.age_scrypt.specs.{part, v_block}
+use Rattle.age_scrypt.proofs.{part-append_right, table_more}
 use Rattle.age_scrypt.proofs.romix.fill.Goals as goal
 
 pub loop-i-preserved : goal.loop-i-preserved

@@ -1,6 +1,6 @@
 use Rattle.std.proofs.Common.{◌≡◌, ◌+◌, ◌*◌, ◌≤◌, ℕ, List, vec_len, vec_capacity}
-use Rattle.age_scrypt.specs.Scrypt.{v_block}
-use Rattle.age_scrypt.specs.inner.Workspace.{IsTable, IsTurned}
+use Rattle.age_scrypt.specs.{v_block}
+use Rattle.age_scrypt.specs.inner.{IsTable, IsTurned}
 use Rattle.age_scrypt.proofs.romix.fill.Given as goal
 
 abbrev pub invariant-loop-i : goal.invariant-loop-i

@@ -1,8 +1,7 @@
 use Rattle.std.proofs.Common.{◌≡◌, ◌+◌, ◌-◌, ◌*◌, ℕ, List, length, arith, add-one}
 use Rattle.std.proofs.lemmas.List.{length-take, length-drop}
-use Rattle.age_scrypt.specs.Scrypt.{part, xor_words, x_block}
-use Rattle.age_scrypt.proofs.PartLemmas.{xor_turned}
-use Rattle.age_scrypt.proofs.RomixLemmas.{table_at}
+use Rattle.age_scrypt.specs.{part, xor_words, x_block}
+use Rattle.age_scrypt.proofs.{xor_turned, table_at}
 use Rattle.age_scrypt.proofs.romix.look_up.Goals as goal
 
 pub loop-round-preserved : goal.loop-round-preserved

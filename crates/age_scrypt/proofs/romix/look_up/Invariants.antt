@@ -1,6 +1,6 @@
 use Rattle.std.proofs.Common.{◌≡◌, ◌+◌, ℕ, List}
-use Rattle.age_scrypt.specs.Scrypt.{v_block, x_block}
-use Rattle.age_scrypt.specs.inner.Workspace.{IsTable, IsTurned}
+use Rattle.age_scrypt.specs.{v_block, x_block}
+use Rattle.age_scrypt.specs.inner.{IsTable, IsTurned}
 use Rattle.age_scrypt.proofs.romix.look_up.Given as goal
 
 abbrev pub invariant-loop-round : goal.invariant-loop-round

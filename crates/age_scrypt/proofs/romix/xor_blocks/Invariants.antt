@@ -1,5 +1,5 @@
 use Rattle.std.proofs.Common.{◌≡◌, ◌<◌, ℕ}
-use Rattle.age_scrypt.specs.Scrypt.{part, xor_words}
+use Rattle.age_scrypt.specs.{part, xor_words}
 use Rattle.age_scrypt.proofs.romix.xor_blocks.Given as goal
 
 abbrev pub invariant-loop-i : goal.invariant-loop-i

@@ -1,5 +1,5 @@
-use Rattle.age_scrypt.specs.Scrypt.{columns}
-use Rattle.age_scrypt.proofs.SalsaLemmas.{length-columns, length-transpose, transpose-columns_of-transpose, columns_on_diagonals}
+use Rattle.age_scrypt.specs.{columns}
+use Rattle.age_scrypt.proofs.{length-columns, length-transpose, transpose-columns_of-transpose, columns_on_diagonals}
 use Rattle.age_scrypt.proofs.salsa.double_round.Goals as goal
 
 pub returns : goal.returns

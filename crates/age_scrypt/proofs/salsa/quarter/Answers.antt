@@ -1,4 +1,4 @@
-use Rattle.age_scrypt.proofs.SalsaLemmas.{quarter_lanes}
+use Rattle.age_scrypt.proofs.{quarter_lanes}
 use Rattle.age_scrypt.proofs.salsa.quarter.Goals as goal
 
 pub returns : goal.returns

@@ -1,9 +1,8 @@
 use Rattle.std.proofs.Common.{◌≡◌, ◌∙◌, ℕ, List, ap, ap₂, add-one, arith}
 use Rattle.std.specs.Simd.Lanes.{zip2}
-use Rattle.age_scrypt.specs.Scrypt.{add32, double_rounds, salsa20_8}
-use Rattle.age_scrypt.specs.inner.Workspace.{words, turned}
-use Rattle.age_scrypt.proofs.SalsaLemmas.{length-double_rounds}
-use Rattle.age_scrypt.proofs.PartLemmas.{diagonals_of_words, words_of_diagonals, zip2-turned}
+use Rattle.age_scrypt.specs.{add32, double_rounds, salsa20_8}
+use Rattle.age_scrypt.specs.inner.{words, turned}
+use Rattle.age_scrypt.proofs.{length-double_rounds, diagonals_of_words, words_of_diagonals, zip2-turned}
 use Rattle.age_scrypt.proofs.salsa.salsa20_8.Goals as goal
 
 pub loop-round-init : goal.loop-round-init

@@ -1,6 +1,6 @@
 use Rattle.std.proofs.Common.{◌≡◌, ℕ, List, length}
-use Rattle.age_scrypt.specs.Scrypt.{double_rounds}
-use Rattle.age_scrypt.specs.inner.Workspace.{words, IsDiagonals, turned}
+use Rattle.age_scrypt.specs.{double_rounds}
+use Rattle.age_scrypt.specs.inner.{words, IsDiagonals, turned}
 use Rattle.age_scrypt.proofs.salsa.salsa20_8.Given as goal
 
 abbrev pub invariant-loop-round : goal.invariant-loop-round

@@ -1,8 +1,8 @@
 use Rattle.std.proofs.Common.{ap, bit_xor, arith}
 use Rattle.std.specs.Simd.Lanes.{zip2}
 use Rattle.std.proofs.lemmas.Simd.{length-zip2}
-use Rattle.age_scrypt.specs.Scrypt.{add32}
-use Rattle.age_scrypt.proofs.SalsaLemmas.{shifts_rotate}
+use Rattle.age_scrypt.specs.{add32}
+use Rattle.age_scrypt.proofs.{shifts_rotate}
 use Rattle.age_scrypt.proofs.salsa.xor_rotated.Goals as goal
 
 pub returns : goal.returns

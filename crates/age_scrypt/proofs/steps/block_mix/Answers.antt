@@ -1,8 +1,8 @@
 use Rattle.std.proofs.Common.{◌≡◌, ◌+◌, ◌*◌, ◌/◌, ◌%◌, ◌<◌, ◌∙◌, ℕ, List, bit_xor, sym, ap₂, arith, add-one, below_more}
 use Rattle.std.proofs.lemmas.Simd.{length-zip2}
-use Rattle.age_scrypt.specs.Scrypt.{part, x_part, xor_words}
-use Rattle.age_scrypt.specs.inner.Workspace.{words, turned, IsTurned}
-use Rattle.age_scrypt.proofs.PartLemmas.{zip2-turned, length-part, length-chained, mixed_turned}
+use Rattle.age_scrypt.specs.{part, x_part, xor_words}
+use Rattle.age_scrypt.specs.inner.{words, turned, IsTurned}
+use Rattle.age_scrypt.proofs.{zip2-turned, length-part, length-chained, mixed_turned}
 use Rattle.age_scrypt.proofs.steps.block_mix.Goals as goal
 
 pub loop-i-preserved : goal.loop-i-preserved

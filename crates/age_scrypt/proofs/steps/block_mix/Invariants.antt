@@ -1,6 +1,6 @@
 use Rattle.std.proofs.Common.{◌≡◌, ◌+◌, ◌*◌, ◌/◌, ◌%◌, ◌<◌, ℕ, List}
-use Rattle.age_scrypt.specs.Scrypt.{part, x_part}
-use Rattle.age_scrypt.specs.inner.Workspace.{words, turned, IsTurned}
+use Rattle.age_scrypt.specs.{part, x_part}
+use Rattle.age_scrypt.specs.inner.{words, turned, IsTurned}
 use Rattle.age_scrypt.proofs.steps.block_mix.Given as goal
 
 abbrev pub invariant-loop-i : goal.invariant-loop-i

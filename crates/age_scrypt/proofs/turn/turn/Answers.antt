@@ -1,7 +1,6 @@
 use Rattle.std.proofs.Common.{◌∙◌, ap, arith, below_more}
-use Rattle.age_scrypt.specs.inner.Workspace.{words, turned}
-use Rattle.age_scrypt.proofs.SalsaLemmas.{rows_of_words}
-use Rattle.age_scrypt.proofs.PartLemmas.{words_of_diagonals}
+use Rattle.age_scrypt.specs.inner.{words, turned}
+use Rattle.age_scrypt.proofs.{rows_of_words, words_of_diagonals}
 use Rattle.age_scrypt.proofs.turn.turn.Goals as goal
 
 pub loop-i-preserved : goal.loop-i-preserved

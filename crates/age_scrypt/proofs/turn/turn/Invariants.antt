@@ -1,6 +1,6 @@
 use Rattle.std.proofs.Common.{◌≡◌, ◌<◌, ℕ}
-use Rattle.age_scrypt.specs.Scrypt.{part}
-use Rattle.age_scrypt.specs.inner.Workspace.{turned}
+use Rattle.age_scrypt.specs.{part}
+use Rattle.age_scrypt.specs.inner.{turned}
 use Rattle.age_scrypt.proofs.turn.turn.Given as goal
 
 abbrev pub invariant-loop-i : goal.invariant-loop-i

@@ -1,8 +1,7 @@
 use Rattle.std.proofs.Common.{◌<◌, ◌∙◌, ℕ, List, arith, below_more}
-use Rattle.age_scrypt.specs.Scrypt.{part}
-use Rattle.age_scrypt.specs.inner.Workspace.{IsDiagonals}
-use Rattle.age_scrypt.proofs.SalsaLemmas.{words_of_rows}
-use Rattle.age_scrypt.proofs.PartLemmas.{diagonals_of_words, length-part, same_parts}
+use Rattle.age_scrypt.specs.{part}
+use Rattle.age_scrypt.specs.inner.{IsDiagonals}
+use Rattle.age_scrypt.proofs.{words_of_rows, diagonals_of_words, length-part, same_parts}
 use Rattle.age_scrypt.proofs.turn.turn_back.Goals as goal
 
 pub loop-i-preserved : goal.loop-i-preserved

@@ -1,6 +1,6 @@
 use Rattle.std.proofs.Common.{◌≡◌, ◌<◌, ℕ, List}
-use Rattle.age_scrypt.specs.Scrypt.{part}
-use Rattle.age_scrypt.specs.inner.Workspace.{IsTurned}
+use Rattle.age_scrypt.specs.{part}
+use Rattle.age_scrypt.specs.inner.{IsTurned}
 use Rattle.age_scrypt.proofs.turn.turn_back.Given as goal
 
 abbrev pub invariant-loop-i : goal.invariant-loop-i

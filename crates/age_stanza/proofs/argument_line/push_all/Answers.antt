@@ -1,9 +1,8 @@
 use Rattle.std.proofs.Common.{[], ◌+◌, Some, ap, sym, ◌∙◌, arith}
 use Rattle.std.proofs.lemmas.Result.{IfOk-weaker}
 use Rattle.std.proofs.lemmas.List.{take_rest, length-drop}
-use Rattle.age_stanza.specs.inner.LineMachine.{arguments_from, at_spaces}
-use Rattle.age_stanza.proofs.LineEndLemmas.{first_part, no_part}
-use Rattle.age_stanza.proofs.LineLemmas.{bad_argument, next_argument, none_left, words_last, words_next}
+use Rattle.age_stanza.specs.inner.{arguments_from, at_spaces}
+use Rattle.age_stanza.proofs.{first_part, no_part, bad_argument, next_argument, none_left, words_last, words_next}
 use Rattle.age_stanza.proofs.argument_line.push_all.Goals as goal
 
 pub returns-then-not-branch-clause-refused : goal.returns-then-not-branch-clause-refused

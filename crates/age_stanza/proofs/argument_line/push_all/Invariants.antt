@@ -1,5 +1,5 @@
 use Rattle.std.proofs.Common.{◌≡◌, ◌≤◌, length}
-use Rattle.age_stanza.specs.inner.LineMachine.{arguments_from, at_spaces}
+use Rattle.age_stanza.specs.inner.{arguments_from, at_spaces}
 use Rattle.age_stanza.proofs.argument_line.push_all.Given as goal
 
 -- what is left gives the answer

@@ -1,6 +1,6 @@
 use Rattle.std.proofs.Common.{arith}
 use Rattle.std.proofs.lemmas.Result.{on_ok_weaker}
-use Rattle.age_stanza.proofs.LineLemmas.{line_written, last_written}
+use Rattle.age_stanza.proofs.{line_written, last_written}
 use Rattle.age_stanza.proofs.encode.put_body.Goals as goal
 
 pub loop-rest-preserved : goal.loop-rest-preserved

@@ -1,6 +1,5 @@
 use Rattle.std.proofs.Common.{◌≡◌, ◌++◌, length}
-use Rattle.age_stanza.specs.Text.{base64_text}
-use Rattle.age_stanza.specs.Grammar.{in_lines}
+use Rattle.age_stanza.specs.{base64_text, in_lines}
 use Rattle.age_stanza.proofs.encode.put_body.Given as goal
 
 -- what was written and the lines of what is left are all the lines

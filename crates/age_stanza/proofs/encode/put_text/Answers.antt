@@ -1,8 +1,7 @@
 use Rattle.std.proofs.Common.{◌≡◌, ◌≤◌, ◌*◌, ◌+◌, ◌/◌, ◌∙◌, length, take, sym, ap, arith}
 use Rattle.std.proofs.lemmas.List.{take_at}
-use Rattle.age_stanza.specs.Text.{base64_text}
-use Rattle.age_stanza.proofs.TextLemmas.{length-text}
-use Rattle.age_stanza.proofs.ElementLemmas.{on_ok}
+use Rattle.age_stanza.specs.{base64_text}
+use Rattle.age_stanza.proofs.{length-text, on_ok}
 use Rattle.age_stanza.proofs.encode.put_text.Goals as goal
 
 pub returns : goal.returns

@@ -1,8 +1,7 @@
 use Rattle.std.proofs.Common.{sym, arith, inl}
 use Rattle.std.proofs.lemmas.Result.{err_from_is_err_and}
 use Rattle.std.proofs.lemmas.List.{length-drop, take_rest}
-use Rattle.age_stanza.proofs.LineEndLemmas.{next_line, no_part}
-use Rattle.age_stanza.proofs.PieceLemmas.{fails_in}
+use Rattle.age_stanza.proofs.{next_line, no_part, fails_in}
 use Rattle.age_stanza.proofs.piece.read_lines.Goals as goal
 
 pub end_line-requires-clause-one_line : goal.end_line-requires-clause-one_line

@@ -1,7 +1,7 @@
 use Rattle.std.proofs.Common.{◌-◌, ℕ, ap, sym, ◌∙◌, length, ◌≡◌, ◌++◌, take, arith}
 use Rattle.std.proofs.lemmas.List.{length-append, length-take}
 use Rattle.std.proofs.lemmas.Result.{err_from_is_err_and}
-use Rattle.age_stanza.proofs.PieceLemmas.{fails_in, found_in}
+use Rattle.age_stanza.proofs.{fails_in, found_in}
 use Rattle.age_stanza.proofs.piece.take_piece.Goals as goal
 
 pub returns-in_err-taken : goal.returns-in_err-taken

@@ -1,6 +1,6 @@
 use Rattle.std.proofs.Common.{arith}
 use Rattle.base64.specs.GeneralPurpose.{IsBytes}
-use Rattle.age_stanza.proofs.TextLemmas.{line_read, line_refused}
+use Rattle.age_stanza.proofs.{line_read, line_refused}
 use Rattle.age_stanza.proofs.text.decode_line.Goals as goal
 
 pub returns-clause-read : goal.returns-clause-read

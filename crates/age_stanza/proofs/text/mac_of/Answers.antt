@@ -1,7 +1,7 @@
 use Rattle.std.proofs.Common.{◌∙◌, sym, arith}
 use Rattle.std.proofs.lemmas.List.{take_rest}
 use Rattle.base64.specs.GeneralPurpose.{IsBytes}
-use Rattle.age_stanza.proofs.LineLemmas.{no_end_line, mac_is, no_mac}
+use Rattle.age_stanza.proofs.{no_end_line, mac_is, no_mac}
 use Rattle.age_stanza.proofs.text.mac_of.Goals as goal
 
 pub returns-then-not-starts_with : goal.returns-then-not-starts_with

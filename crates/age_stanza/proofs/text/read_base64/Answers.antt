@@ -1,8 +1,8 @@
 use Rattle.std.proofs.Common.{◌≤◌, take, length, sym, ap, ◌∙◌, arith}
 use Rattle.std.proofs.lemmas.List.{length-take}
 use Rattle.base64.specs.GeneralPurpose.{IsBytes}
-use Rattle.age_stanza.proofs.TextLengthLemmas.{div_ceil-characters}
-use Rattle.age_stanza.specs.Text.{base64_text}
+use Rattle.age_stanza.proofs.{div_ceil-characters}
+use Rattle.age_stanza.specs.{base64_text}
 use Rattle.age_stanza.proofs.Base64Lemmas.{text_of_decoded, characters_of, decoded_size, never_decodes}
 use Rattle.age_stanza.proofs.text.read_base64.Goals as goal
 

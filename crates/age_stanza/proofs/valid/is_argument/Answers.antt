@@ -1,6 +1,6 @@
 use Rattle.std.proofs.Common.{arith, sym, ◌∙◌}
 use Rattle.std.proofs.lemmas.Bool.{eqb-false}
-use Rattle.age_stanza.proofs.ElementLemmas.{visible_from_test, test_from_visible}
+use Rattle.age_stanza.proofs.{visible_from_test, test_from_visible}
 use Rattle.age_stanza.proofs.valid.is_argument.Goals as goal
 
 pub returns-then-not-is_empty : goal.returns-then-not-is_empty

@@ -1,9 +1,8 @@
 use Rattle.std.proofs.Common.{[], length, ap, sym, ◌∙◌, arith, rules, tests}
 use Rattle.std.proofs.lemmas.Bool.{eqb-false, false≢true}
 use Rattle.std.proofs.lemmas.Iterator.{cases_from_all, YieldsList-from_slice}
-use Rattle.age_stanza.specs.inner.Lengths.{HasArguments}
-use Rattle.age_stanza.proofs.ElementLemmas.{all_is}
-use Rattle.age_stanza.proofs.TextLengthLemmas.{has_text, text_within}
+use Rattle.age_stanza.specs.inner.{HasArguments}
+use Rattle.age_stanza.proofs.{all_is, has_text, text_within}
 use Rattle.age_stanza.proofs.valid.is_header.Goals as goal
 use Rattle.age_stanza.proofs.valid.is_header.Goals.{then-not-is_empty, else-not-is_empty}
 

@@ -1,5 +1,5 @@
 use Rattle.std.proofs.Common.{◌+◌, ◌/◌, ◌∙◌, ℕ, sym, ap, arith}
-use Rattle.age_stanza.proofs.TextLengthLemmas.{length-body, leaves}
+use Rattle.age_stanza.proofs.{length-body, leaves}
 use Rattle.age_stanza.proofs.valid.room_after_body.Goals as goal
 
 pub returns-then-room-body-clause-leaves : goal.returns-then-room-body-clause-leaves

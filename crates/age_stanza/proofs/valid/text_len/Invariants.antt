@@ -1,7 +1,7 @@
 use Rattle.std.proofs.Common.{◌≡◌, ◌≤◌, ◌+◌, length, drop, take}
 use Rattle.std.specs.List.{flat_map, AllByRecursion}
 use Rattle.base64.specs.GeneralPurpose.{IsBytes}
-use Rattle.age_stanza.specs.Grammar.{stanza_text}
+use Rattle.age_stanza.specs.{stanza_text}
 use Rattle.age_stanza.proofs.valid.text_len.Given as goal
 
 -- what is left has room for what the rest leaves of the room for all

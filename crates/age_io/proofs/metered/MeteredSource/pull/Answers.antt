@@ -1,5 +1,5 @@
-use Rattle.age_io.specs.Io.{Named, Metered}
-use Rattle.age_io.proofs.MeterLemmas.{pulls_since}
+use Rattle.age_io.specs.{Named, Metered}
+use Rattle.age_io.proofs.{pulls_since}
 use Rattle.age_io.proofs.metered.MeteredSource.pull.Goals as goal
 
 pub returns-clause-since : goal.returns-clause-since

@@ -1,10 +1,8 @@
 use Rattle.std.proofs.Common.{◌≡◌, ◌≤◌, ◌^◌, ◌∙◌, sym, ap, arith}
 use Rattle.std.proofs.lemmas.Result.{err_from_is_err_and}
 use Rattle.std.proofs.Math.Pow.{pow_mono}
-use Rattle.age_keys.specs.Scrypt.{wrap_key}
-use Rattle.age_keys.proofs.PassphraseLemmas.{was_tried, only_scrypt, found_or_wrong}
-use Rattle.age_keys.proofs.StanzaLemmas.{only_one_of, not_beside}
-use Rattle.age_keys.proofs.WorkFactorLemmas.{work_factor_some}
+use Rattle.age_keys.specs.{wrap_key}
+use Rattle.age_keys.proofs.{was_tried, only_scrypt, found_or_wrong, only_one_of, not_beside, work_factor_some}
 use Rattle.age_keys.proofs.passphrase.PassphraseUnlock.unlock.Goals as goal
 
 pub returns-in_default-read-clause-answer : goal.returns-in_default-read-clause-answer

@@ -1,7 +1,7 @@
 use Rattle.std.proofs.Common.{[], length, take}
 use Rattle.std.specs.Prelude.{Bool, true, false}
 use Rattle.std.specs.Bool.{OnFalse}
-use Rattle.age_chunk.specs.ChunkBoxes.{text_length}
+use Rattle.age_chunk.specs.{text_length}
 use Rattle.age_cipher.proofs.SealingLemmas.{opening_where_true, opening_where_false}
 use Rattle.age_keys.proofs.payload.PayloadKeyChunkBox.open_at.Goals as goal
 

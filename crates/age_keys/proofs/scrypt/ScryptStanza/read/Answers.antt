@@ -1,7 +1,7 @@
 use Rattle.std.proofs.Common.{◌∷◌, ◌∙◌, [], List, ℕ, min, refl, sym, ap, arith, length}
 use Rattle.std.specs.Prelude.{codes}
 use Rattle.std.specs.Str.Parse.{digits_value}
-use Rattle.age_keys.proofs.StanzaLemmas.{three_arguments}
+use Rattle.age_keys.proofs.{three_arguments}
 use Rattle.age_keys.proofs.scrypt.ScryptStanza.read.Goals as goal
 
 pub returns-clause-read : goal.returns-clause-read

@@ -1,6 +1,6 @@
 use Rattle.std.proofs.Common.{◌+◌, take, drop, arith}
-use Rattle.age_keys.specs.X25519.{StaysShut}
-use Rattle.age_keys.proofs.StanzaLemmas.{all_more, around}
+use Rattle.age_keys.specs.{StaysShut}
+use Rattle.age_keys.proofs.{all_more, around}
 use Rattle.age_keys.proofs.shared_secret.SharedSecret.first_key.Goals as goal
 
 pub returns-in-Some-clause-key : goal.returns-in-Some-clause-key

@@ -1,4 +1,4 @@
-use Rattle.age_keys.proofs.StanzaLemmas.{if_none, shut}
+use Rattle.age_keys.proofs.{if_none, shut}
 use Rattle.age_keys.proofs.shared_secret.SharedSecret.key_in.Goals as goal
 
 pub returns-in-Ok-clause-none : goal.returns-in-Ok-clause-none

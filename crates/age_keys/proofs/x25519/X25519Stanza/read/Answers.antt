@@ -1,6 +1,6 @@
 use Rattle.std.proofs.Common.{◌∙◌, ◌∷◌, [], sym, ap, arith, length}
 use Rattle.std.specs.Prelude.{codes}
-use Rattle.age_keys.proofs.StanzaLemmas.{two_arguments}
+use Rattle.age_keys.proofs.{two_arguments}
 use Rattle.age_keys.proofs.x25519.X25519Stanza.read.Goals as goal
 
 pub returns-clause-read : goal.returns-clause-read

@@ -1,4 +1,4 @@
-use Rattle.age_stanza.proofs.FinishedLineLemmas.{cut_here}
+use Rattle.age_stanza.proofs.{cut_here}
 use Rattle.age_stanza.proofs.partial.PartialHeader.cut_fault.Goals as goal
 
 pub returns : goal.returns

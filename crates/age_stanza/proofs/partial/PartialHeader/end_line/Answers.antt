@@ -1,5 +1,5 @@
 use Rattle.std.proofs.Common.{◌∙◌, arith}
-use Rattle.age_stanza.proofs.FinishedLineLemmas.{ended, ended_faulty, ended_whole}
+use Rattle.age_stanza.proofs.{ended, ended_faulty, ended_whole}
 use Rattle.age_stanza.proofs.partial.PartialHeader.end_line.Goals as goal
 
 pub invariant_of-more : goal.invariant_of-more

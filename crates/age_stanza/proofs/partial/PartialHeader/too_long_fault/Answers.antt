@@ -1,6 +1,6 @@
 use Rattle.std.proofs.Common.{sym, arith}
 use Rattle.std.proofs.lemmas.Bool.{eqb-true, eqb-false}
-use Rattle.age_stanza.proofs.FinishedLineLemmas.{begun_number_of_last, finished_number, too_long, under_way}
+use Rattle.age_stanza.proofs.{begun_number_of_last, finished_number, too_long, under_way}
 use Rattle.age_stanza.proofs.partial.PartialHeader.too_long_fault.Goals as goal
 
 pub returns-then-is_empty : goal.returns-then-is_empty

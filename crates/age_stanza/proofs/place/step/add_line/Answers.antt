@@ -1,8 +1,7 @@
 use Rattle.std.proofs.Common.{◌≡◌, ℕ, ◌≤◌, Bool, true, false, List, ◌++◌, length, Some, refl, inr, take, nat_eq, arith}
 use Rattle.std.proofs.lemmas.Bool.{lt-ltb, le-ltb}
-use Rattle.age_stanza.specs.declared.header.Stanza.{Stanza}
-use Rattle.age_stanza.specs.declared.place.Place.TheVariants.{InBody}
-use Rattle.age_stanza.specs.inner.LineMachine.{base64_bytes, step, body_line_result, line_added}
+use Rattle.age_stanza.specs.{Stanza, InBody}
+use Rattle.age_stanza.specs.inner.{base64_bytes, step, body_line_result, line_added}
 use Rattle.age_stanza.proofs.place.step.add_line.Goals as goal
 
 added_is : (ss : List Stanza) (args : List (List ℕ)) (body more : List ℕ) (full : Bool) → body_line_result ss args body full (Some more)
