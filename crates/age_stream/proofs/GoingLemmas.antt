@@ -1,36 +1,27 @@
 -- How an outcome goes on when more bytes come.
-use Rattle.std.proofs.Common.{inl, inr, ◌≡◌, ℕ, zero, suc, ◌<◌, ◌≤◌, ◌+◌, ◌*◌, ◌/◌, refl, ap, sym, ◌∙◌, List, [], ◌∷◌, ◌++◌, length, take, drop, Bool}
-use Rattle.std.proofs.Common.{true, false, arith}
+use Rattle.std.proofs.lemmas.Grind.{common_steps, flat_map-append}
+use Rattle.std.proofs.Common.{◌≡◌, ℕ, suc, ◌<◌, ◌≤◌, ◌+◌, ◌*◌, ◌/◌, refl, ap, sym, ◌∙◌, List, [], ◌∷◌, ◌++◌, length, take, drop, Bool, true, false, arith}
+use Rattle.std.proofs.Common.{subst, ◌-◌}
 use Rattle.std.specs.Prelude.{Option, Some, None, nat_lt, not, ◌||◌, ◌&&◌, ◌==◌}
 use Rattle.std.specs.Simd.{first_chunks}
-use Rattle.std.proofs.lemmas.List.{length-append, length-drop, drop-append-le, take-append-le, drop-drop, drop_all, take_all, append-nil, append_assoc}
-use Rattle.std.proofs.lemmas.Bool.{cases_lt, cond-true, cond-false, lt-ltb, le-ltb, eq-eqb, and_parts, not-true, both_ways, false_from_ne_true}
+use Rattle.std.proofs.lemmas.List.{length-append, length-drop, drop-append-le, take-append-le, drop-drop, drop_all, take_all, append-nil, append_assoc, take_at}
+use Rattle.std.proofs.lemmas.List.{drop_at}
+use Rattle.std.proofs.lemmas.Bool.{cases_lt, cond-true, cond-false, le-ltb, eq-eqb, and_parts, not-true, both_ways, false_from_ne_true}
 use Rattle.std.proofs.lemmas.Nat.{div-mul-add}
-use Rattle.std.proofs.Math.Bool.{or-true, or-false, or_assoc}
+use Rattle.std.proofs.Math.Bool.{or_assoc}
 use Rattle.std.proofs.Math.Nat.{add-mul-div_left, div-mul-le_self, le-div_iff_mul-le}
-use Rattle.age_chunk.specs.ChunkBoxes.{OpensBlock, tag_length}
-use Rattle.age_chunk.specs.Payload.{nonce_bytes}
-use Rattle.age_chunk.proofs.FirstChunkLemmas.{first_chunks-append}
-use Rattle.age_stream.specs.Segment.{Segment, Outcome, Frontier, outcome, stop, verdict, is_waiting, block_at, front_texts, text_then, text_before_last}
-use Rattle.age_stream.specs.Segment.{whole_blocks, rest_bytes, with_piece, with_end}
-use Rattle.age_stream.specs.inner.OpenerSteps.{after_front, one_block, final_block, status_after, status_ended}
-use Rattle.age_stream.specs.declared.step.Status.TheVariants.{Open}
-use Rattle.age_stream.proofs.TableLemmas.{after, beside, block_full, by_lines, bytes_status, end_status, ended_waits, fault_after, frontier, last_shut}
-use Rattle.age_stream.proofs.TableLemmas.{length-whole_blocks, line_waiting, not_whole, outcome_is, prepend, rest_is, rest_short, texts_fit, verdict-after}
-use Rattle.age_stream.proofs.TableLemmas.{verdict-prepend, whole_verdict, whole_within}
-
-pub first_chunks-add : (z q d : ℕ) (xs : List ℕ) → first_chunks z (q + d) xs ≡ first_chunks z q xs ++ first_chunks z d (drop (q * z) xs)
-first_chunks-add z zero d xs =
-    let a : 0 + d ≡ d = omega arith in
-    let b : 0 ≡ 0 * z = omega arith in
-    ap (λ (k : ℕ). first_chunks z k xs) a ∙ ap (λ (k : ℕ). first_chunks z d (drop k xs)) b
-first_chunks-add z (suc q) d xs =
-    let a : suc q + d ≡ suc (q + d) = omega arith in
-    let e : z + q * z ≡ suc q * z = omega arith in
-    ap (λ (k : ℕ). first_chunks z k xs) a
-    ∙ ap (λ (cs : List (List ℕ)). take z xs ∷ cs)
-    (first_chunks-add z q d (drop z xs) ∙ ap (λ (ys : List ℕ). first_chunks z q (drop z xs) ++ first_chunks z d ys) (drop-drop (q * z) z xs
-    ∙ ap (λ (k : ℕ). drop k xs) e))
+use Rattle.std.specs.List.{flat_map, AllByRecursion}
+use Rattle.age_chunk.specs.{OpensBlock, tag_length, nonce_bytes, IsChunkBox, Seals}
+use Rattle.age_chunk.specs.declared.fault.StreamKind.TheVariants.{ChunkDamaged, TooManyChunks}
+use Rattle.age_chunk.proofs.{first_chunks-append, nonce_bytes-length}
+use Rattle.age_stream.specs.Segment.{Segment}
+use Rattle.age_stream.specs.{Outcome, Frontier, outcome, stop, verdict, is_waiting, block_at, front_texts, text_then, text_before_last, whole_blocks}
+use Rattle.age_stream.specs.{rest_bytes, with_piece, with_end, Open, fresh, stays, failed, released, IsPrefixOf, PiecesJoin, Status, IsCounted, counted_chunks}
+use Rattle.age_stream.specs.inner.{after_front, one_block, final_block, status_after, status_ended}
+use Rattle.age_stream.proofs.TableLemmas.{after, beside, block_full, by_lines, bytes_status, fault_after, frontier, length-whole_blocks, line_waiting}
+use Rattle.age_stream.proofs.TableLemmas.{not_whole, outcome_is, prepend, rest_is, rest_short, texts_fit, verdict-after, verdict-prepend, whole_verdict}
+use Rattle.age_stream.proofs.TableLemmas.{whole_within, opens_before}
+use Rattle.age_stream.proofs.ChunkLemmas.{all_full, first_chunks-add, first_chunks-full, first_chunks-take, flat_full}
 
 -- more bytes: the whole blocks stay, and those of what is left come after them
 module _ (n : ℕ) (bytes more : List ℕ) where
@@ -94,10 +85,7 @@ module _ (n : ℕ) (bytes : List ℕ) where
 
 -- a block before other bytes
 pub block_on : (n : ℕ) (block more : List ℕ) → length block ≡ n + tag_length → whole_blocks n (block ++ more) ≡ block ∷ whole_blocks n more
-block_on n block more full =
-    let one = full_bytes n block full in
-    blocks_on n block more
-    ∙ (ap (λ (bs : List (List ℕ)). bs ++ whole_blocks n (rest_bytes n block ++ more)) one.0 ∙ ap (λ (xs : List ℕ). block ∷ whole_blocks n (xs ++ more)) one.1)
+block_on n block more full = grind (arith, common_steps, blocks_on, full_bytes)
 
 module _ (opening : OpensBlock) where
   -- if all these blocks open as before the last, the next ones go on from there
@@ -106,10 +94,7 @@ module _ (opening : OpensBlock) where
       → length (text_then opening o (front_texts opening (i + 1) xs)) ≡ suc (length xs)
       → text_then opening o (front_texts opening (i + 1) (xs ++ ys)) ≡ text_then opening o (front_texts opening (i + 1) xs) ++ front_texts opening
       (i + suc (length xs)) ys
-  on_step None xs ys i ih h = absurd (omega arith)
-  on_step (Some t) xs ys i ih h =
-      let e : i + 1 + length xs ≡ i + suc (length xs) = omega arith in
-      ap (λ (ts : List (List ℕ)). t ∷ ts) (ih (omega (arith, h)) ∙ ap (λ (k : ℕ). front_texts opening (i + 1) xs ++ front_texts opening k ys) e)
+  on_step o xs ys i h1 h2 = grind (arith, common_steps)
 
   pub front_on : (xs ys : List (List ℕ)) (i : ℕ) → length (front_texts opening i xs) ≡ length xs → front_texts opening i (xs ++ ys)
       ≡ front_texts opening i xs ++ front_texts opening (i + length xs) ys
@@ -121,8 +106,7 @@ module _ (opening : OpensBlock) where
       → front_texts opening (i + 1) (xs ++ ys) ≡ front_texts opening (i + 1) xs)
       → length (text_then opening o (front_texts opening (i + 1) xs)) < suc (length xs)
       → text_then opening o (front_texts opening (i + 1) (xs ++ ys)) ≡ text_then opening o (front_texts opening (i + 1) xs)
-  stays_step None xs ys i ih h = refl
-  stays_step (Some t) xs ys i ih h = ap (λ (ts : List (List ℕ)). t ∷ ts) (ih (omega (arith, h)))
+  stays_step o xs ys i h1 h2 = grind (arith, common_steps)
 
   pub front_stays : (xs ys : List (List ℕ)) (i : ℕ) → length (front_texts opening i xs) < length xs → front_texts opening i (xs ++ ys)
       ≡ front_texts opening i xs
@@ -135,43 +119,23 @@ unended_piece s p is = cond-false s.ended (record s { ended = true; late = s.lat
 ended_piece : (s : Segment) (p : List ℕ) → s.ended ≡ true → with_piece s p ≡ record s { ended = true; late = s.late || nat_lt 0 (length p) }
 ended_piece s p is = cond-true s.ended (record s { ended = true; late = s.late || nat_lt 0 (length p) }) (record s { bytes = s.bytes ++ p; ended = false }) is
 
--- one piece after another
-some_append : (p r : List ℕ) → (nat_lt 0 (length p) || nat_lt 0 (length r)) ≡ nat_lt 0 (length (p ++ r))
-some_append [] r = refl
-some_append (x ∷ xs) r =
-    let a : nat_lt 0 (length (x ∷ xs)) ≡ true = lt-ltb 0 (length (x ∷ xs)) (omega arith) in
-    let b : nat_lt 0 (length (x ∷ xs ++ r)) ≡ true = lt-ltb 0 (length (x ∷ xs ++ r)) (omega arith) in
-    ap (λ (f : Bool). f || nat_lt 0 (length r)) a ∙ sym b
-
 joined : (start : ℕ) (bytes : List ℕ) (ended late : Bool) (p r : List ℕ)
     → with_piece (with_piece (record { start = start; bytes = bytes; ended = ended; late = late }) p) r
     ≡ with_piece (record { start = start; bytes = bytes; ended = ended; late = late }) (p ++ r)
-joined start bytes true late p r =
-    ap (λ (l : Bool). record { start = start; bytes = bytes; ended = true; late = l }) (or_assoc late (nat_lt 0 (length p)) (nat_lt 0 (length r))
-    ∙ ap (λ (f : Bool). late || f) (some_append p r))
-joined start bytes false late p r = ap (λ (b : List ℕ). record { start = start; bytes = b; ended = false; late = late }) (append_assoc bytes p r)
+joined start bytes ended late p r = grind (arith, common_steps)
 
-pub pieces_join : (s : Segment) (p r : List ℕ) → with_piece (with_piece s p) r ≡ with_piece s (p ++ r)
+pub pieces_join : PiecesJoin
 pieces_join s p r = joined s.start s.bytes s.ended s.late p r
 
 pub nothing : (start : ℕ) (bytes : List ℕ) (ended late : Bool) → with_piece (record { start = start; bytes = bytes; ended = ended; late = late }) []
     ≡ record { start = start; bytes = bytes; ended = ended; late = late }
-nothing start bytes true late = ap (λ (l : Bool). record { start = start; bytes = bytes; ended = true; late = l }) (or-false late)
-nothing start bytes false late = ap (λ (b : List ℕ). record { start = start; bytes = b; ended = false; late = late }) (append-nil bytes)
+nothing start bytes ended late = grind (arith, common_steps)
 
 whole_if : (whole ended : Bool) → (not whole && not ended) ≡ false → ended ≡ false → whole ≡ true
-whole_if true ended h e = refl
-whole_if false true h e = cc
-whole_if false false h e = cc
+whole_if whole ended h1 h2 = grind (arith, common_steps)
 
 after_on : (a len m : ℕ) (late : Bool) → a ≤ len → late ≡ false → (nat_lt a (len + m) || late) ≡ ((nat_lt a len || late) || nat_lt 0 m)
-after_on a len zero late h e =
-    let z : len + 0 ≡ len = omega arith in
-    ap (λ (k : ℕ). nat_lt a k || late) z ∙ sym (or-false (nat_lt a len || late))
-after_on a len (suc m) late h e =
-    let some : nat_lt 0 (suc m) ≡ true = lt-ltb 0 (suc m) (omega arith) in
-    ap (λ (b : Bool). b || late) (lt-ltb a (len + suc m) (omega arith))
-    ∙ (sym (or-true (nat_lt a len || late)) ∙ ap (λ (b : Bool). (nat_lt a len || late) || b) (sym some))
+after_on a len m late h1 h2 = grind (arith, common_steps)
 
 module _ (opening : OpensBlock) (n : ℕ) where
   -- the segment is open: it had no end, and each whole block opened as one before the last
@@ -181,22 +145,10 @@ module _ (opening : OpensBlock) (n : ℕ) where
 
   pub going : (s : Segment) → (outcome opening n s).status ≡ Open → IsGoing s
   going s h =
-      let b = stop opening n s in
-      let waits : is_waiting b ≡ true =
-      by_lines opening (λ (o : Outcome). o.status ≡ Open → is_waiting b ≡ true) b (λ w _. w) (λ kind _ _ e. cc) (λ text _ _ e. cc) (λ _ _ _ e. cc)
-      (λ text _ _ e. absurd (last_shut b.followed b.ended b.index e)) (sym (ap (λ (o : Outcome). o.status) (outcome_is opening n s)) ∙ h) in
-      let both = and_parts (not b.whole) (not b.ended) waits in
-      record {
-        unended = not-true s.ended both.1;
-        all = elim (cases_lt (length b.texts) (length s.bytes / (n + tag_length))) [
-          | inl lt ↦ absurd (both_ways b.whole (not-true b.whole both.0) (eq-eqb (length b.block) (n + tag_length) (block_full n s (length b.texts) lt)))
-          | inr ge ↦ omega (arith, ge, texts_fit opening n s, length-whole_blocks n s)
-        ];
-      }
+      grind (arith, common_steps, and_parts, block_full, both_ways, by_lines, cases_lt, eq-eqb, length-whole_blocks, not-true, outcome_is, texts_fit)
 
   shut_waits : (s : Segment) → ((outcome opening n s).status ≡ Open → ⊥) → is_waiting (stop opening n s) ≡ false
-  shut_waits s shut = false_from_ne_true (is_waiting (stop opening n s))
-      (λ w. shut (ap (λ (o : Outcome). o.status) (outcome_is opening n s ∙ line_waiting opening (stop opening n s) w)))
+  shut_waits s shut = grind (arith, common_steps, false_from_ne_true, line_waiting, outcome_is)
 
   -- where a segment that isn't open stands after a piece
   piece_stop : (s : Segment) (ended : Bool) (p : List ℕ) → s.ended ≡ ended → (s.ended ≡ false → s.late ≡ false) → is_waiting (stop opening n s) ≡ false
@@ -245,11 +197,7 @@ module _ (opening : OpensBlock) (n : ℕ) where
   -- an end, likewise
   pub after_end : (s : Segment) → ((outcome opening n s).status ≡ Open → ⊥)
       → outcome opening n (with_end s) ≡ after (λ _. status_ended) (outcome opening n s)
-  after_end s shut =
-      let b = stop opening n s in
-      outcome_is opening n (with_end s)
-      ∙ (verdict-after opening b (λ _. status_ended) b.followed true (shut_waits s shut) (ended_waits b.whole) (λ _ _. refl) (end_status b.followed b.ended)
-      ∙ ap (after (λ _. status_ended)) (sym (outcome_is opening n s)))
+  after_end s shut = grind (arith, common_steps, outcome_is, verdict-after)
 
   -- an open segment's outcome
   pub going_outcome : (s : Segment) → IsGoing s
@@ -258,33 +206,14 @@ module _ (opening : OpensBlock) (n : ℕ) where
         index = s.start + length (front_texts opening s.start (whole_blocks n s.bytes));
         status = Open;
       }
-  going_outcome s g =
-      let b = stop opening n s in
-      outcome_is opening n s
-      ∙ line_waiting opening b
-      (ap (λ (whole : Bool). not whole && not b.ended) (not_whole n s (length b.texts) (g.all ∙ length-whole_blocks n s)) ∙ ap not g.unended)
+  going_outcome s g = grind (arith, common_steps, length-whole_blocks, line_waiting, not_whole, outcome_is)
 
   -- an end of it
   pub going_end : (s : Segment) → IsGoing s → s.late ≡ false
       → let texts = front_texts opening s.start (whole_blocks n s.bytes) in
       outcome opening n (with_end s) ≡ prepend texts (final_block opening [] (s.start + length texts) (rest_bytes n s.bytes) false true)
   going_end s g timely =
-      let z = n + tag_length in
-      let b = stop opening n s in
-      let m = length b.texts in
-      let q = length s.bytes / z in
-      let at : m ≡ q = g.all ∙ length-whole_blocks n s in
-      let alone : nat_lt ((m + 1) * z) (length s.bytes) ≡ false = le-ltb ((m + 1) * z) (length s.bytes)
-      (omega (arith, rest_short n s.bytes, length-drop (q * z) s.bytes, ap (λ (k : ℕ). (k + 1) * z) at)) in
-      let rest = rest_bytes n s.bytes in
-      let F : List ℕ → Bool → Bool → Outcome = λ c w f.
-      verdict opening (record { texts = b.texts; index = b.index; block = c; whole = w; followed = f; ended = true }) in
-      outcome_is opening n (with_end s)
-      ∙ (ap (λ (w : Bool). F b.block w b.followed) (not_whole n s m at)
-      ∙ (ap (λ (c : List ℕ). F c false b.followed) (rest_is n s m at)
-      ∙ (ap (λ (f : Bool). F rest false (f || s.late)) alone
-      ∙ (ap (λ (f : Bool). F rest false f) timely
-      ∙ verdict-prepend opening (record { texts = []; index = b.index; block = rest; whole = false; followed = false; ended = true }) b.texts refl))))
+      grind (arith, common_steps, le-ltb, length-drop, length-whole_blocks, not_whole, outcome_is, rest_is, rest_short, verdict-prepend)
 
   -- bytes that make no whole block
   pub record IsPart (s : Segment) (p : List ℕ) : Type 0 where
@@ -384,3 +313,146 @@ module _ (opening : OpensBlock) (n : ℕ) where
           ∙ (ap (λ (f : Bool). F b true f) timely
           ∙ (verdict-prepend opening alone texts refl
           ∙ ap (prepend texts) (whole_verdict opening alone (opening (nonce_bytes (s.start + m) false) b) refl (omega (arith, len)) refl)))))))
+
+-- ---- A segment of no bytes.
+
+pub fresh_outcome : (opening : OpensBlock) (n k : ℕ) → outcome opening n (fresh k) ≡ record { texts = []; index = k; status = Open }
+fresh_outcome opening n k = grind (arith, common_steps, going_outcome, short_bytes)
+
+pub fresh_rest : (n k : ℕ) → rest_bytes n (fresh k).bytes ≡ []
+fresh_rest n k = (short_bytes n [] (omega arith)).1
+
+-- ---- More bytes never take back what was released.
+
+module _ (opening : OpensBlock) (n : ℕ) where
+  -- the texts of an outcome begin with these, and its index is the one at which it stopped, whatever stopped it
+  pub record StopsAt (texts : List (List ℕ)) (i : ℕ) (o : Outcome) : Type 0 where
+    pub more : List (List ℕ)
+    pub texts_are : o.texts ≡ texts ++ more
+    pub index : o.index ≡ i
+
+  -- a segment stands at the block after those in front, with their texts
+  pub stands_at : (s : Segment) → let texts = front_texts opening s.start (whole_blocks n s.bytes) in
+      StopsAt texts (s.start + length texts) (outcome opening n s)
+  stands_at s =
+      let b = stop opening n s in
+      let P : Outcome → Type 0 = StopsAt b.texts b.index in
+      let still : (status : Status) → P (stays b status) = λ status. record { more = []; texts_are = sym (append-nil b.texts); index = refl } in
+      subst P (sym (outcome_is opening n s)) (by_lines opening P b (λ _. still Open) (λ kind _ _. still (failed kind b.index)) (λ _ _ _. still (failed TooManyChunks b.index))
+      (λ _ _ _. still (failed ChunkDamaged b.index)) (λ text _ _. record { more = text ∷ []; texts_are = refl; index = refl }))
+
+  -- the texts go on, and the index doesn't fall
+  record Grows (old new : Outcome) : Type 0 where
+    more : List (List ℕ)
+    texts_are : new.texts ≡ old.texts ++ more
+    index : old.index ≤ new.index
+
+  grows_going : (s : Segment) (p : List ℕ) → IsGoing opening n s → Grows (outcome opening n s) (outcome opening n (with_piece s p))
+  grows_going s p g =
+      let here = going_outcome opening n s g in
+      let next : Segment = record { start = s.start; bytes = s.bytes ++ p; ended = false; late = s.late } in
+      let there = ap (outcome opening n) (unended_piece s p g.unended) in
+      let b = stands_at next in
+      let texts = front_texts opening s.start (whole_blocks n s.bytes) in
+      let rest = front_texts opening (s.start + length (whole_blocks n s.bytes)) (whole_blocks n (rest_bytes n s.bytes ++ p)) in
+      let on : front_texts opening s.start (whole_blocks n next.bytes) ≡ texts ++ rest =
+      ap (front_texts opening s.start) (blocks_on n s.bytes p)
+      ∙ front_on opening (whole_blocks n s.bytes) (whole_blocks n (rest_bytes n s.bytes ++ p)) s.start g.all in
+      record {
+        more = rest ++ b.more;
+        texts_are = ap (λ (o : Outcome). o.texts) there ∙ (b.texts_are ∙ (ap (λ (ts : List (List ℕ)). ts ++ b.more) on
+            ∙ (append_assoc texts rest b.more ∙ ap (λ (ts : List (List ℕ)). ts ++ (rest ++ b.more)) (sym (ap (λ (o : Outcome). o.texts) here)))));
+        index = omega (
+          arith,
+          ap (λ (o : Outcome). o.index) here,
+          ap (λ (o : Outcome). o.index) there,
+          b.index,
+          ap length on ∙ length-append texts rest,
+        );
+      }
+
+  grows_by : (s : Segment) (p : List ℕ) (status : Status) → (s.ended ≡ false → s.late ≡ false) → (outcome opening n s).status ≡ status
+      → Grows (outcome opening n s) (outcome opening n (with_piece s p))
+  grows_by s p Open timely e = grind (arith, common_steps, after_piece, append-nil, going, grows_going)
+  grows_by s p other timely e = grind (arith, common_steps, after_piece, append-nil, going, grows_going)
+
+  pub released_grows : (s : Segment) (p : List ℕ) → (s.ended ≡ false → s.late ≡ false)
+      → IsPrefixOf (released opening n s) (released opening n (with_piece s p))
+      × ((outcome opening n s).index ≤ (outcome opening n (with_piece s p)).index)
+  released_grows s p timely =
+      let b = grows_by s p (outcome opening n s).status timely refl in (
+        (
+          flat_map (λ (t : List ℕ). t) b.more,
+          sym (ap (flat_map (λ (t : List ℕ). t)) b.texts_are ∙ flat_map-append (λ (t : List ℕ). t) (outcome opening n s).texts b.more),
+        ),
+        b.index,
+      )
+
+-- ---- How many chunks were released, by the length of the text.
+
+-- the chunks that a segment counts are the texts of the blocks in front
+pub counted_are : (opening : OpensBlock) (n : ℕ) (s : Segment) → counted_chunks opening n s ≡ front_texts opening s.start (whole_blocks n s.bytes)
+counted_are opening n s =
+    let b = stands_at opening n s in
+    let texts = front_texts opening s.start (whole_blocks n s.bytes) in
+    let count = (outcome opening n s).index - s.start in
+    ap (take count) b.texts_are ∙ take_at texts b.more count (omega (arith, b.index))
+
+module _ (sealing : Seals) (opening : OpensBlock) (valid : IsChunkBox sealing opening) (n : ℕ) where
+  full_then : (o : Option (List ℕ)) (rest : List (List ℕ)) → ((t : List ℕ) → o ≡ Some t → length t ≡ n)
+      → AllByRecursion (λ (t : List ℕ). length t ≡ n) rest → AllByRecursion (λ (t : List ℕ). length t ≡ n) (text_then opening o rest)
+  full_then o rest h1 h2 = grind (arith, common_steps)
+
+  front_full : (blocks : List (List ℕ)) (i : ℕ) → AllByRecursion (λ (b : List ℕ). length b ≡ n + tag_length) blocks
+      → AllByRecursion (λ (t : List ℕ). length t ≡ n) (front_texts opening i blocks)
+  front_full [] i h = tt
+  front_full (b ∷ bs) i h =
+      full_then (text_before_last opening i b) (front_texts opening (i + 1) bs)
+      (λ t e. let is = (opens_before i (opening (nonce_bytes i false) b) t e).1 in omega (
+        arith,
+        h.0,
+        valid.longer (nonce_bytes i false) t (nonce_bytes-length i false),
+        ap length (valid.only (nonce_bytes i false) t b (nonce_bytes-length i false) is),
+      ))
+      (front_full bs (i + 1) h.1)
+
+  pub is_counted : (base : List ℕ) (s : Segment) → length base ≡ s.start * n → IsCounted opening n base s
+  is_counted base s len =
+      let blocks = whole_blocks n s.bytes in
+      let texts = front_texts opening s.start blocks in
+      let m = length texts in
+      let i = (outcome opening n s).index in
+      let pos : 0 < n + tag_length = omega arith in
+      let fits : length s.bytes / (n + tag_length) * (n + tag_length) ≤ length s.bytes = (le-div_iff_mul-le pos).0 (omega arith) in
+      let full = front_full blocks s.start (all_full (n + tag_length) (length s.bytes / (n + tag_length)) s.bytes fits) in
+      let b = stands_at opening n s in
+      let at = b.index in
+      let are = counted_are opening n s in
+      let front = flat_map (λ (t : List ℕ). t) texts in
+      let tail = flat_map (λ (t : List ℕ). t) b.more in
+      let released_is : released opening n s ≡ front ++ tail =
+      ap (flat_map (λ (t : List ℕ). t)) b.texts_are ∙ flat_map-append (λ (t : List ℕ). t) texts b.more in
+      let text = base ++ released opening n s in
+      let text_is : text ≡ (base ++ front) ++ tail = ap (λ (x : List ℕ). base ++ x) released_is ∙ sym (append_assoc base front tail) in
+      let size : length (base ++ front) ≡ i * n =
+      let e : (s.start + m) * n ≡ s.start * n + m * n = omega arith in
+      omega (arith, length-append base front, len, flat_full n texts full, e, ap (λ (k : ℕ). k * n) at) in
+      let first : first_chunks n i text ≡ first_chunks n s.start base ++ texts =
+      ap (λ (k : ℕ). first_chunks n k text) at
+      ∙ (first_chunks-add n s.start m text
+      ∙ (ap (λ (cs : List (List ℕ)). cs ++ first_chunks n m (drop (s.start * n) text)) (first_chunks-append n s.start base (released opening n s)
+      (omega (arith, len)))
+      ∙ ap (λ (cs : List (List ℕ)). first_chunks n s.start base ++ cs)
+      (ap (first_chunks n m) (drop_at base (released opening n s) (s.start * n) len ∙ released_is) ∙ first_chunks-full n texts tail full))) in
+      record {
+        count = ap (λ (ts : List (List ℕ)). s.start + length ts) are ∙ sym at;
+        within = omega (arith, ap length text_is, length-append (base ++ front) tail, size);
+        join = ap (λ (ts : List (List ℕ)). base ++ flat_map (λ (t : List ℕ). t) ts) are
+            ∙ (sym (take_at (base ++ front) tail (i * n) size) ∙ ap (take (i * n)) (sym text_is));
+        chunks = λ j le.
+            let e : j + (i - j) ≡ i = omega (arith, le) in
+            sym (first_chunks-take n j (i - j) text)
+            ∙ (ap (λ (k : ℕ). take j (first_chunks n k text)) e
+            ∙ ap (take j) (first ∙ ap (λ (ts : List (List ℕ)). first_chunks n s.start base ++ ts) (sym are)));
+        all = λ e. are ∙ sym (ap (λ (o : Outcome). o.texts) (going_outcome opening n s (going opening n s e)));
+      }

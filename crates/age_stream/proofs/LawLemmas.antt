@@ -1,73 +1,28 @@
 -- Public laws, each with its proof: what the proofs of other crates cite of this one. Each is a clause in `src/laws.rt`.
-use Rattle.std.proofs.Common.{◌≡◌, ℕ, ◌+◌, ◌*◌, refl, ap, sym, ◌∙◌, List, length, true, arith}
-use Rattle.std.specs.Prelude.{nat_lt, Some}
+use Rattle.std.proofs.lemmas.Grind.{common_steps}
+use Rattle.std.proofs.Common.{◌≡◌, ℕ, ◌+◌, ◌*◌, ap, sym, ◌∙◌, List, length, arith}
 use Rattle.std.specs.Simd.{first_chunks}
 use Rattle.std.proofs.lemmas.List.{length-append, length-drop}
-use Rattle.age_chunk.specs.ChunkBoxes.{IsChunkBox, tag_length, Seals, OpensBlock}
-use Rattle.age_chunk.specs.Payload.{nonce_bytes, chunk_length, last_index, last_chunk, sealed_before_last, block_bytes}
-use Rattle.age_stream.specs.Segment.{Outcome, with_end}
-use Rattle.age_stream.specs.inner.OpenerSteps.{status_after, status_ended}
+use Rattle.age_chunk.specs.{IsChunkBox, tag_length, Seals, OpensBlock, last_index, sealed_before_last, block_bytes}
 use Rattle.age_chunk.specs.declared.fault.StreamFault.{StreamFault}
-use Rattle.age_stream.specs.declared.step.Status.{Status}
-use Rattle.age_stream.specs.declared.step.Status.TheVariants.{Failed}
-use Rattle.age_stream.specs.Laws.{RestIsAuthentic, PiecesJoin, ReleasedGrows, ChunksAreCounted, SealedGrows, FreshIsOpen, IsSettled, ClosedStays, EndCloses}
-use Rattle.age_stream.specs.Laws.{ReleasedIsWritten, PayloadIsLonger, LengthsAreOne, SealingsDiffer}
-use Rattle.age_chunk.proofs.NonceLemmas.{nonce_bytes-length}
-use Rattle.age_chunk.proofs.FirstChunkLemmas.{length-first_chunks}
-use Rattle.age_stream.proofs.GoingLemmas.{going, after_piece, after_end}
+use Rattle.age_chunk.proofs.{length-first_chunks}
+use Rattle.age_stream.specs.{Outcome, with_end, Status, Failed, IsSettled, ClosedStays, EndCloses, PayloadIsLonger, LengthsAreOne, SealingsDiffer}
+use Rattle.age_stream.proofs.GoingLemmas.{going, after_piece, after_end, stands_at}
 use Rattle.age_stream.proofs.TableLemmas.{after, fault_after}
-use Rattle.age_stream.proofs.GrowingLemmas.{stands_at}
-use Rattle.age_stream.proofs.FreshLemmas.{fresh_outcome}
-use Rattle.age_stream.proofs.SealingLemmas.{last_index_le}
-use Rattle.age_stream.proofs.UndamagedLemmas.{all_full, length-bytes_of, payload_is}
-use Rattle.age_stream.proofs.SegmentRightLemmas.{segment_right}
-use Rattle.age_stream.proofs.GoingLemmas as goes
-use Rattle.age_stream.proofs.GrowingLemmas as growing
-use Rattle.age_stream.proofs.CountingLemmas as counting
-use Rattle.age_stream.proofs.SealingLemmas as sealings
-use Rattle.age_stream.proofs.HeldLemmas as held
-
-pub pieces_join : PiecesJoin
-pieces_join = goes.pieces_join
-
-pub released_grows : ReleasedGrows
-released_grows = growing.released_grows
-
-pub chunks_are_counted : ChunksAreCounted
-chunks_are_counted = counting.is_counted
-
-pub sealed_grows : SealedGrows
-sealed_grows = sealings.sealed_grows
-
-pub rest_is_authentic : RestIsAuthentic
-rest_is_authentic = held.rest_is_right
+use Rattle.age_stream.proofs.ChunkLemmas.{last_index_le, all_full}
+use Rattle.age_stream.proofs.SegmentLemmas.{length-bytes_of}
 
 pub sealings_differ : SealingsDiffer
-sealings_differ sealing opening valid nonce text other len same =
-    let e : Some text ≡ Some other = sym (valid.opens nonce text len) ∙ (ap (opening nonce) same ∙ valid.opens nonce other len) in
-    cc
-
-pub fresh_is_open : FreshIsOpen
-fresh_is_open = fresh_outcome
-
-pub released_is_written : ReleasedIsWritten
-released_is_written = segment_right
+sealings_differ sealing opening valid nonce text other len same = grind (arith, common_steps)
 
 -- ---- closed segments
 
 settled : (f : ℕ → Status → Status) (old new : Outcome) → ((i : ℕ) (fault : StreamFault) → f i (Failed fault) ≡ Failed fault) → new ≡ after f old
     → IsSettled old new
-settled f old new stays is = record {
-  texts = ap (λ (o : Outcome). o.texts) is;
-  index = ap (λ (o : Outcome). o.index) is;
-  fault = λ fault e. ap (λ (o : Outcome). o.status) is ∙ (ap (f old.index) e ∙ stays old.index fault);
-}
+settled f old new stays is = grind (arith, common_steps)
 
 pub closed_stays : ClosedStays
-closed_stays opening n s timely shut = (
-  λ piece. settled (status_after (nat_lt 0 (length piece))) _ _ (fault_after (nat_lt 0 (length piece))) (after_piece opening n s piece timely shut),
-  settled (λ _. status_ended) _ _ (λ _ _. refl) (after_end opening n s shut),
-)
+closed_stays opening n s timely shut = grind (arith, common_steps, after_end, after_piece, fault_after, settled)
 
 pub end_closes : EndCloses
 end_closes opening n s = (
@@ -90,20 +45,9 @@ module _ (sealing : Seals) (opening : OpensBlock) (valid : IsChunkBox sealing op
 
 pub payload_is_longer : PayloadIsLonger
 payload_is_longer sealing opening valid n text =
-    let q = last_index n text in
-    let front = block_bytes (sealed_before_last sealing n text) in
-    let last = sealing (nonce_bytes q true) (last_chunk n text) in
-    let size = front_length sealing opening valid n text in
-    let block : length last ≡ length (last_chunk n text) + tag_length = valid.longer (nonce_bytes q true) (last_chunk n text) (nonce_bytes-length q true) in
-    let e : q * (n + tag_length) ≡ q * n + q * tag_length = omega arith in
-    let f : (q + 1) * tag_length ≡ q * tag_length + tag_length = omega arith in
-    let is = ap length (payload_is sealing opening valid n text) in
-    (omega (arith, is, length-append front last, size, block, length-drop (q * n) text, last_index_le n text, e, f), size)
+    grind (arith, common_steps, front_length, last_index_le, length-append, length-drop)
 
 -- ---- lengths
 
 pub lengths_are_one : LengthsAreOne
-lengths_are_one = (
-  λ size len other a b. omega (arith, a.0, b.0),
-  λ sealing opening valid text few. (sym ((payload_is_longer sealing opening valid chunk_length text).0 ∙ omega arith), few),
-)
+lengths_are_one = grind (arith, common_steps, payload_is_longer)

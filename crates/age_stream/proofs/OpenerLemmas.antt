@@ -1,43 +1,32 @@
 -- A step of an opener, and its end, for each segment that it was given.
+use Rattle.std.proofs.lemmas.Grind.{common_steps, flat_map-append}
 use Rattle.std.proofs.Common.{◌≡◌, ℕ, ◌<◌, ◌≤◌, ◌+◌, refl, ap, sym, subst, ◌∙◌, List, [], ◌∷◌, ◌++◌, length, take, drop, Bool, true, false, arith}
 use Rattle.std.specs.Prelude.{Result, Ok, Err, nat_lt, if◌then◌else◌, Option, None}
 use Rattle.std.specs.Borrow.{Bor}
 use Rattle.std.specs.List.{flat_map}
-use Rattle.std.proofs.lemmas.Grind.{flat_map-append}
 use Rattle.std.proofs.lemmas.List.{append-nil, length-append, length-take, nil_from_length, take-append-drop, take_all}
-use Rattle.age_chunk.specs.ChunkBoxes.{IsChunkBox, Seals, OpensBlock, tag_length, text_length}
-use Rattle.age_chunk.specs.Payload.{nonce_bytes}
+use Rattle.age_chunk.specs.{IsChunkBox, Seals, OpensBlock, tag_length, text_length, nonce_bytes}
 use Rattle.age_chunk.specs.declared.fault.StreamFault.{StreamFault}
-use Rattle.age_stream.specs.Segment.{Segment, Outcome, outcome, released, rest_bytes, with_piece, with_end, unless_greatest}
-use Rattle.age_stream.specs.Headline.{ReleasesWritten}
-use Rattle.age_stream.specs.Opener.{Stands, IsEnded, Ends, has_failed, held_bytes, opener_view}
-use Rattle.age_stream.specs.inner.OpenerSteps.{one_block, final_block, status_after, status_ended, front_bytes, IsTried, TakesNone, OpenerEndsAs, after_front}
-use Rattle.age_stream.specs.inner.OpenerSteps.{at_block, after_last}
-use Rattle.age_stream.specs.inner.OpenerSteps.{OpenerAdvances, lending, end_of_open, end_of_closed}
+use Rattle.age_stream.specs.Segment.{Segment}
+use Rattle.age_stream.specs.{Outcome, outcome, released, rest_bytes, with_piece, with_end, ReleasesWritten, Stands, IsEnded, Ends, has_failed, held_bytes}
+use Rattle.age_stream.specs.{opener_view, Status, Open, Done, Failed}
+use Rattle.age_stream.specs.inner.{one_block, final_block, status_after, status_ended, front_bytes, IsTried, TakesNone, OpenerEndsAs, after_last}
+use Rattle.age_stream.specs.inner.{OpenerAdvances, lending, end_of_open, end_of_closed}
 use Rattle.age_stream.specs.declared.opener.OpenerState.{OpenerState}
-use Rattle.age_stream.specs.declared.step.Status.{Status}
-use Rattle.age_stream.specs.declared.step.Status.TheVariants.{Open, LastSeen, Done, Failed}
-use Rattle.age_stream.proofs.GoingLemmas.{going, going_outcome, going_part, going_whole, going_end, after_piece, after_end}
-use Rattle.age_stream.proofs.GoingLemmas.{pieces_join, IsWhole}
-use Rattle.age_stream.proofs.SegmentLemmas.{by_test}
-use Rattle.age_stream.proofs.SegmentRightLemmas.{segment_right}
+use Rattle.age_stream.proofs.GoingLemmas.{going, going_outcome, going_part, going_whole, going_end, after_piece, after_end, pieces_join, IsWhole}
+use Rattle.age_stream.proofs.SegmentLemmas.{segment_right}
 use Rattle.age_stream.proofs.TableLemmas.{prepend, fault_after}
 
 -- a whole block that doesn't open as one before the last was tried as the last
 pub tried_last : {B : Type 0} {n : ℕ} {g : _} (opening : OpensBlock) (old new : OpenerState B n g) (answer : Result (Unit {0}) StreamFault) (i : ℕ)
     (block tried : List ℕ) (o : Option (List ℕ)) → opening (nonce_bytes i false) block ≡ None → tried ≡ block → opening (nonce_bytes i true) tried ≡ o
     → IsTried (after_last opening [] i o false false) old answer new → IsTried (one_block opening i block) old answer new
-tried_last opening old new answer i block tried o closed same is =
-    subst (λ (x : Outcome). IsTried x old answer new)
-    (sym (ap (λ (x : Option (List ℕ)). after_front opening (unless_greatest i x) i block) closed
-    ∙ (ap (at_block opening [] i block false false) closed
-    ∙ ap (λ (x : Option (List ℕ)). after_last opening [] i x false false) (ap (opening (nonce_bytes i true)) (sym same) ∙ is))))
+tried_last opening old new answer i block tried o closed same is = grind (arith, common_steps)
 
 -- ---- A piece.
 
 piece_timely : (s : Segment) (p : List ℕ) → (s.ended ≡ false → s.late ≡ false) → (with_piece s p).ended ≡ false → (with_piece s p).late ≡ false
-piece_timely s p timely =
-    by_test (λ (x : Segment). x.ended ≡ false → x.late ≡ false) s.ended _ _ (λ _ e. cc) (λ is _. timely is)
+piece_timely s p timely = grind (arith, common_steps)
 
 failed_shut : (fault : StreamFault) → Failed fault ≡ Open → ⊥
 failed_shut fault e = cc
@@ -46,16 +35,12 @@ done_shut : Done ≡ Open → ⊥
 done_shut e = cc
 
 after_none : (i : ℕ) (s : Status) → status_after false i s ≡ s
-after_none i (Failed f) = refl
-after_none i LastSeen = refl
-after_none i Done = refl
-after_none i Open = refl
+after_none i s = grind (arith, common_steps)
 
 -- the bytes that are held of an open block don't fill it
 short_of : {B : Type 0} {n : ℕ} {g : _} (o : OpenerState B n g) (lent : Bool) → o.lent ≡ lent → o.status ≡ Open
     → length (if lent then [] else o.buffer.items) < n
-short_of o true is open_ = omega (arith, o.sizes)
-short_of o false is open_ = o.room open_ is
+short_of o lent h1 h2 = grind (arith, common_steps)
 
 module _ {B : Type 0} {n : ℕ} {g : _} (sealing : B → Seals) (opening : B → OpensBlock) (old new : OpenerState B n g)
     (valid : IsChunkBox (sealing old.key.now) (opening old.key.now)) (key : new.key ≡ old.key) where
@@ -71,23 +56,12 @@ module _ {B : Type 0} {n : ℕ} {g : _} (sealing : B → Seals) (opening : B →
   stands_at : (next : Segment) → new.index ≡ (out next).index → new.status ≡ (out next).status
       → (new.status ≡ Open → held_bytes new ≡ rest_bytes (text_length n) next.bytes) → (next.ended ≡ false → next.late ≡ false)
       → Stands opening (text_length n) (opener_view new) next
-  stands_at next index status held timely =
-      record {
-        index = index ∙ ap (λ k. (outcome (opening k.now) (text_length n) next).index) (sym key);
-        status = status ∙ ap (λ k. (outcome (opening k.now) (text_length n) next).status) (sym key);
-        held = held;
-        timely = timely;
-      }
+  stands_at next index status held timely = grind (arith, common_steps)
 
   -- the headline of what was released
   right : (next : Segment) (text : List ℕ) → Stands opening (text_length n) (opener_view new) next → released (opening old.key.now) (text_length n) next ≡ text
       → ReleasesWritten (sealing old.key.now) (opening old.key.now) (text_length n) next text new.status
-  right next text h is =
-      let Right : List ℕ → Status → Type 0 = ReleasesWritten (sealing old.key.now) (opening old.key.now) (text_length n) next in
-      let status : (out next).status ≡ new.status = sym (h.status ∙ ap (λ k. (outcome (opening k.now) (text_length n) next).status) key) in
-      let positive : 0 < text_length n = omega (arith, old.sizes) in
-      subst (Right text) status (subst (λ (t : List ℕ). Right t (out next).status) is
-      (segment_right (sealing old.key.now) (opening old.key.now) valid (text_length n) positive next))
+  right next text h is = grind (arith, common_steps, segment_right)
 
   -- what is left of a segment that the opener was given, and the headline of it
   record Follows (s next : Segment) (texts : List (List ℕ)) : Type 0 where
@@ -205,11 +179,7 @@ module _ {B : Type 0} {n : ℕ} {g : _} (sealing : B → Seals) (opening : B →
           (omega (arith, sum, long, length-take room piece, ap length (h.held open_), back))
 
       gained : (s : Segment) → Was s → out (with_piece s front) ≡ prepend (out s).texts trial
-      gained s h =
-          let op = opening old.key.now in
-          (whole s h).is ∙ ap (prepend (out s).texts) (ap (λ (i : ℕ). one_block op i (rest_bytes (text_length n) s.bytes ++ front)) (sym (index ∙ h.index))
-          ∙ (ap (λ (bs : List ℕ). one_block op mid.index (bs ++ front)) (sym (h.held open_))
-          ∙ (ap (one_block op mid.index) (sym items) ∙ ap (λ k. one_block (opening k.now) mid.index mid.buffer.items) (sym same))))
+      gained s h = grind (arith, common_steps, prepend, whole)
 
       pub takes_whole : Tried (Ok tt) → Advances (Ok (room, true))
       takes_whole t =
@@ -321,16 +291,11 @@ module _ {B : Type 0} {n : ℕ} {g : _} (sealing : B → Seals) (opening : B →
       (stays : (earlier : StreamFault) → old.status ≡ Failed earlier → o.status ≡ Failed earlier) where
     after : (key : new.key ≡ old.key) → new.index ≡ o.index → new.status ≡ o.status → (new.status ≡ Open → ⊥) → (s : Segment)
         → Stands opening (text_length n) (opener_view old) s → Stands opening (text_length n) (opener_view new) (with_end s)
-    after key index status shut s h =
-        stands_at sealing opening old new valid key (with_end s) (index ∙ ap (λ (o : Outcome). o.index) (sym (is s h)))
-        (status ∙ ap (λ (o : Outcome). o.status) (sym (is s h))) (λ x. absurd (shut x)) (λ x. cc)
+    after key index status shut s h = grind (arith, common_steps)
 
     all : (bytes : List ℕ) → flat_map (λ (t : List ℕ). t) o.texts ≡ bytes → (s : Segment) → Stands opening (text_length n) (opener_view old) s
         → released (opening old.key.now) (text_length n) (with_end s) ≡ released (opening old.key.now) (text_length n) s ++ bytes
-    all bytes gained s h =
-        let texts = (outcome (opening old.key.now) (text_length n) s).texts in
-        ap (λ (x : Outcome). flat_map (λ (t : List ℕ). t) x.texts) (is s h)
-        ∙ (flat_map-append (λ (t : List ℕ). t) texts o.texts ∙ ap (λ (bs : List ℕ). flat_map (λ (t : List ℕ). t) texts ++ bs) gained)
+    all bytes gained s h = grind (arith, common_steps)
 
     ended_as : (answer : Result ℕ StreamFault) → OpenerEndsAs o old answer new → text.now ≡ front_bytes answer new.buffer.items → Ended answer
     ended_as (Ok len) e front =

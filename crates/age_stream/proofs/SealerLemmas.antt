@@ -1,26 +1,24 @@
 -- A step of a sealer, for each text that it was given; and how much of a whole text's payload its blocks before the last are.
+use Rattle.std.proofs.lemmas.Grind.{common_steps, flat_map-append}
 use Rattle.std.proofs.Common.{◌≡◌, ℕ, ◌<◌, ◌≤◌, ◌+◌, ◌*◌, ◌-◌, refl, ap, sym, subst, ◌∙◌, List, [], ◌∷◌, ◌++◌, length, take, drop, Bool, true, false, take-add}
 use Rattle.std.proofs.Common.{take-append-drop, arith}
-use Rattle.std.specs.Prelude.{Option, Some, None, Result, Ok, Err, IfSome}
+use Rattle.std.specs.Prelude.{Option, Some, None, Result, Ok, IfSome}
 use Rattle.std.specs.Borrow.{Bor}
-use Rattle.std.proofs.lemmas.Bool.Decides.{nat_tests}
-use Rattle.std.proofs.lemmas.List.{append-nil, length-append, length-take, take_at, take_rest}
-use Rattle.std.proofs.lemmas.Grind.{flat_map-append}
-use Rattle.age_chunk.specs.ChunkBoxes.{IsChunkBox, OpensBlock, Seals, tag_length, text_length}
-use Rattle.age_chunk.specs.Payload.{nonce_bytes, chunk_count, last_index, last_chunk, sealed_before_last, block_bytes, pair, payload}
+use Rattle.std.proofs.lemmas.List.{append-nil, length-append, length-take, take_rest}
+use Rattle.std.specs.List.{refill}
+use Rattle.age_chunk.specs.{IsChunkBox, OpensBlock, Seals, tag_length, text_length, nonce_bytes, chunk_count, last_index, last_chunk, sealed_before_last}
+use Rattle.age_chunk.specs.{block_bytes, pair, payload}
 use Rattle.age_chunk.specs.declared.fault.StreamFault.{StreamFault}
-use Rattle.age_stream.specs.Opener.{chunk_bytes}
-use Rattle.age_stream.specs.Sealer.{SealerView, Holds, step_len, sealer_view, IsTaken, Takes}
-use Rattle.age_stream.specs.inner.SealerSteps.{block_or_none, block_lent, IsStep, Grows, SealerCloses, Steps}
+use Rattle.age_stream.specs.{chunk_bytes, SealerView, Holds, step_len, sealer_view, IsTaken, Takes}
+use Rattle.age_stream.specs.inner.{block_or_none, block_lent, IsStep, Grows, SealerCloses, Steps}
 use Rattle.age_stream.specs.declared.sealer.SealerState.{SealerState}
 use Rattle.age_stream.specs.declared.step.Step.{Step}
-use Rattle.age_stream.proofs.LawLemmas.{sealed_grows, payload_is_longer}
-use Rattle.age_stream.proofs.SealingLemmas.{grown_index, grown_chunk, grown_blocks, closed_index, closed_chunk, closed_blocks, last_index_le}
-use Rattle.std.specs.List.{refill}
+use Rattle.age_stream.proofs.ChunkLemmas.{sealed_grows, grown_index, grown_blocks, closed_index, closed_chunk, closed_blocks, last_index_le}
+use Rattle.age_stream.proofs.LawLemmas.{payload_is_longer}
 
 -- no more is taken than came
 pub step_len_le : (m : ℕ) (held piece : List ℕ) → step_len m held piece ≤ length piece
-step_len_le m held piece = grind (arith, nat_tests)
+step_len_le m held piece = grind arith
 
 module _ {B : Type 0} (sealing : B → Seals) (n : ℕ) (old new : SealerView B) (positive : 0 < n) (piece : List ℕ) (taken : ℕ) where
   -- what a step leaves, for a text that the sealer was given
@@ -30,19 +28,7 @@ module _ {B : Type 0} (sealing : B → Seals) (n : ℕ) (old new : SealerView B)
         ≡ block_bytes (sealed_before_last (sealing old.key) n text) ++ block_or_none block
 
   grows : (text : List ℕ) → Holds n old text → Grows sealing n old piece taken new → Follows text None
-  grows text h s =
-      let m = n in
-      let more = take taken piece in
-      let short : length more ≤ taken = omega (arith, length-take taken piece) in
-      let room : length (last_chunk m text) + length more ≤ m = omega (arith, s.room, short, ap length h.held) in
-      record {
-        holds = record {
-          index = s.index ∙ (h.index ∙ sym (grown_index m positive text more room));
-          held = s.held ∙ (ap (λ (t : List ℕ). t ++ more) h.held ∙ sym (grown_chunk m positive text more room));
-        };
-        blocks = ap block_bytes (grown_blocks m positive text more room (sealing old.key))
-            ∙ sym (append-nil (block_bytes (sealed_before_last (sealing old.key) m text)));
-      }
+  grows text h s = grind (arith, common_steps, append-nil, grown_blocks, grown_index, length-take)
 
   closes : (text : List ℕ) (block : List ℕ) (x : ℕ) → take taken piece ≡ x ∷ [] → Holds n old text → SealerCloses sealing n old piece taken block new
       → Follows text (Some block)
@@ -91,12 +77,6 @@ module _ {B : Type 0} {n : ℕ} {g : _} (sealing : B → Seals) (old new : Seale
   abbrev Fed : Result Step StreamFault → Type 0
   Fed answer = IsTaken (text_length n) (sealer_view old) piece answer (sealer_view new) × Takes sealing n (sealer_view old) piece answer
 
-  pub fed_err : (fault : StreamFault) → Steps sealing old piece (Err fault) new → Fed (Err fault)
-  fed_err fault s = (
-    record { key = s.err.key; unfinished = s.err.finished ∙ unfinished; index = tt; unfailed = tt; holds = tt; refused = s.err; unchanged = s.still },
-    record { taken = tt; chunk = tt; whole = tt; fits = tt; refused = (s.refused, s.fault) },
-  )
-
   -- the block that is lent, if any, is the buffer's
   pub fed_ok : (taken : ℕ) (full : Bool) (chunk : Option (Bor (List ℕ))) → chunk_bytes chunk ≡ block_or_none (block_lent new.buffer.items (taken, full))
       → IfSome chunk (λ block. length block.now ≡ n) → Steps sealing old piece (Ok (taken, full)) new
@@ -128,13 +108,7 @@ module _ {B : Type 0} {n : ℕ} {g : _} (sealing : B → Seals) (old new : Seale
 
 pub sealed_in : (sealing : Seals) (given nonce lent block text tag new : List ℕ) → given ≡ nonce → lent ≡ block → block ≡ text ++ tag
     → length tag ≡ tag_length → length new ≡ length block → new ≡ sealing given (take (text_length (length lent)) lent) → refill (length block) block new ≡ sealing nonce text
-sealed_in sealing given nonce lent block text tag new same is parts tag_len len h =
-    let all : lent ≡ text ++ tag = is ∙ parts in
-    let size : length text ≡ text_length (length lent) = omega (arith, ap length all, length-append text tag, tag_len) in
-    let is_text : take (text_length (length lent)) lent ≡ text = ap (take (text_length (length lent))) all ∙ take_at text tag (text_length (length lent)) size in
-    -- a buffer that was filled again with as many bytes has those
-    let refilled : refill (length block) block new ≡ new = take_at new (drop (length new) block) (length block) len in
-    cc (h, same, is_text, refilled)
+sealed_in sealing given nonce lent block text tag new same is parts tag_len len h = grind (arith, common_steps)
 
 -- ---- A whole text.
 

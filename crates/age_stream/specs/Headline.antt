@@ -4,8 +4,8 @@ use Rattle.std.specs.Prelude.{None, if◌then◌else◌, ◌*◌, ◌≤◌, tru
 use Rattle.std.specs.Str.{bytes_eq}
 use Rattle.std.specs.List.{AllByRecursion, flat_map}
 use Rattle.std.specs.Borrow.{Bor}
-use Rattle.age_chunk.specs.ChunkBoxes.{Seals, OpensBlock, tag_length}
-use Rattle.age_chunk.specs.Payload.{nonce_bytes, chunks, sealed, chunk_limit, payload, chunk_count}
+use Rattle.age_chunk.specs.{Seals, OpensBlock, tag_length, nonce_bytes, chunks, sealed, chunk_limit, payload}
+use Rattle.age_chunk.specs.{chunk_count}
 use Rattle.age_chunk.specs.declared.fault.StreamKind.TheVariants.{ChunkDamaged, TooManyChunks}
 use Rattle.age_stream.specs.Segment.{Segment, outcome, failed, block_at, stop, is_tried, standing, accepts}
 use Rattle.age_stream.specs.declared.delivery.Delivery.{Delivery}

@@ -4,13 +4,12 @@ use Rattle.std.specs.Prelude.{◌⊎◌, [], ◌∷◌, ◌++◌, slice_index_or
 use Rattle.std.specs.List.{AllByRecursion, flat_map}
 use Rattle.std.specs.Borrow.{Bor}
 use Rattle.std.specs.Simd.{first_chunks}
-use Rattle.age_chunk.specs.ChunkBoxes.{OfAllBoxes, tag_length, Seals, OpensBlock, IsChunkBox}
-use Rattle.age_chunk.specs.ChunkBoxes.{clear_sealing, clear_opening}
-use Rattle.age_chunk.specs.Payload.{chunk_limit, chunk_count, chunk_length, payload, nonce_bytes, chunks}
-use Rattle.age_chunk.specs.Payload.{sealed, last_index, last_chunk, sealed_before_last, block_bytes}
+use Rattle.age_chunk.specs.{OfAllBoxes, tag_length, Seals, OpensBlock, IsChunkBox, clear_sealing}
+use Rattle.age_chunk.specs.{clear_opening, chunk_limit, chunk_count, chunk_length, payload, nonce_bytes}
+use Rattle.age_chunk.specs.{chunks, sealed, last_index, last_chunk, sealed_before_last, block_bytes}
 use Rattle.age_chunk.specs.declared.fault.StreamFault.{StreamFault}
-use Rattle.age_stream.specs.Segment.{Segment, outcome, standing, text_held, Outcome, released}
-use Rattle.age_stream.specs.Segment.{with_piece, with_end, fresh}
+use Rattle.age_stream.specs.Segment.{Segment, outcome, standing, text_held, Outcome, released, with_piece}
+use Rattle.age_stream.specs.Segment.{with_end, fresh}
 use Rattle.age_stream.specs.Headline.{IsAuthentic, AreAuthentic, IsRest, IsUndamaged, IsPrefixOf}
 use Rattle.age_stream.specs.Headline.{ReleasesWritten}
 use Rattle.age_stream.specs.declared.delivery.Delivery.{Delivery}

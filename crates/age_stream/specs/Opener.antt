@@ -1,11 +1,10 @@
 -- What an opener stands for, what its calls answer, and what it is after them.
-use Rattle.std.specs.Prelude.{ℕ, List, [], Option, Some, None, ◌≡◌, ◌+◌, ◌*◌, ◌/◌, ◌∷◌, length}
-use Rattle.std.specs.Prelude.{take, Bool, true, false, Result, Ok, Err, if◌then◌else◌, ◌-◌, ◌<◌}
-use Rattle.std.specs.Prelude.{◌++◌, min, IfOk, IfErr, OnOk, OnErr, IfSome, IfNone}
+use Rattle.std.specs.Prelude.{ℕ, List, [], Option, Some, None, ◌≡◌, ◌+◌, ◌*◌, ◌/◌, ◌∷◌, length, take, Bool}
+use Rattle.std.specs.Prelude.{true, false, Result, Ok, Err, if◌then◌else◌, ◌-◌, ◌<◌, ◌++◌, min, IfOk, IfErr}
+use Rattle.std.specs.Prelude.{OnOk, OnErr, IfSome, IfNone}
 use Rattle.std.specs.Borrow.{Bor}
 use Rattle.std.specs.List.{flat_map}
-use Rattle.age_chunk.specs.ChunkBoxes.{OpensBlock, tag_length, text_length, Seals}
-use Rattle.age_chunk.specs.Payload.{chunk_limit}
+use Rattle.age_chunk.specs.{OpensBlock, tag_length, text_length, Seals, chunk_limit}
 use Rattle.age_chunk.specs.declared.fault.StreamFault.{StreamFault}
 use Rattle.age_stream.specs.Segment.{Segment, outcome, rest_bytes, released, with_piece, with_end}
 use Rattle.age_stream.specs.Headline.{ReleasesWritten}

@@ -1,7 +1,7 @@
 -- What text a replay holds after any deliveries, and what a drill answers.
 use Rattle.std.specs.Prelude.{◌≡◌, ◌<◌, ◌≤◌, ◌+◌, ℕ, List, [], ◌∷◌, ◌++◌, length, vec_capacity, Result, OnOk}
 use Rattle.std.specs.Prelude.{OnErr}
-use Rattle.age_chunk.specs.ChunkBoxes.{Seals, OpensBlock}
+use Rattle.age_chunk.specs.{Seals, OpensBlock}
 use Rattle.age_chunk.specs.declared.fault.Memory.{Memory}
 use Rattle.age_stream.specs.Segment.{Standing, standing, text_held, outcome}
 use Rattle.age_stream.specs.Headline.{HoldsWritten}

@@ -1,12 +1,11 @@
 -- What a sealer stands for, what its calls answer, and how a whole text is sealed.
-use Rattle.std.specs.Prelude.{◌≡◌, ℕ, ◌-◌, List, [], ◌∷◌, Option, Some, None, length, min, Bool}
-use Rattle.std.specs.Prelude.{nat_lt, ◌==◌, ◌&&◌, ◌||◌, if◌then◌else◌, ◌<◌, ◌++◌, take, true, false}
-use Rattle.std.specs.Prelude.{Result, IfOk, IfErr, IfSome, OnOk, OnErr, ◌+◌, ◌*◌, ◌≤◌}
+use Rattle.std.specs.Prelude.{◌≡◌, ℕ, ◌-◌, List, [], ◌∷◌, Option, Some, None, length, min, Bool, nat_lt, ◌==◌}
+use Rattle.std.specs.Prelude.{◌&&◌, ◌||◌, if◌then◌else◌, ◌<◌, ◌++◌, take, true, false, Result, IfOk, IfErr}
+use Rattle.std.specs.Prelude.{IfSome, OnOk, OnErr, ◌+◌, ◌*◌, ◌≤◌}
 use Rattle.std.specs.Borrow.{Bor}
 use Rattle.std.specs.declared.vec.Vec.{Vec}
-use Rattle.age_chunk.specs.Payload.{chunk_limit, last_index, last_chunk, sealed_before_last}
-use Rattle.age_chunk.specs.Payload.{block_bytes, payload, chunk_count, stream_fault_number}
-use Rattle.age_chunk.specs.ChunkBoxes.{Seals, text_length, OpensBlock, tag_length}
+use Rattle.age_chunk.specs.{chunk_limit, last_index, last_chunk, sealed_before_last, block_bytes, payload}
+use Rattle.age_chunk.specs.{chunk_count, stream_fault_number, Seals, text_length, OpensBlock, tag_length}
 use Rattle.age_chunk.specs.declared.fault.StreamFault.{StreamFault}
 use Rattle.age_chunk.specs.declared.fault.StreamKind.TheVariants.{TooManyChunks}
 use Rattle.age_stream.specs.Opener.{chunk_bytes}

@@ -4,8 +4,7 @@ use Rattle.std.specs.Prelude.{◌∷◌, ◌++◌, length, take, drop, Option, S
 use Rattle.std.specs.Prelude.{if◌then◌else◌, nat_le, min}
 use Rattle.std.specs.List.{flat_map}
 use Rattle.std.specs.Simd.{first_chunks}
-use Rattle.age_chunk.specs.ChunkBoxes.{OpensBlock, tag_length}
-use Rattle.age_chunk.specs.Payload.{nonce_bytes, chunk_limit}
+use Rattle.age_chunk.specs.{OpensBlock, tag_length, nonce_bytes, chunk_limit}
 use Rattle.age_chunk.specs.declared.fault.StreamKind.{StreamKind}
 use Rattle.age_chunk.specs.declared.fault.StreamKind.TheVariants.{ChunkDamaged, ChunkCut, EmptyLast}
 use Rattle.age_chunk.specs.declared.fault.StreamKind.TheVariants.{Truncated, Trailing, TooManyChunks}

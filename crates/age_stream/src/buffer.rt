@@ -1,6 +1,6 @@
 //! The buffer in which a block is sealed or opened.
 ghost use Rattle.std.specs.Prelude.{◌≡◌, ◌+◌, ◌≤◌, ◌++◌, length};
-ghost use Rattle.age_chunk.specs.Payload.{block_length};
+ghost use Rattle.age_chunk.specs.{block_length};
 
 use arrayvec::ArrayVec;
 

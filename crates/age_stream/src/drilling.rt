@@ -1,10 +1,8 @@
 //! Whole lists of deliveries.
 ghost use Rattle.std.specs.Prelude.{◌<◌, ◌≤◌, length, IfOk, OnErr};
 ghost use Rattle.std.specs.List.{flat_map};
-ghost use Rattle.age_stream.specs.Replay.{IsHeldAfter, bytes_in};
-ghost use Rattle.age_stream.specs.Headline.{HoldsWritten};
-ghost use Rattle.age_chunk.specs.Payload.{block_length};
-ghost use Rattle.age_chunk.specs.ChunkBoxes.{tag_length, text_length};
+ghost use Rattle.age_stream.specs.{IsHeldAfter, bytes_in, HoldsWritten};
+ghost use Rattle.age_chunk.specs.{block_length, tag_length, text_length};
 
 use crate::delivery::Delivery;
 use crate::replay::{Drill, Replay};

@@ -1,9 +1,9 @@
 //! What is held under any deliveries.
 ghost use Rattle.std.specs.Prelude.{◌<◌, List};
-ghost use Rattle.age_stream.specs.Segment.{Segment, outcome, released, standing, text_held};
-ghost use Rattle.age_stream.specs.Headline.{HoldsWritten, ReleasesWritten};
+ghost use Rattle.age_stream.specs.Segment.{Segment};
+ghost use Rattle.age_stream.specs.{outcome, released, standing, text_held, HoldsWritten, ReleasesWritten};
 ghost use Rattle.age_stream.specs.declared.delivery.Delivery.{Delivery};
-ghost use Rattle.age_chunk.specs.ChunkBoxes.{tag_length, text_length};
+ghost use Rattle.age_chunk.specs.{tag_length, text_length};
 
 use age_chunk::ChunkBox;
 

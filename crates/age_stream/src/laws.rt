@@ -1,9 +1,9 @@
 //! Laws over the definitions, for the layers above.
-ghost use Rattle.age_stream.specs.Laws.{ChunksAreCounted, ClosedStays, EndCloses, FreshIsOpen, NoncesDiffer};
-ghost use Rattle.age_stream.specs.Laws.{PayloadIsLonger, PiecesJoin, ReleasedGrows, ReleasedIsWritten};
-ghost use Rattle.age_stream.specs.Laws.{SealedGrows, SealingsDiffer, ClearIsSealable, RestIsAuthentic};
-ghost use Rattle.age_stream.specs.Laws.{PayloadRoundTrip, UndamagedIsAuthentic, WholeIsAuthentic};
-ghost use Rattle.age_stream.specs.Laws.{LengthsAreOne, ChunksAreOne, SealsChunks};
+ghost use Rattle.age_stream.specs.{ChunksAreCounted, ClosedStays, EndCloses, FreshIsOpen, NoncesDiffer};
+ghost use Rattle.age_stream.specs.{PayloadIsLonger, PiecesJoin, ReleasedGrows, ReleasedIsWritten};
+ghost use Rattle.age_stream.specs.{SealedGrows, SealingsDiffer, ClearIsSealable, RestIsAuthentic};
+ghost use Rattle.age_stream.specs.{PayloadRoundTrip, UndamagedIsAuthentic, WholeIsAuthentic, LengthsAreOne};
+ghost use Rattle.age_stream.specs.{ChunksAreOne, SealsChunks};
 
 /// No two chunks of a payload have the same nonce.
 pub fn nonces_differ()
@@ -28,7 +28,7 @@ pub fn released_grows()
 
 /// A segment that was given nothing is open. Once it isn't open, more bytes and an end release
 /// nothing, and a refusal stays. After an end it isn't open, and it stands at the same chunk.
-#[tactic(auto, using(crate::proofs::LawLemmas::fresh_is_open, crate::proofs::LawLemmas::end_closes))]
+#[tactic(auto, using(crate::proofs::GoingLemmas::fresh_outcome, crate::proofs::LawLemmas::end_closes))]
 pub fn closed_stays()
     ensures fresh { FreshIsOpen }
     ensures closed { ClosedStays }
@@ -36,7 +36,7 @@ pub fn closed_stays()
 {}
 
 /// The headline of one segment, for every sealing and opening that meet the law of a box.
-#[tactic(auto, using(crate::proofs::LawLemmas::released_is_written))]
+#[tactic(auto, using(crate::proofs::SegmentLemmas::segment_right))]
 pub fn released_is_written()
     ensures { ReleasedIsWritten }
 {}
@@ -54,7 +54,7 @@ pub fn lengths_are_one()
 {}
 
 /// The payload of a text, without its last block, begins the payload of the text and more.
-#[tactic(auto, using(crate::proofs::LawLemmas::sealed_grows))]
+#[tactic(auto, using(crate::proofs::ChunkLemmas::sealed_grows))]
 pub fn sealed_grows()
     ensures { SealedGrows }
 {}
@@ -70,7 +70,7 @@ pub fn chunks_are_counted()
 /// headline, if the last chunk is short or its block doesn't open as one before the last. So does
 /// its rest from a chunk on, and that rest after a restart, if each segment that was given up
 /// before met it.
-#[tactic(auto, using(crate::proofs::HeldLemmas::rest_is_right))]
+#[tactic(auto, using(crate::proofs::ReplayLemmas::rest_is_right))]
 pub fn undamaged_is_authentic()
     ensures whole { WholeIsAuthentic }
     ensures rest { RestIsAuthentic }
@@ -87,14 +87,14 @@ pub fn round_trip()
 /// With [`ClearBox`](crate::ClearBox) every text of at most 2^48 chunks meets what
 /// [`undamaged_is_authentic`] and [`round_trip`] ask of a text: delivered undamaged, its payload
 /// meets the premise of the headline and gives it back.
-#[tactic(auto, using(crate::proofs::HeldLemmas::clear_is_sealable))]
+#[tactic(auto, using(crate::proofs::ReplayLemmas::clear_is_sealable))]
 pub fn clear_is_sealable()
     ensures { ClearIsSealable }
 {}
 
 /// A text has exactly one list of chunks, and the payload seals each at the nonce of its number and
 /// of whether it is the last (<https://c2sp.org/age#payload>).
-#[tactic(auto, using(crate::proofs::PartLemmas::seals_chunks))]
+#[tactic(auto, using(crate::proofs::ChunkLemmas::seals_chunks))]
 pub fn chunks_are_one()
     ensures one { ChunksAreOne }
     ensures sealed { SealsChunks }

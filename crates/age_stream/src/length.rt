@@ -1,6 +1,6 @@
 //! How long a text is, by the length of its payload.
 ghost use Rattle.std.specs.Prelude.{◌<◌, ◌^◌};
-ghost use Rattle.age_stream.specs.Laws.{IsTextLengthOf};
+ghost use Rattle.age_stream.specs.{IsTextLengthOf};
 
 use age_chunk::{BLOCK_LEN, CHUNK_LIMIT, TAG_LEN};
 

@@ -1,11 +1,11 @@
 //! The reader's side: sealed chunks in, text out.
-ghost use Rattle.std.specs.Prelude.{◌≡◌, ◌≢◌, ◌+◌, ◌-◌, ◌<◌, ◌≤◌, [], length, take, IfOk, Some};
-ghost use Rattle.std.specs.Prelude.{None, true, false, if◌then◌else◌, nat_lt, ◌==◌, ◌&&◌};
+ghost use Rattle.std.specs.Prelude.{◌≡◌, ◌≢◌, ◌+◌, ◌-◌, ◌<◌, ◌≤◌, [], length, take, IfOk, Some, None, true};
+ghost use Rattle.std.specs.Prelude.{false, if◌then◌else◌, nat_lt, ◌==◌, ◌&&◌};
 ghost use Rattle.std.specs.Bool.{OnTrue, OnFalse};
 ghost use Rattle.std.specs.Borrow.{sem};
 ghost use Rattle.std.specs.Io.BufRead.{Rests};
-ghost use Rattle.age_chunk.specs.ChunkBoxes.{tag_length, text_length};
-ghost use Rattle.age_chunk.specs.Payload.{nonce_bytes, chunk_limit, chunk_length, block_length};
+ghost use Rattle.age_chunk.specs.{tag_length, text_length, nonce_bytes, chunk_limit, chunk_length};
+ghost use Rattle.age_chunk.specs.{block_length};
 ghost use Rattle.age_stream.specs.declared.step.Status.TheVariants.{Open};
 
 use crate::buffer::push_bytes;
@@ -33,8 +33,8 @@ struct OpenerState<'k, B: ChunkBox, const SEALED: usize> {
 
 impl<'k, B: ChunkBox, const SEALED: usize> OpenerState<'k, B, SEALED> {
     ghost use Rattle.age_stream.specs.Segment.{failed};
-    ghost use Rattle.age_stream.specs.inner.OpenerSteps.{one_block, IsTried, TakesNone, OpenerAdvances};
-    ghost use Rattle.age_stream.specs.inner.OpenerSteps.{OpenerEndsAs, end_of_open, end_of_closed};
+    ghost use Rattle.age_stream.specs.inner.{one_block, IsTried, TakesNone, OpenerAdvances};
+    ghost use Rattle.age_stream.specs.inner.{OpenerEndsAs, end_of_open, end_of_closed};
     ghost use Rattle.age_stream.specs.Opener.{held_bytes};
 
     /// Empties the buffer of a text that was lent.
@@ -228,6 +228,7 @@ impl<'k, B: ChunkBox, const SEALED: usize> Opener<'k, B, SEALED> {
 
     /// An opener of a payload from a chunk on, by the chunk's number, which is below
     /// [`CHUNK_LIMIT`]. Takes no memory.
+    #[tactic(auto, using(crate::proofs::GoingLemmas::fresh_outcome, crate::proofs::GoingLemmas::fresh_rest))]
     pub fn at(key: &'k B, index: u64) -> Self
         requires least { tag_length < SEALED }
         requires most { SEALED ≤ block_length }

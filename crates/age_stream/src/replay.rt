@@ -1,10 +1,9 @@
 //! What a reader holds, under any deliveries.
-ghost use Rattle.std.specs.Prelude.{◌≡◌, ◌+◌, ◌*◌, ◌^◌, ◌<◌, ◌≤◌, [], ◌++◌, length};
-ghost use Rattle.std.specs.Prelude.{OnOk, OnErr, vec_len, vec_capacity, nat_lt, nat_le, ◌&&◌};
+ghost use Rattle.std.specs.Prelude.{◌≡◌, ◌+◌, ◌*◌, ◌^◌, ◌<◌, ◌≤◌, [], ◌++◌, length, vec_len};
+ghost use Rattle.std.specs.Prelude.{vec_capacity, nat_lt, nat_le, ◌&&◌};
 ghost use Rattle.std.specs.Bool.{OnTrue};
 ghost use Rattle.age_stream.specs.Opener.{chunk_bytes};
-ghost use Rattle.age_chunk.specs.Payload.{chunk_limit, block_length};
-ghost use Rattle.age_chunk.specs.ChunkBoxes.{tag_length, text_length};
+ghost use Rattle.age_chunk.specs.{chunk_limit, block_length, tag_length, text_length};
 
 use crate::delivery::Delivery;
 use crate::opener::Opener;
@@ -37,11 +36,10 @@ struct ReplayState<'k, B: ChunkBox, const SEALED: usize> {
 }
 
 impl<'k, B: ChunkBox, const SEALED: usize> ReplayState<'k, B, SEALED> {
-    ghost use Rattle.age_stream.specs.Replay.{IsCramped, replay_view};
-    ghost use Rattle.age_stream.specs.inner.ReplaySteps.{ReplayFeeds, Goes, with_bytes};
+    ghost use Rattle.age_stream.specs.inner.{ReplayFeeds, Goes, Delivers, with_bytes};
     ghost use Rattle.age_stream.specs.Opener.{text_at_end, text_of_piece, whole_text};
     ghost use Rattle.age_stream.specs.Segment.{after_delivery};
-    ghost use Rattle.age_stream.specs.declared.delivery.Delivery.TheVariants.{End, Restart};
+    ghost use Rattle.age_stream.specs.declared.delivery.Delivery.TheVariants.{Piece, End, Restart};
 
     /// Feeds the beginning of a piece, and returns how much was taken, unless the opener refused
     /// it.
@@ -67,9 +65,7 @@ impl<'k, B: ChunkBox, const SEALED: usize> ReplayState<'k, B, SEALED> {
         requires { self.old.opener.status ≡ Status.Open → vec_len self.old.text
             + whole_text (text_length SEALED) (length self.old.opener.held + length piece.now)
             ≤ vec_capacity self.old.text }
-        ensures capacity { vec_capacity self.old.text ≤ vec_capacity self.new.text }
-        ensures fed { Goes B.opening self.old self.new (λ s. with_bytes s piece.now) }
-        ensures key { self.new.key ≡ self.old.key }
+        ensures { Goes B.opening self.old self.new (λ s. with_bytes s piece.now) }
     {
         let mut at = 0;
         while at < piece.len() {
@@ -102,13 +98,7 @@ impl<'k, B: ChunkBox, const SEALED: usize> ReplayState<'k, B, SEALED> {
 
     /// Takes a piece. Its text is made room for first.
     fn take_piece(&mut self, piece: &[u8]) -> Result<(), Memory>
-        ensures fed { OnOk result
-            (Goes B.opening self.old self.new (λ s. with_bytes s piece.now)) }
-        ensures err { OnErr result (replay_view self.new ≡ replay_view self.old) }
-        ensures cramped { OnErr result (vec_capacity self.old.text < vec_len self.old.text
-            + text_of_piece (text_length SEALED) self.old.opener (length piece.now)) }
-        ensures capacity { vec_capacity self.old.text ≤ vec_capacity self.new.text }
-        ensures key { self.new.key ≡ self.old.key }
+        ensures { Delivers B.opening self.old (Piece piece.entry) result self.new }
     {
         let room = self.piece_room(piece);
         self.text.reserve(room)?;
@@ -120,10 +110,8 @@ impl<'k, B: ChunkBox, const SEALED: usize> ReplayState<'k, B, SEALED> {
     fn end_opener(&mut self)
         requires { vec_len self.old.text + text_at_end self.old.opener
             ≤ vec_capacity self.old.text }
-        ensures ended { Goes B.opening self.old self.new
+        ensures { Goes B.opening self.old self.new
             (λ s. after_delivery (B.opening self.old.key.now) (text_length SEALED) s End) }
-        ensures capacity { vec_capacity self.old.text ≤ vec_capacity self.new.text }
-        ensures key { self.new.key ≡ self.old.key }
     {
         if let Ok(text) = self.opener.end() {
             push_text(&mut self.text, text);
@@ -132,13 +120,7 @@ impl<'k, B: ChunkBox, const SEALED: usize> ReplayState<'k, B, SEALED> {
 
     /// Takes an end. Its text is made room for first.
     fn take_end(&mut self) -> Result<(), Memory>
-        ensures ended { OnOk result (Goes B.opening self.old self.new
-            (λ s. after_delivery (B.opening self.old.key.now) (text_length SEALED) s End)) }
-        ensures err { OnErr result (replay_view self.new ≡ replay_view self.old) }
-        ensures cramped { OnErr result (vec_capacity self.old.text
-            < vec_len self.old.text + text_at_end self.old.opener) }
-        ensures capacity { vec_capacity self.old.text ≤ vec_capacity self.new.text }
-        ensures key { self.new.key ≡ self.old.key }
+        ensures { Delivers B.opening self.old End result self.new }
     {
         let room = self.end_room();
         self.text.reserve(room)?;
@@ -157,10 +139,8 @@ impl<'k, B: ChunkBox, const SEALED: usize> ReplayState<'k, B, SEALED> {
 
     /// Starts again at a chunk, if the text reaches it.
     fn restart(&mut self, k: u64)
-        ensures restarted { Goes B.opening self.old self.new
+        ensures { Goes B.opening self.old self.new
             (λ s. after_delivery (B.opening self.old.key.now) (text_length SEALED) s (Restart k)) }
-        ensures capacity { vec_capacity self.old.text ≤ vec_capacity self.new.text }
-        ensures key { self.new.key ≡ self.old.key }
     {
         if self.reaches(k) {
             self.text.truncate((k * self.opener.chunk_len()) as usize);
@@ -172,13 +152,7 @@ impl<'k, B: ChunkBox, const SEALED: usize> ReplayState<'k, B, SEALED> {
 
     /// Takes a delivery.
     fn deliver(&mut self, delivery: &Delivery<'_>) -> Result<(), Memory>
-        ensures stands { OnOk result (Goes B.opening self.old self.new (λ s.
-            after_delivery (B.opening self.old.key.now) (text_length SEALED) s delivery.now)) }
-        ensures err { OnErr result (replay_view self.new ≡ replay_view self.old) }
-        ensures memory { OnErr result
-            (IsCramped (text_length SEALED) (replay_view self.old) delivery.now) }
-        ensures capacity { vec_capacity self.old.text ≤ vec_capacity self.new.text }
-        ensures key { self.new.key ≡ self.old.key }
+        ensures { Delivers B.opening self.old delivery.now result self.new }
     {
         match delivery {
             Delivery::Piece(piece) => self.take_piece(piece),
@@ -215,6 +189,7 @@ impl<'k, B: ChunkBox, const SEALED: usize> Replay<'k, B, SEALED> {
     ghost use Rattle.age_stream.specs.Replay.{Replays, TakesDelivery};
 
     /// A replay that was given nothing yet. Requires `SEALED` from 17 to 65,552. Takes no memory.
+    #[tactic(auto, using(crate::proofs::GoingLemmas::fresh_outcome))]
     pub fn new(alloc: Global, key: &'k B) -> Self
         requires least { tag_length < SEALED }
         requires most { SEALED ≤ block_length }

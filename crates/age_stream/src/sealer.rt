@@ -1,10 +1,8 @@
 //! The writer's side: text in, sealed chunks out.
-ghost use Rattle.std.specs.Prelude.{◌≡◌, ◌+◌, ◌<◌, ◌≤◌, [], length, OnOk, None, IsNone, true};
-ghost use Rattle.std.specs.Prelude.{false};
+ghost use Rattle.std.specs.Prelude.{◌≡◌, ◌+◌, ◌<◌, ◌≤◌, [], length, OnOk, None, IsNone, true, false};
 ghost use Rattle.std.specs.Borrow.{sem};
 ghost use Rattle.std.specs.Io.BufRead.{Rests};
-ghost use Rattle.age_chunk.specs.ChunkBoxes.{tag_length, text_length};
-ghost use Rattle.age_chunk.specs.Payload.{nonce_bytes, chunk_limit, block_length};
+ghost use Rattle.age_chunk.specs.{tag_length, text_length, nonce_bytes, chunk_limit, block_length};
 
 use crate::buffer::push_bytes;
 use crate::step::Step;
@@ -30,7 +28,7 @@ struct SealerState<'k, B: ChunkBox, const SEALED: usize> {
 
 impl<'k, B: ChunkBox, const SEALED: usize> SealerState<'k, B, SEALED> {
     ghost use Rattle.age_stream.specs.Sealer.{held_text, too_many};
-    ghost use Rattle.age_stream.specs.inner.SealerSteps.{Steps, SealerSealsLast};
+    ghost use Rattle.age_stream.specs.inner.{Steps, SealerSealsLast};
 
     /// Empties the buffer of a block that was lent, and puts the byte beside it first.
     fn reclaim(&mut self)

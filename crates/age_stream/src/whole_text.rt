@@ -1,11 +1,11 @@
 //! A caller of the sealer: it feeds a text, and copies out the blocks that are lent.
 ghost use Rattle.std.specs.Prelude.{◌≡◌, ◌-◌, ◌≤◌, ◌<◌, ◌+◌, ◌*◌, ◌/◌, ◌^◌, length, IfSome, IfNone};
 ghost use Rattle.std.specs.Prelude.{vec_capacity};
-ghost use Rattle.age_chunk.specs.Payload.{chunk_count, block_length};
+ghost use Rattle.age_chunk.specs.{chunk_count, block_length};
 ghost use Rattle.age_stream.specs.Sealer.{AppendsPayload, SealsPayload, seal_fault_number, seal_fault_place};
-ghost use Rattle.age_stream.specs.inner.SealerSteps.{SealsWithin};
+ghost use Rattle.age_stream.specs.inner.{SealsWithin};
 ghost use Rattle.age_stream.specs.declared.whole_text.SealFault.TheVariants as refusals;
-ghost use Rattle.age_chunk.specs.ChunkBoxes.{tag_length, text_length};
+ghost use Rattle.age_chunk.specs.{tag_length, text_length};
 
 use crate::replay::push_lent;
 use crate::sealer::Sealer;

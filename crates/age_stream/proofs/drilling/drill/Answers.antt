@@ -1,11 +1,9 @@
 use Rattle.std.proofs.Common.{◌<◌, List, take, arith, subst, sym, ◌∙◌}
 use Rattle.std.proofs.lemmas.List.{take_all, take_more}
-use Rattle.age_stream.specs.declared.delivery.Delivery.{Delivery}
-use Rattle.age_stream.specs.Replay.{Replays}
-use Rattle.age_stream.specs.Headline.{HoldsWritten}
-use Rattle.age_stream.proofs.ReplayLemmas.{cramped_at, on_err, written}
+use Rattle.age_stream.specs.{Delivery, Replays, HoldsWritten}
+use Rattle.age_stream.proofs.{cramped_at, on_err, written}
 use Rattle.age_stream.proofs.drilling.drill.Goals as goal
-use Rattle.age_chunk.specs.ChunkBoxes.{text_length}
+use Rattle.age_chunk.specs.{text_length}
 
 pub returns-in_err-take-clause-memory : goal.returns-in_err-take-clause-memory
 returns-in_err-take-clause-memory g c =

@@ -1,7 +1,7 @@
 use Rattle.std.proofs.Common.{◌≡◌, take}
-use Rattle.age_stream.specs.Replay.{Replays}
+use Rattle.age_stream.specs.{Replays}
 use Rattle.age_stream.proofs.drilling.drill.Given as goal
-use Rattle.age_chunk.specs.ChunkBoxes.{text_length}
+use Rattle.age_chunk.specs.{text_length}
 
 abbrev pub invariant-loop-event : goal.invariant-loop-event
 invariant-loop-event g l =

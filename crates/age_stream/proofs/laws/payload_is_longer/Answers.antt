@@ -2,4 +2,4 @@ use Rattle.age_stream.proofs.LawLemmas.{payload_is_longer}
 use Rattle.age_stream.proofs.laws.payload_is_longer.Goals as goal
 
 pub returns : goal.returns
-returns c = λ sealing opening valid n text. payload_is_longer sealing opening valid n text
+returns c = payload_is_longer

@@ -1,4 +1,4 @@
-use Rattle.age_stream.proofs.GrowingLemmas.{released_grows}
+use Rattle.age_stream.proofs.GoingLemmas.{released_grows}
 use Rattle.age_stream.proofs.laws.released_grows.Goals as goal
 
 pub returns : goal.returns

@@ -1,4 +1,4 @@
-use Rattle.age_stream.proofs.HeldLemmas.{whole_is_right, undamaged_is_right}
+use Rattle.age_stream.proofs.{whole_is_right, undamaged_is_right}
 use Rattle.age_stream.proofs.laws.undamaged_is_authentic.Goals as goal
 
 pub returns-clause-whole : goal.returns-clause-whole

@@ -1,5 +1,5 @@
 use Rattle.std.proofs.Common.{◌≡◌, ap, length, arith, refl}
-use Rattle.age_stream.proofs.SealerLemmas.{sealed_in}
+use Rattle.age_stream.proofs.{sealed_in}
 use Rattle.age_stream.proofs.sealer.seal_in.Goals as goal
 
 pub returns : goal.returns

@@ -1,9 +1,9 @@
 use Rattle.std.proofs.Common.{◌<◌, ◌++◌, List, ℕ, ap, sym, subst, ◌∙◌, arith}
-use Rattle.age_stream.specs.Laws.{GivesBack}
-use Rattle.age_chunk.specs.Payload.{payload}
-use Rattle.age_stream.proofs.HeldLemmas.{comes_back}
+use Rattle.age_stream.specs.{GivesBack}
+use Rattle.age_chunk.specs.{payload}
+use Rattle.age_stream.proofs.{comes_back}
 use Rattle.age_stream.proofs.whole_text.seal_all.Goals as goal
-use Rattle.age_chunk.specs.ChunkBoxes.{text_length}
+use Rattle.age_chunk.specs.{text_length}
 
 pub returns : goal.returns
 returns g c =

@@ -1,10 +1,8 @@
 use Rattle.std.proofs.Common.{◌<◌, ◌≡◌, ◌-◌, ◌≤◌, ℕ, length, take, drop, List, ◌++◌, ap, sym, subst, ◌∙◌, arith}
 use Rattle.std.proofs.lemmas.List.{take_all, length-take, length-drop, length-append, append_assoc}
-use Rattle.age_chunk.specs.ChunkBoxes.{text_length}
-use Rattle.age_chunk.specs.Payload.{last_index, payload}
-use Rattle.age_stream.specs.Sealer.{Holds}
-use Rattle.age_stream.specs.Opener.{chunk_bytes}
-use Rattle.age_stream.proofs.SealerLemmas.{step_len_le, take_on, front_of, fed_on, fed_fits, last_fits}
+use Rattle.age_chunk.specs.{text_length, last_index, payload}
+use Rattle.age_stream.specs.{Holds, chunk_bytes}
+use Rattle.age_stream.proofs.{step_len_le, take_on, front_of, fed_on, fed_fits, last_fits}
 use Rattle.age_stream.proofs.whole_text.seal_within.Goals as goal
 
 pub loop-at-preserved : goal.loop-at-preserved

@@ -1,8 +1,8 @@
 use Rattle.std.proofs.Common.{◌≡◌, ◌-◌, ◌≤◌, ◌++◌, length, take, false, vec_capacity}
-use Rattle.age_stream.specs.Sealer.{Holds}
-use Rattle.age_chunk.specs.Payload.{sealed_before_last, block_bytes}
+use Rattle.age_stream.specs.{Holds}
+use Rattle.age_chunk.specs.{sealed_before_last, block_bytes}
 use Rattle.age_stream.proofs.whole_text.seal_within.Given as goal
-use Rattle.age_chunk.specs.ChunkBoxes.{text_length}
+use Rattle.age_chunk.specs.{text_length}
 
 abbrev pub invariant-loop-at : goal.invariant-loop-at
 invariant-loop-at g l =

@@ -2,7 +2,7 @@ use Rattle.std.proofs.Common.{refl, ap, ℕ, List, [], take}
 use Rattle.std.specs.Prelude.{Ok}
 use Rattle.std.specs.Borrow.{Bor}
 use Rattle.std.proofs.lemmas.Result.{err_from_is_err_and}
-use Rattle.age_stream.proofs.OpenerLemmas.{ended}
+use Rattle.age_stream.proofs.{ended}
 use Rattle.age_stream.proofs.opener.Opener.end.Goals as goal
 
 -- a reference to no bytes

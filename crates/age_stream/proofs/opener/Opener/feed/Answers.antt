@@ -1,7 +1,7 @@
 use Rattle.std.proofs.Common.{refl, ap, sym, ◌∙◌, ℕ, List, length, take}
 use Rattle.std.specs.Borrow.{Bor}
 use Rattle.std.proofs.lemmas.Result.{err_from_is_err_and}
-use Rattle.age_chunk.specs.ChunkBoxes.{text_length}
+use Rattle.age_chunk.specs.{text_length}
 use Rattle.age_stream.proofs.opener.Opener.feed.Goals as goal
 
 -- a reference to these bytes

@@ -1,6 +1,6 @@
 use Rattle.std.proofs.Common.{◌-◌, ap, ◌∙◌, List, ◌++◌, length, take, ℕ, arith}
 use Rattle.std.proofs.lemmas.Result.{err_from_is_err_and}
-use Rattle.age_stream.proofs.OpenerLemmas.{takes_part, takes_whole, takes_refused}
+use Rattle.age_stream.proofs.{takes_part, takes_whole, takes_refused}
 use Rattle.age_stream.proofs.opener.OpenerState.take_open.Goals as goal
 
 pub returns-then-piece-room : goal.returns-then-piece-room

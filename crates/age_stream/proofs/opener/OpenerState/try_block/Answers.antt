@@ -1,7 +1,7 @@
 use Rattle.std.proofs.Common.{refl, ap, sym, ◌∙◌, ℕ, [], ◌∷◌, take}
 use Rattle.std.specs.Prelude.{Ok, Err}
-use Rattle.age_chunk.specs.ChunkBoxes.{text_length}
-use Rattle.age_stream.proofs.OpenerLemmas.{tried_last}
+use Rattle.age_chunk.specs.{text_length}
+use Rattle.age_stream.proofs.{tried_last}
 use Rattle.age_stream.proofs.opener.OpenerState.try_block.Goals as goal
 
 pub returns-then-open_in-2 : goal.returns-then-open_in-2

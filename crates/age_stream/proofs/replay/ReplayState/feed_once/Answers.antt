@@ -1,10 +1,9 @@
 use Rattle.std.proofs.Common.{refl, ap, sym, ◌∙◌, ◌≤◌, arith, length, List, ℕ, [], ◌++◌, append-nil}
 use Rattle.std.proofs.lemmas.List.{length-append}
-use Rattle.age_stream.specs.Replay.{replay_view}
-use Rattle.age_stream.specs.Opener.{chunk_texts, chunk_bytes}
-use Rattle.age_stream.proofs.ReplayLemmas.{room_left, replay_step, lent_flat}
+use Rattle.age_stream.specs.{replay_view, chunk_texts, chunk_bytes}
+use Rattle.age_stream.proofs.{room_left, replay_step, lent_flat}
 use Rattle.age_stream.proofs.replay.ReplayState.feed_once.Goals as goal
-use Rattle.age_chunk.specs.ChunkBoxes.{text_length}
+use Rattle.age_chunk.specs.{text_length}
 
 pub returns-in-Ok : goal.returns-in-Ok
 returns-in-Ok g c =
@@ -21,12 +20,14 @@ returns-in-Ok g c =
     let room = c.requires.room (ok.was_open c.requires.some) in
     record {
       taken = (ok.some c.requires.some, fits);
-      fed = λ s h. replay_step g.B.ChunkBox.opening (text_length g.row.SEALED) (replay_view c.args.self.now) _ s _ (chunk_texts step.chunk) h refl after.key refl
-          (after.stands s.segment h.segment) (ok.texts s.segment h.segment) items;
+      fed = record {
+        stands = λ s h. replay_step g.B.ChunkBox.opening (text_length g.row.SEALED) (replay_view c.args.self.now) _ s _ (chunk_texts step.chunk) h refl after.key refl
+            (after.stands s.segment h.segment) (ok.texts s.segment h.segment) items;
+        capacity = c.push_lent.ensures.capacity;
+        key = refl;
+      };
       room = omega (arith, len, long, was, room, left, c.push_lent.ensures.capacity);
       refused = tt;
-      capacity = c.push_lent.ensures.capacity;
-      key = refl;
     }
 
 pub returns-in-Err : goal.returns-in-Err
@@ -37,10 +38,12 @@ returns-in-Err g c =
       taken = tt;
       fed = tt;
       room = tt;
-      refused = λ s h. replay_step g.B.ChunkBox.opening (text_length g.row.SEALED) (replay_view c.args.self.now) _ s _ [] h refl after.key refl
-          (after.stands s.segment h.segment) (err.texts s.segment h.segment) (sym (append-nil c.args.self.now.text.items));
-      capacity = omega arith;
-      key = refl;
+      refused = record {
+        stands = λ s h. replay_step g.B.ChunkBox.opening (text_length g.row.SEALED) (replay_view c.args.self.now) _ s _ [] h refl after.key refl
+            (after.stands s.segment h.segment) (err.texts s.segment h.segment) (sym (append-nil c.args.self.now.text.items));
+        capacity = omega arith;
+        key = refl;
+      };
     }
 
 pub push_lent-requires : goal.push_lent-requires

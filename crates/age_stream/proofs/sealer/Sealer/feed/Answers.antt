@@ -1,14 +1,6 @@
 use Rattle.std.proofs.Common.{◌∙◌, refl, ap, length, None, Some, true, false}
-use Rattle.std.proofs.lemmas.Result.{err_from_is_err_and}
-use Rattle.age_stream.proofs.SealerLemmas.{fed_err, fed_ok}
+use Rattle.age_stream.proofs.{fed_ok}
 use Rattle.age_stream.proofs.sealer.Sealer.feed.Goals as goal
-
-pub returns-in_err-taken : goal.returns-in_err-taken
-returns-in_err-taken g c =
-    let p = err_from_is_err_and c.from_residual.result c.from_residual.ensures.1 in
-    let e = fed_err g.B.ChunkBox.sealing c.self.inside.state c.step.new.self (ap (λ v. v.finished) c.self.view_is ∙ c.requires) c.args.piece.now _
-    c.in_err-taken.ensures in
-    rw (← c.self.view_is, p.1, p.2) ((refl, λ _. tt, e.0), record { after = tt; takes = e.1 })
 
 pub returns-then-not-full : goal.returns-then-not-full
 returns-then-not-full g c =

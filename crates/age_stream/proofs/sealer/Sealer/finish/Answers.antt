@@ -1,7 +1,7 @@
 use Rattle.std.proofs.Common.{refl, ap}
-use Rattle.age_chunk.specs.ChunkBoxes.{text_length}
-use Rattle.age_stream.specs.Sealer.{sealer_view}
-use Rattle.age_stream.proofs.SealerLemmas.{payload_is}
+use Rattle.age_chunk.specs.{text_length}
+use Rattle.age_stream.specs.{sealer_view}
+use Rattle.age_stream.proofs.{payload_is}
 use Rattle.age_stream.proofs.sealer.Sealer.finish.Goals as goal
 
 pub returns : goal.returns
