@@ -1,30 +1,29 @@
 -- What any calls do to a reader, whether it is given blocks or, by a stream, pieces.
-use Rattle.std.proofs.Common.{inl, inr, ◌≡◌, ◌≢◌, ℕ, zero, suc, ◌+◌, ◌-◌, ◌*◌, ◌<◌, ◌≤◌, refl, ap, sym, subst, ◌∙◌, arith, List, [], ◌∷◌, ◌++◌, length, take, drop, Bool, true}
-use Rattle.std.proofs.Common.{false}
-use Rattle.std.specs.Prelude.{◌==◌, ◌&&◌, ◌⊎◌, nat_le, if◌then◌else◌, Some, Option, is_some}
-use Rattle.std.specs.List.{flat_map, AllByRecursion}
+use Rattle.std.proofs.lemmas.Grind.{common_steps}
+use Rattle.std.proofs.lemmas.Bool.Decides.{eqb_tells}
+use Rattle.std.proofs.Common.{inl, inr, ◌≡◌, ◌≢◌, ℕ, zero, suc, ◌+◌, ◌-◌, ◌*◌, ◌<◌, ◌≤◌, refl, ap, sym, subst, ◌∙◌, arith, List, [], ◌∷◌, ◌++◌, length, take}
+use Rattle.std.proofs.Common.{drop, Bool, true, false}
+use Rattle.std.specs.Prelude.{◌==◌, ◌&&◌, ◌⊎◌, nat_le, if◌then◌else◌, Some, Option}
+use Rattle.std.specs.List.{AllByRecursion}
 use Rattle.std.proofs.lemmas.List.{append_assoc, append-nil, drop_at, length-append, length-take, nil_from_length}
 use Rattle.std.proofs.lemmas.Bool.{and_parts, cases_lt, false≢true, leb-true, ne_eqb}
-use Rattle.std.proofs.lemmas.Bool.Decides.{eqb_tells}
-use Rattle.age_chunk.specs.Payload.{chunk_limit, block_length, chunk_count, chunk_length, payload}
+use Rattle.age_chunk.specs.{chunk_limit, block_length, chunk_count, chunk_length, payload}
 use Rattle.age_chunk.specs.declared.fault.StreamFault.{StreamFault}
 use Rattle.age_chunk.specs.declared.fault.StreamKind.TheVariants.{ChunkDamaged, ChunkCut, EmptyLast, Truncated, Trailing, TooManyChunks}
-use Rattle.age_keys.specs.Keys.{payload_key}
-use Rattle.age_keys.specs.inner.PayloadBox.{box_valid}
-use Rattle.age_stream.specs.Laws.{IsClosed, IsSealable}
-use Rattle.age_stream.specs.Segment.{Segment, Outcome, fresh, outcome, released, with_end, with_piece}
-use Rattle.age_stream.specs.Headline.{IsPrefixOf, IsRest, IsRight, IsFirstWrong}
+use Rattle.age_keys.specs.{payload_key}
+use Rattle.age_keys.specs.inner.{box_valid}
+use Rattle.age_stream.specs.{IsClosed, IsSealable, Outcome, fresh, outcome, released, with_end, with_piece, IsPrefixOf, IsRest, IsRight, IsFirstWrong}
 use Rattle.age_stream.specs.declared.step.Status.{Status}
 use Rattle.age_stream.specs.declared.step.Status.TheVariants.{Done, Failed, Open}
-use Rattle.age_stream.proofs.FreshLemmas.{fresh_outcome}
-use Rattle.age_stream.proofs.LawLemmas.{closed_stays, released_is_written, rest_is_authentic}
-use Rattle.age_c.specs.declared.reader.Reader.{Reader}
-use Rattle.age_c.specs.Calls.{Answers, answer_of, misused, reader_status}
-use Rattle.age_c.specs.Readers.{AllAnswer, AnswersAreCalls, AreCalls, AreCallsAuthentic, AreParts, AreUndamaged, Call, CallsAreWritten, CanBeUsed, GoesTo, IsAt}
-use Rattle.age_c.specs.Readers.{IsCall, IsTextRight, Part, PartsAreWritten, SameFile, after_block, after_call, after_end, given_by, last_reader, reader_text}
-use Rattle.age_c.specs.Readers.{segment_from, texts_of}
-use Rattle.age_c.specs.Places.{OpeningsAreParts}
-use Rattle.age_c.specs.inner.Readers.{key_of_reader as key_of, opens, seals}
+use Rattle.age_stream.specs.Segment.{Segment}
+use Rattle.age_stream.proofs.{fresh_outcome}
+use Rattle.age_stream.proofs.LawLemmas.{closed_stays}
+use Rattle.age_stream.proofs.SegmentLemmas.{segment_right as released_is_written}
+use Rattle.age_stream.proofs.ReplayLemmas.{rest_is_right as rest_is_authentic}
+use Rattle.age_c.specs.{Reader, Answers, answer_of, misused, reader_status, AllAnswer, AnswersAreCalls, AreCalls, AreCallsAuthentic, AreParts, AreUndamaged}
+use Rattle.age_c.specs.{Call, CallsAreWritten, CanBeUsed, GoesTo, IsAt, IsCall, IsTextRight, Part, PartsAreWritten, SameFile, after_block, after_call}
+use Rattle.age_c.specs.{after_end, given_by, last_reader, reader_text, segment_from, texts_of, OpeningsAreParts}
+use Rattle.age_c.specs.inner.{key_of_reader as key_of, opens, seals}
 use Rattle.age_c.proofs.ReaderLemmas.{key_same, some_is, unchanged}
 
 -- ---- One call.
@@ -40,13 +39,13 @@ start_given true bytes s = start_piece s.start s.bytes s.ended s.late bytes
 start_given false bytes s = start_piece s.start s.bytes s.ended s.late bytes
 
 -- the segment after one call
-abbrev pub next : Call → Segment → Segment
+abbrev pub next : {State : Type 0} → Call State → Segment → Segment
 next c s = if c.answer == misused then s else after_call c s
 
-pub misused_next : (c : Call) (s : Segment) → c.answer ≡ misused → next c s ≡ s
+pub misused_next : {State : Type 0} (c : Call State) (s : Segment) → c.answer ≡ misused → next c s ≡ s
 misused_next c s is = ap (λ (n : ℕ). if n == misused then s else after_call c s) is
 
-pub taken_next : (c : Call) (s : Segment) → c.answer ≢ misused → next c s ≡ after_call c s
+pub taken_next : {State : Type 0} (c : Call State) (s : Segment) → c.answer ≢ misused → next c s ≡ after_call c s
 taken_next c s other = ap (λ (b : Bool). if b then s else after_call c s) (ne_eqb c.answer misused other)
 
 -- ---- Numbers.
@@ -58,14 +57,7 @@ pub record IsFault (n : ℕ) : Type 0 where
   pub is : answer_of n ≡ n
 
 fault_by : (n : ℕ) (b : Bool) → (nat_le 17 n && nat_le n 22) ≡ b → answer_of n ≢ 0 → IsFault n
-fault_by n true is some =
-    let both = and_parts (nat_le 17 n) (nat_le n 22) is in
-    record {
-      least = leb-true 17 n both.0;
-      most = leb-true n 22 both.1;
-      is = ap (λ (b : Bool). if b then n else 0) is;
-    }
-fault_by n false is some = absurd (some (ap (λ (b : Bool). if b then n else 0) is))
+fault_by n b h0 h1 = grind (arith, common_steps, and_parts, leb-true)
 
 pub fault_from : (n : ℕ) → answer_of n ≢ 0 → IsFault n
 fault_from n some = fault_by n (nat_le 17 n && nat_le n 22) refl some
@@ -118,10 +110,7 @@ module _ (op : List ℕ → List ℕ → Option (List ℕ)) (m : ℕ) (f : Strea
   }
 
   end_stays : (s : Segment) → IsFailed s → IsFailed (with_end s)
-  end_stays s h = record {
-    timely = λ e. absurd (false≢true (sym e));
-    is = (closed_stays op m s h.timely (shut (outcome op m s).status h.is)).1.fault f h.is;
-  }
+  end_stays s h = grind (arith, common_steps, closed_stays, false≢true, shut)
 
   given_stays : (is_end : Bool) (bytes : List ℕ) (s : Segment) → IsFailed s → IsFailed (if is_end then after_end bytes s else after_block bytes s)
   given_stays true bytes s h = end_stays (with_piece s bytes) (piece_stays s bytes h)
@@ -131,311 +120,264 @@ module _ (op : List ℕ → List ℕ → Option (List ℕ)) (m : ℕ) (f : Strea
   either true s t h g = h
   either false s t h g = g
 
-  next_stays : (c : Call) (s : Segment) → IsFailed s → IsFailed (next c s)
+  next_stays : {State : Type 0} (c : Call State) (s : Segment) → IsFailed s → IsFailed (next c s)
   next_stays c s h = either (c.answer == misused) s (if c.is_end then after_end c.bytes s else after_block c.bytes s) h
       (given_stays c.is_end c.bytes s h)
 
-  stays : (calls : List Call) (s : Segment) → IsFailed s → IsFailed (segment_from s calls)
+  stays : {State : Type 0} (calls : List (Call State)) (s : Segment) → IsFailed s → IsFailed (segment_from s calls)
   stays [] s h = h
   stays (c ∷ calls) s h = stays calls (next c s) (next_stays c s h)
 
 -- ---- What is known of each call.
 
--- of a call before which one segment was given, and another after it, under this key of the payload
-pub record IsKnown (k : List ℕ) (c : Call) (was now : Segment) : Type 0 where
-  pub timely : Timely now
-  pub status : reader_status c.after.state c.after.fault_chunk ≡ Some (outcome (opens k) chunk_length now).status
-  pub start : now.start ≡ was.start
-  pub text : released (opens k) chunk_length now ≡ released (opens k) chunk_length was ++ c.text
-  pub answer : c.answer ≢ misused → c.answer ≡ answer_of c.after.state
-  pub done : c.is_end ≡ true → c.answer ≡ 0 → c.after.state ≡ 3
+-- ---- Every element.
 
-module _ (k : List ℕ) (c : Call) (s : Segment) where
-  pub known_misused : c.answer ≡ misused → c.text ≡ [] → Timely s
-      → reader_status c.after.state c.after.fault_chunk ≡ Some (outcome (opens k) chunk_length s).status → IsKnown k c s (next c s)
-  known_misused is none timely status =
-      subst (IsKnown k c s) (sym (misused_next c s is)) (record {
-        timely = timely;
-        status = status;
-        start = refl;
-        text = sym (append-nil (released (opens k) chunk_length s)) ∙ ap (λ (t : List ℕ). released (opens k) chunk_length s ++ t) (sym none);
-        answer = λ other. absurd (other is);
-        done = λ _ zero. absurd (omega (arith, is, zero));
-      })
-
-  pub known_taken : c.answer ≢ misused → Timely (after_call c s)
-      → reader_status c.after.state c.after.fault_chunk ≡ Some (outcome (opens k) chunk_length (after_call c s)).status
-      → released (opens k) chunk_length (after_call c s) ≡ released (opens k) chunk_length s ++ c.text
-      → c.answer ≡ answer_of c.after.state → (c.is_end ≡ true → c.answer ≡ 0 → c.after.state ≡ 3) → IsKnown k c s (next c s)
-  known_taken other timely status text answer done =
-      subst (IsKnown k c s) (sym (taken_next c s other)) (record {
-        timely = timely;
-        status = status;
-        start = start_given c.is_end c.bytes s;
-        text = text;
-        answer = λ _. answer;
-        done = done;
-      })
-
--- of calls one after the other, from a segment on
-abbrev pub AreKnown : List ℕ → Segment → List Call → Type 0
-AreKnown k s [] = Unit {0}
-AreKnown k s (c ∷ calls) = IsKnown k c s (next c s) × AreKnown k (next c s) calls
-
-start_after : (k : List ℕ) (calls : List Call) (s : Segment) → AreKnown k s calls → (segment_from s calls).start ≡ s.start
-start_after k [] s known = refl
-start_after k (c ∷ calls) s known = start_after k calls (next c s) known.1 ∙ known.0.start
-
-text_after : (k : List ℕ) (calls : List Call) (s : Segment) → AreKnown k s calls
-    → released (opens k) chunk_length (segment_from s calls) ≡ released (opens k) chunk_length s ++ texts_of calls
-text_after k [] s known = sym (append-nil (released (opens k) chunk_length s))
-text_after k (c ∷ calls) s known =
-    text_after k calls (next c s) known.1 ∙ (ap (λ (t : List ℕ). t ++ texts_of calls) known.0.text
-    ∙ append_assoc (released (opens k) chunk_length s) c.text (texts_of calls))
-
--- an end that answers 0 is done
-done_after : (k : List ℕ) (before : List Call) (last : Call) (s : Segment) → AreKnown k s (before ++ last ∷ []) → last.is_end ≡ true
-    → last.answer ≡ 0 → (outcome (opens k) chunk_length (segment_from s (before ++ last ∷ []))).status ≡ Done
-done_after k [] last s known is_end ok =
-    some_is (sym known.0.status ∙ ap (λ (n : ℕ). reader_status n last.after.fault_chunk) (known.0.done is_end ok))
-done_after k (c ∷ before) last s known is_end ok = done_after k before last (next c s) known.1 is_end ok
-
--- of a call among others: its answer, and that all of them have its fault
-record IsOneOf (k : List ℕ) (whole : Segment) (c : Call) : Type 0 where
-  pub answer : c.answer ≢ misused → c.answer ≡ answer_of c.after.state
-  pub fault : (f : StreamFault) → reader_status c.after.state c.after.fault_chunk ≡ Some (Failed f)
-      → (outcome (opens k) chunk_length whole).status ≡ Failed f
-
-each_of : (k : List ℕ) (calls : List Call) (s : Segment) → AreKnown k s calls → AllByRecursion (IsOneOf k (segment_from s calls)) calls
-each_of k [] s known = tt
-each_of k (c ∷ calls) s known = (
-  record {
-    answer = known.0.answer;
-    fault = λ f is. (stays (opens k) chunk_length f calls (next c s)
-        (record { timely = known.0.timely; is = some_is (sym known.0.status ∙ is) })).is;
-  },
-  each_of k calls (next c s) known.1,
-)
-
-all_map : (P Q : Call → Type 0) → ((c : Call) → P c → Q c) → (calls : List Call) → AllByRecursion P calls → AllByRecursion Q calls
+all_map : {Item : Type 0} (P Q : Item → Type 0) → ((c : Item) → P c → Q c) → (calls : List Item) → AllByRecursion P calls → AllByRecursion Q calls
 all_map P Q f [] h = tt
 all_map P Q f (c ∷ calls) h = (f c h.0, all_map P Q f calls h.1)
 
--- a call that was refused refuses all
-refused_whole : (k : List ℕ) (whole : Segment) (c : Call) → IsOneOf k whole c → c.answer ≢ misused → c.answer ≢ 0
-    → (f : StreamFault) × ((outcome (opens k) chunk_length whole).status ≡ Failed f)
-refused_whole k whole c one other some =
-    let refused = refused_of c.after.state c.after.fault_chunk (λ zero. some (one.answer other ∙ zero)) in
-    (refused.0, one.fault refused.0 refused.1)
-
--- and its number is its answer
-refused_state : (k : List ℕ) (whole : Segment) (c : Call) → IsOneOf k whole c → c.answer ≢ misused → c.answer ≢ 0 → c.after.state ≡ c.answer
-refused_state k whole c one other some =
-    let is = one.answer other in
-    sym (fault_from c.after.state (λ zero. some (is ∙ zero))).is ∙ sym is
-
--- ---- What a caller may rely on.
+-- ---- What is left of a text.
 
 -- what is left of a text after this many bytes
 rest_of : (n : ℕ) (text : List ℕ) → n ≤ length text → (more rest : List ℕ) → (take n text ++ more) ++ rest ≡ text → more ++ rest ≡ drop n text
-rest_of n text within more rest e =
-    let front : length (take n text) ≡ n = omega (arith, length-take n text, within) in
-    sym (drop_at (take n text) (more ++ rest) n front) ∙ (ap (drop n) (sym (append_assoc (take n text) more rest)) ∙ ap (drop n) e)
+rest_of n text within more rest e = grind (arith, common_steps, append_assoc, drop_at, length-take)
 
 rest_all : (n : ℕ) (text more : List ℕ) → take n text ++ more ≡ text → n ≤ length text → more ≡ drop n text
 rest_all n text more e within = sym (append-nil more) ∙ rest_of n text within more [] (append-nil (take n text ++ more) ∙ e)
 
 -- past its end nothing is left
 rest_prefix : (n : ℕ) (text more : List ℕ) → IsPrefixOf (take n text ++ more) text → IsPrefixOf more (drop n text)
-rest_prefix n text more p =
-    elim (cases_lt (length text) n) [
-      | inl past ↦
-          (let none : more ≡ [] = nil_from_length more (omega (
-            arith,
-            past,
-            ap length p.1,
-            length-append (take n text ++ more) p.0,
-            length-append (take n text) more,
-            length-take n text,
-          )) in
-          (drop n text, ap (λ (t : List ℕ). t ++ drop n text) none))
-      | inr fits ↦ (p.0, rest_of n text (omega (arith, fits)) more p.0 p.1)
-    ]
+rest_prefix n text more p = grind (arith, common_steps, cases_lt, length-append, length-take, nil_from_length, rest_of)
 
--- what any calls do to the text, of blocks or of pieces
-module _ (r : Reader) (start : ℕ) (limit : start < chunk_limit) (calls : List Call) (text : List ℕ) (few : chunk_count chunk_length text ≤ chunk_limit)
-    (known : AreKnown (key_of r) (fresh start) calls) where
-  abbrev k : List ℕ
-  k = key_of r
+module _ {State : Type 0} (reader : State → Reader) where
+  -- of a call before which one segment was given, and another after it, under this key of the payload
+  record IsKnown (k : List ℕ) (c : Call State) (was now : Segment) : Type 0 where
+    pub timely : Timely now
+    pub status : reader_status (reader c.after).state (reader c.after).fault_chunk ≡ Some (outcome (opens k) chunk_length now).status
+    pub start : now.start ≡ was.start
+    pub text : released (opens k) chunk_length now ≡ released (opens k) chunk_length was ++ c.text
+    pub answer : c.answer ≢ misused → c.answer ≡ answer_of (reader c.after).state
+    pub done : c.is_end ≡ true → c.answer ≡ 0 → (reader c.after).state ≡ 3
 
-  abbrev s : Segment
-  s = given_by start calls
+  module _ (k : List ℕ) (c : Call State) (s : Segment) where
+    known_misused : c.answer ≡ misused → c.text ≡ [] → Timely s
+        → reader_status (reader c.after).state (reader c.after).fault_chunk ≡ Some (outcome (opens k) chunk_length s).status → IsKnown k c s (next c s)
+    known_misused is none timely status = grind (arith, common_steps, append-nil, misused_next)
 
-  abbrev status : Status
-  status = (outcome (opens k) chunk_length s).status
+    known_taken : c.answer ≢ misused → Timely (after_call c s)
+        → reader_status (reader c.after).state (reader c.after).fault_chunk ≡ Some (outcome (opens k) chunk_length (after_call c s)).status
+        → released (opens k) chunk_length (after_call c s) ≡ released (opens k) chunk_length s ++ c.text
+        → c.answer ≡ answer_of (reader c.after).state → (c.is_end ≡ true → c.answer ≡ 0 → (reader c.after).state ≡ 3) → IsKnown k c s (next c s)
+    known_taken other timely status text answer done = grind (arith, common_steps, start_given, taken_next)
 
-  abbrev there : List ℕ
-  there = drop (start * chunk_length) text
+  -- of calls one after the other, from a segment on
+  abbrev AreKnown : List ℕ → Segment → List (Call State) → Type 0
+  AreKnown k s [] = Unit {0}
+  AreKnown k s (c ∷ calls) = IsKnown k c s (next c s) × AreKnown k (next c s) calls
 
-  start_is : s.start ≡ start
-  start_is = start_after k calls (fresh start) known
+  start_after : (k : List ℕ) (calls : List (Call State)) (s : Segment) → AreKnown k s calls → (segment_from s calls).start ≡ s.start
+  start_after k [] s known = refl
+  start_after k (c ∷ calls) s known = start_after k calls (next c s) known.1 ∙ known.0.start
 
-  one_of : AllByRecursion (IsOneOf k s) calls
-  one_of = each_of k calls (fresh start) known
+  text_after : (k : List ℕ) (calls : List (Call State)) (s : Segment) → AreKnown k s calls
+      → released (opens k) chunk_length (segment_from s calls) ≡ released (opens k) chunk_length s ++ texts_of calls
+  text_after k [] s known = sym (append-nil (released (opens k) chunk_length s))
+  text_after k (c ∷ calls) s known =
+      text_after k calls (next c s) known.1 ∙ (ap (λ (t : List ℕ). t ++ texts_of calls) known.0.text
+      ∙ append_assoc (released (opens k) chunk_length s) c.text (texts_of calls))
 
-  abbrev Right : Type 0
-  Right = IsRight (seals k) (opens k) chunk_length text (IsRest (seals k) (opens k) chunk_length text s) s
-      (take (s.start * chunk_length) text ++ reader_text r s) status
+  -- an end that answers 0 is done
+  done_after : (k : List ℕ) (before : List (Call State)) (last : Call State) (s : Segment) → AreKnown k s (before ++ last ∷ []) → last.is_end ≡ true
+      → last.answer ≡ 0 → (outcome (opens k) chunk_length (segment_from s (before ++ last ∷ []))).status ≡ Done
+  done_after k [] last s known is_end ok =
+      some_is (sym known.0.status ∙ ap (λ (n : ℕ). reader_status n (reader last.after).fault_chunk) (known.0.done is_end ok))
+  done_after k (c ∷ before) last s known is_end ok = done_after k before last (next c s) known.1 is_end ok
 
-  right : AreCallsAuthentic r text start calls → Right
-  right authentic =
-      let positive : 0 < chunk_length = omega arith in
-      released_is_written (seals k) (opens k) (box_valid k) chunk_length positive s text few (omega (arith, start_is, limit)) authentic
+  -- of a call among others: its answer, and that all of them have its fault
+  record IsOneOf (k : List ℕ) (whole : Segment) (c : Call State) : Type 0 where
+    pub answer : c.answer ≢ misused → c.answer ≡ answer_of (reader c.after).state
+    pub fault : (f : StreamFault) → reader_status (reader c.after).state (reader c.after).fault_chunk ≡ Some (Failed f)
+        → (outcome (opens k) chunk_length whole).status ≡ Failed f
 
-  -- what was released, after the text before that chunk
-  written : take (s.start * chunk_length) text ++ reader_text r s ≡ take (start * chunk_length) text ++ texts_of calls
-  written =
-      let nothing : reader_text r (fresh start) ≡ [] =
-      ap (λ (o : Outcome). flat_map (λ (t : List ℕ). t) o.texts) (fresh_outcome (opens k) chunk_length start) in
-      ap (λ (n : ℕ). take (n * chunk_length) text ++ reader_text r s) start_is ∙ ap (λ (t : List ℕ). take (start * chunk_length) text ++ t)
-      (text_after k calls (fresh start) known ∙ ap (λ (t : List ℕ). t ++ texts_of calls) nothing)
+  each_of : (k : List ℕ) (calls : List (Call State)) (s : Segment) → AreKnown k s calls → AllByRecursion (IsOneOf k (segment_from s calls)) calls
+  each_of k [] s known = tt
+  each_of k (c ∷ calls) s known = (
+    record {
+      answer = known.0.answer;
+      fault = λ f is. (stays (opens k) chunk_length f calls (next c s)
+          (record { timely = known.0.timely; is = some_is (sym known.0.status ∙ is) })).is;
+    },
+    each_of k calls (next c s) known.1,
+  )
 
-  begins : AreCallsAuthentic r text start calls → IsPrefixOf (texts_of calls) there
-  begins authentic =
-      let prefix = (right authentic).prefix in
-      rest_prefix (start * chunk_length) text (texts_of calls) (prefix.0, ap (λ (t : List ℕ). t ++ prefix.0) (sym written) ∙ prefix.1)
+  -- a call that was refused refuses all
+  refused_whole : (k : List ℕ) (whole : Segment) (c : Call State) → IsOneOf k whole c → c.answer ≢ misused → c.answer ≢ 0
+      → (f : StreamFault) × ((outcome (opens k) chunk_length whole).status ≡ Failed f)
+  refused_whole k whole c one other some =
+      let refused = refused_of (reader c.after).state (reader c.after).fault_chunk (λ zero. some (one.answer other ∙ zero)) in
+      (refused.0, one.fault refused.0 refused.1)
 
-  all_there : (right : Right) → status ≡ Done → (texts_of calls ≡ there) × (start * chunk_length ≤ length text)
-  all_there right done =
-      let within : start * chunk_length ≤ length text =
-      subst (λ (n : ℕ). n * chunk_length ≤ length text) start_is (right.within done) in
-      (rest_all (start * chunk_length) text (texts_of calls) (sym written ∙ right.done done) within, within)
+  -- and its number is its answer
+  refused_state : (k : List ℕ) (whole : Segment) (c : Call State) → IsOneOf k whole c → c.answer ≢ misused → c.answer ≢ 0 → (reader c.after).state ≡ c.answer
+  refused_state k whole c one other some = grind (arith, common_steps, fault_from)
 
-  all_written : AreCallsAuthentic r text start calls → (before : List Call) (last : Call)
-      → calls ≡ before ++ last ∷ [] → last.is_end ≡ true → last.answer ≡ 0 → (texts_of calls ≡ there) × (start * chunk_length ≤ length text)
-  all_written authentic before last parts is_end ok =
-      all_there (right authentic) (subst (λ (cs : List Call). (outcome (opens k) chunk_length (given_by start cs)).status ≡ Done) (sym parts)
-      (done_after k before last (fresh start) (subst (AreKnown k (fresh start)) parts known) is_end ok))
+  -- what any calls do to the text, of blocks or of pieces
+  module _ (r : Reader) (start : ℕ) (limit : start < chunk_limit) (calls : List (Call State)) (text : List ℕ) (few : chunk_count chunk_length text ≤ chunk_limit)
+      (known : AreKnown (key_of r) (fresh start) calls) where
+    abbrev k : List ℕ
+    k = key_of r
 
-  -- ---- the undamaged payload
+    abbrev s : Segment
+    s = given_by start calls
 
-  zero_by : status ≡ Done → (c : Call) → IsOneOf k s c → ((c.answer == 0) ≡ true) × (c.answer ≡ 0) ⊎ ((c.answer == 0) ≡ false) × (c.answer ≢ 0)
-      → c.answer ≢ misused → c.answer ≡ 0
-  zero_by done c is (inl ok) other = ok.1
-  zero_by done c is (inr some) other =
-      let fault = refused_whole k s c is other some.1 in
-      let no : Done ≡ Failed fault.0 = sym done ∙ fault.1 in
-      cc
+    abbrev status : Status
+    status = (outcome (opens k) chunk_length s).status
 
-  undamaged : IsClosed (seals k) (opens k) chunk_length text → start < chunk_count chunk_length text
-      → AreUndamaged r text start calls → (texts_of calls ≡ there) × AllAnswer 0 calls
-  undamaged closed below are_whole =
-      let positive : 0 < chunk_length = omega arith in
-      let rest : IsRest (seals k) (opens k) chunk_length text s = record {
-        below = omega (arith, start_is, below);
-        bytes = ap (λ (s : Segment). s.bytes) are_whole
-            ∙ sym (ap (λ (n : ℕ). drop (n * block_length) (payload (seals k) chunk_length text)) start_is);
-        ended = ap (λ (s : Segment). s.ended) are_whole;
-        timely = ap (λ (s : Segment). s.late) are_whole;
-      } in
-      let sealable : IsSealable (seals k) (opens k) chunk_length text =
-      record { valid = box_valid k; some = positive; few = few; closed = closed } in
-      let authentic = rest_is_authentic (seals k) (opens k) chunk_length text sealable s rest in
-      let right = right authentic in
-      let done = (right.whole rest).1 in (
-        (all_there right done).0,
-        all_map (IsOneOf k s) (λ (c : Call). c.answer ≢ misused → c.answer ≡ 0) (λ c is. zero_by done c is (eqb_tells c.answer 0)) calls one_of,
-      )
+    abbrev there : List ℕ
+    there = drop (start * chunk_length) text
 
-  -- ---- what refusals say
+    start_is : s.start ≡ start
+    start_is = start_after k calls (fresh start) known
 
-  damaged_at : AreCallsAuthentic r text start calls → (c : Call) → IsOneOf k s c → c.answer ≡ 17
-      → IsFirstWrong (seals k) chunk_length text s c.after.fault_chunk
-  damaged_at authentic c is seventeen =
-      let state = refused_state k s c is (λ e. omega (arith, e, seventeen)) (λ e. omega (arith, e, seventeen)) ∙ seventeen in
-      (right authentic).place.damaged c.after.fault_chunk (is.fault (record { kind = ChunkDamaged; chunk = c.after.fault_chunk })
-      (ap (λ (n : ℕ). reader_status n c.after.fault_chunk) state))
+    one_of : AllByRecursion (IsOneOf k s) calls
+    one_of = each_of k calls (fresh start) known
 
-  never_many : AreCallsAuthentic r text start calls → (c : Call) → IsOneOf k s c → c.answer ≢ 22
-  never_many authentic c is many =
-      let state = refused_state k s c is (λ e. omega (arith, e, many)) (λ e. omega (arith, e, many)) ∙ many in
-      (right authentic).place.few c.after.fault_chunk (is.fault (record { kind = TooManyChunks; chunk = c.after.fault_chunk })
-      (ap (λ (n : ℕ). reader_status n c.after.fault_chunk) state))
+    abbrev Right : Type 0
+    Right = IsRight (seals k) (opens k) chunk_length text (IsRest (seals k) (opens k) chunk_length text s) s
+        (take (s.start * chunk_length) text ++ reader_text r s) status
 
-  pub text_right : IsTextRight r text start calls
-  text_right = record {
-    prefix = begins;
-    done = all_written;
-    whole = undamaged;
-    damaged = λ authentic. all_map (IsOneOf k s) _ (damaged_at authentic) calls one_of;
-    few = λ authentic. all_map (IsOneOf k s) _ (never_many authentic) calls one_of;
-  }
+    right : AreCallsAuthentic reader r text start calls → Right
+    right authentic =
+        let positive : 0 < chunk_length = omega arith in
+        released_is_written (seals k) (opens k) (box_valid k) chunk_length positive s text few (omega (arith, start_is, limit)) authentic
 
--- ---- Calls of blocks.
+    -- what was released, after the text before that chunk
+    written : take (s.start * chunk_length) text ++ reader_text r s ≡ take (start * chunk_length) text ++ texts_of calls
+    written = grind (arith, common_steps, fresh_outcome, start_is, text_after)
 
-status_at : (k : List ℕ) (r : Reader) (s : Segment) → key_of r ≡ k → IsAt r s
-    → reader_status r.state r.fault_chunk ≡ Some (outcome (opens k) chunk_length s).status
-status_at k r s key at = at.status ∙ ap (λ (k : List ℕ). Some (outcome (opens k) chunk_length s).status) key
+    begins : AreCallsAuthentic reader r text start calls → IsPrefixOf (texts_of calls) there
+    begins authentic = grind (arith, common_steps, rest_prefix, right, written)
 
-calls_known : (k : List ℕ) (calls : List Call) (r : Reader) (s : Segment) → key_of r ≡ k → IsAt r s → AreCalls r calls → AreKnown k s calls
-calls_known k [] r s key at are = tt
-calls_known k (c ∷ calls) r s key at (inl idle, are) =
-    let here : IsAt c.after s = subst (λ (r : Reader). IsAt r s) (sym idle.1) at in
-    let same : key_of c.after ≡ k = ap key_of idle.1 ∙ key in (
-      known_misused k c s idle.0 idle.2 at.timely (status_at k c.after s same here),
-      calls_known k calls c.after (next c s) same (subst (IsAt c.after) (sym (misused_next c s idle.0)) here) are,
-    )
-calls_known k (c ∷ calls) r s key at (inr taken, are) =
-    let takes = taken.1 in
-    let here : IsAt c.after (after_call c s) = takes.at s at in
-    let same : key_of c.after ≡ k = key_same r c.after takes.same ∙ key in (
-      known_taken k c s taken.0 here.timely (status_at k c.after (after_call c s) same here)
-          (subst (λ (k : List ℕ). released (opens k) chunk_length (after_call c s) ≡ released (opens k) chunk_length s ++ c.text) key
-          (takes.released s at)) takes.answer_is taken.2,
-      calls_known k calls c.after (next c s) same (subst (IsAt c.after) (sym (taken_next c s taken.0)) here) are,
-    )
+    all_there : (right : Right) → status ≡ Done → (texts_of calls ≡ there) × (start * chunk_length ≤ length text)
+    all_there right done = grind (arith, common_steps, rest_all, start_is, written)
+
+    all_written : AreCallsAuthentic reader r text start calls → (before : List (Call State)) (last : Call State)
+        → calls ≡ before ++ last ∷ [] → last.is_end ≡ true → last.answer ≡ 0 → (texts_of calls ≡ there) × (start * chunk_length ≤ length text)
+    all_written authentic before last parts is_end ok = grind (arith, common_steps, all_there, done_after, right)
+
+    -- ---- the undamaged payload
+
+    zero_by : status ≡ Done → (c : Call State) → IsOneOf k s c → ((c.answer == 0) ≡ true) × (c.answer ≡ 0) ⊎ ((c.answer == 0) ≡ false) × (c.answer ≢ 0)
+        → c.answer ≢ misused → c.answer ≡ 0
+    zero_by h0 c h1 h2 h3 = grind (arith, common_steps, refused_whole)
+
+    undamaged : IsClosed (seals k) (opens k) chunk_length text → start < chunk_count chunk_length text
+        → AreUndamaged reader r text start calls → (texts_of calls ≡ there) × AllAnswer 0 calls
+    undamaged closed below are_whole =
+        let positive : 0 < chunk_length = omega arith in
+        let rest : IsRest (seals k) (opens k) chunk_length text s = record {
+          below = omega (arith, start_is, below);
+          bytes = ap (λ (s : Segment). s.bytes) are_whole
+              ∙ sym (ap (λ (n : ℕ). drop (n * block_length) (payload (seals k) chunk_length text)) start_is);
+          ended = ap (λ (s : Segment). s.ended) are_whole;
+          timely = ap (λ (s : Segment). s.late) are_whole;
+        } in
+        let sealable : IsSealable (seals k) (opens k) chunk_length text =
+        record { valid = box_valid k; some = positive; few = few; closed = closed } in
+        let authentic = rest_is_authentic (seals k) (opens k) chunk_length text sealable s rest in
+        let right = right authentic in
+        let done = (right.whole rest).1 in (
+          (all_there right done).0,
+          all_map (IsOneOf k s) (λ (c : Call State). c.answer ≢ misused → c.answer ≡ 0) (λ c is. zero_by done c is (eqb_tells c.answer 0)) calls one_of,
+        )
+
+    -- ---- what refusals say
+
+    damaged_at : AreCallsAuthentic reader r text start calls → (c : Call State) → IsOneOf k s c → c.answer ≡ 17
+        → IsFirstWrong (seals k) chunk_length text s (reader c.after).fault_chunk
+    damaged_at authentic c is seventeen =
+        let state = refused_state k s c is (λ e. omega (arith, e, seventeen)) (λ e. omega (arith, e, seventeen)) ∙ seventeen in
+        (right authentic).place.damaged (reader c.after).fault_chunk (is.fault (record { kind = ChunkDamaged; chunk = (reader c.after).fault_chunk })
+        (ap (λ (n : ℕ). reader_status n (reader c.after).fault_chunk) state))
+
+    never_many : AreCallsAuthentic reader r text start calls → (c : Call State) → IsOneOf k s c → c.answer ≢ 22
+    never_many authentic c is many =
+        let state = refused_state k s c is (λ e. omega (arith, e, many)) (λ e. omega (arith, e, many)) ∙ many in
+        (right authentic).place.few (reader c.after).fault_chunk (is.fault (record { kind = TooManyChunks; chunk = (reader c.after).fault_chunk })
+        (ap (λ (n : ℕ). reader_status n (reader c.after).fault_chunk) state))
+
+    text_right : IsTextRight reader r text start calls
+    text_right = record {
+      prefix = begins;
+      done = all_written;
+      whole = undamaged;
+      damaged = λ authentic. all_map (IsOneOf k s) _ (damaged_at authentic) calls one_of;
+      few = λ authentic. all_map (IsOneOf k s) _ (never_many authentic) calls one_of;
+    }
+
+  -- ---- Calls of a reader, or of what has one: it stands at the status of what it was given.
+
+  module _ (Is : State → Segment → Type 0) (timely : (r : State) (s : Segment) → Is r s → Timely s)
+      (stands : (r : State) (s : Segment) → Is r s
+      → reader_status (reader r).state (reader r).fault_chunk ≡ Some (outcome (opens (key_of (reader r))) chunk_length s).status) where
+    stands_by : (k : List ℕ) (r : State) (s : Segment) → key_of (reader r) ≡ k → Is r s
+        → reader_status (reader r).state (reader r).fault_chunk ≡ Some (outcome (opens k) chunk_length s).status
+    stands_by k r s key is = stands r s is ∙ ap (λ (k : List ℕ). Some (outcome (opens k) chunk_length s).status) key
+
+    calls_known : (k : List ℕ) (calls : List (Call State)) (r : State) (s : Segment) → key_of (reader r) ≡ k → Is r s → AreCalls reader Is r calls → AreKnown k s calls
+    calls_known k [] r s key at are = tt
+    calls_known k (c ∷ calls) r s key at (inl idle, are) =
+        let here : Is c.after s = subst (λ (r : State). Is r s) (sym idle.1) at in
+        let same : key_of (reader c.after) ≡ k = ap (λ (r : State). key_of (reader r)) idle.1 ∙ key in (
+          known_misused k c s idle.0 idle.2 (timely c.after s here) (stands_by k c.after s same here),
+          calls_known k calls c.after (next c s) same (subst (Is c.after) (sym (misused_next c s idle.0)) here) are,
+        )
+    calls_known k (c ∷ calls) r s key at (inr taken, are) =
+        let takes = taken.1 in
+        let now = after_call c s in
+        let here : Is c.after now = takes.at s at in
+        let same : key_of (reader c.after) ≡ k = key_same (reader r) (reader c.after) takes.same ∙ key in (
+          known_taken k c s taken.0 (timely c.after now here) (stands_by k c.after now same here)
+              (subst (λ (k : List ℕ). released (opens k) chunk_length now ≡ released (opens k) chunk_length s ++ c.text) key
+              (takes.released s at)) takes.answer_is taken.2,
+          calls_known k calls c.after (next c s) same (subst (Is c.after) (sym (taken_next c s taken.0)) here) are,
+        )
+
+    pub any_calls : (r : State) (start : ℕ) → Is r (fresh start) → start < chunk_limit → (calls : List (Call State)) → AreCalls reader Is r calls
+        → (text : List ℕ) → chunk_count chunk_length text ≤ chunk_limit → IsTextRight reader (reader r) text start calls
+    any_calls r start is limit calls are text few =
+        text_right (reader r) start limit calls text few (calls_known (key_of (reader r)) calls r (fresh start) refl is are)
 
 pub calls_are_written : CallsAreWritten
 calls_are_written r start h limit calls are text few =
-    text_right r start limit calls text few (calls_known (key_of r) calls r (fresh start) refl h are)
+    any_calls (λ r. r) IsAt (λ r s at. at.timely) (λ r s at. at.status) r start h limit calls are text few
 
 -- what a call promises makes it one of a list
 pub a_call : {State : Type 0} (Fits : Type 0) (Does : ℕ → List ℕ → State → Type 0) (old new : State) (answer written : ℕ) (before after : List ℕ)
     (Takes Ends : Type 0) → Answers Fits Does old new answer written before after → (Does answer (take written after) new → Takes × Ends)
     → ((answer ≡ misused) × (new ≡ old) × (take written after ≡ [])) ⊎ ((answer ≢ misused) × Takes × Ends)
-a_call Fits Does old new answer written before after Takes Ends it does =
-    elim (eqb_tells answer misused) [
-      | inl is ↦ inl (is.1, it.idle is.1, ap (λ (n : ℕ). take n after) (it.nothing (λ zero. omega (arith, zero, is.1))))
-      | inr other ↦ (let did = does (it.taken other.1) in inr (other.1, did.0, did.1))
-    ]
+a_call Fits Does old new answer written before after Takes Ends it does = grind (arith, common_steps, eqb_tells)
 
 pub answers_are_calls : AnswersAreCalls
-answers_are_calls old new bytes before after answer written = (
-  λ it. a_call _ _ old new answer written before after _ _ it (λ takes. (takes, λ is. absurd (false≢true is))),
-  λ it. a_call _ _ old new answer written before after _ _ it (λ ends. (ends.takes, λ is zero. ends.done zero)),
-)
+answers_are_calls old new bytes before after answer written = grind (arith, common_steps, a_call, false≢true)
 
 -- ---- Seeks.
 
 pub same_file : (a b c : Reader) → SameFile a b → SameFile b c → SameFile a c
-same_file a b c x y = record {
-  file_key = y.file_key ∙ x.file_key;
-  nonce = y.nonce ∙ x.nonce;
-  payload_at = y.payload_at ∙ x.payload_at;
-}
+same_file a b c x y = grind (arith, common_steps)
 
-same_call : (r : Reader) (c : Call) → IsCall r c → SameFile r c.after
+same_call : (r : Reader) (c : Call Reader) → IsCall (λ r. r) IsAt r c → SameFile r c.after
 same_call r c (inl idle) = subst (SameFile r) (sym idle.1) (unchanged r)
 same_call r c (inr taken) = taken.1.same
 
-same_calls : (calls : List Call) (r : Reader) → AreCalls r calls → SameFile r (last_reader r calls)
+same_calls : (calls : List (Call Reader)) (r : Reader) → AreCalls (λ r. r) IsAt r calls → SameFile r (last_reader r calls)
 same_calls [] r are = unchanged r
 same_calls (c ∷ calls) r are = same_file r c.after (last_reader c.after calls) (same_call r c are.0) (same_calls calls c.after are.1)
 
 -- parts from a reader of the same file on
 parts_from : (first r : Reader) (parts : List Part) → SameFile first r → AreParts r parts
     → (text : List ℕ) → chunk_count chunk_length text ≤ chunk_limit
-    → AllByRecursion (λ (p : Part). SameFile first p.begun × IsTextRight p.begun text p.chunk p.calls) parts
+    → AllByRecursion (λ (p : Part). SameFile first p.begun × IsTextRight (λ r. r) p.begun text p.chunk p.calls) parts
 parts_from first r [] same are text few = tt
 parts_from first r (p ∷ parts) same are text few =
     let here = same_file first r p.begun same are.1.same in (
@@ -456,16 +398,7 @@ goes_there chunk old new g =
     g.at.index ∙ ap (λ (o : Outcome). o.index) (fresh_outcome (opens (payload_key new.file_key new.nonce)) chunk_length chunk)
 
 pub goes_usable : (chunk : ℕ) (old new : Reader) → GoesTo chunk old new → chunk < chunk_limit → CanBeUsed new
-goes_usable chunk old new g below = record {
-  status = ap is_some (goes_open chunk old new g);
-  chunk = subst (λ (n : ℕ). n < chunk_limit) (sym (goes_there chunk old new g)) below;
-}
+goes_usable chunk old new g below = grind (arith, common_steps, goes_open, goes_there)
 
 pub openings_are_parts : OpeningsAreParts
-openings_are_parts old new chunk block before after answer count it other =
-    let opens_it = it.taken other in
-    let fits = it.meant other in (
-      opens_it.begun,
-      λ whole. (fits.within, opens_it.goes, (inr (other, opens_it.whole whole, λ is. absurd (false≢true is)), tt), tt),
-      λ rest. (fits.within, opens_it.goes, (inr (other, (opens_it.rest rest).takes, λ is zero. (opens_it.rest rest).done zero), tt), tt),
-    )
+openings_are_parts old new chunk block before after answer count it other = grind (arith, common_steps, false≢true)

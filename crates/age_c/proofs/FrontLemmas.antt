@@ -1,26 +1,19 @@
 -- What stands before a payload: a header that is made of the lines of its stanzas, or for a passphrase.
+use Rattle.std.proofs.lemmas.Grind.{common_steps}
 use Rattle.std.proofs.Common.{inl, inr, ◌≡◌, ◌≢◌, ℕ, ◌+◌, ◌<◌, ◌≤◌, List, [], ◌∷◌, ◌++◌, length, take, drop, get_or, zero, suc, refl, sym, ap, subst, ◌∙◌}
 use Rattle.std.proofs.Common.{arith}
 use Rattle.std.specs.Prelude.{codes, replicate}
 use Rattle.std.specs.List.{flat_map}
 use Rattle.std.proofs.lemmas.List.{append-nil, drop_at, length-append, length-take, take_all, take_at, take-append-drop}
-use Rattle.age_stanza.specs.Grammar.{HeadText, end_line, head_text, line, stanza_text, version}
-use Rattle.age_stanza.specs.Laws.{OneHeader}
-use Rattle.age_stanza.specs.Parsing.{HasHeader, head_fault_number}
-use Rattle.age_stanza.specs.Text.{base64_text}
-use Rattle.age_stanza.specs.declared.fault.HeadFault.{HeadFault}
+use Rattle.age_stanza.specs.{HeadText, end_line, head_text, line, stanza_text, version, OneHeader, HasHeader, base64_text}
 use Rattle.age_stanza.specs.declared.header.Header.{Header}
-use Rattle.age_stanza.proofs.TextLemmas.{bytes_from_pass, length-text, text-three, text-two}
-use Rattle.age_stanza.proofs.TextLengthLemmas.{length-head}
-use Rattle.age_keys.specs.Keys.{IsMacOf, header_mac, wrapped_key}
-use Rattle.age_keys.proofs.ScryptLemmas.{other_mac, scrypt_size, size_of_one}
-use Rattle.age_c.specs.Readers.{HasHead, HasNoHead, start_fault_number}
-use Rattle.age_c.specs.Writers.{HasLines, IsFileFront}
+use Rattle.age_stanza.proofs.{bytes_from_pass, length-text, text-three, text-two, length-head}
+use Rattle.age_keys.specs.{IsMacOf, header_mac, wrapped_key, scrypt_head}
+use Rattle.age_keys.proofs.{other_mac, scrypt_size, size_of_one}
+use Rattle.age_c.specs.{HasHead, HasNoHead, start_fault_number, HasLines, IsFileFront}
 use Rattle.age_c.specs.declared.start.StartFault.{StartFault}
-use Rattle.age_c.specs.declared.start.StartFault.TheVariants.{Head, Key, More}
-use Rattle.age_c.specs.inner.Writers.{zero_text}
+use Rattle.age_c.specs.inner.{zero_text}
 use Rattle.age_cipher.proofs.SealingLemmas.{length-sealing}
-use Rattle.age_keys.specs.Scrypt.{wrap_key, scrypt_stanza, scrypt_head}
 
 -- ---- another MAC
 
@@ -86,10 +79,7 @@ none_of_lines law lines text p len same head short h has =
 
 -- what is refused, and not for want of memory, begins with no header
 no_header : (front : List ℕ) (fault : StartFault) → HasNoHead front fault → start_fault_number fault ≢ 28 → ¬ HasHeader front
-no_header front More none other = none.1
-no_header front (Head fault) (inl memory) other = absurd (other (ap (λ (f : HeadFault). head_fault_number f.kind) memory))
-no_header front (Head fault) (inr none) other = none.0
-no_header front (Key fault) none other = absurd none
+no_header front fault h0 h1 = grind (arith, common_steps)
 
 -- and is made of no header's lines
 pub no_lines : (lines text : List ℕ) (fault : StartFault) → text ≡ zero_text lines → HasNoHead text fault → start_fault_number fault ≢ 28
@@ -128,15 +118,7 @@ lines_read lines bytes p len same read whole =
 -- ---- how long what stands before the payload is
 
 pub key_front_size : (lines nonce bytes : List ℕ) (h : Header) → HasLines lines h → IsFileFront h nonce bytes → length bytes ≤ length lines + 256
-key_front_size lines nonce bytes h has front = omega (
-  arith,
-  ap length front.parts,
-  length-append front.front nonce,
-  front.size,
-  ap length front.head.spells.bytes_are,
-  length-head h front.head.spells.valid.mac_length,
-  ap length has.lines_are,
-)
+key_front_size lines nonce bytes h has front = grind (arith, common_steps, length-append, length-head)
 
 -- ---- How long the header of a passphrase is.
 
@@ -147,13 +129,8 @@ wrapped_size wrap key size = omega (arith, length-sealing wrap (replicate 12 0) 
 head_size : (pass salt key : List ℕ) (work : ℕ) → length salt ≡ 16 → length key ≡ 16 → work ≤ 22 → length (scrypt_head pass work salt key).mac ≡ 32
     → length (head_text (scrypt_head pass work salt key)) ≤ 170
 unfolding scrypt_head
-head_size pass salt key work size key_size few mac =
-    let body = wrapped_key (wrap_key pass salt work) key in
-    let stanza = scrypt_size salt body work size (wrapped_size (wrap_key pass salt work) key key_size) few in
-    omega (arith, size_of_one (scrypt_stanza salt work body) (scrypt_head pass work salt key).mac mac, stanza)
+head_size pass salt key work size key_size few mac = grind (arith, common_steps, scrypt_size, size_of_one, wrapped_size)
 
 pub front_size : (pass : List ℕ) (work : ℕ) (key salt nonce bytes : List ℕ)
     → IsFileFront (scrypt_head pass work salt key) nonce bytes → length salt ≡ 16 → length key ≡ 16 → work ≤ 22 → length bytes ≤ 256
-front_size pass work key salt nonce bytes it size key_size few =
-    let head = head_size pass salt key work size key_size few it.head.spells.valid.mac_length in
-    omega (arith, ap length it.parts, length-append it.front nonce, it.size, ap length it.head.spells.bytes_are, head)
+front_size pass work key salt nonce bytes it size key_size few = grind (arith, common_steps, head_size, length-append)

@@ -1,4 +1,5 @@
 -- What is told of a header and its stanzas, and where it ends.
+use Rattle.std.proofs.lemmas.Grind.{common_steps}
 use Rattle.std.proofs.Common.{◌≡◌, ℕ, ◌+◌, ◌-◌, ◌<◌, ◌≤◌, List, [], ◌∷◌, ◌++◌, length, take, drop, min, refl, sym, ap, ◌∙◌, arith, get_or, set, ap₂, subst}
 use Rattle.std.specs.Prelude.{codes, get_or, nat_eq}
 use Rattle.std.specs.List.{flat_map, AllByRecursion, starts_with}
@@ -6,23 +7,16 @@ use Rattle.std.proofs.lemmas.List.{append_assoc, drop_at, length-append, take_at
 use Rattle.std.proofs.lemmas.List.{append-nil, get_or_at}
 use Rattle.std.proofs.lemmas.List.Concat.{flat_map-append}
 use Rattle.std.proofs.lemmas.Slice.{drop-put_mid, take-put_mid}
-use Rattle.age_stanza.specs.Grammar.{IsStanza, argument_line, end_line, head_text, in_lines, line, stanza_text, version, header_limit}
-use Rattle.age_stanza.specs.Parsing.{stanzas_text}
-use Rattle.age_stanza.specs.Text.{base64_text}
+use Rattle.age_stanza.specs.{IsStanza, argument_line, end_line, head_text, in_lines, line, stanza_text, version, header_limit, stanzas_text, base64_text}
 use Rattle.age_stanza.specs.declared.header.Header.{Header}
 use Rattle.age_stanza.specs.declared.header.Stanza.{Stanza}
-use Rattle.age_stanza.proofs.LineLemmas.{All-back}
-use Rattle.age_stanza.proofs.TextLengthLemmas.{length-body}
-use Rattle.age_keys.specs.Scrypt.{IsScryptStanza}
-use Rattle.age_keys.proofs.WorkFactorLemmas.{work_factor_some}
-use Rattle.age_c.specs.Headers.{HasStanza, IsWork, HasStanzas, bodies_of}
-use Rattle.age_c.specs.Readers.{HasHead, HasFront}
+use Rattle.age_stanza.proofs.{All-back, length-body, written_next, length-text}
+use Rattle.age_keys.specs.{IsScryptStanza}
+use Rattle.age_keys.proofs.{work_factor_some}
+use Rattle.age_c.specs.{HasStanza, IsWork, HasStanzas, bodies_of, HasHead, HasFront, EndsAt}
 use borrow.Rule.Slice.PartMut.{put_mid}
-use Rattle.age_stanza.proofs.ElementLemmas.{written_next}
 use Rattle.age_c.specs.declared.stanza_place.StanzaPlace.{StanzaPlace}
-use Rattle.age_c.specs.inner.Readers.{place_of, places_from}
-use Rattle.age_stanza.proofs.TextLemmas.{length-text}
-use Rattle.age_c.specs.Calls.{EndsAt}
+use Rattle.age_c.specs.inner.{place_of, places_from}
 
 -- ---- the work factor
 
@@ -53,29 +47,18 @@ spaced args = flat_map (λ a. 32 ∷ a) args
 
 -- a stanza's text, by its parts
 pub length-stanza : (s : Stanza) → length (stanza_text s) ≡ length (spaced s.args) + length (in_lines (base64_text s.body)) + 3
-length-stanza s =
-    let all = length-append (line (argument_line s.args)) (in_lines (base64_text s.body)) in
-    let first = length-append (argument_line s.args) (10 ∷ []) in
-    omega arith
+length-stanza s = grind (arith, common_steps, length-append)
 
 -- a body is no longer than its lines
 pub body_within : (body : List ℕ) → length body ≤ length (in_lines (base64_text body))
-body_within body =
-    let lines = length-body body in
-    omega arith
+body_within body = grind (arith, common_steps, length-body)
 
 -- ---- where a stanza stands
 
 -- a header's text: what is before a stanza, its text, and what follows
 pub head_parts : (h : Header) (before after : List Stanza) (s : Stanza) → h.stanzas ≡ before ++ s ∷ after
     → head_text h ≡ stanzas_text before ++ (stanza_text s ++ (flat_map stanza_text after ++ line (end_line h.mac)))
-head_parts h before after s parts =
-    let last = line (end_line h.mac) in
-    let more : List ℕ = flat_map stanza_text after in
-    ap (λ (ss : List Stanza). line version ++ (flat_map stanza_text ss ++ last)) parts
-    ∙ (ap (λ (t : List ℕ). line version ++ (t ++ last)) (flat_map-append stanza_text before (s ∷ after))
-    ∙ (ap (λ (t : List ℕ). line version ++ t) (append_assoc (flat_map stanza_text before) (stanza_text s ++ more) last)
-    ∙ ap (λ (t : List ℕ). line version ++ (flat_map stanza_text before ++ t)) (append_assoc (stanza_text s) more last)))
+head_parts h before after s parts = grind (arith, common_steps, append_assoc, flat_map-append)
 
 -- the arguments of a stanza that has some, without the space before them
 abbrev pub letters : List (List ℕ) → List ℕ
@@ -88,18 +71,12 @@ spaced_is (a ∷ args) some = refl
 -- a stanza's text begins with its mark and they follow
 marked : (args : List (List ℕ)) (w lines more : List ℕ) → spaced args ≡ 32 ∷ w
     → (line (argument_line args) ++ lines) ++ more ≡ codes "-> " ++ (w ++ ((10 ∷ lines) ++ more))
-marked args w lines more e =
-    ap (λ (t : List ℕ). (((codes "->" ++ t) ++ 10 ∷ []) ++ lines) ++ more) e ∙ ap (λ (t : List ℕ). codes "-> " ++ t)
-    (append_assoc (w ++ 10 ∷ []) lines more ∙ append_assoc w (10 ∷ []) (lines ++ more))
+marked args w lines more e = grind (arith, common_steps, append_assoc)
 
 -- where they stand
 args_there : (front lines letters rest : List ℕ) (at : ℕ) → front ≡ lines ++ (letters ++ rest) → at ≡ length lines
     → (take (length letters) (drop at front) ≡ letters) × (at + length letters ≤ length front)
-args_there front lines letters rest at e is = (
-  ap (λ (t : List ℕ). take (length letters) (drop at t)) e ∙ ap (take (length letters)) (drop_at lines (letters ++ rest) at (sym is))
-      ∙ take_at letters rest (length letters) refl,
-  omega (arith, ap length e, length-append lines (letters ++ rest), length-append letters rest),
-)
+args_there front lines letters rest at e is = grind (arith, common_steps, drop_at, length-append, take_at)
 
 -- what is told of it
 pub has_stanza : (front : List ℕ) (h : Header) (len : ℕ) (before after : List Stanza) (s : Stanza) (args_at args_len : ℕ) (body : List ℕ)
@@ -140,16 +117,7 @@ has_stanza front h len before after s args_at args_len body has parts at_is len_
 -- the stanzas stand within the header, and the header within the bytes
 pub stanzas_within : (front : List ℕ) (h : Header) (len : ℕ) → HasHead front h len
     → (length (stanzas_text h.stanzas) ≤ header_limit) × (length (stanzas_text h.stanzas) ≤ length front)
-stanzas_within front h len has =
-    let last : List ℕ = line (end_line h.mac) in
-    let more : List ℕ = flat_map stanza_text h.stanzas in
-    let size : length (take len front) ≡ length (line version) + (length more + length last) =
-    ap length has.text.spells.bytes_are
-    ∙ (length-append (line version) (more ++ last) ∙ ap (λ (n : ℕ). length (line version) + n) (length-append more last)) in
-    let parts = length-append (line version) more in
-    let limit = has.text.within in
-    let all = length-take len front in
-    (omega arith, omega arith)
+stanzas_within front h len has = grind (arith, common_steps, length-append, length-take)
 
 -- bodies are no longer than the stanzas that they are in
 pub bodies_within : (ss : List Stanza) → length (bodies_of ss) ≤ length (flat_map stanza_text ss)
@@ -165,20 +133,13 @@ bodies_within (s ∷ ss) =
 -- how long the texts from a stanza on are
 pub stanzas_next : (ss : List Stanza) (i : ℕ) (s : Stanza) → i < length ss → s ≡ get_or ss i s
     → length (flat_map stanza_text (drop i ss)) ≡ length (stanza_text s) + length (flat_map stanza_text (drop (i + 1) ss))
-stanzas_next ss i s lt is =
-    ap (λ (ts : List Stanza). length (flat_map stanza_text ts)) (drop_more ss i s lt ∙ ap (λ (t : Stanza). t ∷ drop (i + 1) ss) (sym is))
-    ∙ length-append (stanza_text s) (flat_map stanza_text (drop (i + 1) ss))
+stanzas_next ss i s lt is = grind (arith, common_steps, drop_more, length-append)
 
 pub place_next : (places next : List StanzaPlace) (ss : List Stanza) (i at body_at : ℕ) (s : Stanza) (all : List StanzaPlace)
     → i < length ss → s ≡ get_or ss i s → i < length places → next ≡ set places i (place_of at body_at s)
     → take i places ++ places_from at body_at (drop i ss) ≡ all
     → take (i + 1) next ++ places_from (at + length (stanza_text s)) (body_at + length s.body) (drop (i + 1) ss) ≡ all
-place_next places next ss i at body_at s all lt is room put told =
-    let it : StanzaPlace = place_of at body_at s in
-    let rest : List StanzaPlace = places_from (at + length (stanza_text s)) (body_at + length s.body) (drop (i + 1) ss) in
-    let first : drop i ss ≡ s ∷ drop (i + 1) ss = drop_more ss i s lt ∙ ap (λ (t : Stanza). t ∷ drop (i + 1) ss) (sym is) in
-    ap (λ (t : List StanzaPlace). t ++ rest) (ap (take (i + 1)) put ∙ take_more_set places i it room) ∙ (append_assoc (take i places) (it ∷ []) rest
-    ∙ (ap (λ (ts : List Stanza). take i places ++ places_from at body_at ts) (sym first) ∙ told))
+place_next places next ss i at body_at s all lt is room put told = grind (arith, common_steps, append_assoc, drop_more, take_more_set)
 
 -- ---- a loop that puts the body of each stanza
 
@@ -192,37 +153,14 @@ pub body_next : (ss : List Stanza) (i : ℕ) (s : Stanza) (n k : ℕ) (out initi
     → body ≡ s.body → put ≡ body → k ≡ length body → length (bodies_of ss) ≤ length out → IsPut ss i n initial out
     → IsPut ss (i + 1) (n + length body) initial (put_mid n k out put)
 body_next ss i s n k out initial put body lt is body_is put_is k_is room was =
-    let first : drop i ss ≡ s ∷ drop (i + 1) ss = drop_more ss i s lt ∙ ap (λ (t : Stanza). t ∷ drop (i + 1) ss) (sym is) in
-    let parts = ap (λ (ts : List Stanza). length (bodies_of ts)) first in
-    let size = length-append s.body (bodies_of (drop (i + 1) ss)) in
-    let all = ap length was.told in
-    let both = length-append (take n out) (bodies_of (drop i ss)) in
-    let front = length-take n out in
-    let same = ap length body_is in
-    let put_size = ap length put_is in
-    let most = was.most in
-    let wrote : take (n + length body) (put_mid n k out put) ≡ take n out ++ s.body =
-    take-put_mid n k out put (n + length body) (omega arith) most ∙ ap (λ (t : List ℕ). take n out ++ t) (put_is ∙ body_is) in
-    record {
-      most = omega (arith, ap length wrote, length-take (n + length body) (put_mid n k out put), length-append (take n out) s.body);
-      told = written_next (λ (t : Stanza). t.body) (take n out) _ (bodies_of ss) ss i s lt is wrote was.told;
-      after = drop-put_mid n k out put (n + length body) (omega arith) most (omega arith)
-          ∙ (sym (drop-drop (length body) n out) ∙ (ap (drop (length body)) was.after ∙ drop-drop (length body) n initial));
-    }
+    grind (arith, common_steps, drop-drop, drop-put_mid, drop_more, length-append, length-take, take-put_mid, written_next)
 
 -- ---- what is told of all stanzas
 
 -- the bytes of a body, after those of the stanzas before it
 body_there : (done rest : List Stanza) (s : Stanza) → (take (length s.body) (drop (length (bodies_of done)) (bodies_of (done ++ s ∷ rest))) ≡ s.body)
     × (length (bodies_of done) + length s.body ≤ length (bodies_of (done ++ s ∷ rest)))
-body_there done rest s =
-    let parts : bodies_of (done ++ s ∷ rest) ≡ bodies_of done ++ (s.body ++ bodies_of rest) =
-    flat_map-append (λ (t : Stanza). t.body) done (s ∷ rest) in (
-      ap (λ (t : List ℕ). take (length s.body) (drop (length (bodies_of done)) t)) parts
-          ∙ (ap (take (length s.body)) (drop_at (bodies_of done) (s.body ++ bodies_of rest) (length (bodies_of done)) refl)
-          ∙ take_at s.body (bodies_of rest) (length s.body) refl),
-      omega (arith, ap length parts, length-append (bodies_of done) (s.body ++ bodies_of rest), length-append s.body (bodies_of rest)),
-    )
+body_there done rest s = grind (arith, common_steps, drop_at, flat_map-append, length-append, take_at)
 
 -- what is told of the stanza at one place
 abbrev Told : List ℕ → Header → ℕ → StanzaPlace → Type 0
@@ -232,13 +170,7 @@ Told front h index it =
 
 told_one : (front : List ℕ) (h : Header) (len : ℕ) (done rest : List Stanza) (s : Stanza) → HasHead front h len → h.stanzas ≡ done ++ s ∷ rest
     → Told front h (length done) (place_of (length (stanzas_text done)) (length (bodies_of done)) s)
-told_one front h len done rest s has parts =
-    let there = body_there done rest s in
-    let same : bodies_of h.stanzas ≡ bodies_of (done ++ s ∷ rest) = ap bodies_of parts in (
-      has_stanza front h len done rest s _ _ _ has parts refl refl
-          (ap (λ (t : List ℕ). take (length s.body) (drop (length (bodies_of done)) t)) same ∙ there.0),
-      omega (arith, ap length same, there.1),
-    )
+told_one front h len done rest s has parts = grind (arith, common_steps, body_there, has_stanza)
 
 told_from : (front : List ℕ) (h : Header) (len at body_at : ℕ) (done rest : List Stanza) → HasHead front h len
     → h.stanzas ≡ done ++ rest → at ≡ length (stanzas_text done) → body_at ≡ length (bodies_of done)

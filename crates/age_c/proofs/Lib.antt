@@ -5,3 +5,8 @@ pub mod StreamLemmas
 pub mod FrontLemmas
 pub mod HeaderLemmas
 pub mod UndamagedOpeningLemmas
+unfoldable pub use ReaderLemmas.*
+unfoldable pub use CallLemmas.*
+unfoldable pub use StreamLemmas.*
+unfoldable pub use FrontLemmas.*
+unfoldable pub use HeaderLemmas.*

@@ -1,35 +1,26 @@
 -- From a reader's numbers to an opener and back.
+use Rattle.std.proofs.lemmas.Grind.{common_steps, flat_map-append}
 use Rattle.std.proofs.Common.{◌≡◌, ◌≢◌, ℕ, ◌+◌, ◌*◌, ◌/◌, ◌<◌, ap, sym, subst, ◌∙◌, refl, arith, List, [], ◌∷◌, ◌++◌, length, true, false, Some, None, Bool}
 use Rattle.std.proofs.Common.{append-nil}
 use Rattle.std.specs.Prelude.{Option, IfSome}
 use Rattle.std.specs.List.{flat_map}
 use Rattle.std.specs.Borrow.{Bor}
 use Rattle.std.proofs.lemmas.List.{length-append, length-drop, nil_from_length}
-use Rattle.std.proofs.lemmas.Grind.{flat_map-append}
-use Rattle.age_stream.specs.Segment.{Segment, Outcome, fresh, outcome, released, rest_bytes, with_piece}
-use Rattle.age_stream.specs.Opener.{chunk_bytes, OpenerView, Stands, chunk_texts, has_failed}
+use Rattle.age_stream.specs.Segment.{Segment}
+use Rattle.age_stream.specs.{fresh, outcome, released, rest_bytes, with_piece, chunk_bytes, OpenerView, Stands, chunk_texts, has_failed}
 use Rattle.age_stream.specs.declared.step.Status.{Status}
 use Rattle.age_stream.specs.declared.step.Status.TheVariants.{Open}
-use Rattle.age_stream.proofs.FreshLemmas.{fresh_outcome, fresh_rest}
-use Rattle.age_c.specs.declared.reader.Reader.{Reader}
-use Rattle.age_c.specs.Calls.{answer_of, reader_status}
-use Rattle.age_c.specs.Readers.{IsAt, SameFile, TakesBlock}
-use Rattle.age_c.specs.inner.Readers.{Keeps, PassesOn, key_of_reader as key_of, opens}
-use Rattle.age_chunk.specs.Payload.{chunk_length, block_length}
+use Rattle.age_stream.proofs.{fresh_outcome, fresh_rest}
+use Rattle.age_c.specs.{Reader, answer_of, reader_status, IsAt, SameFile, TakesBlock}
+use Rattle.age_c.specs.inner.{Keeps, PassesOn, key_of_reader as key_of, opens}
+use Rattle.age_chunk.specs.{chunk_length, block_length}
 
 pub some_is : {A : Type 0} {a b : A} → Some a ≡ Some b → a ≡ b
 some_is e = search
 
 -- a reader that is open at a chunk was given nothing there
 pub at_fresh : (r : Reader) → reader_status r.state r.fault_chunk ≡ Some Open → IsAt r (fresh r.chunk)
-at_fresh r is_open =
-    let o = fresh_outcome (opens (key_of r)) chunk_length r.chunk in
-    record {
-      status = is_open ∙ ap (λ (o : Outcome). Some o.status) (sym o);
-      index = ap (λ (o : Outcome). o.index) (sym o);
-      whole = λ _. fresh_rest chunk_length r.chunk;
-      timely = λ _. refl;
-    }
+at_fresh r is_open = grind (arith, common_steps, fresh_outcome, fresh_rest)
 
 pub unchanged : (r : Reader) → SameFile r r
 unchanged r = record { file_key = refl; nonce = refl; payload_at = refl }
@@ -40,15 +31,7 @@ opener_of r status = record { key = key_of r; held = []; index = r.chunk; status
 
 stands_of : (r : Reader) (status : Status) (s : Segment) → reader_status r.state r.fault_chunk ≡ Some status → IsAt r s
     → Stands opens chunk_length (opener_of r status) s
-stands_of r status s e h =
-    let same : status ≡ (outcome (opens (key_of r)) chunk_length s).status =
-    some_is (sym e ∙ h.status) in
-    record {
-      index = h.index;
-      status = same;
-      held = λ is_open. sym (h.whole (sym same ∙ is_open));
-      timely = h.timely;
-    }
+stands_of r status s e h = grind (arith, common_steps, some_is)
 
 at_of : (r : Reader) (o : OpenerView (List ℕ)) (s : Segment) → o.key ≡ key_of r
     → o.index ≡ r.chunk → reader_status r.state r.fault_chunk ≡ Some o.status
@@ -125,10 +108,7 @@ pub rest_text : (op : List ℕ → List ℕ → Option (List ℕ)) (s next : Seg
     → (outcome op chunk_length next).texts ≡ (outcome op chunk_length s).texts ++ chunk_texts chunk
     → IfSome chunk (λ c. (length c.now ≡ chunk_length) × (length held + taken ≡ block_length) × (new ≡ [])) → held ≡ [] → taken < block_length
     → released op chunk_length next ≡ released op chunk_length s
-rest_text op s next chunk held new taken e lent none lt =
-    let no = no_text chunk held new taken lent none lt in
-    ap (flat_map (λ (t : List ℕ). t)) (e ∙ (ap (λ (ts : List (List ℕ)). (outcome op chunk_length s).texts ++ ts) no
-    ∙ append-nil (outcome op chunk_length s).texts))
+rest_text op s next chunk held new taken e lent none lt = grind (arith, common_steps, append-nil, no_text)
 
 -- what a block released is what was lent of it
 bytes_of_texts : (chunk : Option (Bor (List ℕ))) → flat_map (λ (t : List ℕ). t) (chunk_texts chunk) ≡ chunk_bytes chunk
@@ -138,9 +118,7 @@ bytes_of_texts (Some c) = append-nil c.now
 pub block_text : (op : List ℕ → List ℕ → Option (List ℕ)) (s next : Segment) (chunk : Option (Bor (List ℕ))) (text : List ℕ)
     → (outcome op chunk_length next).texts ≡ (outcome op chunk_length s).texts ++ chunk_texts chunk → text ≡ chunk_bytes chunk
     → released op chunk_length next ≡ released op chunk_length s ++ text
-block_text op s next chunk text e is =
-    ap (flat_map (λ (t : List ℕ). t)) e ∙ (flat_map-append (λ (t : List ℕ). t) (outcome op chunk_length s).texts (chunk_texts chunk)
-    ∙ ap (λ (x : List ℕ). released op chunk_length s ++ x) (bytes_of_texts chunk ∙ sym is))
+block_text op s next chunk text e is = grind (arith, common_steps, bytes_of_texts, flat_map-append)
 
 -- what is passed on after no text was
 pub passes_both : (first second : Segment → Segment) (a b c : OpenerView (List ℕ)) (text : List ℕ) → PassesOn first a b [] → PassesOn second b c text

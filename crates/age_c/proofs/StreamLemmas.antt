@@ -1,24 +1,23 @@
 -- What a stream's steps, and any calls on it, do to the segment that it was given.
+use Rattle.std.proofs.lemmas.Grind.{common_steps}
 use Rattle.std.proofs.Common.{inl, inr, ◌≡◌, ◌≢◌, ℕ, ◌+◌, ◌<◌, ◌≤◌, refl, ap, sym, subst, ◌∙◌, arith, List, [], ◌∷◌, ◌++◌, length, take, true, false}
 use Rattle.std.specs.Prelude.{Some, min, ◌-◌}
 use Rattle.std.specs.List.{flat_map}
 use Rattle.std.proofs.lemmas.Bool.{cases_lt, false≢true}
 use Rattle.std.proofs.lemmas.List.{append-nil, length-take, nil_from_length}
-use Rattle.age_chunk.specs.Payload.{block_length, chunk_length, payload}
-use Rattle.age_keys.specs.Keys.{box, unbox}
-use Rattle.age_stream.specs.Segment.{Segment, Outcome, fresh, outcome, released, with_end, with_piece}
+use Rattle.age_chunk.specs.{block_length, chunk_length, payload}
+use Rattle.age_keys.specs.{box, unbox}
+use Rattle.age_stream.specs.Segment.{Segment}
+use Rattle.age_stream.specs.{Outcome, fresh, released, with_end, with_piece}
 use Rattle.age_stream.specs.declared.step.Status.TheVariants.{Open}
-use Rattle.age_stream.proofs.GoingLemmas.{going, going_part, nothing}
-use Rattle.age_stream.proofs.LawLemmas.{pieces_join}
-use Rattle.age_c.specs.declared.reader.Reader.{Reader}
+use Rattle.age_stream.proofs.{going, going_part, nothing}
+use Rattle.age_stream.proofs.GoingLemmas.{pieces_join}
+use Rattle.age_c.specs.{Reader, answer_of, reader_status, IsAt, IsBlockCall, SameFile, TakesBlock, TakesEnd, after_block, after_end, reader_outcome}
+use Rattle.age_c.specs.{reader_text, AnswersAreFeedCalls, FeedsAreWritten, FeedsStream, FinishesStream, IsStreamCall, StreamMoves}
+use Rattle.age_c.specs.{PiecesReadBack, StreamIsAt, bytes_written, held_block, text_taken}
 use Rattle.age_c.specs.declared.stream.Stream.{Stream}
-use Rattle.age_c.specs.Calls.{answer_of, reader_status}
-use Rattle.age_c.specs.Readers.{IsAt, IsBlockCall, SameFile, TakesBlock, TakesEnd, after_block, after_call, after_end, reader_outcome, reader_text}
-use Rattle.age_c.specs.Streams.{AnswersAreFeedCalls, AreFeedCalls, FeedCall, FeedsAreWritten, FeedsStream, FinishesStream, IsStreamCall, Moves, PiecesReadBack}
-use Rattle.age_c.specs.Streams.{StreamIsAt, bytes_written, held_block, reader_call, reader_calls, text_taken}
-use Rattle.age_c.specs.inner.Readers.{key_of_reader as key_of, opens}
-use Rattle.age_c.proofs.CallLemmas.{AreKnown, Timely, a_call, known_misused, known_taken, misused_next, next, taken_next, text_right, timely_piece}
-use Rattle.age_c.proofs.ReaderLemmas.{key_same, some_is, unchanged}
+use Rattle.age_c.proofs.CallLemmas.{Timely, a_call, any_calls, timely_piece}
+use Rattle.age_c.proofs.ReaderLemmas.{some_is, unchanged}
 use Rattle.age_c.proofs.WriterLemmas.{payload_written, few_chunks}
 
 -- no bytes change nothing
@@ -44,10 +43,7 @@ released_of o = flat_map (λ (t : List ℕ). t) o.texts
 
 -- what is held releases nothing
 stream_same : (st : Stream) (s : Segment) → (h : StreamIsAt st s) → reader_outcome st.reader s ≡ reader_outcome st.reader h.blocks
-stream_same st s h =
-    let size = length-take st.held st.block in
-    ap (reader_outcome st.reader) h.given ∙ part_same st.reader h.blocks (held_block st) h.at (λ some. h.is_open (omega (arith, some, size)))
-    (omega (arith, h.short, size))
+stream_same st s h = grind (arith, common_steps, length-take, part_same)
 
 -- bytes more, after those that are held
 given_more : (st : Stream) (s : Segment) (h : StreamIsAt st s) (more all : List ℕ)
@@ -57,13 +53,7 @@ given_more st s h more all is =
 
 -- a stream that holds nothing
 nothing_held : (st : Stream) (s : Segment) → st.held ≡ 0 → IsAt st.reader s → StreamIsAt st s
-nothing_held st s zero at = record {
-  short = omega (arith, zero);
-  blocks = s;
-  at = at;
-  is_open = λ some. absurd (omega (arith, some, zero));
-  given = sym (ap (λ (n : ℕ). with_piece s (take n st.block)) zero ∙ piece_nil s);
-}
+nothing_held st s zero at = grind (arith, common_steps, piece_nil)
 
 opened : (r : Reader) (s : Segment) → IsAt r s → reader_status r.state r.fault_chunk ≡ Some Open → (reader_outcome r s).status ≡ Open
 opened r s at is = some_is (sym at.status ∙ is)
@@ -101,7 +91,7 @@ feeds_part piece count old new same held more fits count_is short is = record {
 
 -- what is held and the bytes are opened together, and nothing is held then
 moves_of : (with_held next : Segment → Segment) (answer : ℕ) (text : List ℕ) (old new : Stream) → TakesBlock with_held old.reader answer text new.reader
-    → new.held ≡ 0 → ((s : Segment) → (h : StreamIsAt old s) → next s ≡ with_held h.blocks) → Moves next old answer text new
+    → new.held ≡ 0 → ((s : Segment) → (h : StreamIsAt old s) → next s ≡ with_held h.blocks) → StreamMoves next old answer text new
 moves_of with_held next answer text old new takes zero is = record {
   at = λ s h. subst (StreamIsAt new) (sym (is s h)) (nothing_held new (with_held h.blocks) zero (takes.at h.blocks h.at));
   released = λ s h. ap (reader_text old.reader) (is s h) ∙ (takes.released h.blocks h.at
@@ -157,47 +147,17 @@ finishes answer text old new ends zero = record {
 
 -- ---- a list of calls
 
--- what is held leaves the status as it is
-status_there : (k : List ℕ) (s : Stream) (g : Segment) → key_of s.reader ≡ k → StreamIsAt s g
-    → reader_status s.reader.state s.reader.fault_chunk ≡ Some (outcome (opens k) chunk_length g).status
-status_there k s g key h =
-    h.at.status ∙ (ap (λ (o : Outcome). Some o.status) (sym (stream_same s g h)) ∙ ap (λ (k : List ℕ). Some (outcome (opens k) chunk_length g).status) key)
-
-timely_there : (s : Stream) (g : Segment) → StreamIsAt s g → Timely g
-timely_there s g h = subst Timely (sym h.given) (timely_piece h.blocks (held_block s) h.at.timely)
-
-feeds_known : (k : List ℕ) (calls : List FeedCall) (s : Stream) (was : Segment) → key_of s.reader ≡ k → StreamIsAt s was → AreFeedCalls s calls
-    → AreKnown k was (reader_calls calls)
-feeds_known k [] s was key at are = tt
-feeds_known k (c ∷ calls) s was key at (inl idle, are) =
-    let call = reader_call c in
-    let here : StreamIsAt c.after was = subst (λ (s : Stream). StreamIsAt s was) (sym idle.1) at in
-    let same : key_of c.after.reader ≡ k = ap (λ (s : Stream). key_of s.reader) idle.1 ∙ key in (
-      known_misused k call was idle.0 idle.2 (timely_there c.after was here) (status_there k c.after was same here),
-      feeds_known k calls c.after (next call was) same (subst (StreamIsAt c.after) (sym (misused_next call was idle.0)) here) are,
-    )
-feeds_known k (c ∷ calls) s was key at (inr taken, are) =
-    let call = reader_call c in
-    let moves = taken.1 in
-    let now = after_call call was in
-    let here : StreamIsAt c.after now = moves.at was at in
-    let same : key_of c.after.reader ≡ k = key_same s.reader c.after.reader moves.same ∙ key in (
-      known_taken k call was taken.0 (timely_there c.after now here) (status_there k c.after now same here)
-          (subst (λ (k : List ℕ). released (opens k) chunk_length now ≡ released (opens k) chunk_length was ++ c.text) key (moves.released was at))
-          moves.answer_is taken.2,
-      feeds_known k calls c.after (next call was) same (subst (StreamIsAt c.after) (sym (taken_next call was taken.0)) here) are,
-    )
-
 pub feeds_are_written : FeedsAreWritten
 feeds_are_written s start at empty limit calls are text few =
-    text_right s.reader start limit (reader_calls calls) text few
-    (feeds_known (key_of s.reader) calls s (fresh start) refl (nothing_held s (fresh start) empty at) are)
+    any_calls (λ s. s.reader) StreamIsAt (λ s g h. subst Timely (sym h.given) (timely_piece h.blocks (held_block s) h.at.timely))
+    (λ s g h. h.at.status ∙ ap (λ (o : Outcome). Some o.status) (sym (stream_same s g h))) s start
+    (nothing_held s (fresh start) empty at) limit calls are text few
 
 -- ---- answers are calls
 
 -- an end that is given no bytes
-ends_with_none : (old : Stream) (answer : ℕ) (text : List ℕ) (new : Stream) → Moves with_end old answer text new
-    → Moves (λ (s : Segment). with_end (with_piece s [])) old answer text new
+ends_with_none : (old : Stream) (answer : ℕ) (text : List ℕ) (new : Stream) → StreamMoves with_end old answer text new
+    → StreamMoves (λ (s : Segment). with_end (with_piece s [])) old answer text new
 ends_with_none old answer text new moves = record {
   at = λ s h. subst (λ (t : Segment). StreamIsAt new (with_end t)) (sym (piece_nil s)) (moves.at s h);
   released = λ s h. ap (λ (t : Segment). reader_text old.reader (with_end t)) (piece_nil s) ∙ moves.released s h;

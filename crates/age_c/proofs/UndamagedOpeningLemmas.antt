@@ -1,37 +1,30 @@
 -- A block that came undamaged at its place is opened.
-use Rattle.std.proofs.Common.{inl, inr, ◌≡◌, ◌≢◌, ℕ, ◌+◌, ◌*◌, ◌/◌, ◌<◌, ◌≤◌, ap, sym, subst, ◌∙◌, arith, List, [], ◌∷◌, ◌++◌, length, get_or, take, drop}
-use Rattle.std.proofs.Common.{Bool, true, false, Option, Some, None}
-use Rattle.std.specs.Prelude.{◌==◌, ◌||◌, if◌then◌else◌, nat_lt, slice_get}
-use Rattle.std.specs.List.{flat_map, AllByRecursion}
-use Rattle.std.specs.Simd.{first_chunks}
-use Rattle.std.proofs.lemmas.Bool.{cases_lt, eq-eqb, le-ltb, lt-ltb, ne_eqb}
+use Rattle.std.proofs.lemmas.Grind.{common_steps, flat_map-append}
 use Rattle.std.proofs.lemmas.Bool.Decides.{eqb_tells}
-use Rattle.std.proofs.lemmas.Grind.{flat_map-append}
-use Rattle.std.proofs.lemmas.List.{append-nil, drop_at, get_or_append_left, get_or_push, length-drop, length-take, length_push, take_all}
-use Rattle.std.proofs.lemmas.Nat.{div-mul-add}
-use Rattle.age_chunk.specs.ChunkBoxes.{tag_length}
-use Rattle.age_chunk.specs.Payload.{block_bytes, block_length, chunk_count, chunk_length, chunk_limit, chunks, last_chunk, last_index, nonce_bytes, pair}
-use Rattle.age_chunk.specs.Payload.{payload, sealed, sealed_before_last}
+use Rattle.std.proofs.Common.{inl, inr, ◌≡◌, ◌≢◌, ℕ, ◌+◌, ◌*◌, ◌/◌, refl, ◌<◌, ◌≤◌, ap, sym, subst, ◌∙◌, arith, List, [], ◌∷◌, ◌++◌, length, get_or, take, drop}
+use Rattle.std.proofs.Common.{Bool, true, false, Option, Some, None}
+use Rattle.std.specs.Prelude.{◌==◌}
+use Rattle.std.specs.List.{AllByRecursion}
+use Rattle.std.specs.Simd.{first_chunks}
+use Rattle.std.proofs.lemmas.Bool.{cases_lt, eq-eqb, lt-ltb, ne_eqb}
+use Rattle.std.proofs.lemmas.List.{append-nil, drop_at, get_or_append_left, get_or_push, length-drop, length-take, length_push}
+use Rattle.age_chunk.specs.{tag_length, block_bytes, block_length, chunk_count, chunk_length, chunk_limit, chunks, last_chunk, last_index, nonce_bytes, pair}
+use Rattle.age_chunk.specs.{payload, sealed, sealed_before_last}
 use Rattle.age_chunk.specs.declared.fault.StreamFault.{StreamFault}
-use Rattle.age_chunk.proofs.FirstChunkLemmas.{get_or-first_chunks, length-first_chunks}
-use Rattle.age_chunk.proofs.NonceLemmas.{nonce_bytes-length}
-use Rattle.age_keys.specs.inner.PayloadBox.{box_valid}
-use Rattle.age_stream.specs.Laws.{IsClosed}
-use Rattle.age_stream.specs.Segment.{Segment, Outcome, fresh, outcome, rest_bytes, text_before_last, text_then, unless_greatest, whole_blocks}
-use Rattle.age_stream.specs.inner.OpenerSteps.{after_last, at_block}
+use Rattle.age_chunk.proofs.{get_or-first_chunks, length-first_chunks, nonce_bytes-length}
+use Rattle.age_keys.specs.inner.{box_valid}
+use Rattle.age_stream.specs.{IsClosed, Outcome, fresh, outcome, rest_bytes}
 use Rattle.age_stream.specs.declared.step.Status.{Status}
 use Rattle.age_stream.specs.declared.step.Status.TheVariants.{Failed, LastSeen, Open}
-use Rattle.age_stream.proofs.ChunkLemmas.{last_chunk_le}
-use Rattle.age_stream.proofs.FreshLemmas.{fresh_outcome}
+use Rattle.age_stream.specs.Segment.{Segment}
+use Rattle.age_stream.specs.inner.{one_block}
+use Rattle.age_stream.proofs.GoingLemmas.{going_whole, fresh_rest}
+use Rattle.age_stream.proofs.TableLemmas.{prepend}
+use Rattle.age_stream.proofs.{going, last_chunk_le, fresh_outcome, sealed_at, last_index_le}
 use Rattle.age_stream.proofs.LawLemmas.{payload_is_longer}
-use Rattle.age_stream.proofs.PartLemmas.{sealed_at}
-use Rattle.age_stream.proofs.SealingLemmas.{last_index_le}
-use Rattle.age_stream.proofs.TableLemmas.{by_blocks, outcome_of, verdict_at}
-use Rattle.age_c.specs.Calls.{answer_of, misused, reader_status}
-use Rattle.age_c.specs.Readers.{Call, IsAt, SameFile, TakesBlock, TakesEnd, after_block}
-use Rattle.age_c.specs.Places.{AreOpenings, IsOpenedRight, Opening, OpensAt, UndamagedOpens, chunk_of}
-use Rattle.age_c.specs.declared.reader.Reader.{Reader}
-use Rattle.age_c.specs.inner.Readers.{key_of_reader as key_of, opens, seals}
+use Rattle.age_c.specs.{answer_of, misused, reader_status, Call, IsAt, SameFile, TakesBlock, TakesEnd, after_block, AreOpenings, IsOpenedRight, Opening}
+use Rattle.age_c.specs.{OpensAt, UndamagedOpens, chunk_of, Reader}
+use Rattle.age_c.specs.inner.{key_of_reader as key_of, opens, seals}
 use Rattle.age_c.proofs.CallLemmas.{calls_are_written, fault_from, refused_of, same_file, taken_next}
 use Rattle.age_c.proofs.ReaderLemmas.{key_same, unchanged}
 
@@ -41,41 +34,23 @@ module _ (opening : List ℕ → List ℕ → Option (List ℕ)) (n i : ℕ) (bl
   abbrev pub one : Segment
   one = record { start = i; bytes = block; ended = false; late = false }
 
-  blocks : whole_blocks n block ≡ block ∷ []
-  blocks =
-      let positive : 0 < n + tag_length = omega arith in
-      let size : length block ≡ 1 * (n + tag_length) + 0 = omega (arith, len) in
-      let count : length block / (n + tag_length) ≡ 1 = ap (λ (k : ℕ). k / (n + tag_length)) size ∙ div-mul-add 1 (n + tag_length) 0 positive in
-      ap (λ (c : ℕ). first_chunks (n + tag_length) c block) count ∙ ap (λ (b : List ℕ). b ∷ []) (take_all (n + tag_length) block (omega (arith, len)))
-
-  abbrev by_text : Option (List ℕ) → Outcome
-  by_text o =
-      let texts = text_then opening o [] in
-      verdict_at opening texts (i + length texts) (slice_get (block ∷ []) (length texts))
-      (nat_lt ((length texts + 1) * (n + tag_length)) (length block)) (rest_bytes n block) false false
-
-  by_front : outcome opening n one ≡ by_text (text_before_last opening i block)
-  by_front = by_blocks opening n one ∙ ap (λ (bs : List (List ℕ)). outcome_of opening n i bs (length block) (rest_bytes n block) false false) blocks
+  by_front : outcome opening n one ≡ one_block opening i block
+  by_front =
+      let begun = fresh_outcome opening n i in
+      let size : length (rest_bytes n []) + length block ≡ n + tag_length = omega (arith, len, ap length (fresh_rest n i)) in
+      (going_whole opening n (fresh i) block (going opening n (fresh i) (ap (λ (o : Outcome). o.status) begun)) refl size).is
+      ∙ (ap (λ (o : Outcome). prepend o.texts (one_block opening o.index (rest_bytes n [] ++ block))) begun
+      ∙ ap (λ (b : List ℕ). one_block opening i (b ++ block)) (fresh_rest n i))
 
   -- it opens as one before the last
   pub opens_before : opening (nonce_bytes i false) block ≡ Some text → i + 1 < chunk_limit
       → outcome opening n one ≡ record { texts = text ∷ []; index = i + 1; status = Open }
-  opens_before is lt =
-      by_front ∙ (ap (λ (o : Option (List ℕ)). by_text (unless_greatest i o)) is
-      ∙ ap (λ (b : Bool). by_text (if b then Some text else None)) (lt-ltb (i + 1) chunk_limit lt))
+  opens_before is lt = grind (arith, common_steps, by_front, lt-ltb)
 
   -- it opens as the last alone
   pub opens_last : opening (nonce_bytes i false) block ≡ None → opening (nonce_bytes i true) block ≡ Some text
       → outcome opening n one ≡ record { texts = text ∷ []; index = i; status = LastSeen }
-  opens_last closed is =
-      let zero : i + 0 ≡ i = omega arith in
-      let alone : nat_lt ((0 + 1) * (n + tag_length)) (length block) ≡ false =
-      le-ltb ((0 + 1) * (n + tag_length)) (length block) (omega (arith, len)) in
-      let At : ℕ → Bool → Outcome = λ k followed. at_block opening [] k block (followed || false) false (opening (nonce_bytes k false) block) in
-      by_front ∙ (ap (λ (o : Option (List ℕ)). by_text (unless_greatest i o)) closed
-      ∙ (ap (λ (k : ℕ). At k (nat_lt ((0 + 1) * (n + tag_length)) (length block))) zero ∙ (ap (λ (b : Bool). At i b) alone
-      ∙ (ap (λ (o : Option (List ℕ)). at_block opening [] i block false false o) closed
-      ∙ ap (λ (o : Option (List ℕ)). after_last opening [] i o false false) is))))
+  opens_last closed is = grind (arith, common_steps, by_front)
 
 -- ---- the chunks of a text
 
@@ -126,18 +101,10 @@ payload_end k text block is =
 -- a reader that isn't refused answers 0
 pub answers_zero : (n chunk answer : ℕ) (status : Status) → answer ≡ answer_of n → reader_status n chunk ≡ Some status
     → ((f : StreamFault) → Some status ≡ Some (Failed f) → ⊥) → answer ≡ 0
-answers_zero n chunk answer status is stands unfailed =
-    elim (eqb_tells answer 0) [
-      | inl zero ↦ zero.1
-      | inr some ↦ (let refused = refused_of n chunk (λ zero. some.1 (is ∙ zero)) in
-          absurd (unfailed refused.0 (sym stands ∙ refused.1)))
-    ]
+answers_zero n chunk answer status is stands unfailed = grind (arith, common_steps, eqb_tells, refused_of)
 
 pub never_misused : (n answer : ℕ) → answer ≡ answer_of n → answer ≢ misused
-never_misused n answer is misused_is =
-    let fault = fault_from n (λ zero. omega (arith, is, zero, misused_is)) in
-    let most = fault.most in
-    omega (arith, is, fault.is, misused_is)
+never_misused n answer is misused_is = grind (arith, common_steps, fault_from)
 
 -- ---- one opening
 
@@ -167,18 +134,7 @@ module _ (r new : Reader) (chunk answer : ℕ) (block opened text : List ℕ) (a
   whole_gives : (status : Status) (index : ℕ) → length block ≡ block_length
       → outcome (opens k) chunk_length (record { start = chunk; bytes = block; ended = false; late = false })
       ≡ record { texts = chunk_of text chunk ∷ []; index = index; status = status } → ((f : StreamFault) → Some status ≡ Some (Failed f) → ⊥) → Gives
-  whole_gives status index size is unfailed =
-      let takes = whole size in
-      let given : Segment = record { start = chunk; bytes = block; ended = false; late = false } in
-      let after : IsAt new given = takes.at (fresh chunk) at in
-      let stands : reader_status new.state new.fault_chunk ≡ Some status =
-      after.status ∙ (ap (λ (k : List ℕ). Some (outcome (opens k) chunk_length given).status) (key_same r new takes.same)
-      ∙ ap (λ (o : Outcome). Some o.status) is) in
-      let Texts : Outcome → List ℕ = λ o. flat_map (λ (t : List ℕ). t) o.texts in (
-        answers_zero new.state new.fault_chunk answer status takes.answer_is stands unfailed,
-        ap (λ (o : Outcome). Texts o ++ opened) (sym (fresh_outcome (opens k) chunk_length chunk)) ∙ (sym (takes.released (fresh chunk) at)
-            ∙ (ap Texts is ∙ append-nil (chunk_of text chunk))),
-      )
+  whole_gives status index size is unfailed = grind (arith, common_steps, answers_zero, append-nil, fresh_outcome, key_same)
 
   -- a block before the last
   gives_before : chunk < last_index chunk_length text → IsSealed false → Gives
@@ -191,9 +147,7 @@ module _ (r new : Reader) (chunk answer : ℕ) (block opened text : List ℕ) (a
 
   as_written : chunk ≡ last_index chunk_length text → IsSealed true
       → block ≡ seals k (nonce_bytes (last_index chunk_length text) true) (last_chunk chunk_length text)
-  as_written last is =
-      is ∙ (ap (λ (j : ℕ). seals k (nonce_bytes j true) (chunk_of text chunk)) last
-      ∙ ap (seals k (nonce_bytes (last_index chunk_length text) true)) (last_chunk_is text chunk last))
+  as_written last is = grind (arith, common_steps, last_chunk_is)
 
   -- if it is whole
   gives_full : chunk ≡ last_index chunk_length text → IsSealed true → length (chunk_of text chunk) ≡ chunk_length → Gives
@@ -210,7 +164,7 @@ module _ (r new : Reader) (chunk answer : ℕ) (block opened text : List ℕ) (a
   gives_short last is short =
       let ends = rest (λ e. omega (arith, e, size_by true is, short)) in
       let other : answer ≢ misused = never_misused new.state answer ends.takes.answer_is in
-      let call : Call = record { is_end = true; bytes = block; answer = answer; text = opened; after = new } in
+      let call : Call Reader = record { is_end = true; bytes = block; answer = answer; text = opened; after = new } in
       let there : block ≡ drop (chunk * block_length) (payload (seals k) chunk_length text) =
       payload_end k text block (as_written last is) ∙ ap (λ (j : ℕ). drop (j * block_length) (payload (seals k) chunk_length text)) (sym last) in
       let right = calls_are_written r chunk at (omega (arith, last, few)) (call ∷ [])
@@ -245,11 +199,7 @@ module _ (r new : Reader) (chunk answer : ℕ) (block opened text : List ℕ) (a
 -- ---- a list of openings
 
 after_opening : (chunk answer : ℕ) (block text : List ℕ) (old new : Reader) → OpensAt chunk block old answer text new → SameFile old new
-after_opening chunk answer block text old new it =
-    same_file old it.begun new it.goes.same (elim (eqb_tells (length block) block_length) [
-      | inl is ↦ (it.whole is.1).same
-      | inr is ↦ (it.rest is.1).takes.same
-    ])
+after_opening chunk answer block text old new it = grind (arith, common_steps, eqb_tells, same_file)
 
 openings_from : (first r : Reader) (openings : List Opening) → SameFile first r → AreOpenings r openings
     → (text : List ℕ) → chunk_count chunk_length text ≤ chunk_limit → IsClosed (seals (key_of first)) (opens (key_of first)) chunk_length text

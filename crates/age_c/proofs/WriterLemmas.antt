@@ -1,27 +1,23 @@
 -- What a call, and a list of them, does to a writer and to a stream that writes.
+use Rattle.std.proofs.lemmas.Grind.{common_steps, flat_map-append}
+use Rattle.std.proofs.lemmas.Bool.Decides.{eqb_tells}
 use Rattle.std.proofs.Common.{inl, inr, ◌≡◌, ◌≢◌, ℕ, suc, ◌+◌, ◌*◌, ◌<◌, ◌≤◌, refl, ap, sym, ◌∙◌, arith, List, [], ◌∷◌, ◌++◌, length, take, drop, Bool, true}
 use Rattle.std.proofs.Common.{false, ap₂, subst}
 use Rattle.std.specs.Prelude.{map, ◌==◌, ◌⊎◌}
 use Rattle.std.specs.List.{enumerate_from}
 use Rattle.std.specs.Simd.{first_chunks}
 use Rattle.std.proofs.lemmas.List.{append-nil, drop_at, length-append, map-append, take_all, append_assoc}
-use Rattle.std.proofs.lemmas.Bool.Decides.{eqb_tells}
-use Rattle.std.proofs.lemmas.Grind.{flat_map-append}
 use Rattle.std.proofs.lemmas.Bool.{false≢true}
-use Rattle.age_chunk.specs.Payload.{nonce_bytes, chunk_limit, pair, block_bytes, payload, last_index, last_chunk, chunk_length, chunk_count}
-use Rattle.age_chunk.proofs.FirstChunkLemmas.{first_chunks_more, first_chunks-append, length-first_chunks}
-use Rattle.age_stream.proofs.ChunkLemmas.{enumerate_from_more}
-use Rattle.age_stream.proofs.SealingLemmas.{last_index_is}
+use Rattle.age_chunk.specs.{nonce_bytes, chunk_limit, pair, block_bytes, payload, last_index, last_chunk, chunk_length, chunk_count}
+use Rattle.age_chunk.proofs.{first_chunks_more, first_chunks-append, length-first_chunks}
+use Rattle.age_stream.proofs.{enumerate_from_more, last_index_is}
 use Rattle.age_c.specs.declared.writer.Writer.{Writer}
-use Rattle.age_c.specs.inner.Readers.{seals}
-use Rattle.age_c.specs.inner.Writers.{key_of_writer as key_of, SealsChunk, SealsLast, HoldsText}
-use Rattle.age_c.specs.Writers.{HasSealed, SameKeys, blocks_of, WritesOrRefuses, FeedsText, FinishesText, HasTaken, TakesText, held_chunk}
-use Rattle.age_c.specs.Calls.{Answers, misused}
-use Rattle.age_keys.specs.Keys.{header_mac, IsMacOf, box}
-use Rattle.age_keys.specs.Scrypt.{scrypt_head}
+use Rattle.age_c.specs.inner.{seals, key_of_writer as key_of, SealsChunk, SealsLast, HoldsText}
+use Rattle.age_c.specs.{HasSealed, SameKeys, blocks_of, WritesOrRefuses, FeedsText, FinishesText, HasTaken, TakesText, held_chunk, Answers, AnswersAreTextCalls}
+use Rattle.age_c.specs.{AreTextCalls, IsTextCallOn, TextCall, TextsAreFiles, WritesFile, bytes_written, stream_after, text_taken}
+use Rattle.age_keys.specs.{header_mac, IsMacOf, box, scrypt_head}
 use Rattle.age_stanza.specs.declared.header.Header.{Header}
 use Rattle.age_c.specs.declared.write_stream.WriteStream.{WriteStream}
-use Rattle.age_c.specs.Streams.{AnswersAreTextCalls, AreTextCalls, IsTextCallOn, TextCall, TextsAreFiles, WritesFile, bytes_written, stream_after, text_taken}
 
 pub key_same : (was now : Writer) → SameKeys was now → key_of now ≡ key_of was
 key_same was now same = cc (same.file_key, same.nonce)
@@ -36,12 +32,7 @@ module _ (sealing : List ℕ → List ℕ → List ℕ) (m k : ℕ) (text : List
   same_front more = first_chunks-append m k text more (omega (arith, whole))
 
   pub chunk_more : (chunk : List ℕ) → length chunk ≡ m → first_chunks m (k + 1) (text ++ chunk) ≡ first_chunks m k text ++ chunk ∷ []
-  chunk_more chunk size =
-      let s : k + 1 ≡ suc k = omega arith in
-      let tail : take m (drop (k * m) (text ++ chunk)) ≡ chunk =
-      ap (take m) (drop_at text chunk (k * m) whole) ∙ take_all m chunk (omega (arith, size)) in
-      ap (λ (n : ℕ). first_chunks m n (text ++ chunk)) s ∙ (first_chunks_more m k (text ++ chunk)
-      ∙ (ap (λ (c : List ℕ). first_chunks m k (text ++ chunk) ++ c ∷ []) tail ∙ ap (λ (cs : List (List ℕ)). cs ++ chunk ∷ []) (same_front chunk)))
+  chunk_more chunk size = grind (arith, common_steps, drop_at, first_chunks_more, same_front, take_all)
 
   -- one pair more
   pub block_more : (pairs : List (List ℕ × List ℕ)) (p : List ℕ × List ℕ) → block_bytes (pairs ++ p ∷ []) ≡ block_bytes pairs ++ p.1
@@ -59,19 +50,7 @@ module _ (sealing : List ℕ → List ℕ → List ℕ) (m k : ℕ) (text : List
       ap block_bytes pairs ∙ block_more (map (pair sealing false) (enumerate_from 0 cs)) (pair sealing false (k, chunk))
 
   pub rest_index : (rest : List ℕ) → 0 < m → length rest ≤ m → (length rest ≡ 0 → k ≡ 0) → last_index m (text ++ rest) ≡ k
-  rest_index rest positive short some =
-      by_length (eqb_tells (length rest) 0) where
-        by_length : ((length rest == 0) ≡ true) × (length rest ≡ 0) ⊎ ((length rest == 0) ≡ false)
-            × (length rest ≢ 0) → last_index m (text ++ rest) ≡ k
-        by_length (inl none) =
-            let zero : 0 * m ≡ 0 = omega arith in
-            let z : k * m ≡ 0 = ap (λ (n : ℕ). n * m) (some none.1) ∙ zero in
-            last_index_is m (text ++ rest) k (omega (arith, z)) (omega (arith, length-append text rest, none.1, whole, z, positive))
-        by_length (inr more) =
-            let n : 0 < length rest = omega (arith, more.1) in
-            let e : (k + 1) * m ≡ k * m + m = omega arith in
-            last_index_is m (text ++ rest) k (omega (arith, length-append text rest, whole, n))
-            (omega (arith, length-append text rest, whole, n, short, e))
+  rest_index rest positive short some = grind (arith, common_steps, eqb_tells, last_index_is, length-append)
 
   pub payload_more : (rest : List ℕ) → 0 < m → length rest ≤ m → (length rest ≡ 0 → k ≡ 0)
       → payload sealing m (text ++ rest) ≡ blocks k text ++ sealing (nonce_bytes k true) rest
@@ -93,33 +72,12 @@ module _ (sealing : List ℕ → List ℕ → List ℕ) (m k : ℕ) (text : List
 pub seals_chunk : (old new : Writer) (chunk bytes : List ℕ) → old.state ≡ 1 → new.state ≡ old.state → new.chunk ≡ old.chunk + 1
     → old.chunk + 1 < chunk_limit → SameKeys old new → length chunk ≡ chunk_length → bytes ≡ seals (key_of old) (nonce_bytes old.chunk false) chunk
     → SealsChunk chunk old bytes new
-seals_chunk old new chunk bytes first still next limit same size is =
-    record {
-      sealed = λ text h. record {
-        unfinished = still ∙ first;
-        whole = omega (arith, length-append text chunk, h.whole, size, ap (λ (n : ℕ). n * chunk_length) next);
-      };
-      blocks = λ text h. let more = blocks_more (seals (key_of old)) chunk_length old.chunk text h.whole chunk size in
-          let key = key_same old new same in
-          ap (λ (k : List ℕ). block_bytes (map (pair (seals k) false) (enumerate_from 0 (first_chunks chunk_length new.chunk (text ++ chunk))))) key
-          ∙ (ap (λ (n : ℕ). block_bytes (map (pair (seals (key_of old)) false) (enumerate_from 0 (first_chunks chunk_length n (text ++ chunk))))) next
-          ∙ (more ∙ ap (λ (b : List ℕ). blocks_of old text ++ b) (sym is)));
-      usable = record { unfinished = still ∙ first; chunk = omega (arith, next, limit) };
-      same = same;
-    }
+seals_chunk old new chunk bytes first still next limit same size is = grind (arith, common_steps, blocks_more, key_same, length-append)
 
 pub seals_last : (old new : Writer) (rest bytes : List ℕ) → old.chunk < chunk_limit → new.state ≡ 2 → SameKeys old new
     → length rest ≤ chunk_length → (length rest ≡ 0 → old.chunk ≡ 0) → bytes ≡ seals (key_of old) (nonce_bytes old.chunk true) rest
     → SealsLast rest old bytes new
-seals_last old new rest bytes limit finished same short some is =
-    let positive : 0 < chunk_length = omega arith in
-    record {
-      payload_is = λ text h. payload_more (seals (key_of old)) chunk_length old.chunk text h.whole rest positive short some
-          ∙ ap (λ (b : List ℕ). blocks_of old text ++ b) (sym is);
-      few = λ text h. omega (arith, rest_index (seals (key_of old)) chunk_length old.chunk text h.whole rest positive short some, limit);
-      finished = finished;
-      same = same;
-    }
+seals_last old new rest bytes limit finished same short some is = grind (arith, common_steps, payload_more, rest_index)
 
 pub not_end : (is_end : Bool) (answer : ℕ) → (is_end ≡ true → answer ≢ 0) → answer ≡ 0 → is_end ≡ false
 not_end true answer other zero = absurd (other refl zero)
@@ -127,21 +85,13 @@ not_end false answer other zero = refl
 
 -- a writer that was given no text wrote no block
 pub none_yet : (w : Writer) → HasSealed w [] → blocks_of w [] ≡ []
-none_yet w h =
-    let z : w.chunk ≡ 0 = omega (arith, h.whole) in
-    ap (λ (n : ℕ). block_bytes (map (pair (seals (key_of w)) false) (enumerate_from 0 (first_chunks chunk_length n [])))) z
+none_yet w h = grind (arith, common_steps)
 
 pub idle_or_did : {State : Type 0} (old new : State) (before after : List ℕ) (answer written : ℕ)
     (Fits : Type 0) (Does : List ℕ → State → Type 0) (Why : ℕ → Type 0)
     → Answers Fits (WritesOrRefuses Does Why old) old new answer written before after
     → (answer ≢ 0 → (new ≡ old) × (take written after ≡ [])) × (answer ≡ 0 → Does (take written after) new)
-idle_or_did old new before after answer written Fits Does Why it = (
-  λ some. (
-    elim (eqb_tells answer misused) [ inl is ↦ it.idle is.1 | inr other ↦ (it.taken other.1).same some ],
-    ap (λ (n : ℕ). take n after) (it.nothing some),
-  ),
-  λ zero. (it.taken (λ e. omega (arith, zero, e))).wrote zero,
-)
+idle_or_did old new before after answer written Fits Does Why it = grind (arith, common_steps, eqb_tells)
 
 -- ---- whole files
 
@@ -153,9 +103,7 @@ mac_holds pass work salt key = refl
 
 -- more text changes no block that was written
 blocks_front : (w : Writer) (chunks more : List ℕ) → HasSealed w chunks → blocks_of w (chunks ++ more) ≡ blocks_of w chunks
-blocks_front w chunks more h =
-    ap (λ (cs : List (List ℕ)). block_bytes (map (pair (seals (key_of w)) false) (enumerate_from 0 cs)))
-    (same_front (seals (key_of w)) chunk_length w.chunk chunks h.whole more)
+blocks_front w chunks more h = grind (arith, common_steps, same_front)
 
 -- the blocks of a stream's text are the blocks of its whole chunks
 blocks_held : (s : WriteStream) (text : List ℕ) → (h : HasTaken s text) → blocks_of s.writer text ≡ blocks_of s.writer h.chunks
@@ -168,31 +116,14 @@ keys_by was now is = record { file_key = ap (λ (w : Writer). w.file_key) is; no
 
 held_more : (piece : List ℕ) (count : ℕ) (old new : WriteStream) → HoldsText piece count old new → (text : List ℕ) → (h : HasTaken old text)
     → text ++ take count piece ≡ h.chunks ++ held_chunk new
-held_more piece count old new holds text h =
-    ap (λ (t : List ℕ). t ++ take count piece) h.given ∙ (append_assoc h.chunks (held_chunk old) (take count piece)
-    ∙ ap (λ (t : List ℕ). h.chunks ++ t) (sym holds.bytes))
+held_more piece count old new holds text h = grind (arith, common_steps, append_assoc)
 
 takes_held : (piece : List ℕ) (count : ℕ) (old new : WriteStream) → HoldsText piece count old new → TakesText (take count piece) old [] new
-takes_held piece count old new holds = record {
-  taken = λ text h. record {
-    chunks = h.chunks;
-    sealed = subst (λ (w : Writer). HasSealed w h.chunks) (sym holds.writer) h.sealed;
-    given = held_more piece count old new holds text h;
-    some = λ none. ap (λ (w : Writer). w.chunk) holds.writer ∙ h.some (omega (arith, none, holds.held));
-  };
-  blocks = λ text h. ap₂ blocks_of holds.writer (held_more piece count old new holds text h)
-      ∙ (blocks_front old.writer h.chunks (held_chunk new) h.sealed ∙ (sym (blocks_held old text h) ∙ sym (append-nil (blocks_of old.writer text))));
-  same = keys_by old.writer new.writer holds.writer;
-}
+takes_held piece count old new holds = grind (arith, common_steps, append-nil, blocks_front, blocks_held, held_more, keys_by)
 
 pub feeds_held : (piece : List ℕ) (count : ℕ) (old new : WriteStream) → HoldsText piece count old new
     → old.held ≤ chunk_length → (0 < length piece → old.held < chunk_length) → FeedsText piece count old [] new
-feeds_held piece count old new holds short room = record {
-  takes = takes_held piece count old new holds;
-  most = omega (arith, holds.count_is);
-  some = λ some. omega (arith, holds.count_is, some, room some);
-  all = λ some. omega (arith, holds.count_is, some, holds.held, short);
-}
+feeds_held piece count old new holds short room = grind (arith, common_steps, takes_held)
 
 -- ---- a byte after a full chunk
 
@@ -205,17 +136,13 @@ module _ (piece bytes : List ℕ) (count : ℕ) (old between new : WriteStream) 
       h.given ∙ ap (λ (t : List ℕ). h.chunks ++ t) (ap (λ (n : ℕ). take n old.chunk) full ∙ take_all chunk_length old.chunk (omega (arith, size)))
 
   sealed_text : (text : List ℕ) → HasTaken old text → HasSealed new.writer text
-  sealed_text text h =
-      subst (λ (w : Writer). HasSealed w text) (sym holds.writer)
-      (subst (HasSealed between.writer) (sym (all_sealed text h)) (seals_it.sealed h.chunks h.sealed))
+  sealed_text text h = grind (arith, common_steps, all_sealed)
 
   held_is : held_chunk new ≡ take count piece
   held_is = holds.bytes ∙ ap (λ (n : ℕ). take n between.chunk ++ take count piece) empty
 
   blocks_are : (text : List ℕ) → HasTaken old text → blocks_of new.writer (text ++ take count piece) ≡ blocks_of old.writer text ++ bytes
-  blocks_are text h =
-      blocks_front new.writer text (take count piece) (sealed_text text h) ∙ (ap₂ blocks_of holds.writer (all_sealed text h)
-      ∙ (seals_it.blocks h.chunks h.sealed ∙ ap (λ (b : List ℕ). b ++ bytes) (sym (blocks_held old text h))))
+  blocks_are text h = grind (arith, common_steps, all_sealed, blocks_front, blocks_held, sealed_text)
 
   pub feeds_full : FeedsText piece count old bytes new
   feeds_full = record {
@@ -258,25 +185,11 @@ record After (s : WriteStream) (text more bytes : List ℕ) (last : WriteStream)
 -- a call that was refused
 idle_after : (s : WriteStream) (text more bytes : List ℕ) (last : WriteStream) → HasTaken s text
     → last ≡ s → more ≡ [] → bytes ≡ [] → After s text more bytes last
-idle_after s text more bytes last h is none nothing =
-    let all : text ++ more ≡ text = ap (λ (m : List ℕ). text ++ m) none ∙ append-nil text in
-    record {
-      taken = subst (HasTaken last) (sym all) (subst (λ (s : WriteStream). HasTaken s text) (sym is) h);
-      blocks = ap₂ (λ (s : WriteStream) (t : List ℕ). blocks_of s.writer t) is all ∙ (sym (append-nil (blocks_of s.writer text))
-          ∙ ap (λ (b : List ℕ). blocks_of s.writer text ++ b) (sym nothing));
-      key = ap (λ (s : WriteStream). key_of s.writer) is;
-    }
+idle_after s text more bytes last h is none nothing = grind (arith, common_steps, append-nil)
 
 one_by : (s : WriteStream) (c : TextCall) (text : List ℕ) → HasTaken s text → IsTextCallOn s c → (c.is_end ≡ true → c.answer ≢ 0)
     → ((c.answer == 0) ≡ true) × (c.answer ≡ 0) ⊎ ((c.answer == 0) ≡ false) × (c.answer ≢ 0) → After s text c.text c.bytes c.after
-one_by s c text h is middle (inl zero) =
-    let takes = is.1 zero.1 (not_end c.is_end c.answer middle zero.1) in
-    record {
-      taken = takes.taken text h;
-      blocks = takes.blocks text h;
-      key = key_same s.writer c.after.writer takes.same;
-    }
-one_by s c text h is middle (inr other) = let idle = is.0 other.1 in idle_after s text c.text c.bytes c.after h idle.0 idle.1 idle.2
+one_by s c text h0 h1 h2 h3 = grind (arith, common_steps, idle_after, key_same, not_end)
 
 all_calls : (calls : List TextCall) (s : WriteStream) (text : List ℕ) → HasTaken s text → AreTextCalls s calls
     → After s text (text_taken calls) (bytes_written calls) (stream_after s calls)
@@ -296,12 +209,7 @@ all_calls (c ∷ calls) s text h are =
 
 -- a stream that was given no text
 nothing_taken : (s : WriteStream) → HasSealed s.writer [] → s.held ≡ 0 → HasTaken s []
-nothing_taken s h empty = record {
-  chunks = [];
-  sealed = h;
-  given = ap (λ (n : ℕ). take n s.chunk) (sym empty);
-  some = λ _. omega (arith, h.whole);
-}
+nothing_taken s h empty = grind (arith, common_steps)
 
 module _ (header : Header) (key nonce front : List ℕ) (s : WriteStream) (calls : List TextCall)
     (last : TextCall) (it : WritesFile header key nonce front s calls last) where
@@ -338,15 +246,4 @@ texts_are_files header key nonce front s calls last it =
 -- ---- answers are calls
 
 pub answers_are_text_calls : AnswersAreTextCalls
-answers_are_text_calls old new piece before after answer taken written = (
-  λ it none. let both = idle_or_did old new before after answer written _ _ _ it in (
-    λ some. ((both.0 some).0, ap (λ (n : ℕ). take n piece) (none some), (both.0 some).1),
-    λ zero middle. (both.1 zero).takes,
-    λ zero is. absurd (false≢true is),
-  ),
-  λ it. let both = idle_or_did old new before after answer written _ _ _ it in (
-    λ some. ((both.0 some).0, refl, (both.0 some).1),
-    λ zero middle. absurd (false≢true (sym middle)),
-    λ zero is. (refl, both.1 zero),
-  ),
-)
+answers_are_text_calls old new piece before after answer taken written = grind (arith, common_steps, false≢true, idle_or_did)

@@ -2,16 +2,15 @@
 -- the bytes that came so far are worth a try as a header.
 use Rattle.std.specs.Prelude.{ℕ, ◌==◌, ◌&&◌, nat_le, Option, Some, None, if◌then◌else◌, ◌≡◌, ◌≢◌, ◌≤◌, List}
 use Rattle.std.specs.Prelude.{length, take, drop, ◌+◌, ◌%◌, ◌⊎◌, ◌<◌, nat_eq, true, ◌∷◌, codes, get_or}
-use Rattle.age_chunk.specs.ChunkBoxes.{tag_length}
-use Rattle.age_chunk.specs.Payload.{stream_fault_number, block_length}
+use Rattle.age_chunk.specs.{tag_length, stream_fault_number, block_length}
 use Rattle.age_chunk.specs.declared.fault.StreamKind.{StreamKind}
 use Rattle.age_chunk.specs.declared.fault.StreamKind.TheVariants.{ChunkDamaged, ChunkCut, EmptyLast}
 use Rattle.age_chunk.specs.declared.fault.StreamKind.TheVariants.{Truncated, Trailing, TooManyChunks}
-use Rattle.age_stream.specs.Laws.{IsTextLength, chunks_for}
+use Rattle.age_stream.specs.{IsTextLength, chunks_for}
 use Rattle.age_stream.specs.declared.step.Status.{Status}
 use Rattle.age_stream.specs.declared.step.Status.TheVariants.{Open, LastSeen, Done, Failed}
 use Rattle.std.specs.List.{starts_with}
-use Rattle.age_stanza.specs.Grammar.{header_limit}
+use Rattle.age_stanza.specs.{header_limit}
 
 -- ---- The numbers that stand for a status, and what calls answer.
 

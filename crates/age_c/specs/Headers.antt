@@ -1,10 +1,10 @@
 -- What is told of the header that bytes begin with, before it is opened.
 use Rattle.std.specs.Prelude.{◌≡◌, ◌≢◌, ℕ, ◌≤◌, ◌<◌, ◌⊎◌, List, [], ◌∷◌, ◌++◌, length, take, drop, min, ◌+◌}
 use Rattle.std.specs.List.{flat_map}
-use Rattle.age_stanza.specs.Parsing.{stanzas_text}
+use Rattle.age_stanza.specs.{stanzas_text}
 use Rattle.age_stanza.specs.declared.header.Header.{Header}
 use Rattle.age_stanza.specs.declared.header.Stanza.{Stanza}
-use Rattle.age_keys.specs.Scrypt.{OnlyScrypt}
+use Rattle.age_keys.specs.{OnlyScrypt}
 use Rattle.age_c.specs.Calls.{misused}
 use Rattle.age_c.specs.Readers.{HasHead, HasNoHead, start_fault_number}
 use Rattle.age_c.specs.declared.stanza_place.StanzaPlace.{StanzaPlace}

@@ -5,3 +5,10 @@ pub mod Streams
 pub mod Places
 pub mod Headers
 pub mod inner
+unfoldable pub use Calls.*
+unfoldable pub use Readers.*
+unfoldable pub use Writers.*
+unfoldable pub use Streams.*
+unfoldable pub use Places.*
+unfoldable pub use Headers.*
+pub use Rattle.age_c.specs.declared.reader.Reader.{Reader}

@@ -2,12 +2,11 @@
 use Rattle.std.specs.Prelude.{◌≡◌, ◌≢◌, ℕ, ◌<◌, ◌≤◌, List, [], ◌∷◌, length, Bool, true, false, ◌⊎◌}
 use Rattle.std.specs.Prelude.{slice_index_or}
 use Rattle.std.specs.List.{AllByRecursion}
-use Rattle.age_chunk.specs.Payload.{chunk_limit, chunk_length, block_length, chunk_count, chunks, sealed}
-use Rattle.age_keys.specs.Keys.{box, unbox}
-use Rattle.age_stream.specs.Laws.{IsClosed}
+use Rattle.age_chunk.specs.{chunk_limit, chunk_length, block_length, chunk_count, chunks, sealed}
+use Rattle.age_keys.specs.{box, unbox}
+use Rattle.age_stream.specs.{IsClosed}
 use Rattle.age_c.specs.Calls.{Answers, misused}
-use Rattle.age_c.specs.Readers.{CanBeUsed, GoesTo, TakesBlock, TakesEnd, after_block}
-use Rattle.age_c.specs.Readers.{Part, AreParts, call_of}
+use Rattle.age_c.specs.Readers.{CanBeUsed, GoesTo, TakesBlock, TakesEnd, after_block, Part, AreParts, call_of}
 use Rattle.age_c.specs.declared.reader.Reader.{Reader}
 
 -- the call isn't misused: the reader can be used, a payload may have such a chunk, there is a block

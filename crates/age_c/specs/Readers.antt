@@ -1,23 +1,22 @@
 -- A reader: how it begins, what one call and a list of calls do to it, and what a caller may rely
 -- on after any calls.
-use Rattle.std.specs.Prelude.{◌≡◌, ℕ, ◌<◌, IsSome, false, List, [], Some, ◌⊎◌, ◌+◌, ◌≤◌, length}
-use Rattle.std.specs.Prelude.{take, drop, ◌≢◌, ◌==◌, Bool, true, ◌∷◌, ◌++◌, if◌then◌else◌, ◌*◌}
+use Rattle.std.specs.Prelude.{◌≡◌, ℕ, ◌<◌, IsSome, false, List, [], Some, ◌⊎◌, ◌+◌, ◌≤◌, length, take, drop}
+use Rattle.std.specs.Prelude.{◌≢◌, ◌==◌, Bool, true, ◌∷◌, ◌++◌, if◌then◌else◌, ◌*◌}
 use Rattle.std.specs.List.{flat_map, AllByRecursion}
-use Rattle.age_stanza.specs.Grammar.{HeadText, header_limit}
-use Rattle.age_stanza.specs.Parsing.{HasHeader, NoFault, IsFault, memory_fault, head_fault_number}
+use Rattle.age_stanza.specs.{HeadText, header_limit, HasHeader, NoFault, IsFault, memory_fault}
+use Rattle.age_stanza.specs.{head_fault_number}
 use Rattle.age_stanza.specs.declared.header.Header.{Header}
-use Rattle.age_chunk.specs.Payload.{chunk_limit, chunk_length, block_length, chunk_count, payload}
-use Rattle.age_stream.specs.Segment.{Segment, Outcome, outcome, released, rest_bytes, fresh, with_piece}
-use Rattle.age_stream.specs.Segment.{with_end}
+use Rattle.age_chunk.specs.{chunk_limit, chunk_length, block_length, chunk_count, payload}
+use Rattle.age_stream.specs.Segment.{Segment}
+use Rattle.age_stream.specs.{Outcome, outcome, released, rest_bytes, fresh, with_piece, with_end}
 use Rattle.age_stream.specs.declared.step.Status.TheVariants.{Open}
-use Rattle.age_keys.specs.Keys.{unbox, Opens, Refuses, key_fault_number, box}
+use Rattle.age_stream.specs.{IsClosed, IsAuthentic, IsPrefixOf, IsFirstWrong}
+use Rattle.age_keys.specs.{unbox, Opens, Refuses, key_fault_number, box}
 use Rattle.age_keys.specs.declared.fault.KeyFault.{KeyFault}
 use Rattle.age_c.specs.Calls.{reader_status, more, Answers, answer_of, misused}
 use Rattle.age_c.specs.declared.reader.Reader.{Reader}
 use Rattle.age_c.specs.declared.start.StartFault.{StartFault}
 use Rattle.age_c.specs.declared.start.StartFault.TheVariants.{More, Head, Key}
-use Rattle.age_stream.specs.Laws.{IsClosed}
-use Rattle.age_stream.specs.Headline.{IsAuthentic, IsPrefixOf, IsFirstWrong}
 
 -- ---- What a reader's numbers stand for.
 
@@ -114,15 +113,20 @@ after_block block s = with_piece s block
 abbrev pub after_end : List ℕ → Segment → Segment
 after_end rest s = with_end (with_piece s rest)
 
--- a reader of any segment is then one of what comes after it, and the call wrote what that released
--- more; the answer is its fault, or 0, and with a fault nothing was written
-pub record TakesBlock (after : Segment → Segment) (old : Reader) (answer : ℕ) (text : List ℕ)
-    (new : Reader) : Type 0 where
-  pub at : (s : Segment) → IsAt old s → IsAt new (after s)
-  pub released : (s : Segment) → IsAt old s → reader_text old (after s) ≡ reader_text old s ++ text
-  pub same : SameFile old new
-  pub answer_is : answer ≡ answer_of new.state
+-- of a reader, or of what has one, that was given any segment: it is then one of what comes after it,
+-- and the call wrote what that released more; the answer is its fault, or 0, and with a fault nothing
+-- was written
+pub record Moves {State : Type 0} (reader : State → Reader) (Is : State → Segment → Type 0)
+    (after : Segment → Segment) (old : State) (answer : ℕ) (text : List ℕ) (new : State) : Type 0 where
+  pub at : (s : Segment) → Is old s → Is new (after s)
+  pub released : (s : Segment) → Is old s
+      → reader_text (reader old) (after s) ≡ reader_text (reader old) s ++ text
+  pub same : SameFile (reader old) (reader new)
+  pub answer_is : answer ≡ answer_of (reader new).state
   pub nothing : answer ≢ 0 → text ≡ []
+
+abbrev pub TakesBlock : (Segment → Segment) → Reader → ℕ → List ℕ → Reader → Type 0
+TakesBlock = Moves (λ r. r) IsAt
 
 -- an end answers 0 only once the last chunk was opened
 pub record TakesEnd (rest : List ℕ) (old : Reader) (answer : ℕ) (text : List ℕ)
@@ -152,50 +156,51 @@ pub record IsEndCall (r : Reader) (rest out : List ℕ) : Type 0 where
 
 -- ---- What a list of calls does.
 
--- a call: whether it is an end, what it was given, what it answered and wrote, and the reader after
--- it
-pub record Call : Type 0 where
+-- a call: whether it is an end, the bytes that it took, what it answered and wrote, and the reader,
+-- or what has one, after it
+pub record Call (State : Type 0) : Type 0 where
   pub is_end : Bool
   pub bytes : List ℕ
   pub answer : ℕ
   pub text : List ℕ
-  pub after : Reader
+  pub after : State
 
 -- the segment after a call that wasn't misused
-abbrev pub after_call : Call → Segment → Segment
+abbrev pub after_call : {State : Type 0} → Call State → Segment → Segment
 after_call c s = if c.is_end then after_end c.bytes s else after_block c.bytes s
 
--- this is a call on the reader: it was misused, and changed and wrote nothing; or it took what it
--- was given, and then, if it is an end that answered 0, the last chunk was opened
-abbrev pub IsCall : Reader → Call → Type 0
-IsCall r c =
-    ((c.answer ≡ misused) × (c.after ≡ r) × (c.text ≡ []))
-    ⊎ ((c.answer ≢ misused) × TakesBlock (after_call c) r c.answer c.text c.after
-    × (c.is_end ≡ true → c.answer ≡ 0 → c.after.state ≡ 3))
+module _ {State : Type 0} (reader : State → Reader) (Is : State → Segment → Type 0) where
+  -- this is a call on the state: it was misused, and changed and wrote nothing; or it took what it
+  -- was given, and then, if it is an end that answered 0, the last chunk was opened
+  abbrev pub IsCall : State → Call State → Type 0
+  IsCall old c =
+      ((c.answer ≡ misused) × (c.after ≡ old) × (c.text ≡ []))
+      ⊎ ((c.answer ≢ misused) × Moves reader Is (after_call c) old c.answer c.text c.after
+      × (c.is_end ≡ true → c.answer ≡ 0 → (reader c.after).state ≡ 3))
 
--- the calls were made one after the other, and nothing else changed the reader
-abbrev pub AreCalls : Reader → List Call → Type 0
-AreCalls r [] = Unit {0}
-AreCalls r (c ∷ calls) = IsCall r c × AreCalls c.after calls
+  -- the calls were made one after the other, and nothing else changed the state
+  abbrev pub AreCalls : State → List (Call State) → Type 0
+  AreCalls old [] = Unit {0}
+  AreCalls old (c ∷ calls) = IsCall old c × AreCalls c.after calls
 
 -- the reader after them
-abbrev pub last_reader : Reader → List Call → Reader
+abbrev pub last_reader : Reader → List (Call Reader) → Reader
 last_reader r [] = r
 last_reader r (c ∷ calls) = last_reader c.after calls
 
 -- the segment that they gave: a call that was misused gave nothing
-abbrev pub segment_from : Segment → List Call → Segment
+abbrev pub segment_from : {State : Type 0} → Segment → List (Call State) → Segment
 segment_from s [] = s
 segment_from s (c ∷ calls) =
     segment_from (if c.answer == misused then s else after_call c s) calls
 
 -- the texts that they wrote, one after the other
-abbrev pub texts_of : List Call → List ℕ
-texts_of calls = flat_map (λ (c : Call). c.text) calls
+abbrev pub texts_of : {State : Type 0} → List (Call State) → List ℕ
+texts_of calls = flat_map (λ c. c.text) calls
 
--- a call as its caller sees it: what it was given, the answer, how much it wrote, and its output
--- and the reader after it
-abbrev pub call_of : Bool → List ℕ → ℕ → ℕ → List ℕ → Reader → Call
+-- a call as its caller sees it: what it took, the answer, how much it wrote, and its output and the
+-- state after it
+abbrev pub call_of : {State : Type 0} → Bool → List ℕ → ℕ → ℕ → List ℕ → State → Call State
 call_of is_end bytes answer written out after = record {
   is_end = is_end;
   bytes = bytes;
@@ -209,37 +214,37 @@ call_of is_end bytes answer written out after = record {
 abbrev pub AnswersAreCalls : Type 0
 AnswersAreCalls = (old new : Reader) (bytes before after : List ℕ) (answer written : ℕ)
     → (Answers (IsBlockCall old bytes before) (TakesBlock (after_block bytes) old) old new answer written
-    before after → IsCall old (call_of false bytes answer written after new))
+    before after → IsCall (λ r. r) IsAt old (call_of false bytes answer written after new))
     × (Answers (IsEndCall old bytes before) (TakesEnd bytes old) old new answer written before after
-    → IsCall old (call_of true bytes answer written after new))
+    → IsCall (λ r. r) IsAt old (call_of true bytes answer written after new))
 
 -- ---- What any calls gave to one reader, and what they answered.
 
 -- what calls gave to a reader that was at this chunk and was given nothing before
-abbrev pub given_by : ℕ → List Call → Segment
+abbrev pub given_by : {State : Type 0} → ℕ → List (Call State) → Segment
 given_by start calls = segment_from (fresh start) calls
 
 -- each of the calls that wasn't misused has this answer
-abbrev pub AllAnswer : ℕ → List Call → Type 0
-AllAnswer answer calls = AllByRecursion (λ (c : Call). c.answer ≢ misused → c.answer ≡ answer) calls
+abbrev pub AllAnswer : {State : Type 0} → ℕ → List (Call State) → Type 0
+AllAnswer answer calls = AllByRecursion (λ c. c.answer ≢ misused → c.answer ≡ answer) calls
 
 -- ---- What a caller may rely on.
 
--- calls on the reader since it was at this chunk
-module _ (r : Reader) (text : List ℕ) (start : ℕ) where
+-- calls on the reader, or on what has it, since it was at this chunk
+module _ {State : Type 0} (reader : State → Reader) (r : Reader) (text : List ℕ) (start : ℕ) where
   -- the text from that chunk on
   abbrev pub text_there : List ℕ
   text_there = drop (start * chunk_length) text
 
   -- no block that the calls gave opens except as the writer of the text sealed it
-  abbrev pub AreCallsAuthentic : List Call → Type 0
+  abbrev pub AreCallsAuthentic : List (Call State) → Type 0
   AreCallsAuthentic calls =
       IsAuthentic (box r.file_key r.nonce) (unbox r.file_key r.nonce) chunk_length text
       (given_by start calls)
 
   -- the calls gave the payload of the text from that chunk on, as the writer sealed it, and its
   -- end, and no more; calls may be misused in between
-  abbrev pub AreUndamaged : List Call → Type 0
+  abbrev pub AreUndamaged : List (Call State) → Type 0
   AreUndamaged calls = given_by start calls ≡ record {
     start = start;
     bytes = drop (start * block_length) (payload (box r.file_key r.nonce) chunk_length text);
@@ -248,12 +253,12 @@ module _ (r : Reader) (text : List ℕ) (start : ℕ) where
   }
 
   -- what a caller may rely on, whatever the calls are
-  pub record IsTextRight (calls : List Call) : Type 0 where
+  pub record IsTextRight (calls : List (Call State)) : Type 0 where
     -- what was written is the beginning of the text from that chunk on
     pub prefix : AreCallsAuthentic calls → IsPrefixOf (texts_of calls) text_there
     -- if the last call is an end that answered 0, it is all of that, and the chunk begins within
     -- the text: so then the length of the text is known
-    pub done : AreCallsAuthentic calls → (before : List Call) (last : Call)
+    pub done : AreCallsAuthentic calls → (before : List (Call State)) (last : Call State)
         → calls ≡ before ++ last ∷ [] → last.is_end ≡ true → last.answer ≡ 0
         → (texts_of calls ≡ text_there) × (start * chunk_length ≤ length text)
     -- an undamaged payload gives all of it, and 0 each time
@@ -262,11 +267,11 @@ module _ (r : Reader) (text : List ℕ) (start : ℕ) where
         → (texts_of calls ≡ text_there) × AllAnswer 0 calls
     -- 17 says that a block isn't the writer's, the one whose number the reader has, and that those
     -- before it are
-    pub damaged : AreCallsAuthentic calls → AllByRecursion (λ (c : Call). c.answer ≡ 17
+    pub damaged : AreCallsAuthentic calls → AllByRecursion (λ (c : Call State). c.answer ≡ 17
         → IsFirstWrong (box r.file_key r.nonce) chunk_length text (given_by start calls)
-        c.after.fault_chunk) calls
+        (reader c.after).fault_chunk) calls
     -- 22 never comes
-    pub few : AreCallsAuthentic calls → AllByRecursion (λ (c : Call). c.answer ≢ 22) calls
+    pub few : AreCallsAuthentic calls → AllByRecursion (λ (c : Call State). c.answer ≢ 22) calls
 
 -- ---- The headline for a caller.
 
@@ -274,26 +279,26 @@ module _ (r : Reader) (text : List ℕ) (start : ℕ) where
 -- nothing, as one that was just begun is at chunk 0, for every text of at most 2^48 chunks
 abbrev pub CallsAreWritten : Type 0
 CallsAreWritten = (r : Reader) (start : ℕ) → IsAt r (fresh start) → start < chunk_limit
-    → (calls : List Call) → AreCalls r calls
-    → (text : List ℕ) → chunk_count chunk_length text ≤ chunk_limit → IsTextRight r text start calls
+    → (calls : List (Call Reader)) → AreCalls (λ r. r) IsAt r calls → (text : List ℕ)
+    → chunk_count chunk_length text ≤ chunk_limit → IsTextRight (λ r. r) r text start calls
 
 -- a seek that answered 0: the chunk that it went to, and the reader after it; and the calls up to
 -- the next such seek. A seek that was misused stands among them, as a call that was misused
 pub record Part : Type 0 where
   pub chunk : ℕ
   pub begun : Reader
-  pub calls : List Call
+  pub calls : List (Call Reader)
 
 -- seeks and calls were made one after the other, and nothing else changed the reader
 abbrev pub AreParts : Reader → List Part → Type 0
 AreParts r [] = Unit {0}
 AreParts r (p ∷ parts) = (p.chunk < chunk_limit) × GoesTo p.chunk r p.begun
-    × AreCalls p.begun p.calls × AreParts (last_reader p.begun p.calls) parts
+    × AreCalls (λ r. r) IsAt p.begun p.calls × AreParts (last_reader p.begun p.calls) parts
 
 -- each seek goes on in the same file, and what the calls after it did is right, whatever came
 -- before
 abbrev pub PartsAreWritten : Type 0
 PartsAreWritten = (r : Reader) (parts : List Part) → AreParts r parts
     → (text : List ℕ) → chunk_count chunk_length text ≤ chunk_limit
-    → AllByRecursion (λ (p : Part). SameFile r p.begun × IsTextRight p.begun text p.chunk p.calls)
+    → AllByRecursion (λ (p : Part). SameFile r p.begun × IsTextRight (λ r. r) p.begun text p.chunk p.calls)
     parts

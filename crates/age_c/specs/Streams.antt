@@ -1,21 +1,20 @@
 -- A stream, which takes pieces of any length: what one call does to it, and what a caller may rely
 -- on after any calls.
-use Rattle.std.specs.Prelude.{◌≡◌, ◌≢◌, ℕ, ◌<◌, ◌≤◌, List, [], ◌++◌, length, take, ◌⊎◌, Bool, true, false}
-use Rattle.std.specs.Prelude.{◌∷◌, map}
-use Rattle.age_chunk.specs.Payload.{block_length, chunk_length, chunk_limit, chunk_count}
+use Rattle.std.specs.Prelude.{◌≡◌, ◌≢◌, ℕ, ◌<◌, ◌≤◌, List, [], ◌++◌, length, take, Bool, true, false, ◌∷◌}
+use Rattle.age_chunk.specs.{block_length, chunk_length, chunk_limit, chunk_count}
 use Rattle.age_stanza.specs.declared.header.Header.{Header}
-use Rattle.age_stream.specs.Segment.{with_end, with_piece, Segment, fresh}
+use Rattle.age_stream.specs.{with_end, with_piece, fresh, IsClosed}
 use Rattle.age_stream.specs.declared.step.Status.TheVariants.{Open}
-use Rattle.age_c.specs.Calls.{answer_of, Answers, misused}
-use Rattle.age_c.specs.Readers.{CanBeUsed, IsAt, SameFile, reader_outcome, reader_text, Call}
-use Rattle.age_c.specs.Readers.{after_call, segment_from, texts_of, AllAnswer, IsTextRight}
+use Rattle.age_stream.specs.Segment.{Segment}
+use Rattle.age_c.specs.Calls.{Answers}
+use Rattle.age_c.specs.Readers.{CanBeUsed, IsAt, reader_outcome, Moves, Call, IsCall, AreCalls, call_of}
+use Rattle.age_c.specs.Readers.{segment_from, texts_of, AllAnswer, IsTextRight}
 use Rattle.age_c.specs.declared.stream.Stream.{Stream}
 use Rattle.std.specs.List.{flat_map}
-use Rattle.age_keys.specs.Keys.{box, unbox, FileOf}
-use Rattle.age_stream.specs.Laws.{IsClosed}
+use Rattle.age_keys.specs.{box, unbox, FileOf}
 use Rattle.age_c.specs.declared.write_stream.WriteStream.{WriteStream}
-use Rattle.age_c.specs.Writers.{IsBegun, WritesOrRefuses}
-use Rattle.age_c.specs.Writers.{FeedsText, FinishesText, IsTextCall, RefusesText, TakesText}
+use Rattle.age_c.specs.Writers.{IsBegun, WritesOrRefuses, FeedsText, FinishesText, IsTextCall, RefusesText}
+use Rattle.age_c.specs.Writers.{TakesText}
 
 -- ---- A stream that reads: what its numbers and bytes stand for, and what one call does to it.
 
@@ -36,29 +35,22 @@ pub record StreamIsAt (s : Stream) (segment : Segment) : Type 0 where
 
 -- ---- What one call does to a stream.
 
--- a stream of any segment is then one of the next, and the call wrote what that released more; the
--- answer is its fault, or 0, and with a fault nothing was written
-pub record Moves (next : Segment → Segment) (old : Stream) (answer : ℕ) (text : List ℕ)
-    (new : Stream) : Type 0 where
-  pub at : (segment : Segment) → StreamIsAt old segment → StreamIsAt new (next segment)
-  pub released : (segment : Segment) → StreamIsAt old segment
-      → reader_text old.reader (next segment) ≡ reader_text old.reader segment ++ text
-  pub same : SameFile old.reader new.reader
-  pub answer_is : answer ≡ answer_of new.reader.state
-  pub nothing : answer ≢ 0 → text ≡ []
+-- as of a reader: the stream is then one of the next segment
+abbrev pub StreamMoves : (Segment → Segment) → Stream → ℕ → List ℕ → Stream → Type 0
+StreamMoves = Moves (λ s. s.reader) StreamIsAt
 
 -- bytes are taken from the front of a piece: none are passed over, some of a piece that isn't empty,
 -- and all of them, unless a block was opened or no more are to come
 pub record FeedsStream (piece : List ℕ) (old : Stream) (answer taken : ℕ) (text : List ℕ)
     (new : Stream) : Type 0 where
-  pub moves : Moves (λ (s : Segment). with_piece s (take taken piece)) old answer text new
+  pub moves : StreamMoves (λ (s : Segment). with_piece s (take taken piece)) old answer text new
   pub most : taken ≤ length piece
   pub some : 0 < length piece → 0 < taken
   pub all : taken < length piece → new.held ≡ 0
 
 -- an end answers 0 only once the last chunk was opened
 pub record FinishesStream (old : Stream) (answer : ℕ) (text : List ℕ) (new : Stream) : Type 0 where
-  pub moves : Moves with_end old answer text new
+  pub moves : StreamMoves with_end old answer text new
   pub done : answer ≡ 0 → new.reader.state ≡ 3
 
 -- the call isn't misused: the stream can be used, and there is room for a chunk's text
@@ -69,59 +61,15 @@ pub record IsStreamCall (s : Stream) (out : List ℕ) : Type 0 where
 
 -- ---- What any calls on a stream that reads do.
 
--- a call: whether it is an end, the bytes that it took, what it answered and wrote, and the stream
--- after it
-pub record FeedCall : Type 0 where
-  pub is_end : Bool
-  pub bytes : List ℕ
-  pub answer : ℕ
-  pub text : List ℕ
-  pub after : Stream
-
--- what its caller sees of the stream's reader
-abbrev pub reader_call : FeedCall → Call
-reader_call c = record {
-  is_end = c.is_end;
-  bytes = c.bytes;
-  answer = c.answer;
-  text = c.text;
-  after = c.after.reader;
-}
-
-abbrev pub reader_calls : List FeedCall → List Call
-reader_calls calls = map reader_call calls
-
--- this is a call on the stream: it was misused, and changed and wrote nothing; or it took these
--- bytes, and then, if it is an end that answered 0, the last chunk was opened
-abbrev pub IsFeedCall : Stream → FeedCall → Type 0
-IsFeedCall s c =
-    ((c.answer ≡ misused) × (c.after ≡ s) × (c.text ≡ []))
-    ⊎ ((c.answer ≢ misused) × Moves (after_call (reader_call c)) s c.answer c.text c.after
-    × (c.is_end ≡ true → c.answer ≡ 0 → c.after.reader.state ≡ 3))
-
--- the calls were made one after the other, and nothing else changed the stream
-abbrev pub AreFeedCalls : Stream → List FeedCall → Type 0
-AreFeedCalls s [] = Unit {0}
-AreFeedCalls s (c ∷ calls) = IsFeedCall s c × AreFeedCalls c.after calls
-
 -- the headline for a caller whose pieces have any length: what `IsTextRight` says holds after any
 -- calls on a stream that holds nothing and whose reader is at a chunk and was given nothing, as it
 -- is at chunk 0 after an `age_c_open_..`, and at the chunk that it goes to after `age_c_seek`
 abbrev pub FeedsAreWritten : Type 0
 FeedsAreWritten = (s : Stream) (start : ℕ) → IsAt s.reader (fresh start) → s.held ≡ 0
-    → start < chunk_limit → (calls : List FeedCall) → AreFeedCalls s calls
-    → (text : List ℕ) → chunk_count chunk_length text ≤ chunk_limit
-    → IsTextRight s.reader text start (reader_calls calls)
-
--- a call as its caller sees it
-abbrev pub feed_call_of : Bool → List ℕ → ℕ → ℕ → List ℕ → Stream → FeedCall
-feed_call_of is_end bytes answer written out after = record {
-  is_end = is_end;
-  bytes = bytes;
-  answer = answer;
-  text = take written out;
-  after = after;
-}
+    → start < chunk_limit → (calls : List (Call Stream))
+    → AreCalls (λ s. s.reader) StreamIsAt s calls → (text : List ℕ)
+    → chunk_count chunk_length text ≤ chunk_limit
+    → IsTextRight (λ s. s.reader) s.reader text start calls
 
 -- what `age_c_feed` and `age_c_finish` promise (`Answers`, with the same arguments as in their
 -- contracts) makes each of them a call on the stream
@@ -129,9 +77,9 @@ abbrev pub AnswersAreFeedCalls : Type 0
 AnswersAreFeedCalls = (old new : Stream) (piece before after : List ℕ) (answer taken written : ℕ)
     → (Answers (IsStreamCall old before)
     (λ answer text new. FeedsStream piece old answer taken text new) old new answer written before after
-    → IsFeedCall old (feed_call_of false (take taken piece) answer written after new))
+    → IsCall (λ s. s.reader) StreamIsAt old (call_of false (take taken piece) answer written after new))
     × (Answers (IsStreamCall old before) (FinishesStream old) old new answer written before after
-    → IsFeedCall old (feed_call_of true [] answer written after new))
+    → IsCall (λ s. s.reader) StreamIsAt old (call_of true [] answer written after new))
 
 -- ---- What any calls on a stream that writes do.
 
@@ -220,8 +168,8 @@ abbrev pub PiecesReadBack : Type 0
 PiecesReadBack = (header : Header) (key nonce front : List ℕ) (w : WriteStream)
     (texts : List TextCall) (last : TextCall) → WritesFile header key nonce front w texts last
     → (s : Stream) → IsAt s.reader (fresh 0) → s.held ≡ 0 → s.reader.file_key ≡ key
-    → s.reader.nonce ≡ nonce → (calls : List FeedCall) → AreFeedCalls s calls
-    → segment_from (fresh 0) (reader_calls calls) ≡ record {
+    → s.reader.nonce ≡ nonce → (calls : List (Call Stream))
+    → AreCalls (λ s. s.reader) StreamIsAt s calls → segment_from (fresh 0) calls ≡ record {
       start = 0;
       bytes = bytes_written texts ++ last.bytes;
       ended = true;
@@ -229,4 +177,4 @@ PiecesReadBack = (header : Header) (key nonce front : List ℕ) (w : WriteStream
     }
     → IsClosed (box s.reader.file_key s.reader.nonce) (unbox s.reader.file_key s.reader.nonce)
     chunk_length (text_taken texts)
-    → (texts_of (reader_calls calls) ≡ text_taken texts) × AllAnswer 0 (reader_calls calls)
+    → (texts_of calls ≡ text_taken texts) × AllAnswer 0 calls

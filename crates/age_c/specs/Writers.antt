@@ -1,14 +1,12 @@
 -- A writer of a text in pieces: how it begins a file, and what one call does.
-use Rattle.std.specs.Prelude.{◌≡◌, ◌≢◌, ◌⊎◌, ℕ, ◌+◌, ◌*◌, ◌<◌, ◌≤◌, false, List, [], ◌++◌, length}
-use Rattle.std.specs.Prelude.{take, drop, map}
+use Rattle.std.specs.Prelude.{◌≡◌, ◌≢◌, ◌⊎◌, ℕ, ◌+◌, ◌*◌, ◌<◌, ◌≤◌, false, List, [], ◌++◌, length, take, drop}
+use Rattle.std.specs.Prelude.{map}
 use Rattle.std.specs.List.{enumerate_from, flat_map}
 use Rattle.std.specs.Simd.{first_chunks}
-use Rattle.age_stanza.specs.Grammar.{HeadText, HasText, stanza_text}
+use Rattle.age_stanza.specs.{HeadText, HasText, stanza_text}
 use Rattle.age_stanza.specs.declared.header.Header.{Header}
-use Rattle.age_chunk.specs.Payload.{chunk_limit, chunk_length, block_length, chunk_count, pair, block_bytes}
-use Rattle.age_chunk.specs.Payload.{payload}
-use Rattle.age_keys.specs.Keys.{box, IsMacOf, IsScryptNotAlone}
-use Rattle.age_keys.specs.Scrypt.{IsAllowed, scrypt_head}
+use Rattle.age_chunk.specs.{chunk_limit, chunk_length, block_length, chunk_count, pair, block_bytes, payload}
+use Rattle.age_keys.specs.{box, IsMacOf, IsScryptNotAlone, IsAllowed, scrypt_head}
 use Rattle.age_c.specs.declared.writer.Writer.{Writer}
 use Rattle.age_c.specs.declared.write_stream.WriteStream.{WriteStream}
 

@@ -2,8 +2,7 @@
 
 ghost use Rattle.std.specs.Prelude.{◌≡◌, ◌≢◌, ℕ, ◌+◌, ◌<◌, ◌≤◌, ◌↔◌, IsTrue, true, false, length};
 ghost use Rattle.age_stanza.specs.declared.header.Header.{Header};
-ghost use Rattle.age_c.specs.Calls.{more, EndsAt, IsWorthATry, marks_in};
-ghost use Rattle.age_c.specs.Readers.{HasFront};
+ghost use Rattle.age_c.specs.{more, EndsAt, IsWorthATry, marks_in, HasFront};
 
 use crate::MORE;
 use age_stanza::HEAD_MAX;

@@ -2,13 +2,11 @@
 
 ghost use Rattle.std.specs.Prelude.{◌≡◌, ◌≢◌, ◌+◌, ◌<◌, ◌≤◌, [], length, min, take, drop, IfSome, IfNone};
 ghost use Rattle.std.specs.Prelude.{Some, false};
-ghost use Rattle.age_stream.specs.Segment.{with_piece, with_end};
-ghost use Rattle.age_stream.specs.Opener.{chunk_bytes, has_failed};
-ghost use Rattle.age_c.specs.Calls.{PutsFront, answer_of, reader_status};
-ghost use Rattle.age_c.specs.Readers.{IsBlockCall, IsEndCall, TakesBlock, TakesEnd, after_block, CanBeUsed};
-ghost use Rattle.age_c.specs.inner.Readers.{Keeps, PassesOn, key_of_reader};
-ghost use Rattle.age_chunk.specs.Payload.{chunk_length, block_length};
-ghost use Rattle.age_chunk.specs.ChunkBoxes.{tag_length};
+ghost use Rattle.age_stream.specs.{with_piece, with_end, chunk_bytes, has_failed};
+ghost use Rattle.age_c.specs.{PutsFront, answer_of, reader_status, IsBlockCall, IsEndCall, TakesBlock};
+ghost use Rattle.age_c.specs.{TakesEnd, after_block, CanBeUsed};
+ghost use Rattle.age_c.specs.inner.{Keeps, PassesOn, key_of_reader};
+ghost use Rattle.age_chunk.specs.{chunk_length, block_length, tag_length};
 
 use crate::numbers::{numbers_of, status_of};
 use crate::reader::Reader;

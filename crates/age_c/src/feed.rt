@@ -1,11 +1,10 @@
 //! The functions by which C reads a payload in pieces of any length.
 
 ghost use Rattle.std.specs.Prelude.{◌≡◌, ◌<◌, ◌≤◌, IfNone, IfSome, Some, length, take};
-ghost use Rattle.age_chunk.specs.Payload.{chunk_length, block_length};
-ghost use Rattle.age_c.specs.Calls.{Answers, PutsFront, answer_of, misused, reader_status};
-ghost use Rattle.age_c.specs.Readers.{CanBeUsed};
-ghost use Rattle.age_c.specs.Streams.{FeedsStream, FinishesStream, IsStreamCall};
-ghost use Rattle.age_c.specs.inner.Readers.{HoldsPiece};
+ghost use Rattle.age_chunk.specs.{chunk_length, block_length};
+ghost use Rattle.age_c.specs.{Answers, PutsFront, answer_of, misused, reader_status, CanBeUsed, FeedsStream};
+ghost use Rattle.age_c.specs.{FinishesStream, IsStreamCall};
+ghost use Rattle.age_c.specs.inner.{HoldsPiece};
 
 use crate::MISUSED;
 use crate::blocks::{open_block, open_last, refuse_more, status_at};

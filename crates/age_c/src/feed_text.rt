@@ -1,11 +1,10 @@
 //! The functions by which C writes a file in pieces of any length.
 
 ghost use Rattle.std.specs.Prelude.{◌≡◌, ◌≢◌, ◌+◌, ◌<◌, ◌≤◌, ◌↔◌, IsTrue, true, false, [], length, take};
-ghost use Rattle.age_chunk.specs.Payload.{block_length, chunk_length, chunk_limit};
-ghost use Rattle.age_c.specs.Calls.{Answers, PutsFront};
-ghost use Rattle.age_c.specs.Writers.{CanSeal, WritesOrRefuses, FeedsText, FinishesText, IsTextCall};
-ghost use Rattle.age_c.specs.Writers.{RefusesText};
-ghost use Rattle.age_c.specs.inner.Writers.{HoldsText};
+ghost use Rattle.age_chunk.specs.{block_length, chunk_length, chunk_limit};
+ghost use Rattle.age_c.specs.{Answers, PutsFront, CanSeal, WritesOrRefuses, FeedsText, FinishesText};
+ghost use Rattle.age_c.specs.{IsTextCall, RefusesText};
+ghost use Rattle.age_c.specs.inner.{HoldsText};
 
 use crate::MISUSED;
 use crate::seal::{TOO_MANY_CHUNKS, can_be_used};

@@ -1,8 +1,7 @@
 //! The functions by which C learns what a header says, before it is opened.
 
 ghost use Rattle.std.specs.Prelude.{length, take};
-ghost use Rattle.age_c.specs.Calls.{PutsFront};
-ghost use Rattle.age_c.specs.Headers.{TellsHeader, TellsStanzas};
+ghost use Rattle.age_c.specs.{PutsFront, TellsHeader, TellsStanzas};
 
 use crate::MISUSED;
 use crate::stanza_place::StanzaPlace;

@@ -1,10 +1,9 @@
 //! What any list of calls does. A reader and a writer that take turns, or several of either, need
 //! no law: each call takes its reader or writer by reference, and the library keeps nothing else.
 
-ghost use Rattle.age_c.specs.Readers.{CallsAreWritten, PartsAreWritten, AnswersAreCalls};
-ghost use Rattle.age_c.specs.Places.{OpeningsAreParts, UndamagedOpens};
-ghost use Rattle.age_c.specs.Streams.{AnswersAreFeedCalls, AnswersAreTextCalls, FeedsAreWritten};
-ghost use Rattle.age_c.specs.Streams.{PiecesReadBack, TextsAreFiles};
+ghost use Rattle.age_c.specs.{CallsAreWritten, PartsAreWritten, AnswersAreCalls, OpeningsAreParts};
+ghost use Rattle.age_c.specs.{UndamagedOpens, AnswersAreFeedCalls, AnswersAreTextCalls, FeedsAreWritten};
+ghost use Rattle.age_c.specs.{PiecesReadBack, TextsAreFiles};
 
 /// The headline for a caller: after any calls of [`age_c_block`](crate::age_c_block) and
 /// [`age_c_end`](crate::age_c_end) on a reader that was just begun, or went to a chunk, while no

@@ -1,8 +1,8 @@
 //! The numbers that stand for a status.
 
 ghost use Rattle.std.specs.Prelude.{◌≡◌, ◌≢◌, Some, true, false};
-ghost use Rattle.age_stream.specs.Opener.{has_failed};
-ghost use Rattle.age_c.specs.Calls.{answer_of, failed_at, reader_status};
+ghost use Rattle.age_stream.specs.{has_failed};
+ghost use Rattle.age_c.specs.{answer_of, failed_at, reader_status};
 
 use age_chunk::{StreamFault, StreamKind};
 use age_stream::Status;

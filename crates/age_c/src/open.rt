@@ -1,9 +1,8 @@
 //! The functions by which C opens a header.
 
 ghost use Rattle.std.specs.Prelude.{◌≡◌, ◌≢◌, length};
-ghost use Rattle.age_keys.specs.Scrypt.{IsAllowed, IsPassphraseKey, PassphraseRefuses};
-ghost use Rattle.age_keys.specs.X25519.{IsSharedKey, SharedRefuses};
-ghost use Rattle.age_c.specs.Readers.{IsStarted, IsStartRefusal};
+ghost use Rattle.age_keys.specs.{IsAllowed, IsPassphraseKey, PassphraseRefuses, IsSharedKey, SharedRefuses};
+ghost use Rattle.age_c.specs.{IsStarted, IsStartRefusal};
 
 use crate::MISUSED;
 use crate::reader::Reader;

@@ -1,8 +1,7 @@
 //! The function by which C opens a chunk at its place.
 
 ghost use Rattle.std.specs.Prelude.{take};
-ghost use Rattle.age_c.specs.Calls.{Answers, PutsFront, answer_of};
-ghost use Rattle.age_c.specs.Places.{IsOpenAtCall, OpensAt};
+ghost use Rattle.age_c.specs.{Answers, PutsFront, answer_of, IsOpenAtCall, OpensAt};
 
 use crate::MISUSED;
 use crate::blocks::{open_block, open_last, status_at};

@@ -1,7 +1,6 @@
 //! The functions by which C reads a payload.
 
-ghost use Rattle.age_c.specs.Calls.{Answers};
-ghost use Rattle.age_c.specs.Readers.{IsBlockCall, IsEndCall, TakesBlock, TakesEnd, after_block};
+ghost use Rattle.age_c.specs.{Answers, IsBlockCall, IsEndCall, TakesBlock, TakesEnd, after_block};
 
 use crate::MISUSED;
 use crate::blocks::{open_block, open_last, status_at};

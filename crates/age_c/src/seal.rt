@@ -1,8 +1,7 @@
 //! The functions by which C writes a file.
 
 ghost use Rattle.std.specs.Prelude.{◌≡◌, ◌↔◌, IsTrue};
-ghost use Rattle.age_c.specs.Calls.{Answers};
-ghost use Rattle.age_c.specs.Writers.{CanSeal, IsStartCall, WritesOrRefuses, BeginsFileFrom};
+ghost use Rattle.age_c.specs.{Answers, CanSeal, IsStartCall, WritesOrRefuses, BeginsFileFrom};
 
 use crate::MISUSED;
 use crate::blocks::put;

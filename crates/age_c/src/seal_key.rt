@@ -1,10 +1,9 @@
 //! The function by which C begins a file whose key it has wrapped itself.
 
 ghost use Rattle.std.specs.Prelude.{◌≡◌, ◌≤◌, ◌+◌, length, take, drop, IfOk, IfErr};
-ghost use Rattle.age_keys.specs.Keys.{IsScryptNotAlone};
-ghost use Rattle.age_c.specs.Calls.{Answers};
-ghost use Rattle.age_c.specs.Writers.{BeginsFileWith, HasLines, IsKeyCall, RefusesLines, WritesOrRefuses};
-ghost use Rattle.age_c.specs.inner.Writers.{HasKeyFront, zero_text};
+ghost use Rattle.age_keys.specs.{IsScryptNotAlone};
+ghost use Rattle.age_c.specs.{Answers, BeginsFileWith, HasLines, IsKeyCall, RefusesLines, WritesOrRefuses};
+ghost use Rattle.age_c.specs.inner.{HasKeyFront, zero_text};
 
 use crate::MISUSED;
 use crate::blocks::put;

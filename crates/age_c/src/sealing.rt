@@ -1,15 +1,12 @@
 //! Seals the chunks of a payload.
 
 ghost use Rattle.std.specs.Prelude.{◌≡◌, ◌+◌, ◌<◌, ◌≤◌, [], length, take, drop, IfOk, IfErr};
-ghost use Rattle.age_cipher.specs.Aead.{sealing as sealing_with};
-ghost use Rattle.age_chunk.specs.Payload.{chunk_limit, nonce_bytes, chunk_length};
-ghost use Rattle.age_stanza.specs.Grammar.{HasText};
-ghost use Rattle.age_keys.specs.Scrypt.{IsAllowed, scrypt_head};
-ghost use Rattle.age_c.specs.Readers.{start_fault_number};
-ghost use Rattle.age_c.specs.Calls.{PutsFront};
-ghost use Rattle.age_c.specs.Writers.{IsFileFront};
-ghost use Rattle.age_c.specs.inner.Writers.{IsChunkCall, IsLastCall, SealsChunk, SealsLast, key_of_writer};
-ghost use Rattle.age_chunk.specs.ChunkBoxes.{tag_length};
+ghost use Rattle.age_cipher.specs.{sealing as sealing_with};
+ghost use Rattle.age_chunk.specs.{chunk_limit, nonce_bytes, chunk_length, tag_length};
+ghost use Rattle.age_stanza.specs.{HasText};
+ghost use Rattle.age_keys.specs.{IsAllowed, scrypt_head};
+ghost use Rattle.age_c.specs.{start_fault_number, PutsFront, IsFileFront};
+ghost use Rattle.age_c.specs.inner.{IsChunkCall, IsLastCall, SealsChunk, SealsLast, key_of_writer};
 
 use crate::start::StartFault;
 use crate::writer::Writer;

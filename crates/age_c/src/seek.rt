@@ -1,9 +1,8 @@
 //! The function by which C goes to any place of a payload.
 
 ghost use Rattle.std.specs.Prelude.{◌≡◌, ◌≢◌, ◌<◌};
-ghost use Rattle.age_chunk.specs.Payload.{chunk_limit};
-ghost use Rattle.age_c.specs.Calls.{misused};
-ghost use Rattle.age_c.specs.Readers.{GoesTo, CanBeUsed};
+ghost use Rattle.age_chunk.specs.{chunk_limit};
+ghost use Rattle.age_c.specs.{misused, GoesTo, CanBeUsed};
 
 use crate::MISUSED;
 use crate::blocks::status_at;

@@ -1,8 +1,8 @@
 //! The function by which C learns how long a text is, before it is read.
 
 ghost use Rattle.std.specs.Prelude.{◌≡◌, ◌-◌, ◌+◌};
-ghost use Rattle.age_stream.specs.Laws.{chunks_for};
-ghost use Rattle.age_c.specs.Calls.{Measures, ends_as};
+ghost use Rattle.age_stream.specs.{chunks_for};
+ghost use Rattle.age_c.specs.{Measures, ends_as};
 
 use crate::reader::Reader;
 use age_chunk::{BLOCK_LEN, CHUNK_LEN, StreamKind, TAG_LEN};

@@ -1,11 +1,9 @@
 //! Tells where the stanzas of a header stand, and what their bodies are.
 
 ghost use Rattle.std.specs.Prelude.{◌≡◌, ◌+◌, ◌≤◌, length, take, drop};
-ghost use Rattle.age_stanza.specs.Grammar.{header_limit, stanza_text};
-ghost use Rattle.age_stanza.specs.Parsing.{stanzas_text};
-ghost use Rattle.age_c.specs.Calls.{PutsFront};
-ghost use Rattle.age_c.specs.Headers.{bodies_of};
-ghost use Rattle.age_c.specs.inner.Readers.{place_of, places_from};
+ghost use Rattle.age_stanza.specs.{header_limit, stanza_text, stanzas_text};
+ghost use Rattle.age_c.specs.{PutsFront, bodies_of};
+ghost use Rattle.age_c.specs.inner.{place_of, places_from};
 
 use crate::stanza_place::StanzaPlace;
 use crate::text_len::{args_len as spaced_len, stanza_len};

@@ -1,7 +1,7 @@
 //! Opens the header at the beginning of a file, and reads the nonce after it.
 
 ghost use Rattle.std.specs.Prelude.{◌≡◌, ◌≢◌, ◌+◌, ◌≤◌, length, take, drop, IfOk, IfErr};
-ghost use Rattle.age_stream.specs.Segment.{fresh};
+ghost use Rattle.age_stream.specs.{fresh};
 ghost use Rattle.age_c.specs.Readers.{IsAt, HasHead, HasNoHead, HasFront, HeadRefuses, IsStarted};
 ghost use Rattle.age_c.specs.Readers.{StartRefuses, start_fault_number};
 ghost use Rattle.age_c.specs.inner.Readers.{StartCounts};

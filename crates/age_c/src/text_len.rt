@@ -2,8 +2,7 @@
 
 ghost use Rattle.std.specs.Prelude.{◌≡◌, ◌≤◌, ◌∷◌, length};
 ghost use Rattle.std.specs.List.{flat_map};
-ghost use Rattle.age_stanza.specs.Grammar.{header_limit, in_lines, stanza_text};
-ghost use Rattle.age_stanza.specs.Text.{base64_text};
+ghost use Rattle.age_stanza.specs.{header_limit, in_lines, stanza_text, base64_text};
 
 use age_stanza::{Argument, Stanza};
 

@@ -1,6 +1,6 @@
 //! The work factor that a header demands of a passphrase.
 
-ghost use Rattle.age_c.specs.Headers.{IsWork};
+ghost use Rattle.age_c.specs.{IsWork};
 
 use age_keys::ScryptStanza;
 use age_stanza::Header;

@@ -4,20 +4,19 @@ use Rattle.std.specs.Prelude.{ℕ, List, [], ◌≡◌, ◌≢◌, ◌++◌, Som
 use Rattle.std.specs.Prelude.{◌-◌, ◌∷◌, length, min, take}
 use Rattle.std.specs.Bool.{OnTrue}
 use Rattle.std.specs.List.{flat_map}
-use Rattle.age_cipher.specs.Aead.{sealing as sealing_with, opening as opening_with}
-use Rattle.age_chunk.specs.ChunkBoxes.{Seals, OpensBlock}
-use Rattle.age_keys.specs.Keys.{payload_key, is_before_work as is_before_work_on_keys}
+use Rattle.age_cipher.specs.{sealing as sealing_with, opening as opening_with}
+use Rattle.age_chunk.specs.{Seals, OpensBlock, chunk_length, block_length}
+use Rattle.age_keys.specs.{payload_key, is_before_work as is_before_work_on_keys}
 use Rattle.age_c.specs.declared.reader.Reader.{Reader}
-use Rattle.age_chunk.specs.Payload.{chunk_length, block_length}
-use Rattle.age_stream.specs.Opener.{OpenerView, Stands, has_failed}
-use Rattle.age_stream.specs.Segment.{Segment, released}
+use Rattle.age_stream.specs.{OpenerView, Stands, has_failed, released}
 use Rattle.age_stream.specs.declared.step.Status.{Status}
 use Rattle.age_stream.specs.declared.step.Status.TheVariants.{Open, Done}
+use Rattle.age_stream.specs.Segment.{Segment}
 use Rattle.age_c.specs.Calls.{answer_of, reader_status}
 use Rattle.age_c.specs.Readers.{SameFile}
 use Rattle.age_c.specs.declared.start.StartFault.{StartFault}
 use Rattle.age_c.specs.declared.start.StartFault.TheVariants.{Key}
-use Rattle.age_stanza.specs.Grammar.{stanza_text}
+use Rattle.age_stanza.specs.{stanza_text}
 use Rattle.age_stanza.specs.declared.header.Stanza.{Stanza}
 use Rattle.age_c.specs.declared.stanza_place.StanzaPlace.{StanzaPlace}
 use Rattle.age_c.specs.Streams.{held_block}

@@ -1,11 +1,10 @@
 -- By which key a payload is sealed, and what the parts of a call do to a writer and to a stream.
 -- Private: no public contract cites this module.
 use Rattle.std.specs.Prelude.{◌≡◌, ℕ, ◌+◌, ◌≤◌, List, ◌++◌, length, replicate, ◌-◌, min, take}
-use Rattle.age_chunk.specs.Payload.{chunk_limit, chunk_length, block_length, chunk_count, payload}
-use Rattle.age_chunk.specs.ChunkBoxes.{tag_length}
-use Rattle.age_keys.specs.Keys.{box, IsMacOf, IsScryptNotAlone, payload_key}
+use Rattle.age_chunk.specs.{chunk_limit, chunk_length, block_length, chunk_count, payload, tag_length}
+use Rattle.age_keys.specs.{box, IsMacOf, IsScryptNotAlone, payload_key}
 use Rattle.age_c.specs.Writers.{CanSeal, HasLines, HasSealed, IsFileFront, SameKeys, blocks_of, held_chunk}
-use Rattle.age_stanza.specs.Grammar.{end_line, line, version}
+use Rattle.age_stanza.specs.{end_line, line, version}
 use Rattle.age_stanza.specs.declared.header.Header.{Header}
 use Rattle.age_c.specs.declared.writer.Writer.{Writer}
 use Rattle.age_c.specs.declared.write_stream.WriteStream.{WriteStream}

@@ -1,6 +1,6 @@
 use Rattle.std.proofs.Common.{inl, inr, ◌+◌, arith}
 use Rattle.std.proofs.lemmas.Bool.{cases_lt}
-use Rattle.age_c.proofs.HeaderLemmas.{front_ends}
+use Rattle.age_c.proofs.{front_ends}
 use Rattle.age_c.proofs.again.ends_after.Goals as goal
 
 pub returns-clause-begun : goal.returns-clause-begun

@@ -1,11 +1,10 @@
 use Rattle.std.proofs.Common.{sym, ap, subst, ◌∙◌, arith, List, ℕ, take, length, ◌≡◌}
 use Rattle.std.proofs.lemmas.List.{take_all}
-use Rattle.age_stream.specs.Segment.{with_piece, outcome}
-use Rattle.age_stream.specs.Opener.{Stands}
-use Rattle.age_c.specs.inner.Readers.{opens}
-use Rattle.age_c.proofs.ReaderLemmas.{block_text}
+use Rattle.age_stream.specs.{with_piece, outcome, Stands}
+use Rattle.age_c.specs.inner.{opens}
+use Rattle.age_c.proofs.{block_text}
 use Rattle.age_c.proofs.blocks.feed_block.Goals as goal
-use Rattle.age_chunk.specs.Payload.{chunk_length}
+use Rattle.age_chunk.specs.{chunk_length}
 
 pub returns-in-Ok-clause-passes : goal.returns-in-Ok-clause-passes
 returns-in-Ok-clause-passes c =

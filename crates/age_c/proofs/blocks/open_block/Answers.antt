@@ -1,6 +1,6 @@
 use Rattle.std.proofs.Common.{◌≡◌}
-use Rattle.age_stream.specs.Segment.{with_piece}
-use Rattle.age_c.proofs.ReaderLemmas.{opener_of, takes_of, whole_piece}
+use Rattle.age_stream.specs.{with_piece}
+use Rattle.age_c.proofs.{opener_of, takes_of, whole_piece}
 use Rattle.age_c.proofs.blocks.open_block.Goals as goal
 
 pub returns-clause-takes : goal.returns-clause-takes

@@ -1,8 +1,7 @@
 use Rattle.std.proofs.Common.{◌≡◌, ap, ◌∙◌}
-use Rattle.age_stream.specs.Segment.{with_end, with_piece}
-use Rattle.age_stream.specs.Opener.{has_failed}
-use Rattle.age_c.specs.Calls.{answer_of}
-use Rattle.age_c.proofs.ReaderLemmas.{done_of, opener_of, passes_both, takes_of}
+use Rattle.age_stream.specs.{with_end, with_piece, has_failed}
+use Rattle.age_c.specs.{answer_of}
+use Rattle.age_c.proofs.{done_of, opener_of, passes_both, takes_of}
 use Rattle.age_c.proofs.blocks.open_last.Goals as goal
 
 pub returns-clause-takes : goal.returns-clause-takes

@@ -1,7 +1,7 @@
 use Rattle.std.proofs.Common.{◌≡◌, ◌≢◌, take}
-use Rattle.age_stream.specs.Segment.{with_piece}
+use Rattle.age_stream.specs.{with_piece}
 use Rattle.age_stream.specs.declared.step.Status.TheVariants.{Open}
-use Rattle.age_c.proofs.ReaderLemmas.{opener_of, takes_of}
+use Rattle.age_c.proofs.{opener_of, takes_of}
 use Rattle.age_c.proofs.blocks.refuse_more.Goals as goal
 
 pub returns-clause-takes : goal.returns-clause-takes

@@ -1,6 +1,5 @@
 use Rattle.std.proofs.Common.{arith, sym, ◌∙◌, refl}
-use Rattle.age_c.proofs.ReaderLemmas.{some_is}
-use Rattle.age_c.proofs.StreamLemmas.{feeds_closed}
+use Rattle.age_c.proofs.{some_is, feeds_closed}
 use Rattle.age_c.proofs.feed.feed.Goals as goal
 
 pub returns-in_default : goal.returns-in_default

@@ -1,7 +1,7 @@
 use Rattle.std.proofs.Common.{◌≡◌, ◌∙◌, ◌+◌, ap, sym, arith, refl, take, ℕ}
 use Rattle.std.proofs.lemmas.List.{take_all}
-use Rattle.age_chunk.specs.Payload.{block_length}
-use Rattle.age_c.proofs.StreamLemmas.{feeds_part, feeds_whole}
+use Rattle.age_chunk.specs.{block_length}
+use Rattle.age_c.proofs.{feeds_part, feeds_whole}
 use Rattle.age_c.proofs.feed.feed_open.Goals as goal
 
 pub returns-then-held-lt-BLOCK_LEN-clause-feeds : goal.returns-then-held-lt-BLOCK_LEN-clause-feeds

@@ -1,8 +1,8 @@
 use Rattle.std.proofs.Common.{◌≡◌, ◌++◌, ap, arith, length, take, ℕ}
 use Rattle.std.specs.Prelude.{◌-◌, min}
-use Rattle.age_chunk.specs.Payload.{block_length}
-use Rattle.age_c.specs.Streams.{held_block}
-use Rattle.age_c.proofs.StreamLemmas.{block_call, feeds_whole}
+use Rattle.age_chunk.specs.{block_length}
+use Rattle.age_c.specs.{held_block}
+use Rattle.age_c.proofs.{block_call, feeds_whole}
 use Rattle.age_c.proofs.feed.feed_whole.Goals as goal
 
 pub returns-clause-feeds : goal.returns-clause-feeds

@@ -1,5 +1,5 @@
 use Rattle.std.proofs.Common.{refl, take}
-use Rattle.age_c.proofs.StreamLemmas.{finishes}
+use Rattle.age_c.proofs.{finishes}
 use Rattle.age_c.proofs.feed.finish.Goals as goal
 
 pub returns-clause-finishes : goal.returns-clause-finishes

@@ -1,5 +1,5 @@
 use Rattle.std.proofs.Common.{◌≡◌, length, refl, take}
-use Rattle.age_chunk.specs.Payload.{chunk_length}
+use Rattle.age_chunk.specs.{chunk_length}
 use Rattle.age_c.proofs.WriterLemmas.{feeds_full}
 use Rattle.age_c.proofs.feed_text.seal_held.Goals as goal
 

@@ -1,7 +1,7 @@
 use Rattle.std.proofs.Common.{refl, ap, ◌∙◌, arith}
-use Rattle.age_c.specs.Headers.{bodies_of}
-use Rattle.age_c.specs.inner.Readers.{places_from}
-use Rattle.age_c.proofs.HeaderLemmas.{bodies_within, has_stanzas, stanzas_within}
+use Rattle.age_c.specs.{bodies_of}
+use Rattle.age_c.specs.inner.{places_from}
+use Rattle.age_c.proofs.{bodies_within, has_stanzas, stanzas_within}
 use Rattle.age_c.proofs.header.age_c_stanzas.Goals as goal
 
 pub put_bodies-requires : goal.put_bodies-requires

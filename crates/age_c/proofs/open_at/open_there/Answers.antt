@@ -1,5 +1,5 @@
 use Rattle.std.proofs.Common.{rules}
-use Rattle.age_c.proofs.CallLemmas.{goes_open, goes_usable}
+use Rattle.age_c.proofs.{goes_open, goes_usable}
 use Rattle.age_c.proofs.open_at.open_there.Goals as goal
 
 pub open_block-requires-clause-call : goal.open_block-requires-clause-call

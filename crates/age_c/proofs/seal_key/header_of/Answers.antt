@@ -1,5 +1,5 @@
 use Rattle.std.proofs.Common.{inl, inr, length, ap, refl, sym, ◌∙◌, arith}
-use Rattle.age_c.proofs.FrontLemmas.{lines_read, no_lines, none_of_lines}
+use Rattle.age_c.proofs.{lines_read, no_lines, none_of_lines}
 use Rattle.age_c.proofs.seal_key.header_of.Goals as goal
 
 pub returns-in-Err-2-clause-refused : goal.returns-in-Err-2-clause-refused

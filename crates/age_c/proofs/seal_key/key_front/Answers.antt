@@ -1,6 +1,6 @@
 use Rattle.std.proofs.Common.{List, ℕ, ap, ◌∙◌, arith}
-use Rattle.age_keys.specs.Keys.{header_mac}
-use Rattle.age_c.proofs.FrontLemmas.{key_front_size, mac_made, with_mac}
+use Rattle.age_keys.specs.{header_mac}
+use Rattle.age_c.proofs.{key_front_size, mac_made, with_mac}
 use Rattle.age_c.proofs.seal_key.key_front.Goals as goal
 
 pub front_of-requires : goal.front_of-requires

@@ -1,8 +1,8 @@
 use Rattle.std.proofs.Common.{List, ℕ, ◌++◌, ap, ap₂, ◌∙◌}
 use Rattle.std.specs.Prelude.{replicate}
 use Rattle.std.proofs.lemmas.List.{append_assoc}
-use Rattle.age_stanza.specs.Grammar.{end_line, line, version}
-use Rattle.age_c.proofs.FrontLemmas.{zero_line}
+use Rattle.age_stanza.specs.{end_line, line, version}
+use Rattle.age_c.proofs.{zero_line}
 use Rattle.age_c.proofs.seal_key.zero_text.Goals as goal
 
 pub returns : goal.returns

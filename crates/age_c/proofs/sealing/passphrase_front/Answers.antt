@@ -1,7 +1,7 @@
 use Rattle.std.proofs.Common.{◌≡◌, length}
 use Rattle.std.proofs.lemmas.Result.{IfOk-weaker}
-use Rattle.age_keys.specs.Scrypt.{scrypt_head}
-use Rattle.age_c.proofs.FrontLemmas.{front_size}
+use Rattle.age_keys.specs.{scrypt_head}
+use Rattle.age_c.proofs.{front_size}
 use Rattle.age_c.proofs.sealing.passphrase_front.Goals as goal
 
 pub returns-in-Ok-clause-size : goal.returns-in-Ok-clause-size

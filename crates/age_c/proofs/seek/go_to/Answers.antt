@@ -1,5 +1,5 @@
 use Rattle.std.proofs.Common.{refl}
-use Rattle.age_c.proofs.ReaderLemmas.{at_fresh}
+use Rattle.age_c.proofs.{at_fresh}
 use Rattle.age_c.proofs.seek.go_to.Goals as goal
 
 pub returns : goal.returns

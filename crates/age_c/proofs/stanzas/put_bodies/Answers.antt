@@ -1,5 +1,5 @@
 use Rattle.std.proofs.Common.{arith}
-use Rattle.age_c.proofs.HeaderLemmas.{body_next}
+use Rattle.age_c.proofs.{body_next}
 use Rattle.age_c.proofs.stanzas.put_bodies.Goals as goal
 
 pub loop-stanza-preserved : goal.loop-stanza-preserved

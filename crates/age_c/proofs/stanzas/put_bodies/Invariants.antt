@@ -1,5 +1,5 @@
 use Rattle.std.proofs.Common.{◌≡◌, ◌≤◌, ◌++◌, length, take, drop}
-use Rattle.age_c.specs.Headers.{bodies_of}
+use Rattle.age_c.specs.{bodies_of}
 use Rattle.age_c.proofs.stanzas.put_bodies.Given as goal
 
 abbrev pub invariant-loop-stanza : goal.invariant-loop-stanza

@@ -1,7 +1,7 @@
 use Rattle.std.proofs.Common.{length, set, ap, ◌∙◌, arith}
 use Rattle.std.proofs.lemmas.List.{drop-set-lt}
-use Rattle.age_stanza.proofs.TextLengthLemmas.{stanza_within}
-use Rattle.age_c.proofs.HeaderLemmas.{body_within, length-stanza, place_next, stanzas_next}
+use Rattle.age_stanza.proofs.{stanza_within}
+use Rattle.age_c.proofs.{body_within, length-stanza, place_next, stanzas_next}
 use Rattle.age_c.proofs.stanzas.put_places.Goals as goal
 
 pub overflow_add-body_at : goal.overflow_add-body_at

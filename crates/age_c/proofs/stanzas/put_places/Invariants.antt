@@ -1,8 +1,7 @@
 use Rattle.std.proofs.Common.{◌≡◌, ◌+◌, ◌≤◌, ◌++◌, length, take, drop}
 use Rattle.std.specs.List.{flat_map}
-use Rattle.age_stanza.specs.Grammar.{stanza_text}
-use Rattle.age_stanza.specs.Parsing.{stanzas_text}
-use Rattle.age_c.specs.inner.Readers.{places_from}
+use Rattle.age_stanza.specs.{stanza_text, stanzas_text}
+use Rattle.age_c.specs.inner.{places_from}
 use Rattle.age_c.proofs.stanzas.put_places.Given as goal
 
 abbrev pub invariant-loop-index : goal.invariant-loop-index

@@ -1,5 +1,5 @@
 use Rattle.std.proofs.Common.{◌+◌, ◌/◌, ◌∙◌, ℕ, sym, ap}
-use Rattle.age_stanza.proofs.TextLengthLemmas.{div_ceil-characters, length-body}
+use Rattle.age_stanza.proofs.{div_ceil-characters, length-body}
 use Rattle.age_c.proofs.text_len.body_len.Goals as goal
 
 pub returns : goal.returns

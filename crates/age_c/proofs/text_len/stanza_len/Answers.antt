@@ -1,5 +1,5 @@
 use Rattle.std.proofs.Common.{length, ap, arith}
-use Rattle.age_c.proofs.HeaderLemmas.{body_within, length-stanza}
+use Rattle.age_c.proofs.{body_within, length-stanza}
 use Rattle.age_c.proofs.text_len.stanza_len.Goals as goal
 
 pub body_len-requires : goal.body_len-requires

@@ -1,5 +1,5 @@
-use Rattle.age_keys.proofs.StanzaLemmas.{only_one}
-use Rattle.age_c.proofs.HeaderLemmas.{no_work, work_from}
+use Rattle.age_keys.proofs.{only_one}
+use Rattle.age_c.proofs.{no_work, work_from}
 use Rattle.age_c.proofs.work.work_of.Goals as goal
 
 pub returns-in-Some : goal.returns-in-Some
