@@ -2,9 +2,8 @@
 use Rattle.std.proofs.Common.{◌≡◌, ℕ, List, [], Option, Some, Result, sym, subst}
 use Rattle.std.specs.Prelude.{IfSome}
 use Rattle.age_io.specs.declared.durability.Durability.{Durability}
-use Rattle.age_machine.specs.Beside.{IsKept}
-use Rattle.age_machine.specs.Calls.{FileCall}
-use Rattle.age_machine.specs.Saved.{SavedFile, Saves, PutsAtOnce}
+use Rattle.age_machine.specs.{IsKept, FileCall, SavedFile, PutsAtOnce}
+use Rattle.age_machine.specs.Saved.{Saves}
 
 -- it was put there at once, by these calls, which began with none
 pub saved_at : {E : Type 0} (bytes path : List ℕ) (durability : Durability) (r : Result (Unit {0}) E) (s : SavedFile)

@@ -1,18 +1,12 @@
 -- What is known of a file while puts go on, and once it was ended.
-use Rattle.std.proofs.Common.{◌≡◌, ◌<◌, ℕ, List, [], ◌∷◌, ◌++◌, Bool, true, false, Option, Some, None}
-use Rattle.std.proofs.Common.{arith, sym, ap, ◌∙◌, refl, subst}
+use Rattle.std.proofs.Common.{◌≡◌, ◌<◌, ℕ, List, [], ◌∷◌, ◌++◌, Bool, true, false, Option, Some, None, arith, sym, ap, ◌∙◌, refl, subst}
 use Rattle.std.specs.Prelude.{Result, Ok, Err, IfOk, IfSome, OnOk, OnErr, MatchResult, is_ok}
-use Rattle.age_io.specs.Io.{one_more}
+use Rattle.age_io.specs.{one_more}
 use Rattle.age_io.specs.declared.durability.Durability.{Durability}
 use Rattle.age_io.specs.declared.durability.Durability.TheVariants.{Synced}
-use Rattle.age_machine.specs.Calls.{FileCall}
-use Rattle.age_machine.specs.Ends.{EndedFile, Closes}
-use Rattle.age_machine.specs.Outs.{OutFile, OutView, TouchesFile, text_of}
-use Rattle.age_machine.specs.Saves.{LeadsTo, IsSafe}
-use Rattle.age_disk.specs.Outputs.{HasNode, sink_of}
-use Rattle.age_disk.specs.Targets.{IsTaking}
-use Rattle.age_disk.specs.declared.names.FileId.{FileId}
-use Rattle.age_disk.specs.inner.Puts.{TargetPuts}
+use Rattle.age_machine.specs.{FileCall, EndedFile, Closes, OutFile, OutView, TouchesFile, text_of, LeadsTo, IsSafe}
+use Rattle.age_disk.specs.{HasNode, sink_of, IsTaking, FileId}
+use Rattle.age_disk.specs.inner.{TargetPuts}
 
 first_none : (one other : List ℕ) → one ++ other ≡ [] → one ≡ []
 first_none [] other none = refl

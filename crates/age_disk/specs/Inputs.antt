@@ -1,6 +1,6 @@
 -- What contracts see of a file of the machine that is read.
 use Rattle.std.specs.Prelude.{◌≡◌, ℕ, List, [], Bool, false, Option, None}
-use Rattle.age_io.specs.Io.{SourceView}
+use Rattle.age_io.specs.{SourceView}
 use Rattle.age_disk.specs.declared.names.FileId.{FileId}
 
 pub record InputView : Type 0 where

@@ -1,10 +1,8 @@
 -- What follows for the files that are read.
 use Rattle.std.specs.Prelude.{◌≡◌, ◌<◌, ◌^◌, List, Some, Contains}
-use Rattle.age_machine.specs.Calls.{FileCall}
-use Rattle.age_machine.specs.Disk.{Disk, after_calls}
-use Rattle.age_machine.specs.Numbers.{number_of}
-use Rattle.age_machine.specs.Outs.{OutFile, AllOn}
+use Rattle.age_machine.specs.{FileCall, after_calls, number_of, OutFile, AllOn}
 use Rattle.age_machine.specs.declared.node.Node.{Node}
+use Rattle.age_machine.specs.Disk.{Disk}
 use Rattle.age_disk.specs.Outputs.{OutputView, IsApart}
 use Rattle.age_disk.specs.declared.names.FileId.{FileId}
 use Rattle.age_disk.specs.declared.names.FileId.TheVariants.{File}

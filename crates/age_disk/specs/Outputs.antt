@@ -1,9 +1,8 @@
 -- What contracts see of a file of the machine that is written.
-use Rattle.std.specs.Prelude.{◌≡◌, ◌≢◌, ◌<◌, ◌^◌, ℕ, List, [], Bool, true, false, Option, None, Some}
-use Rattle.std.specs.Prelude.{IfSome, Contains}
-use Rattle.age_io.specs.Io.{SinkView}
-use Rattle.age_machine.specs.Numbers.{number_of}
-use Rattle.age_machine.specs.Outs.{OutFile}
+use Rattle.std.specs.Prelude.{◌≡◌, ◌≢◌, ◌<◌, ◌^◌, ℕ, List, [], Bool, true, false, Option, None, Some, IfSome}
+use Rattle.std.specs.Prelude.{Contains}
+use Rattle.age_io.specs.{SinkView}
+use Rattle.age_machine.specs.{number_of, OutFile}
 use Rattle.age_machine.specs.declared.node.Node.{Node}
 use Rattle.age_disk.specs.declared.names.FileId.{FileId}
 use Rattle.age_disk.specs.declared.names.FileId.TheVariants.{File}

@@ -1,2 +1,40 @@
-pub mod Besides
-pub mod Puts
+-- What is done to a file that is written. Private: no public contract cites this module.
+use Rattle.std.specs.Prelude.{◌≡◌, ℕ, List, [], ◌++◌, take, Bool, true, false, Option, Some, None, Result, Ok}
+use Rattle.std.specs.Prelude.{Err}
+use Rattle.age_machine.specs.{FileCall, OutView, text_of}
+use Rattle.age_disk.specs.declared.output.Target.{Target}
+use Rattle.age_disk.specs.declared.output.Target.TheVariants as target
+
+-- the calls that opened what is no regular file
+abbrev pub opening_calls : Target → List FileCall
+opening_calls (target.Device device) = device.machine.calls
+opening_calls other = []
+
+-- what a put took of these bytes
+abbrev pub part_of : {E : Type 0} → Result ℕ E → List ℕ → List ℕ
+part_of (Ok n) from = take n from
+part_of (Err e) from = []
+
+-- a part was written to it, and no call has failed unless that has; nor if nothing was written so far
+pub record PutsPart (old new : OutView) (is_ok : Bool) (part : List ℕ) : Type 0 where
+  pub file : new.file ≡ old.file
+  pub text : text_of new.calls ≡ text_of old.calls ++ part
+  pub sound : is_ok ≡ true → new.is_lost ≡ false
+      → (new.failed ≡ old.failed) × (old.is_lost ≡ false)
+  pub still : is_ok ≡ true → text_of old.calls ≡ [] → part ≡ [] → new.failed ≡ old.failed
+
+-- the same of a regular file, if it is one
+abbrev pub TargetPuts : Option OutView → Option OutView → Bool → List ℕ → Type 0
+TargetPuts None None is_ok part = Unit {0}
+TargetPuts None (Some new) is_ok part = ⊥
+TargetPuts (Some old) None is_ok part = ⊥
+TargetPuts (Some old) (Some new) is_ok part = PutsPart old new is_ok part
+
+-- ---- A file that was made beside a path, to be put there later.
+
+-- the path that it is to have, its own one, which file it is, and the calls that made it
+pub record KeptView : Type 0 where
+  pub path : List ℕ
+  pub from : List ℕ
+  pub number : ℕ
+  pub calls : List FileCall

@@ -1,8 +1,7 @@
 //! A file beside another one, whose place it is to take.
 
 ghost use Rattle.std.specs.Prelude.{◌≡◌, [], string_bytes};
-ghost use Rattle.age_machine.specs.Numbers.{number_of};
-ghost use Rattle.age_machine.specs.Beside.{IsKept};
+ghost use Rattle.age_machine.specs.{number_of, IsKept};
 
 use crate::names::FileId;
 use age_io::Durability;
@@ -28,9 +27,8 @@ pub(crate) struct Kept {
 
 impl Model for Kept {
     ghost use Rattle.std.specs.Prelude.{[], string_bytes};
-    ghost use Rattle.age_machine.specs.Numbers.{number_of};
-    ghost use Rattle.age_machine.specs.Beside.{IsKept};
-    ghost use Rattle.age_disk.specs.inner.Besides.{KeptView};
+    ghost use Rattle.age_machine.specs.{number_of, IsKept};
+    ghost use Rattle.age_disk.specs.inner.{KeptView};
 
     ghost Value = { KeptView };
 
@@ -48,11 +46,10 @@ impl Model for Kept {
 impl Drop for Kept {
     fn drop(self) {
         let Kept {
-            machine,
+            mut machine,
             path: _path,
             beside,
         } = self;
-        let mut machine = machine;
         machine.remove(&beside.file, beside.path.as_str());
     }
 }

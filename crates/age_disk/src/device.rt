@@ -1,7 +1,7 @@
 //! What is opened to be written and no regular file.
 
 ghost use Rattle.std.specs.Prelude.{◌≡◌, true};
-ghost use Rattle.age_machine.specs.Ends.{opens_device};
+ghost use Rattle.age_machine.specs.{opens_device};
 
 use age_machine::HostMachine;
 use std::fs::File;

@@ -2,8 +2,8 @@
 
 ghost use Rattle.std.specs.Prelude.{◌≡◌, IfOk, [], false};
 ghost use Rattle.std.specs.Io.{ReadsAtMost};
-ghost use Rattle.age_io.specs.Io.{IsNamed};
-ghost use Rattle.age_disk.specs.Inputs.{IsUnread, as_source};
+ghost use Rattle.age_io.specs.{IsNamed};
+ghost use Rattle.age_disk.specs.{IsUnread, as_source};
 
 use crate::names::{FileId, Resolved, Stream, is_on_disk, is_random, resolve};
 use age_io::{Failed, Failures, Source, Tape};
@@ -93,7 +93,7 @@ pub struct HostIn {
 }
 
 impl Model for HostIn {
-    ghost use Rattle.age_disk.specs.Inputs.{InputView};
+    ghost use Rattle.age_disk.specs.{InputView};
 
     ghost Value = { InputView };
 

@@ -1,6 +1,6 @@
 //! What follows for the files that are read.
 
-ghost use Rattle.age_disk.specs.Laws.{NoInputIsChanged};
+ghost use Rattle.age_disk.specs.{NoInputIsChanged};
 
 use age_machine::{numbers_are_apart, others_are_kept};
 

@@ -6,14 +6,12 @@ mod beside;
 mod device;
 mod input;
 mod laws;
-mod lock;
 mod names;
 mod output;
 mod paths;
 mod prepare;
 mod saving;
 mod sync;
-mod which;
 
 pub use age_machine::{Node, found_at};
 pub use input::HostIn;

@@ -27,19 +27,9 @@ impl Stream {
     /// The stream of this name.
     fn named(name: &str) -> Option<Stream> {
         match name {
-            "/dev/stdin" => Some(Stream::Input),
-            "/dev/stdout" => Some(Stream::Output),
-            "/dev/stderr" => Some(Stream::Faults),
-            _ => Stream::numbered(name),
-        }
-    }
-
-    /// The stream whose descriptor has this name.
-    fn numbered(name: &str) -> Option<Stream> {
-        match name {
-            "/dev/fd/0" | "/proc/self/fd/0" => Some(Stream::Input),
-            "/dev/fd/1" | "/proc/self/fd/1" => Some(Stream::Output),
-            "/dev/fd/2" | "/proc/self/fd/2" => Some(Stream::Faults),
+            "/dev/stdin" | "/dev/fd/0" | "/proc/self/fd/0" => Some(Stream::Input),
+            "/dev/stdout" | "/dev/fd/1" | "/proc/self/fd/1" => Some(Stream::Output),
+            "/dev/stderr" | "/dev/fd/2" | "/proc/self/fd/2" => Some(Stream::Faults),
             _ => None,
         }
     }
@@ -110,17 +100,12 @@ pub fn resolve(alloc: Global, rt: &HostRuntime, name: &str) -> io::Result<Resolv
 /// Where a link leads; `None` for what is no link.
 fn target_of(alloc: Global, rt: &HostRuntime, path: &PathBuf) -> io::Result<Option<PathBuf>> {
     match fs::read_link(rt, path.as_str()) {
-        Ok(target) => joined(alloc, path, target),
+        Ok(target) => match path.parent() {
+            Some(folder) => Ok(Some(folder.join(alloc, target.as_str())?)),
+            None => Ok(Some(target)),
+        },
         Err(error) if error.kind() == io::ErrorKind::OutOfMemory => Err(error),
         Err(_) => Ok(None),
-    }
-}
-
-/// Where a link at a path leads, from what it holds.
-fn joined(alloc: Global, path: &PathBuf, target: PathBuf) -> io::Result<Option<PathBuf>> {
-    match path.parent() {
-        Some(folder) => Ok(Some(folder.join(alloc, target.as_str())?)),
-        None => Ok(Some(target)),
     }
 }
 
@@ -157,10 +142,7 @@ impl FileId {
 
     /// The id of the file to which a name leads, if there is one.
     pub fn at(rt: &HostRuntime, name: &str) -> Option<FileId> {
-        match fs::metadata(rt, name) {
-            Ok(metadata) => FileId::of(&metadata),
-            Err(_) => None,
-        }
+        FileId::of(&fs::metadata(rt, name).ok()?)
     }
 
     /// The id of the file to which a stream leads that is open. Fails if the system doesn't show
@@ -217,10 +199,7 @@ impl StreamId {
 
     /// The stream that is found at a path.
     fn found(rt: &HostRuntime, path: &str) -> Option<StreamId> {
-        match fs::metadata(rt, path) {
-            Ok(metadata) => StreamId::of(&metadata),
-            Err(_) => None,
-        }
+        StreamId::of(&fs::metadata(rt, path).ok()?)
     }
 
     fn of(metadata: &Metadata) -> Option<StreamId> {
@@ -246,8 +225,8 @@ impl StreamId {
     /// Whether two are one stream, as far as the system shows.
     pub fn is_same(self, other: StreamId) -> bool {
         match (self, other) {
-            (StreamId::Device(CONTROLLING_TERMINAL), StreamId::Device(_)) => true,
-            (StreamId::Device(_), StreamId::Device(CONTROLLING_TERMINAL)) => true,
+            (StreamId::Device(CONTROLLING_TERMINAL), StreamId::Device(_))
+            | (StreamId::Device(_), StreamId::Device(CONTROLLING_TERMINAL)) => true,
             _ => self == other,
         }
     }

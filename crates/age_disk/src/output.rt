@@ -4,24 +4,20 @@ ghost use Rattle.std.specs.Prelude.{◌≡◌, ◌↔◌, ◌≤◌, ◌<◌, []
 ghost use Rattle.std.specs.Prelude.{is_ok, IfOk, IfSome, OnErr, MatchResult, string_bytes, is_err, ℕ, List};
 ghost use Rattle.std.specs.Prelude.{option_map};
 ghost use Rattle.std.specs.Io.{WritesAtMost};
-ghost use Rattle.age_io.specs.Io.{one_more};
+ghost use Rattle.age_io.specs.{one_more};
 ghost use Rattle.age_io.specs.Taken.{WriteAppends, Keeps};
-ghost use Rattle.age_machine.specs.Calls.{Opened};
-ghost use Rattle.age_machine.specs.Ends.{Closes, Discards, TouchesItself};
-ghost use Rattle.age_machine.specs.Numbers.{number_of};
-ghost use Rattle.age_machine.specs.Outs.{OutView};
+ghost use Rattle.age_machine.specs.{Opened, Closes, Discards, TouchesItself, number_of, OutView};
 ghost use Rattle.age_disk.specs.Outputs.{IsNew, IsMadeAt, HasNode, sink_of, as_sink};
 ghost use Rattle.age_disk.specs.Targets.{regular_of, IsTaking, IsPaced};
-ghost use Rattle.age_disk.specs.inner.Puts.{opening_calls, part_of, TargetPuts};
+ghost use Rattle.age_disk.specs.inner.{opening_calls, part_of, TargetPuts};
 
 use crate::device::Device;
 use crate::names::{FileId, Resolved, Stream, resolve};
 use crate::sync::{Witness, close_stream, sync_file};
-use crate::which::Which;
 use age_io::{Durability, Failed, Failures, Sink, Tape};
 use age_machine::calls::close;
 use age_machine::{
-    HostFile, HostMachine, Kind, Machine, Opening, Out, TRIES, is_to_retry, too_many_tries,
+    HostFile, HostMachine, Kind, Machine, Node, Opening, Out, TRIES, is_to_retry, too_many_tries,
 };
 use std::alloc::Global;
 use std::fs::File;
@@ -124,16 +120,12 @@ impl Pace {
         if let Some(error) = self.lost {
             return Err(error);
         }
-        match target.reach_disk() {
-            Ok(()) => {
-                self.settled = self.taken;
-                Ok(())
-            }
-            Err(error) => {
-                self.lost = Some(error);
-                Err(error)
-            }
+        let reached = target.reach_disk();
+        match reached {
+            Ok(()) => self.settled = self.taken,
+            Err(error) => self.lost = Some(error),
         }
+        reached
     }
 
     /// Waits for the disk before more is written, if it is time to.
@@ -200,8 +192,7 @@ fn claimed(rt: &HostRuntime, target: Target, id: Option<FileId>, name: &str) -> 
         → IsTaking (regular_of target) failed took → IsTaking (regular_of t) failed took) }
 {
     match target {
-        Target::File(out) => {
-            let mut out = out;
+        Target::File(mut out) => {
             out.claim()?;
             if FileId::at(rt, name) != id {
                 return Err(io::Error::from(io::ErrorKind::NotFound));
@@ -209,6 +200,41 @@ fn claimed(rt: &HostRuntime, target: Target, id: Option<FileId>, name: &str) -> 
             Ok(Target::File(out))
         }
         other => Ok(other),
+    }
+}
+
+/// Which regular file was ended, for contracts alone.
+#[derive(Drop)]
+struct Which {
+    path: Tape,
+    node: Node,
+    is_made: bool,
+}
+
+impl Model for Which {
+    ghost use Rattle.age_machine.specs.{number_of, OutFile};
+
+    ghost Value = { OutFile };
+
+    ghost view = { λ w. record {
+      path = w.path;
+      number = number_of w.node;
+      is_made = w.is_made;
+    } };
+}
+
+impl Which {
+    /// The file of an output.
+    fn of(out: &Out<HostMachine>) -> Which
+        ensures { result ≡ out.now.file }
+    {
+        let mut path = Tape::new();
+        path.note(out.path().as_bytes());
+        Which {
+            path,
+            node: out.file().node(),
+            is_made: out.is_made(),
+        }
     }
 }
 
@@ -223,7 +249,7 @@ pub struct Ended {
 }
 
 impl Model for Ended {
-    ghost use Rattle.age_machine.specs.Ends.{EndedFile};
+    ghost use Rattle.age_machine.specs.{EndedFile};
 
     ghost Value = { EndedFile };
 
@@ -264,7 +290,7 @@ pub struct HostOut {
 impl Model for HostOut {
     ghost use Rattle.age_disk.specs.Outputs.{OutputView, HasNode};
     ghost use Rattle.std.specs.Prelude.{option_map, IfSome};
-    ghost use Rattle.age_machine.specs.Outs.{OutView};
+    ghost use Rattle.age_machine.specs.{OutView};
     ghost use Rattle.age_disk.specs.Targets.{regular_of, IsTaking, IsPaced};
 
     ghost Value = { OutputView };
@@ -378,12 +404,10 @@ fn close_untouched(
 /// Ends a device or a stream, and closes it, in either case.
 fn end_stream(
     rt: &HostRuntime,
-    target: Target,
-    pace: Pace,
+    mut target: Target,
+    mut pace: Pace,
     durability: Durability,
 ) -> io::Result<()> {
-    let mut target = target;
-    let mut pace = pace;
     let reached = match durability {
         Durability::Synced => pace.reach_disk(&mut target),
         Durability::Buffered => Ok(()),
@@ -479,7 +503,7 @@ impl HostOut {
     /// Makes a file at a path that holds neither a file nor a link.
     fn make_by(
         alloc: Global,
-        machine: HostMachine,
+        mut machine: HostMachine,
         rt: &HostRuntime,
         path: &str,
     ) -> io::Result<HostOut>
@@ -487,7 +511,6 @@ impl HostOut {
         ensures fresh { IfOk result IsNew }
         ensures made { IfOk result (IsMadeAt path.now) }
     {
-        let mut machine = machine;
         let own = String::from_str(alloc, path)?;
         let file = machine.make_output(own.as_str())?;
         let id = Some(FileId::of_node(file.node()));
@@ -551,24 +574,8 @@ impl HostOut {
     pub fn claim(self, rt: &HostRuntime, name: &str) -> io::Result<HostOut>
         ensures { IfOk result (λ o. o ≡ self) }
     {
-        let HostOut {
-            rt: own,
-            target,
-            id,
-            failures,
-            error,
-            pace,
-            took,
-        } = self;
-        Ok(HostOut {
-            rt: own,
-            target: claimed(rt, target, id, name)?,
-            id,
-            failures,
-            error,
-            pace,
-            took,
-        })
+        let target = claimed(rt, self.target, self.id, name)?;
+        Ok(HostOut { target, ..self })
     }
 
     /// The bytes that it took, for contracts alone.

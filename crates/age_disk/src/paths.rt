@@ -1,7 +1,7 @@
 //! Opens, makes and removes files of the machine.
 
 use crate::names::is_on_disk;
-use age_machine::{POSITION_MODE, calls, kept_above, open_to_write};
+use age_machine::{POSITION_MODE, calls, is_at, kept_above, open_to_write};
 use std::fs::{self, File};
 use std::io;
 use std::rt::HostRuntime;
@@ -28,7 +28,17 @@ pub(crate) fn make_file(rt: &HostRuntime, path: &str) -> io::Result<File> {
     kept_above(rt, calls::make(rt, path, POSITION_MODE)?, path)
 }
 
-/// Removes a file that was made, if that is allowed.
-pub(crate) fn remove(rt: &HostRuntime, path: &str) {
-    let _ = calls::remove(rt, path);
+/// Removes a file that this run made at a path, unless another run has it, or another file is there
+/// by now. If the file system has no locks it stays: another run may be writing to it.
+pub(crate) fn remove_own(rt: &HostRuntime, file: &File, path: &str) {
+    if matches!(file.try_lock(), Ok(())) {
+        remove_at(rt, file, path);
+    }
+}
+
+/// Removes a file that no other run opens, unless another file is at its path by now.
+pub(crate) fn remove_at(rt: &HostRuntime, file: &File, path: &str) {
+    if is_at(rt, file, path) {
+        let _ = calls::remove(rt, path);
+    }
 }

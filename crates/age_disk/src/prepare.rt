@@ -1,9 +1,8 @@
 //! A file of the machine that is to be replaced later.
 
 use crate::beside::Kept;
-use crate::lock::remove_at;
 use crate::names::{FileId, Resolved, Stream, is_on_disk, resolve};
-use crate::paths::{make_file, open_at_once};
+use crate::paths::{make_file, open_at_once, remove_at};
 use age_io::Durability;
 use age_machine::{Folder, Node, above_streams, check_same, folder_of, found_at, lock};
 use std::alloc::Global;
@@ -141,10 +140,7 @@ impl Prepared {
 
     /// Whether this is the file that is there now, or the one that is to take its place.
     pub fn is_of(&self, rt: &HostRuntime, id: Option<FileId>) -> bool {
-        let kept = match &self.kept {
-            Some(kept) => Some(kept.id()),
-            None => None,
-        };
+        let kept = self.kept.as_ref().map(Kept::id);
         id.is_some() && (self.id(rt) == id || kept == id)
     }
 }
@@ -164,20 +160,14 @@ fn kept_in(
         Found::Nothing => {
             let kept = Kept::make(alloc, rt, path, durability)?;
             if kept.is_none() {
-                try_to_make(rt, path)?;
+                // Fails if no file can be made there. One that can is removed at once.
+                remove_at(rt, &make_file(rt, path.as_str())?, path.as_str());
             }
             Ok(kept)
         }
         Found::File(file) if file.metadata()?.is_file() => Kept::make(alloc, rt, path, durability),
         _ => Ok(None),
     }
-}
-
-/// Fails if no file can be made at a path. One that can is removed at once.
-fn try_to_make(rt: &HostRuntime, path: &PathBuf) -> io::Result<()> {
-    let file = make_file(rt, path.as_str())?;
-    remove_at(rt, &file, path.as_str());
-    Ok(())
 }
 
 /// The folder that a path leads into; `None` for what no path need lead to.
@@ -192,10 +182,7 @@ fn folder_in(rt: &HostRuntime, resolved: &Resolved, found: &Found) -> io::Result
 fn id_in(rt: &HostRuntime, resolved: &Resolved) -> Option<FileId> {
     match resolved {
         Resolved::Stream(stream) => FileId::of_stream(rt, *stream),
-        Resolved::Path(path) => match found_at(rt, path.as_str()) {
-            Ok(Some(found)) => FileId::of(&found),
-            _ => None,
-        },
+        Resolved::Path(path) => FileId::of(&found_at(rt, path.as_str()).ok()??),
     }
 }
 

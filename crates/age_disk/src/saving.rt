@@ -3,10 +3,9 @@
 ghost use Rattle.std.specs.Prelude.{◌≡◌, None, Some};
 ghost use Rattle.age_machine.specs.Saved.{Saves};
 
-use crate::lock::remove_own;
 use crate::names::{Resolved, is_on_disk};
 use crate::output::HostOut;
-use crate::paths::{make_file, open_at_once};
+use crate::paths::{make_file, open_at_once, remove_own};
 use crate::prepare::Prepared;
 use crate::sync::sync_folder;
 use age_fault::write_all;
@@ -32,7 +31,7 @@ pub struct Saved {
 }
 
 impl Model for Saved {
-    ghost use Rattle.age_machine.specs.Saved.{SavedFile};
+    ghost use Rattle.age_machine.specs.{SavedFile};
 
     ghost Value = { SavedFile };
 
@@ -67,87 +66,6 @@ impl Saved {
     }
 }
 
-/// Puts a new file of these bytes to a path. It is the one that was made beside when this was
-/// prepared, unless that is gone, or can't be written over.
-fn replace_beside(
-    alloc: Global,
-    rt: &HostRuntime,
-    prepared: &Prepared,
-    path: &PathBuf,
-    to: Spot,
-    bytes: &[u8],
-    durability: Durability,
-    saved: &mut Saved,
-) -> Result<(), Unplaced>
-    ensures { Saves bytes.now durability result saved.new }
-{
-    let folder = prepared.folder();
-    match prepared.kept() {
-        Some(kept) => {
-            let mut machine = kept.machine();
-            let path = kept.path();
-            let placed = replace_by_kept(
-                alloc,
-                &mut machine,
-                folder,
-                kept.beside(),
-                path,
-                to,
-                bytes,
-                durability,
-            );
-            *saved = Saved::beside(path, machine);
-            placed
-        }
-        None => {
-            let mut machine = HostMachine::new(rt);
-            let path = path.as_str();
-            let placed = replace_by_new(alloc, &mut machine, folder, path, to, bytes, durability);
-            *saved = Saved::beside(path, machine);
-            placed
-        }
-    }
-}
-
-/// Writes these bytes to what is open; they replace what it holds.
-fn fill_directly(
-    rt: &HostRuntime,
-    mut out: HostOut,
-    bytes: &[u8],
-    durability: Durability,
-) -> io::Result<()> {
-    let mut written = 0;
-    let put = write_all(&mut out, bytes, &mut written);
-    let error = out.error();
-    let (_, ended) = out.close(rt, durability);
-    ended?;
-    match put {
-        Ok(()) => Ok(()),
-        Err(_) => Err(error),
-    }
-}
-
-/// Makes a file of these bytes at a path where there is none.
-fn make_directly(
-    alloc: Global,
-    rt: &HostRuntime,
-    path: &PathBuf,
-    bytes: &[u8],
-    durability: Durability,
-) -> io::Result<()> {
-    let file = make_file(rt, path.as_str())?;
-    lock(&file)?;
-    let out = HostOut::over(alloc, rt, file.try_clone()?, path.as_str())?;
-    if let Err(error) = fill_directly(rt, out, bytes, durability) {
-        remove_own(rt, &file, path.as_str());
-        return Err(error);
-    }
-    match durability {
-        Durability::Synced => sync_folder(rt, path),
-        Durability::Buffered => Ok(()),
-    }
-}
-
 /// What was opened, if it is the file that was found at a name: so no new link is followed.
 fn if_found(opened: Option<File>, found: Node) -> io::Result<File> {
     match opened {
@@ -170,135 +88,157 @@ fn open_device(rt: &HostRuntime, name: &str, found: Node) -> io::Result<File> {
     if_found(opened?, found)
 }
 
-/// Makes a file of these bytes at a path where there is none, or a link, which it replaces.
-fn make_at(
+/// Which bytes are put where a name led, and whether they are to reach the disk.
+#[derive(Clone, Copy)]
+struct Order<'a> {
     alloc: Global,
-    rt: &HostRuntime,
-    prepared: &Prepared,
-    path: &PathBuf,
-    to: Spot,
-    bytes: &[u8],
+    rt: &'a HostRuntime,
+    prepared: &'a Prepared,
+    bytes: &'a [u8],
     durability: Durability,
-    saved: &mut Saved,
-) -> io::Result<()>
-    ensures { Saves bytes.now durability result saved.new }
-{
-    match replace_beside(alloc, rt, prepared, path, to, bytes, durability, saved) {
-        Ok(()) => Ok(()),
-        Err(Unplaced::NotBeside) => {
-            *saved = Saved::directly(rt);
-            make_directly(alloc, rt, path, bytes, durability)
-        }
-        Err(Unplaced::Failed(error)) => Err(error),
-        Err(Unplaced::Memory) => Err(io::Error::from(io::ErrorKind::OutOfMemory)),
-    }
 }
 
-/// The file that was found at a path, open to be written and taken for this run alone: the one that
-/// is open since it was prepared, or another one that has come to its place.
-fn open_found(
-    rt: &HostRuntime,
-    prepared: &Prepared,
-    path: &PathBuf,
-    found: Node,
-) -> io::Result<File> {
-    match prepared.claimed(found) {
-        Some(file) => file.try_clone(),
-        None => {
-            let file = if_found(open_at_once(rt, path.as_str())?, found)?;
-            lock(&file)?;
-            Ok(file)
+impl<'a> Order<'a> {
+    /// Puts a new file to a path. It is the one that was made beside when this was prepared, unless
+    /// that is gone, or can't be written over.
+    fn replace_beside(&self, path: &PathBuf, to: Spot, saved: &mut Saved) -> Result<(), Unplaced>
+        ensures { Saves self.now.bytes.now self.now.durability result saved.new }
+    {
+        let (alloc, bytes, durability) = (self.alloc, self.bytes, self.durability);
+        let folder = self.prepared.folder();
+        match self.prepared.kept() {
+            Some(kept) => {
+                let mut machine = kept.machine();
+                let path = kept.path();
+                let put = replace_by_kept(
+                    alloc,
+                    &mut machine,
+                    folder,
+                    kept.beside(),
+                    path,
+                    to,
+                    bytes,
+                    durability,
+                );
+                *saved = Saved::beside(path, machine);
+                put
+            }
+            None => {
+                let mut machine = HostMachine::new(self.rt);
+                let path = path.as_str();
+                let put = replace_by_new(alloc, &mut machine, folder, path, to, bytes, durability);
+                *saved = Saved::beside(path, machine);
+                put
+            }
         }
     }
-}
 
-/// Replaces the file that was found at a path. One that no other can replace is written directly.
-fn replace_found(
-    alloc: Global,
-    rt: &HostRuntime,
-    prepared: &Prepared,
-    path: &PathBuf,
-    found: &Metadata,
-    bytes: &[u8],
-    durability: Durability,
-    saved: &mut Saved,
-) -> io::Result<()>
-    requires { saved.old.path ≡ None }
-    ensures { Saves bytes.now durability result saved.new }
-{
-    let file = open_found(rt, prepared, path, Node::of(found))?;
-    if found.is_file() {
-        match replace_beside(
-            alloc,
-            rt,
-            prepared,
-            path,
-            Spot::Taken,
-            bytes,
-            durability,
-            saved,
-        ) {
-            Ok(()) => return Ok(()),
-            Err(Unplaced::NotBeside) => *saved = Saved::directly(rt),
-            Err(Unplaced::Failed(error)) => return Err(error),
-            Err(Unplaced::Memory) => return Err(io::Error::from(io::ErrorKind::OutOfMemory)),
+    /// Writes the bytes to what is open; they replace what it holds.
+    fn fill_directly(&self, mut out: HostOut) -> io::Result<()> {
+        let mut written = 0;
+        let put = write_all(&mut out, self.bytes, &mut written);
+        let error = out.error();
+        let (_, ended) = out.close(self.rt, self.durability);
+        ended?;
+        put.map_err(|_| error)
+    }
+
+    /// Makes a file at a path where there is none.
+    fn make_directly(&self, path: &PathBuf) -> io::Result<()> {
+        let (rt, name) = (self.rt, path.as_str());
+        let file = make_file(rt, name)?;
+        lock(&file)?;
+        let out = HostOut::over(self.alloc, rt, file.try_clone()?, name)?;
+        if let Err(error) = self.fill_directly(out) {
+            remove_own(rt, &file, name);
+            return Err(error);
+        }
+        match self.durability {
+            Durability::Synced => sync_folder(rt, path),
+            Durability::Buffered => Ok(()),
         }
     }
-    let out = HostOut::over(alloc, rt, file, path.as_str())?;
-    fill_directly(rt, out, bytes, durability)
-}
 
-/// Puts a file of these bytes where a path led, without following a link that has come there. What
-/// is no file is refused, since a pipe that has come there might have to be waited for forever. So
-/// is a file that has come to where none was.
-fn replace_at(
-    alloc: Global,
-    rt: &HostRuntime,
-    prepared: &Prepared,
-    path: &PathBuf,
-    bytes: &[u8],
-    durability: Durability,
-    saved: &mut Saved,
-) -> io::Result<()>
-    requires { saved.old.path ≡ None }
-    ensures { Saves bytes.now durability result saved.new }
-{
-    let to = match found_at(rt, path.as_str())? {
-        Some(found) if is_on_disk(&found) && prepared.was_nothing() => return Err(made_meanwhile()),
-        Some(found) if is_on_disk(&found) => {
-            return replace_found(alloc, rt, prepared, path, &found, bytes, durability, saved);
+    /// Makes a file at a path where there is none, or a link, which it replaces.
+    fn make_at(&self, path: &PathBuf, to: Spot, saved: &mut Saved) -> io::Result<()>
+        ensures { Saves self.now.bytes.now self.now.durability result saved.new }
+    {
+        match self.replace_beside(path, to, saved) {
+            Ok(()) => Ok(()),
+            Err(Unplaced::NotBeside) => {
+                *saved = Saved::directly(self.rt);
+                self.make_directly(path)
+            }
+            Err(Unplaced::Failed(error)) => Err(error),
+            Err(Unplaced::Memory) => Err(io::Error::from(io::ErrorKind::OutOfMemory)),
         }
-        Some(found) if !found.is_symlink() => {
-            return Err(io::Error::other("it is no file any more"));
-        }
-        Some(_) => Spot::Taken,
-        None => Spot::Free,
-    };
-    make_at(alloc, rt, prepared, path, to, bytes, durability, saved)
-}
-
-/// Puts a file of these bytes where a name led.
-fn replace_named(
-    alloc: Global,
-    rt: &HostRuntime,
-    prepared: &Prepared,
-    bytes: &[u8],
-    durability: Durability,
-    saved: &mut Saved,
-) -> io::Result<()>
-    requires { saved.old.path ≡ None }
-    ensures { Saves bytes.now durability result saved.new }
-{
-    if let Some((name, device)) = prepared.device() {
-        let file = open_device(rt, name, device)?;
-        let out = HostOut::over(alloc, rt, file, name)?;
-        return fill_directly(rt, out, bytes, durability);
     }
-    match prepared.resolved() {
-        Resolved::Stream(stream) => {
-            fill_directly(rt, HostOut::of_stream(rt, *stream)?, bytes, durability)
+
+    /// The file that was found at a path, open to be written and taken for this run alone: the one
+    /// that is open since it was prepared, or another one that has come to its place.
+    fn open_found(&self, path: &PathBuf, found: Node) -> io::Result<File> {
+        match self.prepared.claimed(found) {
+            Some(file) => file.try_clone(),
+            None => {
+                let file = if_found(open_at_once(self.rt, path.as_str())?, found)?;
+                lock(&file)?;
+                Ok(file)
+            }
         }
-        Resolved::Path(path) => replace_at(alloc, rt, prepared, path, bytes, durability, saved),
+    }
+
+    /// Replaces the file that was found at a path. One that no other can replace is written
+    /// directly.
+    fn replace_found(&self, path: &PathBuf, found: &Metadata, saved: &mut Saved) -> io::Result<()>
+        requires { saved.old.path ≡ None }
+        ensures { Saves self.now.bytes.now self.now.durability result saved.new }
+    {
+        let file = self.open_found(path, Node::of(found))?;
+        if found.is_file() {
+            match self.replace_beside(path, Spot::Taken, saved) {
+                Ok(()) => return Ok(()),
+                Err(Unplaced::NotBeside) => *saved = Saved::directly(self.rt),
+                Err(Unplaced::Failed(error)) => return Err(error),
+                Err(Unplaced::Memory) => return Err(io::Error::from(io::ErrorKind::OutOfMemory)),
+            }
+        }
+        self.fill_directly(HostOut::over(self.alloc, self.rt, file, path.as_str())?)
+    }
+
+    /// Puts a file where a path led, without following a link that has come there. What is no file
+    /// is refused, since a pipe that has come there might have to be waited for forever. So is a
+    /// file that has come to where none was.
+    fn replace_at(&self, path: &PathBuf, saved: &mut Saved) -> io::Result<()>
+        requires { saved.old.path ≡ None }
+        ensures { Saves self.now.bytes.now self.now.durability result saved.new }
+    {
+        let to = match found_at(self.rt, path.as_str())? {
+            Some(found) if is_on_disk(&found) && self.prepared.was_nothing() => {
+                return Err(made_meanwhile());
+            }
+            Some(found) if is_on_disk(&found) => return self.replace_found(path, &found, saved),
+            Some(found) if !found.is_symlink() => {
+                return Err(io::Error::other("it is no file any more"));
+            }
+            Some(_) => Spot::Taken,
+            None => Spot::Free,
+        };
+        self.make_at(path, to, saved)
+    }
+
+    /// Puts a file where the name led.
+    fn replace_named(&self, saved: &mut Saved) -> io::Result<()>
+        requires { saved.old.path ≡ None }
+        ensures { Saves self.now.bytes.now self.now.durability result saved.new }
+    {
+        if let Some((name, device)) = self.prepared.device() {
+            let file = open_device(self.rt, name, device)?;
+            return self.fill_directly(HostOut::over(self.alloc, self.rt, file, name)?);
+        }
+        match self.prepared.resolved() {
+            Resolved::Stream(stream) => self.fill_directly(HostOut::of_stream(self.rt, *stream)?),
+            Resolved::Path(path) => self.replace_at(path, saved),
+        }
     }
 }
 
@@ -314,6 +254,13 @@ pub fn replace(
     ensures { Saves bytes.now durability result.1 result.0 }
 {
     let mut saved = Saved::directly(rt);
-    let placed = replace_named(alloc, rt, prepared, bytes, durability, &mut saved);
+    let order = Order {
+        alloc,
+        rt,
+        prepared,
+        bytes,
+        durability,
+    };
+    let placed = order.replace_named(&mut saved);
     (saved, placed)
 }

@@ -1,7 +1,6 @@
 -- The files of a list, after one is put.
-use Rattle.std.proofs.Common.{◌≡◌, ℕ, List, [], ◌∷◌, ◌++◌, length, get_or, Option, Some, None, true, false, Bool, refl, sym, ap, ◌∙◌, arith}
+use Rattle.std.proofs.Common.{◌≡◌, ℕ, List, [], ◌∷◌, ◌++◌, length, get_or, Option, Some, None, true, false, Bool, refl, sym, ap, ◌∙◌, arith, cond}
 use Rattle.std.specs.Prelude.{position, option_map, find, nat_lt, is_some}
-use Rattle.std.proofs.Common.{cond}
 use Rattle.std.specs.Option.{option_or}
 use borrow.Author.Tests.{ltb-false}
 use Rattle.std.proofs.lemmas.Bool.{false_from_ne_true}
@@ -11,8 +10,7 @@ use Rattle.std.proofs.Math.ListN.{set}
 use Rattle.std.proofs.lemmas.Slice.Eq.{bytes_eq-Decides}
 use Rattle.std.proofs.lemmas.List.Folds.{find-set, find_past, find-append, find_at}
 use Rattle.std.proofs.lemmas.List.Quantifiers.{position-Some}
-use Rattle.age_fileset.specs.declared.mem_entry.MemEntry.{MemEntry}
-use Rattle.age_fileset.specs.FileSet.{has_name, entry_of}
+use Rattle.age_fileset.specs.{MemEntry, has_name, entry_of}
 
 abbrev bytes_in : Option MemEntry → Option (List ℕ)
 bytes_in = option_map (λ e. e.bytes)

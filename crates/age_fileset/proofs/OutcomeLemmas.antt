@@ -2,32 +2,19 @@
 use Rattle.std.proofs.Common.{◌≡◌, ◌∙◌, ◌++◌, [], ◌∷◌, refl, ap, sym, subst, inl, inr, List, ℕ, Bool, true, false, Option, Some, None, Result, Ok, Err, IfErr, IfOk, append_assoc, append-nil}
 use Rattle.std.specs.Io.KnownBytes.{prepend_known}
 use Rattle.std.specs.Io.KnownBytes as known
-use Rattle.age_io.specs.Io.{SourceView}
+use Rattle.age_io.specs.{SourceView, Consumes, IsAtEnd}
 use Rattle.age_io.specs.declared.durability.Durability.{Durability}
-use Rattle.age_io.specs.Supply.{Consumes, IsAtEnd}
 use Rattle.age_fault.specs.declared.fault.FileFault.{FileFault}
 use Rattle.age_fault.specs.declared.fault.FileFault.TheVariants.{Read, Write}
-use Rattle.age_fileset.specs.declared.files.OpenFault.{OpenFault}
-use Rattle.age_fileset.specs.declared.files.OpenFault.TheVariants.{SameFile, Fault}
-use Rattle.age_fileset.specs.FileSet.{Event, Opened, Outcome, Found, FoundOrEmpty, Unread, Unwritten, Absent, Gave, Settled, Put, Alike, OneStream, InUse, Terminal, Reading, reading_of}
-use Rattle.age_fileset.specs.FileSet.{Entry, entry, FilesView, Does, PutsOnly, CameSince, HasGiven, HasGivenAll, puts_in, with_event, with_outcomes, refused_as, OpenFails, IsMemoryOr}
-use Rattle.age_fileset.specs.FileSet.{opened_as, made_as, checked_as, noted_if, ChecksStreams}
+use Rattle.age_fileset.specs.{OpenFault, SameFile, Fault, Event, Opened, Outcome, Found, FoundOrEmpty, Unread, Absent, Gave, Settled, Put, Alike}
+use Rattle.age_fileset.specs.{OneStream, InUse, Terminal, Reading, reading_of, Entry, entry, FilesView, Does, PutsOnly, CameSince, HasGiven, HasGivenAll}
+use Rattle.age_fileset.specs.{puts_in, with_event, with_outcomes, refused_as, OpenFails, IsMemoryOr, opened_as, made_as, checked_as, noted_if, ChecksStreams}
 
 pub puts_then : (a b : List Outcome) → puts_in (a ++ b) ≡ puts_in a ++ puts_in b
 unfolding puts_in
 puts_then [] b = refl
 puts_then (Put name bytes ∷ a) b = ap (λ l. entry name bytes ∷ l) (puts_then a b)
-puts_then (Found name left size ∷ a) b = puts_then a b
-puts_then (FoundOrEmpty name left size ∷ a) b = puts_then a b
-puts_then (Unread name ∷ a) b = puts_then a b
-puts_then (Unwritten name ∷ a) b = puts_then a b
-puts_then (Absent name ∷ a) b = puts_then a b
-puts_then (Gave r ∷ a) b = puts_then a b
-puts_then (Settled durability took size ∷ a) b = puts_then a b
-puts_then (Alike one other ∷ a) b = puts_then a b
-puts_then (OneStream names ∷ a) b = puts_then a b
-puts_then (InUse name ∷ a) b = puts_then a b
-puts_then (Terminal name ∷ a) b = puts_then a b
+puts_then (o ∷ a) b = puts_then a b
 
 -- ---- Parts of a run, one after the other.
 

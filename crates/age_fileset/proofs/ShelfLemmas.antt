@@ -1,15 +1,18 @@
--- What stands under each name, by what came of a set of files over memory.
-use Rattle.std.proofs.Common.{◌≡◌, ◌∙◌, ◌++◌, [], ◌∷◌, refl, ap, sym, List, ℕ, Bool, true, false, Option, Some, Ok, append-nil, inl, inr}
+-- What stands under each name, by what came of a set of files over memory, and what it held before.
+use Rattle.std.proofs.Common.{◌≡◌, ◌∙◌, ◌++◌, [], ◌∷◌, refl, ap, sym, List, ℕ, Bool, true, false, Option, Some, Ok, append-nil, inl, inr, subst, None}
+use Rattle.std.proofs.Common.{append_assoc, true≢false}
 use Rattle.std.specs.Str.{bytes_eq}
 use Rattle.std.proofs.lemmas.Slice.Eq.{bytes_eq-Decides}
-use Rattle.std.specs.Prelude.{if◌then◌else◌}
-use Rattle.age_fileset.specs.declared.mem_entry.MemEntry.{MemEntry}
-use Rattle.age_fileset.specs.FileSet.{Outcome, Found, FoundOrEmpty, Unread, Unwritten, Absent, Gave, Settled, Put, Alike, OneStream, InUse, Terminal, Files, no_files, once, stands, or_empty}
-use Rattle.age_fileset.specs.FileSet.{Fits, AllFit, AreTrue, PutsEntry, entry_of, refused_as, MemFails, IsMemoryOr}
-use Rattle.age_fileset.specs.declared.files.OpenFault.{OpenFault}
-use Rattle.age_fileset.specs.declared.files.OpenFault.TheVariants.{SameFile, Fault}
+use Rattle.std.specs.Prelude.{if◌then◌else◌, is_some}
+use Rattle.age_fileset.specs.{MemEntry, Outcome, Found, FoundOrEmpty, Unread, Unwritten, Absent, Put}
+use Rattle.age_fileset.specs.{Files, no_files, once, stands, or_empty, Fits, AllFit, AreTrue, PutsEntry, entry_of, refused_as, MemFails, IsMemoryOr}
+use Rattle.age_fileset.specs.{OpenFault, SameFile, Fault, Entry, entry, puts_in, FilesView, PutsOnly, CameSince, HasGivenAll}
 use Rattle.age_fault.specs.declared.fault.FileFault.{FileFault}
 use Rattle.age_fault.specs.declared.fault.FileFault.TheVariants.{Write}
+use Rattle.std.specs.Io.KnownBytes.{prepend_known, IsAtEnd}
+use Rattle.std.proofs.lemmas.Bool.{false_from_ne_true}
+use Rattle.std.proofs.lemmas.List.{append_cancel_left}
+use Rattle.age_fileset.proofs.OutcomeLemmas.{puts_then}
 
 -- ---- One more outcome.
 
@@ -28,14 +31,7 @@ fits_by f g (Found name left size) same fit = (fit.0, fit.1 ∙ same name, fit.2
 fits_by f g (FoundOrEmpty name left size) same fit = (fit.0 ∙ ap or_empty (same name), fit.1)
 fits_by f g (Unread name) same fit = sym (same name) ∙ fit
 fits_by f g (Absent name) same fit = sym (same name) ∙ fit
-fits_by f g (Settled durability took size) same fit = fit
-fits_by f g (Alike one other) same fit = fit
-fits_by f g (OneStream names) same fit = fit
-fits_by f g (InUse name) same fit = fit
-fits_by f g (Terminal name) same fit = fit
-fits_by f g (Unwritten name) same fit = tt
-fits_by f g (Gave r) same fit = tt
-fits_by f g (Put name bytes) same fit = tt
+fits_by f g o same fit = fit
 
 -- what stands doesn't change
 abbrev pub IsNoPut : Outcome → Type 0
@@ -87,3 +83,113 @@ pub kept_then : {E : Type 0} (old new : List MemEntry) (os late : List Outcome) 
     → PutsEntry {E = E} name bytes (Ok tt) old new → AreTrue old os → AreTrue new late
 kept_then old new os late name bytes is own took puts kept =
     rw (is, own, took) (kept_put old new os name bytes (record { put = puts.put; others = puts.others; err = tt }) kept)
+
+-- ---- What was put under other names.
+
+-- none of these was put under this name
+abbrev pub AreOthers : List ℕ → List Entry → Type 0
+AreOthers q [] = Unit {0}
+AreOthers q (e ∷ more) = (e.name ≡ q → ⊥) × AreOthers q more
+
+pub others_front : (q : List ℕ) (a b : List Entry) → AreOthers q (a ++ b) → AreOthers q a
+others_front q [] b other = tt
+others_front q (e ∷ a) b other = (other.0, others_front q a b other.1)
+
+pub others_then : (q : List ℕ) (a b : List Entry) → AreOthers q a → AreOthers q b → AreOthers q (a ++ b)
+others_then q [] b x y = y
+others_then q (e ∷ a) b x y = (x.0, others_then q a b x.1 y)
+
+unput : (files : Files) (name bytes q : List ℕ) → (name ≡ q → ⊥) → once files (Put name bytes) q ≡ files q
+unput files name bytes q other = rw (false_from_ne_true (bytes_eq name q) (λ h. other ((bytes_eq-Decides name q).0 h))) refl
+
+is_put : (files : Files) (name bytes : List ℕ) → once files (Put name bytes) name ≡ Some bytes
+is_put files name bytes = rw ((bytes_eq-Decides name name).1 refl) refl
+
+pub stands_other : (files : Files) (more : List Outcome) (q : List ℕ) → AreOthers q (puts_in more) → stands files more q ≡ files q
+unfolding stands puts_in
+stands_other files [] q other = refl
+stands_other files (Put name bytes ∷ a) q other = stands_other (once files (Put name bytes)) a q other.1 ∙ unput files name bytes q other.0
+stands_other files (x ∷ a) q other = stands_other (once files x) a q other
+
+-- the first that was put, and then others
+pub stands_put : (files : Files) (more : List Outcome) (name bytes : List ℕ) (rest : List Entry) → puts_in more ≡ entry name bytes ∷ rest
+    → AreOthers name rest
+    → stands files more name ≡ Some bytes
+unfolding stands puts_in
+stands_put files [] name bytes rest is other = cc
+stands_put files (Put n b ∷ a) name bytes rest is other =
+    let one : entry n b ≡ entry name bytes = cc in
+    let mine : n ≡ name = ap (λ (e : Entry). e.name) one in
+    let same : b ≡ bytes = ap (λ (e : Entry). e.bytes) one in
+    let late : puts_in a ≡ rest = cc in
+    subst (λ (x : List ℕ). stands (once files (Put x b)) a name ≡ Some bytes) (sym mine)
+    (subst (λ (x : List ℕ). stands (once files (Put name x)) a name ≡ Some bytes) (sym same)
+    (stands_other (once files (Put name bytes)) a name (subst (λ (l : List Entry). AreOthers name l) (sym late) other) ∙ is_put files name bytes))
+stands_put files (x ∷ a) name bytes rest is other = stands_put (once files x) a name bytes rest is other
+
+-- ---- What came is true of what stood then.
+
+pub fit_rest : (files : Files) (a b : List Outcome) → AllFit files (a ++ b) → AllFit (stands files a) b
+unfolding stands AllFit
+fit_rest files [] b fit = fit
+fit_rest files (x ∷ a) b fit = fit_rest (once files x) a b fit.1
+
+-- memory before and after, by what came since
+module _ (old new : FilesView) (was is : List MemEntry) (kept_was : AreTrue was old.outcomes) (kept_is : AreTrue is new.outcomes) where
+  module _ (puts : List Entry) (grows : PutsOnly puts old new) where
+    since : (q : List ℕ) → entry_of is q ≡ stands (stands no_files old.outcomes) grows.more q
+    since q = kept_is.stand q ∙ ap (λ l. stands no_files l q) grows.is ∙ stands_then no_files old.outcomes grows.more q
+
+    -- what stands under other names than those of what was put is as it was
+    pub same_since : (q : List ℕ) → AreOthers q puts → entry_of is q ≡ entry_of was q
+    same_since q other =
+        since q ∙ stands_other (stands no_files old.outcomes) grows.more q (subst (λ (l : List Entry). AreOthers q l) (sym grows.puts_are) other)
+        ∙ sym (kept_was.stand q)
+
+    -- what was put stands there, if what was put then has other names
+    pub put_since : (name bytes : List ℕ) (rest : List Entry) → puts ≡ entry name bytes ∷ rest → AreOthers name rest → entry_of is name ≡ Some bytes
+    put_since name bytes rest are other =
+        since name ∙ stands_put (stands no_files old.outcomes) grows.more name bytes rest (grows.puts_are ∙ are) other
+
+    -- none of what was put before that was under this name, if none at all was
+    pub before_others : (q : List ℕ) (o : Outcome) → AreOthers q puts → (c : CameSince old new o) → AreOthers q (puts_in c.before)
+    before_others q o other c =
+        let more : grows.more ≡ c.before ++ o ∷ c.later = append_cancel_left old.outcomes _ _ (sym grows.is ∙ c.is) in
+        let all : puts ≡ puts_in c.before ++ puts_in (o ∷ c.later) = sym grows.puts_are ∙ ap puts_in more ∙ puts_then c.before (o ∷ c.later) in
+        others_front q (puts_in c.before) _ (subst (λ (l : List Entry). AreOthers q l) all other)
+
+  module _ (o : Outcome) (c : CameSince old new o) where
+    abbrev at : Files
+    at = stands no_files (old.outcomes ++ c.before)
+
+    fit_at : Fits at o
+    unfolding AllFit
+    fit_at =
+        let all = subst (λ (l : List Outcome). AllFit no_files l) (c.is ∙ sym (append_assoc old.outcomes c.before (o ∷ c.later))) kept_is.fit in
+        (fit_rest no_files (old.outcomes ++ c.before) (o ∷ c.later) all).0
+
+    same_at : (q : List ℕ) → AreOthers q (puts_in c.before) → at q ≡ entry_of was q
+    same_at q other =
+        stands_then no_files old.outcomes c.before q ∙ stands_other (stands no_files old.outcomes) c.before q other ∙ sym (kept_was.stand q)
+
+  -- a file was found: it is there, and what it has to give is what stood there at first
+  pub found_was : (name : List ℕ) (left : Option (List ℕ)) (size : Option ℕ) (c : CameSince old new (Found name left size)) → AreOthers name (puts_in c.before)
+      → (is_some left ≡ true) × (left ≡ entry_of was name)
+  found_was name left size c other =
+      let fit = fit_at (Found name left size) c in
+      (fit.0, fit.1 ∙ same_at (Found name left size) c name other)
+
+  -- or it counts as empty if there is none
+  pub found_any_was : (name : List ℕ) (left : Option (List ℕ)) (size : Option ℕ) (c : CameSince old new (FoundOrEmpty name left size)) → AreOthers name (puts_in c.before)
+      → left ≡ or_empty (entry_of was name)
+  found_any_was name left size c other = (fit_at (FoundOrEmpty name left size) c).0 ∙ ap or_empty (same_at (FoundOrEmpty name left size) c name other)
+
+  -- all that a file gave stood there at first
+  pub gave_all_was : (name bytes : List ℕ) (g : HasGivenAll (CameSince old new) name bytes) → AreOthers name (puts_in g.gave.found.before)
+      → entry_of was name ≡ Some bytes
+  gave_all_was name bytes g other =
+      let found = found_was name (prepend_known bytes g.gave.left) g.gave.size g.gave.found other in
+      sym found.1 ∙ all_of g.gave.left found.0 g.none where
+        all_of : (left : Option (List ℕ)) → is_some (prepend_known bytes left) ≡ true → IsAtEnd left → prepend_known bytes left ≡ Some bytes
+        all_of None there end = absurd (true≢false (sym there))
+        all_of (Some rest) there end = rw (end, append-nil bytes) refl

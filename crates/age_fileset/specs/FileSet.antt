@@ -1,14 +1,13 @@
 -- What contracts see of a set of files, and what a set over memory does.
 use Rattle.std.specs.Prelude.{ℕ, List, ◌≡◌, ◌⊎◌, ◌&&◌, Bool, false, [], Option, Some, None, ◌≢◌, ◌-◌, ◌^◌}
-use Rattle.std.specs.Prelude.{true, not, is_some, ◌++◌, ◌∷◌, if◌then◌else◌}
-use Rattle.std.specs.Prelude.{find, length, map, option_map, Result, Ok, Err, OnOk, OnErr}
+use Rattle.std.specs.Prelude.{true, not, is_some, ◌++◌, ◌∷◌, if◌then◌else◌, find, length, map, option_map}
+use Rattle.std.specs.Prelude.{Result, Ok, Err, OnOk, OnErr}
 use Rattle.std.specs.Borrow.{Bor}
 use Rattle.std.specs.Str.{bytes_eq}
 use Rattle.std.specs.Io.KnownBytes.{IsAtEnd, prepend_known}
-use Rattle.age_io.specs.Io.{Feeding, Holding, SourceView, SinkView, holds, memory_supply}
+use Rattle.age_io.specs.{Feeding, Holding, SourceView, SinkView, holds, memory_supply}
 use Rattle.age_io.specs.declared.durability.Durability.{Durability}
-use Rattle.age_machine.specs.Ends.{EndedFile}
-use Rattle.age_machine.specs.Saved.{SavedFile}
+use Rattle.age_machine.specs.{EndedFile, SavedFile}
 use Rattle.age_fault.specs.declared.fault.FileFault.{FileFault}
 use Rattle.age_fault.specs.declared.fault.FileFault.TheVariants.{Read, Write, Memory}
 use Rattle.age_fileset.specs.declared.files.OpenFault.{OpenFault}

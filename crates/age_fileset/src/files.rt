@@ -4,13 +4,12 @@ ghost use Rattle.std.specs.Prelude.{◌≡◌, ◌↔◌, ℕ, true, false, List
 ghost use Rattle.std.specs.Prelude.{IfOk, IfErr, IsOkUnless, OnOk, IfSome, ◌≤◌, length, IsSomeAnd};
 ghost use Rattle.age_fileset.specs.FileSet.{FilesView, IsMemoryOr, OpenFails, Opened, Prepared, Created};
 ghost use Rattle.age_fileset.specs.FileSet.{Made, Replaced, EndsOne, Found, FoundOrEmpty, Absent, Gave};
-ghost use Rattle.age_fileset.specs.FileSet.{Settled, reading_of, opened_as, reread_as, made_as};
-ghost use Rattle.age_fileset.specs.FileSet.{written_as, alike_as, noted_if, passed_names, ChecksStreams};
-ghost use Rattle.age_fileset.specs.FileSet.{InUse, Terminal, with_event, with_outcomes};
-ghost use Rattle.age_io.specs.Io.{Named, Origin};
-ghost use Rattle.age_machine.specs.Ends.{Closes, Discards};
+ghost use Rattle.age_fileset.specs.FileSet.{Settled, reading_of, opened_as, reread_as, made_as, written_as};
+ghost use Rattle.age_fileset.specs.FileSet.{alike_as, noted_if, passed_names, ChecksStreams, InUse, Terminal};
+ghost use Rattle.age_fileset.specs.FileSet.{with_event, with_outcomes};
+ghost use Rattle.age_io.specs.{Named, Origin};
+ghost use Rattle.age_machine.specs.{Closes, Discards, OutFile};
 ghost use Rattle.age_machine.specs.Saved.{Saves};
-ghost use Rattle.age_machine.specs.Outs.{OutFile};
 ghost use Rattle.age_fileset.specs.declared.files.OpenFault.TheVariants.{Fault};
 
 use age_fault::FileFault;

@@ -1,11 +1,11 @@
 //! What was done with a set of files, for contracts alone.
 
-ghost use Rattle.std.specs.Prelude.{◌≡◌, [], ◌∷◌, ◌++◌, option_map};
+ghost use Rattle.std.specs.Prelude.{◌≡◌, [], ◌∷◌, ◌++◌, option_map, unwrap_or};
 ghost use Rattle.std.specs.Borrow.{ftrue};
 ghost use Rattle.age_fileset.specs.FileSet.{Doings, Opened, Prepared, Created, Made, Replaced, Closed};
 ghost use Rattle.age_fileset.specs.FileSet.{Found, FoundOrEmpty, Unwritten, Absent, Gave, Settled, Put};
 ghost use Rattle.age_fileset.specs.FileSet.{Alike, OneStream, InUse, Terminal, passed_names, refused_as};
-ghost use Rattle.age_fileset.specs.inner.Events.{once_done, coded_doings};
+ghost use Rattle.age_fileset.specs.inner.{once_done, coded_doings};
 
 use crate::files::OpenFault;
 use age_io::{Durability, Tape};
@@ -14,6 +14,7 @@ use std::marker::Model;
 /// What is done with a file, or comes of that.
 #[derive(Clone, Copy)]
 enum Action<'a> {
+    Begun,
     Opened(&'a str),
     Prepared(&'a str, Option<&'a str>),
     Created(&'a str),
@@ -34,7 +35,14 @@ enum Action<'a> {
     Terminal(&'a Tape),
 }
 
-// Doings that no code holds: the proof of `note` adds one.
+/// What was noted by then, if anything, and an action.
+#[derive(Clone, Copy)]
+struct Note<'a, 'b> {
+    before: Option<&'a Cell>,
+    action: Action<'b>,
+}
+
+// Doings that no code holds: the proof of `of` sets them.
 #[derive(Debug, Drop)]
 struct Cell {
     pub ghost done: { Doings } by { coded_doings },
@@ -45,15 +53,13 @@ impl Model for Cell {
 }
 
 impl Cell {
-    fn empty() -> Cell
-        ensures { result.done ≡ record { events = []; outcomes = [] } }
+    fn of(_note: &Note<'_, '_>) -> Cell
+        ensures { result.done ≡ once_done _note.now.action
+            (unwrap_or (option_map (λ c. c.now.done) _note.now.before)
+            (record { events = []; outcomes = [] })) }
     {
         Cell {}
     }
-
-    fn note(&mut self, _action: &Action<'_>)
-        ensures { self.new.done ≡ once_done _action.now self.old.done }
-    {}
 }
 
 /// What was done with a set of files, and what came of it, in order, for contracts alone. It has no
@@ -76,16 +82,27 @@ impl Log {
     pub fn new() -> Log
         ensures { result ≡ record { events = []; outcomes = [] } }
     {
+        let note = Note {
+            before: None,
+            action: Action::Begun,
+        };
         Log {
-            cell: Cell::empty(),
+            cell: Cell::of(&note),
         }
+    }
+
+    fn note(&mut self, action: Action<'_>)
+        ensures { self.new ≡ once_done action.entry self.old }
+    {
+        let before = Some(&self.cell);
+        self.cell = Cell::of(&Note { before, action });
     }
 
     /// A file was to be opened.
     pub fn opened(&mut self, name: &str)
         ensures { self.new ≡ record self.old { events = self.old.events ++ Opened name.now ∷ [] } }
     {
-        self.cell.note(&Action::Opened(name));
+        self.note(Action::Opened(name));
     }
 
     /// A file was to be prepared, which may be in use under the second name.
@@ -95,21 +112,21 @@ impl Log {
               ++ Prepared name.now (option_map (λ s. s.now) spared.entry) ∷ [];
         } }
     {
-        self.cell.note(&Action::Prepared(name, spared));
+        self.note(Action::Prepared(name, spared));
     }
 
     /// A file was to be created.
     pub fn created(&mut self, name: &str)
         ensures { self.new ≡ record self.old { events = self.old.events ++ Created name.now ∷ [] } }
     {
-        self.cell.note(&Action::Created(name));
+        self.note(Action::Created(name));
     }
 
     /// A file was to be made where none is.
     pub fn made(&mut self, name: &str)
         ensures { self.new ≡ record self.old { events = self.old.events ++ Made name.now ∷ [] } }
     {
-        self.cell.note(&Action::Made(name));
+        self.note(Action::Made(name));
     }
 
     /// A file was to be replaced, and to reach the disk now or later.
@@ -118,14 +135,14 @@ impl Log {
           events = self.old.events ++ Replaced name.now durability ∷ [];
         } }
     {
-        self.cell.note(&Action::Replaced(name, durability));
+        self.note(Action::Replaced(name, durability));
     }
 
     /// A file that was created or made was ended, to reach the disk now or later.
     pub fn closed(&mut self, durability: Durability)
         ensures { self.new ≡ record self.old { events = self.old.events ++ Closed durability ∷ [] } }
     {
-        self.cell.note(&Action::Closed(durability));
+        self.note(Action::Closed(durability));
     }
 
     /// A file was opened under this name. It has this to give, if contracts see that, and so many
@@ -136,7 +153,7 @@ impl Log {
               ++ Found name.now (option_map (λ t. t.now) left.entry) size ∷ [];
         } }
     {
-        self.cell.note(&Action::Found(name, left, size));
+        self.note(Action::Found(name, left, size));
     }
 
     /// The same; none of this name counts as empty.
@@ -146,7 +163,7 @@ impl Log {
               ++ FoundOrEmpty name.now (option_map (λ t. t.now) left.entry) size ∷ [];
         } }
     {
-        self.cell.note(&Action::FoundOrEmpty(name, left, size));
+        self.note(Action::FoundOrEmpty(name, left, size));
     }
 
     /// A file of this name couldn't be opened, prepared or created.
@@ -155,7 +172,7 @@ impl Log {
           outcomes = self.old.outcomes ++ refused_as name.now fault;
         } }
     {
-        self.cell.note(&Action::Refused(name, fault));
+        self.note(Action::Refused(name, fault));
     }
 
     /// A file of this name couldn't be ended or replaced.
@@ -164,14 +181,14 @@ impl Log {
           outcomes = self.old.outcomes ++ Unwritten name.now ∷ [];
         } }
     {
-        self.cell.note(&Action::Unwritten(name));
+        self.note(Action::Unwritten(name));
     }
 
     /// No file had this name.
     pub fn absent(&mut self, name: &str)
         ensures { self.new ≡ record self.old { outcomes = self.old.outcomes ++ Absent name.now ∷ [] } }
     {
-        self.cell.note(&Action::Absent(name));
+        self.note(Action::Absent(name));
     }
 
     /// The reading of a file is over that was opened under this name: it gave these bytes. Whether a
@@ -186,8 +203,7 @@ impl Log {
           }) ∷ [];
         } }
     {
-        self.cell
-            .note(&Action::Gave(name, given, is_at_end, is_failing));
+        self.note(Action::Gave(name, given, is_at_end, is_failing));
     }
 
     /// An output that took these bytes holds so many of them for certain: on the disk, if that was
@@ -197,7 +213,7 @@ impl Log {
           outcomes = self.old.outcomes ++ Settled durability took.now size ∷ [];
         } }
     {
-        self.cell.note(&Action::Settled(durability, took, size));
+        self.note(Action::Settled(durability, took, size));
     }
 
     /// These bytes were put under this name, in place of what stood there.
@@ -206,7 +222,7 @@ impl Log {
           outcomes = self.old.outcomes ++ Put name.now bytes.now ∷ [];
         } }
     {
-        self.cell.note(&Action::Put(name, bytes));
+        self.note(Action::Put(name, bytes));
     }
 
     /// These names, which differ, lead to one file.
@@ -215,7 +231,7 @@ impl Log {
           outcomes = self.old.outcomes ++ Alike one.now other.now ∷ [];
         } }
     {
-        self.cell.note(&Action::Alike(one, other));
+        self.note(Action::Alike(one, other));
     }
 
     /// Two of these names lead to one stream.
@@ -224,14 +240,14 @@ impl Log {
           outcomes = self.old.outcomes ++ OneStream (passed_names names.now) ∷ [];
         } }
     {
-        self.cell.note(&Action::OneStream(names));
+        self.note(Action::OneStream(names));
     }
 
     /// What the output of this name leads to takes the lines of faults.
     pub fn in_use(&mut self, name: &Tape)
         ensures { self.new ≡ record self.old { outcomes = self.old.outcomes ++ InUse name.now ∷ [] } }
     {
-        self.cell.note(&Action::InUse(name));
+        self.note(Action::InUse(name));
     }
 
     /// The output of this name is a terminal.
@@ -240,6 +256,6 @@ impl Log {
           outcomes = self.old.outcomes ++ Terminal name.now ∷ [];
         } }
     {
-        self.cell.note(&Action::Terminal(name));
+        self.note(Action::Terminal(name));
     }
 }

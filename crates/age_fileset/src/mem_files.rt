@@ -4,15 +4,11 @@ ghost use Rattle.std.specs.Prelude.{◌≡◌, ◌↔◌, ◌⊎◌, ◌++◌, �
 ghost use Rattle.std.specs.Prelude.{OnErr, IfOk, IsErrOf, IsOk, IfErr, IsOkUnless, Contains, is_some};
 ghost use Rattle.std.specs.Prelude.{option_map, length, false};
 ghost use Rattle.age_io.specs.Taken.{WriteAppends, Keeps};
-ghost use Rattle.age_io.specs.Io.{Puts, Pulls, Flushes, holds, memory_supply, IsNamed};
-ghost use Rattle.age_io.specs.Supply.{ReadConsumes};
-ghost use Rattle.age_fileset.specs.FileSet.{entry_of, empty_with, PutsEntry, IsMemoryOr};
-ghost use Rattle.age_fileset.specs.FileSet.{or_empty, Opened, Prepared, Created, Made, Replaced, Closed};
-ghost use Rattle.age_fileset.specs.FileSet.{Found, FoundOrEmpty, Absent, Gave, Settled};
-ghost use Rattle.age_fileset.specs.FileSet.{ended_with, opened_as, reread_as, made_as, put_as};
-ghost use Rattle.age_fileset.specs.FileSet.{written_as, size_in};
-ghost use Rattle.age_fileset.specs.FileSet.{shown_in, shown_out, seen_in, reading_of};
-ghost use Rattle.age_fileset.specs.FileSet.{MemFails, AreTrue};
+ghost use Rattle.age_io.specs.{Puts, Pulls, Flushes, holds, memory_supply, IsNamed, ReadConsumes};
+ghost use Rattle.age_fileset.specs.{entry_of, empty_with, PutsEntry, IsMemoryOr, or_empty, Opened, Prepared};
+ghost use Rattle.age_fileset.specs.{Created, Made, Replaced, Closed, Found, FoundOrEmpty, Absent, Gave};
+ghost use Rattle.age_fileset.specs.{Settled, ended_with, opened_as, reread_as, made_as, put_as, written_as};
+ghost use Rattle.age_fileset.specs.{size_in, shown_in, shown_out, seen_in, reading_of, MemFails, AreTrue};
 ghost use Rattle.age_fileset.specs.declared.files.OpenFault.TheVariants.{Fault};
 
 use crate::files::{FileSet, OpenFault};
@@ -44,7 +40,7 @@ struct MemEnded {
 
 impl Model for MemEnded {
     ghost use Rattle.std.specs.Prelude.{None, []};
-    ghost use Rattle.age_machine.specs.Ends.{EndedFile};
+    ghost use Rattle.age_machine.specs.{EndedFile};
 
     ghost Value = { EndedFile };
 
@@ -58,7 +54,7 @@ impl Model for MemEnded {
 }
 
 impl Model for MemFiles {
-    ghost use Rattle.age_fileset.specs.FileSet.{Shelf, AreTrue};
+    ghost use Rattle.age_fileset.specs.{Shelf, AreTrue};
 
     ghost Value = { Shelf };
 
@@ -83,7 +79,7 @@ pub struct MemIn {
 
 impl Model for MemIn {
     ghost use Rattle.std.specs.Prelude.{ℕ, List};
-    ghost use Rattle.age_io.specs.Io.{Feeding};
+    ghost use Rattle.age_io.specs.{Feeding};
 
     ghost Value = { List ℕ × Feeding };
 
@@ -119,7 +115,7 @@ pub struct MemOut {
 
 impl Model for MemOut {
     ghost use Rattle.std.specs.Prelude.{ℕ, List};
-    ghost use Rattle.age_io.specs.Io.{Holding};
+    ghost use Rattle.age_io.specs.{Holding};
 
     ghost Value = { List ℕ × Holding };
 
@@ -181,13 +177,9 @@ impl MemFiles {
           outcomes = self.old.outcomes ++ put_as name.now bytes.items result;
         } }
     {
-        let Ok(name) = Name::new(alloc, name) else {
-            return Err(Memory);
-        };
-        match self.put_noted(name, Bytes::from_vec(bytes)) {
-            Ok(()) => Ok(()),
-            Err(_) => Err(Memory),
-        }
+        let name = Name::new(alloc, name).map_err(|_| Memory)?;
+        self.put_noted(name, Bytes::from_vec(bytes))
+            .map_err(|_| Memory)
     }
 
     /// Puts bytes under a name, and notes that.
@@ -294,9 +286,7 @@ fn new_in(alloc: Global, name: &str, bytes: &[u8]) -> Result<MemIn, FileFault>
     ensures begun { IfOk result (λ s. (s.0 ≡ name.now) × (s.1.given ≡ [])) }
     ensures memory { OnErr result (result ≡ Err FileFault.Memory) }
 {
-    let Ok(name) = Name::new(alloc, name) else {
-        return Err(FileFault::Memory);
-    };
+    let name = Name::new(alloc, name)?;
     let source = source_of(alloc, bytes)?;
     Ok(MemIn { name, source })
 }
@@ -306,13 +296,9 @@ fn new_out(alloc: Global, name: &str, room: usize) -> Result<MemOut, FileFault>
     ensures made { IfOk result (λ o. o ≡ (name.now, empty_with room)) }
     ensures memory { OnErr result (result ≡ Err FileFault.Memory) }
 {
-    let Ok(sink) = MemSink::new(alloc, room, usize::MAX, None) else {
-        return Err(FileFault::Memory);
-    };
-    match Name::new(alloc, name) {
-        Ok(name) => Ok(MemOut { name, sink }),
-        Err(_) => Err(FileFault::Memory),
-    }
+    let sink = MemSink::new(alloc, room, usize::MAX, None)?;
+    let name = Name::new(alloc, name)?;
+    Ok(MemOut { name, sink })
 }
 
 /// The same, unless the name is one that can't be written.
@@ -603,12 +589,7 @@ impl FileSet for MemFiles {
             self.log.refused(name, OpenFault::Fault(FileFault::Write));
             return Err(FileFault::Write);
         }
-        let Ok(copy) = bytes.to_vec(alloc) else {
-            return Err(FileFault::Memory);
-        };
-        match self.put(alloc, name, copy) {
-            Ok(()) => Ok(()),
-            Err(_) => Err(FileFault::Memory),
-        }
+        let copy = bytes.to_vec(alloc)?;
+        Ok(self.put(alloc, name, copy)?)
     }
 }

@@ -1,15 +1,14 @@
 //! The machine's files.
 
-ghost use Rattle.std.specs.Prelude.{◌≡◌, ◌∷◌, ◌++◌, [], true, None, Some, Err, IfOk, IfErr, IsErr};
-ghost use Rattle.std.specs.Prelude.{Contains, OnOk, IfSome, IsSomeAnd, ◌≢◌};
+ghost use Rattle.std.specs.Prelude.{◌≡◌, ◌∷◌, ◌++◌, [], true, None, Some, Err, IfOk, IfErr, IsErr, Contains};
+ghost use Rattle.std.specs.Prelude.{OnOk, IfSome, IsSomeAnd, ◌≢◌};
 ghost use Rattle.age_fault.specs.declared.fault.FileFault.TheVariants.{Read, Write, Memory};
-ghost use Rattle.age_fileset.specs.FileSet.{IsMemoryOr, OpenFails, Opened, Created, Made, Found};
-ghost use Rattle.age_fileset.specs.FileSet.{FoundOrEmpty, Absent, Put, opened_as, made_as};
+ghost use Rattle.age_fileset.specs.{IsMemoryOr, OpenFails, Opened, Created, Made, Found, FoundOrEmpty};
+ghost use Rattle.age_fileset.specs.{Absent, Put, opened_as, made_as};
 ghost use Rattle.age_fileset.specs.declared.files.OpenFault.TheVariants.{SameFile};
+ghost use Rattle.age_disk.specs.{IsUnread, as_source, IsApart, IsMadeAt, HasAll};
 ghost use Rattle.age_disk.specs.declared.names.FileId.{FileId};
-ghost use Rattle.age_disk.specs.Inputs.{IsUnread, as_source};
-ghost use Rattle.age_disk.specs.Outputs.{IsApart, IsMadeAt, HasAll};
-ghost use Rattle.age_io.specs.Io.{IsNamed, Named};
+ghost use Rattle.age_io.specs.{IsNamed, Named};
 ghost use Rattle.age_machine.specs.Saved.{Saves};
 
 use crate::watched::{WatchedIn, WatchedOut};
@@ -20,7 +19,7 @@ use age_fault::FileFault;
 use age_fileset::{FileSet, Log, OpenFault};
 use age_io::{Durability, Tape};
 use age_messages::{Action, Failures, announce_rereading, announce_sync};
-use std::alloc::{AllocError, Global};
+use std::alloc::Global;
 use std::io;
 use std::rt::HostRuntime;
 
@@ -94,10 +93,10 @@ impl<'r, 'w> HostFiles<'r, 'w> {
         ensures faults { IfErr result (OpenFails Read) }
     {
         match opened {
-            Ok(file) => match keep(&mut self.open, file.id()) {
-                Ok(()) => Ok(WatchedIn::new(file, name, self.failures)),
-                Err(_) => Err(OpenFault::Fault(FileFault::Memory)),
-            },
+            Ok(file) => {
+                keep(&mut self.open, file.id())?;
+                Ok(WatchedIn::new(file, name, self.failures))
+            }
             Err(error) => {
                 self.failures
                     .note(Action::Open, self.failures.word(name), error);
@@ -117,7 +116,10 @@ impl<'r, 'w> HostFiles<'r, 'w> {
     {
         let out = WatchedOut::new(out, name, self.failures);
         let out = admit_out(self.rt, &mut self.open, self.prepared.as_slice(), out)?;
-        claimed(self.rt, out, name)
+        match out.claim(self.rt, name) {
+            Ok(out) => Ok(out),
+            Err(error) => Err(OpenFault::Fault(fault_of(error, FileFault::Write))),
+        }
     }
 
     /// Keeps why a file can't be written, which is the fault.
@@ -221,10 +223,8 @@ impl<'r, 'w> HostFiles<'r, 'w> {
         if let Err(error) = prepared.claim() {
             return Err(self.refusal(prepared.name(), error));
         }
-        match self.prepared.push(prepared) {
-            Ok(()) => Ok(()),
-            Err(_) => Err(OpenFault::Fault(FileFault::Memory)),
-        }
+        let pushed = self.prepared.push(prepared);
+        Ok(pushed.map_err(|_| FileFault::Memory)?)
     }
 }
 
@@ -278,18 +278,16 @@ fn keep_stream(kept: &mut Vec<StreamId>, stream: StreamId) -> Result<(), OpenFau
     if kept.iter().any(|other| other.is_same(stream)) {
         return Err(OpenFault::SameFile);
     }
-    match kept.push(stream) {
-        Ok(()) => Ok(()),
-        Err(_) => Err(OpenFault::Fault(FileFault::Memory)),
-    }
+    Ok(kept.push(stream).map_err(|_| FileFault::Memory)?)
 }
 
 /// Whether two names lead to one stream.
 fn is_one_stream(alloc: Global, rt: &HostRuntime, one: &str, other: &str) -> io::Result<bool> {
-    match (
+    let (one, other) = (
         StreamId::at(alloc, rt, one)?,
         StreamId::at(alloc, rt, other)?,
-    ) {
+    );
+    match (one, other) {
         (Some(one), Some(other)) => Ok(one.is_same(other)),
         _ => Ok(false),
     }
@@ -333,7 +331,8 @@ fn is_known(opened: &[FileId], id: Option<FileId>) -> bool
 }
 
 /// Keeps which file was opened.
-fn keep(opened: &mut Vec<FileId>, id: Option<FileId>) -> Result<(), AllocError>
+fn keep(opened: &mut Vec<FileId>, id: Option<FileId>) -> Result<(), FileFault>
+    ensures memory { IfErr result (λ fault. fault ≡ Memory) }
     ensures known { OnOk result (IfSome id (Contains opened.new.items)) }
     ensures before { HasAll opened.old.items opened.new.items }
 {
@@ -353,10 +352,7 @@ fn admit(opened: &mut Vec<FileId>, id: Option<FileId>) -> Result<(), OpenFault>
     if is_known(opened.as_slice(), id) {
         return Err(OpenFault::SameFile);
     }
-    match keep(opened, id) {
-        Ok(()) => Ok(()),
-        Err(_) => Err(OpenFault::Fault(FileFault::Memory)),
-    }
+    Ok(keep(opened, id)?)
 }
 
 /// Keeps a file that was opened to be written, if it is none of those that were opened or prepared
@@ -372,11 +368,11 @@ fn admit_out<'r, 'w>(
     ensures apart { IfOk result (λ o. IsApart opened.old.items o.sink) }
     ensures faults { IfErr result (OpenFails Write) }
 {
-    let other = find_prepared(rt, prepared, out.id());
+    let other = find_prepared(rt, prepared, out.sink.id());
     let admitted = if other.is_some() {
         Err(OpenFault::SameFile)
     } else {
-        admit(opened, out.id())
+        admit(opened, out.sink.id())
     };
     match admitted {
         Ok(()) => Ok(out),
@@ -385,22 +381,6 @@ fn admit_out<'r, 'w>(
             out.discard(rt, Durability::Buffered);
             Err(fault)
         }
-    }
-}
-
-/// A file that was opened to be written, taken for this run alone.
-fn claimed<'r, 'w>(
-    rt: &HostRuntime,
-    out: WatchedOut<'r, 'w>,
-    name: &str,
-) -> Result<WatchedOut<'r, 'w>, OpenFault>
-    ensures same { IfOk result (λ o. o.sink ≡ out.entry.sink) }
-    ensures named { IfOk result (λ o. o.label ≡ out.entry.label) }
-    ensures faults { IfErr result (OpenFails Write) }
-{
-    match out.claim(rt, name) {
-        Ok(out) => Ok(out),
-        Err(error) => Err(OpenFault::Fault(fault_of(error, FileFault::Write))),
     }
 }
 
@@ -509,7 +489,7 @@ impl<'r, 'w> FileSet for HostFiles<'r, 'w> {
         }
         let opened = self.admit_in(name, HostIn::open(alloc, self.rt, name));
         match &opened {
-            Ok(source) => self.log.found(name, None, source.length()),
+            Ok(source) => self.log.found(name, None, source.source.length()),
             Err(fault) => self.log.refused(name, *fault),
         }
         opened
@@ -535,7 +515,7 @@ impl<'r, 'w> FileSet for HostFiles<'r, 'w> {
         }
         let opened = self.admit_in(name, HostIn::open_or_empty(alloc, self.rt, name));
         match &opened {
-            Ok(source) => self.log.found_or_empty(name, None, source.length()),
+            Ok(source) => self.log.found_or_empty(name, None, source.source.length()),
             Err(fault) => self.log.refused(name, *fault),
         }
         opened
@@ -543,12 +523,12 @@ impl<'r, 'w> FileSet for HostFiles<'r, 'w> {
 
     /// The length of a regular file. Standard input has none.
     fn length(&self, source: &WatchedIn<'r, 'w>) -> Option<u64> {
-        source.length()
+        source.source.length()
     }
 
     /// A regular file and a block device can. A pipe can't, nor can standard input.
     fn can_reread(&self, source: &WatchedIn<'r, 'w>) -> bool {
-        source.can_reread()
+        source.source.can_reread()
     }
 
     fn reread(
@@ -561,7 +541,7 @@ impl<'r, 'w> FileSet for HostFiles<'r, 'w> {
         match source.reread() {
             Ok(()) => {
                 announce_rereading(self.rt, self.failures);
-                self.log.found(name, None, source.length());
+                self.log.found(name, None, source.source.length());
                 Ok(())
             }
             Err(error) => Err(fault_of(error, FileFault::Read)),
@@ -579,10 +559,7 @@ impl<'r, 'w> FileSet for HostFiles<'r, 'w> {
         spared: Option<&str>,
     ) -> Result<(), OpenFault> {
         self.log.prepared(name, spared);
-        let spared = match spared {
-            Some(spared) => FileId::at(self.rt, spared),
-            None => None,
-        };
+        let spared = spared.and_then(|spared| FileId::at(self.rt, spared));
         let admitted = match Prepared::new(alloc, self.rt, name, spared, self.durability) {
             Ok(prepared) => self.admit_prepared(prepared),
             Err(error) => Err(self.refusal(name, error)),
@@ -641,33 +618,33 @@ impl<'r, 'w> FileSet for HostFiles<'r, 'w> {
     fn is_for_faults(&mut self, out: &WatchedOut<'r, 'w>) -> bool {
         let is_for_faults = out.is_for_faults(self.rt);
         if is_for_faults {
-            self.log.in_use(out.label());
+            self.log.in_use(&out.label);
         }
         is_for_faults
     }
 
     fn is_terminal(&mut self, out: &WatchedOut<'r, 'w>) -> bool {
-        let is_terminal = out.is_terminal();
+        let is_terminal = out.sink.is_terminal();
         if is_terminal {
-            self.log.terminal(out.label());
+            self.log.terminal(&out.label);
         }
         is_terminal
     }
 
     fn is_empty(&self, out: &WatchedOut<'r, 'w>) -> bool {
-        out.is_empty()
+        out.sink.is_empty()
     }
 
     fn settle(&mut self, out: &mut WatchedOut<'r, 'w>, durability: Durability) -> u64 {
-        let size = out.settle(self.rt, durability);
-        self.log.settled(durability, out.took(), size);
+        let size = out.sink.settle(self.rt, durability);
+        self.log.settled(durability, out.sink.took(), size);
         size
     }
 
     fn close(&mut self, out: WatchedOut<'r, 'w>, durability: Durability) -> Result<(), FileFault> {
         self.log.closed(durability);
         // (what has no id is on no disk)
-        if durability == Durability::Synced && out.id().is_some() {
+        if durability == Durability::Synced && out.sink.id().is_some() {
             announce_sync(self.rt, self.failures);
         }
         let (ended, closed) = out.close(self.rt, durability, &mut self.log);

@@ -1,15 +1,14 @@
 //! Files and streams whose failures are kept.
 
-ghost use Rattle.std.specs.Prelude.{◌≡◌, ◌↔◌, ◌≤◌, ◌<◌, [], ◌∷◌, ◌++◌, length, true, IfOk, OnOk, OnErr};
-ghost use Rattle.std.specs.Prelude.{IfSome, MatchResult, is_err, false};
-ghost use Rattle.age_io.specs.Io.{one_more, IsNamed};
+ghost use Rattle.std.specs.Prelude.{◌≡◌, ◌≤◌, ◌<◌, [], ◌∷◌, ◌++◌, length, true, IfOk, OnOk, OnErr};
+ghost use Rattle.std.specs.Prelude.{MatchResult, is_err, false};
+ghost use Rattle.age_io.specs.{one_more, IsNamed};
 ghost use Rattle.age_io.specs.Taken.{WriteAppends, Keeps};
-ghost use Rattle.age_machine.specs.Ends.{Closes, Discards};
-ghost use Rattle.age_disk.specs.Inputs.{as_source};
-ghost use Rattle.age_disk.specs.Outputs.{HasNode, as_sink};
-ghost use Rattle.age_fileset.specs.FileSet.{Gave, Put, Unwritten, reading_of};
+ghost use Rattle.age_machine.specs.{Closes, Discards};
+ghost use Rattle.age_disk.specs.{as_source, as_sink};
+ghost use Rattle.age_fileset.specs.{Gave, Put, Unwritten, reading_of};
 
-use age_disk::{Ended, FileId, HostIn, HostOut, Prepared};
+use age_disk::{Ended, HostIn, HostOut, Prepared};
 use age_fileset::Log;
 use age_io::{Durability, Failed, Sink, Source, Tape};
 use age_messages::{Action, Failures};
@@ -19,7 +18,7 @@ use std::rt::HostRuntime;
 /// A file of the machine that is read, under the name that the command line has for it.
 #[derive(Drop)]
 pub struct WatchedIn<'r, 'w> {
-    source: HostIn,
+    pub(crate) source: HostIn,
     name: &'w str,
     // Whether it is read once more, to find where the run had stopped.
     is_again: bool,
@@ -38,11 +37,6 @@ impl<'r, 'w> WatchedIn<'r, 'w> {
             is_again: false,
             failures,
         }
-    }
-
-    /// Whether it can be read once more from its start.
-    pub(crate) fn can_reread(&self) -> bool {
-        self.source.can_reread()
     }
 
     /// Sets it back to its start. If the second reading ends elsewhere and no pull fails, the file
@@ -89,19 +83,8 @@ impl<'r, 'w> WatchedIn<'r, 'w> {
         } }
     {
         let source = &self.source;
-        log.gave(
-            source.name(),
-            source.given(),
-            source.is_at_end(),
-            source.is_failing(),
-        );
-    }
-
-    /// How many bytes a regular file still has to give.
-    pub(crate) fn length(&self) -> Option<u64>
-        ensures { result ≡ self.now.source.size }
-    {
-        self.source.length()
+        let (is_at_end, is_failing) = (source.is_at_end(), source.is_failing());
+        log.gave(source.name(), source.given(), is_at_end, is_failing);
     }
 }
 
@@ -127,11 +110,11 @@ impl<'r, 'w> Source for WatchedIn<'r, 'w> {
 /// A file of the machine that is written, under the name that the command line has for it.
 #[derive(Drop)]
 pub struct WatchedOut<'r, 'w> {
-    sink: HostOut,
+    pub(crate) sink: HostOut,
     name: &'w str,
     failures: &'r Failures<'w>,
     // The name under which it was created or made, for contracts alone.
-    label: Tape,
+    pub(crate) label: Tape,
 }
 
 impl<'r, 'w> WatchedOut<'r, 'w> {
@@ -150,14 +133,6 @@ impl<'r, 'w> WatchedOut<'r, 'w> {
             failures,
             label,
         }
-    }
-
-    /// Which file it is, if that is known.
-    pub(crate) fn id(&self) -> Option<FileId>
-        ensures same { result ≡ self.now.sink.id }
-        ensures node { IfSome self.now.sink.file (HasNode self.now.sink.id) }
-    {
-        self.sink.id()
     }
 
     /// Keeps its name, and the name of the file that was prepared, if this is the same file.
@@ -182,61 +157,13 @@ impl<'r, 'w> WatchedOut<'r, 'w> {
         ensures same { IfOk result (λ o. o.sink ≡ self.entry.sink) }
         ensures named { IfOk result (λ o. o.label ≡ self.entry.label) }
     {
-        let WatchedOut {
-            sink,
-            name: word,
-            failures,
-            label,
-        } = self;
-        match sink.claim(rt, name) {
-            Ok(sink) => Ok(WatchedOut {
-                sink,
-                name: word,
-                failures,
-                label,
-            }),
+        match self.sink.claim(rt, name) {
+            Ok(sink) => Ok(WatchedOut { sink, ..self }),
             Err(error) => {
-                failures.note(Action::Write, word, error);
+                self.failures.note(Action::Write, self.name, error);
                 Err(error)
             }
         }
-    }
-
-    /// Whether it is a terminal.
-    pub(crate) fn is_terminal(&self) -> bool
-        ensures { result ≡ true → self.now.sink.file ≡ None }
-    {
-        self.sink.is_terminal()
-    }
-
-    /// Whether nothing was written so far.
-    pub(crate) fn is_empty(&self) -> bool
-        ensures { result ≡ true ↔ (self.now.sink.took ≡ []) }
-    {
-        self.sink.is_empty()
-    }
-
-    /// How many of the bytes that were written it holds for certain.
-    pub(crate) fn settle(&mut self, rt: &HostRuntime, durability: Durability) -> u64
-        ensures same { self.new.sink ≡ self.old.sink }
-        ensures named { self.new.label ≡ self.old.label }
-        ensures most { result ≤ length self.old.sink.took }
-    {
-        self.sink.settle(rt, durability)
-    }
-
-    /// The name under which it was created or made, for contracts alone.
-    pub(crate) fn label(&self) -> &Tape
-        ensures { result.now ≡ self.now.label }
-    {
-        &self.label
-    }
-
-    /// The bytes that it took, for contracts alone.
-    pub(crate) fn took(&self) -> &Tape
-        ensures { result.now ≡ self.now.sink.took }
-    {
-        self.sink.took()
     }
 
     /// Ends it with what was written, and notes that this was put, or that it failed.

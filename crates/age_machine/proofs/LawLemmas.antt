@@ -1,16 +1,15 @@
 -- A disk, and what a power cut leaves of it, for each law.
+use Rattle.std.proofs.lemmas.Grind.{common_steps}
 use Rattle.std.proofs.Common.{◌≡◌, ◌⊎◌, inl, inr, ⊎_elim, ℕ, ◌+◌, List, [], ◌∷◌, ◌++◌, Option, Some, None, true, false, length, refl, sym, ◌∙◌, ap, subst}
-use Rattle.std.proofs.Common.{arith}
+use Rattle.std.proofs.Common.{◌<◌, ◌^◌, arith}
 use Rattle.std.proofs.lemmas.Bool.{false≢true}
 use Rattle.std.proofs.lemmas.List.{append-nil, drop_all}
-use Rattle.age_machine.specs.Calls.{Made, Opened, Wrote, Cut, Synced, Linked, Renamed, Removed, SyncedNames, Locked}
-use Rattle.age_machine.specs.declared.machine.Kind.TheVariants.{Regular}
-use Rattle.age_machine.specs.Disk.{Disk, at_path, written, after_call, after_calls, IsAmong, MayLead, MayLeave}
-use Rattle.age_machine.specs.Saves.{AllAnswered, SavesWhole, IsSafe}
-use Rattle.age_machine.specs.Laws.{filled, renamed, linked, bare, bare_but, overwritten, put_out, HasOneLock}
-use Rattle.age_machine.proofs.DiskLemmas.{path_same, path_other, file_same, file_renamed, file_linked}
+use Rattle.age_machine.specs.{Made, Opened, Wrote, Cut, Synced, Linked, Renamed, Removed, SyncedNames, Locked, Regular, at_path, after_call}
+use Rattle.age_machine.specs.{after_calls, IsAmong, MayLead, MayLeave, AllAnswered, SavesWhole, IsSafe, filled, renamed, linked, bare, bare_but, overwritten}
+use Rattle.age_machine.specs.{put_out, HasOneLock, number_of, Node}
+use Rattle.age_machine.specs.Disk.{Disk}
 use Rattle.age_machine.proofs.OutLemmas.{opened_beside}
-use Rattle.age_machine.proofs.SaveLemmas.{throughout_last}
+use Rattle.age_machine.proofs.SaveLemmas.{path_same, path_other, file_same, file_renamed, file_linked, throughout_last}
 
 -- ---- What a power cut may leave.
 
@@ -37,9 +36,7 @@ module _ (n : ℕ) (from path bytes : List ℕ) (apart : from ≡ path → ⊥) 
   wrote = after_call (Wrote n 0 bytes) begun
 
   held : wrote.bytes n ≡ bytes
-  held =
-      file_same n (written 0 bytes (begun.bytes n)) begun.bytes ∙ (ap (λ (l : List ℕ). written 0 bytes l) (file_same n [] bare.bytes)
-      ∙ (ap (λ (l : List ℕ). bytes ++ l) (drop_all (0 + length bytes) [] (omega arith)) ∙ append-nil bytes))
+  held = grind (arith, common_steps, append-nil, drop_all, file_same)
 
   answered : AllAnswered path (filled n from bytes) bare
   answered = (ap length held, (tt, ((refl, nowhere path n), tt)))
@@ -54,9 +51,7 @@ module _ (n : ℕ) (from path bytes : List ℕ) (apart : from ≡ path → ⊥) 
   at_once = file_renamed n from path wrote apart there
 
   never : (MayLeave (after_calls [] bare) path (Some (0 ∷ bytes)) → ⊥)
-  never (None, may, is) = cc
-  never (Some m, inl is, file) = cc
-  never (Some m, inr none, file) = none
+  never h0 = grind (arith, common_steps)
 
   pub unwaited : SavesWhole path bytes [] (SyncedNames path ∷ Renamed from path ∷ filled n from bytes) → ⊥
   unwaited saves =
@@ -94,6 +89,11 @@ module _ (n : ℕ) (from path bytes : List ℕ) (apart : from ≡ path → ⊥) 
   ) where
     second : (after_call (Removed from) (after_call (Linked from path) wrote)).file path ≡ Some n
     second = path_other from path None (after_call (Linked from path) wrote).file apart ∙ file_linked n from path wrote apart there
+
+-- ---- Which file has which number.
+
+pub numbers_apart : (one other : Node) → one.inode < 2 ^ 64 → other.inode < 2 ^ 64 → number_of one ≡ number_of other → one ≡ other
+numbers_apart one other first second same = grind (arith, common_steps)
 
 -- ---- A file that is written in place.
 

@@ -1,24 +1,21 @@
 -- A file that is written in place, call by call.
+use Rattle.std.proofs.lemmas.Grind.{common_steps}
 use Rattle.std.proofs.Common.{◌≡◌, ◌⊎◌, inl, inr, ⊎_elim, ℕ, zero, suc, ◌+◌, ◌<◌, List, [], ◌∷◌, ◌++◌, Bool, true, false, not, Option, None, length, take, drop}
 use Rattle.std.proofs.Common.{refl, sym, ◌∙◌, ap, subst, arith, rules, length-append, length-take}
 use Rattle.std.specs.Prelude.{Contains}
 use Rattle.std.proofs.lemmas.Bool.{cases_Bool}
 use Rattle.std.proofs.lemmas.List.{append-nil, take_at, drop_all}
-use Rattle.age_machine.specs.Calls.{FileCall, Made, Opened, Wrote, Cut, Broke, Synced, Unwaited, Locked, Unlockable, Removed, SyncedNames, UnwaitedNames, IsOf}
-use Rattle.age_machine.specs.Calls.{Waited}
+use Rattle.age_machine.specs.{FileCall, Made, Opened, Wrote, Broke, Synced, Unwaited, Locked, Unlockable, Removed, SyncedNames, UnwaitedNames, IsOf, Waited}
 use Rattle.age_machine.specs.declared.in_place.Opening.{Opening}
 use Rattle.age_machine.specs.declared.in_place.Opening.TheVariants as way
 use Rattle.age_machine.specs.declared.machine.Kind.{Kind}
-use Rattle.age_machine.specs.declared.machine.Kind.TheVariants.{Regular}
-use Rattle.age_machine.specs.Disk.{Disk, sized, after_call, after_calls, IsAmong, MayLead, MayLeave}
-use Rattle.age_machine.specs.Saves.{IsAnswered, AllAnswered, HasMade, SavesWhole, LeadsTo}
-use Rattle.age_machine.specs.Outs.{OutFile, opening_of, is_making, text_of, IsOn, AllOn, MayChange, IsClaimed, LocksFirst, TouchesFile}
-use Rattle.age_machine.specs.Laws.{HasOneLock, IsUnchanged}
-use Rattle.age_machine.specs.Held.{HasWritten, IsBegun, IsJustOpened, IsOut}
-use Rattle.age_machine.specs.inner.Steps.{AllOf, IsAbout, IsHeld, IsInPlace, StaysHeld, RemovesAt, is_waited}
-use Rattle.age_machine.proofs.DiskLemmas.{path_same, file_same, file_other, led, leaves_fewer, leaves_new, leaves_synced}
-use Rattle.age_machine.proofs.SaveLemmas.{contains_first, contains_later, if_either, if_made, if_waited, saves_loudly, saves_none, saves_quietly}
-use Rattle.age_machine.proofs.SaveLemmas.{sized_within}
+use Rattle.age_machine.specs.{Regular, sized, after_call, after_calls, IsAmong, MayLead, MayLeave, IsAnswered, AllAnswered, HasMade, SavesWhole, LeadsTo}
+use Rattle.age_machine.specs.{OutFile, opening_of, is_making, text_of, IsOn, AllOn, MayChange, IsClaimed, LocksFirst, TouchesFile, HasOneLock, IsUnchanged}
+use Rattle.age_machine.specs.{HasWritten, IsBegun, IsJustOpened, IsOut}
+use Rattle.age_machine.specs.Disk.{Disk}
+use Rattle.age_machine.specs.inner.{AllOf, IsAbout, IsHeld, IsInPlace, StaysHeld, RemovesAt, is_waited}
+use Rattle.age_machine.proofs.SaveLemmas.{path_same, file_same, file_other, led, leaves_fewer, leaves_new, leaves_synced, contains_first, contains_later}
+use Rattle.age_machine.proofs.SaveLemmas.{if_either, if_made, if_waited, saves_loudly, saves_none, saves_quietly, sized_within}
 
 -- ---- What calls contain.
 
@@ -38,9 +35,7 @@ claimed_later n call calls (inr held) = inr (contains_later call (Unlockable n) 
 module _ (path : List ℕ) (n : ℕ) where
   no_lock : (opening : Opening) (call : FileCall) → (Made path n ≡ call → ⊥) → ((kind : Kind) → Opened path n kind ≡ call → ⊥)
       → Contains (opening_of path n opening ∷ []) call → ⊥
-  no_lock way.New call made opened held = ⊎_elim made (contains_none call) (contains_cases call (Made path n) [] held)
-  no_lock (way.Found named waited) call made opened held =
-      ⊎_elim (opened (Regular waited)) (contains_none call) (contains_cases call (Opened path n (Regular waited)) [] held)
+  no_lock opening call h0 h1 h2 = grind (arith, common_steps, contains_cases, contains_none)
 
   pub no_claim : (opening : Opening) → IsClaimed n (opening_of path n opening ∷ []) → ⊥
   no_claim opening (inl held) = no_lock opening (Locked n) (λ same. cc) (λ kind same. cc) held
@@ -54,12 +49,7 @@ module _ (path : List ℕ) (n : ℕ) where
 
 pub held_more : (path : List ℕ) (n : ℕ) (opening call : FileCall) (calls : List FileCall) → IsOn path n call
     → IsHeld path n opening calls → IsHeld path n opening (call ∷ calls)
-held_more path n opening call calls on held = record {
-  opened = contains_later call opening calls held.opened;
-  on = (on, held.on);
-  claimed = claimed_later n call calls held.claimed;
-  locked = (λ may. held.claimed, held.locked);
-}
+held_more path n opening call calls on held = grind (arith, common_steps, claimed_later, contains_later)
 
 pub held_one : (path : List ℕ) (n : ℕ) (opening call : FileCall) (old new : List FileCall) → IsOn path n call → new ≡ call ∷ old
     → StaysHeld path n opening old new
@@ -113,13 +103,7 @@ touches_held file opening calls made held =
 module _ (file : OutFile) where
   touches_more : (call : FileCall) (calls : List FileCall) → IsOn file.path file.number call → (MayChange file.number call → ⊥)
       → TouchesFile file calls → TouchesFile file (call ∷ calls)
-  touches_more call calls on quiet touches = record {
-    opening = touches.opening;
-    is_made = touches.is_made;
-    opened = contains_later call (opening_of file.path file.number touches.opening) calls touches.opened;
-    on = (on, touches.on);
-    locked = (λ may. absurd (quiet may), touches.locked);
-  }
+  touches_more call calls on quiet touches = grind (arith, common_steps, contains_later)
 
   pub touches_removed : (calls later : List FileCall) → RemovesAt file.path calls later → TouchesFile file calls → TouchesFile file later
   touches_removed calls later removes touches =
@@ -145,10 +129,7 @@ never_changed n (first ∷ calls) locks none call held may =
 
 kept_by : (n : ℕ) (call : FileCall) (disk : Disk) → (MayChange n call → ⊥)
     → ((path : List ℕ) → call ≡ Made path n → ⊥) → (after_call call disk).bytes n ≡ disk.bytes n
-kept_by n (Made p m) disk none made = file_other m n [] disk.bytes (λ same. made p (ap (λ (k : ℕ). Made p k) same))
-kept_by n (Wrote m at part) disk none made = file_other m n _ disk.bytes none
-kept_by n (Cut m len) disk none made = file_other m n _ disk.bytes none
-kept_by n call disk none made = refl
+kept_by n call disk h0 h1 = grind (arith, common_steps, file_other)
 
 kept_by_all : (n : ℕ) (calls : List FileCall) → ((call : FileCall) → Contains calls call → MayChange n call → ⊥) → (HasMade n calls → ⊥)
     → (disk : Disk) → (after_calls calls disk).bytes n ≡ disk.bytes n
@@ -174,12 +155,7 @@ late n path bytes locks = no_claim path n (way.Found true true) (locks.1.0 refl)
 
 -- another run that has only opened the file
 pub opened_beside : (n : ℕ) (path : List ℕ) (one : List FileCall) → Contains one (Locked n) → HasOneLock n one (Opened path n (Regular true) ∷ [])
-opened_beside n path one has = record {
-  has = has;
-  once = λ held other. no_claim path n (way.Found true true) (inl other);
-  lockable = λ other. no_claim path n (way.Found true true) (inr other);
-  first = (λ may. absurd may, tt);
-}
+opened_beside n path one has = grind (arith, common_steps, no_claim)
 
 -- ---- Other files.
 
@@ -188,10 +164,7 @@ module _ (path : List ℕ) (n m : ℕ) (other : m ≡ n → ⊥) where
   apart_by k is same = other (sym same ∙ is)
 
   other_kept : (call : FileCall) → IsOn path n call → (disk : Disk) → (after_call call disk).bytes m ≡ disk.bytes m
-  other_kept (Made p k) on disk = file_other k m [] disk.bytes (apart_by k on.1)
-  other_kept (Wrote k at part) on disk = file_other k m _ disk.bytes (apart_by k on)
-  other_kept (Cut k len) on disk = file_other k m _ disk.bytes (apart_by k on)
-  other_kept call on disk = refl
+  other_kept call h0 disk = grind (arith, common_steps, apart_by, file_other)
 
   pub others_kept : (calls : List FileCall) → AllOn path n calls → (disk : Disk) → (after_calls calls disk).bytes m ≡ disk.bytes m
   others_kept [] on disk = refl
@@ -204,18 +177,7 @@ module _ (path : List ℕ) (n : ℕ) (is_stale : Bool) (text : List ℕ) (disk :
   front = sized_within (length text) (disk.bytes n) (omega (arith, ap length holds.front, length-take (length text) (disk.bytes n))) ∙ holds.front
 
   holds_wrote : (part : List ℕ) → HasWritten path n is_stale (text ++ part) (after_call (Wrote n (length text) part) disk)
-  holds_wrote part =
-      let rest = drop (length text + length part) (disk.bytes n) in
-      let bytes : (after_call (Wrote n (length text) part) disk).bytes n ≡ (text ++ part) ++ rest =
-      file_same n _ disk.bytes ∙ ap (λ (l : List ℕ). (l ++ part) ++ rest) front in
-      record {
-        file = holds.file;
-        front =
-            ap (λ (l : List ℕ). take (length (text ++ part)) l) bytes ∙ take_at (text ++ part) rest (length (text ++ part)) refl;
-        whole = λ is. bytes ∙ (ap (λ (l : List ℕ). (text ++ part) ++ l)
-            (drop_all (length text + length part) (disk.bytes n) (omega (arith, ap length (holds.whole is)))) ∙ append-nil (text ++ part));
-        is_lost = holds.is_lost;
-      }
+  holds_wrote part = grind (arith, common_steps, append-nil, drop_all, file_same, front, take_at)
 
 begun_wrote : (path : List ℕ) (n : ℕ) (is_stale : Bool) (text part : List ℕ) (calls : List FileCall) → IsBegun path n is_stale text calls
     → IsBegun path n is_stale (text ++ part) (Wrote n (length text) part ∷ calls)
@@ -224,19 +186,12 @@ begun_wrote path n is_stale text part calls begun disk answers = holds_wrote pat
 -- it stays so while it is waited for
 pub begun_settled : (path : List ℕ) (n : ℕ) (is_stale : Bool) (text : List ℕ) (calls later : List FileCall)
     → (later ≡ calls) ⊎ Waited (Synced n) (Unwaited n) calls later → IsBegun path n is_stale text calls → IsBegun path n is_stale text later
-begun_settled path n is_stale text calls later either begun =
-    if_either (IsBegun path n is_stale text) (Synced n) (Unwaited n) calls later begun (λ disk answers. let holds = begun disk answers.1 in
-    record { file = holds.file; front = holds.front; whole = holds.whole; is_lost = holds.is_lost }) (λ disk answers. absurd answers.0) either
+begun_settled path n is_stale text calls later either begun = grind (arith, common_steps, front, if_either)
 
 -- it has reached the disk
 pub place_waited : (path : List ℕ) (n : ℕ) (text : List ℕ) (calls waited : List FileCall)
     → Waited (Synced n) (Unwaited n) calls waited → IsBegun path n false text calls → IsInPlace path n text waited
-place_waited path n text calls waited is begun =
-    if_waited (IsInPlace path n text) (Synced n) (Unwaited n) calls waited (record {
-      file = λ disk answers. (begun disk answers.1).file;
-      has = λ disk answers. let holds = begun disk answers.1 in
-          record { bytes = holds.whole refl; is_kept = file_same n _ (after_calls calls disk).is_kept ∙ ap not holds.is_lost };
-    }) (record { file = λ disk answers. absurd answers.0; has = λ disk answers. absurd answers.0 }) is
+place_waited path n text calls waited is begun = grind (arith, common_steps, file_same, if_waited)
 
 -- ---- What holds between the calls.
 
@@ -335,10 +290,7 @@ module _ (path : List ℕ) (n : ℕ) (opening : Opening) (is_stale is_lost is_cl
 -- ---- Where nothing was written.
 
 saves_made : (path : List ℕ) (n : ℕ) → SavesWhole path [] [] (Made path n ∷ [])
-saves_made path n =
-    saves_loudly path [] [] (Made path n) [] (saves_none path [] []) (λ disk answers. leaves_new n path [] disk (after_call (Made path n) disk)
-    (record { bytes = file_same n [] disk.bytes; is_kept = file_same n true disk.is_kept }) (λ m other. file_other n m [] disk.bytes other)
-    (λ m other. file_other n m true disk.is_kept other) (path_same path _ disk.file) (path_same path _ disk.before))
+saves_made path n = grind (arith, common_steps, file_other, file_same, leaves_new, path_same, saves_loudly, saves_none)
 
 saves_opened : (path : List ℕ) (n : ℕ) (kind : Kind) → SavesWhole path [] [] (Opened path n kind ∷ [])
 saves_opened path n kind = saves_quietly path [] [] (Opened path n kind) [] (saves_none path [] []) (λ disk answers left leaves. leaves)
@@ -347,30 +299,23 @@ saves_opened path n kind = saves_quietly path [] [] (Opened path n kind) [] (sav
 leaves_taken : (path : List ℕ) (n : ℕ) (disk : Disk) → disk.file path ≡ None → (left : Option (List ℕ))
     → MayLeave (after_call (Removed path) (after_call (Made path n) disk)) path left → MayLeave (after_call (Made path n) disk) path left
 leaves_taken path n disk nothing =
-    leaves_fewer path made (after_call (Removed path) made) (λ m. refl) (λ m. refl)
-    (λ to may. among to (led _ _ _ _ to (path_same path None made.file) (path_same path _ made.before) may)) where
+    leaves_fewer path made (after_call (Removed path) made)
+    (λ to may. among to (led _ _ _ _ to (path_same path None made.file) (path_same path _ made.before) may)) (λ m may. (refl, refl)) where
       made : Disk
       made = after_call (Made path n) disk
 
       among : (to : Option ℕ) → IsAmong to (None ∷ made.file path ∷ made.before path) → MayLead made path to
-      among to (inl is) =
-          inr (subst (IsAmong to) (sym (path_same path (disk.file path ∷ disk.before path) disk.before)) (inl (is ∙ sym nothing)))
-      among to (inr may) = may
+      among to h0 = grind (arith, common_steps, path_same)
 
 -- a file that was opened or made, and perhaps claimed
 saves_claimed : (path : List ℕ) (n : ℕ) (calls later : List FileCall) → SavesWhole path [] [] calls
     → (later ≡ calls) ⊎ Waited (Locked n) (Unlockable n) calls later → SavesWhole path [] [] later
-saves_claimed path n calls later saves =
-    if_either (SavesWhole path [] []) (Locked n) (Unlockable n) calls later saves
-    (saves_quietly path [] [] (Locked n) calls saves (λ disk answers left leaves. leaves))
-    (saves_quietly path [] [] (Unlockable n) calls saves (λ disk answers left leaves. leaves))
+saves_claimed path n calls later saves = grind (arith, common_steps, if_either, saves_quietly)
 
 -- one that was made, and perhaps claimed, is as it was made
 fresh_made : (path : List ℕ) (n : ℕ) (calls : List FileCall) → IsJustOpened n (Made path n) calls → (disk : Disk) → AllAnswered path calls disk
     → (after_calls calls disk ≡ after_call (Made path n) disk) × (disk.file path ≡ None)
-fresh_made path n calls (inl is) = rw is (λ disk answers. (refl, answers.0.0))
-fresh_made path n calls (inr (inl is)) = rw is (λ disk answers. (refl, answers.1.0.0))
-fresh_made path n calls (inr (inr is)) = rw is (λ disk answers. (refl, answers.1.0.0))
+fresh_made path n calls h0 = grind (arith, common_steps)
 
 -- and it is removed
 saves_removed : (path : List ℕ) (n : ℕ) (calls : List FileCall) → IsJustOpened n (Made path n) calls → SavesWhole path [] [] (Removed path ∷ calls)
@@ -381,10 +326,7 @@ saves_removed path n calls fresh =
 
 saves_named : (path : List ℕ) (calls later : List FileCall) → SavesWhole path [] [] calls
     → (later ≡ calls) ⊎ Waited (SyncedNames path) (UnwaitedNames path) calls later → SavesWhole path [] [] later
-saves_named path calls later saves =
-    if_either (SavesWhole path [] []) (SyncedNames path) (UnwaitedNames path) calls later saves
-    (saves_quietly path [] [] (SyncedNames path) calls saves (λ disk answers. leaves_synced path (after_calls calls disk)))
-    (saves_quietly path [] [] (UnwaitedNames path) calls saves (λ disk answers left leaves. leaves))
+saves_named path calls later saves = grind (arith, common_steps, if_either, leaves_synced, saves_quietly)
 
 -- nothing was written, and it is removed, or not
 pub saves_discarded : (path : List ℕ) (n : ℕ) (opening : Opening) (calls later : List FileCall)

@@ -1,22 +1,150 @@
--- How a replacement goes on, call by call.
-use Rattle.std.proofs.Common.{◌≡◌, ◌⊎◌, inl, inr, ⊎_elim, ℕ, ◌+◌, ◌-◌, ◌≤◌, List, [], ◌∷◌, ◌++◌, Option, Some, None, false, length, take, drop, not, refl}
-use Rattle.std.proofs.Common.{sym, ◌∙◌, ap, subst, arith, rules, append_assoc, length-append, length-drop, take-add}
-use Rattle.std.specs.Prelude.{Contains, Result, Err, OnOk, replicate}
+-- What a call leaves as it was, what a power cut leaves after it, and how a replacement goes on, call by call.
+use Rattle.std.proofs.lemmas.Grind.{common_steps}
+use Rattle.std.proofs.lemmas.Bool.Decides.{eqb_tells}
+use Rattle.std.proofs.Common.{◌≡◌, ◌⊎◌, inl, inr, ℕ, List, [], ◌∷◌, Bool, Option, Some, None, refl, sym, ◌∙◌, ap, subst, rules, ⊎_elim, ◌+◌, ◌-◌, ◌≤◌, ◌++◌}
+use Rattle.std.proofs.Common.{false, length, take, drop, not, arith, append_assoc, length-append, length-drop, take-add}
+use Rattle.std.specs.Prelude.{bytes_eq, if◌then◌else◌, Contains, Result, Ok, Err, OnOk, replicate}
+use Rattle.std.proofs.lemmas.Bool.{false_from_ne_true, eq-eqb, ne_eqb}
+use Rattle.std.proofs.lemmas.Slice.Eq.{bytes_eq-Decides}
+use Rattle.age_machine.specs.{FileCall, Made, Wrote, IsOf, Linked, Renamed, Removed, SyncedNames, at_path, for_file, changed, after_call, IsAmong, MayLead}
+use Rattle.age_machine.specs.{MayLeaveFile, MayLeave, Synced, Unwaited, Missing, UnwaitedNames, MayHave, Waited, after_calls, sized, written, AllAnswered}
+use Rattle.age_machine.specs.{AtEachMoment, Throughout, SavesWhole, SparesFile, HasMade, IsLonger, IsWithin, AllWithin, Touches, IsSafe, Replaces, HasBeside}
+use Rattle.age_machine.specs.{IsBeside, IsKept}
+use Rattle.age_machine.specs.Disk.{Disk}
+use Rattle.age_machine.specs.inner.{Has, AllOf, IsAbout, HasTried, HasPlaced, Fills, IsInPlace, IsReady, WritesOver, CutsOff}
 use Rattle.std.proofs.lemmas.List.{append-nil, take_at, drop_at, take_all, drop-drop, length-take-le}
 use Rattle.std.proofs.lemmas.List.Elements.{Contains-append_left, Contains-append_right}
+use Rattle.std.proofs.lemmas.Result.{on_ok_weaker}
 use Rattle.age_io.specs.declared.durability.Durability.{Durability}
-use Rattle.age_io.specs.declared.durability.Durability.TheVariants as wait
 use Rattle.age_machine.specs.declared.replacing.Spot.{Spot}
+use Rattle.age_io.specs.declared.durability.Durability.TheVariants as wait
 use Rattle.age_machine.specs.declared.replacing.Spot.TheVariants as spot
-use Rattle.age_machine.specs.Calls.{FileCall, Made, Wrote, Synced, Unwaited, Missing, Linked, Renamed, Removed}
-use Rattle.age_machine.specs.Calls.{SyncedNames, UnwaitedNames, IsOf, MayHave, Waited}
-use Rattle.age_machine.specs.Disk.{Disk, after_call, after_calls, MayLeave, sized, written}
-use Rattle.age_machine.specs.Saves.{AllAnswered, AtEachMoment, Throughout, SavesWhole, SparesFile, HasMade, IsLonger, IsWithin, AllWithin, Touches, IsSafe}
-use Rattle.age_machine.specs.Saved.{Replaces}
-use Rattle.age_machine.specs.Beside.{HasBeside, IsBeside, IsKept}
-use Rattle.age_machine.specs.inner.Steps.{AllOf, IsAbout, HasTried, Fills, IsInPlace, IsReady, WritesOver, CutsOff}
-use Rattle.age_machine.proofs.DiskLemmas.{path_same, path_other, file_same, apart_made, apart_of, led, leaves_apart, leaves_renamed, leaves_linked}
-use Rattle.age_machine.proofs.DiskLemmas.{file_renamed, file_linked, leaves_removed, leaves_synced, leaves_only}
+
+-- ---- Values at one path, or for one file.
+
+pub path_same : {X : Type 0} (p : List ℕ) (x : X) (f : List ℕ → X) → at_path p x f p ≡ x
+path_same p x f = ap (λ (b : Bool). if b then x else f p) ((bytes_eq-Decides p p).1 refl)
+
+pub path_other : {X : Type 0} (p q : List ℕ) (x : X) (f : List ℕ → X) → (p ≡ q → ⊥) → at_path p x f q ≡ f q
+path_other p q x f other = ap (λ (b : Bool). if b then x else f q) (false_from_ne_true (bytes_eq p q) (λ h. other ((bytes_eq-Decides p q).0 h)))
+
+pub file_same : {X : Type 0} (n : ℕ) (x : X) (f : ℕ → X) → for_file n x f n ≡ x
+file_same n x f = ap (λ (b : Bool). if b then x else f n) (eq-eqb n n refl)
+
+pub file_other : {X : Type 0} (n m : ℕ) (x : X) (f : ℕ → X) → (n ≡ m → ⊥) → for_file n x f m ≡ f m
+file_other n m x f other = ap (λ (b : Bool). if b then x else f m) (ne_eqb n m other)
+
+-- ---- What stays as it was.
+
+-- what is at a path, and every file but one
+pub record Apart (n : ℕ) (path : List ℕ) (old new : Disk) : Type 0 where
+  pub file : new.file path ≡ old.file path
+  pub before : new.before path ≡ old.before path
+  pub bytes : (m : ℕ) → (n ≡ m → ⊥) → new.bytes m ≡ old.bytes m
+  pub is_kept : (m : ℕ) → (n ≡ m → ⊥) → new.is_kept m ≡ old.is_kept m
+
+apart_same : (n : ℕ) (path : List ℕ) (disk : Disk) → Apart n path disk disk
+apart_same n path disk = record { file = refl; before = refl; bytes = λ m other. refl; is_kept = λ m other. refl }
+
+pub apart_made : (n : ℕ) (path p : List ℕ) (disk : Disk) → (p ≡ path → ⊥) → Apart n path disk (after_call (Made p n) disk)
+apart_made n path p disk apart = grind (arith, common_steps, file_other, path_other)
+
+apart_changed : (n m : ℕ) (path bytes : List ℕ) (disk : Disk) → m ≡ n → Apart n path disk (changed m bytes disk)
+apart_changed n m path bytes disk of = grind (arith, common_steps, file_other)
+
+-- what a power cut does to the file may differ
+apart_kept : (n m : ℕ) (path : List ℕ) (is_kept : Bool) (is_lost : ℕ → Bool) (disk : Disk) → m ≡ n
+    → Apart n path disk (record disk { is_kept = for_file m is_kept disk.is_kept; is_lost = is_lost })
+apart_kept n m path is_kept is_lost disk of = grind (arith, common_steps, file_other)
+
+-- after a call about the one file
+pub apart_of : (n : ℕ) (path : List ℕ) (call : FileCall) (disk : Disk) → IsOf n call → Apart n path disk (after_call call disk)
+apart_of n path (Wrote m at part) disk of = apart_changed n m path _ disk of
+apart_of n path call disk of = search (rules, apart_changed, apart_kept, apart_same)
+
+-- ---- What a power cut leaves.
+
+pub led : (x y : Option ℕ) (xs ys : List (Option ℕ)) (to : Option ℕ) → x ≡ y → xs ≡ ys → IsAmong to (x ∷ xs) → IsAmong to (y ∷ ys)
+led x y xs ys to first rest one = grind (arith, common_steps)
+
+-- as much as before, where the path leads nowhere else, and the files there hold what they held
+pub leaves_fewer : (path : List ℕ) (old new : Disk) → ((to : Option ℕ) → MayLead new path to → MayLead old path to)
+    → ((m : ℕ) → MayLead old path (Some m) → (new.bytes m ≡ old.bytes m) × (new.is_kept m ≡ old.is_kept m))
+    → (left : Option (List ℕ)) → MayLeave new path left → MayLeave old path left
+leaves_fewer path old new fewer same left leaves =
+    let may = fewer leaves.0 leaves.1 in
+    (leaves.0, may, files leaves.0 may leaves.2) where
+      files : (to : Option ℕ) → MayLead old path to → MayLeaveFile new to left → MayLeaveFile old to left
+      files None may leaves = leaves
+      files (Some m) may leaves = (leaves.0, leaves.1, λ kept. leaves.2 ((same m may).1 ∙ kept) ∙ (same m may).0)
+
+-- where no path leads to the one file that may differ
+pub leaves_apart : (n : ℕ) (path : List ℕ) (old new : Disk) → Apart n path old new
+    → (MayLead old path (Some n) → ⊥) → (left : Option (List ℕ)) → MayLeave new path left → MayLeave old path left
+leaves_apart n path old new apart nowhere = grind (arith, common_steps, leaves_fewer, led)
+
+pub leaves_removed : (path p : List ℕ) (disk : Disk) → (p ≡ path → ⊥) → (left : Option (List ℕ))
+    → MayLeave (after_call (Removed p) disk) path left → MayLeave disk path left
+leaves_removed path p disk apart = grind (arith, common_steps, leaves_fewer, led, path_other)
+
+pub leaves_synced : (path : List ℕ) (disk : Disk) (left : Option (List ℕ))
+    → MayLeave (after_call (SyncedNames path) disk) path left → MayLeave disk path left
+leaves_synced path disk =
+    leaves_fewer path disk (after_call (SyncedNames path) disk)
+    (λ to may. first to (led _ _ _ _ to refl (path_same path [] disk.before) may)) (λ m may. (refl, refl)) where
+      first : (to : Option ℕ) → IsAmong to (disk.file path ∷ []) → MayLead disk path to
+      first to (inl is) = inl is
+      first to (inr none) = absurd none
+
+-- a file of these bytes that is kept leaves them
+pub leaves_kept : (n : ℕ) (bytes : List ℕ) (disk : Disk) (to : Option ℕ)
+    (left : Option (List ℕ)) → Has n bytes disk → to ≡ Some n → MayLeaveFile disk to left → left ≡ Some bytes
+leaves_kept n bytes disk to left h0 h1 h2 = grind (arith, common_steps)
+
+-- at a path that leads to it alone
+pub leaves_only : (n : ℕ) (path bytes : List ℕ) (disk : Disk) → disk.file path ≡ Some n → disk.before path ≡ [] → Has n bytes disk
+    → (left : Option (List ℕ)) → MayLeave disk path left → left ≡ Some bytes
+leaves_only n path bytes disk file before has left leaves =
+    leaves_kept n bytes disk leaves.0 left has (first leaves.0 (led _ _ _ _ leaves.0 file before leaves.1)) leaves.2 where
+      first : (to : Option ℕ) → IsAmong to (Some n ∷ []) → to ≡ Some n
+      first to (inl is) = is
+      first to (inr none) = absurd none
+
+-- where the path comes to lead to it, and no other file is changed
+pub leaves_new : (n : ℕ) (path bytes : List ℕ) (old new : Disk) → Has n bytes new → ((m : ℕ) → (n ≡ m → ⊥) → new.bytes m ≡ old.bytes m)
+    → ((m : ℕ) → (n ≡ m → ⊥) → new.is_kept m ≡ old.is_kept m) → new.file path ≡ Some n → new.before path ≡ old.file path ∷ old.before path
+    → (left : Option (List ℕ)) → MayLeave new path left → MayLeave old path left ⊎ (left ≡ Some bytes)
+leaves_new n path bytes old new has same_bytes same_kept file before left leaves =
+    cases leaves.0 leaves.2 (led _ _ _ _ leaves.0 file before leaves.1) where
+      cases : (to : Option ℕ) → MayLeaveFile new to left → IsAmong to (Some n ∷ old.file path ∷ old.before path)
+          → MayLeave old path left ⊎ (left ≡ Some bytes)
+      cases to leaves (inl is) = inr (leaves_kept n bytes new to left has is leaves)
+      cases None leaves (inr may) = inl (None, may, leaves)
+      cases (Some m) leaves (inr may) = elim (eqb_tells n m) [
+        | inl same ↦ inr (leaves_kept n bytes new (Some m) left has (ap Some (sym same.1)) leaves)
+        | inr other ↦ inl (Some m, may, (leaves.0, leaves.1, λ kept. leaves.2 (same_kept m other.1 ∙ kept) ∙ same_bytes m other.1))
+      ]
+
+-- where the path comes to lead to that file too
+module _ (n : ℕ) (from path : List ℕ) (disk : Disk) (apart : from ≡ path → ⊥) (is : disk.file from ≡ Some n) where
+  pub file_renamed : (after_call (Renamed from path) disk).file path ≡ Some n
+  file_renamed = path_other from path None (at_path path (disk.file from) disk.file) apart ∙ (path_same path (disk.file from) disk.file ∙ is)
+
+  pub file_linked : (after_call (Linked from path) disk).file path ≡ Some n
+  file_linked = path_same path (disk.file from) disk.file ∙ is
+
+  more : (bytes : List ℕ) → Has n bytes disk → (new : Disk) → ((m : ℕ) → new.bytes m ≡ disk.bytes m) → ((m : ℕ) → new.is_kept m ≡ disk.is_kept m)
+      → new.file path ≡ Some n → new.before path ≡ disk.file path ∷ disk.before path → (left : Option (List ℕ)) → MayLeave new path left
+      → MayLeave disk path left ⊎ (left ≡ Some bytes)
+  more bytes has new bytes_same kept_same = grind (arith, common_steps, leaves_new)
+
+  pub leaves_renamed : (bytes : List ℕ) → Has n bytes disk → (left : Option (List ℕ)) → MayLeave (after_call (Renamed from path) disk) path left
+      → MayLeave disk path left ⊎ (left ≡ Some bytes)
+  leaves_renamed bytes has = grind (arith, common_steps, file_renamed, more, path_other, path_same)
+
+  pub leaves_linked : (bytes : List ℕ) → Has n bytes disk → (left : Option (List ℕ)) → MayLeave (after_call (Linked from path) disk) path left
+      → MayLeave disk path left ⊎ (left ≡ Some bytes)
+  leaves_linked bytes has = grind (arith, common_steps, file_linked, more, path_same)
 
 -- ---- What holds after calls that were made or not.
 
@@ -118,9 +246,7 @@ spares_then path old mid new first second = throughout_then path _ _ old mid new
 pub spares_quietly : (path : List ℕ) (old : List FileCall) (call : FileCall) (calls : List FileCall) → SparesFile path old calls
     → ((disk : Disk) → AllAnswered path (call ∷ calls) disk → (n : ℕ)
     → (after_calls calls disk).file path ≡ Some n → (after_calls (call ∷ calls) disk).file path ≡ Some n) → SparesFile path old (call ∷ calls)
-spares_quietly path old call calls spares quiet =
-    throughout_more path _ old call calls spares (λ disk answers n is.
-    quiet disk answers n (throughout_last path _ old calls spares disk answers.1 n is))
+spares_quietly path old call calls spares quiet = grind (arith, common_steps, throughout_last, throughout_more)
 
 -- ---- What is touched.
 
@@ -143,11 +269,7 @@ all_within path first (call ∷ second) before after_call =
     (within_more path call first second after_call.0, all_within path first second before after_call.1)
 
 pub touches_then : (path : List ℕ) (old mid new : List FileCall) → Touches path old mid → Touches path mid new → Touches path old new
-touches_then path old mid new first second = record {
-  since = second.since ++ first.since;
-  are = rw (second.are, first.are, append_assoc);
-  within = all_within path first.since second.since first.within second.within;
-}
+touches_then path old mid new first second = grind (arith, common_steps, all_within, append_assoc)
 
 -- ---- A file beside the path.
 
@@ -220,19 +342,12 @@ module _ (path from : List ℕ) (n : ℕ) (old : List FileCall) where
 module _ {E : Type 0} (to : Spot) (path bytes : List ℕ) (wanted : Durability) (old new : List FileCall) where
   -- nothing was done
   pub replaces_none : (e : E) → new ≡ old → Replaces {E = E} to bytes wanted (Err e) old new path
-  replaces_none e same =
-      subst (λ (l : List FileCall). Replaces {E = E} to bytes wanted (Err e) old l path) (sym same) (record {
-        puts = record { whole = λ synced. saves_none path bytes old; safe = λ synced. tt; touches = touches_none path old };
-        spares = λ free. spares_none path old;
-      })
+  replaces_none e same = grind (arith, common_steps, saves_none, spares_none, touches_none)
 
   -- a file beside it got there
-  pub replaces_tried : (from : List ℕ) (n : ℕ) (r : Result (Unit {0}) E) → HasTried to wanted path from n bytes old new
-      → (wanted ≡ wait.Synced → OnOk r (IsSafe path bytes new)) → Replaces to bytes wanted r old new path
-  replaces_tried from n r tried safe = record {
-    puts = record { whole = tried.saves; safe = safe; touches = tried.has.touches };
-    spares = tried.spares;
-  }
+  pub replaces_placed : (from : List ℕ) (n : ℕ) (r : Result (Unit {0}) E) → HasPlaced to wanted path from n bytes (IsSafe path bytes new) r old new
+      → Replaces to bytes wanted r old new path
+  replaces_placed from n r placed = grind (arith, common_steps)
 
   -- another one did, after that was tried
   pub replaces_again : (mid : List FileCall) (from : List ℕ) (n : ℕ) (r : Result (Unit {0}) E) → HasTried to wanted path from n bytes old mid
@@ -261,11 +376,7 @@ all_append n first [] before after_call = before
 all_append n first (call ∷ second) before after_call = (after_call.0, all_append n first second before after_call.1)
 
 pub about_then : (n : ℕ) (old mid new : List FileCall) → IsAbout n old mid → IsAbout n mid new → IsAbout n old new
-about_then n old mid new first second = record {
-  since = second.since ++ first.since;
-  are = rw (second.are, first.are, append_assoc);
-  all = all_append n first.since second.since first.all second.all;
-}
+about_then n old mid new first second = grind (arith, common_steps, all_append, append_assoc)
 
 pub about_first : (n : ℕ) (call : FileCall) (old new : List FileCall) → new ≡ call ∷ old → IsOf n call → IsAbout n old new
 about_first n call old new is of = record { since = call ∷ []; are = is; all = (of, tt) }
@@ -301,44 +412,23 @@ over at m bytes held begun within =
 pub writes_more : (n at m : ℕ) (bytes : List ℕ) (old new later : List FileCall) → at ≤ length bytes
     → m ≤ length bytes - at → WritesOver n at bytes old new
     → later ≡ Wrote n at (take m (drop at bytes)) ∷ new → WritesOver n (at + m) bytes old later
-writes_more n at m bytes old new later begun within writes is =
-    rw is (record {
-      sound = writes.sound;
-      bytes = λ disk. file_same n _ (after_calls new disk).bytes ∙ (ap (λ (l : List ℕ). written at (take m (drop at bytes)) l) (writes.bytes disk)
-          ∙ over at m bytes ((after_calls old disk).bytes n) begun within);
-    })
+writes_more n at m bytes old new later begun within writes is = grind (arith, common_steps, file_same, over)
 
 -- ---- It reaches the disk.
 
 whole : (bytes held : List ℕ) → take (length bytes) (take (length bytes) bytes ++ drop (length bytes) held) ≡ bytes
-whole bytes held =
-    ap (λ (l : List ℕ). take (length bytes) (l ++ drop (length bytes) held)) (take_all (length bytes) bytes (omega arith))
-    ∙ take_at bytes (drop (length bytes) held) (length bytes) refl
+whole bytes held = grind (arith, common_steps, take_all, take_at)
 
 pub fills_waited : (n : ℕ) (bytes : List ℕ) (old wrote cut waited : List FileCall)
     → WritesOver n (length bytes) bytes old wrote → CutsOff n (length bytes) wrote cut
     → Waited (Synced n) (Unwaited n) cut waited → Fills n bytes old waited
-fills_waited n bytes old wrote cut waited writes cuts =
-    if_waited (Fills n bytes old) (Synced n) (Unwaited n) cut waited (record {
-      on = λ path disk answers sound. record {
-        bytes =
-            cuts.bytes path disk answers.1 ∙ (ap (λ (l : List ℕ). take (length bytes) l) (writes.bytes disk)
-            ∙ whole bytes ((after_calls old disk).bytes n));
-        is_kept =
-            file_same n _ (after_calls cut disk).is_kept ∙ ap not (cuts.sound disk ∙ (writes.sound disk ∙ sound));
-      };
-    }) (record { on = λ path disk answers. absurd answers.0 })
+fills_waited n bytes old wrote cut waited writes cuts = grind (arith, common_steps, file_same, if_waited, whole)
 
 -- ---- How a file that was filled comes to its path.
 
 pub safe_named : (path : List ℕ) (n : ℕ) (bytes : List ℕ) (calls new : List FileCall) → IsInPlace path n bytes calls
     → Waited (SyncedNames path) (UnwaitedNames path) calls new → IsSafe path bytes new
-safe_named path n bytes calls new put =
-    if_waited (IsSafe path bytes) (SyncedNames path) (UnwaitedNames path) calls new (λ disk answers.
-    let has = put.has disk answers.1 in
-    leaves_only n path bytes (after_call (SyncedNames path) (after_calls calls disk))
-    (put.file disk answers.1) (path_same path [] (after_calls calls disk).before) (record { bytes = has.bytes; is_kept = has.is_kept }))
-    (λ disk answers. absurd answers.0)
+safe_named path n bytes calls new put = grind (arith, common_steps, if_waited, leaves_only, path_same)
 
 module _ (path from : List ℕ) (n : ℕ) (bytes : List ℕ) (old : List FileCall) (wanted : Durability) where
   abbrev Ready : List FileCall → Type 0
@@ -346,6 +436,11 @@ module _ (path from : List ℕ) (n : ℕ) (bytes : List ℕ) (old : List FileCal
 
   abbrev Tried : Spot → List FileCall → Type 0
   Tried to = HasTried to wanted path from n bytes old
+
+  -- that was tried, but failed
+  pub placed_not : {E Done : Type 0} (r : Result (Unit {0}) E) (to : Spot) (calls : List FileCall) → Tried to calls → OnOk r ⊥
+      → HasPlaced to wanted path from n bytes Done r old calls
+  placed_not r to calls tried failed = record { tried = tried; done = λ synced. on_ok_weaker r (λ no. absurd no) failed }
 
   nothing : (m : ℕ) → None ≡ Some m → ⊥
   nothing m same = cc
@@ -397,7 +492,7 @@ module _ (path from : List ℕ) (n : ℕ) (bytes : List ℕ) (old : List FileCal
         (ready.has synced disk answers.1)) ready.tried;
     apart = ready.apart;
     file = λ disk answers. path_other path from _ (after_calls calls disk).file (λ same. ready.apart (sym same)) ∙ ready.file disk answers.1;
-    has = λ synced disk answers. let has = ready.has synced disk answers.1 in record { bytes = has.bytes; is_kept = has.is_kept };
+    has = λ synced disk answers. ready.has synced disk answers.1;
   })
 
   pub tried_removed : (to : Spot) (calls new : List FileCall) → (from ≡ path → ⊥) → Tried to calls → MayHave (Removed from) calls new → Tried to new
@@ -422,44 +517,56 @@ module _ (path from : List ℕ) (n : ℕ) (bytes : List ℕ) (old : List FileCal
       (λ synced disk answers. leaves_renamed n from path (after_calls calls disk) ready.apart (ready.file disk answers.1) bytes
       (ready.has synced disk answers.1)) (tried_ready to calls ready)
 
-  -- over what is there
-  pub tried_taken : (calls new : List FileCall) → Ready calls → MayHave (Renamed from path) calls new → Tried spot.Taken new
-  tried_taken calls new ready =
-      if_made (Tried spot.Taken) (Renamed from path) calls new (tried_ready spot.Taken calls ready) (renamed spot.Taken calls ready (λ free. cc))
-
-  -- where nothing was seen
-  pub tried_looked : (calls looked new : List FileCall) → Ready calls
-      → looked ≡ Missing path ∷ calls → MayHave (Renamed from path) looked new → Tried spot.Free new
-  tried_looked calls looked new ready missing =
-      let seen : Ready looked = rw missing (ready_missing calls ready) in
-      if_made (Tried spot.Free) (Renamed from path) looked new (tried_ready spot.Free looked seen)
-      (renamed spot.Free looked seen (rw missing (λ free disk answers. answers.0)))
-
-  -- it is linked where nothing is
-  pub tried_linked : (calls linked new : List FileCall) → Ready calls
-      → MayHave (Linked from path) calls linked → MayHave (Removed from) linked new → Tried spot.Free new
-  tried_linked calls linked new ready may =
-      tried_removed spot.Free linked new ready.apart (tried_ready spot.Free linked (ready_may calls linked ready may))
-
   -- where it is then
-  pub put_renamed : (calls new : List FileCall) → Ready calls → wanted ≡ wait.Synced → new ≡ Renamed from path ∷ calls → IsInPlace path n bytes new
-  put_renamed calls new ready synced is = rw is (record {
-    file = λ disk answers. file_renamed n from path (after_calls calls disk) ready.apart (ready.file disk answers.1);
-    has = λ disk answers. let has = ready.has synced disk answers.1 in record { bytes = has.bytes; is_kept = has.is_kept };
-  })
+  put_renamed : (calls new : List FileCall) → Ready calls → wanted ≡ wait.Synced → new ≡ Renamed from path ∷ calls → IsInPlace path n bytes new
+  put_renamed calls new ready synced is = grind (arith, common_steps, file_renamed)
 
-  pub put_looked : (calls looked new : List FileCall) → Ready calls → wanted ≡ wait.Synced
-      → looked ≡ Missing path ∷ calls → new ≡ Renamed from path ∷ looked → IsInPlace path n bytes new
-  put_looked calls looked new ready synced missing = put_renamed looked new (rw missing (ready_missing calls ready)) synced
+  module _ {E : Type 0} where
+    abbrev Placed : Spot → Result (Unit {0}) E → List FileCall → Type 0
+    Placed to r new = HasPlaced to wanted path from n bytes (IsInPlace path n bytes new) r old new
 
-  pub put_published : (calls linked new : List FileCall) → Ready calls → wanted ≡ wait.Synced
-      → linked ≡ Linked from path ∷ calls → MayHave (Removed from) linked new → IsInPlace path n bytes new
-  put_published calls linked new ready synced is =
-      let put : IsInPlace path n bytes linked = rw is (record {
+    -- over what is there
+    pub placed_taken : (r : Result (Unit {0}) E) (calls new : List FileCall) → Ready calls → MayHave (Renamed from path) calls new
+        → OnOk r (new ≡ Renamed from path ∷ calls) → Placed spot.Taken r new
+    placed_taken r calls new ready may is = record {
+      tried =
+          if_made (Tried spot.Taken) (Renamed from path) calls new (tried_ready spot.Taken calls ready)
+          (renamed spot.Taken calls ready (λ free. cc)) may;
+      done = λ synced. on_ok_weaker r (put_renamed calls new ready synced) is;
+    }
+
+    -- where nothing was seen
+    pub placed_looked : (r : Result (Unit {0}) E) (calls looked new : List FileCall) → Ready calls → looked ≡ Missing path ∷ calls
+        → MayHave (Renamed from path) looked new → OnOk r (new ≡ Renamed from path ∷ looked) → Placed spot.Free r new
+    placed_looked r calls looked new ready missing may is =
+        let seen : Ready looked = rw missing (ready_missing calls ready) in
+        record {
+          tried = if_made (Tried spot.Free) (Renamed from path) looked new (tried_ready spot.Free looked seen)
+              (renamed spot.Free looked seen (rw missing (λ free disk answers. answers.0))) may;
+          done = λ synced. on_ok_weaker r (put_renamed looked new seen synced) is;
+        }
+
+    -- it is linked where nothing is
+    pub placed_linked : (calls linked new : List FileCall) → Ready calls → linked ≡ Linked from path ∷ calls
+        → MayHave (Removed from) linked new → Placed spot.Free (Ok tt) new
+    placed_linked calls linked new ready is may = record {
+      tried = tried_removed spot.Free linked new ready.apart (tried_ready spot.Free linked (ready_may calls linked ready (inr is))) may;
+      done = λ synced. let put : IsInPlace path n bytes linked = rw is (record {
         file = λ disk answers. file_linked n from path (after_calls calls disk) ready.apart (ready.file disk answers.1);
-        has = λ disk answers. let has = ready.has synced disk answers.1 in record { bytes = has.bytes; is_kept = has.is_kept };
+        has = λ disk answers. ready.has synced disk answers.1;
       }) in
-      if_made (IsInPlace path n bytes) (Removed from) linked new put (record {
-        file = λ disk answers. path_other from path None (after_calls linked disk).file ready.apart ∙ put.file disk answers.1;
-        has = λ disk answers. let has = put.has disk answers.1 in record { bytes = has.bytes; is_kept = has.is_kept };
-      })
+          if_made (IsInPlace path n bytes) (Removed from) linked new put (record {
+            file = λ disk answers. path_other from path None (after_calls linked disk).file ready.apart ∙ put.file disk answers.1;
+            has = λ disk answers. put.has disk answers.1;
+          }) may;
+    }
+
+    -- and its name is waited for
+    pub placed_named : {F : Type 0} (to : Spot) (r : Result (Unit {0}) F) (calls new : List FileCall) → Placed to (Ok tt) calls
+        → (new ≡ calls) ⊎ Waited (SyncedNames path) (UnwaitedNames path) calls new
+        → OnOk r (wanted ≡ wait.Synced → Waited (SyncedNames path) (UnwaitedNames path) calls new)
+        → HasPlaced to wanted path from n bytes (IsSafe path bytes new) r old new
+    placed_named to r calls new placed either waited = record {
+      tried = tried_named to calls new placed.tried either;
+      done = λ synced. on_ok_weaker r (λ waits. safe_named path n bytes calls new (placed.done synced) (waits synced)) waited;
+    }

@@ -1,10 +1,9 @@
 -- What calls leave on a disk, also if the power is cut after one of them.
 use Rattle.std.specs.Prelude.{◌≡◌, ◌⊎◌, ℕ, ◌+◌, ◌-◌, List, [], ◌∷◌, ◌++◌, length, take, drop, replicate}
-use Rattle.std.specs.Prelude.{Option, Some, None, Bool, true, false, not, bytes_eq, nat_eq}
-use Rattle.std.specs.Prelude.{if◌then◌else◌}
+use Rattle.std.specs.Prelude.{Option, Some, None, Bool, true, false, not, bytes_eq, nat_eq, if◌then◌else◌}
 use Rattle.age_machine.specs.Calls.{FileCall, Made, Opened, Wrote, Cut, Broke, Measured, Synced, Unwaited}
-use Rattle.age_machine.specs.Calls.{Locked, Unlockable, Missing, Linked, Renamed, Removed}
-use Rattle.age_machine.specs.Calls.{SyncedNames, UnwaitedNames}
+use Rattle.age_machine.specs.Calls.{Locked, Unlockable, Missing, Linked, Renamed, Removed, SyncedNames}
+use Rattle.age_machine.specs.Calls.{UnwaitedNames}
 
 -- ---- A disk.
 

@@ -1,7 +1,7 @@
 -- What was done to an output that was ended.
-use Rattle.std.specs.Prelude.{◌≡◌, ◌⊎◌, ◌<◌, ℕ, List, [], ◌∷◌, Bool, true, false, Option, IfSome}
-use Rattle.std.specs.Prelude.{MatchOption, Result, OnOk, OnErr}
-use Rattle.age_io.specs.Io.{SinkView}
+use Rattle.std.specs.Prelude.{◌≡◌, ◌⊎◌, ◌<◌, ℕ, List, [], ◌∷◌, Bool, true, false, Option, IfSome, MatchOption}
+use Rattle.std.specs.Prelude.{Result, OnOk, OnErr}
+use Rattle.age_io.specs.{SinkView}
 use Rattle.age_io.specs.declared.durability.Durability.{Durability}
 use Rattle.age_io.specs.declared.durability.Durability.TheVariants.{Synced}
 use Rattle.age_machine.specs.Calls.{FileCall, Opened}

@@ -1,7 +1,6 @@
 -- What may become of a file that is put to a path, or written in place, with a call less, or with two
 -- in another order.
-use Rattle.std.specs.Prelude.{◌≡◌, ◌≢◌, ◌<◌, ◌^◌, ℕ, List, [], ◌∷◌, length, Some, None, true, false}
-use Rattle.std.specs.Prelude.{Contains}
+use Rattle.std.specs.Prelude.{◌≡◌, ◌≢◌, ◌<◌, ◌^◌, ℕ, List, [], ◌∷◌, length, Some, None, true, false, Contains}
 use Rattle.age_machine.specs.Calls.{FileCall, Made, Opened, Wrote, Cut, Measured, Synced, Locked, Unlockable}
 use Rattle.age_machine.specs.Calls.{Linked, Renamed, Removed, SyncedNames}
 use Rattle.age_machine.specs.declared.machine.Kind.TheVariants.{Regular}

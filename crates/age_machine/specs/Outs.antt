@@ -1,6 +1,5 @@
 -- A file that is written in place, by a machine that makes no other calls.
-use Rattle.std.specs.Prelude.{◌≡◌, ◌⊎◌, ℕ, List, [], ◌∷◌, ◌++◌, Bool, true, false}
-use Rattle.std.specs.Prelude.{Contains}
+use Rattle.std.specs.Prelude.{◌≡◌, ◌⊎◌, ℕ, List, [], ◌∷◌, ◌++◌, Bool, true, false, Contains}
 use Rattle.age_machine.specs.Calls.{FileCall, Made, Opened, Wrote, Cut, Broke, Locked, Unlockable, Removed}
 use Rattle.age_machine.specs.Calls.{SyncedNames, UnwaitedNames, IsOf}
 use Rattle.age_machine.specs.declared.in_place.Opening.{Opening}

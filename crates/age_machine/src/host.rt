@@ -2,8 +2,7 @@
 
 ghost use Rattle.std.specs.Prelude.{◌≡◌, ◌+◌, ◌<◌, [], ◌∷◌, length, IfOk, OnOk, OnErr};
 ghost use Rattle.std.specs.Io.{WritesAtMost};
-ghost use Rattle.age_machine.specs.Calls.{Made, Opened, Broke, Waited, CountsFailure};
-ghost use Rattle.age_machine.specs.Numbers.{number_of};
+ghost use Rattle.age_machine.specs.{Made, Opened, Broke, Waited, CountsFailure, number_of};
 
 use crate::calls;
 use crate::folder::{Folder, check_same, folder_of};
@@ -247,7 +246,7 @@ pub struct HostMachine {
 }
 
 impl HostMachine {
-    ghost use Rattle.age_machine.specs.inner.Notes.{file_call_of};
+    ghost use Rattle.age_machine.specs.inner.{file_call_of};
 
     /// The machine before the first call.
     pub fn new(rt: &HostRuntime) -> HostMachine

@@ -1,12 +1,10 @@
 //! A regular file that is written in place.
 
 ghost use Rattle.std.specs.Prelude.{◌≡◌, ◌⊎◌, ◌≤◌, ◌<◌, ◌+◌, ◌^◌, ◌∷◌, ◌++◌, [], ℕ, List, length, take};
-ghost use Rattle.std.specs.Prelude.{string_bytes};
-ghost use Rattle.std.specs.Prelude.{true, false, is_some, IfOk, OnOk, OnErr};
+ghost use Rattle.std.specs.Prelude.{string_bytes, true, false, is_some, IfOk, OnOk, OnErr};
 ghost use Rattle.std.specs.Io.{WritesAtMost};
 ghost use Rattle.age_io.specs.declared.durability.Durability.TheVariants as wait;
-ghost use Rattle.age_machine.specs.Calls.{FileCall, Locked, Unlockable, SyncedNames, UnwaitedNames};
-ghost use Rattle.age_machine.specs.Calls.{Waited};
+ghost use Rattle.age_machine.specs.Calls.{FileCall, Locked, Unlockable, SyncedNames, UnwaitedNames, Waited};
 ghost use Rattle.age_machine.specs.Saves.{SavesWhole, IsSafe, LeadsTo};
 ghost use Rattle.age_machine.specs.Outs.{opening_of, is_making, text_of, has_changed, IsClaimed, TouchesFile};
 ghost use Rattle.age_machine.specs.Held.{IsBegun};
@@ -213,8 +211,7 @@ fn close_named<M: Machine>(
     ensures caused { OnErr result (M.failed machine.old < M.failed machine.new) }
 {
     machine.close(file)?;
-    settle_name(machine, path, opening, durability)?;
-    Ok(())
+    settle_name(machine, path, opening, durability)
 }
 
 /// Removes a file that opening made, if this run alone has it, and it is still empty.

@@ -1,10 +1,9 @@
 //! Laws of disks: that the calls of a replacement and of an output can be answered, and what none may
 //! leave out.
 
-ghost use Rattle.age_machine.specs.Laws.{WaitsAreAnswered, TornIfUnwaited, TornIfRenamedFirst};
-ghost use Rattle.age_machine.specs.Laws.{LostIfNamesUnwaited, OutsAreAnswered, TornIfUnsynced};
-ghost use Rattle.age_machine.specs.Laws.{TornIfCutLast, SecondRunIsHarmless, ChangedIfLockedLate};
-ghost use Rattle.age_machine.specs.Laws.{OthersAreKept, NumbersAreApart};
+ghost use Rattle.age_machine.specs.{WaitsAreAnswered, TornIfUnwaited, TornIfRenamedFirst};
+ghost use Rattle.age_machine.specs.{LostIfNamesUnwaited, OutsAreAnswered, TornIfUnsynced, TornIfCutLast};
+ghost use Rattle.age_machine.specs.{SecondRunIsHarmless, ChangedIfLockedLate, OthersAreKept, NumbersAreApart};
 
 /// There is a disk that answers the calls of a replacement, by a link or by a rename, and on which a
 /// power cut may leave the new file.
@@ -64,6 +63,7 @@ pub fn others_are_kept()
 {}
 
 /// Two files have one number only if they are one.
+#[tactic(auto, using(crate::proofs::LawLemmas::numbers_apart))]
 pub fn numbers_are_apart()
     ensures { NumbersAreApart }
 {}

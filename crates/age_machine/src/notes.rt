@@ -32,14 +32,15 @@ pub(crate) enum Word<'a> {
     UnwaitedNames(&'a str),
 }
 
-/// One more call, or all that were noted elsewhere.
+/// No call so far, those of a cell, or one more than those.
 #[derive(Clone, Copy)]
-enum Note<'a> {
-    Call(Word<'a>),
-    All(&'a Calls),
+enum Note<'a, 'b> {
+    Nothing,
+    All(&'a Cell),
+    More(&'a Cell, Word<'b>),
 }
 
-// Calls that no code holds: the proof of `note` sets them.
+// Calls that no code holds: the proof of `of` sets them.
 #[derive(Drop)]
 struct Cell {
     pub ghost calls: { List FileCall } by { coded_list coded_call },
@@ -50,17 +51,13 @@ impl Model for Cell {
 }
 
 impl Cell {
-    ghost use Rattle.age_machine.specs.inner.Notes.{calls_after};
+    ghost use Rattle.age_machine.specs.inner.Notes.{calls_of};
 
-    fn empty() -> Cell
-        ensures { result.calls ≡ [] }
+    fn of(_note: &Note<'_, '_>) -> Cell
+        ensures { result.calls ≡ calls_of _note.now }
     {
         Cell {}
     }
-
-    fn note(&mut self, _note: &Note<'_>)
-        ensures { self.new.calls ≡ calls_after _note.now self.old.calls }
-    {}
 }
 
 /// The calls that were made, the newest first, for contracts alone. It has no bytes at run time.
@@ -85,7 +82,7 @@ impl Calls {
         ensures { result ≡ [] }
     {
         Calls {
-            cell: Cell::empty(),
+            cell: Cell::of(&Note::Nothing),
         }
     }
 
@@ -93,16 +90,16 @@ impl Calls {
     pub(crate) fn again(&self) -> Calls
         ensures { result ≡ self.now }
     {
-        let mut cell = Cell::empty();
-        cell.note(&Note::All(self));
-        Calls { cell }
+        Calls {
+            cell: Cell::of(&Note::All(&self.cell)),
+        }
     }
 
     /// A call was made.
     pub(crate) fn note(&mut self, word: &Word<'_>)
         ensures { self.new ≡ file_call_of word.now ∷ self.old }
     {
-        self.cell.note(&Note::Call(*word));
+        self.cell = Cell::of(&Note::More(&self.cell, *word));
     }
 }
 

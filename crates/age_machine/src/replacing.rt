@@ -1,7 +1,6 @@
 //! Puts a whole file to a path.
 
-ghost use Rattle.std.specs.Prelude.{◌≡◌, ◌≢◌, ◌⊎◌, ◌≤◌, ◌<◌, ◌∷◌, ℕ, List, string_bytes, IfErr, OnOk};
-ghost use Rattle.std.specs.Prelude.{OnErr, Err};
+ghost use Rattle.std.specs.Prelude.{◌≡◌, ◌≢◌, ◌⊎◌, ◌≤◌, ◌<◌, ◌∷◌, ℕ, List, string_bytes, OnOk, OnErr, Err};
 ghost use Rattle.age_io.specs.declared.durability.Durability.TheVariants as wait;
 ghost use Rattle.age_machine.specs.Calls.{FileCall, Renamed, SyncedNames, UnwaitedNames, MayHave, Waited};
 ghost use Rattle.age_machine.specs.Saves.{IsSafe};
@@ -10,8 +9,7 @@ ghost use Rattle.age_machine.specs.Beside.{IsKept};
 ghost use Rattle.age_machine.specs.declared.beside.Unplaced.{Unplaced};
 ghost use Rattle.age_machine.specs.declared.beside.Unplaced.TheVariants.{Memory};
 ghost use Rattle.age_machine.specs.declared.replacing.Spot.TheVariants as spot;
-ghost use Rattle.age_machine.specs.inner.Steps.{IsAbout, CutsOff, Fills, IsInPlace, IsReady};
-ghost use Rattle.age_machine.specs.inner.Steps.{HasTried};
+ghost use Rattle.age_machine.specs.inner.Steps.{IsAbout, CutsOff, Fills, IsReady, HasPlaced, Places};
 ghost use Rattle.age_io.specs.declared.durability.Durability.{Durability};
 
 use crate::beside::{Beside, Unplaced, make_beside, settle, write_all};
@@ -65,6 +63,7 @@ fn cut_off<M: Machine>(machine: &mut M, file: &M::File, len: u64) -> io::Result<
 
 /// Writes bytes over what a file holds, and lets the system answer as if it was closed, so that it
 /// is whole before it takes another one's place.
+#[tactic(auto, using(crate::proofs::SaveLemmas::about_then))]
 fn fill<M: Machine>(
     machine: &mut M,
     file: &M::File,
@@ -90,7 +89,7 @@ fn take_place<M: Machine>(machine: &mut M, beside: &str, path: &str) -> Result<(
         (M.calls machine.new ≡ Renamed beside.now path.now ∷ M.calls machine.old) }
     ensures calls { MayHave (Renamed beside.now path.now) (M.calls machine.old) (M.calls machine.new) }
     ensures counted { M.failed machine.old ≤ M.failed machine.new }
-    ensures caused { IfErr result (λ why. M.failed machine.old < M.failed machine.new) }
+    ensures caused { OnErr result (M.failed machine.old < M.failed machine.new) }
 {
     match machine.rename(beside, path) {
         Ok(()) => Ok(()),
@@ -100,19 +99,12 @@ fn take_place<M: Machine>(machine: &mut M, beside: &str, path: &str) -> Result<(
 
 /// Renames a new file to a path where nothing is seen.
 fn take_free<M: Machine>(machine: &mut M, beside: &str, path: &str) -> Result<(), Unplaced>
-    ensures tried { (wanted : Durability) (n : ℕ) (bytes : List ℕ) (old : List FileCall)
-        → IsReady wanted path.now beside.now n bytes old (M.calls machine.old)
-        → HasTried spot.Free wanted path.now beside.now n bytes old (M.calls machine.new) }
-    ensures put { OnOk result ((n : ℕ) (bytes : List ℕ) (old : List FileCall)
-        → IsReady wait.Synced path.now beside.now n bytes old (M.calls machine.old)
-        → IsInPlace path.now n bytes (M.calls machine.new)) }
+    ensures placed { (n : ℕ) → Places spot.Free path.now beside.now n result
+        (M.calls machine.old) (M.calls machine.new) }
     ensures counted { M.failed machine.old ≤ M.failed machine.new }
 {
     match machine.is_free(path) {
-        Ok(true) => {
-            take_place(machine, beside, path)?;
-            Ok(())
-        }
+        Ok(true) => take_place(machine, beside, path),
         Ok(false) => Err(Unplaced::Failed(made_meanwhile())),
         Err(error) => Err(Unplaced::Failed(error)),
     }
@@ -126,13 +118,8 @@ fn publish<M: Machine>(
     beside: &str,
     path: &str,
 ) -> Result<(), Unplaced>
-    ensures tried { (wanted : Durability) (bytes : List ℕ) (old : List FileCall)
-        → IsReady wanted path.now beside.now (M.number file.now) bytes old (M.calls machine.old)
-        → HasTried spot.Free wanted path.now beside.now (M.number file.now) bytes old
-        (M.calls machine.new) }
-    ensures put { OnOk result ((bytes : List ℕ) (old : List FileCall)
-        → IsReady wait.Synced path.now beside.now (M.number file.now) bytes old (M.calls machine.old)
-        → IsInPlace path.now (M.number file.now) bytes (M.calls machine.new)) }
+    ensures placed { Places spot.Free path.now beside.now (M.number file.now) result
+        (M.calls machine.old) (M.calls machine.new) }
     ensures counted { M.failed machine.old ≤ M.failed machine.new }
     ensures caused { OnErr result (M.failed machine.old < M.failed machine.new) }
 {
@@ -144,10 +131,7 @@ fn publish<M: Machine>(
         Err(error) if error.kind() == io::ErrorKind::AlreadyExists => {
             Err(Unplaced::Failed(made_meanwhile()))
         }
-        Err(_) => {
-            take_free(machine, beside, path)?;
-            Ok(())
-        }
+        Err(_) => take_free(machine, beside, path),
     }
 }
 
@@ -159,22 +143,14 @@ fn put<M: Machine>(
     path: &str,
     to: Spot,
 ) -> Result<(), Unplaced>
-    ensures tried { (wanted : Durability) (bytes : List ℕ) (old : List FileCall)
-        → IsReady wanted path.now beside.now (M.number file.now) bytes old (M.calls machine.old)
-        → HasTried to wanted path.now beside.now (M.number file.now) bytes old
-        (M.calls machine.new) }
-    ensures put { OnOk result ((bytes : List ℕ) (old : List FileCall)
-        → IsReady wait.Synced path.now beside.now (M.number file.now) bytes old (M.calls machine.old)
-        → IsInPlace path.now (M.number file.now) bytes (M.calls machine.new)) }
+    ensures placed { Places to path.now beside.now (M.number file.now) result
+        (M.calls machine.old) (M.calls machine.new) }
     ensures counted { M.failed machine.old ≤ M.failed machine.new }
     ensures caused { OnErr result (M.failed machine.old < M.failed machine.new) }
 {
     match to {
         Spot::Free => publish(machine, file, beside, path),
-        Spot::Taken => {
-            take_place(machine, beside, path)?;
-            Ok(())
-        }
+        Spot::Taken => take_place(machine, beside, path),
     }
 }
 
@@ -210,15 +186,11 @@ fn place<M: Machine>(
     to: Spot,
     durability: Durability,
 ) -> Result<(), Unplaced>
-    ensures tried { (bytes : List ℕ) (old : List FileCall)
+    ensures placed { (bytes : List ℕ) (old : List FileCall)
         → IsReady durability path.now (string_bytes new.now.path) (M.number new.now.file) bytes old
         (M.calls machine.old)
-        → HasTried to durability path.now (string_bytes new.now.path) (M.number new.now.file) bytes
-        old (M.calls machine.new) }
-    ensures safe { durability ≡ wait.Synced → (bytes : List ℕ) (old : List FileCall)
-        → IsReady wait.Synced path.now (string_bytes new.now.path) (M.number new.now.file) bytes old
-        (M.calls machine.old)
-        → OnOk result (IsSafe path.now bytes (M.calls machine.new)) }
+        → HasPlaced to durability path.now (string_bytes new.now.path) (M.number new.now.file) bytes
+        (IsSafe path.now bytes (M.calls machine.new)) result old (M.calls machine.new) }
     ensures counted { M.failed machine.old ≤ M.failed machine.new }
     ensures caused { OnErr result (M.failed machine.old < M.failed machine.new) }
 {

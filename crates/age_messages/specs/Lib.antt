@@ -1,1 +1,2 @@
 pub mod Lines
+unfoldable pub use Lines.*

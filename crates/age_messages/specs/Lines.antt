@@ -3,7 +3,7 @@ use Rattle.std.specs.Prelude.{◌≡◌, ◌⊎◌, ℕ, ◌+◌, ◌-◌, ◌*�
 use Rattle.std.specs.Prelude.{length, take, codes, decimal, nat_eq, nat_lt, nat_le, Option, None, Some}
 use Rattle.std.specs.Prelude.{if◌then◌else◌}
 use Rattle.age_io.specs.Taken.{Appends}
-use Rattle.age_io.specs.Io.{one_more, SinkView}
+use Rattle.age_io.specs.{one_more, SinkView}
 use Rattle.age_messages.specs.declared.line_style.LineStyle.{LineStyle}
 use Rattle.age_messages.specs.declared.line_style.LineStyle.TheVariants.{Rewritten, Separate}
 

@@ -18,13 +18,12 @@ struct Reported {
 /// The fault that a line reports, if it does.
 fn fault_in(line: &str) -> Option<Reported> {
     let (number, rest) = line.strip_prefix("age_tool: ")?.split_once(' ')?;
-    match number.parse::<u8>() {
-        Ok(number) => Some(Reported {
-            number,
-            is_first_line: rest.ends_with(" line 1"),
-        }),
-        Err(_) => None,
-    }
+    let number = number.parse::<u8>().ok()?;
+    let is_first_line = rest.ends_with(" line 1");
+    Some(Reported {
+        number,
+        is_first_line,
+    })
 }
 
 /// Says on standard error which file became shorter while it was read; what the machine answered, if
@@ -94,8 +93,8 @@ fn old_name(output: &str) -> &str {
 /// Says where the position was saved and how to go on from there, or that none was saved though
 /// that was asked for.
 fn tell_position(rt: &HostRuntime, failures: &Failures<'_>) {
-    if let Some(saved) = failures.saved()
-        && let Some(output) = failures.output()
+    if let Some(saved) = failures.saved.get()
+        && let Some(output) = failures.output.get()
     {
         let saved = Escaped(saved.as_bytes());
         let output = Escaped(old_name(output).as_bytes());

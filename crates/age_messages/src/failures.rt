@@ -67,6 +67,14 @@ impl<'w> Failure<'w> {
     }
 }
 
+fn failed<'w>(action: Action, name: &'w str, error: io::Error) -> Option<Failure<'w>> {
+    Some(Failure {
+        action,
+        name,
+        error,
+    })
+}
+
 impl<'w> fmt::Display for Failure<'w> {
     fn fmt<W: fmt::Write>(&self, f: &mut Formatter<W>) -> fmt::Result {
         let (before, after) = self.action.words();
@@ -147,10 +155,10 @@ pub struct Failures<'w> {
     words: &'w [&'w str],
     first: Cell<Option<Failure<'w>>>,
     unsaved: Cell<Option<Failure<'w>>>,
-    saved: Cell<Option<&'w str>>,
+    pub(crate) saved: Cell<Option<&'w str>>,
     twice: Cell<Option<Twice<'w>>>,
     last_read: Cell<Amount<'w>>,
-    output: Cell<Option<&'w str>>,
+    pub(crate) output: Cell<Option<&'w str>>,
     cut_off: Cell<Option<&'w str>>,
 }
 
@@ -189,30 +197,19 @@ impl<'w> Failures<'w> {
     /// Keeps a failure, if it is the first: what follows from it isn't why the run stopped.
     pub fn note(&self, action: Action, name: &'w str, error: io::Error) {
         if self.first.get().is_none() {
-            self.first.set(Some(Failure {
-                action,
-                name,
-                error,
-            }));
+            self.first.set(failed(action, name, error));
         }
     }
 
     /// Keeps why a position wasn't saved.
     pub fn note_unsaved(&self, name: &str, error: io::Error) {
-        self.unsaved.set(Some(Failure {
-            action: Action::Save,
-            name: self.word(name),
-            error,
-        }));
+        let name = self.word(name);
+        self.unsaved.set(failed(Action::Save, name, error));
     }
 
     /// Keeps why the position of a stop wasn't found.
     pub fn note_unfound(&self, name: &'w str, error: io::Error) {
-        self.unsaved.set(Some(Failure {
-            action: Action::Reread,
-            name,
-            error,
-        }));
+        self.unsaved.set(failed(Action::Reread, name, error));
     }
 
     /// Keeps where a position was saved.
@@ -234,7 +231,7 @@ impl<'w> Failures<'w> {
 
     /// Keeps a name of a file that is also standard error's, or has some other name.
     pub fn note_used(&self, one: &str, is_for_faults: bool) {
-        let other = if is_for_faults { Some(FAULTS) } else { None };
+        let other = is_for_faults.then_some(FAULTS);
         let one = self.word(one);
         self.twice.set(Some(Twice { one, other }));
     }
@@ -271,16 +268,6 @@ impl<'w> Failures<'w> {
     /// What kept a position from being saved.
     pub fn unsaved(&self) -> Option<Failure<'w>> {
         self.unsaved.get()
-    }
-
-    /// Where a position was saved.
-    pub(crate) fn saved(&self) -> Option<&'w str> {
-        self.saved.get()
-    }
-
-    /// Which file is written.
-    pub(crate) fn output(&self) -> Option<&'w str> {
-        self.output.get()
     }
 
     /// The file that an option names on the command line.

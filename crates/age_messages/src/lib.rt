@@ -6,6 +6,7 @@
 //! something failed, and `explain` says it after the fault that it became.
 #![tactic(auto)]
 
+mod announcing;
 mod escaped;
 mod explaining;
 mod failures;
@@ -15,13 +16,10 @@ mod line;
 mod line_style;
 mod progress_line;
 mod text;
-mod unread;
-mod waiting;
 
+pub use announcing::{announce_reading, announce_rereading, announce_sync, explain_words};
 pub use explaining::explain;
 pub use failures::{Action, Amount, Failure, Failures, Twice};
 pub use heard::Heard;
 pub use line_style::LineStyle;
 pub use progress_line::ProgressLine;
-pub use unread::{announce_reading, explain_words};
-pub use waiting::{announce_rereading, announce_sync};

@@ -1,8 +1,8 @@
 //! The line that shows how far a run is.
 
 ghost use Rattle.std.specs.Prelude.{◌≡◌, ◌+◌, ◌^◌, ◌≤◌, ◌<◌, ◌++◌, length, decimal};
-ghost use Rattle.age_messages.specs.Lines.{percentage, measure_of, amount, padded, count_line, progress_line};
-ghost use Rattle.age_messages.specs.Lines.{mark, line_end, covering_end, line_step, line_share};
+ghost use Rattle.age_messages.specs.{percentage, measure_of, amount, padded, count_line, progress_line, mark};
+ghost use Rattle.age_messages.specs.{line_end, covering_end, line_step, line_share};
 
 use crate::line_style::LineStyle;
 use arrayvec::ArrayVec;

@@ -1,8 +1,8 @@
 //! A meter that shows how far a run is.
 
 ghost use Rattle.std.specs.Prelude.{◌≡◌, ◌+◌, None, Some, true, false, codes};
-ghost use Rattle.age_io.specs.Io.{with_more};
-ghost use Rattle.age_messages.specs.Lines.{progress_line, mark, first_mark, is_due, is_left, Shows};
+ghost use Rattle.age_io.specs.{with_more};
+ghost use Rattle.age_messages.specs.{progress_line, mark, first_mark, is_due, is_left, Shows};
 
 use crate::line::{line_of, mark_of};
 use crate::line_style::LineStyle;

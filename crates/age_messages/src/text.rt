@@ -2,8 +2,8 @@
 
 ghost use Rattle.std.specs.Prelude.{◌≡◌, ℕ, take, OnOk, OnErr};
 ghost use Rattle.age_io.specs.Taken.{Appends};
-ghost use Rattle.age_io.specs.Io.{one_more};
-ghost use Rattle.age_messages.specs.Lines.{Shows};
+ghost use Rattle.age_io.specs.{one_more};
+ghost use Rattle.age_messages.specs.{Shows};
 
 use age_io::{Failed, Sink};
 

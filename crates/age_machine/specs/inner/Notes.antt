@@ -1,5 +1,5 @@
 -- Which calls are noted. Private: no public contract cites this module.
-use Rattle.std.specs.Prelude.{List, ◌∷◌}
+use Rattle.std.specs.Prelude.{List, [], ◌∷◌}
 use Rattle.age_machine.specs.Calls.{FileCall, Made, Opened, Wrote, Cut, Broke, Measured, Synced, Unwaited}
 use Rattle.age_machine.specs.Calls.{Locked, Unlockable, Missing, Linked, Renamed, Removed}
 use Rattle.age_machine.specs.Calls.{SyncedNames, UnwaitedNames}
@@ -28,7 +28,8 @@ file_call_of (word.Removed path) = Removed path.now
 file_call_of (word.SyncedNames path) = SyncedNames path.now
 file_call_of (word.UnwaitedNames path) = UnwaitedNames path.now
 
--- the calls after a note
-abbrev pub calls_after : Note → List FileCall → List FileCall
-calls_after (note.Call word) calls = file_call_of word ∷ calls
-calls_after (note.All others) calls = others.now
+-- the calls that a note says
+abbrev pub calls_of : Note → List FileCall
+calls_of note.Nothing = []
+calls_of (note.All cell) = cell.now.calls
+calls_of (note.More cell word) = file_call_of word ∷ cell.now.calls

@@ -1,6 +1,6 @@
 -- What the steps of a replacement do. Private: no public contract cites this module.
 use Rattle.std.specs.Prelude.{◌≡◌, ◌≢◌, ◌⊎◌, ℕ, List, [], ◌∷◌, ◌++◌, take, drop, Bool, true, false, Some}
-use Rattle.std.specs.Prelude.{Contains}
+use Rattle.std.specs.Prelude.{Contains, Result, OnOk}
 use Rattle.age_io.specs.declared.durability.Durability.{Durability}
 use Rattle.age_io.specs.declared.durability.Durability.TheVariants as wait
 use Rattle.age_machine.specs.Calls.{FileCall, Removed, SyncedNames, UnwaitedNames, IsOf, MayHave, Waited}
@@ -42,9 +42,8 @@ pub record CutsOff (n len : ℕ) (old new : List FileCall) : Type 0 where
       → (after_calls new disk).bytes n ≡ take len ((after_calls old disk).bytes n)
 
 -- it holds these bytes, and a power cut leaves them
-pub record Has (n : ℕ) (text : List ℕ) (disk : Disk) : Type 0 where
-  pub bytes : disk.bytes n ≡ text
-  pub is_kept : disk.is_kept n ≡ true
+abbrev pub Has : ℕ → List ℕ → Disk → Type 0
+Has n text disk = (disk.bytes n ≡ text) × (disk.is_kept n ≡ true)
 
 -- a file of which no call has failed gets these bytes, which reach the disk
 pub record Fills (n : ℕ) (bytes : List ℕ) (old new : List FileCall) : Type 0 where
@@ -88,6 +87,13 @@ pub record HasTried (to : Spot) (durability : Durability) (path from : List ℕ)
   pub spares : to ≡ spot.Free → SparesFile path old calls
   pub saves : durability ≡ wait.Synced → SavesWhole path bytes old calls
 
+-- it is at the path by now, as `Done` says, or that was tried
+pub record HasPlaced {E : Type 0} (to : Spot) (durability : Durability) (path from : List ℕ) (n : ℕ)
+    (bytes : List ℕ) (Done : Type 0) (result : Result (Unit {0}) E) (old calls : List FileCall)
+    : Type 0 where
+  pub tried : HasTried to durability path from n bytes old calls
+  pub done : durability ≡ wait.Synced → OnOk result Done
+
 -- and before: beside the path is a file of these bytes, which a power cut leaves
 pub record IsReady (durability : Durability) (path from : List ℕ) (n : ℕ) (bytes : List ℕ)
     (old calls : List FileCall) : Type 0 where
@@ -96,3 +102,10 @@ pub record IsReady (durability : Durability) (path from : List ℕ) (n : ℕ) (b
   pub file : (disk : Disk) → AllAnswered path calls disk → (after_calls calls disk).file from ≡ Some n
   pub has : durability ≡ wait.Synced → (disk : Disk) → AllAnswered path calls disk
       → Has n bytes (after_calls calls disk)
+
+-- a file that is ready is put to the path
+abbrev pub Places : {E : Type 0} → Spot → (path from : List ℕ) → ℕ → Result (Unit {0}) E
+    → (before calls : List FileCall) → Type 0
+Places to path from n result before calls = (wanted : Durability) (bytes : List ℕ)
+    (old : List FileCall) → IsReady wanted path from n bytes old before
+    → HasPlaced to wanted path from n bytes (IsInPlace path n bytes calls) result old calls

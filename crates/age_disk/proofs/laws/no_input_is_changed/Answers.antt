@@ -1,11 +1,8 @@
 use Rattle.std.proofs.Common.{◌≡◌, ◌<◌, ◌^◌, List, Option, Some, sym, ◌∙◌, ap, subst}
 use Rattle.std.specs.Prelude.{Contains, IfSome}
-use Rattle.age_machine.specs.Laws.{NumbersAreApart}
-use Rattle.age_machine.specs.Numbers.{number_of}
-use Rattle.age_machine.specs.Outs.{OutFile}
+use Rattle.age_machine.specs.{NumbersAreApart, number_of, OutFile}
 use Rattle.age_machine.specs.declared.node.Node.{Node}
-use Rattle.age_disk.specs.Outputs.{OutputView, HasNode, IsApart}
-use Rattle.age_disk.specs.declared.names.FileId.{FileId}
+use Rattle.age_disk.specs.{OutputView, HasNode, IsApart, FileId}
 use Rattle.age_disk.specs.declared.names.FileId.TheVariants.{File}
 use Rattle.age_disk.proofs.laws.no_input_is_changed.Goals as goal
 

@@ -1,6 +1,6 @@
 use Rattle.std.proofs.Common.{Some, ap}
-use Rattle.age_machine.specs.Outs.{OutFile}
-use Rattle.age_disk.proofs.TargetLemmas.{file_closes}
+use Rattle.age_machine.specs.{OutFile}
+use Rattle.age_disk.proofs.{file_closes}
 use Rattle.age_disk.proofs.output.end_file.Goals as goal
 
 pub returns : goal.returns

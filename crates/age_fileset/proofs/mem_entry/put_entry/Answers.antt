@@ -1,7 +1,6 @@
 use Rattle.std.proofs.Common.{◌≡◌, ℕ, List, refl, rules, position, Some, None}
-use Rattle.age_fileset.specs.declared.mem_entry.MemEntry.{MemEntry}
-use Rattle.age_fileset.specs.FileSet.{has_name}
-use Rattle.age_fileset.proofs.EntryLemmas.{entry_of-set, entry_of-set-other, entry_of-push, entry_of-push-other, place_of_entry}
+use Rattle.age_fileset.specs.{MemEntry, has_name}
+use Rattle.age_fileset.proofs.{entry_of-set, entry_of-set-other, entry_of-push, entry_of-push-other, place_of_entry}
 use Rattle.age_fileset.proofs.mem_entry.put_entry.Goals as goal
 
 pub returns-in-Some-clause-puts : goal.returns-in-Some-clause-puts

@@ -1,5 +1,5 @@
 use Rattle.std.proofs.Common.{◌∙◌}
-use Rattle.age_machine.proofs.SaveLemmas.{beside_about, kept_made}
+use Rattle.age_machine.proofs.{beside_about, kept_made}
 use Rattle.age_machine.proofs.beside.prepare_beside.Goals as goal
 
 pub returns-in-Ok-keep_room : goal.returns-in-Ok-keep_room

@@ -1,5 +1,5 @@
 use Rattle.std.proofs.Common.{refl}
-use Rattle.age_machine.proofs.SaveLemmas.{about_first, about_waited}
+use Rattle.age_machine.proofs.{about_first, about_waited}
 use Rattle.age_machine.proofs.beside.settle.Goals as goal
 
 pub returns-in_err-sync-in-Synced-clause-about : goal.returns-in_err-sync-in-Synced-clause-about

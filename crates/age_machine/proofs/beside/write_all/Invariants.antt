@@ -1,5 +1,5 @@
 use Rattle.std.proofs.Common.{◌≡◌, ◌-◌, ◌≤◌, length}
-use Rattle.age_machine.specs.inner.Steps.{IsAbout, WritesOver}
+use Rattle.age_machine.specs.inner.{IsAbout, WritesOver}
 use Rattle.age_machine.proofs.beside.write_all.Given as goal
 
 abbrev pub invariant-parts : goal.invariant-parts

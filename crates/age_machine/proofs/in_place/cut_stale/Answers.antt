@@ -1,5 +1,5 @@
 use Rattle.std.proofs.Common.{refl}
-use Rattle.age_machine.proofs.OutLemmas.{held_one}
+use Rattle.age_machine.proofs.{held_one}
 use Rattle.age_machine.proofs.in_place.cut_stale.Goals as goal
 
 pub returns-in_err-cut-clause-held : goal.returns-in_err-cut-clause-held

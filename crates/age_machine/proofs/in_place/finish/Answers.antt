@@ -1,4 +1,4 @@
-use Rattle.age_machine.proofs.OutLemmas.{held_about, begun_settled, place_waited}
+use Rattle.age_machine.proofs.{held_about, begun_settled, place_waited}
 use Rattle.age_machine.proofs.in_place.finish.Goals as goal
 
 pub returns-in_err-settle-clause-held : goal.returns-in_err-settle-clause-held

@@ -1,4 +1,4 @@
-use Rattle.age_machine.proofs.LawLemmas.{outs_answered}
+use Rattle.age_machine.proofs.{outs_answered}
 use Rattle.age_machine.proofs.laws.outs_are_answered.Goals as goal
 
 pub returns : goal.returns

@@ -1,4 +1,4 @@
-use Rattle.age_machine.proofs.OutLemmas.{second_unchanged}
+use Rattle.age_machine.proofs.{second_unchanged}
 use Rattle.age_machine.proofs.laws.second_run_changes_nothing.Goals as goal
 
 pub returns : goal.returns

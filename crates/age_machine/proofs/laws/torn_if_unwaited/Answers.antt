@@ -1,4 +1,4 @@
-use Rattle.age_machine.proofs.LawLemmas.{unwaited}
+use Rattle.age_machine.proofs.{unwaited}
 use Rattle.age_machine.proofs.laws.torn_if_unwaited.Goals as goal
 
 pub returns : goal.returns

@@ -1,4 +1,4 @@
-use Rattle.age_machine.proofs.LawLemmas.{both_answered}
+use Rattle.age_machine.proofs.{both_answered}
 use Rattle.age_machine.proofs.laws.waits_are_answered.Goals as goal
 
 pub returns : goal.returns

@@ -1,5 +1,5 @@
 use Rattle.std.proofs.Common.{refl}
-use Rattle.age_machine.proofs.SaveLemmas.{about_first, about_more}
+use Rattle.age_machine.proofs.{about_first, about_more}
 use Rattle.age_machine.proofs.replacing.cut_off.Goals as goal
 
 pub returns-then-shown-len-clause-about : goal.returns-then-shown-len-clause-about

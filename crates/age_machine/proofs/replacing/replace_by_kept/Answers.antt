@@ -1,10 +1,10 @@
-use Rattle.age_machine.proofs.SaveLemmas.{beside_about, replaces_tried, replaces_again, tried_beside, tried_removed, ready_filled}
+use Rattle.age_machine.proofs.{beside_about, replaces_placed, replaces_again, tried_beside, tried_removed, ready_filled}
 use Rattle.age_machine.proofs.replacing.replace_by_kept.Goals as goal
 
 pub returns-in-Ok-clause-replaces : goal.returns-in-Ok-clause-replaces
 returns-in-Ok-clause-replaces g c =
-    λ old kept. let ready = ready_filled _ _ _ _ old _ _ _ kept c.fill.ensures.about c.in-Ok.ensures.filled in
-    replaces_tried _ _ _ _ old _ _ _ _ (c.place.ensures.tried _ old ready) (λ synced. c.place.ensures.safe synced _ old (rw synced at ready))
+    λ old kept. replaces_placed _ _ _ _ old _ _ _ _ (c.place.ensures.placed _ old (ready_filled _ _ _ _ old _ _ _ kept c.fill.ensures.about
+    c.in-Ok.ensures.filled))
 
 pub returns-then-not-is_at-clause-replaces : goal.returns-then-not-is_at-clause-replaces
 returns-then-not-is_at-clause-replaces g c =

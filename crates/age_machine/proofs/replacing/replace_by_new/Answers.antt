@@ -1,4 +1,4 @@
-use Rattle.age_machine.proofs.SaveLemmas.{kept_made, replaces_none}
+use Rattle.age_machine.proofs.{kept_made, replaces_none}
 use Rattle.age_machine.proofs.replacing.replace_by_new.Goals as goal
 
 pub returns-in-Ok-clause-replaces : goal.returns-in-Ok-clause-replaces

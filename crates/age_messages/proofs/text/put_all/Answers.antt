@@ -1,7 +1,7 @@
 use Rattle.std.proofs.Common.{◌≡◌, ◌+◌, ◌-◌, length, take, drop, sym, ap, subst, ◌∙◌, arith, take-add, ◌++◌, List, ℕ}
 use Rattle.std.proofs.lemmas.List.{take_rest}
 use Rattle.age_io.specs.Taken.{Appends}
-use Rattle.age_io.proofs.TakenLemmas.{Appends-trans}
+use Rattle.age_io.proofs.{Appends-trans}
 use Rattle.age_messages.proofs.text.put_all.Goals as goal
 
 pub loop-at-preserved : goal.loop-at-preserved

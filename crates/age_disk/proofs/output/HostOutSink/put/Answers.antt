@@ -1,4 +1,4 @@
-use Rattle.age_disk.proofs.TargetLemmas.{noted_well, taking_put, node_put}
+use Rattle.age_disk.proofs.{noted_well, taking_put, node_put}
 use Rattle.age_disk.proofs.output.HostOutSink.put.Goals as goal
 
 pub invariant_of-self : goal.invariant_of-self

@@ -1,6 +1,6 @@
 use Rattle.std.proofs.Common.{ap, refl}
-use Rattle.age_fileset.specs.FileSet.{Doings}
-use Rattle.age_fileset.proofs.ShelfLemmas.{kept_one}
+use Rattle.age_fileset.specs.{Doings}
+use Rattle.age_fileset.proofs.{kept_one}
 use Rattle.age_fileset.proofs.mem_files.MemFiles.log_reading.Goals as goal
 
 pub invariant_of-self : goal.invariant_of-self

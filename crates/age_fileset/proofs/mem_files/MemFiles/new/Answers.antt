@@ -1,4 +1,4 @@
-use Rattle.age_fileset.proofs.ShelfLemmas.{kept_at_first}
+use Rattle.age_fileset.proofs.{kept_at_first}
 use Rattle.age_fileset.proofs.mem_files.MemFiles.new.Goals as goal
 
 pub invariant_of-result : goal.invariant_of-result

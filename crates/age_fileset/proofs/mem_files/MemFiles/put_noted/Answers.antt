@@ -1,6 +1,6 @@
 use Rattle.std.proofs.Common.{rules, ap}
-use Rattle.age_fileset.specs.FileSet.{Doings}
-use Rattle.age_fileset.proofs.ShelfLemmas.{kept_then}
+use Rattle.age_fileset.specs.{Doings}
+use Rattle.age_fileset.proofs.{kept_then}
 use Rattle.age_fileset.proofs.mem_files.MemFiles.put_noted.Goals as goal
 
 pub invariant_of-self-2 : goal.invariant_of-self-2

@@ -1,6 +1,6 @@
 use Rattle.std.proofs.Common.{rules, refl}
-use Rattle.age_fileset.specs.FileSet.{Unwritten}
-use Rattle.age_fileset.proofs.ShelfLemmas.{kept_one}
+use Rattle.age_fileset.specs.{Unwritten}
+use Rattle.age_fileset.proofs.{kept_one}
 use Rattle.age_fileset.proofs.mem_files.MemFilesFileSet.close.Goals as goal
 
 pub invariant_of-self-in-Err : goal.invariant_of-self-in-Err

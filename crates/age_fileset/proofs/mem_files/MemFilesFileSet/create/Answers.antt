@@ -1,5 +1,5 @@
 use Rattle.std.proofs.Common.{rules}
-use Rattle.age_fileset.proofs.ShelfLemmas.{kept_refused}
+use Rattle.age_fileset.proofs.{kept_refused}
 use Rattle.age_fileset.proofs.mem_files.MemFilesFileSet.create.Goals as goal
 
 pub invariant_of-self : goal.invariant_of-self

@@ -1,6 +1,6 @@
 use Rattle.std.proofs.Common.{rules, refl}
-use Rattle.age_fileset.specs.FileSet.{Unwritten, Absent}
-use Rattle.age_fileset.proofs.ShelfLemmas.{kept_refused, kept_one}
+use Rattle.age_fileset.specs.{Unwritten, Absent}
+use Rattle.age_fileset.proofs.{kept_refused, kept_one}
 use Rattle.age_fileset.proofs.mem_files.MemFilesFileSet.create_new.Goals as goal
 
 pub invariant_of-self-then-is_some : goal.invariant_of-self-then-is_some

@@ -1,6 +1,6 @@
 use Rattle.std.proofs.Common.{rules, refl, Some, length}
-use Rattle.age_fileset.specs.FileSet.{FoundOrEmpty}
-use Rattle.age_fileset.proofs.ShelfLemmas.{kept_one}
+use Rattle.age_fileset.specs.{FoundOrEmpty}
+use Rattle.age_fileset.proofs.{kept_one}
 use Rattle.age_fileset.proofs.mem_files.MemFilesFileSet.open_or_empty.Goals as goal
 
 pub invariant_of-self-2 : goal.invariant_of-self-2

@@ -1,6 +1,6 @@
 use Rattle.std.proofs.Common.{rules, refl, Some, length}
-use Rattle.age_fileset.specs.FileSet.{Found}
-use Rattle.age_fileset.proofs.ShelfLemmas.{kept_one}
+use Rattle.age_fileset.specs.{Found}
+use Rattle.age_fileset.proofs.{kept_one}
 use Rattle.age_fileset.proofs.mem_files.MemFilesFileSet.reread.Goals as goal
 
 pub invariant_of-self : goal.invariant_of-self

@@ -1,6 +1,6 @@
 use Rattle.std.proofs.Common.{◌<◌, false, length, ap, arith, ◌∙◌, sym}
-use Rattle.age_machine.specs.Outs.{text_of}
-use Rattle.age_machine.proofs.OutLemmas.{out_after}
+use Rattle.age_machine.specs.{text_of}
+use Rattle.age_machine.proofs.{out_after}
 use Rattle.age_machine.proofs.in_place.Out.cut_first.Goals as goal
 
 pub invariant_of-self : goal.invariant_of-self

@@ -1,5 +1,5 @@
 use Rattle.std.proofs.Common.{refl}
-use Rattle.age_machine.proofs.OutLemmas.{touches_removed, saves_discarded, touches_now}
+use Rattle.age_machine.proofs.{touches_removed, saves_discarded, touches_now}
 use Rattle.age_machine.proofs.in_place.Out.discard.Goals as goal
 
 pub returns-clause-kept : goal.returns-clause-kept

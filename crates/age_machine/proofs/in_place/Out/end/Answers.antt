@@ -1,8 +1,7 @@
 use Rattle.std.proofs.Common.{◌∙◌, length, refl, ap, sym}
 use Rattle.std.proofs.lemmas.Result.{on_ok_weaker}
-use Rattle.age_machine.specs.Outs.{OutView, text_of}
-use Rattle.age_machine.proofs.SaveLemmas.{safe_named}
-use Rattle.age_machine.proofs.OutLemmas.{leads_begun, out_held, touches_held, touches_now, waited_for}
+use Rattle.age_machine.specs.{OutView, text_of}
+use Rattle.age_machine.proofs.{safe_named, leads_begun, out_held, touches_held, touches_now, waited_for}
 use Rattle.age_machine.proofs.in_place.Out.end.Goals as goal
 
 pub returns-in-Ok-clause-safe : goal.returns-in-Ok-clause-safe

@@ -1,5 +1,5 @@
 use Rattle.std.proofs.Common.{◌<◌, arith}
-use Rattle.age_machine.proofs.OutLemmas.{some_claimed, out_waited, out_broke}
+use Rattle.age_machine.proofs.{some_claimed, out_waited, out_broke}
 use Rattle.age_machine.proofs.in_place.Out.reach.Goals as goal
 
 pub invariant_of-self : goal.invariant_of-self

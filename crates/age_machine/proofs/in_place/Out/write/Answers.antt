@@ -1,6 +1,6 @@
 use Rattle.std.proofs.Common.{◌≡◌, ◌<◌, ◌+◌, ℕ, length, take, arith, ap, sym}
 use Rattle.std.proofs.lemmas.List.{length-take-le}
-use Rattle.age_machine.proofs.OutLemmas.{out_wrote, out_broke}
+use Rattle.age_machine.proofs.{out_wrote, out_broke}
 use Rattle.age_machine.proofs.in_place.Out.write.Goals as goal
 
 pub invariant_of-self-2 : goal.invariant_of-self-2

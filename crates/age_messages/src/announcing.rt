@@ -1,0 +1,70 @@
+//! What people read if a command line says too little, or can't be read, and while a run does something
+//! that may take long.
+
+use crate::escaped::Escaped;
+use crate::failures::Failures;
+use crate::line::size_line;
+use std::env::{Env, FillError};
+use std::io::{Eprint, IsTerminal};
+use std::rt::HostRuntime;
+
+/// How many bytes of a word are looked at.
+const WORD_MAX: usize = 8192;
+
+/// From how many bytes on what is done with them takes long.
+const LONG: u64 = 64 << 20;
+
+/// Says on standard error which word of the command line isn't UTF-8. One that is longer than any
+/// path isn't shown.
+pub fn explain_words(rt: &HostRuntime) {
+    let mut word = [0; WORD_MAX];
+    for i in 1..=u16::MAX {
+        match rt.arg(i as usize, &mut word) {
+            Ok(n) if show_unread(rt, &word[..n]) => return,
+            Err(FillError::NotPresent) => return,
+            _ => {}
+        }
+    }
+}
+
+/// Says that a word isn't UTF-8, if so.
+fn show_unread(rt: &HostRuntime, word: &[u8]) -> bool {
+    if str::from_utf8(word).is_ok() {
+        return false;
+    }
+    let word = Escaped(word);
+    let _ = eprintln!(rt; "age_tool: {word} isn't UTF-8, as a name must be");
+    true
+}
+
+/// Says at a terminal that a header is read from there, and where to find help.
+pub fn announce_reading(rt: &HostRuntime) {
+    if rt.stdin().is_terminal() {
+        let _ = eprintln!(rt;
+            "age_tool: reading a header from standard input; for help, age_tool --help"
+        );
+    }
+}
+
+/// Says that a file is read once more to find the position of a stop, and how much of it, if that is
+/// much.
+pub fn announce_rereading(rt: &HostRuntime, failures: &Failures<'_>) {
+    let last = failures.last_read();
+    if last.bytes >= LONG {
+        let name = Escaped(last.name.as_bytes());
+        let size = size_line(last.bytes);
+        if let Ok(size) = str::from_utf8(size.as_slice()) {
+            let _ = eprintln!(rt;
+                "age_tool: reading {name} again ({size}) to find the position: \
+                 if the run is killed now, none is saved"
+            );
+        }
+    }
+}
+
+/// Says at a terminal that a run waits until what it wrote has reached the disk, if that is much.
+pub fn announce_sync(rt: &HostRuntime, failures: &Failures<'_>) {
+    if failures.last_read().bytes >= LONG && rt.stderr().is_terminal() {
+        let _ = eprintln!(rt; "age_tool: waiting for the disk");
+    }
+}
