@@ -4,7 +4,7 @@ use Rattle.std.specs.Prelude.{Bool, true, get_or, ◌+◌, ◌++◌, length, Res
 use Rattle.age_stanza.specs.Parsing as head
 use Rattle.age_chunk.specs.Payload as stream
 use Rattle.age_keys.specs.Keys as key
-use Rattle.age_io.specs.Io.{one_more, SinkView}
+use Rattle.age_io.specs.{one_more, SinkView}
 use Rattle.age_io.specs.Taken.{Appends}
 use Rattle.age_fault.specs.declared.fault.FileFault.{FileFault}
 use Rattle.age_fault.specs.declared.fault.FileFault.TheVariants.{Head, Key, NonceCut, Stream, BadPosition}

@@ -3,10 +3,10 @@
 ghost use Rattle.std.specs.Prelude.{◌≡◌};
 ghost use Rattle.age_fault.specs.declared.fault.FileFault.TheVariants.{Stream, Memory as MemoryFault};
 ghost use Rattle.age_fault.specs.Faults.{fault_number, fault_place, name_of, name_by};
-ghost use Rattle.age_stanza.specs.Parsing.{head_fault_number};
-ghost use Rattle.age_keys.specs.Keys.{key_fault_number};
-ghost use Rattle.age_chunk.specs.Payload.{stream_fault_number};
-ghost use Rattle.age_fault.specs.inner.Faults.{fault_of, fault_of_key};
+ghost use Rattle.age_stanza.specs.{head_fault_number};
+ghost use Rattle.age_keys.specs.{key_fault_number};
+ghost use Rattle.age_chunk.specs.{stream_fault_number};
+ghost use Rattle.age_fault.specs.inner.{fault_of, fault_of_key};
 
 use age_chunk::{StreamFault, StreamKind};
 use age_io::Memory;

@@ -2,7 +2,7 @@
 
 ghost use Rattle.std.specs.Prelude.{◌≡◌, ◌+◌, ◌^◌, ◌<◌, length, IfErr, OnOk, MatchResult, true};
 ghost use Rattle.age_io.specs.Taken.{Keeps};
-ghost use Rattle.age_fault.specs.Faults.{HasFailed, Writes};
+ghost use Rattle.age_fault.specs.{HasFailed, Writes};
 ghost use Rattle.age_fault.specs.declared.fault.FileFault.TheVariants.{Write};
 
 use crate::fault::FileFault;

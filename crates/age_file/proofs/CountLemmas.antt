@@ -1,48 +1,32 @@
 -- Counting the chunks that were written, and writing what an opener releases, one step after another.
-use Rattle.std.proofs.Common.{inl, inr, ◌≡◌, ℕ, ◌+◌, ◌-◌, ◌*◌, ◌/◌, ◌<◌, ◌≤◌, min, List, [], ◌∷◌, ◌++◌, length, take, drop, Option, Some, refl, sym, ap, ◌∙◌, arith}
-use Rattle.std.proofs.Common.{append-nil, append_assoc, false, replicate, None, subst}
+use Rattle.std.proofs.lemmas.Grind.{common_steps, flat_map-append, fold-append}
+use Rattle.std.proofs.Common.{inl, inr, ◌≡◌, ℕ, ◌+◌, ◌-◌, ◌*◌, ◌/◌, ◌<◌, ◌≤◌, min, List, [], ◌∷◌, ◌++◌, length, take, drop, Option, Some, refl, sym, ap, ◌∙◌}
+use Rattle.std.proofs.Common.{arith, append-nil, append_assoc, false, replicate, None, subst, true}
 use Rattle.std.specs.Prelude.{◌⊎◌, IfSome, IfNone}
 use Rattle.std.specs.Simd.{first_chunks}
 use Rattle.std.specs.List.{flat_map}
-use Rattle.std.proofs.lemmas.Grind.{flat_map-append, fold-append}
 use Rattle.std.proofs.lemmas.List.{length-append, length-take, take_all}
 use Rattle.std.proofs.lemmas.Bool.{cases_lt}
 use Rattle.std.proofs.Math.Nat.{le-div_iff_mul-le}
-use Rattle.age_chunk.specs.ChunkBoxes.{IsChunkBox, tag_length}
-use Rattle.age_stream.specs.Segment.{Segment, Outcome, outcome, released, with_piece, with_end, fresh}
-use Rattle.age_stream.specs.Laws.{counted_chunks}
+use Rattle.age_chunk.specs.{IsChunkBox, tag_length}
+use Rattle.age_stream.specs.Segment.{Segment}
+use Rattle.age_stream.specs.{Outcome, outcome, released, with_piece, with_end, fresh, counted_chunks, OpenerView, Stands, chunk_texts, chunk_bytes}
 use Rattle.age_stream.specs.declared.step.Status.{Status}
 use Rattle.age_stream.specs.declared.step.Status.TheVariants.{Open}
-use Rattle.age_stream.proofs.LawLemmas.{chunks_are_counted, closed_stays, end_closes, fresh_is_open, released_grows, pieces_join}
-use Rattle.age_stream.proofs.SegmentLemmas.{piece_start}
-use Rattle.age_chunk.proofs.FirstChunkLemmas.{first_chunks-append, length-first_chunks}
-use Rattle.age_file.specs.Bindings.{link, chain}
-use Rattle.age_file.specs.inner.Parts.{link_if, chain_if}
-use Rattle.age_file.specs.declared.position.PositionPolicy.{PositionPolicy}
-use Rattle.age_file.specs.declared.position.PositionPolicy.TheVariants.{Kept, Dropped}
-use Rattle.age_file.specs.inner.Payloads.{AdvancesTally, CountsChunks, HasCounted, Releases}
-use Rattle.age_stream.proofs.ReplayLemmas.{lent_flat}
-use Rattle.age_stream.proofs.GoingLemmas.{nothing}
-use Rattle.age_stream.proofs.SealerLemmas.{take_on}
-use Rattle.age_file.specs.declared.tally.Tally.{Tally}
+use Rattle.age_stream.proofs.LawLemmas.{closed_stays, end_closes}
+use Rattle.age_stream.proofs.GoingLemmas.{is_counted as chunks_are_counted, fresh_outcome as fresh_is_open, released_grows}
+use Rattle.age_stream.proofs.{piece_start, nothing}
+use Rattle.age_chunk.proofs.{first_chunks-append, length-first_chunks}
+use Rattle.age_file.specs.{link, chain, PositionPolicy, Kept, Dropped, Tally}
+use Rattle.age_file.specs.inner.{link_if, chain_if, AdvancesTally, CountsChunks, HasCounted, HasReleased, WriterView, Wrote, segment}
 use Rattle.std.specs.Borrow.{Bor}
 use Rattle.age_file.proofs.ReadLemmas.{wrote_none, wrote_then}
-use Rattle.age_stream.specs.Opener.{OpenerView, Stands, chunk_texts, chunk_bytes}
-use Rattle.age_file.specs.inner.Readers.{WriterView, Wrote}
 
 -- ---- Counting the chunks that were written, one step after another. A chunk has n bytes.
 
 -- a quotient that is met from below, or is the lesser of the two
 min_is : (x n i j : ℕ) → 0 < n → i * n ≤ x → i ≤ j → (x < (i + 1) * n) ⊎ (j ≡ i) → i ≡ min (x / n) j
-min_is x n i j positive low le (inl high) =
-    let below : i ≤ x / n = (le-div_iff_mul-le positive).1 low in
-    elim (cases_lt (x / n) (i + 1)) [
-      | inl lt ↦ omega (arith, lt, below, le)
-      | inr past ↦ (let m : (i + 1) * n ≤ x = (le-div_iff_mul-le positive).0 past in absurd (omega (arith, m, high)))
-    ]
-min_is x n i j positive low le (inr same) =
-    let below : i ≤ x / n = (le-div_iff_mul-le positive).1 low in
-    omega (arith, below, same)
+min_is x n i j h0 h1 h2 h3 = grind (arith, common_steps, cases_lt, le-div_iff_mul-le)
 
 -- no bytes
 pub no_piece : (s : Segment) → with_piece s [] ≡ s
@@ -73,21 +57,12 @@ module _ (sealing : List ℕ → List ℕ → List ℕ) (opening : List ℕ → 
   -- open segments have released whole chunks alone
   open_text : (base : List ℕ) (s : Segment) → length base ≡ s.start * n → counted_chunks opening n s ≡ (outcome opening n s).texts
       → length (base ++ released opening n s) ≡ at s * n
-  open_text base s len all =
-      let c = chunks_are_counted sealing opening valid n base s len in
-      let text = base ++ released opening n s in
-      let e : text ≡ take (at s * n) text = ap (λ (ts : List (List ℕ)). base ++ flat_map (λ (t : List ℕ). t) ts) (sym all) ∙ c.join in
-      omega (arith, ap length e, length-take (at s * n) text, c.within)
+  open_text base s len all = grind (arith, common_steps, chunks_are_counted, length-take)
 
   -- all chunks of their text: those of what was there before, and those that were released
   open_chunks : (base : List ℕ) (s : Segment) → length base ≡ s.start * n → counted_chunks opening n s ≡ (outcome opening n s).texts
       → first_chunks n (at s) (base ++ released opening n s) ≡ first_chunks n s.start base ++ (outcome opening n s).texts
-  open_chunks base s len all =
-      let c = chunks_are_counted sealing opening valid n base s len in
-      let texts = (outcome opening n s).texts in
-      let front = first_chunks n s.start base in
-      c.chunks (at s) (omega arith) ∙ (ap (λ (xs : List (List ℕ)). take (at s) (front ++ xs)) all
-      ∙ take_all (at s) (front ++ texts) (omega (arith, length-append front texts, length-first_chunks n s.start base, c.count, ap length all)))
+  open_chunks base s len all = grind (arith, common_steps, chunks_are_counted, length-append, length-first_chunks, take_all)
 
   -- how many texts were released, by the index
   texts_len : (base : List ℕ) (s : Segment) → length base ≡ s.start * n → at s ≤ s.start + length (outcome opening n s).texts
@@ -105,21 +80,25 @@ module _ (sealing : List ℕ → List ℕ → List ℕ) (opening : List ℕ → 
     by_status Open e = inl e
     by_status other e = inr (λ more. let after = (closed_stays opening n s timely (λ o. cc)).0 more in (after.index, after.texts))
 
-  -- all was written
-  pub mark_all : (base : List ℕ) (s : Segment) (p : Tally) → length base ≡ s.start * n → IsTimely s → p.index ≡ at s → p.chain
-      ≡ chain_if keep (first_chunks n p.index (base ++ released opening n s)) → CountsChunks keep opening n base s [] p
-  mark_all base s p len timely index chain_is =
+  -- by the length of its text, with any bytes after it
+  pub index_is : (base : List ℕ) (s : Segment) (more : List ℕ) → length base ≡ s.start * n → IsTimely s
+      → at s ≡ min (length (base ++ released opening n s) / n) (at (with_piece s more))
+  index_is base s more len timely =
       let text = base ++ released opening n s in
       let c = chunks_are_counted sealing opening valid n base s len in
-      let x : length text - 0 ≡ length text = omega arith in
+      let side : (length text < (at s + 1) * n) ⊎ (at (with_piece s more) ≡ at s) = elim (stays s timely) [
+        | inl o ↦ (let e : (at s + 1) * n ≡ at s * n + n = omega arith in inl (omega (arith, open_text base s len (c.all o), e, positive)))
+        | inr same ↦ inr (same more).0
+      ] in
+      min_is (length text) n (at s) (at (with_piece s more)) positive c.within (index_stays s more timely) side
+
+  -- all was written
+  mark_all : (base : List ℕ) (s : Segment) (p : Tally) → length base ≡ s.start * n → IsTimely s → p.index ≡ at s → p.chain
+      ≡ chain_if keep (first_chunks n p.index (base ++ released opening n s)) → CountsChunks keep opening n base s [] p
+  mark_all base s p len timely index chain_is =
+      let x : length (base ++ released opening n s) - 0 ≡ length (base ++ released opening n s) = omega arith in
       record {
-        index = λ more.
-            let side : (length text < (at s + 1) * n) ⊎ (at (with_piece s more) ≡ at s) = elim (stays s timely) [
-              | inl o ↦ (let e : (at s + 1) * n ≡ at s * n + n = omega arith in inl (omega (arith, open_text base s len (c.all o), e, positive)))
-              | inr same ↦ inr (same more).0
-            ] in
-            index ∙ (min_is (length text) n (at s) (at (with_piece s more)) positive c.within (index_stays s more timely) side
-            ∙ ap (λ (k : ℕ). min (k / n) (at (with_piece s more))) (sym x));
+        index = λ more. index ∙ index_is base s more len timely ∙ ap (λ (k : ℕ). min (k / n) (at (with_piece s more))) (sym x);
         chain_is = chain_is;
       }
 
@@ -140,8 +119,7 @@ module _ (sealing : List ℕ → List ℕ → List ℕ) (opening : List ℕ → 
       ≡ first_chunks n (at s) (base ++ released opening n s)
   front_stays base s next more len e =
       let c = chunks_are_counted sealing opening valid n base s len in
-      ap (λ (t : List ℕ). first_chunks n (at s) (base ++ t)) e ∙ (ap (first_chunks n (at s)) (sym (append_assoc base (released opening n s) more))
-      ∙ first_chunks-append n (at s) (base ++ released opening n s) more c.within)
+      rw (e, ← append_assoc base (released opening n s) more) (first_chunks-append n (at s) (base ++ released opening n s) more c.within)
 
   -- texts of the piece that came
   record IsMore (s : Segment) (piece : List ℕ) (ts : List (List ℕ)) : Type 0 where
@@ -198,9 +176,7 @@ module _ (sealing : List ℕ → List ℕ → List ℕ) (opening : List ℕ → 
       → now.chain ≡ was.chain → CountsChunks keep opening n base s [] was
       → now.chain ≡ chain_if keep (first_chunks n now.index (base ++ released opening n next))
   chain_stays base s next more was now len e old index chain_same m =
-      chain_same ∙ (m.chain_is ∙ (ap (λ (k : ℕ). chain_if keep (first_chunks n k (base ++ released opening n s))) old
-      ∙ (ap (chain_if keep) (sym (front_stays base s next more len e))
-      ∙ ap (λ (k : ℕ). chain_if keep (first_chunks n k (base ++ released opening n next))) (sym (index ∙ old)))))
+      rw (index, old, front_stays base s next more len e) (rw old at (chain_same ∙ m.chain_is))
 
   one_text : (ts : List (List ℕ)) → length ts ≡ 1 → ts ≡ flat_map (λ (t : List ℕ). t) ts ∷ []
   one_text [] e = absurd (omega (arith, e))
@@ -228,9 +204,7 @@ module _ (sealing : List ℕ → List ℕ → List ℕ) (opening : List ℕ → 
             ≡ first_chunks n was.index (base ++ released opening n s) ++ chunk ∷ [] =
             r.chunks ∙ (ap (λ (k : ℕ). first_chunks n k (base ++ released opening n s) ++ ts) (sym old)
             ∙ ap (λ (xs : List (List ℕ)). first_chunks n was.index (base ++ released opening n s) ++ xs) (one_text ts r.one)) in
-            mark_all base next now len' timely' (f.0 ∙ is) (f.1 ∙ (ap (λ (l : Option (List ℕ)). link_if l chunk) m.chain_is
-            ∙ (sym (chain_if_on keep (first_chunks n was.index (base ++ released opening n s)) chunk) ∙ (ap (chain_if keep) (sym e) ∙ ap
-            (λ (k : ℕ). chain_if keep (first_chunks n k (base ++ released opening n next))) (sym (f.0 ∙ is)))))))
+            mark_all base next now len' timely' (f.0 ∙ is) (rw (f.0, is, e, chain_if_on) (rw m.chain_is at f.1)))
         | inr le ↦
             (let same : at next ≡ at s = omega (arith, le, grown) in
             let f = a.still (omega (arith, old, is, same)) in
@@ -329,160 +303,110 @@ module _ (sealing : List ℕ → List ℕ → List ℕ) (opening : List ℕ → 
   -- before any byte
   pub mark_fresh : (base : List ℕ) (k : ℕ) (p : Tally) → length base ≡ k * n → p.index ≡ k → p.chain ≡ chain_if keep (first_chunks n k base)
       → CountsChunks keep opening n base (fresh k) [] p
-  mark_fresh base k p len index chain_is =
-      let none : released opening n (fresh k) ≡ [] = ap (λ (o : Outcome). flat_map (λ (t : List ℕ). t) o.texts) (fresh_is_open opening n k) in
-      let same : base ≡ base ++ released opening n (fresh k) = sym (ap (λ (t : List ℕ). base ++ t) none ∙ append-nil base) in
-      mark_all base (fresh k) p len (λ _. refl) (index ∙ sym (ap (λ (o : Outcome). o.index) (fresh_is_open opening n k)))
-      (chain_is ∙ (ap (λ (t : List ℕ). chain_if keep (first_chunks n k t)) same
-      ∙ ap (λ (i : ℕ). chain_if keep (first_chunks n i (base ++ released opening n (fresh k)))) (sym index)))
+  mark_fresh base k p len index chain_is = grind (arith, common_steps, append-nil, fresh_is_open, mark_all)
 
   -- and at the end of a run, with bytes after it that were not fed
   pub marked : (base : List ℕ) (s last : Segment) (more out unwritten : List ℕ) (p : Tally) → with_piece s more ≡ last → released opening n s
       ≡ out ++ unwritten → CountsChunks keep opening n base s unwritten p → HasCounted keep opening n (base ++ out) last p
   marked base s last more out unwritten p is parts m =
-      let text = base ++ out in
-      let left : length (base ++ released opening n s) - length unwritten ≡ length text = omega (arith, length-append {A = ℕ}, ap length parts) in
-      let e : p.index ≡ min (length text / n) (at last) = m.index more
-      ∙ (ap (λ (t : Segment). min ((length (base ++ released opening n s) - length unwritten) / n) (at t)) is
-      ∙ ap (λ (k : ℕ). min (k / n) (at last)) left) in
-      let le : p.index ≤ length text / n = omega (arith, e) in
-      let within : p.index * n ≤ length text = (le-div_iff_mul-le positive).0 le in
-      record {
-        index = e;
-        chain_is = m.chain_is ∙ ap (chain_if keep) (ap (λ (t : List ℕ). first_chunks n p.index (base ++ t)) parts
-            ∙ (ap (first_chunks n p.index) (sym (append_assoc base out unwritten)) ∙ first_chunks-append n p.index text unwritten within));
-      }
+      grind (arith, common_steps, append_assoc, first_chunks-append, le-div_iff_mul-le, length-append)
 
 -- ---- Feeding an opener and writing what it releases, one call after another.
 
 -- a chunk is one text at most
-chunk_few : (chunk : Option (Bor (List ℕ))) → length (chunk_texts chunk) ≤ 1
+pub chunk_few : (chunk : Option (Bor (List ℕ))) → length (chunk_texts chunk) ≤ 1
 chunk_few None = omega arith
 chunk_few (Some chunk) = omega arith
 
--- more texts are more text
-pub more_text : (op : List ℕ → List ℕ → Option (List ℕ)) (n : ℕ) (s next : Segment) (ts : List (List ℕ)) (text : List ℕ)
-    → (outcome op n next).texts ≡ (outcome op n s).texts ++ ts → flat_map (λ (t : List ℕ). t) ts ≡ text → released op n next ≡ released op n s ++ text
-more_text op n s next ts text e f =
-    ap (flat_map (λ (t : List ℕ). t)) e ∙ (flat_map-append (λ (t : List ℕ). t) (outcome op n s).texts ts
-    ∙ ap (λ (x : List ℕ). released op n s ++ x) f)
-
-module _ {B : Type 0} (opening : B → List ℕ → List ℕ → Option (List ℕ)) (n : ℕ) where
-  pub releases_none : (o : OpenerView B) (was : WriterView) → Releases opening n (λ s. with_piece s []) o o was was []
-  releases_none o was =
-      record {
-        out = [];
-        key = refl;
-        wrote = wrote_none was;
-        stands = λ s h. subst (Stands opening n o) (sym (no_piece s)) h;
-        text = λ s h. ap (released (opening o.key) n) (no_piece s) ∙ sym (append-nil (released (opening o.key) n s));
-        counts = λ keep positive s base len h m. subst (λ (t : Segment). CountsChunks keep (opening o.key) n base t [] was.tally)
-            (sym (no_piece s)) m;
-      }
-
-  -- a step, and then a step to any next segment
-  pub releases_next : (a : List ℕ) (next next' : Segment → Segment) {old mid new : OpenerView B} {was between now : WriterView} {unwritten : List ℕ}
-      → ((s : Segment) → next (with_piece s a) ≡ next' s) → Releases opening n (λ s. with_piece s a) old mid was between []
-      → Releases opening n next mid new between now unwritten → Releases opening n next' old new was now unwritten
-  releases_next a next next' {old} {mid} {new} {was} {between} {now} {unwritten} same p q =
-      let op = opening old.key in
-      record {
-        out = p.out ++ q.out;
-        key = q.key ∙ p.key;
-        wrote = wrote_then p.wrote q.wrote;
-        stands = λ s h. subst (Stands opening n new) (same s) (q.stands (with_piece s a) (p.stands s h));
-        text = λ s h.
-            let r = released op n s in
-            let t : released op n (next (with_piece s a)) ≡ released op n (with_piece s a) ++ (q.out ++ unwritten) =
-            subst (λ k. released (opening k) n (next (with_piece s a)) ≡ released (opening k) n (with_piece s a) ++ (q.out ++ unwritten)) p.key
-            (q.text (with_piece s a) (p.stands s h)) in
-            let u : released op n (with_piece s a) ≡ r ++ p.out = p.text s h ∙ ap (λ (x : List ℕ). r ++ x) (append-nil p.out) in
-            ap (released op n) (sym (same s)) ∙ (t ∙ (ap (λ (x : List ℕ). x ++ (q.out ++ unwritten)) u ∙ (append_assoc r p.out (q.out ++ unwritten)
-            ∙ ap (λ (x : List ℕ). r ++ x) (sym (append_assoc p.out q.out unwritten)))));
-        counts = λ keep positive s base len h m.
-            let len' : length base ≡ (with_piece s a).start * n = len ∙ ap (λ (k : ℕ). k * n) (sym (piece_start s a)) in
-            let first = subst (λ k. CountsChunks keep (opening k) n base (with_piece s a) [] between.tally) (sym p.key)
-            (p.counts keep positive s base len h m) in
-            let then = q.counts keep positive (with_piece s a) base len' (p.stands s h) first in
-            subst (λ (t : Segment). CountsChunks keep op n base t unwritten now.tally) (same s)
-            (subst (λ k. CountsChunks keep (opening k) n base (next (with_piece s a)) unwritten now.tally) p.key then);
-      }
-
-  pub releases_then : (a b : List ℕ) {old mid new : OpenerView B} {was between now : WriterView} {unwritten : List ℕ}
-      → Releases opening n (λ s. with_piece s a) old mid was between [] → Releases opening n (λ s. with_piece s b) mid new between now unwritten
-      → Releases opening n (λ s. with_piece s (a ++ b)) old new was now unwritten
-  releases_then a b p q = releases_next a (λ s. with_piece s b) (λ s. with_piece s (a ++ b)) (λ s. pieces_join s a b) p q
-
-  -- a call that refused a piece
-  pub refused_front : {sealing : List ℕ → List ℕ → List ℕ} {old new : OpenerView B} {was : WriterView} (piece : List ℕ)
-      → IsChunkBox sealing (opening old.key) → new.key ≡ old.key → ((s : Segment) → Stands opening n old s → Stands opening n new (with_piece s piece))
-      → ((s : Segment) → Stands opening n old s
-      → (outcome (opening old.key) n (with_piece s piece)).texts ≡ (outcome (opening old.key) n s).texts ++ [])
-      → Releases opening n (λ s. with_piece s piece) old new was was []
-  refused_front {sealing} {old} {new} {was} piece valid key stands texts = record {
+module _ {B : Type 0} (sealing : B → List ℕ → List ℕ → List ℕ) (opening : B → List ℕ → List ℕ → Option (List ℕ))
+    (valid : (key : B) → IsChunkBox (sealing key) (opening key)) (n : ℕ) (positive : 0 < n) where
+  -- nothing was fed
+  pub released_none : {o : OpenerView B} (first : WriterView) (k : ℕ) {key : B} → o.key ≡ key → Stands opening n o (fresh k)
+      → HasReleased opening n key first o first (segment k [] false) []
+  released_none {o} first k {key} is stands = record {
     out = [];
-    key = key;
-    wrote = wrote_none was;
+    key_is = is;
     stands = stands;
-    text = λ s h. more_text (opening old.key) n s (with_piece s piece) [] [] (texts s h) refl;
-    counts = λ keep positive s base len h m.
-        mark_none sealing (opening old.key) valid n positive keep base s piece was.tally len h.timely (stands s h).timely (texts s h) m;
+    wrote = wrote_none first;
+    text = ap (λ (x : Outcome). flat_map (λ (t : List ℕ). t) x.texts) (fresh_is_open (opening key) n k);
+    counts = λ keep base len index chain_is.
+        mark_fresh (sealing key) (opening key) (valid key) n positive keep base k first.tally len index chain_is;
   }
 
-  -- a call that took these bytes and lent a chunk, if one came
-  module _ {sealing : List ℕ → List ℕ → List ℕ} {old new : OpenerView B} (fed : List ℕ) (chunk : Option (Bor (List ℕ)))
-      (valid : IsChunkBox sealing (opening old.key)) (key : new.key ≡ old.key)
-      (stands : (s : Segment) → Stands opening n old s → Stands opening n new (with_piece s fed))
-      (texts : (s : Segment) → Stands opening n old s
-      → (outcome (opening old.key) n (with_piece s fed)).texts ≡ (outcome (opening old.key) n s).texts ++ chunk_texts chunk) where
-    more : (s : Segment) {text : List ℕ} → Stands opening n old s → chunk_bytes chunk ≡ text
-        → released (opening old.key) n (with_piece s fed) ≡ released (opening old.key) n s ++ text
-    more s {text} h lent = more_text (opening old.key) n s (with_piece s fed) (chunk_texts chunk) text (texts s h) (lent_flat chunk ∙ lent)
+  module _ {key : B} {first was : WriterView} {old new : OpenerView B} {k : ℕ} {before : List ℕ}
+      (h : HasReleased opening n key first old was (segment k before false) []) (key_is : new.key ≡ old.key) where
+    -- a call that took these bytes and lent these texts
+    module _ (fed : List ℕ) (ts : List (List ℕ)) (stands : Stands opening n new (segment k (before ++ fed) false))
+        (texts : (outcome (opening old.key) n (segment k (before ++ fed) false)).texts ≡ (outcome (opening old.key) n (segment k before false)).texts
+        ++ ts)
+      where
+        more_texts : (outcome (opening key) n (segment k (before ++ fed) false)).texts ≡ (outcome (opening key) n (segment k before false)).texts ++
+            ts
+        more_texts = rw h.key_is at texts
 
-    -- it was written whole, and counted
-    pub fed_whole : {was now : WriterView} {bytes out : List ℕ} (index : ℕ) → index ≡ new.index → chunk_bytes chunk ≡ bytes → bytes ≡ out → Wrote was now out
-        → AdvancesTally was.tally.index was.tally.chain index (link_if was.tally.chain bytes) now.tally
-        → Releases opening n (λ s. with_piece s fed) old new was now []
-    fed_whole {was} {now} {bytes} {out} index is lent whole wrote a = record {
-      out = out;
-      key = key;
-      wrote = wrote;
+        more : {text : List ℕ} → flat_map (λ (t : List ℕ). t) ts ≡ text → released (opening key) n (segment k (before ++ fed) false) ≡ h.out ++ text
+        more {text} lent = ap (flat_map (λ (t : List ℕ). t)) more_texts
+            ∙ flat_map-append (λ (t : List ℕ). t) (outcome (opening key) n (segment k before false)).texts ts
+            ∙ ap (λ (t : List ℕ). t ++ flat_map (λ (x : List ℕ). x) ts) (h.text ∙ append-nil h.out) ∙ ap (λ (t : List ℕ). h.out ++ t) lent
+
+        -- they were written whole, and counted
+        pub fed_whole : {now : WriterView} {out : List ℕ} (index : ℕ) → index ≡ new.index → length ts ≤ 1 → flat_map (λ (t : List ℕ). t) ts ≡ out
+            → Wrote was now out → AdvancesTally was.tally.index was.tally.chain index (link_if was.tally.chain out) now.tally
+            → HasReleased opening n key first new now (segment k (before ++ fed) false) []
+        fed_whole {now} {out} index is few lent wrote a = record {
+          out = h.out ++ out;
+          key_is = key_is ∙ h.key_is;
+          stands = stands;
+          wrote = wrote_then h.wrote wrote;
+          text = more lent ∙ sym (append-nil (h.out ++ out));
+          counts = λ keep base len here chain_is.
+              let now_at : index ≡ (outcome (opening key) n (segment k (before ++ fed) false)).index = is ∙ (stands.index
+              ∙ ap (λ x. (outcome (opening x) n (segment k (before ++ fed) false)).index) (key_is ∙ h.key_is)) in
+              mark_step (sealing key) (opening key) (valid key) n positive keep base (segment k before false) fed ts index was.tally now.tally len
+              (λ _. refl) (λ _. refl) more_texts few now_at (rw (← lent) at a) (h.counts keep base len here chain_is);
+        }
+
+        -- some of them was not
+        pub fed_cut : {now : WriterView} {out unwritten : List ℕ} → length ts ≤ 1 → flat_map (λ (t : List ℕ). t) ts ≡ out ++ unwritten
+            → Wrote was now out
+            → 0 < length unwritten → now.tally.index ≡ was.tally.index → now.tally.chain ≡ was.tally.chain
+            → HasReleased opening n key first new now (segment k (before ++ fed) false) unwritten
+        fed_cut {now} {out} {unwritten} few lent wrote some index chain_same = record {
+          out = h.out ++ out;
+          key_is = key_is ∙ h.key_is;
+          stands = stands;
+          wrote = wrote_then h.wrote wrote;
+          text = more lent ∙ sym (append_assoc h.out out unwritten);
+          counts = λ keep base len here chain_is. mark_cut (sealing key) (opening key) (valid key) n positive keep base (segment k before false) fed
+              ts out unwritten
+              was.tally now.tally len (λ _. refl) (λ _. refl) more_texts few lent some index chain_same (h.counts keep base len here chain_is);
+        }
+
+    -- a call that refused a piece
+    pub fed_none : (piece : List ℕ) → Stands opening n new (segment k (before ++ piece) false)
+        → (outcome (opening old.key) n (segment k (before ++ piece) false)).texts ≡ (outcome (opening old.key) n (segment k before false)).texts ++ []
+        → HasReleased opening n key first new was (segment k (before ++ piece) false) []
+    fed_none piece stands texts = grind (arith, common_steps, mark_none, more)
+
+    -- the end, of whose text this much was written
+    pub end_released : {now : WriterView} {out unwritten : List ℕ} → Stands opening n new (segment k before true)
+        → released (opening old.key) n (segment k before true) ≡ released (opening old.key) n (segment k before false) ++ (out ++ unwritten)
+        → Wrote was now out → now.tally.index ≡ was.tally.index → now.tally.chain ≡ was.tally.chain
+        → HasReleased opening n key first new now (segment k before true) unwritten
+    end_released {now} {out} {unwritten} stands last wrote index chain_same = record {
+      out = h.out ++ out;
+      key_is = key_is ∙ h.key_is;
       stands = stands;
-      text = λ s h. more s h (lent ∙ whole ∙ sym (append-nil out));
-      counts = λ keep positive s base len h m.
-          let counted = subst (λ (l : Option (List ℕ)). AdvancesTally was.tally.index was.tally.chain index l now.tally)
-          (ap (link_if was.tally.chain) (sym (lent_flat chunk ∙ lent))) a in
-          let at : index ≡ (outcome (opening old.key) n (with_piece s fed)).index = is
-          ∙ ((stands s h).index ∙ ap (λ k. (outcome (opening k) n (with_piece s fed)).index) key) in
-          mark_step sealing (opening old.key) valid n positive keep base s fed (chunk_texts chunk) index was.tally now.tally len h.timely
-          (stands s h).timely (texts s h) (chunk_few chunk) at counted m;
+      wrote = wrote_then h.wrote wrote;
+      text = rw h.key_is at last ∙ ap (λ (t : List ℕ). t ++ (out ++ unwritten)) (h.text ∙ append-nil h.out) ∙ sym (append_assoc h.out out unwritten);
+      counts = λ keep base len here chain_is. mark_end (sealing key) (opening key) (valid key) n positive keep base (segment k before false) out
+          unwritten
+          was.tally now.tally len (rw h.key_is at last) index chain_same (h.counts keep base len here chain_is);
     }
 
-    -- some of it was not
-    pub fed_cut : {was now : WriterView} {out unwritten : List ℕ} → chunk_bytes chunk ≡ out ++ unwritten → Wrote was now out → 0 < length unwritten
-        → now.tally.index ≡ was.tally.index → now.tally.chain ≡ was.tally.chain → Releases opening n (λ s. with_piece s fed) old new was now unwritten
-    fed_cut {was} {now} {out} {unwritten} lent wrote some index chain_same = record {
-      out = out;
-      key = key;
-      wrote = wrote;
-      stands = stands;
-      text = λ s h. more s h lent;
-      counts = λ keep positive s base len h m. mark_cut sealing (opening old.key) valid n positive keep base s fed (chunk_texts chunk) out unwritten
-          was.tally now.tally len h.timely (stands s h).timely (texts s h) (chunk_few chunk) (lent_flat chunk ∙ lent) some index chain_same m;
-    }
-
-  -- up to the next place in a piece
-  pub next_releases : {a b c : OpenerView B} {was mid now : WriterView} (piece : List ℕ) (at taken : ℕ)
-      → Releases opening n (λ s. with_piece s (take at piece)) a b was mid []
-      → Releases opening n (λ s. with_piece s (take taken (take (length piece - at) (drop at piece)))) b c mid now []
-      → Releases opening n (λ s. with_piece s (take (at + taken) piece)) a c was now []
-  next_releases {a} {b} {c} {was} {mid} {now} piece at taken p q =
-      subst (λ (t : List ℕ). Releases opening n (λ s. with_piece s t) a c was now []) (take_on at taken piece)
-      (releases_then (take at piece) (take taken (take (length piece - at) (drop at piece))) p q)
-
-  -- the opener holds what was taken, or lent it without a tag
-  pub holds_or_lends : (old new : OpenerView B) (taken : ℕ) (chunk : Option (Bor (List ℕ)))
-      → IfSome chunk (λ c. (length c.now ≡ n) × (length old.held + taken ≡ n + tag_length) × (new.held ≡ []))
-      → IfNone chunk (length new.held ≡ length old.held + taken) → length new.held + length (chunk_bytes chunk) ≤ length old.held + taken
-  holds_or_lends old new taken None lent unlent = omega (arith, unlent)
-  holds_or_lends old new taken (Some c) lent unlent = omega (arith, lent.0, lent.1, ap length lent.2)
+-- the opener holds what was taken, or lent it without a tag
+pub holds_or_lends : {B : Type 0} (n : ℕ) (old new : OpenerView B) (taken : ℕ) (chunk : Option (Bor (List ℕ)))
+    → IfSome chunk (λ c. (length c.now ≡ n) × (length old.held + taken ≡ n + tag_length) × (new.held ≡ []))
+    → IfNone chunk (length new.held ≡ length old.held + taken) → length new.held + length (chunk_bytes chunk) ≤ length old.held + taken
+holds_or_lends n old new taken None lent unlent = omega (arith, unlent)
+holds_or_lends n old new taken (Some c) lent unlent = omega (arith, lent.0, lent.1, ap length lent.2)

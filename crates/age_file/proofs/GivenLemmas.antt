@@ -1,57 +1,44 @@
 -- What the sources gave calls in a row, and what their sinks took.
+use Rattle.std.proofs.lemmas.Grind.{common_steps, flat_map-append}
+use Rattle.std.proofs.lemmas.Bool.Decides.{nat_tests}
 use Rattle.std.proofs.Common.{refl, inl, inr, ◌≡◌, ℕ, ◌≤◌, ◌<◌, arith, List, [], ◌∷◌, ◌++◌, Option, None, Some, sym, ap, subst, ◌∙◌, append-nil, ◌⊎◌, ◌+◌, ◌*◌}
 use Rattle.std.proofs.Common.{◌-◌, ◌/◌, length, take, drop, suc, append_assoc, Bool, true, false, take-append-drop}
 use Rattle.std.specs.Prelude.{Result, Ok, Err, IfSome, IsSomeAnd, nat_lt, ◌==◌, is_none, not, ◌&&◌, map, IfOk, IfErr}
 use Rattle.std.proofs.lemmas.List.{append_cancel_left, length-append, length-drop, length-take, length-take-le, take_all, take_at, drop_at}
 use Rattle.age_io.specs.Taken.{Taken, Appends}
-use Rattle.age_io.proofs.TakenLemmas.{Appends-nil}
-use Rattle.age_io.specs.Supply.{Consumes, Supply}
+use Rattle.age_io.proofs.{Appends-nil}
+use Rattle.age_io.specs.{Consumes, SinkView}
+use Rattle.age_io.specs.Supply.{Supply}
 use Rattle.age_stanza.specs.declared.header.Header.{Header}
-use Rattle.age_stream.specs.Headline.{IsPrefixOf, IsRest}
-use Rattle.age_chunk.specs.Payload.{chunk_count, chunk_length, chunk_limit, nonce_bytes, last_index, last_chunk, pair, block_bytes, payload, block_length}
+use Rattle.age_stream.specs.{IsPrefixOf, IsRest, Outcome, Frontier, outcome, released, front_texts, text_then, text_before_last, whole_blocks, stop, verdict}
+use Rattle.age_stream.specs.{is_empty_last, IsCounted}
+use Rattle.age_stream.specs.declared.step.Status.TheVariants.{Done as AllDone}
+use Rattle.age_chunk.specs.{chunk_count, chunk_length, chunk_limit, nonce_bytes, last_index, last_chunk, pair, block_bytes, payload, block_length, IsChunkBox}
+use Rattle.age_chunk.specs.{tag_length}
 use Rattle.age_keys.specs.declared.fault.KeyFault.{KeyFault}
-use Rattle.age_io.specs.Io.{SinkView}
-use Rattle.age_file.specs.Runs.{Ports, Run, held, IsTexts, IsAuthenticRun, IsPositionOf, CarriesText, GivesPosition, WritesNone, StopsInPayload}
-use Rattle.age_file.specs.Runs.{OpenedFile, Reads, IsRun, IsDone, IsFromStart, segment_of, run_text}
-use Rattle.age_file.specs.Decrypts.{DecryptStops, DecryptEnds, WritesText}
-use Rattle.age_file.specs.Resumes.{ResumePorts, WritesOld, IsFrom, IsSame, ResumeEnds}
-use Rattle.age_file.specs.InARow.{AnswersRight, FirstCall, NextCall, DecryptAnswers, ResumeAnswers, last_took, AreInARow, AreTexts, AllAnswerRight, GaveFile}
-use Rattle.age_file.specs.InARow.{GaveOld, GaveRest, GaveFront}
-use Rattle.age_file.specs.inner.Payloads.{segment}
-use Rattle.age_file.specs.declared.decryption.Done.{Done}
-use Rattle.age_file.specs.declared.decryption.Stopped.{Stopped}
-use Rattle.age_file.specs.declared.position.Position.{Position}
-use Rattle.age_file.specs.declared.position.PositionPolicy.{PositionPolicy}
-use Rattle.age_file.specs.declared.position.PositionPolicy.TheVariants.{Kept, Dropped}
+use Rattle.age_file.specs.{run_outcome, Ports, Run, held, IsTexts, IsAuthenticRun, IsPositionOf, CarriesText, GivesPosition, WritesNone, StopsInPayload}
+use Rattle.age_file.specs.{OpenedFile, Reads, IsRun, IsDone, IsFromStart, DecryptStops, DecryptEnds, WritesText, ResumePorts, WritesOld, IsFrom, IsSame}
+use Rattle.age_file.specs.{ResumeEnds, AnswersRight, FirstCall, NextCall, DecryptAnswers, ResumeAnswers, last_took, AreInARow, AreTexts, AllAnswerRight}
+use Rattle.age_file.specs.{GaveFile, GaveOld, GaveRest, GaveFront, Done, Stopped, Position, PositionPolicy, Kept, Dropped, chain}
+use Rattle.age_file.specs.inner.{segment}
 use Rattle.age_file.proofs.ReadLemmas.{prefix_trans, left_of, none_left, same_front}
 use Rattle.age_file.proofs.RunLemmas.{from_start, position_carries, writes_of, writes_all, authentic_of, same_carries}
 use Rattle.std.specs.List.{flat_map, enumerate_from}
 use Rattle.std.specs.Simd.{first_chunks}
-use Rattle.std.proofs.lemmas.Grind.{flat_map-append}
 use Rattle.std.proofs.lemmas.Bool.{cases_lt, ltb-true, ltb-false}
-use Rattle.std.proofs.lemmas.Bool.Decides.{nat_tests}
 use Rattle.std.proofs.Math.Bool.{or-false}
 use Rattle.std.proofs.lemmas.Nat.{div-mul-add, mul-le}
 use Rattle.std.proofs.Math.Nat.{div-mul-le_self, le-div_iff_mul-le}
-use Rattle.age_chunk.specs.ChunkBoxes.{IsChunkBox, tag_length}
-use Rattle.age_chunk.proofs.NonceLemmas.{nonce_bytes-length}
-use Rattle.age_chunk.proofs.FirstChunkLemmas.{length-first_chunks, first_chunks-append}
-use Rattle.age_stream.specs.Segment.{Segment, Outcome, Frontier, outcome, released, front_texts, text_then, text_before_last, whole_blocks, stop, verdict}
-use Rattle.age_stream.specs.Segment.{is_waiting, is_missing, is_cut, is_empty_last, is_too_many, is_damaged}
-use Rattle.age_stream.specs.declared.step.Status.TheVariants.{Done as AllDone}
-use Rattle.age_stream.specs.Laws.{IsCounted}
-use Rattle.age_stream.proofs.UndamagedLemmas.{rest_payload as from_chunk, payload_is, length-bytes_of, all_full}
-use Rattle.age_stream.proofs.CountingLemmas.{first_chunks-take, counted_are}
-use Rattle.age_stream.proofs.GrowingLemmas.{stands_at}
-use Rattle.age_stream.proofs.PartLemmas.{flat_first}
-use Rattle.age_stream.proofs.SegmentLemmas.{by_test, opens_before}
-use Rattle.age_stream.proofs.GoingLemmas.{first_chunks-add}
-use Rattle.age_stream.proofs.LawLemmas.{chunks_are_counted, payload_is_longer}
-use Rattle.age_stream.proofs.TableLemmas.{length-front_texts}
+use Rattle.age_chunk.proofs.{nonce_bytes-length, length-first_chunks, first_chunks-append}
+use Rattle.age_stream.specs.Segment.{Segment}
+use Rattle.age_stream.proofs.SegmentLemmas.{rest_payload as from_chunk, payload_is, length-bytes_of}
+use Rattle.age_stream.proofs.ChunkLemmas.{all_full}
+use Rattle.age_stream.proofs.{first_chunks-take, counted_are, stands_at, flat_first, by_test, opens_before, first_chunks-add, length-front_texts}
+use Rattle.age_stream.proofs.GoingLemmas.{is_counted as chunks_are_counted}
+use Rattle.age_stream.proofs.LawLemmas.{payload_is_longer}
 use Rattle.std.specs.Io.KnownBytes as known
-use Rattle.age_keys.specs.Keys.{box, unbox, payload_key, FileOf}
-use Rattle.age_keys.specs.inner.PayloadBox.{box_valid}
-use Rattle.age_file.specs.Bindings.{chain}
+use Rattle.age_keys.specs.{box, unbox, payload_key, FileOf}
+use Rattle.age_keys.specs.inner.{box_valid}
 
 -- ---- Calls in a row, by the number of calls.
 
@@ -105,9 +92,7 @@ module _ (text : List ℕ) (p : Position) (old new : ResumePorts) (out : List �
       subst (λ (t : List ℕ). IsPrefixOf t text) (one_taken old.main.sink.taken new.main.sink.taken copied out w.wrote wrote) (copied_begins w)
 
   run_authentic : (r : Run) → chunk_count chunk_length text ≤ chunk_limit → IsFrom p old.old new.old r → IsTexts text r → IsAuthenticRun r text
-  run_authentic r few from auth =
-      let whole = before (r.copied ++ from.more) from.old_read in
-      authentic_of text p r few from.index from.old_text (prefix_trans r.copied (r.copied ++ from.more) text (from.more, refl) whole) auth
+  run_authentic r few from auth = grind (arith, common_steps, authentic_of, prefix_trans)
 
 -- ---- the row
 
@@ -211,14 +196,7 @@ module _ (sealing : List ℕ → List ℕ → List ℕ) (opening : List ℕ → 
     alone : b.followed ≡ false
 
   ends : (b : Frontier) → (verdict opening b).status ≡ AllDone → Ends b (verdict opening b)
-  ends b =
-      let P : Outcome → Type 0 = λ o. o.status ≡ AllDone → Ends b o in
-      by_test P (is_waiting b) _ _ (λ _ d. cc) (λ _. by_test P (is_missing b) _ _ (λ _ d. cc) (λ _. by_test P (is_cut b) _ _ (λ _ d. cc)
-      (λ _. by_test P (is_empty_last b) _ _ (λ _ d. cc) (λ some. by_test P (is_too_many opening b) _ _ (λ _ d. cc)
-      (λ _. by_test P (is_damaged opening b) _ _ (λ _ d. cc) (λ sound. by_test P b.followed _ _ (λ _ d. cc) (λ alone.
-      let found = some_of (opening (nonce_bytes b.index true) b.block) sound in
-      let texts = ap (λ (o : Option (List ℕ)). b.texts ++ text_then opening o []) found.1 in
-      by_test P b.ended _ _ (λ _ d. record { text = found.0; opens = found.1; texts_are = texts; not_empty = some; alone = alone }) (λ _ d. cc))))))))
+  ends b = grind (arith, common_steps, by_test, some_of)
 
   seals-append : (i : ℕ) (xs ys : List (List ℕ)) → seals i (xs ++ ys) ≡ seals i xs ++ seals (i + length xs) ys
   seals-append i [] ys = let e : i ≡ i + 0 = omega arith in ap (λ (k : ℕ). seals k ys) e
@@ -248,11 +226,7 @@ module _ (sealing : List ℕ → List ℕ → List ℕ) (opening : List ℕ → 
     m = length opened
 
     front_is : seals k opened ≡ take (m * (n + tag_length)) bytes
-    front_is =
-        let z = n + tag_length in
-        let within : m ≤ length bytes / z =
-        omega (arith, length-front_texts opening (whole_blocks n bytes) k, length-first_chunks z (length bytes / z) bytes) in
-        fronts k (whole_blocks n bytes) ∙ joined_front z (length bytes / z) m bytes within
+    front_is = grind (arith, common_steps, fronts, joined_front, length-first_chunks, length-front_texts)
 
   module _ (positive : 0 < n) (k : ℕ) (limit : k < chunk_limit) (copied bytes : List ℕ) (copied_size : length copied ≡ k * n) where
     abbrev z : ℕ
@@ -309,28 +283,16 @@ module _ (sealing : List ℕ → List ℕ → List ℕ) (opening : List ℕ → 
       size = omega (arith, valid.longer (nonce_bytes b.index true) e.text (nonce_bytes-length b.index true), ap length last_block)
 
       block_is : b.block ≡ drop (length ts * z) bytes
-      block_is =
-          let most : length bytes ≤ (length ts + 1) * z = ltb-false ((length ts + 1) * z) (length bytes) (sym (or-false _) ∙ e.alone) in
-          let more : (length ts + 1) * z ≡ length ts * z + z = omega arith in
-          take_all z (drop (length ts * z) bytes) (omega (arith, most, more, length-drop (length ts * z) bytes))
+      block_is = grind (arith, common_steps, length-drop, ltb-false, or-false, take_all)
 
       short : length e.text ≤ n
       short = omega (arith, size, length-take z (drop (length ts * z) bytes))
 
       some : (0 < length e.text) ⊎ (j ≡ 0)
-      some = elim (cases_lt 0 (length e.text)) [
-        | inl lt ↦ inl lt
-        | inr le ↦ inr (tag_alone (length b.block) z b.index (omega (arith, le, size, positive)) (omega (arith, le, size)) e.not_empty)
-      ]
+      some = grind (arith, common_steps, cases_lt, size, tag_alone)
 
       index_of : length all_text - 1 ≡ j * n + (length e.text - 1)
-      index_of =
-          let len : length all_text ≡ j * n + length e.text = omega (arith, ap length all_is, length-append (copied ++ joined) e.text, before_size) in
-          elim some [
-            | inl lt ↦ omega (arith, lt, len)
-            | inr none ↦ (let e0 : j * n ≡ 0 * n = ap (λ (i : ℕ). i * n) none in
-                omega (arith, len, e0))
-          ]
+      index_of = grind (arith, common_steps, before_size, length-append, some)
 
       q_is : last_index n all_text ≡ j
       q_is = ap (λ (i : ℕ). i / n) index_of ∙ div-mul-add j n (length e.text - 1) (omega (arith, short, positive))
@@ -346,19 +308,20 @@ module _ (sealing : List ℕ → List ℕ → List ℕ) (opening : List ℕ → 
 
       -- its chunks from this one on are those that were opened
       chunks_are : drop k (first_chunks n (last_index n all_text) all_text) ≡ ts
-      chunks_are =
-          ap (λ (i : ℕ). drop k (first_chunks n i all_text)) q_is
-          ∙ (ap (drop k) front_chunks ∙ drop_at (first_chunks n k copied) ts k (length-first_chunks n k copied))
+      chunks_are = rw (q_is, front_chunks) (drop_at (first_chunks n k copied) ts k (length-first_chunks n k copied))
 
       is_rest : bytes ≡ drop (k * z) (payload sealing n all_text)
       is_rest =
           let q = last_index n all_text in
           let last = sealing (nonce_bytes q true) (last_chunk n all_text) in
-          let last_same : last ≡ drop (length ts * z) bytes = ap (λ (i : ℕ). sealing (nonce_bytes i true) (last_chunk n all_text)) q_is
-          ∙ (ap (sealing (nonce_bytes b.index true)) last_is ∙ (last_block ∙ block_is)) in
-          sym (from_chunk sealing opening valid n positive all_text few k below ∙ (ap (λ (cs : List (List ℕ)). seals k cs ++ last) chunks_are
-          ∙ (ap (λ (x : List ℕ). x ++ last) (front_is k bytes true)
-          ∙ (ap (λ (x : List ℕ). take (length ts * z) bytes ++ x) last_same ∙ take-append-drop (length ts * z) bytes))))
+          let last_same : last ≡ drop (length ts * z) bytes = rw (last_is, q_is) (last_block ∙ block_is) in
+          rw (
+            from_chunk sealing opening valid n positive all_text few k below,
+            chunks_are,
+            front_is k bytes true,
+            last_same,
+            take-append-drop (length ts * z) bytes,
+          )
 
     pub is_rest_of : (outcome opening n s).status ≡ AllDone → (chunk_count n all_text ≤ chunk_limit) × IsRest sealing opening n all_text s
     unfolding outcome
@@ -430,16 +393,8 @@ rest_read : (Allows : Header → List ℕ → Type 0) (old new : Ports) (written
     → (chunk_count chunk_length (held r) ≤ chunk_limit)
     × IsRest (box r.file.key r.file.nonce) (unbox r.file.key r.file.nonce) chunk_length (held r) (segment r.first r.bytes true)
 rest_read Allows old new written r d limit =
-    let sealing = box r.file.key r.file.nonce in
-    let opening = unbox r.file.key r.file.nonce in
-    let same : segment_of r ≡ segment r.first r.bytes true = ap (segment r.first r.bytes) d.ended in
-    let done : (outcome opening chunk_length (segment r.first r.bytes true)).status ≡ AllDone =
-    ap (λ (s : Segment). (outcome opening chunk_length s).status) (sym same) ∙ d.done in
-    let all : held r ≡ r.copied ++ released opening chunk_length (segment r.first r.bytes true) = ap (λ (t : List ℕ). r.copied ++ t)
-    (d.whole ∙ ap (λ (s : Segment). released opening chunk_length s) same) in
-    subst (λ (t : List ℕ). (chunk_count chunk_length t ≤ chunk_limit) × IsRest sealing opening chunk_length t (segment r.first r.bytes true)) (sym all)
-    (is_rest_of sealing opening (box_valid (payload_key r.file.key r.file.nonce)) chunk_length (omega arith) r.first limit r.copied r.bytes
-    d.is.copied_size done)
+    rw (d.whole, d.ended) (is_rest_of (box r.file.key r.file.nonce) (unbox r.file.key r.file.nonce) (box_valid (payload_key r.file.key r.file.nonce))
+    chunk_length (omega arith) r.first limit r.copied r.bytes d.is.copied_size (rw d.ended at d.done))
 
 module _ (Allows : Header → List ℕ → Type 0) (old new : Ports) where
   gave_file : (done : Done) (r : Run) → DecryptEnds Allows old new done r → (text : List ℕ) × GaveFile Allows old.source.supply new.source.supply text
@@ -449,8 +404,7 @@ module _ (Allows : Header → List ℕ → Type 0) (old new : Ports) where
       let front = r.file.header_bytes ++ r.file.nonce in
       let all = payload (box r.file.key r.file.nonce) chunk_length (held r) in
       let zero : r.first * block_length ≡ 0 = omega (arith, d.0.zero) in
-      let payload_is : r.bytes ≡ all = (rest_read Allows old new done.written r d.1 (omega (arith, d.0.zero))).1.bytes
-      ∙ ap (λ (i : ℕ). drop i all) zero in (
+      let payload_is : r.bytes ≡ all = rw zero at (rest_read Allows old new done.written r d.1 (omega (arith, d.0.zero))).1.bytes in (
         held r,
         record {
           header = r.file.header;
@@ -521,13 +475,11 @@ module _ (Allows : Header → List ℕ → Type 0) (p : Position) (old new : Res
       let sealing = box r.file.key r.file.nonce in
       let rest = rest_read Allows old.main new.main done.written r d.2 (omega (arith, from.index, p.within)) in
       let size = from.old_text.size in
-      let at : drop (r.first * block_length) (payload sealing chunk_length (held r)) ≡ drop (p.index * block_length) (payload sealing chunk_length (held r)) =
-      ap (λ (k : ℕ). drop (k * block_length) (payload sealing chunk_length (held r))) from.index in (
+      let bytes = rw from.index at rest.1.bytes in (
         held r,
         record {
           more = from.more;
-          read = subst (λ (t : List ℕ). Consumes old.old.supply new.old.supply (t ++ from.more)) (sym (take_at r.copied r.out (p.index * chunk_length) size))
-              from.old_read;
+          read = rw (take_at r.copied r.out (p.index * chunk_length) size) from.old_read;
           few = from.few;
           carries = (
             omega (arith, size, length-append r.copied r.out),
@@ -542,7 +494,7 @@ module _ (Allows : Header → List ℕ → Type 0) (p : Position) (old new : Res
           size = is.skipped_size ∙ ap (λ (k : ℕ). k * block_length) from.index;
           few = rest.0;
           below = subst (λ (k : ℕ). k < chunk_count chunk_length (held r)) from.index rest.1.below;
-          read = subst (λ (t : List ℕ). Reads Allows old.main.source.supply new.main.source.supply r.file (r.skipped ++ t)) (rest.1.bytes ∙ at) is.reads;
+          read = rw bytes at is.reads;
           at_end = is.at_end d.2.ended;
         },
         (is.wrote, is.count),
@@ -565,16 +517,12 @@ module _ (Allows : Header → List ℕ → Type 0) (Refused : Header → KeyFaul
       → GivesFront stopped p
   gave_front stopped r p from is at =
       let f = r.file in
-      let all : held r ≡ r.out = ap (λ (t : List ℕ). t ++ r.out) from.none_copied in
       let positive : 0 < chunk_length = omega arith in
       let le : p.index ≤ length (held r) / chunk_length = omega (arith, at.index) in
       let within : p.index * chunk_length ≤ length (held r) = (le-div_iff_mul-le positive).0 le in
       let here = segment 0 r.bytes r.ended in
-      let same : segment_of r ≡ here = ap (λ (i : ℕ). segment i r.bytes r.ended) from.zero in
-      let stands : p.index ≤ (outcome (unbox f.key f.nonce) chunk_length here).index =
-      subst (λ (s : Segment). p.index ≤ (outcome (unbox f.key f.nonce) chunk_length s).index) same (omega (arith, at.index)) in
-      let prefix = subst (λ (s : Segment). IsPrefixOf (held r) (released (unbox f.key f.nonce) chunk_length s)) same
-      (subst (λ (t : List ℕ). IsPrefixOf t (run_text r)) (sym all) is.prefix) in (
+      let below : p.index ≤ (run_outcome r).index = omega (arith, at.index) in
+      let prefix : IsPrefixOf (held r) (released (unbox f.key f.nonce) chunk_length here) = rw from.none_copied (rw from.zero at is.prefix) in (
         held r,
         record {
           file = f;
@@ -583,8 +531,8 @@ module _ (Allows : Header → List ℕ → Type 0) (Refused : Header → KeyFaul
           carries = (within, at.chain_is);
           rest = r.bytes;
           read = subst (λ (t : List ℕ). Reads Allows old.source.supply new.source.supply f (t ++ r.bytes)) from.none_skipped is.reads;
-          blocks = λ whole begins below few. begins_payload (box f.key f.nonce) (unbox f.key f.nonce) (box_valid (payload_key f.key f.nonce))
-              chunk_length r.bytes r.ended p.index (held r) whole stands within prefix begins below;
+          blocks = λ whole begins has few. begins_payload (box f.key f.nonce) (unbox f.key f.nonce) (box_valid (payload_key f.key f.nonce))
+              chunk_length r.bytes r.ended p.index (held r) whole (rw from.zero at below) within prefix begins has;
         },
         (is.wrote, is.count),
       )
@@ -599,22 +547,7 @@ module _ (Allows : Header → List ℕ → Type 0) (Refused : Header → KeyFaul
 -- what was skipped and the rest are the whole payload
 both_are_file : (Allows : Header → List ℕ → Type 0) (p : Position) (old new : Supply) (text : List ℕ) (gave : GaveRest Allows p old new text)
     → gave.skipped ≡ take (p.index * block_length) (payload (box gave.file.key gave.file.nonce) chunk_length text) → GaveFile Allows old new text
-both_are_file Allows p old new text g same =
-    let f = g.file in
-    let front = f.header_bytes ++ f.nonce in
-    let all = payload (box f.key f.nonce) chunk_length text in
-    let at = p.index * block_length in
-    let whole : g.skipped ++ drop at all ≡ all = ap (λ (t : List ℕ). t ++ drop at all) same ∙ take-append-drop at all in
-    record {
-      header = f.header;
-      key = f.key;
-      nonce = f.nonce;
-      bytes = front ++ all;
-      read = subst (λ (t : List ℕ). Consumes old new (front ++ t)) whole g.read.read;
-      file = record { front = f.header_bytes; head = g.read.text; mac = g.read.opens.mac; size = g.read.size; parts = refl };
-      opens = g.read.opens;
-      at_end = g.at_end;
-    }
+both_are_file Allows p old new text g same = grind (arith, common_steps, size, take-append-drop)
 
 pub rest_is_file : (Mine Other : Header → List ℕ → Type 0) (p : Position) (was became old new : Supply)
     (before text : List ℕ) (front : GaveFront Mine p was became before) (rest : GaveRest Other p old new text) → rest.file ≡ front.file

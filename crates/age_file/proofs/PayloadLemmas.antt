@@ -1,28 +1,290 @@
--- Decrypting a payload, call by call.
-use Rattle.std.proofs.Common.{◌≡◌, ℕ, ◌+◌, ◌*◌, ◌^◌, ◌<◌, ◌≤◌, List, [], ◌++◌, length, Option, refl, sym, ap, subst, ◌∙◌, arith, append-nil, append_assoc, Bool}
-use Rattle.std.proofs.Common.{true, false, inl, inr}
-use Rattle.std.specs.Prelude.{Result, Ok, Err, ◌⊎◌, MatchResult, OnOk}
-use Rattle.age_io.specs.Supply.{IsAtEnd}
-use Rattle.std.proofs.lemmas.List.{length-append}
-use Rattle.age_io.specs.Io.{SourceView}
-use Rattle.age_stream.specs.declared.step.Status.TheVariants.{Failed, Done}
-use Rattle.age_stream.specs.Segment.{with_piece, Segment, Outcome, outcome, released, with_end, fresh}
-use Rattle.age_stream.specs.Opener.{OpenerView, has_failed, Stands}
-use Rattle.age_fault.specs.Faults.{HasFailed}
-use Rattle.age_file.specs.Runs.{NoneFailed, ReadFailed, WriteFailed, pull_room}
-use Rattle.age_file.specs.inner.Parts.{Unread, chain_if}
-use Rattle.age_file.specs.inner.Readers.{ReaderView, reader_view, WriterView, Stage, stage, Start, ports_at, Pulled, Refills, PullFails}
-use Rattle.age_file.specs.inner.Payloads.{Releases, FeedsPiece, FeedFails, ClosesPayload, segment, DecryptsPayload, SegmentFails, SegmentDone, CountsChunks}
-use Rattle.age_file.specs.inner.Payloads.{HasCounted}
+-- Sealing a source and decrypting a payload, call by call, and what of an age file was written.
+use Rattle.std.proofs.lemmas.Grind.{common_steps, flat_map-append}
+use Rattle.std.proofs.Common.{◌≡◌, ℕ, ◌+◌, ◌-◌, ◌*◌, ◌^◌, ◌<◌, ◌≤◌, sym, ap, subst, ◌∙◌, List, [], ◌++◌, length, take, drop, Option, None, Some, append-nil}
+use Rattle.std.proofs.Common.{append_assoc, take-append-drop, Bool, false, true, arith, refl, ◌/◌, ◌∷◌, Result, Ok, Err, IfOk, IfErr, inl, inr}
+use Rattle.std.specs.Prelude.{IfSome, Result, Ok, Err, ◌⊎◌, MatchResult, OnOk}
+use Rattle.std.proofs.Math.Nat.{div-le_self, div-mul-le_self}
+use Rattle.std.proofs.lemmas.Nat.{mul-le}
+use Rattle.std.specs.Borrow.{Bor}
+use Rattle.std.specs.Option.{unwrap_or}
+use Rattle.std.proofs.lemmas.Bool.{ltb-true, eqb-true, and_parts}
+use Rattle.std.proofs.lemmas.List.{length-append, length-drop, take_rest}
+use Rattle.age_chunk.specs.{IsChunkBox, chunk_limit, last_index, block_length, pair, block_bytes, payload, sealed_before_last, last_chunk, chunk_length}
+use Rattle.age_chunk.specs.declared.fault.StreamFault.{StreamFault}
+use Rattle.age_stream.specs.{SealerView, Holds, needs_too_many, too_many, chunk_bytes, IsPrefixOf, with_piece, outcome, released, fresh, OpenerView, has_failed}
+use Rattle.age_stream.proofs.LawLemmas.{payload_is_longer}
+use Rattle.age_stream.proofs.ChunkLemmas.{sealed_grows}
+use Rattle.age_stream.proofs.GoingLemmas.{released_grows}
+use Rattle.age_fault.specs.{HasFailed}
 use Rattle.age_fault.specs.declared.fault.FileFault.{FileFault}
-use Rattle.age_fault.specs.declared.fault.FileFault.TheVariants.{Stream, Read, Write, ReadNeverEnds}
-use Rattle.age_file.proofs.CountLemmas.{releases_none, releases_then, no_piece, mark_fresh, marked, releases_next}
-use Rattle.std.specs.List.{flat_map}
-use Rattle.age_stream.specs.Headline.{IsPrefixOf}
-use Rattle.age_stream.proofs.LawLemmas.{fresh_is_open, released_grows}
-use Rattle.age_chunk.specs.ChunkBoxes.{IsChunkBox}
+use Rattle.age_fault.specs.declared.fault.FileFault.TheVariants.{Stream, Write, Read, ReadNeverEnds, Memory}
+use Rattle.age_file.specs.inner.{WriterView, Wrote, ReaderView, PullFails, Pulled, start_at, front_of, IsFeeding, HasSealedFront, CutsPayload, SealFails}
+use Rattle.age_file.specs.inner.{HasRoom, SealingFails, SealsFront, SealsSource, BeginsFile, FrontFails, WroteFront, SealsAll, ReadsWrites, Unread, chain_if}
+use Rattle.age_file.specs.inner.{reader_view, Stage, stage, Start, ports_at, Refills, HasReleased, FeedsPiece, FeedFails, FeedGoes, EndsFeed, segment}
+use Rattle.age_file.specs.inner.{DecryptsPayload, SegmentFails, SegmentDone, HasCounted}
+use Rattle.age_io.proofs.{Appends-trans, Consumes-nil}
 use Rattle.std.specs.Simd.{first_chunks}
-use Rattle.age_file.specs.declared.position.PositionPolicy.{PositionPolicy}
+use Rattle.age_io.specs.{SourceView, SinkView, IsAtEnd}
+use Rattle.age_file.specs.{Ports, NoneFailed, ports, AgeFile, EncryptsFront, EncryptFails, WhyStopped, without_last, SecretView, Written, ReadFailed}
+use Rattle.age_file.specs.{WriteFailed, pull_room, PositionPolicy}
+use Rattle.age_file.proofs.ReadLemmas.{prefix_trans, wrote_then}
+use Rattle.age_keys.specs.{header_mac, IsMacOf, box, scrypt_head}
+use Rattle.age_file.specs.Encrypts.{Encrypts}
+use Rattle.age_stream.specs.declared.step.Status.TheVariants.{Failed, Done}
+use Rattle.age_stream.specs.Segment.{Segment}
+use Rattle.age_file.proofs.CountLemmas.{no_piece, marked}
+
+-- ---- One feed of a sealer, and what then was written.
+
+-- the block that a step lent, or none
+pub lent : (chunk : Option (Bor (List ℕ))) (none : Bor (List ℕ)) → none.now ≡ [] → chunk_bytes chunk ≡ (unwrap_or chunk none).now
+lent None none e = sym e
+lent (Some block) none e = refl
+
+-- the front of a piece and its rest, after a text
+pub rejoined : (text piece : List ℕ) (at : ℕ) → (text ++ take at piece) ++ take (length piece - at) (drop at piece) ≡ text ++ piece
+rejoined text piece at = append_assoc text (take at piece) (take (length piece - at) (drop at piece))
+    ∙ ap (λ (t : List ℕ). text ++ t) (ap (λ (t : List ℕ). take at piece ++ t) (take_rest piece at) ∙ take-append-drop at piece)
+
+pub lent_few : (chunk : Option (Bor (List ℕ))) (none : Bor (List ℕ)) (size : ℕ) → none.now ≡ [] → IfSome chunk (λ block. length block.now ≡ size)
+    → length (unwrap_or chunk none).now ≤ size
+lent_few None none size e whole = omega (arith, ap length e)
+lent_few (Some block) none size e whole = omega (arith, whole)
+
+-- a sealer that was never refused is refused only at the last chunk that a payload may have, if
+-- it is full and more comes
+record IsAtLimit {B : Type 0} (n : ℕ) (s : SealerView B) (piece : List ℕ) : Type 0 where
+  more : 0 < length piece
+  full : length s.held ≡ n
+  index : s.index ≡ chunk_limit - 1
+
+at_limit : {B : Type 0} (n : ℕ) (s : SealerView B) (piece : List ℕ) → s.failed ≡ false → needs_too_many n s piece ≡ true → IsAtLimit n s piece
+at_limit n s piece sound refused = grind (arith, common_steps, and_parts, eqb-true, ltb-true)
+
+too_long : {B : Type 0} (n : ℕ) (s : SealerView B) (piece text : List ℕ) → 0 < n → IsAtLimit n s piece → Holds n s text
+    → chunk_limit * n < length (text ++ piece)
+too_long n s piece text positive limit holds = grind (arith, common_steps, div-mul-le_self, length-append, length-drop)
+
+-- ---- sizes
+
+-- the blocks before the last of a text
+module _ (sealing : List ℕ → List ℕ → List ℕ) (opening : List ℕ → List ℕ → Option (List ℕ)) (valid : IsChunkBox sealing opening) (n : ℕ) where
+  pub front_small : (text : List ℕ) → n + 16 ≤ block_length → length (front_of sealing n text) ≤ length text * block_length
+  front_small text most =
+      let q = last_index n text in
+      let few : q ≤ length text = omega (arith, div-le_self (length text - 1) n) in
+      omega (arith, (payload_is_longer sealing opening valid n text).1, mul-le q (n + 16) (length text) block_length few most)
+
+-- the count of what was written has room for a block
+pub room_left : {B : Type 0} (sealing : B → List ℕ → List ℕ → List ℕ) (opening : B → List ℕ → List ℕ → Option (List ℕ)) {n : ℕ} {s : SealerView B}
+    {was : WriterView} {more : ℕ} → ((key : B) → IsChunkBox (sealing key) (opening key)) → n + 16 ≤ block_length → HasRoom sealing n s was more
+    → was.tally.written ≤ 2 ^ 127
+room_left {B} sealing opening {n} {s} {was} {more} valid most room =
+    let fits = front_small (sealing room.key) (opening room.key) (valid room.key) n room.text most in
+    let product : length room.text * block_length ≤ 2 ^ 96 * block_length =
+    mul-le (length room.text) block_length (2 ^ 96) block_length (omega (arith, room.small)) (omega arith) in
+    omega (arith, room.sealed.wrote.count, room.count, fits, product)
+
+-- ---- A source's text, piece by piece, and what of its payload was written.
+
+-- the blocks before the last begin the payload
+pub front_begins : (sealing : List ℕ → List ℕ → List ℕ) (n : ℕ) (text : List ℕ) → IsPrefixOf (front_of sealing n text) (payload sealing n text)
+front_begins sealing n text = (
+  block_bytes (pair sealing true (last_index n text, last_chunk n text) ∷ []),
+  sym (flat_map-append (λ (p : List ℕ × List ℕ). p.1) (sealed_before_last sealing n text)
+      (pair sealing true (last_index n text, last_chunk n text) ∷ [])),
+)
+
+-- no text has no such blocks
+pub no_front : (sealing : List ℕ → List ℕ → List ℕ) (n : ℕ) → 0 < n → front_of sealing n [] ≡ []
+no_front sealing n positive = grind (arith, common_steps)
+
+-- and those of what came so far begin the payload of more
+begins_more : (sealing : List ℕ → List ℕ → List ℕ) (n : ℕ) (text more : List ℕ) → 0 < n → IsPrefixOf (front_of sealing n text) (payload sealing n
+    (text ++ more))
+begins_more sealing n text more positive = prefix_trans _ _ _ (sealed_grows sealing n text more positive) (front_begins sealing n (text ++ more))
+
+module _ {B : Type 0} {sealing : B → List ℕ → List ℕ → List ℕ} {n : ℕ} (positive : 0 < n) {key : B} {first was : WriterView} {s : SealerView B}
+    {text : List ℕ} (h : HasSealedFront sealing n key first s was text) where
+  -- more was refused
+  pub seal_refused : (piece : List ℕ) (fault : StreamFault) → s.failed ≡ false → needs_too_many n s piece ≡ true → fault ≡ too_many s.index
+      → CutsPayload sealing n key first was (text ++ piece) (Stream fault)
+  seal_refused piece fault sound refused is =
+      let limit = at_limit n s piece sound refused in
+      record {
+        out = front_of (sealing key) n text;
+        wrote = h.wrote;
+        prefix = begins_more (sealing key) n text piece positive;
+        why = (too_long n s piece text positive limit h.holds, is ∙ ap too_many limit.index, h.same);
+      }
+
+  module _ {now : WriterView} (fed out unwritten : List ℕ) (wrote : Wrote was now out)
+      (blocks : front_of (sealing s.key) n (text ++ fed) ≡ front_of (sealing s.key) n text ++ (out ++ unwritten)) where
+    brought : front_of (sealing key) n (text ++ fed) ≡ (front_of (sealing key) n text ++ out) ++ unwritten
+    brought = rw h.key_is at blocks ∙ sym (append_assoc (front_of (sealing key) n text) out unwritten)
+
+    -- more was taken, and the block that it brought was written, if one came
+    pub seal_on : {s' : SealerView B} → s'.key ≡ s.key → IsFeeding s' → Holds n s' (text ++ fed) → unwritten ≡ []
+        → now.sink.failed ≡ was.sink.failed → HasSealedFront sealing n key first s' now (text ++ fed)
+    seal_on {s'} key_is feeding holds none same = record {
+      key_is = key_is ∙ h.key_is;
+      feeding = feeding;
+      holds = holds;
+      wrote = subst (Wrote first now) (sym (brought ∙ ap (λ (t : List ℕ). (front_of (sealing key) n text ++ out) ++ t) none ∙ append-nil _))
+          (wrote_then h.wrote wrote);
+      same = same ∙ h.same;
+    }
+
+    -- the sink failed in it
+    pub seal_cut : (left : List ℕ) → HasFailed was.sink.failed now.sink.failed now.sink.failing
+        → CutsPayload sealing n key first now ((text ++ fed) ++ left) Write
+    seal_cut left failed = record {
+      out = front_of (sealing key) n text ++ out;
+      wrote = wrote_then h.wrote wrote;
+      prefix = prefix_trans _ _ _ (unwritten, sym brought) (begins_more (sealing key) n (text ++ fed) left positive);
+      why = subst (λ (k : ℕ). HasFailed k now.sink.failed now.sink.failing) h.same failed;
+    }
+
+  module _ {now : WriterView} (out unwritten : List ℕ) (wrote : Wrote was now out)
+      (last : payload (sealing s.key) n text ≡ front_of (sealing s.key) n text ++ (out ++ unwritten)) where
+    whole : payload (sealing key) n text ≡ (front_of (sealing key) n text ++ out) ++ unwritten
+    whole = rw h.key_is at last ∙ sym (append_assoc (front_of (sealing key) n text) out unwritten)
+
+    -- the last block was written
+    last_on : unwritten ≡ [] → Wrote first now (payload (sealing key) n text)
+    last_on none = subst (Wrote first now) (sym (whole ∙ ap (λ (t : List ℕ). (front_of (sealing key) n text ++ out) ++ t) none ∙ append-nil _))
+        (wrote_then h.wrote wrote)
+
+    -- the sink failed in it, or in the flush
+    pub last_cut : HasFailed was.sink.failed now.sink.failed now.sink.failing → CutsPayload sealing n key first now text Write
+    last_cut failed = grind (arith, common_steps, whole, wrote_then)
+
+    -- then the sink was flushed
+    pub last_flushed : (result : Result (Unit {0}) FileFault) → unwritten ≡ [] → IfErr result (λ fault. fault ≡ Write)
+        → MatchResult result (λ _. now.sink.failed ≡ was.sink.failed) (λ _. HasFailed was.sink.failed now.sink.failed now.sink.failing)
+        → MatchResult result (λ _. Wrote first now (payload (sealing key) n text) × (now.sink.failed ≡ first.sink.failed))
+        (CutsPayload sealing n key first now text)
+    last_flushed (Ok u) none is same = (last_on none, same ∙ h.same)
+    last_flushed (Err fault) none is failed = subst (CutsPayload sealing n key first now text) (sym is) (last_cut failed)
+
+-- what was pulled and what was written
+pub moved : {old new : SourceView} {pulls : ℕ} {was now : WriterView} {text out : List ℕ} → Pulled (start_at old.supply) new.supply pulls text
+    → Wrote was now out → ReadsWrites (ports old was.sink) (ports new now.sink) was.tally.written now.tally.written text out
+moved p w = record { read = p.consumed; wrote = w.bytes; count = w.count; small = omega (arith, p.small, p.most) }
+
+-- why no more came
+pub source_fails : (sealing : List ℕ → List ℕ → List ℕ) (n : ℕ) (old : Ports) (x z : ReaderView) (sink : SinkView) (text : List ℕ) (fault : FileFault)
+    → NoneFailed old (ports x.source sink) → Pulled (start_at old.source.supply) z.source.supply z.unread.pulls text → PullFails x z fault
+    → SealingFails sealing n old (ports z.source sink) text (front_of sealing n text) fault
+source_fails sealing n old x z sink text fault h0 h1 h2 = grind (arith, common_steps)
+
+-- a source wasn't sealed to its end
+pub sealing_failed : {sealing : List ℕ → List ℕ → List ℕ} {n : ℕ} {old new : Ports} {was now : ℕ} {fault : FileFault}
+    → SealsFront sealing n old new was now fault → new.sink.label ≡ old.sink.label → SealsSource sealing n old new was now (Err fault)
+sealing_failed front named = record { done = tt; counted = tt; fails = front; settled = tt; named = named }
+
+-- it stopped where its payload was cut
+pub cut_source : {B : Type 0} {sealing : B → List ℕ → List ℕ → List ℕ} {n : ℕ} {key : B} {a source : SourceView} {pulls : ℕ} {first now : WriterView}
+    {text : List ℕ} {fault : FileFault} → source.failed ≡ a.failed → Pulled (start_at a.supply) source.supply pulls text
+    → CutsPayload sealing n key first now text fault
+    → SealsSource (sealing key) n (ports a first.sink) (ports source now.sink) first.tally.written now.tally.written (Err fault)
+cut_source {B} {sealing} {n} {key} {a} {source} {pulls} {first} {now} {text} {fault} same pulled cut =
+    sealing_failed (record { text = text; out = cut.out; moved = moved pulled cut.wrote; prefix = cut.prefix; fails = fails fault cut.why })
+    cut.wrote.named where
+      fails : (fault : FileFault) → SealFails n first now text fault
+          → SealingFails (sealing key) n (ports a first.sink) (ports source now.sink) text cut.out fault
+      fails (Stream f) why = (why.0, why.1, (same, why.2))
+      fails Write why = (why, same)
+      fails other why = absurd why
+
+-- ---- A file's front, and what of the file was written.
+
+mac_holds : (pass : List ℕ) (log : ℕ) (salt key : List ℕ) → IsMacOf (scrypt_head pass log salt key) key
+unfolding scrypt_head header_mac
+mac_holds pass log salt key = refl
+
+file_of : {s : SecretView} {front : List ℕ} → BeginsFile s front → (text : List ℕ) → AgeFile s text (front ++ payload (box s.key s.nonce) chunk_length text)
+file_of {s} {front} begins text = record {
+  front = begins.front;
+  head = begins.head;
+  mac = mac_holds s.pass s.log s.salt s.key;
+  size = begins.size;
+  parts = ap (λ (t : List ℕ). t ++ payload (box s.key s.nonce) chunk_length text) begins.parts;
+}
+
+-- what stands before the payload was not written
+pub front_fails : (s : SecretView) (source : SourceView) (was now : WriterView) (fault : FileFault) → FrontFails s was now fault
+    → EncryptFails s (ports source was.sink) (ports source now.sink) fault
+unfolding file_of
+front_fails s source was now Memory f = ap (λ w. ports source w.sink) f
+front_fails s source was now Write f =
+    let none = payload (box s.key s.nonce) chunk_length [] in
+    record {
+      text = [];
+      file = f.front ++ none;
+      out = f.out;
+      is = file_of f.begins [];
+      read = Consumes-nil source.supply;
+      wrote = f.wrote;
+      prefix = (f.unwritten ++ none, sym (append_assoc f.out f.unwritten none) ∙ ap (λ (t : List ℕ). t ++ none) (sym f.parts));
+      why = (f.failed, refl);
+    }
+front_fails s source was now other f = absurd f
+
+-- it was, and the payload followed
+module _ {s : SecretView} {was mid : WriterView} (front : WroteFront s was mid) (source : SourceView) (new : Ports) (total : ℕ) where
+  abbrev before : Ports
+  before = ports source was.sink
+
+  abbrev between : Ports
+  between = ports source mid.sink
+
+  abbrev seal : List ℕ → List ℕ → List ℕ
+  seal = box s.key s.nonce
+
+  pub file_done : (result : Result Written FileFault) → IfOk result (λ w. w.file ≡ total)
+      → IfOk result (λ w. SealsAll seal chunk_length between new mid.tally.written total w.plain) → IfOk result (Encrypts s before new)
+  file_done (Ok w) all a =
+      let sealed = payload seal chunk_length a.text in
+      record {
+        text = a.text;
+        file = front.front ++ sealed;
+        few = a.few;
+        is = file_of front.begins a.text;
+        read = a.moved.read;
+        at_end = a.at_end;
+        wrote = Appends-trans was.sink.taken mid.sink.taken new.sink.taken front.front sealed front.wrote a.moved.wrote;
+        plain_is = a.plain_is;
+        file_is = omega (arith, all, a.moved.count, front.count, length-append front.front sealed);
+        none_failed = (a.none_failed.0, a.none_failed.1 ∙ front.failed);
+      }
+  file_done (Err fault) all a = tt
+
+  -- the blocks before the last, after what stands before them
+  last_missing : (text out : List ℕ) → out ≡ front_of seal chunk_length text → front.front ++ out ≡ without_last s front.begins.front text
+  last_missing text out e = ap (λ (t : List ℕ). front.front ++ t) e ∙ ap (λ (t : List ℕ). t ++ front_of seal chunk_length text) front.begins.parts
+
+  why_stopped : (text out : List ℕ) (fault : FileFault) → SealingFails seal chunk_length between new text out fault
+      → WhyStopped s before new front.begins.front text (front.front ++ out) fault
+  why_stopped text out fault h0 = grind (arith, common_steps, last_missing)
+
+  stopped : (fault : FileFault) → SealsFront seal chunk_length between new mid.tally.written total fault → EncryptsFront s before new fault
+  unfolding file_of
+  stopped fault a =
+      record {
+        text = a.text;
+        file = front.front ++ payload seal chunk_length a.text;
+        out = front.front ++ a.out;
+        is = file_of front.begins a.text;
+        read = a.moved.read;
+        wrote = Appends-trans was.sink.taken mid.sink.taken new.sink.taken front.front a.out front.wrote a.moved.wrote;
+        prefix = (a.prefix.0, append_assoc front.front a.out a.prefix.0 ∙ ap (λ (t : List ℕ). front.front ++ t) a.prefix.1);
+        why = why_stopped a.text a.out fault a.fails;
+      }
+
+  pub file_stopped : (result : Result Written FileFault)
+      → IfErr result (SealsFront seal chunk_length between new mid.tally.written total) → IfErr result (EncryptFails s before new)
+  file_stopped result h0 = grind (arith, common_steps, stopped)
 
 -- ---- What flows from a source through an opener to a sink, one turn after another. A chunk has n
 -- bytes.
@@ -39,105 +301,84 @@ FlowFails opener old new left unwritten ReadNeverEnds = (left ≡ []) × (unwrit
     × (has_failed opener.status ≡ false) × (new.reader.unread.pulls ≡ 2 ^ 63) × NoneFailed (ports_at old) (ports_at new)
 FlowFails opener old new left unwritten other = ⊥
 
-module _ {B : Type 0} (opening : B → List ℕ → List ℕ → Option (List ℕ)) (n : ℕ) where
+module _ {B : Type 0} (opening : B → List ℕ → List ℕ → Option (List ℕ)) (n : ℕ) (key : B) (k : ℕ) where
   -- of what was unread and what was pulled, this much was fed, and the rest was left
-  pub record Flows (a b : OpenerView B) (old new : Stage) (left unwritten : List ℕ) : Type 0 where
+  pub record Flows (o : OpenerView B) (old new : Stage) (left unwritten : List ℕ) : Type 0 where
     pub fed : List ℕ
     pub fresh : List ℕ
     pub parts : old.reader.unread.bytes ++ fresh ≡ fed ++ left
-    pub releases : Releases opening n (λ s. with_piece s fed) a b old.writer new.writer unwritten
+    pub released : HasReleased opening n key old.writer o new.writer (segment k fed false) unwritten
     pub pulled : (start : Start) (bytes : List ℕ) → Pulled start old.reader.source.supply old.reader.unread.pulls bytes
         → Pulled start new.reader.source.supply new.reader.unread.pulls (bytes ++ fresh)
 
   -- all but what is unread was fed and written, and there is room for it: few bytes for the pulls
   -- that were made
-  pub record GoesOn (a b : OpenerView B) (old new : Stage) : Type 0 where
-    pub flows : Flows a b old new new.reader.unread.bytes []
-    pub sound : has_failed b.status ≡ false
+  pub record GoesOn (o : OpenerView B) (old new : Stage) : Type 0 where
+    pub flows : Flows o old new new.reader.unread.bytes []
+    pub sound : has_failed o.status ≡ false
     pub same : NoneFailed (ports_at old) (ports_at new)
-    pub room : length b.held + new.writer.tally.written + length new.reader.unread.bytes ≤ 2 ^ 64 + pull_room * new.reader.unread.pulls
+    pub room : length o.held + new.writer.tally.written + length new.reader.unread.bytes ≤ 2 ^ 64 + pull_room * new.reader.unread.pulls
     pub most : new.reader.unread.pulls ≤ 2 ^ 63
 
   -- all that the source gave was fed, up to its end
-  pub record Ends (a b : OpenerView B) (old new : Stage) : Type 0 where
-    pub flows : Flows a b old new [] []
+  pub record Ends (o : OpenerView B) (old new : Stage) : Type 0 where
+    pub flows : Flows o old new [] []
     pub same : NoneFailed (ports_at old) (ports_at new)
     pub at_end : IsAtEnd new.reader.source.supply
-    pub room : length b.held + new.writer.tally.written < 2 ^ 128
+    pub room : length o.held + new.writer.tally.written < 2 ^ 128
 
   -- it stopped before
-  pub record Stops (a b : OpenerView B) (old new : Stage) (fault : FileFault) : Type 0 where
+  pub record Stops (o : OpenerView B) (old new : Stage) (fault : FileFault) : Type 0 where
     pub left : List ℕ
     pub unwritten : List ℕ
-    pub flows : Flows a b old new left unwritten
-    pub why : FlowFails b old new left unwritten fault
+    pub flows : Flows o old new left unwritten
+    pub why : FlowFails o old new left unwritten fault
 
-  pub begins : (a : OpenerView B) (old : Stage) → length a.held + old.writer.tally.written + length old.reader.unread.bytes
-      ≤ 2 ^ 64 + pull_room * old.reader.unread.pulls → old.reader.unread.pulls ≤ 2 ^ 63 → has_failed a.status ≡ false → GoesOn a a old old
-  begins a old room most sound =
-      record {
-        flows = record {
-          fed = [];
-          fresh = [];
-          parts = append-nil old.reader.unread.bytes;
-          releases = releases_none opening n a old.writer;
-          pulled = λ start bytes h. subst (λ (t : List ℕ). Pulled start old.reader.source.supply old.reader.unread.pulls t)
-              (sym (append-nil bytes)) h;
-        };
-        sound = sound;
-        same = (refl, refl);
-        room = room;
-        most = most;
-      }
+  pub begins : (o : OpenerView B) (old : Stage) → length o.held + old.writer.tally.written + length old.reader.unread.bytes
+      ≤ 2 ^ 64 + pull_room * old.reader.unread.pulls → old.reader.unread.pulls ≤ 2 ^ 63 → has_failed o.status ≡ false
+      → HasReleased opening n key old.writer o old.writer (segment k [] false) [] → GoesOn o old old
+  begins o old room most sound released = grind (arith, common_steps, append-nil)
 
-  module _ {a b : OpenerView B} (c : OpenerView B) {old : Stage} {source : SourceView} {u : Unread} (v : Unread) {was : WriterView} (now : WriterView)
-      {piece : List ℕ} (is : piece ≡ u.bytes) (pulls : v.pulls ≡ u.pulls) (p : GoesOn a b old (stage (reader_view source u) was)) where
-    -- this much of the piece that was unread was fed
-    fed_on : (fed left unwritten : List ℕ) → piece ≡ fed ++ left → Releases opening n (λ s. with_piece s fed) b c was now unwritten
-        → Flows a c old (stage (reader_view source v) now) left unwritten
-    fed_on fed left unwritten parts releases =
-        let f = p.flows in
+  module _ {b : OpenerView B} (c : OpenerView B) {old : Stage} {source : SourceView} {u : Unread} (v : Unread) {was : WriterView} (now : WriterView)
+      {piece : List ℕ} (is : piece ≡ u.bytes) (pulls : v.pulls ≡ u.pulls) (p : GoesOn b old (stage (reader_view source u) was)) where
+    -- the bytes up to the piece that was unread are these
+    fed_on : (fed left unwritten : List ℕ) → p.flows.fed ++ piece ≡ fed ++ left
+        → HasReleased opening n key old.writer c now (segment k fed false) unwritten
+        → Flows c old (stage (reader_view source v) now) left unwritten
+    fed_on fed left unwritten parts released = grind (arith, common_steps)
+
+    pub fed_all : v.bytes ≡ [] → FeedsPiece opening n b c was now piece (Ok tt) → FeedGoes opening n b c was now piece
+        → GoesOn c old (stage (reader_view source v) now)
+    fed_all used f goes =
+        let fed = p.flows.fed in
         record {
-          fed = f.fed ++ fed;
-          fresh = f.fresh;
-          parts = f.parts ∙ (ap (λ (t : List ℕ). f.fed ++ t) (sym is ∙ parts) ∙ sym (append_assoc f.fed fed left));
-          releases = releases_then opening n f.fed fed f.releases releases;
-          pulled = λ start bytes h. subst (λ (k : ℕ). Pulled start source.supply k (bytes ++ f.fresh)) (sym pulls) (f.pulled start bytes h);
-        }
-
-    pub fed_all : v.bytes ≡ [] → FeedsPiece opening n b c was now piece (Ok tt) → GoesOn a c old (stage (reader_view source v) now)
-    fed_all used f =
-        let goes = f.answered.1 in
-        let flows = fed_on f.fed f.left f.unwritten f.parts f.releases in
-        let whole = subst (λ (t : List ℕ). Flows a c old (stage (reader_view source v) now) f.left t) goes.1 flows in
-        record {
-          flows = subst (λ (t : List ℕ). Flows a c old (stage (reader_view source v) now) t []) (f.answered.0 ∙ sym used) whole;
-          sound = goes.3;
-          same = (p.same.0, goes.2 ∙ p.same.1);
-          room = omega (arith, p.room, goes.0, pulls, ap length used, ap length is, ap length f.parts, length-append f.fed f.left);
+          flows = subst (λ (t : List ℕ). Flows c old (stage (reader_view source v) now) t []) (sym used)
+              (fed_on (fed ++ piece) [] [] (sym (append-nil (fed ++ piece))) (f key k old.writer fed p.flows.released));
+          sound = goes.2;
+          same = (p.same.0, goes.1 ∙ p.same.1);
+          room = omega (arith, p.room, goes.0, pulls, ap length used, ap length is);
           most = omega (arith, p.most, pulls);
         }
 
     feed_fails : (left unwritten : List ℕ) (fault : FileFault) → FeedFails opening n c was now left unwritten fault
         → FlowFails c old (stage (reader_view source v) now) left unwritten fault
-    feed_fails left unwritten (Stream f) h = (h.0, h.1, h.2, (p.same.0, h.3 ∙ p.same.1))
-    feed_fails left unwritten Write h = (h.1, (subst (λ (k : ℕ). HasFailed k now.sink.failed now.sink.failing) p.same.1 h.0, p.same.0))
-    feed_fails left unwritten other h = absurd h
+    feed_fails left unwritten fault h0 = grind (arith, common_steps)
 
     -- the piece was refused, or the sink failed
-    pub feed_stops : (fault : FileFault) → FeedsPiece opening n b c was now piece (Err fault) → Stops a c old (stage (reader_view source v) now) fault
+    pub feed_stops : (fault : FileFault) → FeedsPiece opening n b c was now piece (Err fault) → Stops c old (stage (reader_view source v) now) fault
     feed_stops fault f =
+        let t = f key k old.writer p.flows.fed p.flows.released in
         record {
-          left = f.left;
-          unwritten = f.unwritten;
-          flows = fed_on f.fed f.left f.unwritten f.parts f.releases;
-          why = feed_fails f.left f.unwritten fault f.answered;
+          left = t.left;
+          unwritten = t.unwritten;
+          flows = fed_on t.fed t.left t.unwritten t.parts t.released;
+          why = feed_fails t.left t.unwritten fault t.why;
         }
 
   -- if all was fed, the next piece is pulled
-  module _ {a b : OpenerView B} {old : Stage} {x : ReaderView} (z : ReaderView) {now : WriterView}
-      (used : x.unread.bytes ≡ []) (p : GoesOn a b old (stage x now)) where
-    pulled_on : (result : Result Bool FileFault) → Refills x z result → Flows a b old (stage z now) z.unread.bytes []
+  module _ {b : OpenerView B} {old : Stage} {x : ReaderView} (z : ReaderView) {now : WriterView}
+      (used : x.unread.bytes ≡ []) (p : GoesOn b old (stage x now)) where
+    pulled_on : (result : Result Bool FileFault) → Refills x z result → Flows b old (stage z now) z.unread.bytes []
     pulled_on result r =
         let f = p.flows in
         record {
@@ -145,12 +386,12 @@ module _ {B : Type 0} (opening : B → List ℕ → List ℕ → Option (List �
           fresh = f.fresh ++ z.unread.bytes;
           parts = sym (append_assoc old.reader.unread.bytes f.fresh z.unread.bytes) ∙ ap (λ (t : List ℕ). t ++ z.unread.bytes)
               (f.parts ∙ (ap (λ (t : List ℕ). f.fed ++ t) used ∙ append-nil f.fed));
-          releases = f.releases;
+          released = f.released;
           pulled = λ start bytes h. subst (λ (t : List ℕ). Pulled start z.source.supply z.unread.pulls t) (append_assoc bytes f.fresh z.unread.bytes)
               (r.pulled start (bytes ++ f.fresh) (f.pulled start bytes h));
         }
 
-    pub pulled_more : Refills x z (Ok true) → GoesOn a b old (stage z now)
+    pub pulled_more : Refills x z (Ok true) → GoesOn b old (stage z now)
     pulled_more r =
         let h = r.answered in
         record {
@@ -161,28 +402,19 @@ module _ {B : Type 0} (opening : B → List ℕ → List ℕ → Option (List �
           most = h.2;
         }
 
-    pub pulled_none : Refills x z (Ok false) → Ends a b old (stage z now)
-    pulled_none r =
-        let h = r.answered in
-        record {
-          flows = subst (λ (t : List ℕ). Flows a b old (stage z now) t []) h.0 (pulled_on (Ok false) r);
-          same = (h.3 ∙ p.same.0, p.same.1);
-          at_end = h.2;
-          room = omega (arith, p.room, p.most);
-        }
+    pub pulled_none : Refills x z (Ok false) → Ends b old (stage z now)
+    pulled_none r = grind (arith, common_steps, pulled_on)
 
-    pull_fails : (fault : FileFault) → z.unread.bytes ≡ [] → PullFails x z fault → FlowFails b old (stage z now) z.unread.bytes [] fault
-    pull_fails Read none h = (none, refl, p.sound, (subst (λ (k : ℕ). HasFailed k z.source.failed z.source.failing) p.same.0 h, p.same.1))
-    pull_fails ReadNeverEnds none h = (none, refl, p.sound, h.0, (h.1 ∙ p.same.0, p.same.1))
-    pull_fails other none h = absurd h
+    flow_fails : (fault : FileFault) → z.unread.bytes ≡ [] → PullFails x z fault → FlowFails b old (stage z now) z.unread.bytes [] fault
+    flow_fails fault h0 h1 = grind (arith, common_steps)
 
-    pub pull_stops : (fault : FileFault) → Refills x z (Err fault) → Stops a b old (stage z now) fault
+    pub pull_stops : (fault : FileFault) → Refills x z (Err fault) → Stops b old (stage z now) fault
     pull_stops fault r =
         record {
           left = z.unread.bytes;
           unwritten = [];
           flows = pulled_on (Err fault) r;
-          why = pull_fails fault r.answered.0 r.answered.2;
+          why = flow_fails fault r.answered.0 r.answered.2;
         }
 
 -- ---- From what an opener did to the segment that it was given.
@@ -199,9 +431,7 @@ module _ (op : List ℕ → List ℕ → Option (List ℕ)) (n k : ℕ) where
 
   exact : (fed left out unwritten : List ℕ) → released op n (segment k fed false) ≡ out ++ unwritten → left ≡ [] → unwritten ≡ [] → out
       ≡ released op n (segment k (fed ++ left) false)
-  exact fed left out unwritten e none whole =
-      sym (append-nil out) ∙ (ap (λ (t : List ℕ). out ++ t) (sym whole) ∙ (sym e ∙ ap (λ (t : List ℕ). released op n (segment k t false))
-      (sym (append-nil fed) ∙ ap (λ (t : List ℕ). fed ++ t) (sym none))))
+  exact fed left out unwritten e none whole = rw (none, append-nil fed, e, whole, append-nil out)
 
   -- what was not written of the text of some bytes was not written of the text of more bytes
   less : (fed left out unwritten : List ℕ) → released op n (segment k fed false) ≡ out ++ unwritten → 0 < length unwritten
@@ -213,89 +443,47 @@ module _ (op : List ℕ → List ℕ → Option (List ℕ)) (n k : ℕ) where
 module _ {B : Type 0} (sealing : B → List ℕ → List ℕ → List ℕ) (opening : B → List ℕ → List ℕ → Option (List ℕ)) (valid : (key : B)
     → IsChunkBox (sealing key) (opening key)) (n : ℕ) (positive : 0 < n) where
   module _ (K : B) (k : ℕ) where
-    -- the text of a segment that an opener was given from its start
-    from_start : (next : Segment → Segment) (old new : OpenerView B) (was now : WriterView)
-        (unwritten : List ℕ) → old.key ≡ K → Stands opening n old (fresh k) → (o : Releases opening n next old new was now unwritten)
-        → released (opening K) n (next (fresh k)) ≡ o.out ++ unwritten
-    from_start next old new was now unwritten key h o =
-        let t = subst (λ c. released (opening c) n (next (fresh k))
-        ≡ released (opening c) n (fresh k) ++ (o.out ++ unwritten)) key (o.text (fresh k) h) in
-        t ∙ ap (λ (x : Outcome). flat_map (λ (y : List ℕ). y) x.texts ++ (o.out ++ unwritten)) (fresh_is_open (opening K) n k)
+    -- what the tally counts at the end, after a base
+    counted : {o : OpenerView B} {was now : WriterView} {s : Segment} {unwritten : List ℕ} (more : List ℕ) (last : Segment) → with_piece s more ≡ last
+        → (h : HasReleased opening n K was o now s unwritten) → (keep : PositionPolicy) (base : List ℕ) → length base ≡ s.start * n
+        → was.tally.index ≡ s.start → was.tally.chain ≡ chain_if keep (first_chunks n s.start base)
+        → HasCounted keep (opening K) n (base ++ h.out) last now.tally
+    counted {o} {was} {now} {s} {unwritten} more last is h keep base len index chain_is =
+        marked (sealing K) (opening K) (valid K) n positive keep base s last more h.out unwritten now.tally is h.text (h.counts keep base len index
+        chain_is)
 
-    -- where the opener then stands
-    status_of : (next : Segment → Segment) (old new : OpenerView B) (was now : WriterView)
-        (unwritten : List ℕ) → old.key ≡ K → Stands opening n old (fresh k) → (o : Releases opening n next old new was now unwritten)
-        → new.status ≡ (outcome (opening K) n (next (fresh k))).status
-    status_of next old new was now unwritten key h o =
-        (o.stands (fresh k) h).status ∙ ap (λ c. (outcome (opening c) n (next (fresh k))).status) (o.key ∙ key)
-
-    -- what the tally then counts, after a base
-    counts_of : (next : Segment → Segment) (old new : OpenerView B) (was now : WriterView) (more unwritten : List ℕ) (last : Segment) → old.key ≡ K
-        → Stands opening n old (fresh k) → with_piece (next (fresh k)) more ≡ last → (o : Releases opening n next old new was now unwritten)
-        → (keep : PositionPolicy) (base : List ℕ) → length base ≡ k * n → was.tally.index ≡ k
-        → was.tally.chain ≡ chain_if keep (first_chunks n k base) → HasCounted keep (opening K) n (base ++ o.out) last now.tally
-    counts_of next old new was now more unwritten last key h is o keep base len index chain_is =
-        let e = from_start next old new was now unwritten key h o in
-        let first = mark_fresh (sealing old.key) (opening old.key) (valid old.key) n positive keep base k was.tally len index chain_is in
-        let m = subst (λ c. CountsChunks keep (opening c) n base (next (fresh k)) unwritten now.tally) key
-        (o.counts keep positive (fresh k) base len h first) in
-        marked (sealing K) (opening K) (valid K) n positive keep base (next (fresh k)) last more o.out unwritten now.tally is e m
+    -- where the opener stands
+    status_of : {o : OpenerView B} {was now : WriterView} {s : Segment} {unwritten : List ℕ} → HasReleased opening n K was o now s unwritten
+        → o.status ≡ (outcome (opening K) n s).status
+    status_of {o} {was} {now} {s} {unwritten} h = h.stands.status ∙ ap (λ x. (outcome (opening x) n s).status) h.key_is
 
     -- an opener that has no fault, if all was fed
     still_sound : (o : OpenerView B) (fed left : List ℕ) → left ≡ [] → o.status ≡ (outcome (opening K) n (segment k fed false)).status
         → has_failed o.status ≡ false → has_failed (outcome (opening K) n (segment k (fed ++ left) false)).status ≡ false
-    still_sound o fed left none s h =
-        let same : fed ++ left ≡ fed = ap (λ (t : List ℕ). fed ++ t) none ∙ append-nil fed in
-        ap (λ (t : List ℕ). has_failed (outcome (opening K) n (segment k t false)).status) same ∙ (ap has_failed (sym s) ∙ h)
+    still_sound o fed left none s h = rw (none, append-nil fed, ← s) h
 
     stop_fails : (o : OpenerView B) (old new : Stage) (fed left out unwritten : List ℕ)
         (fault : FileFault) → released (opening K) n (segment k fed false) ≡ out ++ unwritten
         → o.status ≡ (outcome (opening K) n (segment k fed false)).status → FlowFails o old new left unwritten fault
         → SegmentFails (opening K) n old new (segment k (fed ++ left) false) out fault
-    stop_fails o old new fed left out unwritten (Stream f) e s h =
-        let same : fed ≡ fed ++ left = sym (append-nil fed) ∙ ap (λ (t : List ℕ). fed ++ t) (sym h.1) in (
-          ap (λ (t : List ℕ). (outcome (opening K) n (segment k t false)).status) (sym same) ∙ (sym s ∙ h.0),
-          exact (opening K) n k fed left out unwritten e h.1 h.2,
-          h.3,
-        )
-    stop_fails o old new fed left out unwritten Write e s (inl some, h) = (inl (less (opening K) n k fed left out unwritten e some), h)
-    stop_fails o old new fed left out unwritten Write e s (inr done, h) =
-        let same : fed ≡ fed ++ left = sym (append-nil fed) ∙ ap (λ (t : List ℕ). fed ++ t) (sym done.0) in (
-          inr (ap (λ (t : List ℕ). (outcome (opening K) n (segment k t false)).status) (sym same) ∙ (sym s ∙ done.1)),
-          h,
-        )
-    stop_fails o old new fed left out unwritten Read e s h = (
-      exact (opening K) n k fed left out unwritten e h.0 h.1,
-      (refl, still_sound o fed left h.0 s h.2),
-      h.3,
-    )
-    stop_fails o old new fed left out unwritten ReadNeverEnds e s h = (
-      exact (opening K) n k fed left out unwritten e h.0 h.1,
-      (refl, still_sound o fed left h.0 s h.2),
-      h.3,
-      h.4,
-    )
-    stop_fails o old new fed left out unwritten other e s h = absurd h
+    stop_fails o old new fed left out unwritten fault h0 h1 h2 = grind (arith, common_steps, append-nil, exact, less, still_sound)
 
-    pub pour_stopped : (a b : OpenerView B) (old new : Stage) (fault : FileFault) → a.key ≡ K
-        → Stands opening n a (fresh k) → Stops opening n a b old new fault → DecryptsPayload (opening K) n k old new (Err fault)
-    pour_stopped a b old new fault key h t =
+    pub pour_stopped : (b : OpenerView B) (old new : Stage) (fault : FileFault) → Stops opening n K k b old new fault
+        → DecryptsPayload (opening K) n k old new (Err fault)
+    pour_stopped b old new fault t =
         let f = t.flows in
-        let next : Segment → Segment = λ s. with_piece s f.fed in
-        let e = from_start next a b old.writer new.writer t.unwritten key h f.releases in
-        let s = status_of next a b old.writer new.writer t.unwritten key h f.releases in
         record {
           bytes = f.fed ++ t.left;
           ended = false;
-          out = f.releases.out;
+          out = f.released.out;
           fresh = f.fresh;
           parts = f.parts;
           pulled = f.pulled;
           at_end = λ x. cc;
-          wrote = f.releases.wrote;
-          counts = counts_of next a b old.writer new.writer t.left t.unwritten (segment k (f.fed ++ t.left) false) key h refl f.releases;
-          prefix = prefix_of (opening K) n k f.fed t.left f.releases.out t.unwritten e;
-          answered = stop_fails b old new f.fed t.left f.releases.out t.unwritten fault e s t.why;
+          wrote = f.released.wrote;
+          counts = counted t.left (segment k (f.fed ++ t.left) false) refl f.released;
+          prefix = prefix_of (opening K) n k f.fed t.left f.released.out t.unwritten f.released.text;
+          answered = stop_fails b old new f.fed t.left f.released.out t.unwritten fault f.released.text (status_of f.released) t.why;
           settled = tt;
         }
 
@@ -305,36 +493,15 @@ module _ {B : Type 0} (sealing : B → List ℕ → List ℕ → List ℕ) (open
         × (now.sink.failed ≡ mid.writer.sink.failed)) (FeedFails opening n c mid.writer now [] unwritten)
         → MatchResult result (λ _. SegmentDone (opening K) n old (stage mid.reader now) (segment k bytes true) out)
         (SegmentFails (opening K) n old (stage mid.reader now) (segment k bytes true) out)
-    done_or_fails c old mid now bytes out unwritten (Ok u) same e s h = (
-      refl,
-      sym s ∙ h.0,
-      sym (append-nil out) ∙ (ap (λ (t : List ℕ). out ++ t) (sym h.1) ∙ sym e),
-      (same.0, h.2 ∙ same.1),
-    )
-    done_or_fails c old mid now bytes out unwritten (Err (Stream f)) same e s h = (
-      sym s ∙ h.0,
-      sym (append-nil out) ∙ (ap (λ (t : List ℕ). out ++ t) (sym h.2) ∙ sym e),
-      (same.0, h.3 ∙ same.1),
-    )
-    done_or_fails c old mid now bytes out unwritten (Err Write) same e s (h, inl some) = (
-      inl (omega (arith, some, ap length e, length-append out unwritten)),
-      (subst (λ (x : ℕ). HasFailed x now.sink.failed now.sink.failing) same.1 h, same.0),
-    )
-    done_or_fails c old mid now bytes out unwritten (Err Write) same e s (h, inr done) = (
-      inr (sym s ∙ done.1),
-      (subst (λ (x : ℕ). HasFailed x now.sink.failed now.sink.failing) same.1 h, same.0),
-    )
-    done_or_fails c old mid now bytes out unwritten (Err other) same e s h = absurd h
+    done_or_fails c old mid now bytes out unwritten result h0 h1 h2 h3 = grind (arith, common_steps, append-nil, length-append)
 
-    pub pour_ended : (a b c : OpenerView B) (old mid : Stage) (now : WriterView) (result : Result (Unit {0}) FileFault) → a.key ≡ K
-        → Stands opening n a (fresh k) → Ends opening n a b old mid → ClosesPayload opening n b c mid.writer now result
-        → OnOk result (now.sink.settled ≡ true) → DecryptsPayload (opening K) n k old (stage mid.reader now) result
-    pour_ended a b c old mid now result key h t end settled =
+    pub pour_ended : (b c : OpenerView B) (old mid : Stage) (now : WriterView) (result : Result (Unit {0}) FileFault) → Ends opening n K k b old mid
+        → EndsFeed opening n b c mid.writer now result → OnOk result (now.sink.settled ≡ true)
+        → DecryptsPayload (opening K) n k old (stage mid.reader now) result
+    pour_ended b c old mid now result t ends settled =
         let f = t.flows in
-        let next : Segment → Segment = λ s. with_end (with_piece s f.fed) in
-        let all = releases_next opening n f.fed with_end next (λ s. refl) f.releases end.releases in
-        let e = from_start next a c old.writer now end.unwritten key h all in
-        let s = status_of next a c old.writer now end.unwritten key h all in
+        let end = ends K k old.writer f.fed f.released in
+        let all = end.released in
         record {
           bytes = f.fed;
           ended = true;
@@ -344,8 +511,8 @@ module _ {B : Type 0} (sealing : B → List ℕ → List ℕ → List ℕ) (open
           pulled = f.pulled;
           at_end = λ x. t.at_end;
           wrote = all.wrote;
-          counts = counts_of next a c old.writer now [] end.unwritten (segment k f.fed true) key h (no_piece (segment k f.fed true)) all;
-          prefix = (end.unwritten, sym e);
-          answered = done_or_fails c old mid now f.fed all.out end.unwritten result t.same e s end.answered;
+          counts = counted [] (segment k f.fed true) (no_piece (segment k f.fed true)) all;
+          prefix = (end.unwritten, sym all.text);
+          answered = done_or_fails c old mid now f.fed all.out end.unwritten result t.same all.text (status_of all) end.answered;
           settled = settled;
         }

@@ -1,3 +1,4 @@
+use Rattle.std.proofs.lemmas.Grind.{common_steps}
 use Rattle.std.proofs.Common.{◌≡◌, ℕ, ◌+◌, ◌-◌, ◌≤◌, ◌<◌, List, [], ◌∷◌, ◌++◌, length, take, drop, get_or, Result, Ok, Err, Option, Some, None, Bool, true}
 use Rattle.std.proofs.Common.{false, not, eqb, codes, refl, sym, ap, ◌∙◌, arith, append_assoc}
 use Rattle.std.proofs.lemmas.List.{length-append, take-append-drop, take_rest, length-drop, drop-drop, get_or-drop}
@@ -14,14 +15,12 @@ use Rattle.std.proofs.lemmas.Fmt.{IsAscii-decimal, parse-decimal}
 use Rattle.base64.specs.GeneralPurpose.{IsBytes, decode_of}
 use Rattle.base64.specs.Engines.{standard_no_pad}
 use Rattle.base64.specs.declared.decode.DecodeError.{DecodeError}
-use Rattle.age_stanza.specs.Text.{base64_text as text}
-use Rattle.age_stanza.proofs.TextLemmas.{length-text, IsBytes-drop}
+use Rattle.age_stanza.specs.{base64_text as text}
+use Rattle.age_stanza.proofs.{length-text, IsBytes-drop}
 use Rattle.age_stanza.proofs.Base64Lemmas.{text_of_decoded, decoded_size, never_decodes}
-use Rattle.age_file.specs.declared.position.Position.{Position}
-use Rattle.age_file.specs.Bindings.{position_front}
-use Rattle.age_file.specs.Resumes.{position_text, IsDigest}
-use Rattle.age_file.specs.inner.Parts.{index_text, field_text, fields_text}
-use Rattle.age_chunk.specs.Payload.{chunk_limit}
+use Rattle.age_file.specs.{Position, position_front, position_text, IsDigest}
+use Rattle.age_file.specs.inner.{index_text, field_text, fields_text}
+use Rattle.age_chunk.specs.{chunk_limit}
 
 -- a list that is cut where its second part begins
 front_is : (a b x : List ℕ) (n : ℕ) → length a ≡ n → x ≡ a ++ b → take n x ≡ a
@@ -60,9 +59,7 @@ same_of [] = refl
 same_of (x ∷ xs) = and_from (eqb x x) (pointwise eqb xs xs) (eq-eqb x x refl) (same_of xs)
 
 pub never_differs : (xs ys : List ℕ) → false ≡ pointwise eqb xs ys → xs ≡ ys → ⊥
-never_differs xs ys test e =
-    let holds : pointwise eqb xs ys ≡ true = ap (pointwise eqb xs) (sym e) ∙ same_of xs in
-    absurd cc
+never_differs xs ys test e = grind (arith, common_steps, same_of)
 
 pub same_unless : (xs ys : List ℕ) → false ≡ not (pointwise eqb xs ys) → xs ≡ ys
 same_unless xs ys test = same_text xs ys (sym (from_not (pointwise eqb xs ys) test)) where
@@ -72,10 +69,7 @@ same_unless xs ys test = same_text xs ys (sym (from_not (pointwise eqb xs ys) te
 
 pub index_read : (r : Option ℕ) (front version : List ℕ) → take 16 front ≡ version → IfSome r (λ index. take (length front - 16) (drop 16 front)
     ≡ decimal index) → IfSome r (λ index. front ≡ version ++ decimal index)
-index_read None front version begins h = tt
-index_read (Some index) front version begins h =
-    sym (take-append-drop 16 front) ∙ ap (λ (xs : List ℕ). xs ++ drop 16 front) begins
-    ∙ ap (λ (xs : List ℕ). version ++ xs) (sym (take_rest front 16) ∙ h)
+index_read r front version h0 h1 = grind (arith, common_steps, take-append-drop, take_rest)
 
 -- ---- a field
 
@@ -97,9 +91,7 @@ module _ (field : List ℕ) where
 
   pub digest_short : (bytes out : List ℕ) (n : ℕ) → (n ≡ 32 → ⊥) → n ≤ length out → decode_of standard_no_pad (take (length field - 1) (drop 1 field))
       ≡ Ok (take n out) → IsDigest bytes → field ≡ field_text bytes → ⊥
-  digest_short bytes out n differs room decoded digest e =
-      differs (decoded_size (drop 1 field) bytes out n room (ap (decode_of standard_no_pad) behind ∙ decoded) digest.fits (ap (drop 1) e)
-      ∙ digest.size)
+  digest_short bytes out n differs room decoded digest e = grind (arith, common_steps, behind, decoded_size)
 
   pub digest_none : (bytes : List ℕ) (error : DecodeError) → decode_of standard_no_pad (take (length field - 1) (drop 1 field)) ≡ Err error
       → IsDigest bytes → field ≡ field_text bytes → ⊥
@@ -129,9 +121,7 @@ module _ (fields id links tag : List ℕ) (d1 : IsDigest id) (d2 : IsDigest link
   third_field = front_is (field_text tag) (codes "\n") (drop 88 fields) 44 (length-field tag d3) after_second
 
 one_element : (xs : List ℕ) → length xs ≡ 1 → get_or xs 0 0 ≡ 10 → xs ≡ 10 ∷ []
-one_element [] size is = absurd (omega (arith, size))
-one_element (x ∷ []) size is = ap (λ (k : ℕ). k ∷ []) is
-one_element (x ∷ y ∷ xs) size is = absurd (omega (arith, size))
+one_element xs h0 h1 = grind (arith, common_steps)
 
 -- fields that were read are the texts of what they say
 pub fields_are : (fields id links tag : List ℕ) → length fields ≡ 133 → take 44 fields ≡ field_text id → take 44 (drop 44 fields) ≡ field_text links

@@ -1,41 +1,32 @@
 -- What was read: bytes, a header, a nonce, and what was passed over; and what was written.
+use Rattle.std.proofs.lemmas.Grind.{common_steps}
 use Rattle.std.proofs.Common.{◌≡◌, ℕ, ◌≤◌, List, [], ◌++◌, length, take, drop, Option, Some, None, refl, sym, ap, subst, ◌∙◌, append_assoc, append-nil, inl}
 use Rattle.std.proofs.Common.{inr, arith, ◌<◌, suc, ◌*◌, ◌/◌}
-use Rattle.std.specs.Prelude.{Bool, ◌⊎◌, Result}
+use Rattle.std.specs.Prelude.{Bool, ◌⊎◌, Result, Ok, Err, MatchResult, IfErr, IfSome, IsErrAnd}
 use Rattle.std.specs.Io.KnownBytes as known
-use Rattle.age_io.specs.Supply.{Supply, Consumes, IsAtEnd}
+use Rattle.age_io.specs.Supply.{Supply}
+use Rattle.age_io.specs.{Consumes, IsAtEnd, SourceView, SinkView}
 use Rattle.std.proofs.lemmas.List.{take-append-drop, take_at, drop_at, length-take-le, length-append}
-use Rattle.age_io.specs.Io.{SourceView, SinkView}
+use Rattle.age_stanza.specs.{HasHeader, IsFault, memory_fault}
 use Rattle.age_stanza.specs.declared.fault.HeadFault.{HeadFault}
 use Rattle.age_stanza.specs.declared.fault.HeadKind.{HeadKind}
 use Rattle.age_stanza.specs.declared.fault.HeadKind.TheVariants.{Memory as HeadMemory}
-use Rattle.age_stanza.specs.Parsing.{HasHeader, IsFault, memory_fault}
-use Rattle.age_io.proofs.SupplyLemmas.{Consumes-nil}
-use Rattle.age_stanza.proofs.AnyPiecesLemmas.{more_fault}
-use Rattle.age_stanza.proofs.FinishedLineLemmas.{nothing_under_way}
-use Rattle.age_stanza.proofs.PieceLemmas.{none_held}
-use Rattle.age_stanza.proofs.FaultLemmas.{no_fault}
-use Rattle.age_stream.specs.Headline.{IsPrefixOf}
-use Rattle.age_file.specs.Runs.{pull_room, EndsInHeader, InHeader, IsCut, IsHeadFault, ReportsFault, StopsAtHeader, HeadFails, Ports, ports}
-use Rattle.age_fault.specs.inner.Faults.{fault_of, fault_by_kind, fault_of_key}
-use Rattle.age_fault.specs.declared.fault.FileFault.{FileFault}
-use Rattle.age_fault.specs.declared.fault.FileFault.TheVariants.{Head, Read, ReadNeverEnds, Memory, NonceCut, Stream}
-use Rattle.age_file.specs.inner.Readers.{Start, start_at, start_after, Pulled, PullFails, ReaderView, reader_view, WriterView, Wrote, ReadsHead, Refills}
-use Rattle.age_io.proofs.TakenLemmas.{Appends-nil, Appends-trans}
-use Rattle.age_fault.specs.Faults.{HasFailed}
-use Rattle.age_file.specs.inner.Parts.{Unread}
-use Rattle.age_file.specs.Reports.{InspectsFront, IsPlainOf, IsReport}
-use Rattle.age_file.specs.declared.report.Report.{Report}
 use Rattle.age_stanza.specs.declared.header.Header.{Header}
+use Rattle.age_io.proofs.{Consumes-nil, Appends-nil, Appends-trans}
+use Rattle.age_stanza.proofs.{more_fault, nothing_under_way, none_held, no_fault}
+use Rattle.age_stream.specs.{IsPrefixOf}
+use Rattle.age_file.specs.{pull_room, EndsInHeader, InHeader, IsCut, IsHeadFault, ReportsFault, StopsAtHeader, HeadFails, Ports, ports, InspectsFront}
+use Rattle.age_file.specs.{IsPlainOf, IsReport, Report, StartFails, InNonce, file_id, Unlocked, Head as TheHead}
+use Rattle.age_fault.specs.inner.{fault_of, fault_by_kind, fault_of_key}
+use Rattle.age_fault.specs.{HasFailed}
+use Rattle.age_fault.specs.declared.fault.FileFault.{FileFault}
+use Rattle.age_fault.specs.declared.fault.FileFault.TheVariants.{Read, ReadNeverEnds, NonceCut, Stream}
+use Rattle.age_file.specs.inner.{Start, start_at, start_after, Pulled, PullFails, ReaderView, reader_view, WriterView, Wrote, ReadsHead, Refills, Unread, Uses}
+use Rattle.age_file.specs.inner.{NonceFails, TakesNonce, StartsAt, Passes, NoMore, Dries, HasSome, SkipFails}
+use Rattle.age_keys.specs.{Opens, Refuses}
 use Rattle.age_keys.specs.declared.fault.KeyFault.{KeyFault}
 use Rattle.age_keys.specs.declared.fault.KeyFault.TheVariants.{Memory as KeyMemory}
-use Rattle.age_keys.specs.Keys.{Opens, Refuses}
-use Rattle.age_file.specs.Decrypts.{StartFails, InNonce}
-use Rattle.age_file.specs.inner.Copies.{Uses, NonceFails, TakesNonce, StartsAt, Passes, NoMore, Dries, HasSome, SkipFails}
 use Rattle.age_chunk.specs.declared.fault.StreamKind.TheVariants.{Truncated}
-use Rattle.age_file.specs.Bindings.{file_id}
-use Rattle.age_file.specs.declared.start.Unlocked.{Unlocked}
-use Rattle.age_file.specs.declared.head.Head.{Head as TheHead}
 use Rattle.std.proofs.Math.Nat.{mul-le-mul_right}
 
 -- ---- Bytes that are shown, one call after another.
@@ -83,13 +74,7 @@ regroup front nonce behind rest = append_assoc (front ++ nonce) behind rest ∙ 
 
 pub stops_at : (old new : Supply) (held piece : List ℕ) → length piece ≤ pull_room → EndsInHeader held → Consumes old new (held ++ piece)
     → StopsAtHeader old new
-stops_at old new held piece most inside consumed = record {
-  before = held;
-  last = piece;
-  read = consumed;
-  few = most;
-  in_header = inside;
-}
+stops_at old new held piece most inside consumed = grind (arith, common_steps)
 
 -- the last pull gave nothing
 pub stops_at_held : (old new : Supply) (held : List ℕ) → Consumes old new held → EndsInHeader held → StopsAtHeader old new
@@ -98,13 +83,7 @@ stops_at_held old new held consumed inside =
 
 -- nothing was pulled
 pub stops_unread : (a : Supply) → StopsAtHeader a a
-stops_unread a =
-    let started = nothing_under_way in
-    stops_at_held a a [] (Consumes-nil a) (record {
-      no_header = none_held [] (omega arith) started.goes_on;
-      no_fault = no_fault [] started.are_bytes started.goes_on;
-      short = omega arith;
-    })
+stops_unread a = grind (arith, common_steps, Consumes-nil, no_fault, none_held, nothing_under_way, stops_at_held)
 
 -- a fault that the bytes have is the fault that is reported
 fails_by_kind : (old new : SourceView) (kind : HeadKind) (fault : HeadFault) → StopsAtHeader old.supply new.supply
@@ -122,6 +101,12 @@ fault_of_all old new all fault shown r =
       | inr cut ↦ (let same : all ≡ r.bytes = t.1 ∙ ap (λ (x : List ℕ). r.bytes ++ x) (none_left new t.0 t.2 cut.0) ∙ append-nil r.bytes in
           subst (λ (x : List ℕ). IsHeadFault x fault) (sym same) (cut.1.0.no_header, inr cut.1))
     ]
+
+pub fault_if_shown : (old new : Supply) (fault : HeadFault) → ReportsFault old new fault → IfSome old.left (λ all. IsHeadFault all fault)
+fault_if_shown old new fault r = by old.left refl where
+  by : (left : Option (List ℕ)) → old.left ≡ left → IfSome left (λ all. IsHeadFault all fault)
+  by None e = tt
+  by (Some all) e = fault_of_all old new all fault e r
 
 -- the input ended inside the header
 pub end_fails : (old new : SourceView) (bytes : List ℕ) (fault : HeadFault) → Consumes old.supply new.supply bytes → IsAtEnd new.supply
@@ -151,17 +136,12 @@ piece_fails old new held piece fault stops consumed (inr is) =
 -- the bytes are sound in another sense too
 pub sound_too : (P Q : Supply → Supply → Type 0) (old new : SourceView) (fault : FileFault)
     → (P old.supply new.supply → Q old.supply new.supply) → HeadFails P old new fault → HeadFails Q old new fault
-sound_too P Q old new (Head x) sound f = f
-sound_too P Q old new Read sound f = (sound f.0, f.1)
-sound_too P Q old new Memory sound f = f
-sound_too P Q old new ReadNeverEnds sound f = (sound f.0, f.1)
-sound_too P Q old new other sound f = absurd f
+sound_too P Q old new fault h0 h1 = grind (arith, common_steps)
 
 -- a refill that gave nothing
 pub cut_pulled : {start : Start} {now : Supply} {pulls : ℕ} (held : List ℕ) {bytes : List ℕ} → bytes ≡ [] → Pulled start now pulls (held ++ bytes)
     → Pulled start now pulls held
-cut_pulled {start} {now} {pulls} held {bytes} none h =
-    subst (λ (t : List ℕ). Pulled start now pulls t) (ap (λ (t : List ℕ). held ++ t) none ∙ append-nil held) h
+cut_pulled {start} {now} {pulls} held {bytes} none h = rw (none, append-nil held) at h
 
 pub nothing_pulled : {x z : ReaderView} {result : Result Bool FileFault} {start : Start} {held : List ℕ} → Refills x z result → z.unread.bytes ≡ []
     → Pulled start x.source.supply x.unread.pulls held → Pulled start z.source.supply z.unread.pulls held
@@ -171,59 +151,34 @@ nothing_pulled {x} {z} {result} {start} {held} r none h = cut_pulled held none (
 pub pull_fails : (Sound : Supply → Supply → Type 0) (old : SourceView) (mid now : ReaderView) (held : List ℕ)
     (fault : FileFault) → mid.source.failed ≡ old.failed → Sound old.supply now.source.supply
     → Pulled (start_at old.supply) now.source.supply now.unread.pulls held → PullFails mid now fault → HeadFails Sound old now.source fault
-pull_fails Sound old mid now held Read same sound all f = (sound, subst (λ (m : ℕ). HasFailed m now.source.failed now.source.failing) same f)
-pull_fails Sound old mid now held ReadNeverEnds same sound all f = (
-  sound,
-  (held, all.consumed, (omega (arith, all.each_gave, f.0), omega (arith, all.small, f.0))),
-)
-pull_fails Sound old mid now held other same sound all f = absurd f
+pull_fails Sound old mid now held fault h0 h1 h2 h3 = grind (arith, common_steps)
 
 -- no more came, after pulls none of which failed
 pub pull_fails_since : (old mid new : ReaderView) (fault : FileFault) → mid.source.failed ≡ old.source.failed → PullFails mid new fault
     → PullFails old new fault
-pull_fails_since old mid new Read same f = subst (λ (m : ℕ). HasFailed m new.source.failed new.source.failing) same f
-pull_fails_since old mid new ReadNeverEnds same f = (f.0, f.1 ∙ same)
-pull_fails_since old mid new other same f = absurd f
+pull_fails_since old mid new fault h0 h1 = grind (arith, common_steps)
 
 -- ---- the pulls of a call, over its two sources
 
 -- the pulls of one source are counted on at another
 pub counted_on : (a b c : Supply) (pulls : ℕ) (front : List ℕ) → Pulled (start_at a) b pulls front → Pulled (start_after front c) c pulls []
-counted_on a b c pulls front h = record {
-  consumed = Consumes-nil c;
-  each_gave = omega (arith, h.each_gave);
-  small = omega (arith, h.small);
-  most = h.most;
-}
+counted_on a b c pulls front h = grind (arith, common_steps, Consumes-nil)
 
 -- and back
 pub counted_back : (a b c d : Supply) (pulls total : ℕ) (x y : List ℕ) → Pulled (start_at a) b pulls x → Pulled (start_after x c) d total y
     → Pulled (start_after y a) b total x
-counted_back a b c d pulls total x y h k = record {
-  consumed = h.consumed;
-  each_gave = omega (arith, k.each_gave);
-  small = omega (arith, k.small);
-  most = k.most;
-}
+counted_back a b c d pulls total x y h k = grind (arith, common_steps)
 
 -- the part of a piece that a header ends in, and the part that is left in the intake
 pub head_pulled : (start : Start) (now : Supply) (old new : Unread) (held piece : List ℕ) (taken : ℕ) → new.pulls ≡ old.pulls → piece ≡ old.bytes
     → new.bytes ≡ drop taken old.bytes → Pulled start now old.pulls (held ++ old.bytes)
     → Pulled start now new.pulls ((held ++ take taken piece) ++ new.bytes)
-head_pulled start now old new held piece taken pulls is rest h =
-    let e : held ++ old.bytes ≡ (held ++ take taken piece) ++ new.bytes = ap (λ (t : List ℕ). held ++ t) (sym (take-append-drop taken old.bytes))
-    ∙ (sym (append_assoc held (take taken old.bytes) (drop taken old.bytes))
-    ∙ (ap (λ (t : List ℕ). (held ++ take taken t) ++ drop taken old.bytes) (sym is)
-    ∙ ap (λ (t : List ℕ). (held ++ take taken piece) ++ t) (sym rest))) in
-    subst (λ (k : ℕ). Pulled start now k ((held ++ take taken piece) ++ new.bytes)) (sym pulls)
-    (subst (λ (t : List ℕ). Pulled start now old.pulls t) e h)
+head_pulled start now old new held piece taken pulls is rest h = grind (arith, common_steps, append_assoc, take-append-drop)
 
 -- a refill that gave bytes, all of which are counted now
 pub rest_pulled : (start : Start) (now : Supply) (pulls new_pulls : ℕ) (used passed fresh : List ℕ) → new_pulls ≡ pulls
     → Pulled start now pulls ((used ++ passed) ++ fresh) → Pulled start now new_pulls (used ++ (passed ++ fresh))
-rest_pulled start now pulls new_pulls used passed fresh same h =
-    subst (λ (k : ℕ). Pulled start now k (used ++ (passed ++ fresh))) (sym same)
-    (subst (λ (t : List ℕ). Pulled start now pulls t) (append_assoc used passed fresh) h)
+rest_pulled start now pulls new_pulls used passed fresh same h = rw (same, ← append_assoc used passed fresh) h
 
 -- ---- What a reader and a writer lend has its last value once they are gone.
 
@@ -342,7 +297,7 @@ passes_on {x} {y} {source} {u} {v} {p} piece n f some pulls is rest =
     passes_then p (take n piece) (passes_same f some.passes) (record { uses = uses_front source u v piece n pulls is rest; unfailed = refl })
 
 -- no more came, after pulls none of which failed
-no_more_since : (at_end : FileFault) (old mid new : ReaderView) (fault : FileFault) → mid.source.failed ≡ old.source.failed
+pub no_more_since : (at_end : FileFault) (old mid new : ReaderView) (fault : FileFault) → mid.source.failed ≡ old.source.failed
     → NoMore at_end mid new fault → NoMore at_end old new fault
 no_more_since at_end old mid new fault same (inl ended) = inl (ended.0, ended.1, ended.2 ∙ same)
 no_more_since at_end old mid new fault same (inr f) = inr (pull_fails_since old mid new fault same f)
@@ -363,12 +318,22 @@ dries_same {at_end} {x} {y} {z} {p} fault f g =
 
 -- whole parts before the last, and less than one more
 pub within : (n blocks j : ℕ) (p q : List ℕ) → length p ≡ j * n → j < blocks → length q < n → length (p ++ q) < blocks * n
-within n blocks j p q size lt short =
-    let more : suc j * n ≤ blocks * n = mul-le-mul_right n lt in
-    omega (arith, more, size, short, length-append p q)
+within n blocks j p q size lt short = grind (arith, common_steps, length-append, mul-le-mul_right)
 
 -- no more came before all blocks were passed over
 pub skip_fails : (n blocks : ℕ) {k : ℕ} {x z : ReaderView} {p : List ℕ} {fault : FileFault} → length p < blocks * n
     → Dries (Stream (record { kind = Truncated; chunk = k })) x z p fault → k ≡ length p / n → SkipFails n blocks x z fault
 skip_fails n blocks {k} {x} {z} {p} {fault} lt d e =
     (p, lt, subst (λ (i : ℕ). Dries (Stream (record { kind = Truncated; chunk = i })) x z p fault) e d)
+
+-- ---- Results in other words.
+
+pub err_is : {T E : Type 0} {x : E} (r : Result T E) → IsErrAnd r (λ y. y ≡ x) → r ≡ Err x
+err_is (Ok v) h = absurd h
+err_is (Err y) h = ap Err h
+
+-- an answer in other words, if it is known which fault comes
+pub answer_as : {T E : Type 0} {A B : T → Type 0} {C D Q : E → Type 0} (r : Result T E) → MatchResult r A C → IfErr r Q → ((x : T) → A x → B x)
+    → ((y : E) → Q y → C y → D y) → MatchResult r B D
+answer_as (Ok x) a q f g = f x a
+answer_as (Err y) a q f g = g y q a

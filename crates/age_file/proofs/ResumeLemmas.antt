@@ -1,42 +1,32 @@
 -- From what was read, copied and decrypted to what a decryption did, from the start or from a position on.
+use Rattle.std.proofs.lemmas.Grind.{common_steps}
 use Rattle.std.proofs.Common.{Some, None, refl, ◌≡◌, ℕ, List, [], ◌++◌, ap, arith, append_assoc, suc, ◌+◌, ◌*◌, ◌<◌, Err, ◌∷◌, length, take, drop, sym, subst}
 use Rattle.std.proofs.Common.{◌∙◌, append-nil, ◌≤◌, Option, inl, inr, ◌^◌, ◌/◌}
-use Rattle.std.specs.Prelude.{Result}
-use Rattle.age_io.specs.Io.{SourceView, SinkView}
+use Rattle.std.specs.Prelude.{Result, ◌⊎◌}
+use Rattle.age_io.specs.{SourceView, SinkView, Consumes}
 use Rattle.age_stanza.specs.declared.header.Header.{Header}
 use Rattle.age_keys.specs.declared.fault.KeyFault.{KeyFault}
+use Rattle.age_fault.specs.{HasFailed}
 use Rattle.age_fault.specs.declared.fault.FileFault.{FileFault}
-use Rattle.age_file.specs.Decrypts.{StartFails, DecryptsKeyed}
-use Rattle.age_file.specs.Runs.{Ports, ports, NeverEnds, IsFromStart, GivesPosition, OpenedFile, pull_room}
-use Rattle.age_file.specs.declared.decryption.Done.{Done}
-use Rattle.age_file.specs.declared.decryption.Stopped.{Stopped}
-use Rattle.age_file.specs.declared.position.PositionPolicy.{PositionPolicy}
-use Rattle.age_file.specs.declared.start.Unlocked.{Unlocked}
-use Rattle.age_file.specs.inner.Parts.{chain_if, Unread}
-use Rattle.age_file.specs.inner.Copies.{StartsAt, Passes, NoMore, Dries, FailsInCopy, CopiesChunk, CopiesAll, TextFails, CopiesBefore, TextGoes, SkipFails, Uses}
+use Rattle.age_fault.specs.declared.fault.FileFault.TheVariants.{ShortText, Read, Write, ReadNeverEnds, OldTextDiffers, Stream, OtherFile, PositionForged}
+use Rattle.age_file.specs.{StartFails, DecryptsKeyed, Ports, ports, NeverEnds, IsFromStart, GivesPosition, OpenedFile, pull_room, Done, Stopped, PositionPolicy}
+use Rattle.age_file.specs.{Unlocked, link, chain, ResumesKeyed, HasOpened, ResumePorts, resume_ports, WritesOld, IsFrom, IsSame, BeginsWith, StandsAt}
+use Rattle.age_file.specs.{IsOldText, NeverEndTogether, BeforeOldFails, InOldFails, StopsInOld, InSkippedFails, StopsInSkipped, ResumeStops, Standing, Before}
+use Rattle.age_file.specs.{Skipping, InPayload, Kept, Dropped, Position}
+use Rattle.age_file.specs.inner.{chain_if, Unread, StartsAt, Passes, NoMore, FailsInCopy, CopiesChunk, CopiesAll, TextFails, CopiesOld, TextGoes, SkipFails}
+use Rattle.age_file.specs.inner.{Uses, OpensPayload, IsPositionAt, PositionAt, EndsAs, PositionRefused, StartsFor, StartForFails, ResumesRest, Stage, ports_at}
+use Rattle.age_file.specs.inner.{start_at, ReaderView, WriterView, Wrote, reader_view, stage, Start, Pulled, start_after, HasPlace}
+use Rattle.age_chunk.specs.{block_length, chunk_length}
 use Rattle.age_chunk.specs.declared.fault.StreamKind.TheVariants.{Truncated}
-use Rattle.age_file.specs.inner.Decrypts.{OpensPayload, IsPositionAt, PositionAt, EndsAs, PositionRefused, StartsFor, StartForFails, ResumesRest}
-use Rattle.age_file.specs.inner.Readers.{Stage, ports_at, start_at, ReaderView, WriterView, Wrote, reader_view, stage, Start, Pulled, start_after}
 use Rattle.age_file.proofs.RunLemmas.{BeginsAt, run, due, ended, opened, place_at}
 use Rattle.std.proofs.lemmas.List.{length-append, take_all, take-append-drop, length-take}
 use Rattle.std.proofs.Math.Seq.{drop-append_seam}
 use Rattle.std.specs.Simd.{first_chunks}
-use Rattle.age_chunk.proofs.FirstChunkLemmas.{first_chunks-append, first_chunks_more}
-use Rattle.age_stream.specs.Headline.{IsPrefixOf}
-use Rattle.age_fault.specs.Faults.{HasFailed}
-use Rattle.age_file.specs.Bindings.{link, chain}
-use Rattle.age_fault.specs.declared.fault.FileFault.TheVariants.{ShortText, Read, Write, ReadNeverEnds, OldTextDiffers, Stream, OtherFile, PositionForged}
+use Rattle.age_chunk.proofs.{first_chunks-append, first_chunks_more}
+use Rattle.age_stream.specs.{IsPrefixOf}
 use Rattle.age_file.proofs.CountLemmas.{chain_on}
-use Rattle.age_file.proofs.ReadLemmas.{passes_then, dries_then, within, prefix_trans, left_of, longer, counted_on, counted_back, cut_pulled, wrote_then}
-use Rattle.age_file.specs.Resumes.{ResumesKeyed, HasOpened, ResumePorts, resume_ports, WritesOld, IsFrom, IsSame, BeginsWith, StandsAt, IsOldText}
-use Rattle.age_file.specs.Resumes.{NeverEndTogether, BeforeOldFails, InOldFails, StopsInOld, InSkippedFails, StopsInSkipped, ResumeStops}
-use Rattle.age_file.specs.declared.standing.Standing.{Standing}
-use Rattle.age_file.specs.declared.standing.Standing.TheVariants.{Before, Skipping, InPayload}
-use Rattle.age_io.specs.Supply.{Supply, Consumes}
-use Rattle.age_file.specs.declared.position.PositionPolicy.TheVariants.{Kept, Dropped}
-use Rattle.age_file.specs.inner.Payloads.{HasPlace}
-use Rattle.age_file.specs.declared.position.Position.{Position}
-use Rattle.age_chunk.specs.Payload.{block_length, chunk_length}
+use Rattle.age_file.proofs.ReadLemmas.{within, prefix_trans, left_of, longer, counted_on, counted_back, wrote_then, no_more_since}
+use Rattle.age_io.specs.Supply.{Supply}
 
 -- ---- From what was read and decrypted from a file's start on to what a decryption did.
 
@@ -92,29 +82,22 @@ module _ (keep : PositionPolicy) (Allows : Header → List ℕ → Type 0) (Refu
 -- the chain over one chunk more
 pub chain_more : (n i : ℕ) (out chunk : List ℕ) → length out ≡ i * n → length chunk ≡ n
     → chain (first_chunks n (suc i) (out ++ chunk)) ≡ link (chain (first_chunks n i out)) chunk
-chain_more n i out chunk whole size =
-    let behind : drop (i * n) (out ++ chunk) ≡ chunk = rw (← whole) (drop-append_seam out chunk) in
-    let last : take n (drop (i * n) (out ++ chunk)) ≡ chunk = ap (take n) behind ∙ take_all n chunk (omega (arith, size)) in
-    ap chain (first_chunks_more n i (out ++ chunk) ∙ ap (λ (xs : List (List ℕ)). xs ++ take n (drop (i * n) (out ++ chunk)) ∷ [])
-    (first_chunks-append n i out chunk (omega (arith, whole))) ∙ ap (λ (c : List ℕ). first_chunks n i out ++ c ∷ []) last)
-    ∙ chain_on (first_chunks n i out) chunk
+chain_more n i out chunk whole size = grind (arith, common_steps, chain_on, drop-append_seam, first_chunks-append, first_chunks_more, take_all)
 
 copy_fails : (x y z : ReaderView) (a b c : WriterView) (p q : List ℕ) (fault : FileFault) → Passes x y p → b.sink.failed ≡ a.sink.failed
     → FailsInCopy y z b c q fault → FailsInCopy x z a c (p ++ q) fault
-copy_fails x y z a b c p q fault f same (inl (dries, unfailed)) = inl (dries_then p q fault f dries, unfailed ∙ same)
-copy_fails x y z a b c p q fault f same (inr (is, cut)) = inr (
-  is,
-  record {
-    used = p ++ cut.used;
-    passes = passes_then p cut.used f cut.passes;
-    front = (
-      cut.front.0,
-      append_assoc p q cut.front.0 ∙ ap (λ (t : List ℕ). p ++ t) cut.front.1 ∙ sym (append_assoc p cut.used z.unread.bytes),
-    );
-    failed = subst (λ (m : ℕ). HasFailed m c.sink.failed c.sink.failing) same cut.failed;
-    most = omega (arith, cut.most, length-append p cut.used, length-append p q);
-  },
-)
+copy_fails x y z a b c p q fault f same g = record {
+  pulled = p ++ g.pulled;
+  read = λ start used h. subst (λ (t : List ℕ). Pulled start z.source.supply z.unread.pulls t) (append_assoc used p g.pulled)
+      (g.read start (used ++ p) (subst (λ (t : List ℕ). Pulled start y.source.supply y.unread.pulls t) (sym (append_assoc used p y.unread.bytes))
+      (f.uses start used h)));
+  front = (g.front.0, append_assoc p q g.front.0 ∙ ap (λ (t : List ℕ). p ++ t) g.front.1);
+  few = omega (arith, g.few, length-append p q, length-append p g.pulled);
+  why = elim g.why [
+    | inl w ↦ inl (ap (λ (t : List ℕ). p ++ t) w.0, no_more_since ShortText x y z fault f.unfailed w.1, w.2 ∙ same)
+    | inr w ↦ inr (w.0, subst (λ (m : ℕ). HasFailed m c.sink.failed c.sink.failing) same w.1, w.2 ∙ f.unfailed)
+  ];
+}
 
 -- whole chunks, and then one that was not copied
 pub chunk_failed : (n chunks i : ℕ) (x y z : ReaderView) (a b c : WriterView) (p : List ℕ)
@@ -171,9 +154,7 @@ module _ (keep : PositionPolicy) (Allows : Header → List ℕ → Type 0) (Refu
   -- before the old text
   before_fails : (old new : ResumePorts) (fault : FileFault) → StartFails Allows Refused old.main.source new.main.source fault
       → BeforeOldFails Allows p old new Refused fault
-  before_fails old new OtherFile f = absurd f
-  before_fails old new PositionForged f = absurd f
-  before_fails old new other f = f
+  before_fails old new fault h0 = grind (arith, common_steps)
 
   verdict_fails : (old new : ResumePorts) (u : Unread) (unlocked : Unlocked) (fault : FileFault)
       → StartsAt Allows old.main.source (reader_view new.main.source u) unlocked → PositionRefused p unlocked.id unlocked.key unlocked.nonce fault
@@ -206,7 +187,7 @@ module _ (keep : PositionPolicy) (Allows : Header → List ℕ → Type 0) (Refu
   -- the file was started, and the old text was copied, or a front of it; the pulls of both count together
   module _ {a : SourceView} {unlocked : Unlocked} (s1 : Stage) {u : Unread} (st : StartsFor Allows p a (reader_view s1.reader.source u) unlocked)
       {first : WriterView} (zero : first.tally.written ≡ 0) {l l' : SourceView} {result : Result (Unit {0}) FileFault}
-      (cb : CopiesBefore keep p l l' u s1.reader.unread first s1.writer result) where
+      (cb : CopiesOld keep p l l' u s1.reader.unread first s1.writer result) where
     abbrev s : StartsAt Allows a (reader_view s1.reader.source u) unlocked
     s = st.starts
 
@@ -243,15 +224,12 @@ module _ (keep : PositionPolicy) (Allows : Header → List ℕ → Type 0) (Refu
     abbrev old_start : Start
     old_start = start_after started l.supply
 
-    -- what was used of the old text, from its start
-    old_pulled : (used : List ℕ) → Uses x z used → Pulled old_start l'.supply z.unread.pulls (used ++ z.unread.bytes)
-    old_pulled used uses =
+    -- what was pulled of the old text, from its start
+    old_read : (pulled : List ℕ) → ((start : Start) (used : List ℕ) → Pulled start l.supply x.unread.pulls (used ++ x.unread.bytes)
+        → Pulled start l'.supply z.unread.pulls (used ++ pulled)) → Pulled old_start l'.supply z.unread.pulls pulled
+    old_read pulled read =
         let none = counted_on a.supply s1.reader.source.supply l.supply u.pulls started s.pulled in
-        let fresh = subst (λ (k : ℕ). Pulled old_start l.supply k []) (sym cb.counted_on) none in
-        uses old_start [] (subst (λ (t : List ℕ). Pulled old_start l.supply x.unread.pulls t) (sym cb.none) fresh)
-
-    old_dried : (used : List ℕ) → z.unread.bytes ≡ [] → Uses x z used → Pulled old_start l'.supply z.unread.pulls used
-    old_dried used empty uses = cut_pulled used empty (old_pulled used uses)
+        read old_start [] (rw (cb.none, cb.counted_on) none)
 
     -- no more than these bytes of the old text was written
     writes_old : (m : ReaderView) (pulled : List ℕ) → length out ≤ p.index * chunk_length
@@ -283,44 +261,27 @@ module _ (keep : PositionPolicy) (Allows : Header → List ℕ → Type 0) (Refu
       why = why;
     }
 
-    -- all that the old text gave was written
-    dried_in_old : (fault : FileFault) → z.unread.bytes ≡ [] → Uses x z out → length out < p.index * chunk_length
-        → InOldFails Allows p old (new s1.reader) out out fault → StopsInOld Allows p old (new s1.reader) (stop fault None)
-    dried_in_old fault empty uses short why =
-        stops_in_old fault out (omega (arith, short)) (old_dried out empty uses).consumed (omega (arith, short)) ([], append-nil out) why
+    -- why it was not all copied
+    abbrev Fails : List ℕ → FileFault → Type 0
+    Fails pulled fault = InOldFails Allows p old (new s1.reader) pulled out fault
 
-    abbrev Stops : FileFault → Type 0
-    Stops fault = StopsInOld Allows p old (new s1.reader) (stop fault None)
+    less_copied : (pulled : List ℕ) → Pulled old_start l'.supply z.unread.pulls pulled → length out < p.index * chunk_length → (fault : FileFault)
+        → ((out ≡ pulled) × NoMore ShortText x z fault × (s1.writer.sink.failed ≡ first.sink.failed))
+        ⊎ ((fault ≡ Write) × HasFailed first.sink.failed s1.writer.sink.failed s1.writer.sink.failing × (l'.failed ≡ l.failed)) → Fails pulled fault
+    less_copied pulled h0 h1 fault h2 = grind (arith, common_steps, ended, length-append)
 
-    text_dried : (fault : FileFault) → length out < p.index * chunk_length → Dries ShortText x z out fault
-        → s1.writer.sink.failed ≡ first.sink.failed → Stops fault
-    text_dried fault short d same = by fault d.why where
-      by : (fault : FileFault) → NoMore ShortText x z fault → Stops fault
-      by fault (inl ended) = subst Stops (sym ended.0) (dried_in_old ShortText d.used d.uses short (short, (refl, ended.1)))
-      by Read (inr f) = dried_in_old Read d.used d.uses short (short, (refl, (s.unfailed, same), f))
-      by ReadNeverEnds (inr f) =
-          let all = old_dried out d.used d.uses in
-          let both = length-append started out in
-          let never : NeverEndTogether old (new s1.reader) = (
-            started,
-            out,
-            s.pulled.consumed,
-            all.consumed,
-            (omega (arith, all.each_gave, f.0, both), omega (arith, all.small, f.0, both)),
-          ) in
-          dried_in_old ReadNeverEnds d.used d.uses short (short, (refl, never))
-      by other (inr f) = absurd f
-
-    text_fails_in_old : (fault : FileFault) → TextFails chunk_length p.index p.chain x z first s1.writer out fault → Stops fault
-    text_fails_in_old fault (inl (short, inl (dries, same))) = text_dried fault short dries same
-    text_fails_in_old fault (inl (short, inr (is, cut))) =
-        subst Stops (sym is) (stops_in_old Write (cut.used ++ z.unread.bytes) (omega (arith, short)) (old_pulled cut.used cut.passes.uses).consumed
-        (omega (arith, short, cut.most, cb.few, length-append cut.used z.unread.bytes)) cut.front
-        (short, ((cut.failed, s.unfailed), cut.passes.unfailed)))
-    text_fails_in_old fault (inr (is, goes, differs)) =
+    text_fails_in_old : (fault : FileFault) → TextFails chunk_length p.index p.chain x z first s1.writer out fault
+        → StopsInOld Allows p old (new s1.reader) (stop fault None)
+    text_fails_in_old fault (inl (short, f)) =
+        let all = old_read f.pulled f.read in
+        stops_in_old fault f.pulled (omega (arith, short)) all.consumed (omega (arith, short, f.few)) f.front (less_copied f.pulled all short fault
+        f.why)
+    text_fails_in_old fault (inr (is, goes, differs, few)) =
         let le : length out ≤ p.index * chunk_length = omega (arith, goes.0) in
-        subst Stops (sym is) (stops_in_old OldTextDiffers (out ++ z.unread.bytes) le (old_pulled out goes.1.uses).consumed
-        (omega (arith, le, cb.few, length-append out z.unread.bytes)) (z.unread.bytes, refl) (goes.0, λ e. differs (goes.4 ∙ ap Some e)))
+        subst (λ (f : FileFault). StopsInOld Allows p old (new s1.reader) (stop f None)) (sym is) (stops_in_old OldTextDiffers (out ++
+        z.unread.bytes) le
+        (old_read (out ++ z.unread.bytes) goes.1.uses).consumed (omega (arith, le, few, length-append out z.unread.bytes)) (z.unread.bytes, refl)
+        (goes.0, λ e. differs (goes.4 ∙ ap Some e)))
 
     pub copy_stopped : (fault : FileFault) → TextFails chunk_length p.index p.chain x z first s1.writer out fault
         → ResumesKeyed keep Allows Refused p old (new s1.reader) (Err (stop fault None)) Before
@@ -330,7 +291,7 @@ module _ (keep : PositionPolicy) (Allows : Header → List ℕ → Type 0) (Refu
     -- ---- a run that went on after the old text
 
     -- the old text was copied, and is the position's
-    module _ (g : TextGoes keep chunk_length p.index p.chain x z first s1.writer out) where
+    module _ (g : TextGoes keep chunk_length p.index p.chain x z first s1.writer out) (counted : s1.reader.unread.pulls ≡ z.unread.pulls) where
       old_text : IsOldText p out
       old_text = record { size = g.0; same = g.5 }
 
@@ -342,24 +303,14 @@ module _ (keep : PositionPolicy) (Allows : Header → List ℕ → Type 0) (Refu
       start = start_after old_bytes a.supply
 
       old_used : Pulled old_start l'.supply z.unread.pulls old_bytes
-      old_used = old_pulled out g.1.uses
+      old_used = old_read old_bytes g.1.uses
 
       again : Pulled start s1.reader.source.supply s1.reader.unread.pulls (head ++ s1.reader.unread.bytes)
-      again =
-          let back = counted_back a.supply s1.reader.source.supply l.supply l'.supply u.pulls z.unread.pulls started old_bytes s.pulled old_used in
-          subst (λ (k : ℕ). Pulled start s1.reader.source.supply k (head ++ s1.reader.unread.bytes)) (sym cb.counted)
-          (subst (λ (t : List ℕ). Pulled start s1.reader.source.supply z.unread.pulls (head ++ t)) (sym cb.kept) back)
+      again = grind (arith, common_steps, counted_back, old_used)
 
       never_end : (now : ReaderView) (sink : SinkView) (y : List ℕ) → Pulled start now.source.supply now.unread.pulls y
           → now.unread.pulls ≡ 2 ^ 63 → NeverEndTogether old (resume_ports (ports now.source sink) l')
-      never_end now sink y h all =
-          let both = length-append old_bytes y in (
-            y,
-            old_bytes,
-            h.consumed,
-            old_used.consumed,
-            (omega (arith, h.each_gave, all, both), omega (arith, h.small, all, both)),
-          )
+      never_end now sink y h all = grind (arith, common_steps, length-append, old_used)
 
       -- the run stopped in the blocks that are skipped
       stops_in_skipped : (m : ReaderView) (position : Option Position) (fault : FileFault) (skipped : List ℕ)
@@ -376,7 +327,7 @@ module _ (keep : PositionPolicy) (Allows : Header → List ℕ → Type 0) (Refu
             short = short;
             copied = out;
             old_text = old_text;
-            writes = writes_old m old_bytes le old_used.consumed (omega (arith, le, cb.few, length-append out z.unread.bytes)) (z.unread.bytes, refl);
+            writes = writes_old m old_bytes le old_used.consumed (omega (arith, le, g.6, length-append out z.unread.bytes)) (z.unread.bytes, refl);
             unfailed = g.1.unfailed;
             here = at;
             why = why;
@@ -384,9 +335,7 @@ module _ (keep : PositionPolicy) (Allows : Header → List ℕ → Type 0) (Refu
 
       dried : (m : ReaderView) (skipped : List ℕ) → m.unread.bytes ≡ [] → Uses s1.reader m skipped
           → Pulled start m.source.supply m.unread.pulls (head ++ skipped)
-      dried m skipped empty uses =
-          subst (λ (t : List ℕ). Pulled start m.source.supply m.unread.pulls (head ++ t))
-          (ap (λ (t : List ℕ). skipped ++ t) empty ∙ append-nil skipped) (uses start head again)
+      dried m skipped empty uses = rw (empty, append-nil skipped) at (uses start head again)
 
       skipped_fails : (m : ReaderView) (position : Option Position) (fault : FileFault)
           → GivesPosition keep (IsSame p) position → SkipFails block_length p.index s1.reader m fault
@@ -410,16 +359,7 @@ module _ (keep : PositionPolicy) (Allows : Header → List ℕ → Type 0) (Refu
       -- the position is that from which the run began, if nothing was decrypted
       same_position : (next : Position) → IsPositionAt unlocked s1.writer.tally.index (chain (first_chunks chunk_length p.index out)) next
           → IsSame p next
-      same_position next h =
-          let index : next.index ≡ p.index = h.index_is ∙ g.3 in
-          let id : next.file_id ≡ p.file_id = h.file_id_is ∙ sym st.own in
-          let links : next.chain ≡ p.chain = h.chain_is ∙ g.5 in
-          record {
-            index = index;
-            file_id_is = id;
-            chain_is = links;
-            tag_is = cc (index, id, links, h.tag_is, st.tagged);
-          }
+      same_position next h = grind (arith, common_steps)
 
       same_given : (how : PositionPolicy) (position : Option Position)
           → PositionAt unlocked s1.writer.tally.index (chain_if how (first_chunks chunk_length p.index out)) position
@@ -472,7 +412,7 @@ module _ (keep : PositionPolicy) (Allows : Header → List ℕ → Type 0) (Refu
               old_text = old_text;
               more = z.unread.bytes;
               old_read = old_used.consumed;
-              few = cb.few;
+              few = g.6;
             } in
             let wrote = wrote_then cb.copied.wrote q.wrote in
             ended s old_bytes begins q (NeverEndTogether old (resume_ports (ports_at s2) l')) first.sink wrote.bytes (passes.unfailed ∙ s.unfailed) g.2

@@ -1,40 +1,39 @@
--- A run: what it read, what it wrote of a text, its position, and runs in a row.
+-- A run: what it read, what it wrote of a text, its position, runs in a row, and a stop that is found by reading the file once more.
+use Rattle.std.proofs.lemmas.Grind.{common_steps, flat_map-append}
 use Rattle.std.proofs.Common.{◌≡◌, ℕ, ◌*◌, ◌<◌, ◌≤◌, ◌/◌, List, ◌++◌, length, take, sym, ap, subst, ◌∙◌, arith, append_assoc, Some, None, refl, ◌^◌, Option}
-use Rattle.std.proofs.Common.{inl, inr, [], ◌∷◌}
+use Rattle.std.proofs.Common.{inl, inr, [], ◌∷◌, true, false, ◌+◌, min, Bool, append-nil}
 use Rattle.std.specs.Simd.{first_chunks}
 use Rattle.std.proofs.lemmas.List.{length-append, take_at}
-use Rattle.std.proofs.Math.Nat.{le-div_iff_mul-le}
-use Rattle.age_chunk.specs.Payload.{chunk_count, chunk_length, chunk_limit, block_length}
-use Rattle.age_chunk.proofs.FirstChunkLemmas.{first_chunks-append}
-use Rattle.age_stream.specs.declared.step.Status.TheVariants.{Done as AllDone}
-use Rattle.age_stream.specs.Headline.{IsPrefixOf}
-use Rattle.age_stream.proofs.LawLemmas.{released_is_written}
-use Rattle.age_keys.specs.Keys.{payload_key, box, unbox, position_key}
-use Rattle.age_keys.specs.inner.PayloadBox.{box_valid}
-use Rattle.age_file.specs.Bindings.{chain, position_tag}
-use Rattle.age_file.specs.Runs.{Run, IsFromStart, segment_of, run_outcome, run_text, held, IsTexts, CarriesText, IsAuthenticRun, IsPositionOf, Ports, ports}
-use Rattle.age_file.specs.Runs.{NoneFailed, OpenedFile, IsRun, GivesPosition, PayloadFails, StopsInPayload, IsDone}
-use Rattle.age_file.specs.declared.position.Position.{Position}
-use Rattle.age_file.proofs.ReadLemmas.{prefix_trans}
-use Rattle.std.specs.Prelude.{Result, MatchResult, OnOk, Ok, Err, true}
-use Rattle.age_io.specs.Io.{SourceView, SinkView}
+use Rattle.std.proofs.Math.Nat.{le-div_iff_mul-le, div-mul-le_self}
+use Rattle.age_chunk.specs.{chunk_count, chunk_length, chunk_limit, block_length, IsChunkBox}
+use Rattle.age_chunk.proofs.{first_chunks-append}
+use Rattle.age_stream.specs.{IsPrefixOf, Outcome, outcome, released, with_end}
+use Rattle.age_stream.specs.declared.step.Status.TheVariants.{Done as AllDone, Open}
+use Rattle.age_stream.proofs.SegmentLemmas.{segment_right as released_is_written}
+use Rattle.age_stream.proofs.LawLemmas.{closed_stays, end_closes}
+use Rattle.age_stream.proofs.GoingLemmas.{released_grows}
+use Rattle.age_keys.specs.{payload_key, box, unbox, position_key}
+use Rattle.age_keys.specs.inner.{box_valid}
+use Rattle.age_file.specs.{chain, position_tag, Run, IsFromStart, segment_of, run_outcome, run_text, held, IsTexts, CarriesText, IsAuthenticRun, IsPositionOf}
+use Rattle.age_file.specs.{Ports, ports, NoneFailed, OpenedFile, IsRun, GivesPosition, PayloadFails, StopsInPayload, IsDone, Position, Done, Stopped}
+use Rattle.age_file.specs.{PositionPolicy, Kept, Dropped, Unlocked, IsSame, IsOldText, ResumePorts, IsFrom, IsBoundTo, ResumedRun, last, AllFollow, WritesRight}
+use Rattle.age_file.specs.{BindsTo, Bound, Reads, first_of, IsTextBefore, IsFoundAgain, ReadAgain, RestReadAgain, Tally, DecryptStops, ResumeStops, chain_over}
+use Rattle.age_file.proofs.ReadLemmas.{prefix_trans, same_front, left_of, none_left, regroup}
+use Rattle.std.specs.Prelude.{Result, MatchResult, OnOk, Ok, Err, true, IfErr, IfSome}
+use Rattle.age_io.specs.{SourceView, SinkView}
 use Rattle.age_io.specs.Taken.{Appends}
 use Rattle.age_stanza.specs.declared.header.Header.{Header}
-use Rattle.age_fault.specs.Faults.{HasFailed}
 use Rattle.age_fault.specs.declared.fault.FileFault.{FileFault}
-use Rattle.age_fault.specs.declared.fault.FileFault.TheVariants.{Stream, Read, Write, ReadNeverEnds}
-use Rattle.age_file.specs.declared.decryption.Done.{Done}
-use Rattle.age_file.specs.declared.decryption.Stopped.{Stopped}
-use Rattle.age_file.specs.declared.position.PositionPolicy.{PositionPolicy}
-use Rattle.age_file.specs.declared.position.PositionPolicy.TheVariants.{Kept, Dropped}
-use Rattle.age_file.specs.declared.start.Unlocked.{Unlocked}
-use Rattle.age_file.specs.inner.Parts.{chain_if}
-use Rattle.age_file.specs.inner.Copies.{StartsAt}
-use Rattle.age_file.specs.inner.Decrypts.{opens, IsPositionAt, PositionAt, EndsAs}
-use Rattle.age_file.specs.inner.Payloads.{HasPlace, HasCounted, DecryptsPayload, SegmentDone, SegmentFails}
-use Rattle.age_file.specs.inner.Readers.{ReaderView, Stage, ports_at, Start, start_after, Pulled}
-use Rattle.age_file.specs.Resumes.{IsSame, IsOldText, ResumePorts, IsFrom, IsBoundTo}
-use Rattle.age_file.specs.InARow.{ResumedRun, last, AllFollow, WritesRight, BindsTo, Bound}
+use Rattle.age_file.specs.inner.{chain_if, StartsAt, opens, IsPositionAt, PositionAt, EndsAs, HasPlace, HasCounted, DecryptsPayload, SegmentDone, SegmentFails}
+use Rattle.age_file.specs.inner.{ReaderView, Stage, ports_at, Start, start_after, Pulled, Passes, OpensPayload, segment, start_at, stage, writer_view}
+use Rattle.age_stanza.specs.{OneHeader}
+use Rattle.age_keys.specs.declared.fault.KeyFault.{KeyFault}
+use Rattle.std.specs.List.{flat_map}
+use Rattle.age_stream.specs.declared.step.Status.{Status}
+use Rattle.age_stream.specs.Segment.{Segment}
+use Rattle.age_stream.proofs.{going, going_outcome, stands_at}
+use Rattle.age_file.proofs.CountLemmas.{index_is}
+use Rattle.age_io.specs.Supply.{Supply}
 
 -- ---- What a run wrote of a text, if what opens is the writer's; and its position.
 
@@ -66,9 +65,7 @@ writes_all r limit whole done text auth = ap (λ (t : List ℕ). r.copied ++ t) 
 
 -- before a file's first chunk there is no text
 pub none_before : (r : Run) → IsFromStart r → (text : List ℕ) → r.copied ≡ take (r.first * chunk_length) text
-none_before r from text =
-    let zero : r.first * chunk_length ≡ 0 = omega (arith, from.zero) in
-    from.none_copied ∙ ap (λ (k : ℕ). take k text) (sym zero)
+none_before r from text = grind (arith, common_steps)
 
 pub from_start : (r : Run) → IsFromStart r → (text : List ℕ) → chunk_count chunk_length text ≤ chunk_limit → IsTexts text r → IsAuthenticRun r text
 from_start r from text few auth = record { few = few; old_text = none_before r from text; authentic = auth }
@@ -76,15 +73,7 @@ from_start r from text few auth = record { few = few; old_text = none_before r f
 -- its position carries the text of which the run is authentic
 pub position_carries : (r : Run) (p : Position) → r.first < chunk_limit → IsPrefixOf r.out (run_text r)
     → IsPositionOf r p → (text : List ℕ) → IsAuthenticRun r text → CarriesText text p
-position_carries r p limit begins at text auth =
-    let rest = writes_of r limit begins text auth in
-    let positive : 0 < chunk_length = omega arith in
-    let le : p.index ≤ length (held r) / chunk_length = omega (arith, at.index) in
-    let within : p.index * chunk_length ≤ length (held r) = (le-div_iff_mul-le positive).0 le in (
-      omega (arith, within, ap length rest.1, length-append (held r) rest.0),
-      at.chain_is ∙ (sym (ap chain (first_chunks-append chunk_length p.index (held r) rest.0 within))
-          ∙ ap (λ (t : List ℕ). chain (first_chunks chunk_length p.index t)) rest.1),
-    )
+position_carries r p limit begins at text auth = grind (arith, common_steps, first_chunks-append, le-div_iff_mul-le, length-append, writes_of)
 
 -- ---- A run from its first chunk on: what was read of its file, what was written, and how it ended.
 
@@ -95,9 +84,7 @@ opened {Allows} {a} {b} {unlocked} s = record { header = s.header; header_bytes 
 -- there is room for what follows the blocks before this chunk
 pub place_at : {start : Start} (head passed : List ℕ) (m : Stage) (k : ℕ) → k < chunk_limit → m.writer.tally.written ≡ k * chunk_length
     → Pulled start m.reader.source.supply m.reader.unread.pulls (head ++ (passed ++ m.reader.unread.bytes)) → HasPlace m
-place_at head passed m k limit written p =
-    let unread = m.reader.unread.bytes in
-    (omega (arith, p.small, limit, written, length-append head (passed ++ unread), length-append passed unread), p.most)
+place_at head passed m k limit written p = grind (arith, common_steps, length-append)
 
 -- a run begins with this chunk, after this text and these blocks; its tally counts the text
 pub record BeginsAt (keep : PositionPolicy) (start : Start) (head : List ℕ) (m : Stage) (k : ℕ) (copied passed : List ℕ) : Type 0 where
@@ -127,24 +114,16 @@ module _ {keep : PositionPolicy} {Allows : Header → List ℕ → Type 0} {a : 
   -- all that was pulled, from the file's start
   all_pulled : Pulled (start_after front a.supply) s2.reader.source.supply s2.reader.unread.pulls ((s.front ++ unlocked.nonce) ++ (passed ++ q.bytes))
   all_pulled =
-      let head = s.front ++ unlocked.nonce in
-      let unread = m.reader.unread.bytes in
-      let start = start_after front a.supply in
-      subst (λ (t : List ℕ). Pulled start s2.reader.source.supply s2.reader.unread.pulls t) (append_assoc head (passed ++ unread) q.fresh
-      ∙ ap (λ (t : List ℕ). head ++ t) (append_assoc passed unread q.fresh ∙ ap (λ (t : List ℕ). passed ++ t) q.parts))
-      (q.pulled start (head ++ (passed ++ unread)) begins.pulled)
+      rw (
+        append_assoc (s.front ++ unlocked.nonce) (passed ++ m.reader.unread.bytes) q.fresh,
+        append_assoc passed m.reader.unread.bytes q.fresh,
+        q.parts,
+      ) at
+      (q.pulled (start_after front a.supply) _ begins.pulled)
 
   pub is_run : (old new : SinkView) → Appends old.taken new.taken (copied ++ q.out)
       → IsRun Allows (ports a old) (ports s2.reader.source new) s2.writer.tally.written run
-  is_run old new wrote = record {
-    reads = record { text = s.text; opens = s.opens; size = s.size; read = all_pulled.consumed };
-    copied_size = begins.copied_size;
-    skipped_size = begins.skipped_size;
-    at_end = q.at_end;
-    wrote = wrote;
-    count = omega (arith, q.wrote.count, begins.written, length-append copied q.out);
-    prefix = q.prefix;
-  }
+  is_run old new wrote = grind (arith, common_steps, all_pulled, length-append)
 
   -- the tally counts what was written
   counted : HasCounted keep (unbox unlocked.key unlocked.nonce) chunk_length (copied ++ q.out) (segment_of run) s2.writer.tally
@@ -154,18 +133,11 @@ module _ {keep : PositionPolicy} {Allows : Header → List ℕ → Type 0} {a : 
   chunks = first_chunks chunk_length s2.writer.tally.index (copied ++ q.out)
 
   position_is : (p : Position) → IsPositionAt unlocked s2.writer.tally.index (chain chunks) p → IsPositionOf run p
-  position_is p at = record {
-    index = at.index_is ∙ counted.index;
-    own = at.file_id_is ∙ s.id;
-    chain_is = at.chain_is ∙ ap (λ (i : ℕ). chain (first_chunks chunk_length i (copied ++ q.out))) (sym at.index_is);
-    tagged = at.tag_is;
-  }
+  position_is p at = grind (arith, common_steps, counted, index_is)
 
   given_if : (how : PositionPolicy) (position : Option Position) → PositionAt unlocked s2.writer.tally.index (chain_if how chunks) position
       → GivesPosition how (IsPositionOf run) position
-  given_if Kept (Some p) at = position_is p at
-  given_if Kept None at = absurd at
-  given_if Dropped position at = at
+  given_if how position h0 = grind (arith, common_steps, position_is)
 
   -- its position is the run's, if it is handed out
   pub given : (position : Option Position) → PositionAt unlocked s2.writer.tally.index s2.writer.tally.chain position
@@ -199,15 +171,7 @@ module _ {keep : PositionPolicy} {Allows : Header → List ℕ → Type 0} {a : 
 
     fails : (fault : FileFault) → SegmentFails (unbox unlocked.key unlocked.nonce) chunk_length m s2 (segment_of run) q.out fault
         → PayloadFails never old new run fault
-    fails (Stream x) f = (f.1, f.0, (f.2.0 ∙ read_failed, f.2.1 ∙ write_failed))
-    fails Write f = (f.0, (subst (λ (n : ℕ). HasFailed n s2.writer.sink.failed s2.writer.sink.failing) write_failed f.1.0, f.1.1 ∙ read_failed))
-    fails Read f = (
-      f.0,
-      f.1,
-      (subst (λ (n : ℕ). HasFailed n s2.reader.source.failed s2.reader.source.failing) read_failed f.2.0, f.2.1 ∙ write_failed),
-    )
-    fails ReadNeverEnds f = (f.0, f.1, all _ all_pulled f.2)
-    fails other f = absurd f
+    fails fault h0 = grind (arith, common_steps, all_pulled)
 
     -- what holds of each end of the run holds of its answer
     module _ (P : Result Done Stopped → Type 0) (done : (written : ℕ) → IsDone Allows old new written run → NoneFailed old new
@@ -217,12 +181,7 @@ module _ {keep : PositionPolicy} {Allows : Header → List ℕ → Type 0} {a : 
           (λ _. SegmentDone (unbox unlocked.key unlocked.nonce) chunk_length m s2 (segment_of run) q.out)
           (SegmentFails (unbox unlocked.key unlocked.nonce) chunk_length m s2 (segment_of run) q.out)
           → EndsAs unlocked s2.writer.tally how result → P result
-      ended_as (Ok u) result settled f is =
-          subst P (sym is) (done s2.writer.tally.written (record { is = is_run sink s2.writer.sink wrote; whole = f.2; ended = f.0; done = f.1 })
-          (f.3.0 ∙ read_failed, f.3.1 ∙ write_failed) settled)
-      ended_as (Err fault) result settled f (next, at, is) =
-          subst P (sym is) (stopped (record { fault = fault; written = s2.writer.tally.written; position = next })
-          (record { is = is_run sink s2.writer.sink wrote; here = given next at; why = fails fault f }))
+      ended_as how result h0 h1 h2 = grind (arith, common_steps, fails, given, is_run)
 
       pub ended : (result : Result Done Stopped) → EndsAs unlocked s2.writer.tally end result → P result
       ended result is = ended_as end result q.settled q.answered is
@@ -236,24 +195,11 @@ few_chunks text first (r ∷ earlier) a = few_chunks text first earlier a.1
 -- what was copied of a text's beginning is the text's beginning
 pub authentic_of : (text : List ℕ) (p : Position) (r : Run) → chunk_count chunk_length text ≤ chunk_limit → r.first ≡ p.index → IsOldText p r.copied
     → IsPrefixOf r.copied text → IsTexts text r → IsAuthenticRun r text
-authentic_of text p r few at old c auth =
-    let size : length r.copied ≡ r.first * chunk_length = old.size ∙ ap (λ (k : ℕ). k * chunk_length) (sym at) in
-    record {
-      few = few;
-      old_text = sym (take_at r.copied c.0 (r.first * chunk_length) size) ∙ ap (take (r.first * chunk_length)) c.1;
-      authentic = auth;
-    }
+authentic_of text p r few at old c auth = grind (arith, common_steps, take_at)
 
 -- the position that a run began from, if the old text begins a text
 pub same_carries : (p q : Position) (copied text : List ℕ) → IsOldText p copied → IsPrefixOf copied text → IsSame p q → CarriesText text q
-same_carries p q copied text o c s =
-    let le : p.index * chunk_length ≤ length copied = omega (arith, o.size) in
-    let over : chain (first_chunks chunk_length p.index copied) ≡ chain (first_chunks chunk_length p.index text) =
-    sym (ap chain (first_chunks-append chunk_length p.index copied c.0 le))
-    ∙ ap (λ (t : List ℕ). chain (first_chunks chunk_length p.index t)) c.1 in (
-      omega (arith, le, s.index, ap length c.1, length-append copied c.0),
-      s.chain_is ∙ (sym o.same ∙ (over ∙ ap (λ (k : ℕ). chain (first_chunks chunk_length k text)) (sym s.index))),
-    )
+same_carries p q copied text o c s = grind (arith, common_steps, first_chunks-append, length-append)
 
 pub in_a_row : (text : List ℕ) (first : Run) (runs : List ResumedRun) → AllFollow text first runs → WritesRight text first runs
 in_a_row text first [] a =
@@ -307,3 +253,257 @@ bound Allows text p was now written r b from is =
 pub bound_done : (Allows : Header → List ℕ → Type 0) (text : List ℕ) (p : Position) (old new : ResumePorts) (written : ℕ) (r : Run) → BindsTo text p r
     → IsFrom p old.old new.old r → IsDone Allows old.main new.main written r → held r ≡ text
 bound_done Allows text p was now written r b from d = writes_all r (omega (arith, from.index, p.within)) d.whole d.done text (authentic from b)
+
+-- ---- From what was read again, skipped and decrypted to the position of its run.
+
+-- how long the text before the chunk is
+pub size_before : (from : Option Position) (copied : List ℕ) → IsTextBefore from copied → length copied ≡ first_of from * chunk_length
+size_before None copied is = omega (arith, ap length is)
+size_before (Some p) copied is = is.size
+
+-- a sink that took these bytes
+abbrev that_took : List ℕ → SinkView
+that_took bytes = record {
+  taken = record { bytes = bytes; contents = None };
+  failed = 0;
+  failing = false;
+  label = [];
+  settled = true;
+}
+
+found_by : (Allows : Header → List ℕ → Type 0) (from : Option Position) (copied : List ℕ)
+    (was now : SourceView) (r : Run) (written : ℕ) (position : Option Position) → r.first ≡ first_of from → r.copied ≡ copied
+    → IsRun Allows (ports was (that_took [])) (ports now (that_took (held r))) written r → GivesPosition Kept (IsPositionOf r) position
+    → IfSome position (IsFoundAgain Allows from copied was now written)
+found_by Allows from copied was now r written position h0 h1 h2 h3 = grind (arith, common_steps)
+
+-- the file was started, and the blocks before the chunk were passed over
+module _ {Allows : Header → List ℕ → Type 0} (from : Option Position) {a : SourceView} {unlocked : Unlocked} {s1 m : ReaderView}
+    (s : StartsAt Allows a s1 unlocked) {passed : List ℕ} (passes : Passes s1 m passed) (size : length passed ≡ first_of from * block_length)
+    (sink : SinkView) (t : Tally) (written : t.written ≡ first_of from * chunk_length) (index : t.index ≡ first_of from) where
+  abbrev head : List ℕ
+  head = s.front ++ unlocked.nonce
+
+  abbrev begun : Stage
+  begun = stage m (writer_view sink t)
+
+  after_blocks : Pulled (start_at a.supply) m.source.supply m.unread.pulls (head ++ (passed ++ m.unread.bytes))
+  after_blocks = passes.uses (start_at a.supply) head s.pulled
+
+  -- there is room for what is after them
+  pub place_after : HasPlace begun
+  place_after = place_at head passed begun t.index t.within (omega (arith, written, index)) after_blocks
+
+  module _ (copied : List ℕ) (before : IsTextBefore from copied)
+      (chained : t.chain ≡ chain_if Kept (first_chunks chunk_length (first_of from) copied)) (s2 : Stage) where
+    begins : BeginsAt Kept (start_at a.supply) head begun t.index copied passed
+    begins = grind (arith, common_steps, after_blocks, size_before)
+
+    abbrev Found : Result Done Stopped → Type 0
+    Found result = IfErr result (λ stopped. IfSome stopped.position (IsFoundAgain Allows from copied a s2.reader.source stopped.written))
+
+    -- the position of a stop
+    pub found_again : (result : Result Done Stopped) → OpensPayload unlocked t.index begun s2 result → Found result
+    found_again result o = found o.run o.decrypts o.ended where
+      found : (end : Result (Unit {0}) FileFault) → DecryptsPayload (opens (payload_key unlocked.key unlocked.nonce)) chunk_length t.index begun s2
+          end
+          → EndsAs unlocked s2.writer.tally end result → Found result
+      found (Ok u) q is = subst Found (sym is) tt
+      found (Err fault) q (next, at, is) =
+          let r = run s [] begins q in
+          let took : Appends (that_took []).taken (that_took (held r)).taken (held r) = record { bytes = refl; contents = tt } in
+          subst Found (sym is) (found_by Allows from copied a s2.reader.source r s2.writer.tally.written next index refl
+          (is_run s [] begins q (that_took []) (that_took (held r)) took) (given s [] begins q next at))
+
+-- ---- Two runs over the same bytes that wrote as many: they stand at the same place.
+
+module _ (sealing : List ℕ → List ℕ → List ℕ) (opening : List ℕ → List ℕ → Option (List ℕ)) (valid : IsChunkBox sealing opening) (n : ℕ)
+    (positive : 0 < n) (base : List ℕ) where
+  abbrev at : Segment → ℕ
+  at s = (outcome opening n s).index
+
+  abbrev IsTimely : Segment → Type 0
+  IsTimely s = s.ended ≡ false → s.late ≡ false
+
+  -- the second goes on where the first stands, and as many bytes of both end at the same chunk
+  record Extends (a b : Segment) : Type 0 where
+    text : IsPrefixOf (released opening n a) (released opening n b)
+    place : (w : ℕ) → w ≤ length (base ++ released opening n a) → min (w / n) (at a) ≡ min (w / n) (at b)
+
+  -- an end leaves what was released
+  end_text : (s : Segment) → IsTimely s → IsPrefixOf (released opening n s) (released opening n (with_end s))
+  end_text s timely = by_status (outcome opening n s).status refl where
+    by_status : (status : Status) → (outcome opening n s).status ≡ status → IsPrefixOf (released opening n s) (released opening n (with_end s))
+    by_status Open e =
+        let flat : List (List ℕ) → List ℕ = flat_map (λ (t : List ℕ). t) in
+        let here = ap (λ (o : Outcome). o.texts) (going_outcome opening n s (going opening n s e)) in
+        let b = stands_at opening n (with_end s) in (
+          flat b.more,
+          sym (ap flat (b.texts_are ∙ ap (λ (ts : List (List ℕ)). ts ++ b.more) (sym here))
+              ∙ flat_map-append (λ (t : List ℕ). t) (outcome opening n s).texts b.more),
+        )
+    by_status other e =
+        let after = (closed_stays opening n s timely (λ o. cc)).1 in
+        ([], append-nil (released opening n s) ∙ sym (ap (flat_map (λ (t : List ℕ). t)) after.texts))
+
+  -- with all bytes and the end
+  to_whole : (k : ℕ) (bytes more : List ℕ) (ended : Bool) → length base ≡ k * n → (ended ≡ true → more ≡ [])
+      → Extends (segment k bytes ended) (segment k (bytes ++ more) true)
+  to_whole k bytes more true len none =
+      let same : bytes ≡ bytes ++ more = sym (ap (λ (t : List ℕ). bytes ++ t) (none refl) ∙ append-nil bytes) in
+      subst (λ (t : List ℕ). Extends (segment k bytes true) (segment k t true)) same
+      (record { text = ([], append-nil (released opening n (segment k bytes true))); place = λ w within. refl })
+  to_whole k bytes more false len none =
+      let s = segment k bytes false in
+      let fed = segment k (bytes ++ more) false in
+      record {
+        text = prefix_trans (released opening n s) (released opening n fed) (released opening n (with_end fed))
+            (released_grows opening n s more (λ _. refl)).0 (end_text fed (λ _. refl));
+        place = λ w within.
+            let fits : w / n ≤ length (base ++ released opening n s) / n = (le-div_iff_mul-le positive).1 (omega (
+              arith,
+              div-mul-le_self w n,
+              within,
+            )) in
+            omega (arith, fits, index_is sealing opening valid n positive Kept base s more len (λ _. refl), (end_closes opening n fed).1);
+      }
+
+  -- two readings of the same bytes: what both wrote, if it is as much, and where they stand
+  record StandAlike (a b : Segment) (x y : List ℕ) : Type 0 where
+    wrote : x ≡ y
+    place : min (length (base ++ x) / n) (at a) ≡ min (length (base ++ y) / n) (at b)
+
+  stand_alike : (k : ℕ) (s t a b : List ℕ) (e f : Bool) (x y : List ℕ)
+      → length base ≡ k * n → s ++ a ≡ t ++ b → (e ≡ true → a ≡ []) → (f ≡ true → b ≡ []) → IsPrefixOf x (released opening n (segment k s e))
+      → IsPrefixOf y (released opening n (segment k t f)) → length x ≡ length y → StandAlike (segment k s e) (segment k t f) x y
+  stand_alike k s t a b e f x y start both ends_a ends_b p q len =
+      let one = segment k s e in
+      let two = segment k t f in
+      let all = segment k (s ++ a) true in
+      let first = to_whole k s a e start ends_a in
+      let second = subst (λ (u : List ℕ). Extends two (segment k u true)) (sym both) (to_whole k t b f start ends_b) in
+      let u = prefix_trans x (released opening n one) (released opening n all) p first.text in
+      let v = prefix_trans y (released opening n two) (released opening n all) q second.text in
+      let same = (same_front x y u.0 v.0 len (u.1 ∙ sym v.1)).0 in
+      let place_x = first.place (length (base ++ x)) (omega (arith, length-append {A = ℕ}, ap length p.1)) in
+      let place_y = second.place (length (base ++ y)) (omega (arith, length-append {A = ℕ}, ap length q.1)) in
+      record { wrote = same; place = place_x ∙ (ap (λ (w : List ℕ). min (length (base ++ w) / n) (at all)) same ∙ sym place_y) }
+
+-- ---- A position that is found by reading again is the run's.
+
+-- two files that were opened at the front of the same bytes
+pub record IsSameFront (r q : Run) (left rest : List ℕ) : Type 0 where
+  pub header_bytes : q.file.header_bytes ≡ r.file.header_bytes
+  pub nonce : q.file.nonce ≡ r.file.nonce
+  pub behind : (r.skipped ++ r.bytes) ++ left ≡ (q.skipped ++ q.bytes) ++ rest
+
+pub fronts : OneHeader → (A B : Header → List ℕ → Type 0) (was now before after : Supply) (bytes : List ℕ) (r q : Run)
+    → was.left ≡ Some bytes → before.left ≡ Some bytes → Reads A was now r.file (r.skipped ++ r.bytes)
+    → Reads B before after q.file (q.skipped ++ q.bytes) → (left : List ℕ) × (rest : List ℕ) × (now.left ≡ Some left) × (after.left ≡ Some rest)
+    × IsSameFront r q left rest
+fronts one A B was now before after bytes r q shown again a b =
+    let s = left_of was now bytes _ shown a.read in
+    let t = left_of before after bytes _ again b.read in
+    let x = r.skipped ++ r.bytes in
+    let y = q.skipped ++ q.bytes in
+    let f = r.file in
+    let g = q.file in
+    let e : f.header_bytes ++ (f.nonce ++ (x ++ s.0)) ≡ g.header_bytes ++ (g.nonce ++ (y ++ t.0)) =
+    sym (s.1 ∙ regroup f.header_bytes f.nonce x s.0) ∙ (t.1 ∙ regroup g.header_bytes g.nonce y t.0) in
+    let same = one f.header g.header f.header_bytes g.header_bytes _ _ a.text.spells b.text.spells e in
+    let behind = (same_front f.header_bytes g.header_bytes _ _ (ap length same.1) e).1 in
+    let both = same_front f.nonce g.nonce (x ++ s.0) (y ++ t.0) (a.size ∙ sym b.size) behind in (
+      s.0,
+      t.0,
+      s.2,
+      t.2,
+      record { header_bytes = sym same.1; nonce = sym both.0; behind = both.1 },
+    )
+
+-- Two runs by one key from the same chunk, after the same text and over the same bytes, which wrote
+-- as much.
+module _ {A B : Header → List ℕ → Type 0} {before after was now : Ports} {written : ℕ} {r q : Run} {left rest : List ℕ}
+    (x : IsRun A before after written r) (y : IsRun B was now written q) (first : q.first ≡ r.first) (copied : q.copied ≡ r.copied)
+    (key : q.file.key ≡ r.file.key) (front : IsSameFront r q left rest) (left_is : after.source.supply.left ≡ Some left)
+    (rest_is : now.source.supply.left ≡ Some rest) where
+  abbrev open_r : List ℕ → List ℕ → Option (List ℕ)
+  open_r = unbox r.file.key r.file.nonce
+
+  -- the second, from the first one's chunk
+  abbrev part : Segment
+  part = segment r.first q.bytes q.ended
+
+  keys : unbox q.file.key q.file.nonce ≡ open_r
+  keys = cc (key, front.nonce)
+
+  part_is : segment_of q ≡ part
+  part_is = ap (λ (i : ℕ). segment i q.bytes q.ended) first
+
+  part_begins : IsPrefixOf q.out (released open_r chunk_length part)
+  part_begins = rw (part_is, keys) at y.prefix
+
+  place_is : (run_outcome q).index ≡ (outcome open_r chunk_length part).index
+  place_is = rw (part_is, keys)
+
+  held_q : held q ≡ r.copied ++ q.out
+  held_q = ap (λ (t : List ℕ). t ++ q.out) copied
+
+  behind : r.bytes ++ left ≡ q.bytes ++ rest
+  behind =
+      let passed : length r.skipped ≡ length q.skipped = x.skipped_size ∙ (ap (λ (n : ℕ). n * block_length) (sym first) ∙ sym y.skipped_size) in
+      (same_front r.skipped q.skipped (r.bytes ++ left) (q.bytes ++ rest) passed (sym (append_assoc r.skipped r.bytes left)
+      ∙ (front.behind ∙ append_assoc q.skipped q.bytes rest))).1
+
+  alike : StandAlike (box r.file.key r.file.nonce) open_r (box_valid (payload_key r.file.key r.file.nonce)) chunk_length
+      (omega arith) r.copied (segment_of r) part r.out q.out
+  alike =
+      stand_alike (box r.file.key r.file.nonce) open_r (box_valid (payload_key r.file.key r.file.nonce)) chunk_length (omega arith) r.copied
+      r.first r.bytes q.bytes left rest r.ended q.ended r.out q.out x.copied_size behind
+      (λ e. none_left after.source.supply left left_is (x.at_end e)) (λ e. none_left now.source.supply rest rest_is (y.at_end e)) x.prefix part_begins
+      (omega (arith, x.count, y.count, ap length copied, length-append r.copied r.out, length-append q.copied q.out))
+
+  same_stand : {at : Position} → IsPositionOf q at → IsPositionOf r at
+  same_stand {at} found = record {
+    index = (rw (held_q, place_is) at found.index) ∙ sym alike.place;
+    own = cc (found.own, front.header_bytes, front.nonce);
+    chain_is = found.chain_is ∙ ap (chain_over at.index) (held_q ∙ ap (λ (t : List ℕ). r.copied ++ t) (sym alike.wrote));
+    tagged = cc (found.tagged, key, front.nonce);
+  }
+
+found_position : OneHeader → (Allows : Header → List ℕ → Type 0) (from : Option Position)
+    (before after : Ports) (written : ℕ) (r : Run) (old new : SourceView) (bytes : List ℕ) (next : Position)
+    → r.first ≡ first_of from → IsRun Allows before after written r
+    → before.source.supply.left ≡ Some bytes → old.supply.left ≡ Some bytes
+    → IsFoundAgain (λ _ key. key ≡ r.file.key) from r.copied old new written next → IsPositionOf r next
+found_position one Allows from before after written r old new bytes next first is shown again found =
+    let f = fronts one Allows (λ _ key. key ≡ r.file.key) before.source.supply
+    after.source.supply old.supply new.supply bytes r found.run shown again is.reads found.is.reads in
+    same_stand is found.is (found.first_is ∙ sym first) found.copied_is found.is.reads.opens.allowed f.4 f.2 f.3 found.here
+
+-- the stop, with that position
+pub stops_kept : (Allows : Header → List ℕ → Type 0) (Refused : Header → KeyFault → Type 0)
+    (before after : Ports) (r : Run) (stopped : Stopped) (p : Position)
+    → DecryptStops Dropped Allows Refused before after (Some r) stopped → IsPositionOf r p → DecryptStops Kept Allows Refused before after (Some r)
+    (record { fault = stopped.fault; written = stopped.written; position = Some p })
+stops_kept Allows Refused before after r stopped p s at = (s.0, record { is = s.1.is; here = at; why = s.1.why })
+
+pub read_again : OneHeader → (Who : Type 0) (Allows : Who → Header → List ℕ → Type 0)
+    (Refused : Who → Header → KeyFault → Type 0) → ReadAgain Who Allows Refused
+read_again one Who Allows Refused who before after r stopped old new bytes p s shown again found =
+    stops_kept (Allows who) (Refused who) before after r stopped p s
+    (found_position one (Allows who) None before after stopped.written r old new bytes p s.0.zero s.1.is shown again
+    (subst (λ (c : List ℕ). IsFoundAgain (λ _ key. key ≡ r.file.key) None c old new stopped.written p) (sym s.0.none_copied) found))
+
+-- ---- A resumed run, whose rest is read again from the position that it began from.
+
+pub rest_kept : (Allows : Header → List ℕ → Type 0) (Refused : Header → KeyFault → Type 0)
+    (p : Position) (before after : ResumePorts) (r : Run) (stopped : Stopped) (next : Position)
+    → ResumeStops Allows p before after Dropped Refused (Some r) stopped → IsPositionOf r next
+    → ResumeStops Allows p before after Kept Refused (Some r) (record { fault = stopped.fault; written = stopped.written; position = Some next })
+rest_kept Allows Refused p before after r stopped next s at = (s.0, s.1, record { is = s.2.is; here = at; why = s.2.why })
+
+pub rest_read_again : OneHeader → (Who : Type 0) (Allows : Who → Header → List ℕ → Type 0)
+    (Refused : Who → Header → KeyFault → Type 0) → RestReadAgain Who Allows Refused
+rest_read_again one Who Allows Refused who p before after r stopped old new bytes next s shown again found =
+    rest_kept (Allows who) (Refused who) p before after r stopped next s
+    (found_position one (Allows who) (Some p) before.main after.main stopped.written r old new bytes next s.0.index s.2.is shown again found)

@@ -1,55 +1,47 @@
 -- What can't stop the decryption of an age file that is undamaged, and what it writes.
+use Rattle.std.proofs.lemmas.Grind.{common_steps}
 use Rattle.std.proofs.Common.{inl, inr, ◌≡◌, ℕ, ◌+◌, ◌*◌, ◌<◌, ◌≤◌, List, [], ◌++◌, length, take, drop, Option, Some, refl, sym, ap, subst, ◌∙◌, arith}
 use Rattle.std.proofs.Common.{append-nil, append_assoc, Bool, true, false, None, Result, Ok, Err, IfOk, IfErr, MatchResult}
 use Rattle.std.proofs.lemmas.List.{length-append, drop_at, drop_all, length-take}
 use Rattle.age_io.specs.Taken.{Appends}
-use Rattle.age_io.specs.Supply.{Supply, Consumes, IsAtEnd}
+use Rattle.age_io.specs.Supply.{Supply}
+use Rattle.age_io.specs.{Consumes, IsAtEnd, SourceView}
 use Rattle.std.specs.Prelude.{IsSomeAnd}
+use Rattle.age_stanza.specs.{HeadText, OneHeader}
 use Rattle.age_stanza.specs.declared.header.Header.{Header}
 use Rattle.age_stanza.specs.declared.fault.HeadFault.{HeadFault}
-use Rattle.age_stanza.specs.Grammar.{HeadText}
-use Rattle.age_stanza.specs.Laws.{OneHeader}
+use Rattle.age_chunk.specs.{payload, chunk_count, block_length, chunk_length, chunk_limit}
 use Rattle.age_chunk.specs.declared.fault.StreamFault.{StreamFault}
 use Rattle.age_chunk.specs.declared.fault.StreamKind.TheVariants.{Truncated}
-use Rattle.age_chunk.specs.Payload.{payload, chunk_count, block_length, chunk_length, chunk_limit}
-use Rattle.age_io.specs.Io.{SourceView}
+use Rattle.age_stream.specs.{outcome, IsAuthentic, IsRest, IsClosed}
 use Rattle.age_stream.specs.declared.step.Status.TheVariants.{Open, Failed, Done as AllDone}
-use Rattle.age_stream.specs.Segment.{Segment, outcome}
-use Rattle.age_stream.specs.Headline.{IsAuthentic, IsRest}
-use Rattle.age_stream.specs.Laws.{IsClosed}
-use Rattle.age_stream.proofs.LawLemmas.{closed_stays, released_is_written, rest_is_authentic}
+use Rattle.age_stream.specs.Segment.{Segment}
+use Rattle.age_stream.proofs.LawLemmas.{closed_stays}
+use Rattle.age_stream.proofs.SegmentLemmas.{segment_right as released_is_written}
+use Rattle.age_stream.proofs.ReplayLemmas.{rest_is_right as rest_is_authentic}
+use Rattle.age_keys.specs.{IsMacOf, payload_key, Refuses, RefusesKey, box, unbox, PassphraseOpens, PassphraseIdentity, IsPassphraseKey, PassphraseRefuses}
+use Rattle.age_keys.specs.{scrypt_head}
 use Rattle.age_keys.specs.declared.fault.KeyFault.{KeyFault}
-use Rattle.age_keys.specs.declared.fault.KeyFault.TheVariants.{MacMismatch, Memory as KeyMemory}
-use Rattle.age_keys.specs.Keys.{IsMacOf, payload_key, Refuses, RefusesKey, box, unbox}
-use Rattle.age_keys.specs.inner.PayloadBox.{box_valid}
+use Rattle.age_keys.specs.declared.fault.KeyFault.TheVariants.{Memory as KeyMemory}
+use Rattle.age_keys.specs.inner.{box_valid}
 use Rattle.age_fault.specs.declared.fault.FileFault.{FileFault}
 use Rattle.age_fault.specs.declared.fault.FileFault.TheVariants.{Head, Key, NonceCut, Stream, Read, Write, Memory, ReadNeverEnds, OtherFile, ShortText}
 use Rattle.age_fault.specs.declared.fault.FileFault.TheVariants.{PositionForged, OldTextDiffers}
-use Rattle.age_file.specs.Runs.{Ports, IsHeadFault, Run, run_outcome, IsRun, PayloadFails, IsDone, Reads, OpenedFile, NeverEnds}
-use Rattle.age_file.specs.Decrypts.{StartFails, IsWhole, WritesText, StopsOutside, DecryptEnds, DecryptStops, IsUndamagedFile}
-use Rattle.age_file.specs.inner.Payloads.{segment}
+use Rattle.age_file.specs.{Ports, IsHeadFault, Run, run_outcome, IsRun, PayloadFails, IsDone, Reads, OpenedFile, NeverEnds, StartFails, IsWhole, WritesText}
+use Rattle.age_file.specs.{StopsOutside, DecryptEnds, DecryptStops, IsUndamagedFile, chain, ResumePorts, WritesOld, IsFrom, IsUndamagedRest, NeverEndTogether}
+use Rattle.age_file.specs.{BeforeOldFails, InOldFails, InSkippedFails, StopsInSkipped, ResumeStops, ResumeEnds, Stopped, Position, PositionPolicy, Done}
+use Rattle.age_file.specs.{SecretView, AgeFile, DecryptAnswers, IsSecret, passphrase_identity, RoundTrip}
+use Rattle.age_file.specs.inner.{segment}
 use Rattle.age_file.proofs.ReadLemmas.{fault_of_all, left_of, none_left, same_front, regroup}
 use Rattle.age_file.proofs.RunLemmas.{writes_all, none_before}
 use Rattle.std.specs.Simd.{first_chunks}
-use Rattle.age_chunk.proofs.FirstChunkLemmas.{first_chunks-append}
-use Rattle.age_file.specs.Bindings.{chain}
-use Rattle.age_file.specs.Resumes.{ResumePorts, WritesOld, IsFrom, IsUndamagedRest, NeverEndTogether, BeforeOldFails, InOldFails, InSkippedFails}
-use Rattle.age_file.specs.Resumes.{StopsInSkipped, ResumeStops, ResumeEnds}
-use Rattle.age_file.specs.declared.decryption.Stopped.{Stopped}
-use Rattle.age_file.specs.declared.position.Position.{Position}
-use Rattle.age_file.specs.declared.position.PositionPolicy.{PositionPolicy}
-use Rattle.age_file.specs.declared.decryption.Done.{Done}
-use Rattle.age_keys.specs.Scrypt.{PassphraseOpens, PassphraseIdentity, IsPassphraseKey, PassphraseRefuses, scrypt_head}
-use Rattle.age_file.specs.Encrypts.{SecretView, AgeFile}
-use Rattle.age_file.specs.InARow.{DecryptAnswers, IsSecret, passphrase_identity, RoundTrip}
+use Rattle.age_chunk.proofs.{first_chunks-append}
 
 -- ---- What can't stop the decryption of an age file that is undamaged.
 
 -- a key whose MAC is the header's is refused only if memory runs out
 pub for_memory : (h : Header) (key : List ℕ) (fault : KeyFault) → IsMacOf h key → RefusesKey h key fault → fault ≡ KeyMemory
-for_memory h key MacMismatch mac refused = absurd (refused mac)
-for_memory h key KeyMemory mac refused = refl
-for_memory h key other mac refused = absurd refused
+for_memory h key fault h0 h1 = grind (arith, common_steps)
 
 -- an end without bytes
 no_bytes : (op : List ℕ → List ℕ → Option (List ℕ)) (k : ℕ) → (outcome op chunk_length (segment k [] true)).status
@@ -61,9 +53,7 @@ no_bytes op k = refl
 failed_stays : (op : List ℕ → List ℕ → Option (List ℕ)) (n k : ℕ) (bytes more : List ℕ) (ended : Bool) (fault : StreamFault)
     → (outcome op n (segment k bytes ended)).status ≡ Failed fault
     → (ended ≡ true → more ≡ []) → (outcome op n (segment k (bytes ++ more) true)).status ≡ Failed fault
-failed_stays op n k bytes more true fault e none =
-    let same : bytes ≡ bytes ++ more = sym (ap (λ (t : List ℕ). bytes ++ t) (none refl) ∙ append-nil bytes) in
-    ap (λ (t : List ℕ). (outcome op n (segment k t true)).status) (sym same) ∙ e
+failed_stays op n k bytes more true fault e none = rw (none refl, append-nil bytes) e
 failed_stays op n k bytes more false fault e none =
     let s = segment k bytes false in
     let shut : (outcome op n s).status ≡ Open → ⊥ = λ o. let clash : Open ≡ Failed fault = sym o ∙ e in cc in
@@ -122,39 +112,31 @@ module _ (one : OneHeader) {Allows : Header → List ℕ → Type 0} {Refused : 
 
   no_nonce_cut : (after : Supply) (h : Header) (front short : List ℕ) → HeadText h front → length short < 16 → Consumes coming after (front ++ short)
       → IsAtEnd after → ⊥
-  no_nonce_cut after h front short text_is lt consumed ended =
-      let t = left_of coming after u.bytes (front ++ short) u.all consumed in
-      let same = fronts h front (short ++ t.0) text_is (t.1 ∙ append_assoc front short t.0) in
-      let none : t.0 ≡ [] = none_left after t.0 t.2 ended in
-      omega (arith, lt, ap length same.rest_is, length-append {A = ℕ}, ap length none, u.file.size)
+  no_nonce_cut after h front short text_is lt consumed ended = grind (arith, common_steps, append_assoc, fronts, left_of, length-append, none_left)
 
-  -- what was read after the nonce is the payload's beginning
-  pub record IsOpenedAs (key nonce behind : List ℕ) (after : Supply) : Type 0 where
-    pub key_is : key ≡ u.key
-    pub nonce_is : nonce ≡ u.nonce
+  -- the file that was opened is this one, and what was read after its nonce is the payload's beginning
+  pub record IsOpenedAs (f : OpenedFile) (behind : List ℕ) (after : Supply) : Type 0 where
+    pub front_is : f.header_bytes ≡ u.file.front
+    pub key_is : f.key ≡ u.key
+    pub nonce_is : f.nonce ≡ u.nonce
     pub left : List ℕ
     pub left_is : after.left ≡ Some left
     pub payload_is : behind ++ left ≡ all
 
-  pub opened_as : {after : Supply} {f : OpenedFile} {behind : List ℕ} → Reads Allows coming after f behind → IsOpenedAs f.key f.nonce behind after
+  pub opened_as : {after : Supply} {f : OpenedFile} {behind : List ℕ} → Reads Allows coming after f behind → IsOpenedAs f behind after
   opened_as {after} {f} {behind} r =
       let front = f.header_bytes in
       let t = left_of coming after u.bytes ((front ++ f.nonce) ++ behind) u.all r.read in
       let same = fronts f.header front (f.nonce ++ (behind ++ t.0)) r.text (t.1 ∙ regroup front f.nonce behind t.0) in
       let both = same_front f.nonce u.nonce (behind ++ t.0) all (r.size ∙ sym u.file.size) same.rest_is in
       record {
+        front_is = same.front_is;
         key_is = u.only f.key (subst (λ (x : Header). Allows x f.key) same.header_is r.opens.allowed);
         nonce_is = both.0;
         left = t.0;
         left_is = t.2;
         payload_is = both.1;
       }
-
-  -- and so is the file's front that which was read
-  pub front_is : {after : Supply} {f : OpenedFile} {behind : List ℕ} → Reads Allows coming after f behind → f.header_bytes ≡ u.file.front
-  front_is {after} {f} {behind} r =
-      let t = left_of coming after u.bytes ((f.header_bytes ++ f.nonce) ++ behind) u.all r.read in
-      (fronts f.header f.header_bytes (f.nonce ++ (behind ++ t.0)) r.text (t.1 ∙ regroup f.header_bytes f.nonce behind t.0)).front_is
 
   -- from a chunk of the text on, whose blocks are the writer's
   module _ (k : ℕ) (below : k < chunk_count chunk_length text) (authentic : IsAuthentic (box u.key u.nonce) (unbox u.key u.nonce) chunk_length text (rest_of k)) where
@@ -169,34 +151,22 @@ module _ (one : OneHeader) {Allows : Header → List ℕ → Type 0} {Refused : 
         ((released_is_written (box u.key u.nonce) (unbox u.key u.nonce) valid chunk_length positive
         s text u.few (omega (arith, below, u.few)) authentic).whole rest).1
 
-    pub no_stream_fault : (after : Supply) (key nonce passed bytes : List ℕ) (ended : Bool) (fault : StreamFault)
-        → IsOpenedAs key nonce (passed ++ bytes) after → length passed ≡ k * block_length → (ended ≡ true → IsAtEnd after)
-        → (outcome (unbox key nonce) chunk_length (segment k bytes ended)).status ≡ Failed fault → ⊥
-    no_stream_fault after key nonce passed bytes ended fault o size at_end failed =
+    pub no_stream_fault : (after : Supply) (f : OpenedFile) (passed bytes : List ℕ) (ended : Bool) (fault : StreamFault)
+        → IsOpenedAs f (passed ++ bytes) after → length passed ≡ k * block_length → (ended ≡ true → IsAtEnd after)
+        → (outcome (unbox f.key f.nonce) chunk_length (segment k bytes ended)).status ≡ Failed fault → ⊥
+    no_stream_fault after f passed bytes ended fault o size at_end failed =
         let rest : bytes ++ o.left ≡ drop (k * block_length) all = sym (drop_at passed (bytes ++ o.left) (k * block_length) size)
         ∙ ap (drop (k * block_length)) (sym (append_assoc passed bytes o.left) ∙ o.payload_is) in
         let here = rw (o.key_is, o.nonce_is) at failed in
         let stays = failed_stays (unbox u.key u.nonce) chunk_length k bytes o.left ended fault here
         (λ e. none_left after o.left o.left_is (at_end e)) in
-        let clash : AllDone ≡ Failed fault = sym rest_done ∙ (ap (λ (x : List ℕ).
-        (outcome (unbox u.key u.nonce) chunk_length (segment k x true)).status) (sym rest) ∙ stays) in
+        let clash : AllDone ≡ Failed fault = sym rest_done ∙ (rw rest at stays) in
         cc
 
     -- the blocks before that chunk are all there
-    pub no_early_end : (after : Supply) (key nonce passed : List ℕ)
-        → IsOpenedAs key nonce passed after → length passed < k * block_length → IsAtEnd after → ⊥
-    no_early_end after key nonce passed o short ended =
-        let none : o.left ≡ [] = none_left after o.left o.left_is ended in
-        let nothing : drop (k * block_length) all ≡ [] = drop_all (k * block_length) all (omega (
-          arith,
-          short,
-          ap length o.payload_is,
-          length-append passed o.left,
-          ap length none,
-        )) in
-        let clash : AllDone ≡ Failed (record { kind = Truncated; chunk = k + 0 }) = sym rest_done ∙ (ap (λ (x : List ℕ).
-        (outcome (unbox u.key u.nonce) chunk_length (segment k x true)).status) nothing ∙ no_bytes (unbox u.key u.nonce) k) in
-        cc
+    pub no_early_end : (after : Supply) (f : OpenedFile) (passed : List ℕ) → IsOpenedAs f passed after → length passed < k * block_length
+        → IsAtEnd after → ⊥
+    no_early_end after f passed o short ended = grind (arith, common_steps, drop_all, length-append, no_bytes, none_left, rest_done)
 
 -- no fault of what is before a payload
 module _ (one : OneHeader) {Allows : Header → List ℕ → Type 0} {Refused : Header → KeyFault → Type 0} (before after : SourceView) {text : List ℕ}
@@ -233,7 +203,7 @@ module _ (one : OneHeader) {Allows : Header → List ℕ → Type 0} {Refused : 
   pub run_opens : (fault : StreamFault) → IsRun Allows old new written r → (run_outcome r).status ≡ Failed fault → ⊥
   run_opens fault is failed =
       no_stream_fault one u r.first below (own_authentic u.key u.nonce text u.few closed r.first below)
-      new.source.supply r.file.key r.file.nonce r.skipped r.bytes r.ended fault (opened_as one u is.reads) is.skipped_size is.at_end failed
+      new.source.supply r.file r.skipped r.bytes r.ended fault (opened_as one u is.reads) is.skipped_size is.at_end failed
 
   -- so it has no fault
   pub payload_undamaged : (never : Type 0) (fault : FileFault) → IsRun Allows old new written r
@@ -254,7 +224,7 @@ module _ (one : OneHeader) {Allows : Header → List ℕ → Type 0} {Refused : 
       let rest : List ℕ = drop (r.first * block_length) (payload (box u.key u.nonce) chunk_length text) in
       let after : r.bytes ++ o.left ≡ rest = sym (drop_at r.skipped (r.bytes ++ o.left) (r.first * block_length) is.skipped_size)
       ∙ ap (drop (r.first * block_length)) (sym (append_assoc r.skipped r.bytes o.left) ∙ o.payload_is) in
-      let bytes_are : r.bytes ≡ rest = sym (append-nil r.bytes) ∙ (ap (λ (t : List ℕ). r.bytes ++ t) (sym none) ∙ after) in
+      let bytes_are : r.bytes ≡ rest = rw (none, append-nil r.bytes) at after in
       let own = own_authentic u.key u.nonce text u.few closed r.first below in
       let whole = writes_all r (omega (arith, below, u.few)) d.whole d.done text (record {
         few = u.few;
@@ -270,33 +240,18 @@ module _ (one : OneHeader) {Allows : Header → List ℕ → Type 0} {Refused : 
   -- the old text is long enough
   old_is_long : (written : ℕ) (copied : List ℕ) (w : WritesOld p old new written copied)
       → copied ≡ w.pulled → IsAtEnd new.old.supply → p.index * chunk_length ≤ length copied
-  old_is_long written copied w whole ended =
-      let b = u.old_text in
-      let t = left_of old.old.supply new.old.supply b.all w.pulled b.shown w.read in
-      let none = none_left new.old.supply t.0 t.2 ended in
-      omega (
-        arith,
-        b.within,
-        length-take (p.index * chunk_length) text,
-        ap length b.begins.1,
-        length-append (take (p.index * chunk_length) text) b.begins.0,
-        ap length t.1,
-        length-append w.pulled t.0,
-        ap length none,
-        ap length whole,
-      )
+  old_is_long written copied w whole ended = grind (arith, common_steps, left_of, length-append, length-take, none_left)
 
   -- and has the position's chain
   old_is_same : (written : ℕ) (copied : List ℕ) → WritesOld p old new written copied → length copied ≡ p.index * chunk_length
       → chain (first_chunks chunk_length p.index copied) ≡ p.chain
   old_is_same written copied w size =
       let front = w.of text u.old_text in
-      sym (u.carries ∙ (ap (λ (t : List ℕ). chain (first_chunks chunk_length p.index t)) (sym front.1)
-      ∙ ap chain (first_chunks-append chunk_length p.index copied front.0 (omega (arith, size)))))
+      sym (rw (← front.1, first_chunks-append chunk_length p.index copied front.0 (omega (arith, size))) at u.carries)
 
   -- the position is the file's, and was made under its key
   before_undamaged : (fault : FileFault) → BeforeOldFails Allows p old new Refused fault → StopsOutside fault
-  before_undamaged OtherFile f = absurd (f.2 (cc (u.own, front_is one u.whole f.1.2, (opened_as one u.whole f.1.2).nonce_is)))
+  before_undamaged OtherFile f = let o = opened_as one u.whole f.1.2 in absurd (f.2 (cc (u.own, o.front_is, o.nonce_is)))
   before_undamaged PositionForged f = let o = opened_as one u.whole f.1.2 in absurd (f.3 (cc (u.tagged, o.key_is, o.nonce_is)))
   before_undamaged other f = start_undamaged one old.main.source new.main.source u.whole other f
 
@@ -317,7 +272,7 @@ module _ (one : OneHeader) {Allows : Header → List ℕ → Type 0} {Refused : 
       → InSkippedFails Allows p old new s.skipped fault → StopsOutside fault
   skipped_undamaged keep stopped s (Stream x) f =
       absurd (no_early_end one u.whole p.index u.below (own_authentic u.whole.key u.whole.nonce text u.whole.few u.closed p.index u.below)
-      new.main.source.supply s.file.key s.file.nonce s.skipped (opened_as one u.whole s.reads) s.short f.2)
+      new.main.source.supply s.file s.skipped (opened_as one u.whole s.reads) s.short f.2)
   skipped_undamaged keep stopped s Read f = tt
   skipped_undamaged keep stopped s ReadNeverEnds f = tt
   skipped_undamaged keep stopped s other f = absurd f

@@ -1,7 +1,7 @@
 -- Where a run stopped, found by reading its file once more.
 use Rattle.std.specs.Prelude.{◌≡◌, ℕ, List, [], Option, Some, None}
 use Rattle.age_stanza.specs.declared.header.Header.{Header}
-use Rattle.age_io.specs.Io.{SourceView, SinkView}
+use Rattle.age_io.specs.{SourceView, SinkView}
 use Rattle.age_keys.specs.declared.fault.KeyFault.{KeyFault}
 use Rattle.age_file.specs.Runs.{Ports, ports, Run, IsRun, IsPositionOf}
 use Rattle.age_file.specs.Decrypts.{DecryptStops}

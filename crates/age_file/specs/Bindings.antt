@@ -3,9 +3,9 @@ use Rattle.std.specs.Prelude.{ℕ, List, ◌++◌, codes, replicate, fold}
 use Rattle.std.specs.Fmt.{decimal}
 use Rattle.std.specs.Simd.{first_chunks}
 use Rattle.sha2.specs.Sha256.{sha256}
-use Rattle.age_stanza.specs.Text.{base64_text}
-use Rattle.age_kdf.specs.Derivation.{hmac}
-use Rattle.age_chunk.specs.Payload.{chunk_length}
+use Rattle.age_stanza.specs.{base64_text}
+use Rattle.age_kdf.specs.{hmac}
+use Rattle.age_chunk.specs.{chunk_length}
 
 -- ---- The chain over a text.
 

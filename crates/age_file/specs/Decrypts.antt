@@ -1,14 +1,14 @@
 -- What a decryption promises, done or stopped, and what reading its file again finds.
-use Rattle.std.specs.Prelude.{Option, ◌≢◌, ◌⊎◌, ℕ, ◌<◌, ◌≤◌, List, ◌++◌, length, ◌≡◌, Some, None}
-use Rattle.std.specs.Prelude.{true, Result, IfOk, IfErr, IfSome, OnOk, IsSomeAnd}
+use Rattle.std.specs.Prelude.{Option, ◌≢◌, ◌⊎◌, ℕ, ◌<◌, ◌≤◌, List, ◌++◌, length, ◌≡◌, Some, None, true}
+use Rattle.std.specs.Prelude.{Result, IfOk, IfErr, IfSome, OnOk, IsSomeAnd}
 use Rattle.age_io.specs.Taken.{Taken, Appends}
-use Rattle.age_io.specs.Supply.{Supply, Consumes, IsAtEnd}
-use Rattle.age_stanza.specs.Grammar.{HeadText}
+use Rattle.age_io.specs.Supply.{Supply}
+use Rattle.age_io.specs.{Consumes, IsAtEnd, SourceView}
+use Rattle.age_stanza.specs.{HeadText}
 use Rattle.age_stanza.specs.declared.header.Header.{Header}
-use Rattle.age_chunk.specs.Payload.{chunk_count, chunk_length, chunk_limit}
-use Rattle.age_io.specs.Io.{SourceView}
-use Rattle.age_stream.specs.Laws.{IsClosed}
-use Rattle.age_keys.specs.Keys.{Opens, Refuses, IsScryptNotAlone, box, unbox, FileOf}
+use Rattle.age_chunk.specs.{chunk_count, chunk_length, chunk_limit}
+use Rattle.age_stream.specs.{IsClosed}
+use Rattle.age_keys.specs.{Opens, Refuses, IsScryptNotAlone, box, unbox, FileOf}
 use Rattle.age_keys.specs.declared.fault.KeyFault.{KeyFault}
 use Rattle.age_keys.specs.declared.fault.KeyFault.TheVariants.{Memory as KeyMemory}
 use Rattle.age_fault.specs.declared.fault.FileFault.{FileFault}

@@ -1,12 +1,10 @@
 -- What an encryption promises: which file it writes of a text, or how much of it.
 use Rattle.std.specs.Prelude.{ℕ, List, ◌≡◌, ◌-◌, ◌^◌, ◌<◌, ◌≤◌, ◌++◌, length}
 use Rattle.age_io.specs.Taken.{Appends}
-use Rattle.age_io.specs.Supply.{Consumes, IsAtEnd}
-use Rattle.age_chunk.specs.Payload.{chunk_limit, chunk_count, chunk_length, sealed_before_last, block_bytes}
-use Rattle.age_stream.specs.Headline.{IsPrefixOf}
-use Rattle.age_stream.specs.Sealer.{too_many}
-use Rattle.age_keys.specs.Scrypt.{scrypt_head}
-use Rattle.age_keys.specs.Keys.{box, FileOf}
+use Rattle.age_io.specs.{Consumes, IsAtEnd}
+use Rattle.age_chunk.specs.{chunk_limit, chunk_count, chunk_length, sealed_before_last, block_bytes}
+use Rattle.age_stream.specs.{IsPrefixOf, too_many}
+use Rattle.age_keys.specs.{scrypt_head, box, FileOf}
 use Rattle.age_fault.specs.declared.fault.FileFault.{FileFault}
 use Rattle.age_fault.specs.declared.fault.FileFault.TheVariants.{Stream, Read, Write, Memory, ReadNeverEnds}
 use Rattle.age_file.specs.Runs.{IsByAllPulls, Ports, NoneFailed, ReadFailed, WriteFailed}

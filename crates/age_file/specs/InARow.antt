@@ -1,23 +1,23 @@
 -- What several calls together promise: a decryption and its resumptions, or both directions.
-use Rattle.age_io.specs.Supply.{Supply, Consumes, IsAtEnd}
+use Rattle.age_io.specs.Supply.{Supply}
+use Rattle.age_io.specs.{Consumes, IsAtEnd}
 use Rattle.age_io.specs.Taken.{Appends}
-use Rattle.std.specs.Prelude.{◌≡◌, ◌⊎◌, ℕ, List, [], ◌∷◌, ◌≤◌, Option, Some, IfSome, IsSomeAnd, ◌<◌}
-use Rattle.std.specs.Prelude.{Result, MatchResult, ◌*◌, take, drop, length, ◌++◌, IfOk, IfErr}
+use Rattle.std.specs.Prelude.{◌≡◌, ◌⊎◌, ℕ, List, [], ◌∷◌, ◌≤◌, Option, Some, IfSome, IsSomeAnd, ◌<◌, Result}
+use Rattle.std.specs.Prelude.{MatchResult, ◌*◌, take, drop, length, ◌++◌, IfOk, IfErr}
 use Rattle.base64.specs.GeneralPurpose.{IsBytes}
 use Rattle.age_stanza.specs.declared.header.Header.{Header}
 use Rattle.age_stanza.specs.declared.fault.HeadFault.{HeadFault}
-use Rattle.age_chunk.specs.Payload.{chunk_count, chunk_length, chunk_limit, block_length, payload}
-use Rattle.age_stream.specs.Headline.{IsPrefixOf}
-use Rattle.age_stream.specs.Laws.{IsClosed}
+use Rattle.age_chunk.specs.{chunk_count, chunk_length, chunk_limit, block_length, payload}
+use Rattle.age_stream.specs.{IsPrefixOf, IsClosed}
 use Rattle.age_stream.specs.declared.step.Status.TheVariants.{Done as AllDone}
-use Rattle.age_keys.specs.Scrypt.{PassphraseIdentity, IsAllowed, IsPassphraseKey, PassphraseRefuses}
-use Rattle.age_keys.specs.Keys.{box, unbox, Opens, FileOf}
+use Rattle.age_keys.specs.{PassphraseIdentity, IsAllowed, IsPassphraseKey, PassphraseRefuses, box, unbox}
+use Rattle.age_keys.specs.{Opens, FileOf}
 use Rattle.age_keys.specs.declared.fault.KeyFault.{KeyFault}
 use Rattle.age_file.specs.Runs.{Run, IsFromStart, run_outcome, run_text, held, IsTexts, IsAuthenticRun}
 use Rattle.age_file.specs.Runs.{IsPositionOf, CarriesText, Ports, IsRun, IsDone, IsHeadFault, ReportsFault}
 use Rattle.age_file.specs.Runs.{OpenedFile, Reads, HasId, HasTag, pull_room}
-use Rattle.age_file.specs.Resumes.{IsSame, IsOldText, ResumePorts, ResumeEnds, ResumeStops}
-use Rattle.age_file.specs.Resumes.{IsBoundTo, IsFrom, IsUndamagedRest, ResumesText}
+use Rattle.age_file.specs.Resumes.{IsSame, IsOldText, ResumePorts, ResumeEnds, ResumeStops, IsBoundTo, IsFrom}
+use Rattle.age_file.specs.Resumes.{IsUndamagedRest, ResumesText}
 use Rattle.age_file.specs.Decrypts.{DecryptEnds, DecryptStops, IsWhole, StopsOutside, Decrypts}
 use Rattle.age_file.specs.Decrypts.{IsUndamagedFile, WritesText}
 use Rattle.age_file.specs.Encrypts.{SecretView, AgeFile, Encrypts}

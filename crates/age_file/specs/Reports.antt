@@ -1,11 +1,12 @@
 -- What a report says of a file's bytes (C2SP age.md, "Payload", for the length of the plaintext).
 use Rattle.std.specs.Prelude.{◌≡◌, ℕ, ◌-◌, ◌≤◌, List, [], ◌++◌, length, map, Option, slice_index_or}
 use Rattle.std.specs.Prelude.{MatchOption}
-use Rattle.age_io.specs.Supply.{Supply, Consumes, IsAtEnd}
-use Rattle.age_stanza.specs.Grammar.{HeadText}
+use Rattle.age_io.specs.Supply.{Supply}
+use Rattle.age_io.specs.{Consumes, IsAtEnd}
+use Rattle.age_stanza.specs.{HeadText}
 use Rattle.age_stanza.specs.declared.header.Header.{Header}
 use Rattle.age_stanza.specs.declared.header.Stanza.{Stanza}
-use Rattle.age_stream.specs.Laws.{IsTextLength}
+use Rattle.age_stream.specs.{IsTextLength}
 use Rattle.age_file.specs.Runs.{pull_room}
 use Rattle.age_file.specs.declared.report.Report.{Report}
 use Rattle.age_file.specs.declared.report.StanzaReport.{StanzaReport}

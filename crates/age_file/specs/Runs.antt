@@ -1,21 +1,19 @@
 -- What a run read and wrote, where a reader may continue after it, and how it ended.
-use Rattle.std.specs.Prelude.{◌≡◌, ℕ, List, ◌⊎◌, ◌^◌, ◌*◌, ◌<◌, ◌≤◌, ◌++◌, length, Option, ◌/◌, min}
-use Rattle.std.specs.Prelude.{[], take, None, IsSomeAnd, Bool, true, false}
+use Rattle.std.specs.Prelude.{◌≡◌, ℕ, List, ◌⊎◌, ◌^◌, ◌*◌, ◌<◌, ◌≤◌, ◌++◌, length, Option, ◌/◌, min, [], take}
+use Rattle.std.specs.Prelude.{None, IsSomeAnd, Bool, true, false}
 use Rattle.age_io.specs.Taken.{Appends}
-use Rattle.age_io.specs.Supply.{Supply, Consumes, IsAtEnd}
-use Rattle.age_stanza.specs.Grammar.{header_limit, HeadText}
-use Rattle.age_stanza.specs.Parsing.{HasHeader, NoFault, IsFault, line_after}
+use Rattle.age_io.specs.Supply.{Supply}
+use Rattle.age_io.specs.{Consumes, IsAtEnd, SourceView, SinkView}
+use Rattle.age_stanza.specs.{header_limit, HeadText, HasHeader, NoFault, IsFault, line_after}
 use Rattle.age_stanza.specs.declared.fault.HeadFault.{HeadFault}
 use Rattle.age_stanza.specs.declared.fault.HeadKind.TheVariants.{HeadCut}
 use Rattle.age_stanza.specs.declared.header.Header.{Header}
-use Rattle.age_chunk.specs.Payload.{chunk_length, chunk_count, block_length, chunk_limit}
-use Rattle.age_io.specs.Io.{SourceView, SinkView}
-use Rattle.age_stream.specs.Opener.{has_failed}
-use Rattle.age_stream.specs.Segment.{Segment, Outcome, outcome, released}
-use Rattle.age_stream.specs.Headline.{IsPrefixOf, IsAuthentic}
+use Rattle.age_chunk.specs.{chunk_length, chunk_count, block_length, chunk_limit}
+use Rattle.age_stream.specs.{has_failed, Outcome, outcome, released, IsPrefixOf, IsAuthentic}
 use Rattle.age_stream.specs.declared.step.Status.TheVariants.{Done, Failed}
-use Rattle.age_keys.specs.Keys.{position_key, Opens, box, unbox}
-use Rattle.age_fault.specs.Faults.{HasFailed}
+use Rattle.age_stream.specs.Segment.{Segment}
+use Rattle.age_keys.specs.{position_key, Opens, box, unbox}
+use Rattle.age_fault.specs.{HasFailed}
 use Rattle.age_fault.specs.declared.fault.FileFault.{FileFault}
 use Rattle.age_fault.specs.declared.fault.FileFault.TheVariants.{Head, Read, Memory, ReadNeverEnds, Stream}
 use Rattle.age_fault.specs.declared.fault.FileFault.TheVariants.{Write}

@@ -2,15 +2,14 @@
 
 ghost use Rattle.std.specs.Prelude.{◌≡◌, ◌⊎◌, ℕ, List, [], None, true, IfOk, IfErr, IfSome};
 ghost use Rattle.age_fault.specs.declared.fault.FileFault.TheVariants.{Read, Memory};
-ghost use Rattle.age_io.specs.Io.{Origin};
-ghost use Rattle.age_file.specs.Again.{IsTextBefore, IsFoundAgain};
+ghost use Rattle.age_io.specs.{Origin};
+ghost use Rattle.age_file.specs.{IsTextBefore, IsFoundAgain};
 
 use crate::decryption::{Done, Stopped, open_payload};
 use crate::intake::Intake;
 use crate::position::Position;
 use crate::reader::{Reader, Writer};
-use crate::skip::skip_blocks;
-use crate::start::start;
+use crate::start::{Lent, skip_blocks, start};
 use crate::tally::Tally;
 use age_fault::FileFault;
 use age_io::{Failed, Failures, Sink, Source, Tape};
@@ -88,7 +87,7 @@ fn decrypt_again<U: Unlock, S: Source, O: Sink>(
         source: reader,
         intake: &mut intake,
     };
-    let unlocked = match start(alloc, unlock, &mut reader) {
+    let unlocked = match start(alloc, Lent { unlock }, &mut reader) {
         Ok(unlocked) => unlocked,
         Err(fault) => return Err(Stopped::early(fault)),
     };

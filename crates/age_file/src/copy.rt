@@ -2,11 +2,9 @@
 
 ghost use Rattle.std.specs.Prelude.{◌≡◌, ◌<◌, []};
 ghost use Rattle.age_file.specs.declared.position.PositionPolicy.TheVariants.{Kept};
-ghost use Rattle.age_file.specs.inner.Parts.{chain_if};
-ghost use Rattle.age_file.specs.inner.Readers.{view_of_reader, view_of_writer, SameReader, SameWriter};
-ghost use Rattle.age_file.specs.inner.Readers.{KeepsOrigin};
-ghost use Rattle.age_file.specs.inner.Copies.{CanCopy, CopiesChunk, CopiesAll};
-ghost use Rattle.age_chunk.specs.Payload.{chunk_length, chunk_limit};
+ghost use Rattle.age_file.specs.inner.{chain_if, view_of_reader, view_of_writer, SameReader, SameWriter};
+ghost use Rattle.age_file.specs.inner.{CanCopy, CopiesChunk, CopiesAll};
+ghost use Rattle.age_chunk.specs.{chunk_length, chunk_limit};
 
 use crate::reader::{Reader, Writer};
 use crate::start::need_bytes;
@@ -24,8 +22,7 @@ fn copy_chunk<S: Source, O: Sink>(
     ensures copied { CopiesChunk chunk_length (view_of_reader S.view reader.old)
         (view_of_reader S.view reader.new) (view_of_writer O.view writer.old)
         (view_of_writer O.view writer.new) result }
-    ensures same_reader { SameReader reader.old reader.new }
-    ensures began { KeepsOrigin S.began reader.old reader.new }
+    ensures same_reader { SameReader S.began reader.old reader.new }
     ensures same_writer { SameWriter writer.old writer.new }
 {
     let Some(chain) = writer.tally.chain else {
@@ -60,8 +57,7 @@ pub(crate) fn copy_chunks<S: Source, O: Sink>(
     ensures copied { CopiesAll chunk_length chunks (view_of_reader S.view reader.old)
         (view_of_reader S.view reader.new) (view_of_writer O.view writer.old)
         (view_of_writer O.view writer.new) result }
-    ensures same_reader { SameReader reader.old reader.new }
-    ensures began { KeepsOrigin S.began reader.old reader.new }
+    ensures same_reader { SameReader S.began reader.old reader.new }
     ensures same_writer { SameWriter writer.old writer.new }
 {
     for _copied in 0..chunks {

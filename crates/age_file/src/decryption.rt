@@ -1,21 +1,19 @@
 //! Decrypts a file.
 
 ghost use Rattle.std.specs.Prelude.{◌≡◌, ◌<◌, None};
-ghost use Rattle.age_chunk.specs.Payload.{chunk_limit};
-ghost use Rattle.age_io.specs.Io.{Origin};
+ghost use Rattle.age_chunk.specs.{chunk_limit};
+ghost use Rattle.age_io.specs.{Origin};
 ghost use Rattle.age_file.specs.Runs.{ports};
 ghost use Rattle.age_file.specs.declared.position.PositionPolicy.TheVariants.{Kept};
 ghost use Rattle.age_file.specs.Decrypts.{Decrypts, DecryptsKeyed};
-ghost use Rattle.age_file.specs.inner.Decrypts.{PositionAt, EndsAs, OpensPayload};
-ghost use Rattle.age_file.specs.inner.Payloads.{HasPlace};
-ghost use Rattle.age_file.specs.inner.Readers.{stage_of, SameReader, KeepsOrigin, SameWriter};
+ghost use Rattle.age_file.specs.inner.{PositionAt, EndsAs, OpensPayload, HasPlace, stage_of, SameReader};
+ghost use Rattle.age_file.specs.inner.{SameWriter};
 
 use crate::intake::Intake;
-use crate::lent::Lent;
 use crate::payload::decrypt_payload;
 use crate::position::{Position, PositionPolicy};
 use crate::reader::{Reader, Writer};
-use crate::start::{Unlocked, start_once};
+use crate::start::{Lent, Unlocked, start};
 use crate::tally::Tally;
 use age_fault::FileFault;
 use age_io::{Sink, Source};
@@ -111,8 +109,7 @@ pub(crate) fn open_payload<S: Source, O: Sink>(
     ensures opened { OpensPayload unlocked.now index
         (stage_of S.view O.view reader.old writer.old)
         (stage_of S.view O.view reader.new writer.new) result }
-    ensures same_reader { SameReader reader.old reader.new }
-    ensures began { KeepsOrigin S.began reader.old reader.new }
+    ensures same_reader { SameReader S.began reader.old reader.new }
     ensures same_writer { SameWriter writer.old writer.new }
 {
     let key = payload_key(&unlocked.key, &unlocked.nonce);
@@ -182,7 +179,7 @@ pub fn decrypt_keyed<U: Unlock + Drop, S: Source, O: Sink>(
         source: reader,
         intake: &mut intake,
     };
-    let unlocked = match start_once(alloc, unlock, &mut reader) {
+    let unlocked = match start(alloc, unlock, &mut reader) {
         Ok(unlocked) => unlocked,
         Err(fault) => return (Err(Stopped::early(fault)), None),
     };

@@ -1,10 +1,9 @@
 //! Encrypts a file under a passphrase.
 
 ghost use Rattle.std.specs.Prelude.{◌≡◌, IfOk, OnOk, IfErr, true};
-ghost use Rattle.age_io.specs.Io.{Origin};
+ghost use Rattle.age_io.specs.{Origin};
 ghost use Rattle.age_file.specs.Encrypts.{Encrypts, EncryptFails};
-ghost use Rattle.age_file.specs.inner.Seals.{BeginsFile, WritesFront};
-ghost use Rattle.age_file.specs.inner.Readers.{view_of_writer, SameWriter};
+ghost use Rattle.age_file.specs.inner.{BeginsFile, WritesFront, view_of_writer, SameWriter};
 ghost use Rattle.age_file.specs.Runs.{ports};
 ghost use Rattle.age_fault.specs.declared.fault.FileFault.TheVariants.{Memory};
 

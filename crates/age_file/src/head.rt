@@ -2,8 +2,8 @@
 
 ghost use Rattle.std.specs.Prelude.{◌≡◌, ℕ, List, [], IfOk, IfErr};
 ghost use Rattle.age_file.specs.Runs.{HeadFails, InHeader};
-ghost use Rattle.age_file.specs.inner.Readers.{view_of_reader, SameReader, KeepsOrigin, ReadsHead, IsReading};
-ghost use Rattle.age_file.specs.inner.Readers.{IsFront, TakesFront, head_of};
+ghost use Rattle.age_file.specs.inner.{view_of_reader, SameReader, ReadsHead, IsReading};
+ghost use Rattle.age_file.specs.inner.{IsFront, TakesFront, head_of};
 
 use crate::intake::Intake;
 use crate::reader::Reader;
@@ -87,8 +87,7 @@ pub(crate) fn read_head<S: Source>(
         (view_of_reader S.view reader.new)) }
     ensures fails { IfErr result (HeadFails InHeader (S.view reader.old.source.now)
         (S.view reader.new.source.now)) }
-    ensures same { SameReader reader.old reader.new }
-    ensures began { KeepsOrigin S.began reader.old reader.new }
+    ensures same { SameReader S.began reader.old reader.new }
 {
     let mut front = HeadReader::new(alloc);
     'pieces: while reader.intake.refill(reader.source)? {

@@ -1,11 +1,10 @@
 //! Reads a file to its end, or its header alone, and reports what it holds.
 
 ghost use Rattle.std.specs.Prelude.{◌≡◌, ◌^◌, ◌<◌, ◌≤◌, ℕ, List, length, Some, IfOk, IfErr, OnOk, map};
-ghost use Rattle.age_io.specs.Io.{Origin};
-ghost use Rattle.age_file.specs.Runs.{HeadFails, InHeader, NoHeadFault};
-ghost use Rattle.age_file.specs.inner.Readers.{view_of_reader, SameReader, KeepsOrigin};
-ghost use Rattle.age_file.specs.inner.Readers.{CountsRest, RestFails};
-ghost use Rattle.age_file.specs.Reports.{stanza_report, IsPlainOf, IsReport, Inspects, InspectsFront};
+ghost use Rattle.age_io.specs.{Origin};
+ghost use Rattle.age_file.specs.{HeadFails, InHeader, NoHeadFault, stanza_report, IsPlainOf, IsReport};
+ghost use Rattle.age_file.specs.{Inspects, InspectsFront};
+ghost use Rattle.age_file.specs.inner.{view_of_reader, SameReader, CountsRest, RestFails};
 
 use crate::head::read_head;
 use crate::intake::Intake;
@@ -28,8 +27,7 @@ fn count_rest<S: Source>(reader: &mut Reader<'_, S>) -> Result<u128, FileFault>
         (view_of_reader S.view reader.new)) }
     ensures fails { IfErr result (RestFails (view_of_reader S.view reader.old)
         (view_of_reader S.view reader.new)) }
-    ensures same { SameReader reader.old reader.new }
-    ensures began { KeepsOrigin S.began reader.old reader.new }
+    ensures same { SameReader S.began reader.old reader.new }
 {
     let mut count = reader.intake.bytes().len() as u128;
     reader.intake.use_all();

@@ -1,9 +1,9 @@
 //! The bytes that were pulled from a source and not used yet.
 
 ghost use Rattle.std.specs.Prelude.{◌≡◌, ◌≤◌, [], length, drop, IfOk};
-ghost use Rattle.age_file.specs.inner.Readers.{Refills, reader_view};
+ghost use Rattle.age_file.specs.inner.{Refills, reader_view};
 ghost use Rattle.age_file.specs.Runs.{pull_room};
-ghost use Rattle.age_io.specs.Io.{Origin};
+ghost use Rattle.age_io.specs.{Origin};
 
 use age_fault::FileFault;
 use age_io::Source;

@@ -3,11 +3,10 @@ ghost use Rattle.std.specs.Prelude.{ℕ, List, Result};
 ghost use Rattle.age_file.specs.declared.decryption.Done.{Done};
 ghost use Rattle.age_file.specs.declared.decryption.Stopped.{Stopped};
 ghost use Rattle.age_file.specs.declared.position.PositionPolicy.{PositionPolicy};
-ghost use Rattle.age_file.specs.InARow.{RunsInARow, CallsInARow, RunsAreBound, DoneIsBound, AgeFileIsWhole};
-ghost use Rattle.age_file.specs.InARow.{RoundTrip, AuthenticRuns, HeadFaultsStay, UndamagedIsDecrypted};
-ghost use Rattle.age_file.specs.InARow.{UndamagedIsResumed, DoneGaveFile, DoneIsFile, DoneGaveRest};
-ghost use Rattle.age_file.specs.InARow.{StoppedGaveFront, RestIsFile};
-ghost use Rattle.age_file.specs.Again.{ReadAgain, RestReadAgain};
+ghost use Rattle.age_file.specs.{RunsInARow, CallsInARow, RunsAreBound, DoneIsBound, AgeFileIsWhole};
+ghost use Rattle.age_file.specs.{RoundTrip, AuthenticRuns, HeadFaultsStay, UndamagedIsDecrypted};
+ghost use Rattle.age_file.specs.{UndamagedIsResumed, DoneGaveFile, DoneIsFile, DoneGaveRest};
+ghost use Rattle.age_file.specs.{StoppedGaveFront, RestIsFile, ReadAgain, RestReadAgain};
 
 use age_keys::{Unlock, passphrase_opens};
 use age_stanza::one_header;

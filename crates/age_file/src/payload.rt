@@ -1,11 +1,10 @@
 //! Opens what a source gives, and writes each chunk once its tag was checked.
 
 ghost use Rattle.std.specs.Prelude.{◌≡◌, ◌+◌, ◌^◌, ◌<◌, length, OnOk, true, false};
-ghost use Rattle.age_stream.specs.Opener.{has_failed};
-ghost use Rattle.age_file.specs.inner.Decrypts.{opens};
-ghost use Rattle.age_file.specs.inner.Payloads.{FeedsPiece, ClosesPayload, HasPlace, DecryptsPayload};
-ghost use Rattle.age_file.specs.inner.Readers.{view_of_writer, stage_of, SameReader, KeepsOrigin, SameWriter};
-ghost use Rattle.age_chunk.specs.Payload.{chunk_length, chunk_limit};
+ghost use Rattle.age_stream.specs.{has_failed};
+ghost use Rattle.age_file.specs.inner.{opens, FeedsPiece, FeedGoes, EndsFeed, HasPlace, DecryptsPayload};
+ghost use Rattle.age_file.specs.inner.{view_of_writer, stage_of, SameReader, SameWriter};
+ghost use Rattle.age_chunk.specs.{chunk_length, chunk_limit};
 
 use crate::reader::{Reader, Writer};
 use age_fault::{FileFault, flush_all, write_all};
@@ -27,6 +26,8 @@ fn feed_piece<O: Sink>(
         < 2 ^ 128 }
     ensures fed { FeedsPiece opens chunk_length opener.old opener.new
         (view_of_writer O.view writer.old) (view_of_writer O.view writer.new) piece.now result }
+    ensures goes { OnOk result (FeedGoes opens chunk_length opener.old opener.new
+        (view_of_writer O.view writer.old) (view_of_writer O.view writer.new) piece.now) }
     ensures same { SameWriter writer.old writer.new }
 {
     let mut at = 0;
@@ -42,32 +43,19 @@ fn feed_piece<O: Sink>(
     Ok(())
 }
 
-/// Ends the opener, and writes the chunk that comes out.
-fn close<O: Sink>(
-    opener: &mut PayloadOpener<'_>,
-    writer: &mut Writer<'_, O>,
-) -> Result<(), FileFault>
-    requires { length opener.old.held + writer.old.tally.written < 2 ^ 128 }
-    ensures closed { ClosesPayload opens chunk_length opener.old opener.new
-        (view_of_writer O.view writer.old) (view_of_writer O.view writer.new) result }
-    ensures same { SameWriter writer.old writer.new }
-{
-    let text = opener.end()?;
-    write_all(writer.sink, text, &mut writer.tally.written)
-}
-
-/// Writes what is left, and flushes.
+/// Ends the opener, writes the chunk that comes out, and flushes.
 fn finish<O: Sink>(
     opener: &mut PayloadOpener<'_>,
     writer: &mut Writer<'_, O>,
 ) -> Result<(), FileFault>
     requires { length opener.old.held + writer.old.tally.written < 2 ^ 128 }
-    ensures closed { ClosesPayload opens chunk_length opener.old opener.new
+    ensures ends { EndsFeed opens chunk_length opener.old opener.new
         (view_of_writer O.view writer.old) (view_of_writer O.view writer.new) result }
     ensures settled { OnOk result ((O.view writer.new.sink.now).settled ≡ true) }
     ensures same { SameWriter writer.old writer.new }
 {
-    close(opener, writer)?;
+    let text = opener.end()?;
+    write_all(writer.sink, text, &mut writer.tally.written)?;
     flush_all(writer.sink)
 }
 
@@ -84,8 +72,7 @@ pub(crate) fn decrypt_payload<S: Source, O: Sink>(
     ensures decrypts { DecryptsPayload (opens key.now) chunk_length index
         (stage_of S.view O.view reader.old writer.old)
         (stage_of S.view O.view reader.new writer.new) result }
-    ensures same_reader { SameReader reader.old reader.new }
-    ensures began { KeepsOrigin S.began reader.old reader.new }
+    ensures same_reader { SameReader S.began reader.old reader.new }
     ensures same_writer { SameWriter writer.old writer.new }
 {
     let mut opener = PayloadOpener::at(key, index);

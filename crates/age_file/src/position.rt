@@ -3,9 +3,9 @@
 ghost use Rattle.std.specs.Prelude.{◌≡◌, ◌<◌, ◌*◌, ◌++◌, ℕ, List, length, map, codes};
 ghost use Rattle.std.specs.List.{concat};
 ghost use Rattle.sha2.specs.Hashers.{Holds256};
-ghost use Rattle.age_stanza.specs.Text.{base64_text};
+ghost use Rattle.age_stanza.specs.{base64_text};
 ghost use Rattle.age_file.specs.Bindings.{link, file_id, position_tag};
-ghost use Rattle.age_chunk.specs.Payload.{chunk_limit, chunk_length};
+ghost use Rattle.age_chunk.specs.{chunk_limit, chunk_length};
 
 use age_stream::CHUNK_LEN;
 use base64::engine::general_purpose::STANDARD_NO_PAD;

@@ -1,10 +1,10 @@
 //! The text of a position.
 
 ghost use Rattle.std.specs.Prelude.{◌≡◌, ◌≢◌, ◌<◌, ℕ, List, length, IfOk, IfErr, IfSome, IfNone, decimal};
-ghost use Rattle.age_file.specs.Resumes.{position_text, NoPosition, IsDigest};
-ghost use Rattle.age_file.specs.inner.Parts.{index_text, field_text, fields_text};
+ghost use Rattle.age_file.specs.{position_text, NoPosition, IsDigest};
+ghost use Rattle.age_file.specs.inner.{index_text, field_text, fields_text};
 ghost use Rattle.age_fault.specs.declared.fault.FileFault.TheVariants.{BadPosition, Memory};
-ghost use Rattle.age_chunk.specs.Payload.{chunk_limit};
+ghost use Rattle.age_chunk.specs.{chunk_limit};
 
 use crate::position::{Position, VERSION, front_parts, spelled};
 use age_fault::FileFault;

@@ -1,52 +1,25 @@
 //! Continues a decryption that stopped.
 
-ghost use Rattle.std.specs.Prelude.{◌≡◌, [], Err, IfOk, IfErr};
-ghost use Rattle.age_chunk.specs.Payload.{chunk_length};
-ghost use Rattle.age_io.specs.Io.{Origin};
-ghost use Rattle.age_file.specs.declared.standing.Standing.TheVariants.{Before, Skipping};
-ghost use Rattle.age_file.specs.inner.Decrypts.{EndsAs, VerdictOn, StartsFor, StartForFails, HasRoomAfter};
-ghost use Rattle.age_file.specs.inner.Decrypts.{ResumesRest};
-ghost use Rattle.age_file.specs.inner.Readers.{view_of_reader, view_of_writer, stage_of, SameReader};
-ghost use Rattle.age_file.specs.inner.Readers.{KeepsOrigin, SameWriter};
-ghost use Rattle.age_file.specs.inner.Copies.{CopiesText, CopiesBefore};
-ghost use Rattle.age_file.specs.Runs.{ports};
+ghost use Rattle.std.specs.Prelude.{◌≡◌, [], IfOk, IfErr};
+ghost use Rattle.age_io.specs.{Origin};
+ghost use Rattle.age_file.specs.inner.{VerdictOn, StartsFor, StartForFails, HasRoomAfter};
+ghost use Rattle.age_file.specs.inner.{ResumesRest, view_of_reader, view_of_writer, stage_of, SameReader};
+ghost use Rattle.age_file.specs.inner.{SameWriter, CopiesOld, chain_if};
+ghost use Rattle.age_file.specs.{ports, resume_ports, ResumesText, ResumesKeyed};
 ghost use Rattle.age_file.specs.declared.position.PositionPolicy.TheVariants.{Kept};
-ghost use Rattle.age_file.specs.inner.Parts.{chain_if};
-ghost use Rattle.age_file.specs.Resumes.{resume_ports, ResumesText, ResumesKeyed};
 
 use crate::copy::copy_chunks;
 use crate::decryption::{Done, Stopped, ended, open_payload};
 use crate::intake::Intake;
-use crate::lent::Lent;
 use crate::position::{Position, PositionPolicy, tag_of};
 use crate::reader::{Reader, Writer};
-use crate::skip::skip_blocks;
 use crate::standing::Standing;
-use crate::start::{Unlocked, start_once};
+use crate::start::{Lent, Unlocked, skip_blocks, start};
 use crate::tally::Tally;
 use age_fault::FileFault;
 use age_io::{Sink, Source};
 use age_keys::{KnownKey, Unlock, position_key};
 use std::alloc::Global;
-
-/// A stop before the old text was found to be the position's.
-fn nowhere(stopped: Stopped) -> (Result<Done, Stopped>, Standing)
-    ensures { result ≡ (Err stopped, Before) }
-{
-    (Err(stopped), Standing::Before)
-}
-
-/// A stop in the blocks that are skipped.
-fn skipping(
-    fault: FileFault,
-    unlocked: &Unlocked,
-    tally: &Tally,
-) -> (Result<Done, Stopped>, Standing)
-    ensures ended { EndsAs unlocked.now tally.now (Err fault) result.0 }
-    ensures standing { result.1 ≡ Skipping }
-{
-    (ended(Err(fault), unlocked, tally), Standing::Skipping)
-}
 
 /// Whether a position is this file's, and was made under its key.
 fn verify(unlocked: &Unlocked, position: &Position) -> Result<(), FileFault>
@@ -75,40 +48,16 @@ fn start_for<U: Unlock + Drop, S: Source>(
         (S.view reader.old.source.now) (view_of_reader S.view reader.new)) }
     ensures fails { IfErr result (StartForFails (U.allows unlock) (U.refuses unlock)
         position.now (S.view reader.old.source.now) (view_of_reader S.view reader.new)) }
-    ensures same { SameReader reader.old reader.new }
-    ensures began { KeepsOrigin S.began reader.old reader.new }
+    ensures same { SameReader S.began reader.old reader.new }
 {
-    let unlocked = start_once(alloc, unlock, reader)?;
+    let unlocked = start(alloc, unlock, reader)?;
     verify(&unlocked, position)?;
     Ok(unlocked)
 }
 
-/// Copies the old text that a position was made for.
+/// Copies the old text that a position was made for, before a file is read on: the pulls of both
+/// count together.
 fn copy_old<L: Source, O: Sink>(
-    positions: PositionPolicy,
-    position: &Position,
-    reader: &mut Reader<'_, L>,
-    writer: &mut Writer<'_, O>,
-) -> Result<(), FileFault>
-    requires fresh { (writer.old.tally.written ≡ 0) × (writer.old.tally.index ≡ 0)
-        × (writer.old.tally.chain ≡ chain_if Kept []) }
-    ensures copied { CopiesText positions chunk_length position.now.index position.now.chain
-        (view_of_reader L.view reader.old) (view_of_reader L.view reader.new)
-        (view_of_writer O.view writer.old) (view_of_writer O.view writer.new) result }
-    ensures same_reader { SameReader reader.old reader.new }
-    ensures began { KeepsOrigin L.began reader.old reader.new }
-    ensures same_writer { SameWriter writer.old writer.new }
-{
-    copy_chunks(reader, position.index, writer)?;
-    if writer.tally.chain != Some(position.chain) {
-        return Err(FileFault::OldTextDiffers);
-    }
-    writer.tally.keep(positions);
-    Ok(())
-}
-
-/// Copies the old text of a source before a file is read on: the pulls of both count together.
-fn copy_before<L: Source, O: Sink>(
     positions: PositionPolicy,
     position: &Position,
     source: &mut L,
@@ -119,7 +68,7 @@ fn copy_before<L: Source, O: Sink>(
     requires unread { old_intake.bytes ≡ [] }
     requires fresh { (writer.old.tally.written ≡ 0) × (writer.old.tally.index ≡ 0)
         × (writer.old.tally.chain ≡ chain_if Kept []) }
-    ensures copied { CopiesBefore positions position.now (L.view source.old) (L.view source.new)
+    ensures copied { CopiesOld positions position.now (L.view source.old) (L.view source.new)
         intake.old intake.new (view_of_writer O.view writer.old) (view_of_writer O.view writer.new)
         result }
     ensures began { (from : Origin) → L.began source.old from → L.began source.new from }
@@ -130,9 +79,13 @@ fn copy_before<L: Source, O: Sink>(
         source,
         intake: &mut old_intake,
     };
-    let copied = copy_old(positions, position, &mut reader, writer);
+    copy_chunks(&mut reader, position.index, writer)?;
     intake.count_on(reader.intake);
-    copied
+    if writer.tally.chain != Some(position.chain) {
+        return Err(FileFault::OldTextDiffers);
+    }
+    writer.tally.keep(positions);
+    Ok(())
 }
 
 /// Skips the blocks of the old text, and decrypts the payload from there on.
@@ -146,13 +99,15 @@ fn resume_rest<S: Source, O: Sink>(
     ensures resumes { ResumesRest unlocked.now position.now.index
         (stage_of S.view O.view reader.old writer.old)
         (stage_of S.view O.view reader.new writer.new) result.0 result.1 }
-    ensures same_reader { SameReader reader.old reader.new }
-    ensures began { KeepsOrigin S.began reader.old reader.new }
+    ensures same_reader { SameReader S.began reader.old reader.new }
     ensures same_writer { SameWriter writer.old writer.new }
 {
     match skip_blocks(reader, position.index) {
         Ok(()) => {}
-        Err(fault) => return skipping(fault, unlocked, &writer.tally),
+        Err(fault) => {
+            let stopped = ended(Err(fault), unlocked, &writer.tally);
+            return (stopped, Standing::Skipping);
+        }
     }
     let result = open_payload(unlocked, position.index, reader, writer);
     let key = KnownKey::new(*unlocked.key.bytes());
@@ -245,7 +200,7 @@ pub fn resume_keyed<U: Unlock + Drop, S: Source, L: Source, O: Sink>(
         → L.began old_reader.new from }
 {
     let (Ok(mut intake), Ok(old_intake)) = (Intake::new(alloc), Intake::new(alloc)) else {
-        return nowhere(Stopped::early(FileFault::Memory));
+        return (Err(Stopped::early(FileFault::Memory)), Standing::Before);
     };
     let mut reader = Reader {
         source: reader,
@@ -253,14 +208,14 @@ pub fn resume_keyed<U: Unlock + Drop, S: Source, L: Source, O: Sink>(
     };
     let unlocked = match start_for(alloc, unlock, position, &mut reader) {
         Ok(unlocked) => unlocked,
-        Err(fault) => return nowhere(Stopped::early(fault)),
+        Err(fault) => return (Err(Stopped::early(fault)), Standing::Before),
     };
     let tally = Tally::new(PositionPolicy::Kept);
     let mut writer = Writer {
         sink: writer,
         tally,
     };
-    match copy_before(
+    match copy_old(
         positions,
         position,
         old_reader,
@@ -269,7 +224,10 @@ pub fn resume_keyed<U: Unlock + Drop, S: Source, L: Source, O: Sink>(
         &mut writer,
     ) {
         Ok(()) => {}
-        Err(fault) => return nowhere(Stopped::after(fault, &writer.tally, None)),
+        Err(fault) => {
+            let stopped = Stopped::after(fault, &writer.tally, None);
+            return (Err(stopped), Standing::Before);
+        }
     }
     resume_rest(&unlocked, position, &mut reader, &mut writer)
 }

@@ -1,10 +1,9 @@
 //! Seals what a source gives, and writes each block.
 
 ghost use Rattle.std.specs.Prelude.{◌≡◌, ◌^◌, ◌≤◌, [], length, OnOk, true};
-ghost use Rattle.age_file.specs.inner.Decrypts.{seals};
-ghost use Rattle.age_file.specs.inner.Readers.{view_of_writer, ports_of, SameReader, KeepsOrigin, SameWriter};
-ghost use Rattle.age_file.specs.inner.Seals.{IsFeeding, HasRoom, SealsPiece, SealsRest, SealsSource};
-ghost use Rattle.age_chunk.specs.Payload.{chunk_length};
+ghost use Rattle.age_file.specs.inner.{seals, view_of_writer, ports_of, SameReader, SameWriter};
+ghost use Rattle.age_file.specs.inner.{HasRoom, SealsPiece, SealsRest, SealsSource};
+ghost use Rattle.age_chunk.specs.{chunk_length};
 
 use crate::encryption::Written;
 use crate::reader::{Reader, Writer};
@@ -22,8 +21,7 @@ fn seal_piece<O: Sink>(
     piece: &[u8],
     writer: &mut Writer<'_, O>,
 ) -> Result<(), FileFault>
-    requires feeding { IsFeeding sealer.old }
-    requires room { HasRoom seals chunk_length sealer.old writer.old.tally.written
+    requires { HasRoom seals chunk_length sealer.old (view_of_writer O.view writer.old)
         (length piece.now) }
     ensures sealed { SealsPiece seals chunk_length sealer.old sealer.new
         (view_of_writer O.view writer.old) (view_of_writer O.view writer.new) piece.now result }
@@ -40,34 +38,20 @@ fn seal_piece<O: Sink>(
     Ok(())
 }
 
-/// Seals the last chunk, and writes its block.
-fn seal_last<O: Sink>(
-    sealer: &mut PayloadSealer<'_>,
-    writer: &mut Writer<'_, O>,
-) -> Result<(), FileFault>
-    requires feeding { IsFeeding sealer.old }
-    requires room { writer.old.tally.written ≤ 2 ^ 127 }
-    ensures sealed { SealsRest seals chunk_length sealer.old (view_of_writer O.view writer.old)
-        (view_of_writer O.view writer.new) result }
-    ensures same_writer { SameWriter writer.old writer.new }
-{
-    let block = sealer.finish()?;
-    write_all(writer.sink, block, &mut writer.tally.written)
-}
-
-/// Writes what is left, and flushes.
+/// Seals the last chunk, writes its block, and flushes.
 fn finish<O: Sink>(
     sealer: &mut PayloadSealer<'_>,
     writer: &mut Writer<'_, O>,
 ) -> Result<(), FileFault>
-    requires feeding { IsFeeding sealer.old }
+    requires sealed { HasRoom seals chunk_length sealer.old (view_of_writer O.view writer.old) 0 }
     requires room { writer.old.tally.written ≤ 2 ^ 127 }
     ensures sealed { SealsRest seals chunk_length sealer.old (view_of_writer O.view writer.old)
         (view_of_writer O.view writer.new) result }
     ensures settled { OnOk result ((O.view writer.new.sink.now).settled ≡ true) }
     ensures same_writer { SameWriter writer.old writer.new }
 {
-    seal_last(sealer, writer)?;
+    let block = sealer.finish()?;
+    write_all(writer.sink, block, &mut writer.tally.written)?;
     flush_all(writer.sink)
 }
 
@@ -84,8 +68,7 @@ pub(crate) fn seal_all<S: Source, O: Sink>(
         (ports_of S.view O.view reader.old writer.old)
         (ports_of S.view O.view reader.new writer.new) writer.old.tally.written
         writer.new.tally.written result }
-    ensures same_reader { SameReader reader.old reader.new }
-    ensures began { KeepsOrigin S.began reader.old reader.new }
+    ensures same_reader { SameReader S.began reader.old reader.new }
     ensures same_writer { SameWriter writer.old writer.new }
 {
     let mut sealer = PayloadSealer::new(key);

@@ -1,7 +1,7 @@
 //! What an age file for a passphrase is made of.
 
 ghost use Rattle.std.specs.Option.{SomeIff};
-ghost use Rattle.age_keys.specs.Scrypt.{IsAllowed};
+ghost use Rattle.age_keys.specs.{IsAllowed};
 ghost use Rattle.age_file.specs.Encrypts.{SecretView};
 
 use age_keys::{PASSPHRASE_LIMIT, WORK_FACTOR_LIMIT};

@@ -1,9 +1,10 @@
-//! Reads a file up to its payload.
+//! Reads a file up to its payload, and passes over the blocks of it that were opened before.
 
 ghost use Rattle.std.specs.Prelude.{◌≡◌, ◌+◌, ◌-◌, ◌≤◌, [], ◌++◌, length, take, min, IfOk, IfErr, OnOk};
 ghost use Rattle.age_file.specs.Decrypts.{StartFails};
-ghost use Rattle.age_file.specs.inner.Readers.{view_of_reader, SameReader, KeepsOrigin};
-ghost use Rattle.age_file.specs.inner.Copies.{HasSome, Dries, NonceFails, TakesNonce, StartsAt};
+ghost use Rattle.age_file.specs.inner.{view_of_reader, SameReader};
+ghost use Rattle.age_file.specs.inner.{HasSome, Dries, NonceFails, TakesNonce, StartsAt, SkipsBlocks};
+ghost use Rattle.age_chunk.specs.{block_length};
 ghost use Rattle.age_file.specs.Runs.{pull_room};
 
 use crate::head::read_head;
@@ -12,7 +13,9 @@ use crate::reader::Reader;
 use age_chunk::PAYLOAD_NONCE_LEN;
 use age_fault::FileFault;
 use age_io::Source;
-use age_keys::{FileKey, Steps, Unlock, open_header};
+use age_keys::{FileKey, KeyFault, Steps, Unlock, open_header};
+use age_stanza::Header;
+use age_stream::{BLOCK_LEN, StreamFault, StreamKind};
 use std::alloc::Global;
 
 /// What a file's payload is opened with.
@@ -24,6 +27,29 @@ pub(crate) struct Unlocked {
     pub(crate) id: [u8; 32],
 }
 
+/// An unlocker that its owner keeps.
+#[derive(Drop)]
+pub(crate) struct Lent<'a, U: Unlock> {
+    pub(crate) unlock: &'a U,
+}
+
+impl<'a, U: Unlock> Unlock for Lent<'a, U> {
+    ghost allows = { λ lent. U.allows lent.unlock.now };
+
+    ghost refuses = { λ lent. U.refuses lent.unlock.now };
+
+    ghost most_steps = { λ lent. U.most_steps lent.unlock.now };
+
+    fn unlock(
+        &self,
+        alloc: Global,
+        header: &Header,
+        steps: &mut Steps,
+    ) -> Result<FileKey, KeyFault> {
+        self.unlock.unlock(alloc, header, steps)
+    }
+}
+
 /// Pulls if the buffer is empty. The end of the source is this fault.
 pub(crate) fn need_bytes<S: Source>(
     reader: &mut Reader<'_, S>,
@@ -33,11 +59,34 @@ pub(crate) fn need_bytes<S: Source>(
         (view_of_reader S.view reader.new)) }
     ensures none { IfErr result (Dries at_end (view_of_reader S.view reader.old)
         (view_of_reader S.view reader.new) []) }
-    ensures same { SameReader reader.old reader.new }
-    ensures began { KeepsOrigin S.began reader.old reader.new }
+    ensures same { SameReader S.began reader.old reader.new }
 {
     if reader.intake.bytes().is_empty() && !reader.intake.refill(reader.source)? {
         return Err(at_end);
+    }
+    Ok(())
+}
+
+/// Passes over this many blocks, unopened.
+pub(crate) fn skip_blocks<S: Source>(
+    reader: &mut Reader<'_, S>,
+    blocks: u64,
+) -> Result<(), FileFault>
+    ensures skipped { SkipsBlocks block_length blocks (view_of_reader S.view reader.old)
+        (view_of_reader S.view reader.new) result }
+    ensures same { SameReader S.began reader.old reader.new }
+{
+    let all = u128::from(blocks) * BLOCK_LEN as u128;
+    let mut left = all;
+    'pieces: while left > 0 {
+        let cut = StreamFault {
+            kind: StreamKind::Truncated,
+            chunk: ((all - left) / BLOCK_LEN as u128) as u64,
+        };
+        need_bytes(reader, FileFault::Stream(cut))?;
+        let n = left.min(reader.intake.bytes().len() as u128);
+        reader.intake.use_front(n as usize);
+        left -= n;
     }
     Ok(())
 }
@@ -60,8 +109,7 @@ fn take_nonce<S: Source>(reader: &mut Reader<'_, S>) -> Result<[u8; PAYLOAD_NONC
         (view_of_reader S.view reader.new)) }
     ensures fails { IfErr result (NonceFails (view_of_reader S.view reader.old)
         (view_of_reader S.view reader.new)) }
-    ensures same { SameReader reader.old reader.new }
-    ensures began { KeepsOrigin S.began reader.old reader.new }
+    ensures same { SameReader S.began reader.old reader.new }
 {
     let mut nonce = [0; PAYLOAD_NONCE_LEN];
     let mut have = 0;
@@ -74,29 +122,9 @@ fn take_nonce<S: Source>(reader: &mut Reader<'_, S>) -> Result<[u8; PAYLOAD_NONC
     Ok(nonce)
 }
 
-/// Reads a file up to its payload: the header, which is opened, and the payload nonce.
-pub(crate) fn start<U: Unlock, S: Source>(
-    alloc: Global,
-    unlock: &U,
-    reader: &mut Reader<'_, S>,
-) -> Result<Unlocked, FileFault>
-    requires { (reader.old.intake.now.bytes ≡ []) × (reader.old.intake.now.pulls ≡ 0) }
-    ensures found { IfOk result (StartsAt (U.allows unlock.now) (S.view reader.old.source.now)
-        (view_of_reader S.view reader.new)) }
-    ensures fails { IfErr result (StartFails (U.allows unlock.now) (U.refuses unlock.now)
-        (S.view reader.old.source.now) (S.view reader.new.source.now)) }
-    ensures same { SameReader reader.old reader.new }
-    ensures began { KeepsOrigin S.began reader.old reader.new }
-{
-    let head = read_head(alloc, reader)?;
-    let key = open_header(alloc, &head.header, unlock, &mut Steps::new())?;
-    let nonce = take_nonce(reader)?;
-    let id = file_id(head.digest, &nonce);
-    Ok(Unlocked { key, nonce, id })
-}
-
-/// Reads a file up to its payload, and drops what opened it.
-pub(crate) fn start_once<U: Unlock + Drop, S: Source>(
+/// Reads a file up to its payload: the header, which is opened, and the payload nonce. What opens
+/// it is dropped before the nonce is read.
+pub(crate) fn start<U: Unlock + Drop, S: Source>(
     alloc: Global,
     unlock: U,
     reader: &mut Reader<'_, S>,
@@ -106,10 +134,12 @@ pub(crate) fn start_once<U: Unlock + Drop, S: Source>(
         (view_of_reader S.view reader.new)) }
     ensures fails { IfErr result (StartFails (U.allows unlock) (U.refuses unlock)
         (S.view reader.old.source.now) (S.view reader.new.source.now)) }
-    ensures same { SameReader reader.old reader.new }
-    ensures began { KeepsOrigin S.began reader.old reader.new }
+    ensures same { SameReader S.began reader.old reader.new }
 {
-    let started = start(alloc, &unlock, reader);
+    let head = read_head(alloc, reader)?;
+    let key = open_header(alloc, &head.header, &unlock, &mut Steps::new())?;
     drop(unlock);
-    started
+    let nonce = take_nonce(reader)?;
+    let id = file_id(head.digest, &nonce);
+    Ok(Unlocked { key, nonce, id })
 }

@@ -1,9 +1,9 @@
 //! How far a run has come.
 
-ghost use Rattle.std.specs.Prelude.{◌≡◌, ◌<◌, ◌*◌, ℕ, List, [], Some};
+ghost use Rattle.std.specs.Prelude.{◌≡◌, ◌<◌, ◌*◌, ℕ, List, []};
 ghost use Rattle.age_file.specs.inner.Parts.{chain_if, link_if};
 ghost use Rattle.age_file.specs.declared.position.PositionPolicy.TheVariants.{Kept};
-ghost use Rattle.age_chunk.specs.Payload.{chunk_limit, chunk_length};
+ghost use Rattle.age_chunk.specs.{chunk_limit, chunk_length};
 ghost use Rattle.std.specs.Simd.{first_chunks};
 ghost use Rattle.age_file.specs.Again.{first_of, IsTextBefore};
 
@@ -20,7 +20,7 @@ pub(crate) struct Tally {
 }
 
 impl Tally {
-    ghost use Rattle.age_file.specs.inner.Payloads.{AdvancesTally};
+    ghost use Rattle.age_file.specs.inner.{AdvancesTally};
 
     /// Nothing was written.
     #[tactic(auto, unfolding(crate::specs::Bindings::chain))]
@@ -48,21 +48,12 @@ impl Tally {
             ≡ chain_if Kept (first_chunks chunk_length (first_of from.now) copied) }
     {
         match from {
-            Some(position) => Tally::at(position),
+            Some(position) => Tally {
+                written: position.old_len(),
+                index: position.index,
+                chain: Some(position.chain),
+            },
             None => Tally::new(PositionPolicy::Kept),
-        }
-    }
-
-    /// The old text of a position was written.
-    fn at(position: &Position) -> Tally
-        ensures written { result.written ≡ position.now.index * chunk_length }
-        ensures index { result.index ≡ position.now.index }
-        ensures chain { result.chain ≡ Some position.now.chain }
-    {
-        Tally {
-            written: position.old_len(),
-            index: position.index,
-            chain: Some(position.chain),
         }
     }
 

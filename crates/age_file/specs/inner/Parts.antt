@@ -5,7 +5,7 @@ use Rattle.age_file.specs.Bindings.{link, chain}
 use Rattle.age_file.specs.declared.position.PositionPolicy.{PositionPolicy}
 use Rattle.age_file.specs.declared.position.PositionPolicy.TheVariants.{Kept, Dropped}
 use Rattle.std.specs.Fmt.{decimal}
-use Rattle.age_stanza.specs.Text.{base64_text}
+use Rattle.age_stanza.specs.{base64_text}
 
 -- ---- How the chain over a text goes on, if positions are kept.
 

@@ -1,7 +1,7 @@
 use Rattle.std.proofs.Common.{min, ◌^◌, ◌≡◌, ◌+◌, ◌-◌, length, take, drop, refl, sym, ap, subst, ◌∙◌, arith, take-add, ◌++◌, List, ℕ}
 use Rattle.std.proofs.lemmas.List.{take_rest, length-take, length-drop, take-append-drop}
 use Rattle.age_io.specs.Taken.{Appends}
-use Rattle.age_io.proofs.TakenLemmas.{Appends-trans, Appends-kept}
+use Rattle.age_io.proofs.{Appends-trans, Appends-kept}
 use Rattle.age_fault.proofs.put.write_all.Goals as goal
 
 pub returns-in-Err-clause-writes : goal.returns-in-Err-clause-writes

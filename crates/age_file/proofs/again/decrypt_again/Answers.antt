@@ -1,9 +1,9 @@
 use Rattle.std.proofs.Common.{◌∙◌, rules}
 use Rattle.std.specs.Prelude.{IfErr, IfSome}
-use Rattle.age_file.specs.Again.{IsFoundAgain}
-use Rattle.age_file.specs.inner.Readers.{stage_of}
-use Rattle.age_file.proofs.ReadLemmas.{read_last}
-use Rattle.age_file.proofs.AgainLawLemmas.{place_after, found_again}
+use Rattle.age_file.specs.{IsFoundAgain}
+use Rattle.age_file.specs.inner.{stage_of}
+use Rattle.age_file.proofs.{read_last}
+use Rattle.age_file.proofs.RunLemmas.{place_after, found_again}
 use Rattle.age_file.proofs.again.decrypt_again.Goals as goal
 
 pub open_payload-requires-clause-room : goal.open_payload-requires-clause-room

@@ -1,19 +1,16 @@
 use Rattle.std.proofs.Common.{◌≡◌, ◌++◌, ◌∙◌, ℕ, List, Some, [], refl, sym, ap, subst, take, length, arith, append-nil, append_assoc, inl, inr}
-use Rattle.std.proofs.lemmas.Result.{err_from_is_err_and}
 use Rattle.std.proofs.lemmas.List.{length-append, length-take}
 use Rattle.sha2.specs.Hashers.{Holds256}
-use Rattle.age_stream.specs.Headline.{IsPrefixOf}
-use Rattle.age_fault.specs.Faults.{HasFailed}
+use Rattle.age_stream.specs.{IsPrefixOf}
+use Rattle.age_fault.specs.{HasFailed}
 use Rattle.age_io.specs.Taken.{Appends}
-use Rattle.age_file.proofs.ReadLemmas.{passes_on, passes_same, dries_same, wrote_none, wrote_then}
-use Rattle.age_file.proofs.ResumeLemmas.{front_written}
+use Rattle.age_file.proofs.{err_is, passes_on, passes_same, dries_same, wrote_none, wrote_then, front_written}
 use Rattle.age_file.proofs.copy.copy_chunk.Goals as goal
 
 pub parts-init : goal.parts-init
 parts-init g c =
     record {
-      same_reader = (refl, refl);
-      began = λ from so. so;
+      same_reader = (refl, refl, λ from so. so);
       same_writer = refl;
       copied = [];
       size = omega arith;
@@ -31,43 +28,52 @@ parts-init g c =
 
 pub returns-in_err-need_bytes-clause-copied : goal.returns-in_err-need_bytes-clause-copied
 returns-in_err-need_bytes-clause-copied g c =
-    let p = err_from_is_err_and c.from_residual.result c.from_residual.ensures.1 in
     let kept = c.parts.invariant in
-    record {
+    let d = dries_same c.in_err-need_bytes.field-0.0 kept.passes c.in_err-need_bytes.ensures.none in
+    rw (err_is c.from_residual.result c.from_residual.ensures.1) (record {
       out = kept.copied;
       wrote = kept.wrote;
-      answered = rw (p.1, p.2) (
+      answered = (
         omega (arith, kept.size, c.parts-test.true),
-        inl (dries_same c.in_err-need_bytes.field-0.0 kept.passes c.in_err-need_bytes.ensures.none, kept.failures),
+        record {
+          pulled = kept.copied;
+          read = λ start used h. rw (d.used, append-nil kept.copied) at (d.uses start used h);
+          front = ([], append-nil kept.copied);
+          few = omega arith;
+          why = inl (refl, d.why, kept.failures);
+        },
       );
-    }
+    })
 
 pub returns-in_err-write_all-clause-copied : goal.returns-in_err-write_all-clause-copied
 returns-in_err-write_all-clause-copied g c =
-    let p = err_from_is_err_and c.from_residual-in_err-write_all.result c.from_residual-in_err-write_all.ensures.1 in
     let kept = c.parts.invariant in
     let put = c.in_err-write_all.ensures.writes in
     let n = c.min-n.result in
     let bytes = c.bytes-in-parts.result.now in
-    record {
+    let some = c.in_ok-need_bytes.ensures.some in
+    let passes = passes_same kept.passes some.passes in
+    let unread = c.need_bytes.new.reader.intake.now.bytes in
+    rw (err_is c.from_residual-in_err-write_all.result c.from_residual-in_err-write_all.ensures.1, c.in_err-write_all.ensures.fault) (record {
       out = kept.copied ++ put.out;
       wrote = wrote_then kept.wrote (record { bytes = put.wrote; count = put.count; named = c.in_err-write_all.ensures.named });
-      answered = rw (p.1, p.2, c.in_err-write_all.ensures.fault) (
+      answered = (
         omega (arith, kept.size, put.stopped, ap length put.parts, length-append {A = ℕ}, length-take n bytes, c.min-n.ensures),
-        inr (
-          refl,
-          record {
-            used = kept.copied;
-            passes = passes_same kept.passes c.in_ok-need_bytes.ensures.some.passes;
-            front = subst (λ (t : List ℕ). IsPrefixOf (kept.copied ++ put.out) (kept.copied ++ t)) c.bytes-in-parts.ensures.bytes
-                (front_written kept.copied put.out put.unwritten bytes n put.parts);
-            failed = subst (λ (m : ℕ). HasFailed m (g.O.Sink.view c.write_all.new.sink).failed (g.O.Sink.view c.write_all.new.sink).failing)
-                kept.failures put.answered;
-            most = omega (arith, length-append kept.copied put.out);
-          },
-        ),
+        record {
+          pulled = kept.copied ++ unread;
+          read = passes.uses;
+          front = subst (λ (t : List ℕ). IsPrefixOf (kept.copied ++ put.out) (kept.copied ++ t)) c.bytes-in-parts.ensures.bytes
+              (front_written kept.copied put.out put.unwritten bytes n put.parts);
+          few = omega (arith, some.few, length-append kept.copied unread, length-append kept.copied put.out);
+          why = inr (
+            refl,
+            subst (λ (m : ℕ). HasFailed m (g.O.Sink.view c.write_all.new.sink).failed (g.O.Sink.view c.write_all.new.sink).failing)
+                kept.failures put.answered,
+            passes.unfailed,
+          );
+        },
       );
-    }
+    })
 
 pub parts-preserved : goal.parts-preserved
 parts-preserved g c =
@@ -76,9 +82,9 @@ parts-preserved g c =
     let bytes = c.bytes-in-parts.result.now in
     let put = c.in_ok-write_all.ensures.writes in
     let whole : put.out ≡ take n bytes = sym (put.parts ∙ ap (λ (t : List ℕ). put.out ++ t) put.answered.0 ∙ append-nil put.out) in
+    let same = c.in_ok-need_bytes.ensures.same in
     record {
-      same_reader = (c.in_ok-need_bytes.ensures.same.0 ∙ kept.same_reader.0, c.in_ok-need_bytes.ensures.same.1 ∙ kept.same_reader.1);
-      began = λ from so. c.in_ok-need_bytes.ensures.began from (kept.began from so);
+      same_reader = (same.0 ∙ kept.same_reader.0, same.1 ∙ kept.same_reader.1, λ from so. same.2 from (kept.same_reader.2 from so));
       same_writer = kept.same_writer;
       copied = kept.copied ++ take n bytes;
       size = omega (

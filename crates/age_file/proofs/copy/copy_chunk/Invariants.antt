@@ -1,15 +1,13 @@
 use Rattle.std.proofs.Common.{◌≡◌, ◌+◌, ◌++◌, ℕ, List, Some, length}
 use Rattle.sha2.specs.Hashers.{Holds256}
-use Rattle.age_file.specs.inner.Copies.{Passes}
-use Rattle.age_file.specs.inner.Readers.{view_of_reader, view_of_writer, Wrote, SameReader, KeepsOrigin, SameWriter}
-use Rattle.age_chunk.specs.Payload.{chunk_length}
+use Rattle.age_file.specs.inner.{Passes, view_of_reader, view_of_writer, Wrote, SameReader, SameWriter}
+use Rattle.age_chunk.specs.{chunk_length}
 use Rattle.age_file.proofs.copy.copy_chunk.Given as goal
 
 -- what was copied so far
 abbrev pub invariant-parts : goal.invariant-parts
 invariant-parts g l = record {
-  same_reader : SameReader l.fn.reader l.reader;
-  began : KeepsOrigin g.S.Source.began l.fn.reader l.reader;
+  same_reader : SameReader g.S.Source.began l.fn.reader l.reader;
   same_writer : SameWriter l.fn.writer l.writer;
   copied : List ℕ;
   size : length copied + l.left ≡ chunk_length;

@@ -1,18 +1,14 @@
 use Rattle.std.proofs.Common.{◌≡◌, ◌++◌, ◌∙◌, ◌+◌, ℕ, List, Option, Some, sym, ap, suc, arith}
-use Rattle.std.proofs.lemmas.Result.{err_from_is_err_and}
 use Rattle.std.proofs.lemmas.List.{length-append}
 use Rattle.std.specs.Simd.{first_chunks}
-use Rattle.age_file.specs.inner.Parts.{chain_if, link_if}
-use Rattle.age_file.specs.declared.position.PositionPolicy.TheVariants.{Kept}
-use Rattle.age_file.proofs.ReadLemmas.{passes_then, wrote_then}
-use Rattle.age_file.proofs.ResumeLemmas.{chain_more, chunk_failed}
-use Rattle.age_file.specs.inner.Readers.{view_of_reader, view_of_writer}
-use Rattle.age_chunk.specs.Payload.{chunk_length}
+use Rattle.age_file.specs.inner.{chain_if, link_if, view_of_reader, view_of_writer}
+use Rattle.age_file.specs.{Kept}
+use Rattle.age_file.proofs.{err_is, passes_then, wrote_then, chain_more, chunk_failed}
+use Rattle.age_chunk.specs.{chunk_length}
 use Rattle.age_file.proofs.copy.copy_chunks.Goals as goal
 
 pub returns-in_err-copy_chunk-clause-copied : goal.returns-in_err-copy_chunk-clause-copied
 returns-in_err-copy_chunk-clause-copied g c =
-    let p = err_from_is_err_and c.from_residual.result c.from_residual.ensures.1 in
     let kept = c.loop-copied.invariant in
     let old = view_of_reader g.S.Source.view c.args.reader.now in
     let mid = view_of_reader g.S.Source.view c.loop-copied.reader in
@@ -20,7 +16,7 @@ returns-in_err-copy_chunk-clause-copied g c =
     let was = view_of_writer g.O.Sink.view c.args.writer.now in
     let between = view_of_writer g.O.Sink.view c.loop-copied.writer in
     let now = view_of_writer g.O.Sink.view c.copy_chunk.new.writer in
-    rw (p.1, p.2) (chunk_failed chunk_length c.args.chunks c.loop-copied._copied old mid new was
+    rw (err_is c.from_residual.result c.from_residual.ensures.1) (chunk_failed chunk_length c.args.chunks c.loop-copied._copied old mid new was
     between now kept.out c.in_err-copy_chunk.field-0.0 kept.size (omega arith) kept.passes kept.wrote kept.failures c.in_err-copy_chunk.ensures.copied)
 
 pub loop-copied-preserved : goal.loop-copied-preserved
@@ -34,9 +30,9 @@ loop-copied-preserved g c =
     goes.4 ∙ ap (λ (xs : Option (List ℕ)). link_if xs step.out) kept.chain_is
     ∙ ap Some (sym (chain_more chunk_length i kept.out step.out kept.size goes.0))
     ∙ ap (λ (k : ℕ). chain_if Kept (first_chunks chunk_length k (kept.out ++ step.out))) next in
+    let same = c.in_ok-copy_chunk.ensures.same_reader in
     record {
-      same_reader = (c.in_ok-copy_chunk.ensures.same_reader.0 ∙ kept.same_reader.0, c.in_ok-copy_chunk.ensures.same_reader.1 ∙ kept.same_reader.1);
-      began = λ from so. c.in_ok-copy_chunk.ensures.began from (kept.began from so);
+      same_reader = (same.0 ∙ kept.same_reader.0, same.1 ∙ kept.same_reader.1, λ from so. same.2 from (kept.same_reader.2 from so));
       same_writer = c.in_ok-copy_chunk.ensures.same_writer ∙ kept.same_writer;
       out = kept.out ++ step.out;
       size = omega (arith, kept.size, goes.0, length-append kept.out step.out);

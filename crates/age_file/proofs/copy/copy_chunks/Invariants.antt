@@ -1,17 +1,14 @@
 use Rattle.std.proofs.Common.{◌≡◌, ◌*◌, ℕ, List, length}
 use Rattle.std.specs.Simd.{first_chunks}
-use Rattle.age_file.specs.inner.Parts.{chain_if}
-use Rattle.age_file.specs.declared.position.PositionPolicy.TheVariants.{Kept}
-use Rattle.age_file.specs.inner.Copies.{Passes}
-use Rattle.age_file.specs.inner.Readers.{view_of_reader, view_of_writer, Wrote, SameReader, KeepsOrigin, SameWriter}
-use Rattle.age_chunk.specs.Payload.{chunk_length}
+use Rattle.age_file.specs.inner.{chain_if, Passes, view_of_reader, view_of_writer, Wrote, SameReader, SameWriter}
+use Rattle.age_file.specs.{Kept}
+use Rattle.age_chunk.specs.{chunk_length}
 use Rattle.age_file.proofs.copy.copy_chunks.Given as goal
 
 -- the chunks that were copied so far
 abbrev pub invariant-loop-copied : goal.invariant-loop-copied
 invariant-loop-copied g l = record {
-  same_reader : SameReader l.fn.reader l.reader;
-  began : KeepsOrigin g.S.Source.began l.fn.reader l.reader;
+  same_reader : SameReader g.S.Source.began l.fn.reader l.reader;
   same_writer : SameWriter l.fn.writer l.writer;
   out : List ℕ;
   size : length out ≡ l._copied * chunk_length;

@@ -1,24 +1,22 @@
 use Rattle.std.proofs.Common.{◌≡◌, ◌∙◌, ap, subst, refl, List, ℕ, [], rules, IfOk, IfErr}
-use Rattle.std.proofs.lemmas.Result.{err_from_is_err_and}
-use Rattle.age_cipher.specs.Aead.{sealing}
-use Rattle.age_keys.specs.Keys.{payload_key}
-use Rattle.age_file.specs.Runs.{ports}
-use Rattle.age_file.specs.inner.Seals.{SealsAll, SealsFront}
-use Rattle.age_file.specs.inner.Readers.{view_of_writer, writer_view}
-use Rattle.age_file.proofs.SealLemmas.{front_fails, file_done, file_stopped}
-use Rattle.age_file.specs.Encrypts.{Encrypts, EncryptFails}
-use Rattle.age_file.proofs.ReadLemmas.{ports_last}
-use Rattle.age_chunk.specs.Payload.{chunk_length}
+use Rattle.age_cipher.specs.{sealing}
+use Rattle.age_keys.specs.{payload_key}
+use Rattle.age_file.specs.{ports, EncryptFails}
+use Rattle.age_file.specs.inner.{SealsAll, SealsFront, view_of_writer, writer_view}
+use Rattle.age_file.proofs.PayloadLemmas.{front_fails, file_done, file_stopped}
+use Rattle.age_file.specs.Encrypts.{Encrypts}
+use Rattle.age_file.proofs.{err_is, ports_last}
+use Rattle.age_chunk.specs.{chunk_length}
 use Rattle.age_file.proofs.encryption.encrypt.Goals as goal
 
 pub returns-in_err-write_front-clause-fails : goal.returns-in_err-write_front-clause-fails
 returns-in_err-write_front-clause-fails g c =
-    let p = err_from_is_err_and c.from_residual-in_err-write_front.result c.from_residual-in_err-write_front.ensures.1 in
+    let p = err_is c.from_residual-in_err-write_front.result c.from_residual-in_err-write_front.ensures.1 in
     let fault = c.in_err-write_front.field-0.0 in
     let s = c.args.secret.now in
     let source = g.S.Source.view c.args.reader.now in
     let old = ports source (g.O.Sink.view c.args.writer.now) in
-    rw (p.1, p.2) (ports_last g.S.Source.view g.O.Sink.view (λ q. EncryptFails s old q fault) _
+    rw p (ports_last g.S.Source.view g.O.Sink.view (λ q. EncryptFails s old q fault) _
     c.args.reader.now _ c.write_front.new.writer.sink.now refl (search rules) (front_fails s source
     (writer_view (g.O.Sink.view c.args.writer.now) c.new-2.result) (view_of_writer g.O.Sink.view c.write_front.new.writer) fault
     c.in_err-write_front.ensures.wrote))

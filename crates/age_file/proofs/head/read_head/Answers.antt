@@ -1,9 +1,8 @@
 use Rattle.std.proofs.Common.{◌++◌, ◌∙◌, refl, take, ap, length, arith}
 use Rattle.std.proofs.lemmas.List.{length-drop}
-use Rattle.std.proofs.lemmas.Result.{err_from_is_err_and}
-use Rattle.age_file.specs.Runs.{EndsInHeader, InHeader}
-use Rattle.age_file.specs.inner.Readers.{start_at, reader_view, view_of_reader}
-use Rattle.age_file.proofs.ReadLemmas.{pull_fails, piece_fails, end_fails, stops_at, nothing_pulled, head_pulled}
+use Rattle.age_file.specs.{EndsInHeader, InHeader}
+use Rattle.age_file.specs.inner.{start_at, reader_view, view_of_reader}
+use Rattle.age_file.proofs.{err_is, pull_fails, piece_fails, end_fails, stops_at, nothing_pulled, head_pulled}
 use Rattle.age_file.proofs.head.read_head.Goals as goal
 
 pub returns-clause-fails : goal.returns-clause-fails
@@ -19,25 +18,24 @@ returns-clause-fails g c =
 
 pub returns-in_err-refill-clause-fails : goal.returns-in_err-refill-clause-fails
 returns-in_err-refill-clause-fails g c =
-    let p = err_from_is_err_and c.from_residual.result c.from_residual.ensures.1 in
     let kept = c.pieces.invariant in
     let old = g.S.Source.view c.args.reader.now.source.now in
     let new = g.S.Source.view c.refill.new.source in
     let a = c.in_err-refill.ensures.refills.answered in
     let all = nothing_pulled c.refill.ensures.refills a.0 kept.pulled in
-    rw (p.1, p.2) (pull_fails InHeader old (view_of_reader g.S.Source.view c.pieces.reader)
+    rw (err_is c.from_residual.result c.from_residual.ensures.1) (pull_fails InHeader old (view_of_reader g.S.Source.view c.pieces.reader)
     (reader_view new c.refill.new.self) kept.held c.in_err-refill.field-0.0 kept.unfailed (kept.held, all.consumed, kept.front.inside) all a.2)
 
 pub returns-in_err-header-clause-fails : goal.returns-in_err-header-clause-fails
 returns-in_err-header-clause-fails g c =
-    let p = err_from_is_err_and c.from_residual-in_err-header.result c.from_residual-in_err-header.ensures.1 in
+    let p = err_is c.from_residual-in_err-header.result c.from_residual-in_err-header.ensures.1 in
     let kept = c.pieces.invariant in
     let old = g.S.Source.view c.args.reader.now.source.now in
     let new = g.S.Source.view c.refill.new.source in
     let r = rw c.if-branch.true at c.in_ok-refill.ensures.refills.answered in
     let all = c.refill.ensures.refills.pulled (start_at old.supply) kept.held kept.pulled in
     let stops = stops_at old.supply new.supply kept.held c.refill.new.self.bytes r.1 kept.front.inside all.consumed in
-    rw (p.1, p.2) (piece_fails old new kept.held c.refill.new.self.bytes c.in_err-header.field-0.0 stops all.consumed
+    rw p (piece_fails old new kept.held c.refill.new.self.bytes c.in_err-header.field-0.0 stops all.consumed
     (c.in_err-header.ensures kept.held kept.front))
 
 pub returns-in-Some-clause-found : goal.returns-in-Some-clause-found
@@ -68,8 +66,7 @@ pieces-preserved g c =
     let r = rw c.if-branch.true at c.in_ok-refill.ensures.refills.answered in
     let goes = rw c.in_default.is at (c.in_ok-header.ensures kept.held kept.front) in
     record {
-      same = kept.same;
-      began = λ from so. c.in_ok-refill.ensures.began from (kept.began from so);
+      same = (kept.same.0, kept.same.1, λ from so. c.in_ok-refill.ensures.began from (kept.same.2 from so));
       held = kept.held ++ c.refill.new.self.bytes;
       front = goes.0;
       pulled = rw goes.2 (c.refill.ensures.refills.pulled (start_at old.supply) kept.held kept.pulled);
@@ -77,5 +74,7 @@ pieces-preserved g c =
       unfailed = r.4 ∙ kept.unfailed;
     }
 
-pub returns-in_err-header-clause-began : goal.returns-in_err-header-clause-began
-returns-in_err-header-clause-began g c from so = c.in_ok-refill.ensures.began from (c.pieces.invariant.began from so)
+pub returns-in_err-header-clause-same : goal.returns-in_err-header-clause-same
+returns-in_err-header-clause-same g c =
+    let kept = c.pieces.invariant.same in
+    (kept.0, kept.1, λ from so. c.in_ok-refill.ensures.began from (kept.2 from so))

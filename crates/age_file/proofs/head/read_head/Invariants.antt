@@ -1,11 +1,10 @@
 use Rattle.std.proofs.Common.{◌-◌, ◌^◌, ◌≡◌, ℕ, [], List}
-use Rattle.age_file.specs.inner.Readers.{start_at, IsFront, Pulled, SameReader, KeepsOrigin}
+use Rattle.age_file.specs.inner.{start_at, IsFront, Pulled, SameReader}
 use Rattle.age_file.proofs.head.read_head.Given as goal
 
 abbrev pub invariant-pieces : goal.invariant-pieces
 invariant-pieces g l = record {
-  same : SameReader l.fn.reader l.reader;
-  began : KeepsOrigin g.S.Source.began l.fn.reader l.reader;
+  same : SameReader g.S.Source.began l.fn.reader l.reader;
   held : List ℕ;
   front : IsFront l.front held;
   pulled : Pulled (start_at (g.S.Source.view l.fn.reader.source.now).supply)

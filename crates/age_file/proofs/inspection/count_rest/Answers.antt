@@ -1,6 +1,6 @@
 use Rattle.std.proofs.Common.{◌++◌, ◌∙◌, arith}
 use Rattle.std.proofs.lemmas.List.{length-append}
-use Rattle.age_file.proofs.ReadLemmas.{rest_pulled}
+use Rattle.age_file.proofs.{rest_pulled}
 use Rattle.age_file.proofs.inspection.count_rest.Goals as goal
 
 pub pulls-preserved : goal.pulls-preserved
@@ -10,8 +10,7 @@ pulls-preserved g c =
     let fresh = c.bytes-in-pulls.result.now in
     let same = c.use_all-in-pulls.ensures.pulls in
     record {
-      same = kept.same;
-      began = λ from so. c.in_ok-refill.ensures.began from (kept.began from so);
+      same = (kept.same.0, kept.same.1, λ from so. c.in_ok-refill.ensures.began from (kept.same.2 from so));
       passed = kept.passed ++ fresh;
       count_is = omega (arith, kept.count_is, length-append kept.passed fresh);
       small = omega (arith, kept.small, c.bytes-in-pulls.ensures.most, same, r.answered.3);

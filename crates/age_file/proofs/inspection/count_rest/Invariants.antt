@@ -1,13 +1,12 @@
 use Rattle.std.proofs.Common.{◌≡◌, ◌+◌, ◌-◌, ◌*◌, ◌^◌, ◌≤◌, ◌++◌, [], ℕ, List, length}
-use Rattle.age_file.specs.inner.Readers.{Start, Pulled, SameReader, KeepsOrigin}
-use Rattle.age_file.specs.Runs.{pull_room}
+use Rattle.age_file.specs.inner.{Start, Pulled, SameReader}
+use Rattle.age_file.specs.{pull_room}
 use Rattle.age_file.proofs.inspection.count_rest.Given as goal
 
 -- the bytes that were counted
 abbrev pub invariant-pulls : goal.invariant-pulls
 invariant-pulls g l = record {
-  same : SameReader l.fn.reader l.reader;
-  began : KeepsOrigin g.S.Source.began l.fn.reader l.reader;
+  same : SameReader g.S.Source.began l.fn.reader l.reader;
   passed : List ℕ;
   count_is : l.count ≡ length passed;
   small : l.count ≤ pull_room * (l.reader.intake.now.pulls + 1);

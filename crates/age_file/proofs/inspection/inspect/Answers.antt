@@ -1,12 +1,9 @@
 use Rattle.std.proofs.Common.{◌++◌, refl, inl, inr, rules}
-use Rattle.std.proofs.lemmas.Result.{err_from_is_err_and}
-use Rattle.age_io.specs.Supply.{Consumes, IsAtEnd}
-use Rattle.age_file.specs.Runs.{InHeader, NoHeadFault, HeadFails}
-use Rattle.age_file.specs.inner.Readers.{start_at, ReadsHead, RestFails, ReaderView}
-use Rattle.age_file.specs.declared.head.Head.{Head}
-use Rattle.age_io.specs.Io.{SourceView}
+use Rattle.age_io.specs.{Consumes, IsAtEnd, SourceView}
+use Rattle.age_file.specs.{InHeader, NoHeadFault, HeadFails, Head}
+use Rattle.age_file.specs.inner.{start_at, ReadsHead, RestFails, ReaderView}
 use Rattle.age_fault.specs.declared.fault.FileFault.{FileFault}
-use Rattle.age_file.proofs.ReadLemmas.{stops_unread, sound_too, pull_fails, read_last}
+use Rattle.age_file.proofs.{err_is, stops_unread, sound_too, pull_fails, read_last}
 use Rattle.age_file.proofs.inspection.inspect.Goals as goal
 
 -- a rest that could not be read, after a header that was
@@ -20,24 +17,23 @@ rest_to_head {first} {mid} {now} {h} fault head f =
 
 pub returns-in_err-intake-clause-fails : goal.returns-in_err-intake-clause-fails
 returns-in_err-intake-clause-fails g c =
-    let p = err_from_is_err_and c.from_residual.result c.from_residual.ensures.1 in
-    rw (p.1, p.2) (stops_unread (g.S.Source.view c.args.source.now).supply)
+    rw (err_is c.from_residual.result c.from_residual.ensures.1) (stops_unread (g.S.Source.view c.args.source.now).supply)
 
 pub returns-in_err-head-clause-fails : goal.returns-in_err-head-clause-fails
 returns-in_err-head-clause-fails g c =
-    let p = err_from_is_err_and c.from_residual-in_err-head.result c.from_residual-in_err-head.ensures.1 in
+    let p = err_is c.from_residual-in_err-head.result c.from_residual-in_err-head.ensures.1 in
     let first = g.S.Source.view c.args.source.now in
     let fails = sound_too InHeader NoHeadFault first (g.S.Source.view c.read_head.new.reader.source.now) c.in_err-head.field-0.0
     (λ h. (h.0, h.1, inl h.2)) c.in_err-head.ensures.fails in
-    rw (p.1, p.2) (read_last g.S.Source.view (λ v. HeadFails NoHeadFault first v c.in_err-head.field-0.0) _ c.read_head.new.reader.source.now
+    rw p (read_last g.S.Source.view (λ v. HeadFails NoHeadFault first v c.in_err-head.field-0.0) _ c.read_head.new.reader.source.now
     (search rules) fails)
 
 pub returns-in_err-rest-clause-fails : goal.returns-in_err-rest-clause-fails
 returns-in_err-rest-clause-fails g c =
-    let p = err_from_is_err_and c.from_residual-in_err-rest.result c.from_residual-in_err-rest.ensures.1 in
+    let p = err_is c.from_residual-in_err-rest.result c.from_residual-in_err-rest.ensures.1 in
     let first = g.S.Source.view c.args.source.now in
     let fails = rest_to_head c.in_err-rest.field-0.0 c.in_ok-head.ensures.found c.in_err-rest.ensures.fails in
-    rw (p.1, p.2) (read_last g.S.Source.view (λ v. HeadFails NoHeadFault first v c.in_err-rest.field-0.0) _ c.count_rest.new.reader.source.now
+    rw p (read_last g.S.Source.view (λ v. HeadFails NoHeadFault first v c.in_err-rest.field-0.0) _ c.count_rest.new.reader.source.now
     (search rules) fails)
 
 pub returns-clause-ok : goal.returns-clause-ok

@@ -1,5 +1,5 @@
 use Rattle.std.proofs.Common.{◌≡◌, ◌++◌, map, reverse, vec_len}
-use Rattle.age_file.specs.Reports.{stanza_report}
+use Rattle.age_file.specs.{stanza_report}
 use Rattle.age_file.proofs.inspection.reports_of.Given as goal
 
 -- the reports so far, and those on the stanzas that are left, which stand last first

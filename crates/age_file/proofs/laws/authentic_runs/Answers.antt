@@ -1,8 +1,7 @@
-use Rattle.age_file.proofs.RunLemmas.{position_carries, writes_of, writes_all}
+use Rattle.std.proofs.lemmas.Grind.{common_steps}
+use Rattle.std.proofs.Common.{arith}
+use Rattle.age_file.proofs.{position_carries, writes_of, writes_all}
 use Rattle.age_file.proofs.laws.authentic_runs.Goals as goal
 
 pub returns : goal.returns
-returns g c = λ who old new written r text limit auth. (
-  λ is. (writes_of r limit is.prefix text auth, λ p at. position_carries r p limit is.prefix at text auth),
-  λ done. writes_all r limit done.whole done.done text auth,
-)
+returns g c = grind (arith, common_steps, position_carries, writes_all, writes_of)

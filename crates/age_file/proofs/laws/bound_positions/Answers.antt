@@ -1,4 +1,4 @@
-use Rattle.age_file.proofs.RunLemmas.{bound, bound_done}
+use Rattle.age_file.proofs.{bound, bound_done}
 use Rattle.age_file.proofs.laws.bound_positions.Goals as goal
 
 pub returns-clause-runs : goal.returns-clause-runs

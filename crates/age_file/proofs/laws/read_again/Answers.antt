@@ -1,4 +1,4 @@
-use Rattle.age_file.proofs.AgainLawLemmas as again
+use Rattle.age_file.proofs.RunLemmas as again
 use Rattle.age_file.proofs.laws.read_again.Goals as goal
 
 pub returns-clause-decrypted : goal.returns-clause-decrypted

@@ -1,8 +1,7 @@
 use Rattle.std.proofs.Common.{◌-◌, ◌^◌}
-use Rattle.age_file.specs.inner.Decrypts.{opens}
-use Rattle.age_file.specs.inner.Readers.{stage_of, SameReader, KeepsOrigin, SameWriter}
-use Rattle.age_file.proofs.PayloadLemmas.{GoesOn}
-use Rattle.age_chunk.specs.Payload.{chunk_length}
+use Rattle.age_file.specs.inner.{opens, stage_of, SameReader, SameWriter}
+use Rattle.age_file.proofs.{GoesOn}
+use Rattle.age_chunk.specs.{chunk_length}
 use Rattle.age_file.proofs.payload.decrypt_payload.Given as goal
 
 abbrev pub invariant-turns : goal.invariant-turns
@@ -10,10 +9,9 @@ invariant-turns g l =
     let old = stage_of g.S.Source.view g.O.Sink.view l.fn.reader l.fn.writer in
     let now = stage_of g.S.Source.view g.O.Sink.view l.reader l.writer in
     record {
-      same_reader : SameReader l.fn.reader l.reader;
-      began : KeepsOrigin g.S.Source.began l.fn.reader l.reader;
+      same_reader : SameReader g.S.Source.began l.fn.reader l.reader;
       same_writer : SameWriter l.fn.writer l.writer;
-      goes : GoesOn opens chunk_length l.initial.opener l.opener old now;
+      goes : GoesOn opens chunk_length l.key l.index l.opener old now;
     }
 
 abbrev pub decreases-turns : goal.decreases-turns

@@ -1,9 +1,6 @@
-use Rattle.std.proofs.Common.{length, ◌-◌, ◌≤◌, take, []}
-use Rattle.age_stream.specs.Segment.{with_piece}
-use Rattle.age_file.specs.inner.Decrypts.{opens}
-use Rattle.age_file.specs.inner.Payloads.{Releases, FeedGoes}
-use Rattle.age_file.specs.inner.Readers.{view_of_writer, SameWriter}
-use Rattle.age_chunk.specs.Payload.{chunk_length}
+use Rattle.std.proofs.Common.{length, ◌-◌, ◌≤◌, ◌++◌, ℕ, List, take, [], false}
+use Rattle.age_file.specs.inner.{opens, HasReleased, FeedGoes, WriterView, segment, view_of_writer, SameWriter}
+use Rattle.age_chunk.specs.{chunk_length}
 use Rattle.age_file.proofs.payload.feed_piece.Given as goal
 
 abbrev pub invariant-loop-at : goal.invariant-loop-at
@@ -13,8 +10,10 @@ invariant-loop-at g l =
     record {
       same : SameWriter l.fn.writer l.writer;
       within : l.at ≤ length l.piece;
-      releases : Releases opens chunk_length (λ s. with_piece s (take l.at l.piece)) l.fn.opener l.opener was now [];
-      goes : FeedGoes opens chunk_length l.fn.opener l.opener was now (take l.at l.piece) [];
+      released : (key : List ℕ) (k : ℕ) (first : WriterView) (fed : List ℕ)
+          → HasReleased opens chunk_length key first l.fn.opener was (segment k fed false) []
+          → HasReleased opens chunk_length key first l.opener now (segment k (fed ++ take l.at l.piece) false) [];
+      goes : FeedGoes opens chunk_length l.fn.opener l.opener was now (take l.at l.piece);
     }
 
 abbrev pub decreases-loop-at : goal.decreases-loop-at

@@ -1,6 +1,7 @@
+use Rattle.std.proofs.lemmas.Grind.{common_steps}
 use Rattle.std.proofs.Common.{arith}
 use Rattle.base64.specs.GeneralPurpose.{IsBytes}
-use Rattle.age_file.proofs.PositionTextLemmas.{digest_read, digest_short, digest_none}
+use Rattle.age_file.proofs.{digest_read, digest_short, digest_none}
 use Rattle.age_file.proofs.position_text.digest_of.Goals as goal
 
 pub returns-in-Ok-clause-some : goal.returns-in-Ok-clause-some
@@ -10,10 +11,7 @@ returns-in-Ok-clause-some c =
     c.if-field-ne32.false c.copy_from_slice.ensures.after c.in-Ok.ensures.ok.0
 
 pub returns-in_default-clause-none : goal.returns-in_default-clause-none
-returns-in_default-clause-none c = λ bytes digest e.
-    let ok = c.in-Ok.ensures.ok in
-    digest_short c.args.field.now bytes c.decode_slice_unchecked.new.output c.in-Ok.len c.if-len-eq32.false
-    (omega (arith, ok.2, c.decode_slice_unchecked.auto.output)) ok.0 digest e
+returns-in_default-clause-none c = grind (arith, common_steps, digest_short)
 
 pub returns-in_default-2-clause-none : goal.returns-in_default-2-clause-none
 returns-in_default-2-clause-none c = λ bytes digest e. digest_none c.args.field.now bytes c.in_default.field-0

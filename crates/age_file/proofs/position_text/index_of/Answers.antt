@@ -1,5 +1,5 @@
 use Rattle.std.proofs.Common.{codes, take, ◌∙◌}
-use Rattle.age_file.proofs.PositionTextLemmas.{same_unless, index_read}
+use Rattle.age_file.proofs.{same_unless, index_read}
 use Rattle.age_file.proofs.position_text.index_of.Goals as goal
 
 pub returns-clause-some : goal.returns-clause-some

@@ -1,6 +1,7 @@
+use Rattle.std.proofs.lemmas.Grind.{common_steps}
 use Rattle.std.proofs.Common.{arith}
 use Rattle.std.proofs.lemmas.List.{length-take}
-use Rattle.age_file.proofs.PositionTextLemmas.{first_field, second_field, third_field, fields_are}
+use Rattle.age_file.proofs.{first_field, second_field, third_field, fields_are}
 use Rattle.age_file.proofs.position_text.position_of.Goals as goal
 
 pub returns-in_err-digest_of-clause-none : goal.returns-in_err-digest_of-clause-none
@@ -18,9 +19,7 @@ returns-in_err-digest_of-3-clause-none c =
     (third_field c.args.fields.now id links tag d1 d2 d3 e))
 
 pub returns-clause-fields : goal.returns-clause-fields
-returns-clause-fields c =
-    fields_are c.args.fields.now c.in_ok-digest_of.field-0 c.in_ok-digest_of-2.field-0 c.in_ok-digest_of-3.field-0 c.requires.size
-    c.in_ok-digest_of.ensures.some c.in_ok-digest_of-2.ensures.some c.in_ok-digest_of-3.ensures.some c.if-fields-ne10.false
+returns-clause-fields c = grind (arith, common_steps, fields_are)
 
 pub slice_bounds-digest_of-end : goal.slice_bounds-digest_of-end
 slice_bounds-digest_of-end c = omega (arith, length-take 44 c.args.fields.now, c.requires.size)

@@ -1,4 +1,4 @@
-use Rattle.age_file.specs.inner.Readers.{view_of_reader}
+use Rattle.age_file.specs.inner.{view_of_reader}
 use Rattle.age_file.proofs.resumption.resume_rest.Goals as goal
 
 pub open_payload-result-requires-clause-room : goal.open_payload-result-requires-clause-room

@@ -1,24 +1,36 @@
-use Rattle.std.proofs.Common.{ap, ◌∙◌, ◌+◌, ◌-◌, ◌^◌, min, ℕ}
-use Rattle.age_io.proofs.TakenLemmas.{Appends-kept}
-use Rattle.age_fault.proofs.ByteLemmas.{answer_as}
+use Rattle.std.proofs.lemmas.Grind.{common_steps}
+use Rattle.std.proofs.Common.{◌∙◌, arith}
+use Rattle.age_io.proofs.{Appends-kept}
+use Rattle.age_file.proofs.{err_is}
+use Rattle.age_file.proofs.PayloadLemmas.{last_cut, last_flushed}
 use Rattle.age_file.proofs.sealing.finish.Goals as goal
 
+pub finish-requires : goal.finish-requires
+finish-requires g c = (omega arith, c.requires.sealed.sealed.feeding.unfinished)
+
+pub returns-in_err-block-clause-sealed : goal.returns-in_err-block-clause-sealed
+returns-in_err-block-clause-sealed g c = grind (arith, common_steps)
+
+pub returns-in_err-write_all-clause-sealed : goal.returns-in_err-write_all-clause-sealed
+returns-in_err-write_all-clause-sealed g c = λ key first text h.
+    let put = c.in_err-write_all.ensures.writes in
+    let last = c.in_ok-block.ensures.finishes in
+    let is = err_is c.from_residual-in_err-write_all.result c.from_residual-in_err-write_all.ensures.1 in (
+      omega (arith, last.limit, h.holds.index),
+      rw (is, c.in_err-write_all.ensures.fault) (last_cut (omega arith) h put.out put.unwritten
+          (record { bytes = put.wrote; count = put.count; named = c.in_err-write_all.ensures.named }) (rw put.parts at (last.chunk text h.holds))
+          put.answered),
+    )
+
 pub returns-clause-sealed : goal.returns-clause-sealed
-returns-clause-sealed g c =
-    let last = c.in_ok-seal_last.ensures.sealed in
-    let flushed = c.flush_all.ensures in
-    record {
-      out = last.out;
-      unwritten = last.unwritten;
-      limit = last.limit;
-      wrote = record {
-        bytes = Appends-kept _ _ _ _ last.wrote.bytes flushed.bytes;
-        count = last.wrote.count;
-        named = flushed.named ∙ last.wrote.named;
-      };
-      blocks = last.blocks;
-      answered = answer_as c.flush_all.result flushed.counted flushed.fault (λ _ same. (last.answered.0, same ∙ last.answered.1)) (λ _ is more. (
-        is,
-        (more.0 ∙ ap (λ (k : ℕ). min (k + 1) (2 ^ 64 - 1)) last.answered.1, more.1),
-      ));
-    }
+returns-clause-sealed g c = λ key first text h.
+    let put = c.in_ok-write_all.ensures.writes in
+    let last = c.in_ok-block.ensures.finishes in
+    let flushed = c.flush_all.ensures in (
+      omega (arith, last.limit, h.holds.index),
+      last_flushed (omega arith) h put.out put.unwritten (record {
+        bytes = Appends-kept _ _ _ _ put.wrote flushed.bytes;
+        count = put.count;
+        named = flushed.named ∙ c.in_ok-write_all.ensures.named;
+      }) (rw put.parts at (last.chunk text h.holds)) c.flush_all.result put.answered.0 flushed.fault (rw put.answered.1 at flushed.counted),
+    )

@@ -1,87 +1,71 @@
-use Rattle.std.proofs.Common.{◌-◌, ◌≤◌, length, take, drop, ap, sym, ◌∙◌, arith, ℕ, [], ◌++◌, refl, append-nil}
-use Rattle.std.proofs.lemmas.Result.{err_from_is_err_and}
-use Rattle.age_file.proofs.ReadLemmas.{wrote_none}
-use Rattle.std.proofs.lemmas.List.{length-take, length-drop}
-use Rattle.age_stream.specs.Sealer.{too_many}
-use Rattle.age_stream.proofs.SealerLemmas.{step_len_le}
-use Rattle.age_file.specs.inner.Decrypts.{opens, seals}
-use Rattle.age_keys.specs.inner.PayloadBox.{box_valid}
-use Rattle.age_file.specs.inner.Seals.{front_of}
-use Rattle.age_file.proofs.SealLemmas.{lent, lent_few, at_limit, too_long, some_sealed, some_alone, next_some, next_fed, next_goes, fails_on, room_left}
-use Rattle.age_file.specs.inner.Readers.{view_of_writer}
-use Rattle.age_fault.specs.declared.fault.FileFault.TheVariants.{Stream}
-use Rattle.age_chunk.specs.Payload.{block_length, chunk_length}
+use Rattle.std.proofs.lemmas.Grind.{common_steps}
+use Rattle.std.proofs.Common.{refl, ◌+◌, ◌≡◌, ◌-◌, ◌≤◌, length, take, drop, ap, sym, subst, ◌∙◌, arith, ℕ, List, ◌++◌, append-nil, append_assoc}
+use Rattle.std.proofs.Common.{take-append-drop}
+use Rattle.std.proofs.lemmas.List.{length-take, length-drop, length-append, take_all}
+use Rattle.age_stream.proofs.{step_len_le, take_on}
+use Rattle.age_file.specs.inner.{opens, seals}
+use Rattle.age_keys.specs.inner.{box_valid}
+use Rattle.age_file.proofs.{err_is}
+use Rattle.age_file.proofs.PayloadLemmas.{lent, lent_few, rejoined, seal_refused, seal_on, seal_cut, room_left}
+use Rattle.age_chunk.specs.{block_length, chunk_length}
 use Rattle.age_file.proofs.sealing.seal_piece.Goals as goal
 
 pub loop-at-init : goal.loop-at-init
-loop-at-init g c =
-    let key = c.args.sealer.now.key in
-    let n : ℕ = chunk_length in
-    record {
-      same_writer = refl;
-      within = omega arith;
-      some = record {
-        out = [];
-        parts = refl;
-        wrote = wrote_none _;
-        blocks = λ text h. ap (front_of (seals key) n) (append-nil text) ∙ sym (append-nil (front_of (seals key) n text));
-      };
-      goes = record { key = refl; feeding = c.requires.feeding; holds = λ text h. rw (append-nil text) h };
-      failures = refl;
-    }
+loop-at-init g c = grind (arith, common_steps, append-nil)
+
+pub feed-requires : goal.feed-requires
+feed-requires g c = grind (arith, common_steps)
 
 -- the sealer refused the rest
 pub returns-in_err-step-clause-sealed : goal.returns-in_err-step-clause-sealed
-returns-in_err-step-clause-sealed g c =
-    let p = err_from_is_err_and c.from_residual.result c.from_residual.ensures.1 in
-    let kept = c.loop-at.invariant in
+returns-in_err-step-clause-sealed g c = λ key first text h.
+    let p = err_is c.from_residual.result c.from_residual.ensures.1 in
+    let kept = c.loop-at.invariant.sealed key first text h in
     let piece = c.args.piece.now in
     let at = c.loop-at.at in
-    let n : ℕ = chunk_length in
-    let rest = take (length piece - at) (drop at piece) in
     let refused = c.in_err-step.ensures.takes.refused in
-    let limit = at_limit n c.loop-at.sealer rest kept.goes.feeding.sound refused.0 in
-    record {
-      fed = take at piece;
-      left = rest;
-      unwritten = [];
-      some = some_alone piece at kept.some kept.goes;
-      answered = rw (p.1, p.2) (fails_on piece at kept.some kept.goes (view_of_writer g.O.Sink.view c.loop-at.writer)
-          (Stream c.in_err-step.field-0.0) kept.failures
-          (too_long n c.loop-at.sealer rest (omega arith) limit, refused.1 ∙ ap too_many limit.index, refl));
-    }
+    rw (p, ← rejoined text piece at) (seal_refused (omega arith) kept (take (length piece - at) (drop at piece)) c.in_err-step.field-0.0
+    kept.feeding.sound refused.0 refused.1)
 
 pub write_all-requires : goal.write_all-requires
 write_all-requires g c =
-    let key = c.args.sealer.now.key in
-    let room = room_left (opens key) c.args.piece.now c.loop-at.at (box_valid key) (omega arith) c.requires.room c.loop-at.invariant.some in
+    let room = c.requires in
+    let kept = c.loop-at.invariant.sealed room.key room.first room.text room.sealed in
+    let fed = take c.loop-at.at c.args.piece.now in
+    let left = room_left seals opens {s = c.loop-at.sealer} {more = 0} box_valid (omega arith) (record {
+      key = room.key;
+      first = room.first;
+      text = room.text ++ fed;
+      sealed = kept;
+      small = omega (arith, room.small, length-append room.text fed, length-take c.loop-at.at c.args.piece.now);
+      count = room.count;
+    }) in
     let few : length c.unwrap_or-block.result.now ≤ block_length =
     rw c.unwrap_or-block.ensures (lent_few c.in_ok-step.step.chunk _ block_length refl c.in_ok-step.ensures.takes.whole) in
-    omega (arith, room, few)
+    omega (arith, left, few)
 
 -- the sink failed
 pub returns-in_err-write_all-clause-sealed : goal.returns-in_err-write_all-clause-sealed
-returns-in_err-write_all-clause-sealed g c =
-    let p = err_from_is_err_and c.from_residual-in_err-write_all.result c.from_residual-in_err-write_all.ensures.1 in
-    let kept = c.loop-at.invariant in
+returns-in_err-write_all-clause-sealed g c = λ key first text h.
+    let p = err_is c.from_residual-in_err-write_all.result c.from_residual-in_err-write_all.ensures.1 in
+    let kept = c.loop-at.invariant.sealed key first text h in
     let piece = c.args.piece.now in
     let at = c.loop-at.at in
     let rest = take (length piece - at) (drop at piece) in
     let put = c.in_err-write_all.ensures.writes in
     let step = c.in_ok-step.step in
+    let front = text ++ take at piece in
     let is = lent step.chunk _ refl ∙ ap (λ b. b.now) (sym c.unwrap_or-block.ensures) ∙ put.parts in
-    record {
-      fed = take at piece ++ take step.taken rest;
-      left = drop step.taken rest;
-      unwritten = put.unwritten;
-      some = next_some piece at kept.some kept.goes (some_sealed seals chunk_length c.loop-at.sealer rest step.taken step.chunk put.out put.unwritten is
-          (record { bytes = put.wrote; count = put.count; named = c.in_err-write_all.ensures.named }) c.in_ok-step.ensures.takes.chunk);
-      answered = rw (p.1, p.2, c.in_err-write_all.ensures.fault) (rw kept.failures at put.answered);
-    }
+    let all : (front ++ take step.taken rest) ++ drop step.taken rest ≡ text ++ piece = append_assoc front (take step.taken rest) (drop step.taken
+    rest)
+    ∙ ap (λ (t : List ℕ). front ++ t) (take-append-drop step.taken rest) ∙ rejoined text piece at in
+    rw (p, c.in_err-write_all.ensures.fault, ← all) (seal_cut (omega arith) kept (take step.taken rest) put.out put.unwritten
+    (record { bytes = put.wrote; count = put.count; named = c.in_err-write_all.ensures.named }) (rw is at (c.in_ok-step.ensures.takes.chunk front
+    kept.holds))
+    (drop step.taken rest) put.answered)
 
 pub loop-at-preserved : goal.loop-at-preserved
 loop-at-preserved g c =
-    let kept = c.loop-at.invariant in
     let piece = c.args.piece.now in
     let at = c.loop-at.at in
     let rest = take (length piece - at) (drop at piece) in
@@ -91,22 +75,25 @@ loop-at-preserved g c =
     let step = c.in_ok-step.step in
     let is = lent step.chunk _ refl ∙ ap (λ b. b.now) (sym c.unwrap_or-block.ensures) ∙ put.parts in
     record {
-      same_writer = kept.same_writer;
+      same_writer = c.loop-at.invariant.same_writer;
       within = omega (
         arith,
         ok.taken,
         step_len_le chunk_length c.loop-at.sealer.held rest,
         length-take (length piece - at) (drop at piece),
         length-drop at piece,
-        kept.within,
+        c.loop-at.invariant.within,
       );
-      some = next_fed piece at kept.some kept.goes step.taken (some_sealed seals chunk_length c.loop-at.sealer rest step.taken step.chunk
-          put.out put.unwritten is (record { bytes = put.wrote; count = put.count; named = c.in_ok-write_all.ensures.named }) ok.chunk)
-          put.answered.0;
-      goes = next_goes piece at kept.some kept.goes step.taken (record {
-        key = after.key;
-        feeding = record { unfinished = after.unfinished; sound = after.unfailed };
-        holds = after.holds;
-      });
-      failures = put.answered.1 ∙ kept.failures;
+      sealed = λ key first text h.
+          let kept = c.loop-at.invariant.sealed key first text h in
+          let front = text ++ take at piece in
+          let on : front ++ take step.taken rest ≡ text ++ take (at + step.taken) piece = append_assoc text (take at piece) (take step.taken rest)
+          ∙ ap (λ (t : List ℕ). text ++ t) (take_on at step.taken piece) in
+          rw (← on) (seal_on (omega arith) kept (take step.taken rest) put.out put.unwritten
+          (record { bytes = put.wrote; count = put.count; named = c.in_ok-write_all.ensures.named }) (rw is at (ok.chunk front kept.holds)) after.key
+          (record { unfinished = after.unfinished; sound = after.unfailed }) (after.holds front kept.holds) put.answered.0 put.answered.1);
     }
+
+pub returns-clause-sealed : goal.returns-clause-sealed
+returns-clause-sealed g c = λ key first text h.
+    rw (take_all c.loop-at.at c.args.piece.now (omega arith)) at (c.loop-at.invariant.sealed key first text h)

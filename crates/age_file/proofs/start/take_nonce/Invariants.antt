@@ -1,13 +1,11 @@
 use Rattle.std.proofs.Common.{◌-◌, ◌≡◌, ◌≤◌, take, length}
-use Rattle.age_file.specs.inner.Copies.{Passes}
-use Rattle.age_file.specs.inner.Readers.{view_of_reader, SameReader, KeepsOrigin}
-use Rattle.age_file.specs.Runs.{pull_room}
+use Rattle.age_file.specs.inner.{Passes, view_of_reader, SameReader}
+use Rattle.age_file.specs.{pull_room}
 use Rattle.age_file.proofs.start.take_nonce.Given as goal
 
 abbrev pub invariant-parts : goal.invariant-parts
 invariant-parts g l = record {
-  same : SameReader l.fn.reader l.reader;
-  began : KeepsOrigin g.S.Source.began l.fn.reader l.reader;
+  same : SameReader g.S.Source.began l.fn.reader l.reader;
   most : l.have ≤ 16;
   few : length l.reader.intake.now.bytes ≤ pull_room;
   room : length l.nonce ≡ 16;

@@ -1,6 +1,7 @@
+use Rattle.std.proofs.lemmas.Grind.{common_steps}
 use Rattle.std.proofs.Common.{ap, take, length, arith}
 use Rattle.std.proofs.lemmas.List.{length-append, length-take}
-use Rattle.std.proofs.lemmas.Result.{err_from_is_err_and}
+use Rattle.age_file.proofs.{err_is}
 use Rattle.age_file.proofs.head.HeadReader.take.Goals as goal
 
 pub returns-in-More : goal.returns-in-More
@@ -19,22 +20,9 @@ returns-in-More c = λ held f.
     )
 
 pub returns-in-Ready : goal.returns-in-Ready
-returns-in-Ready c = λ held f.
-    let bytes = c.args.intake.now.bytes in
-    let is = c.bytes-piece.ensures.bytes in
-    let n = c.in-Ready.taken in
-    let feeds = rw (f.parser_is, c.in-Ready.is, is) at c.in_ok-feed.ensures in
-    record {
-      taken = n;
-      text = feeds.2;
-      len_is = omega (arith, f.len_is, feeds.1, length-append held (take n bytes), length-take n bytes);
-      hashed = rw is at (c.update-in-Ready.ensures held f.hashed);
-      rest = c.use_front.ensures.bytes;
-      pulls = c.use_front.ensures.pulls;
-    }
+returns-in-Ready c = grind (arith, common_steps, length-append, length-take)
 
 pub returns-in_err-feed : goal.returns-in_err-feed
 returns-in_err-feed c = λ held f.
-    let p = err_from_is_err_and c.from_residual.result c.from_residual.ensures.1 in
     let feeds = rw (f.parser_is, c.bytes-piece.ensures.bytes) at c.in_err-feed.ensures in
-    rw (p.1, p.2) feeds.1
+    rw (err_is c.from_residual.result c.from_residual.ensures.1) feeds.1

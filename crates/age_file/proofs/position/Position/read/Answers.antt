@@ -1,4 +1,6 @@
-use Rattle.age_file.proofs.PositionTextLemmas.{long_enough, words_front, words_back, words_of}
+use Rattle.std.proofs.lemmas.Grind.{common_steps}
+use Rattle.std.proofs.Common.{arith}
+use Rattle.age_file.proofs.{long_enough, words_front, words_back, words_of}
 use Rattle.age_file.proofs.position.Position.read.Goals as goal
 
 pub returns-in_default-clause-refused : goal.returns-in_default-clause-refused
@@ -9,9 +11,7 @@ returns-in_default-index_of-clause-refused c = λ p d1 d2 d3 e. c.in_default-ind
     (words_front c.args.text.now p d1 d2 d3 e c.in-Some.at c.in-Some.ensures.1)
 
 pub returns-in-Some-position_of-clause-read : goal.returns-in-Some-position_of-clause-read
-returns-in-Some-position_of-clause-read c =
-    words_of c.args.text.now c.in-Some.at c.in-Some-index_of.index c.in-Some-position_of.position c.in-Some-index_of.ensures.some
-    c.in-Some-position_of.ensures.index c.in-Some-position_of.ensures.fields
+returns-in-Some-position_of-clause-read c = grind (arith, common_steps, words_of)
 
 pub returns-in-None-clause-refused : goal.returns-in-None-clause-refused
 returns-in-None-clause-refused c = λ p d1 d2 d3 e. c.in-None.ensures.none p.file_id p.chain p.tag d1 d2 d3

@@ -1,13 +1,11 @@
 use Rattle.std.proofs.Common.{◌≡◌, ◌+◌, ◌*◌, ℕ, List, length}
-use Rattle.age_file.specs.inner.Copies.{Passes}
-use Rattle.age_file.specs.inner.Readers.{view_of_reader, SameReader, KeepsOrigin}
-use Rattle.age_chunk.specs.Payload.{block_length}
-use Rattle.age_file.proofs.skip.skip_blocks.Given as goal
+use Rattle.age_file.specs.inner.{Passes, view_of_reader, SameReader}
+use Rattle.age_chunk.specs.{block_length}
+use Rattle.age_file.proofs.start.skip_blocks.Given as goal
 
 abbrev pub invariant-pieces : goal.invariant-pieces
 invariant-pieces g l = record {
-  same : SameReader l.fn.reader l.reader;
-  began : KeepsOrigin g.S.Source.began l.fn.reader l.reader;
+  same : SameReader g.S.Source.began l.fn.reader l.reader;
   passed : List ℕ;
   size : length passed + l.left ≡ l.blocks * block_length;
   passes : Passes (view_of_reader g.S.Source.view l.fn.reader) (view_of_reader g.S.Source.view l.reader) passed;
